@@ -6,10 +6,10 @@ from functools import partial
 
 from rules import designs, frames, netlists
 from rules.clauses import clauses_of, sum_of, tidied
-from rules.devices import GATES, ODD_ONES
+from rules.devices import GATES, Reduction
 from rules.graphs import BITS_LIMIT
-from rules.runs import FORMS, GRAPHS, LEVELS_LIMIT
-from rules.sessions import COMMANDS, COUNT, PART, PARTS, READING, VALUES, WIRE
+from rules.runs import FORMS, GRAPHS, LIMITS, OPTIONS
+from rules.sessions import COUNT, PART, PARTS, READING, TAKES, VALUES, WIRE
 from rules.texts import Refused
 
 NAMES = [b"a", b"b", b"c", b"a1", b"a-1", b"a.1", b"10", b"2", b"22", b"INPUT", b"and", b"AND", b"x[0]", b"~", b"!y", b"Z", b"z" * 64,
@@ -17,12 +17,17 @@ NAMES = [b"a", b"b", b"c", b"a1", b"a-1", b"a.1", b"10", b"2", b"22", b"INPUT", 
 PLAIN_NAMES = [name for name in NAMES if b"." not in name and name != b"AND"]
 # What may stand where a byte is broken.
 BYTES = b"(),=# \t\r\n\x0b\0.-+_~\x7f\x80\xff019aALOn"
-PARITIES = [word for word, gate in GATES.items() if gate.asked == ODD_ONES]
+PARITIES = [word for word, gate in GATES.items() if gate.reduction is Reduction.ODD_ONES]
 VARIABLES = 17
 # So many steps over all times take a tenth of a second, and a greater sum seconds.
 STEPS, SUM = 50000, 5000
 # Sets of costs of more words, over all nodes, take the program seconds.
 WORDS = 100000
+# How often commands are in a script, by weight: one that is not named here has 2. With an option some are there so much more often.
+OFTEN = {b"close": 1, b"see": 16, b"hold": 3, b"min": 8, b"next": 10, b"list": 6, b"probe": 4, b"blame": 8,
+         b"level": 0, b"levels": 0, b"leastnnf": 0}
+WITH_OPTION = {b"level": ("--levels", 8), b"levels": ("--levels", 8), b"after": ("--levels", 4), b"leastnnf": ("--least", 8)}
+LEVELS_LIMIT = LIMITS["levels"][1]
 LEVELS = [0, 1, 1, 2, 2, 2, 3, 3, 5, 9, 31, 32, 63, 64, 999, 1000, 3003]
 
 
@@ -180,14 +185,15 @@ def broken(r, text):
 
 
 def commands(options):
-    """The commands, and how often each stands in a script under these options: one that is not allowed now and then."""
-    found = [(command, it.often) for command, it in COMMANDS.items() if it.often]
-    found += [(command, more if option in options else 0.3) for command, it in COMMANDS.items() for option, more in it.more.items()]
-    return zip(*found)
+    """How often each command is in a script under these options: one that is not allowed now and then."""
+    often = {command: OFTEN.get(command, 2) for command in TAKES}
+    for command, (option, more) in WITH_OPTION.items():
+        often[command] += more if option in options else 0.3
+    return often
 
 
 def arguments(r, takes, parts, wires):
-    """What stands behind the name of a session."""
+    """What follows the name of a session."""
     part, wire = (r.choice(names) if names and not chance(r, 2) else b"nobody" for names in (parts, wires))
     if takes in VALUES:
         return [(wire if takes == READING else part) + b"=" + r.choice([*VALUES[takes]])]
@@ -199,8 +205,9 @@ def arguments(r, takes, parts, wires):
 
 
 def script_line(r, sessions, parts, wires, options):
-    command = r.choices(*commands(options))[0]
-    words = [command, r.choice(sessions), *arguments(r, COMMANDS[command].takes, parts, wires)]
+    often = commands(options)
+    command = r.choices([*often], often.values())[0]
+    words = [command, r.choice(sessions), *arguments(r, TAKES[command], parts, wires)]
     return r.choice([b" ", b" ", b" ", b"\t", b" \r"]).join(words)
 
 
@@ -233,24 +240,20 @@ def levels_option(r, nodes):
 def options(r, form, sum, times=0, vars=0):
     """Options in any order, a few of them wrong."""
     # of a form that knows no times, or over a design, it is wrong whatever its number
-    takes = FORMS[form].options
+    takes = OPTIONS[form]
     found = [frames_option(r, times)] if times else []
     # over several times a budget is all that shows the sum
     if "--budget" in takes and chance(r, 60 if times else 30):
         found.append(["--budget", str(max(1, r.choice([sum - 1, sum - 1, sum, sum, sum, sum + 1, sum // 2, 8388608, 1])))])
     if "--sessions" in takes and chance(r, 40):
         found.append(["--sessions", str(r.choice([1, 1, 2, 3, 1024]))])
-    if "--narrow" in takes and chance(r, 25):
-        found.append(["--narrow"])
     if "--levels" in takes and chance(r, 35):
         found.append(levels_option(r, nodes_within(sum, vars)))
-    if "--least" in takes and chance(r, 35):
-        found.append(["--least"])
+    found += [[option] for option, number in takes.items() if not number and chance(r, 30)]
     r.shuffle(found)
     words = [word for option in found for word in option]
     if chance(r, 2):
-        words.insert(r.randrange(len(words) + 1), r.choice(["--budget", "0", "01", "--sessions", "--narrow", "--frames", "--levels",
-                                                            "--least", "8388609", "1025", "65", "-1", ""]))
+        words.insert(r.randrange(len(words) + 1), r.choice([*OPTIONS["serve"], "0", "01", "8388609", "1025", "65", "-1", ""]))
     return words
 
 
@@ -415,7 +418,7 @@ def crowded(r):
 def misspelling(r):
     """Words in no order, over a file that is there."""
     forms, names = [*FORMS, "load"], ["f.bench", "f.dev", "f.nnf", ".bench", "g.bench"]
-    others = ["1", "0", "801", "--narrow", "--budget", "--sessions", "2", "--frames", "--frames", "--levels", "--least"]
+    others = ["1", "0", "801", "2", *OPTIONS["serve"]]
     files = {"f.bench": b"INPUT(a)\ny = NOT(a)\n", "f.dev": b"block M\nend\ntop M\n", "f.nnf": b"nnf 1 0 1\nL 1\n"}
     words = [r.choice(forms), r.choice(names)]
     given = [*words, *r.choices(others, k=r.randint(0, 4))] if chance(r, 70) else r.choices(forms + names + others, k=r.randint(0, 4))

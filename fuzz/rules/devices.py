@@ -3,25 +3,12 @@
 import itertools
 from dataclasses import dataclass
 
+from diag_client.devices import GATES, Reduction
+
 from . import truths
 
 PARTS_LIMIT = 4096
 WIRES_LIMIT = 16384
-INPUTS_LIMIT = 64
-# What may be asked of the inputs of a gate.
-ALL_ONES, ANY_ONE, ODD_ONES = "whether all are 1", "whether one or more are 1", "whether an odd number of them is 1"
-
-
-@dataclass(frozen=True)
-class Gate:
-    """What is asked of the inputs, whether the output is that or its opposite, and how many inputs there may be."""
-    asked: str
-    positive: bool
-    most_inputs: int = INPUTS_LIMIT
-
-
-GATES = {"AND": Gate(ALL_ONES, True), "OR": Gate(ANY_ONE, True), "NAND": Gate(ALL_ONES, False), "NOR": Gate(ANY_ONE, False),
-         "XOR": Gate(ODD_ONES, True), "XNOR": Gate(ODD_ONES, False), "NOT": Gate(ALL_ONES, False, 1), "BUFF": Gate(ALL_ONES, True, 1)}
 
 
 @dataclass
@@ -45,20 +32,10 @@ def takes(gate, inputs):
     return 1 <= inputs <= GATES[gate].most_inputs
 
 
-def reduced(asked, inputs):
-    if asked == ODD_ONES:
-        return sum(inputs) % 2 == 1
-    return all(inputs) if asked == ALL_ONES else any(inputs)
-
-
-def gate_value(gate, inputs):
-    return reduced(GATES[gate].asked, inputs) == GATES[gate].positive
-
-
 def allows(kind, is_ok, row):
     if isinstance(kind, Type):
         return row in (kind.ok if is_ok else kind.bad)
-    return not is_ok or bool(row[-1]) == gate_value(kind, row[:-1])
+    return not is_ok or row[-1] == GATES[kind].output(row[:-1])
 
 
 def allowed_rows(kind, is_ok, ports, vars):

@@ -9,8 +9,6 @@ from .netlists import FLIP_FLOP
 from .sessions import System
 from .texts import Refused
 
-FRAMES_LIMIT = 64
-
 
 def wire_at(wire, time):
     return wire + b"@%04d" % time

@@ -2,20 +2,17 @@
 
 from dataclasses import dataclass
 
+from diag_client import manual
+from diag_client.service import LIMITS
+
 from . import clauses, designs, frames, graphs, netlists
+from .devices import WIRES_LIMIT
 from .pieces import Bits, Graph, Sum
 from .sessions import System, replies
 from .texts import FILE_LIMIT, Refused, plain_number_in
 
-BUDGET_LIMIT, BUDGET = 8388608, 2097152
-SESSIONS_LIMIT, SESSIONS = 1024, 16
-HEALTH_LIMIT = 4096
+BUDGET, SESSIONS = 2097152, 16
 PLACES_LIMIT = 800
-LEVELS_LIMIT = 4096000
-RANGES = {"--budget": (1, BUDGET_LIMIT), "--sessions": (1, SESSIONS_LIMIT), "--frames": (1, frames.FRAMES_LIMIT),
-          "--levels": (0, LEVELS_LIMIT)}
-# Options without a number.
-FLAGS = ("--narrow", "--least")
 # Trying all values of more variables, or counting more states, takes too long.
 VARIABLES_TRIED = 20
 SUM_TRIED = 100000
@@ -28,16 +25,15 @@ GRAPHS = (".nnf",)
 
 @dataclass(frozen=True)
 class Form:
-    """How often it is tried, how its file ends, and its options."""
+    """How often it is tried, and how its file ends."""
     often: int
     endings: tuple
-    options: tuple = ()
 
 
-# The forms over a file.
-FORMS = {"serve": Form(28, (*DEVICES,), ("--budget", "--sessions", "--frames", "--levels", "--least", "--narrow")),
-         "plan": Form(10, (*DEVICES,), ("--narrow",)), "compile": Form(10, (*DEVICES,), ("--budget", "--narrow")),
-         "check": Form(8, GRAPHS), "ask": Form(16, GRAPHS, ("--sessions",))}
+# The forms over a file, and what may follow each by the launcher's help, with the letter of a number if one follows.
+FORMS = {"serve": Form(28, (*DEVICES,)), "plan": Form(10, (*DEVICES,)), "compile": Form(10, (*DEVICES,)),
+         "check": Form(8, GRAPHS), "ask": Form(16, GRAPHS)}
+OPTIONS = {form: entry.option_words() for form, entry in manual.forms().items()}
 
 
 class TooLarge(Exception):
@@ -69,12 +65,10 @@ def options_of(form, words):
     words = list(words)
     while words:
         word = words.pop(0)
-        if word not in FORMS[form].options or word[2:] in found:
+        if word not in OPTIONS[form] or word[2:] in found:
             raise USAGE
-        if word in FLAGS:
-            found[word[2:]] = True
-            continue
-        found[word[2:]] = number(words.pop(0) if words else "", *RANGES[word])
+        takes_number = OPTIONS[form][word]
+        found[word[2:]] = number(words.pop(0) if words else "", *LIMITS[word[2:]]) if takes_number else True
     return found
 
 
@@ -86,7 +80,7 @@ def asked_by(words):
         return Asked(form, number=number(file, 1, PLACES_LIMIT))
     if form not in FORMS or not any(file.endswith(ending) and file != ending for ending in FORMS[form].endings):
         raise USAGE
-    health = number(rest.pop(0) if rest else "", 0, HEALTH_LIMIT) if form == "ask" else 0
+    health = number(rest.pop(0) if rest else "", *LIMITS["health"]) if form == "ask" else 0
     asked = Asked(form, file, health, **options_of(form, rest))
     if asked.frames and not file.endswith(".bench"):
         raise USAGE
@@ -185,7 +179,7 @@ def described(asked, text, script):
     encoded = Encoded(read(text))
     if asked.form == "plan":
         told = Sum(encoded.sum) if asked.narrow else f"sum {encoded.sum}\n".encode()
-        return weighed(encoded, BUDGET_LIMIT, asked.narrow, ([encoded.sizes(), told], 0))
+        return weighed(encoded, LIMITS["budget"][1], asked.narrow, ([encoded.sizes(), told], 0))
     if asked.form == "compile":
         most = 3 * encoded.sum + 2 * encoded.vars + 2
         answer = [Graph(encoded.vars, encoded.outer(), encoded.fits(), most)], 0
@@ -204,8 +198,8 @@ def questioned(asked, text, script):
     health, wires = asked.number, vars - asked.number
     if wires < 0:
         raise Refused(f"error: health {health} above {vars}")
-    if wires > 16384:
-        raise Refused(f"error: wires {wires} above 16384")
+    if wires > WIRES_LIMIT:
+        raise Refused(f"error: wires {wires} above {WIRES_LIMIT}")
     if vars > VARIABLES_TRIED:
         raise TooLarge()
     names = [b"%05d" % variable for variable in range(1, vars + 1)]

@@ -1,7 +1,11 @@
 """Scripts: what each line asks, and what each session replies."""
 
+import pathlib
+import re
 from bisect import bisect_right
 from dataclasses import dataclass, field
+
+from diag_client import manual
 
 from . import truths
 from .pieces import Graph, Text
@@ -10,30 +14,14 @@ from .texts import is_name, plain_number_in, words_of
 LINE_LIMIT = 1048576
 LIST_LIMIT = 1000000
 SESSION_NAME, NAME = 64, 255
-# What may stand behind the name of a session.
+# What may follow the name of a session.
 WIRE, PART, READING, MODE, COUNT, PARTS = "w", "p", "w=b", "p=m", "k", "p1 .. pk"
 VALUES = {READING: {b"0": False, b"1": True}, MODE: {b"ok": True, b"bad": False}}
-
-
-@dataclass(frozen=True)
-class Command:
-    """What stands behind the session's name, and how often the command stands in a script that is made. With an option it stands there
-    so much more often; what only an option allows stands there now and then without it too."""
-    takes: str = ""
-    often: int = 0
-    more: dict = field(default_factory=dict)
-
-
-# A method of the session answers each, but for the first two.
-COMMANDS = {
-    b"open": Command(often=2), b"close": Command(often=1),
-    b"see": Command(READING, 16), b"unsee": Command(WIRE, 2), b"hold": Command(MODE, 3), b"unhold": Command(PART, 2),
-    b"min": Command(often=8), b"next": Command(often=10), b"list": Command(COUNT, 6),
-    b"level": Command(more={"--levels": 8}), b"levels": Command(COUNT, more={"--levels": 8}), b"after": Command(PARTS, 2, {"--levels": 4}),
-    b"probe": Command(WIRE, 4), b"probes": Command(often=2), b"blame": Command(often=8),
-    b"dnnf": Command(often=2), b"leastnnf": Command(more={"--least": 8})}
-REASONS = {1: "unknown command", 2: "bad words", 3: "bad name", 4: "bad value", 5: "line too long", 6: "no session",
-           7: "open already", 8: "full", 9: "no wire", 10: "no part", 11: "no levels", 12: "no least"}
+# What follows the session's name in each command, by the launcher's help. A method of the session answers each but the first two.
+TAKES = {command.encode(): " ".join(usage.words) for command, usage in manual.usages().items()}
+# Refusals by their numbers, as the page has them.
+SCRIPT = (pathlib.Path(__file__).resolve().parents[2] / "docs/SCRIPT.md").read_text()
+REASONS = {int(number): text for number, text in re.findall("^[|] `(?:S )?error ([0-9]+) ([a-z ]+)`", SCRIPT, re.MULTILINE)}
 
 
 class System:
@@ -214,8 +202,8 @@ def asked(line):
     if not words or words[0].startswith(b"#"):
         return None
     command, *rest = words
-    demand(command in COMMANDS, 1)
-    takes = COMMANDS[command].takes
+    demand(command in TAKES, 1)
+    takes = TAKES[command]
     demand(len(words) >= 2 if takes == PARTS else len(words) == (3 if takes else 2), 2)
     if takes in VALUES:
         demand(b"=" in rest[1], 2)

@@ -1,6 +1,6 @@
 """A client of `diag`, the verified diagnosis of digital devices: `Service` serves a device, and its sessions answer.
 
-The program that is started is proved; this client is not. It stands on Python's standard library alone. docs/PYTHON.md tells it by
+The program that is started is proved; this client is not. It needs Python's standard library alone. docs/PYTHON.md shows it by
 examples.
 
 >>> with Service("examples/c17.bench") as service, service.session() as session:
@@ -14,25 +14,36 @@ measure 10: of 2 diagnoses 1 goes on with 0 and 1 with 1, so that 1.0 are expect
 """
 
 from .advice import Proposal
-from .errors import DiagError, Ended, Inconsistent, NotBuilt, Refused
-from .replies import Blame, Diagnosis, Graph, Level, Minimum, Probe, Verdict
-from .service import Service, Session, find_program
+from .errors import DiagError, Ended, Inconsistent, NotBuilt, OtherProcess, Refused, TimedOut
+from .holding import JointProgress
+from .joint import Joint, JointProposal
+from .replies import Blame, Diagnosis, Graph, Level, Minimum, Mode, Probe, Verdict
+from .service import Service, find_program
+from .session import Session
+from .tables import BadTable
 
 __all__ = [
+    "BadTable",
     "Blame",
     "DiagError",
     "Diagnosis",
     "Ended",
     "Graph",
     "Inconsistent",
+    "Joint",
+    "JointProgress",
+    "JointProposal",
     "Level",
     "Minimum",
+    "Mode",
     "NotBuilt",
+    "OtherProcess",
     "Probe",
     "Proposal",
     "Refused",
     "Service",
     "Session",
+    "TimedOut",
     "Verdict",
     "find_program",
 ]

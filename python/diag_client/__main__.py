@@ -3,72 +3,71 @@
 from __future__ import annotations
 
 import argparse
-import contextlib
-import pathlib
+import functools
+import os
+import re
 import sys
 
-from . import manual, picture, shell
-from .errors import DiagError
-from .service import Service
+from . import bench, board, draw, manual, progress, shell
+from .errors import DiagError, sentence
+from .service import LIMITS
+
+OPTION = re.compile(rf"\b({'|'.join(LIMITS)})=(\w+)")
 
 
 def words_of() -> argparse.ArgumentParser:
-    """What may stand behind `python -m diag_client`."""
+    """The words that may follow `python -m diag_client`."""
     parser = argparse.ArgumentParser(prog="python3 -m diag_client", description="Tools around the program `diag`; see docs/PYTHON.md.")
     commands = parser.add_subparsers(dest="command", required=True, metavar="COMMAND")
     served = argparse.ArgumentParser(add_help=False)
     served.add_argument("file", metavar="FILE", help="a netlist (.bench) or a design (.dev)")
-    served.add_argument("--narrow", action="store_true", help="look for an order of the clauses in which the sum is small")
+    narrow = argparse.BooleanOptionalAction
+    forest = "compile along a forest of variables by which the sum is small, or by the order of the names"
+    served.add_argument("--narrow", action=narrow, default=True, help=forest)
     served.add_argument("--budget", type=int, metavar="N", help="the greatest sum of a device that is served")
     served.add_argument("--frames", type=int, metavar="F", help="serve a netlist with flip-flops over F times")
     served.add_argument("--program", metavar="PATH", help="the program or launcher to start")
 
     draws = commands.add_parser("picture", parents=[served], help="draw a device with what was seen, held and blamed")
-    draws.add_argument("script", metavar="SCRIPT", nargs="?", help="a script; the case at its end is drawn; - is standard input")
-    draws.add_argument("-o", "--output", metavar="OUT", help="out.svg, out.pdf, out.png or out.dot; else the text is written")
-    draws.add_argument("--session", metavar="S", help="the session that is drawn; else the one that the script speaks of last")
-    draws.add_argument("--most", type=int, metavar="N", default=picture.MOST, help="draw at most N parts (%(default)s)")
+    draw.add_words(draws)
 
     asks = commands.add_parser("shell", parents=[served], help="ask a device interactively")
+    asks.add_argument("--health", type=int, metavar="N", help="FILE is a graph (.nnf) whose first N variables are parts")
     asks.add_argument("--levels", type=int, metavar="C", help="what is next best may be asked for, up to a cost of C")
     asks.add_argument("--least", action="store_true", help="the graph of the diagnoses may be asked for")
+    patterns = "begin with the test patterns of a table (.csv): wires in its first row, then 0, 1 or nothing"
+    asks.add_argument("--patterns", metavar="TABLE", help=patterns)
+    bench.add_words(commands.add_parser("bench", parents=[served], help="open a page on which readings are entered by clicking wires"))
     commands.add_parser("man", help="write the manual page that says what the launcher's help says")
     return parser
 
 
-def draw(words: argparse.Namespace, service: Service) -> int:
-    """Draws what is served. Where the wanted form needs a program that is not there, the graph's text is written and the status is 1."""
-    with contextlib.ExitStack() as stack:
-        script = None
-        if words.script == "-":
-            sys.stdin.reconfigure(encoding="utf-8", errors="surrogateescape", newline="\n")  # type: ignore[union-attr]
-            script = sys.stdin
-        elif words.script is not None:
-            script = stack.enter_context(open(words.script, encoding="utf-8", errors="surrogateescape", newline="\n"))
-        text = picture.picture(service, script, words.session, words.most)
-    if words.output is None:
-        sys.stdout.write(text)
-        return 0
-    written = picture.render(text, words.output)
-    if written == pathlib.Path(words.output):
-        return 0
-    print(f"diag_client: Graphviz's `dot` is not here (Debian: graphviz); wrote {written} alone", file=sys.stderr)
-    return 1
-
-
 def main() -> int:
     """Does what the words say, and gives the exit status."""
-    words = words_of().parse_args()
+    words = draw.read_words(words_of())
     try:
         if words.command == "man":
             sys.stdout.write(manual.page(manual.read_help()))
             return 0
-        given = {name: getattr(words, name, None) for name in ("narrow", "budget", "frames", "levels", "least", "program")}
-        with Service(words.file, **given) as service:
-            return draw(words, service) if words.command == "picture" else shell.run(service)
-    except (DiagError, OSError) as error:
-        print(f"diag_client: {error}", file=sys.stderr)
+        if words.command == "bench":
+            return bench.run(words)
+        given = progress.options_in(words)
+        if words.command == "picture":
+            return draw.draw(words, lambda: progress.serve(words.file, **given))
+        with progress.serve(words.file, **given) as service:
+            return shell.run(service, functools.partial(board.begin, table=words.patterns))
+    except KeyboardInterrupt:
+        print("diag_client: interrupted", file=sys.stderr)
+        return 130
+    except BrokenPipeError:
+        # Nobody reads what is written. Python would try once more at its end.
+        os.dup2(os.open(os.devnull, os.O_WRONLY), sys.stdout.fileno())
+        return 1
+    except (DiagError, OSError, ValueError) as error:
+        # What Python gives as frames=N is an option here.
+        print("diag_client:", OPTION.sub(r"--\1 \2", sentence(error).replace("narrow=True", "--narrow")), file=sys.stderr)
         return 1
 
 
-sys.exit(main())
+if __name__ == "__main__":
+    sys.exit(main())

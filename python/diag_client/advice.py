@@ -4,21 +4,24 @@ from __future__ import annotations
 
 import dataclasses
 import fractions
-from collections.abc import Iterable
+from collections.abc import Iterable, Sequence
 from typing import TYPE_CHECKING
 
 if TYPE_CHECKING:
-    from .service import Session
+    from .replies import Diagnosis
+    from .session import Session
 
-# So many diagnoses are at hand where nothing else is said.
+# So many diagnoses are at hand if nothing else is said.
 AT_HAND = 100
+# So many wires at least are counted by diagnoses. To hold all parts takes longer than to ask a few wires.
+MANY = 50
 
 
 @dataclasses.dataclass(frozen=True)
 class Proposal:
-    """A wire that may be measured, and why: of the diagnoses at hand so many go on where it is 0, and so many where it is 1.
+    """A wire that may be measured, and why: of the diagnoses at hand so many go on if it is 0, and so many if it is 1.
 
-    One goes on where it is still a diagnosis once the wire was seen so. It may go on with both bits, where the wire may be either. With
+    One goes on if it is still a diagnosis once the wire was seen so. It may go on with both bits, if the wire may be either. With
     `complete` the diagnoses at hand are all that there are, and else the first of them.
     """
 
@@ -50,17 +53,40 @@ def rank(session: Session, among: Iterable[str] | None, limit: int) -> list[Prop
     """The unseen wires of `among`, else all, with what they split: see `Session.rank_probes`."""
     if limit < 1:
         raise ValueError(f"the number of diagnoses at hand is at least 1, and not {limit}")
+    if isinstance(among, str):
+        raise TypeError(f"among is a list of names, such as [{among!r}]")
     with session.copy() as scratch:
-        # One more tells whether these are all.
+        # One more shows whether these are all.
         found = list(scratch.diagnoses(limit + 1))
-        at_hand = frozenset(found[:limit])
+        at_hand = found[:limit]
         cost = scratch.minimum().cost
         unseen = None if among is None else sorted(set(among) - session.seen.keys())
-        proposals = []
-        for probe in scratch.probes() if unseen is None else scratch.probe_each(unseen):
-            # Where the least cost rises with a bit no diagnosis goes on with it, and so all do with the other one.
-            zero, one = (len(at_hand) if bit == cost else 0 for bit in (probe.if_zero, probe.if_one))
-            if zero and one:
-                zero, one = (len(at_hand.intersection(going_on)) for going_on in scratch.diagnoses_with(probe.wire, limit))
-            proposals.append(Proposal(probe.wire, len(at_hand), zero, one, len(found) <= limit))
+        rows = scratch.probes() if unseen is None else scratch.probe_each(unseen)
+        # If the least cost rises with a bit, no diagnosis goes on with it, and so all do with the other one.
+        counts = {row.wire: [len(at_hand) if bit == cost else 0 for bit in (row.if_zero, row.if_one)] for row in rows}
+        either = [wire for wire, (zero, one) in counts.items() if zero and one]
+        # Two lists for each wire, or one for each diagnosis.
+        count = by_diagnosis if len(either) >= max(MANY, len(at_hand) // 2) else by_wire
+        counts |= count(scratch, at_hand, either)
+    proposals = [Proposal(wire, len(at_hand), zero, one, len(found) <= limit) for wire, (zero, one) in counts.items()]
     return sorted(proposals, key=lambda row: (-row.reduction, max(row.with_zero, row.with_one), row.wire))
+
+
+def by_wire(scratch: Session, at_hand: Sequence[Diagnosis], wires: Sequence[str]) -> dict[str, list[int]]:
+    """How many of the diagnoses go on with 0 and with 1, of each wire: those that are listed once it is seen so."""
+    known = frozenset(at_hand)
+    return {wire: [len(known.intersection(listed)) for listed in scratch.diagnoses_with(wire, len(at_hand))] for wire in wires}
+
+
+def by_diagnosis(scratch: Session, at_hand: Sequence[Diagnosis], wires: Sequence[str]) -> dict[str, list[int]]:
+    """The same, by the bits that the wires may have if just the parts of a diagnosis are bad."""
+    counts = {wire: [0, 0] for wire in wires}
+    scratch.hold({row.part: "ok" for row in scratch.blame()})
+    for diagnosis in at_hand:
+        scratch.hold(dict.fromkeys(diagnosis, "bad"))
+        for row in scratch.probes():
+            if row.wire in counts:
+                counts[row.wire][0] += row.if_zero is not None
+                counts[row.wire][1] += row.if_one is not None
+        scratch.hold(dict.fromkeys(diagnosis, "ok"))
+    return counts

@@ -4,24 +4,33 @@ from __future__ import annotations
 
 import collections
 import contextlib
+import logging
+import math
 import os
 import selectors
 import signal
 import subprocess
 import sys
 import threading
+import time
 import types
+import warnings
+import weakref
 from collections.abc import Iterator, Sequence
 from typing import IO
 
-from .errors import Ended
+from .errors import Ended, OtherProcess, TimedOut
 from .replies import NotAReply, Request
 
 PIECE = 65536
+# A signal that comes just before a wait begins does not end it. So no wait takes more seconds than this.
+LONGEST_WAIT = 0.5
 # So many seconds a program that writes nothing more may take to end.
 PATIENCE = 10.0
 # So much of what was said on standard error is kept.
 SAID = 4096
+
+LOG = logging.getLogger("diag_client")
 
 
 @contextlib.contextmanager
@@ -40,19 +49,47 @@ def interrupts_held_back() -> Iterator[None]:
         before(*came[-1])
 
 
+def _kill(process: subprocess.Popen[bytes]) -> None:
+    """Ends a program and what it started, whatever they do."""
+    with contextlib.suppress(ProcessLookupError):
+        os.killpg(process.pid, signal.SIGKILL)
+
+
+def _let_go(process: subprocess.Popen[bytes], owner: int, words: tuple[str, ...]) -> None:
+    """Ends a program that nobody can ask any more: its client was dropped unclosed, or the interpreter ends."""
+    is_own = os.getpid() == owner
+    if is_own:
+        _kill(process)
+    for end in (process.stdin, process.stdout, process.stderr):
+        if end is not None:
+            end.close()
+    if not is_own:
+        # It goes on, and is not this process's to wait for.
+        process.returncode = 0
+        return
+    process.wait()
+    warnings.warn(f"a Service was not closed: {' '.join(words)}", ResourceWarning, stacklevel=2)
+
+
 class Child:
     """The running program, and what it still has to answer.
 
-    What is asked is written whole, and while it is written all that is answered is read, so that no pipe stands full on both sides.
+    What is asked is written whole, and while it is written all that is answered is read, so that no pipe is full while both sides wait.
     An interrupt leaves all in step: what was asked stays asked, and its replies are taken when they come.
+
+    The program ends with the last reference to its child, and with the interpreter. After a fork it is that of the first process.
     """
 
-    def __init__(self, words: Sequence[str]) -> None:
+    def __init__(self, words: Sequence[str], timeout: float | None = None) -> None:
         self._words = tuple(words)
-        # A group of its own: an interrupt at the terminal is for the one who asks.
-        self._process = subprocess.Popen(
-            self._words, stdin=subprocess.PIPE, stdout=subprocess.PIPE, stderr=subprocess.PIPE, bufsize=0, process_group=0
-        )
+        self._timeout = timeout
+        self._owner = os.getpid()
+        with interrupts_held_back():
+            # A group of its own: an interrupt at the terminal is for the one who asks.
+            self._process = subprocess.Popen(
+                self._words, stdin=subprocess.PIPE, stdout=subprocess.PIPE, stderr=subprocess.PIPE, bufsize=0, process_group=0
+            )
+            self._finalizer = weakref.finalize(self, _let_go, self._process, self._owner, self._words)
         assert self._process.stdin and self._process.stdout and self._process.stderr
         self._input = self._process.stdin
         self._output = self._process.stdout
@@ -63,96 +100,125 @@ class Child:
         self._watched: set[IO[bytes]] = set()
         self._watch(self._output, selectors.EVENT_READ)
         self._watch(self._errors, selectors.EVENT_READ)
-        self._lock = threading.RLock()
         self._unsent = bytearray()
         self._begun = bytearray()
         self._awaited: collections.deque[Request] = collections.deque()
         self._last_line = ""
         self._said = ""
+        # A line that answered nothing, and what is said of it.
+        self._stray = ("", "")
         self._in_step = True
         self._over: Ended | None = None
+        # What was asked and not answered when it ended.
+        self.unanswered: list[Request] = []
 
     @property
     def is_running(self) -> bool:
         """Whether it still answers, as far as was seen."""
         return self._over is None
 
+    @property
+    def is_own(self) -> bool:
+        """Whether it belongs to this process, and not to the one that this process was forked from."""
+        return os.getpid() == self._owner
+
     def expect(self, request: Request) -> None:
         """Waits for what it says unasked."""
-        with self._lock:
-            self._awaited.append(request)
-            self._run_until(request)
+        self._awaited.append(request)
+        self._finish_reply(request)
 
     def ask(self, requests: Sequence[Request]) -> None:
         """Asks all of these at once, and waits for their replies."""
         if requests:
-            with self._lock:
-                self.send(requests)
-                self._run_until(requests[-1])
+            self.send(requests)
+            self._finish_reply(requests[-1])
+
+    def follow(self, requests: Sequence[Request]) -> Iterator[None]:
+        """Asks all of these at once, and comes back each time that something of the replies was read, until they are complete."""
+        self.send(requests)
+        if requests:
+            yield from self._run_until(requests[-1])
 
     def send(self, requests: Sequence[Request]) -> None:
         """Asks all of these at once. Their replies are taken when they come."""
         text = "".join(request.sent for request in requests).encode("utf-8", "surrogateescape")
-        with self._lock:
-            if not self._in_step:
-                self.stop()
-            if self._over is None and self._input.closed:
-                # Nothing more can be asked, and what still comes answers nothing of this.
-                while not self._is_out():
-                    self._turn()
-                self._finish()
-            if self._over is not None:
-                raise self.ended()
-            with self._a_step():
-                self._unsent += text
-                self._awaited.extend(requests)
-                self._watch(self._input, selectors.EVENT_WRITE)
+        if not self.is_own:
+            raise OtherProcess(self._owner)
+        if not self._in_step:
+            self.stop()
+        if self._over is None and self._input.closed:
+            # Nothing more can be asked, and what still comes answers nothing of this.
+            while not self._is_out():
+                self._turn()
+            self._finish()
+        if self._over is not None:
+            raise self.ended()
+        with self._a_step():
+            if LOG.isEnabledFor(logging.DEBUG):
+                for line in text.decode("utf-8", "surrogateescape").splitlines():
+                    LOG.debug("to %d: %s", self._process.pid, line)
+            self._unsent += text
+            self._awaited.extend(requests)
+            self._watch(self._input, selectors.EVENT_WRITE)
 
     def catch_up(self) -> None:
         """Waits for what an interrupt left to be answered."""
-        with self._lock:
-            if self._awaited and self._in_step and self._over is None:
-                self._run_until(self._awaited[-1])
+        if not self.is_own:
+            raise OtherProcess(self._owner)
+        if self._awaited and self._in_step and self._over is None:
+            self._finish_reply(self._awaited[-1])
+
+    def is_behind(self) -> bool:
+        """Whether something that was asked is still to be answered, once all that has come by now is read. It waits for nothing."""
+        while self._awaited and self._in_step and self._over is None and self.is_own and not self._is_out():
+            if not self._turn(0):
+                return True
+        return False
 
     def close(self) -> int:
         """Ends the script, waits for what is still to be answered and for the end, and gives the exit status."""
-        with self._lock:
-            if self._over is None:
-                if not self._in_step:
-                    self.stop()
-                    return self._process.returncode
-                while self._unsent and not self._is_out():
-                    self._turn()
-                self._hang_up()
-                while not self._is_out():
-                    self._turn()
-                self._finish()
-            return self._process.returncode
+        if self._over is None and self.is_own:
+            if not self._in_step:
+                self.stop()
+                return self._process.returncode
+            while self._unsent and not self._is_out():
+                self._turn()
+            self._hang_up()
+            while not self._is_out():
+                self._turn()
+            self._finish()
+        return self._process.returncode or 0
 
     def stop(self) -> None:
         """Ends it at once, whatever it does."""
-        with self._lock:
-            if self._over is None:
-                with contextlib.suppress(ProcessLookupError):
-                    os.killpg(self._process.pid, signal.SIGKILL)
-                self._finish()
+        if self._over is None and self.is_own:
+            _kill(self._process)
+            self._finish()
 
     def ended(self) -> Ended:
         """How it ended, as an error of its own for each who asks."""
         assert self._over is not None
         return Ended(*self._over.args)
 
-    def _run_until(self, request: Request) -> None:
-        """Writes and reads until the request is answered, and all before it."""
+    def _finish_reply(self, request: Request) -> None:
+        for _ in self._run_until(request):
+            pass
+
+    def _run_until(self, request: Request) -> Iterator[None]:
+        """Writes and reads until the request is answered, and all before it, and comes back each time that something was."""
+        timeout = math.inf if self._timeout is None else self._timeout
+        deadline = time.monotonic() + timeout
         while not request.is_answered:
             if self._is_out():
                 self._finish()
                 raise self.ended()
-            self._turn()
+            if not self._turn(max(0.0, min(deadline - time.monotonic(), LONGEST_WAIT))) and time.monotonic() >= deadline:
+                raise TimedOut(timeout)
+            yield
 
-    def _turn(self) -> None:
-        """Waits until some end is ready, and serves those that are. An interrupt comes while it waits."""
-        ready = [key.fileobj for key, _ in self._selector.select()]
+    def _turn(self, seconds: float = LONGEST_WAIT) -> bool:
+        """Waits until some end is ready, and serves those that are: False if none was in time. An interrupt comes while it waits."""
+        ready = [key.fileobj for key, _ in self._selector.select(seconds)]
         with self._a_step():
             if self._input in ready:
                 self._write()
@@ -160,10 +226,11 @@ class Child:
                 self._read()
             if self._errors in ready:
                 self._hear()
+        return bool(ready)
 
     @contextlib.contextmanager
     def _a_step(self) -> Iterator[None]:
-        """What is done whole. Where an error ends it all the same it is not known what was read and what was not."""
+        """What is done whole. If an error ends it all the same, it is not known what was read and what was not."""
         with interrupts_held_back():
             self._in_step = False
             yield
@@ -183,27 +250,42 @@ class Child:
 
     def _read(self) -> None:
         came = os.read(self._output.fileno(), PIECE)
+        self._begun += came
+        self._hand_whole()
         if not came:
             self._ignore(self._output)
             self._last_line = self._text(self._begun) or self._last_line
-            return
-        self._begun += came
-        *lines, rest = self._begun.split(b"\n")
-        self._begun = rest
-        for line in lines:
-            self._last_line = self._text(line)
-            if not self._input.closed or self._awaited:
-                self._hand(self._last_line)
 
-    def _hand(self, line: str) -> None:
-        """Gives a line to the request that it answers. Where it answers none the program ends, or is none that answers scripts."""
+    def _hand_whole(self) -> None:
+        """Hands on the whole lines that came."""
+        whole, feed, rest = self._begun.rpartition(b"\n")
+        if not feed:
+            return
+        self._begun = rest
+        lines = self._text(whole).split("\n")
+        self._last_line = lines[-1]
+        if LOG.isEnabledFor(logging.DEBUG):
+            for line in lines:
+                LOG.debug("from %d: %s", self._process.pid, line)
+        self._hand(lines)
+
+    def _hand(self, lines: Sequence[str]) -> None:
+        """Gives each line to the request that it answers. If it answers none, the program ends, or is none that answers scripts."""
+        awaited, place = self._awaited, 0
         try:
-            if not self._awaited:
-                raise NotAReply(line)
-            if self._awaited[0].take(line):
-                self._awaited.popleft().is_answered = True
-        except NotAReply:
-            self._awaited.clear()
+            while awaited and place < len(lines):
+                place = awaited[0].take_from(lines, place)
+                if awaited[0].is_answered:
+                    awaited.popleft()
+            if place < len(lines) and not self._input.closed:
+                raise NotAReply(lines[place])
+        except NotAReply as stray:
+            line = str(stray)
+            # With such a line the program itself says why it ends.
+            if not line.startswith("error: "):
+                asked = awaited[0].line if awaited else ""
+                self._stray = line, f"unexpected reply `{line}`" + (f" to `{asked}`" if asked else "")
+            self._give_up()
             self._hang_up()
 
     def _hear(self) -> None:
@@ -235,23 +317,32 @@ class Child:
             self._watched.remove(end)
             self._selector.unregister(end)
 
+    def _give_up(self) -> None:
+        """Nothing more is awaited."""
+        self.unanswered += self._awaited
+        self._awaited.clear()
+
     def _finish(self) -> None:
         """Waits for the end, and lets go of all that was held."""
         self._hang_up()
         try:
             self._process.wait(PATIENCE)
         except subprocess.TimeoutExpired:
-            self._process.kill()
+            _kill(self._process)
             self._process.wait()
-        if self._errors in self._watched:
-            with contextlib.suppress(BlockingIOError):
-                self._hear()
-        self._selector.close()
-        self._output.close()
-        self._errors.close()
-        self._awaited.clear()
-        said = self._said.strip().split("\n")[-1] if self._in_step else "stopped, since an error came in the midst of a reply"
-        self._over = Ended(self._words, self._process.returncode, self._last_line, said)
+        with interrupts_held_back():
+            if self._errors in self._watched:
+                with contextlib.suppress(BlockingIOError):
+                    self._hear()
+            self._selector.close()
+            self._output.close()
+            self._errors.close()
+            self._give_up()
+            self._finalizer.detach()
+            last_line, said = self._stray if self._stray[1] else (self._last_line, self._said.strip().split("\n")[-1])
+            if not self._in_step:
+                said = "stopped, since an error came in the midst of a reply"
+            self._over = Ended(self._words, self._process.returncode, last_line, said)
 
     @staticmethod
     def _text(data: bytes | bytearray) -> str:

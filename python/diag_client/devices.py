@@ -1,6 +1,6 @@
 """Netlists and designs as plain data, to draw and to simulate them.
 
-The program has read a file before it is read here, so nothing is looked for that it refuses: docs/FORMATS.md has both languages.
+The program has read a file before it is read here, so nothing is looked for that it refuses: docs/NETLIST.md has both languages.
 """
 
 from __future__ import annotations
@@ -36,7 +36,7 @@ class Gate:
     most_inputs: int = 64
 
     def output(self, bits: Iterable[int]) -> int:
-        """What it puts out where it is ok.
+        """What it puts out if it is ok.
 
         >>> GATES["NAND"].output([1, 0]), GATES["NAND"].output([1, 1])
         (1, 0)
@@ -61,7 +61,7 @@ FLIP_FLOP = "DFF"
 
 @dataclasses.dataclass(frozen=True)
 class Part:
-    """A part: its wires stand in the order of its ports, of a gate and of a flip-flop the output last."""
+    """A part: its wires are in the order of its ports, of a gate and of a flip-flop the output last."""
 
     name: str
     kind: str
@@ -158,3 +158,17 @@ def _flatten(device: Device, blocks: dict[str, _Block], block: _Block, path: str
             _flatten(device, blocks, inner, f"{path}{name}.", dict(zip(inner.ports, wires)))
         else:
             device.parts.append(Part(path + name, kind, tuple(wires)))
+
+
+def input_wires(path: str | os.PathLike[str], frames: int | None = None) -> frozenset[str]:
+    """The names of the wires that nothing in the device drives.
+
+    Of a netlist these are its inputs; over several times they are those at each time, and what flip-flops hold at the first. Ports in a
+    design have no direction, so they are the wires that are the last port of no part.
+    """
+    device = read_device(path)
+    if frames is None:
+        return device.inputs or frozenset(device.wires) - {part.wires[-1] for part in device.parts}
+    held = {part.name for part in device.parts if part.kind == FLIP_FLOP}
+    at_times = {f"{wire}@{time:04}" for wire in device.inputs for time in range(1, frames + 1)}
+    return frozenset(at_times | {f"{wire}@0001" for wire in held})

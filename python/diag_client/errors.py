@@ -2,6 +2,7 @@
 
 from __future__ import annotations
 
+import shlex
 import signal
 
 
@@ -9,14 +10,48 @@ class DiagError(Exception):
     """All errors of this client."""
 
 
+def sentence(error: BaseException) -> str:
+    """What an error says, without the number that the operating system gives it.
+
+    >>> sentence(OSError(28, "No space left on device", "out.svg"))
+    'out.svg: no space left on device'
+    """
+    if not isinstance(error, OSError) or not error.strerror:
+        return str(error)
+    told = error.strerror[:1].lower() + error.strerror[1:]
+    return told if error.filename is None else f"{error.filename}: {told}"
+
+
 class NotBuilt(DiagError):
-    """The program is not built, so there is nothing to start. The text says how to build it."""
+    """There is no program to start. The text says what to do."""
+
+
+class OtherProcess(DiagError):
+    """The service belongs to the process that started it, and this one was forked from that. Nothing was asked."""
+
+    def __init__(self, owner: int) -> None:
+        super().__init__(owner)
+        self.owner = owner
+
+    def __str__(self) -> str:
+        return f"this service belongs to process {self.owner}: start a Service in each process, or call restart() in this one"
+
+
+class TimedOut(DiagError, TimeoutError):
+    """No answer came within the `timeout` of the service. What was asked stays asked; `Service.restart` ends it."""
+
+    def __init__(self, seconds: float) -> None:
+        super().__init__(seconds)
+        self.seconds = seconds
+
+    def __str__(self) -> str:
+        return f"no answer within {self.seconds:g} seconds; Service.restart() ends what is still at work"
 
 
 class Refused(DiagError):
-    """A line asked what cannot be done, and changed nothing.
+    """A line asked for something that cannot be done, and changed nothing.
 
-    `number` and `text` are the program's own, as docs/FORMATS.md has them; `line` is the line that was refused.
+    `number` and `text` are the program's own, as in docs/SCRIPT.md; `line` is the line that was refused.
     """
 
     def __init__(self, number: int, text: str, line: str) -> None:
@@ -31,7 +66,7 @@ class Refused(DiagError):
 
 
 class Inconsistent(DiagError):
-    """No set of faulty parts explains what the session has seen and holds, so there is nothing to tell."""
+    """No set of faulty parts explains what the session has seen and holds."""
 
     def __init__(self, session: str) -> None:
         super().__init__(session)
@@ -44,20 +79,23 @@ class Inconsistent(DiagError):
 class Ended(DiagError):
     """The program has ended, and answers no more.
 
-    `status` is its exit status, negative where a signal ended it; `last_line` is the last line that it wrote, which for most statuses
-    says why; `said` is the last that it, or its launcher, said on standard error; `words` are those that it was started with.
+    `status` is its exit status, negative if a signal ended it. `last_line` is the last line that it wrote, or the first that answered
+    nothing; for most statuses it says why. `said` is the last line that it, or its launcher, wrote on standard error. `hint` says
+    what to try. `words` started it.
     """
 
-    def __init__(self, words: tuple[str, ...], status: int, last_line: str, said: str = "") -> None:
-        super().__init__(words, status, last_line, said)
+    def __init__(self, words: tuple[str, ...], status: int, last_line: str, said: str = "", hint: str = "") -> None:
+        super().__init__(words, status, last_line, said, hint)
         self.words = words
         self.status = status
         self.last_line = last_line
         self.said = said
+        self.hint = hint
 
     def __str__(self) -> str:
         how = f"status {self.status}"
         if self.status < 0:
             how = f"signal {-self.status} ({signal.strsignal(-self.status)})"
-        told = "".join(f": {text}" for text in (self.last_line, self.said) if text)
-        return f"`{' '.join(self.words)}` ended with {how}{told}"
+        texts = [self.said] if self.last_line in self.said else [self.last_line, self.said]
+        why = "".join(f": {text}" for text in texts if text)
+        return f"`{shlex.join(self.words)}` ended with {how}{why}" + (f"; {self.hint}" if self.hint else "")

@@ -1,22 +1,32 @@
 """The launcher's help, read into its entries, and the manual page that is made of them.
 
-What commands, options and statuses there are is told by the launcher alone: the terminal, the manual page and the tests of both have it
-from here, and so have those of the completion, which reads the help by itself.
+The help alone says what commands, options and statuses there are. The terminal, the manual page, the completion and the tests of all three
+go by it.
 """
 
 from __future__ import annotations
 
 import dataclasses
+import pathlib
 import re
-import subprocess
 import textwrap
 from collections.abc import Sequence
 
-from .errors import NotBuilt
-from .service import TOP
-
+# The launcher prints this file. It is package data, so it is there without the checkout.
+HELP = pathlib.Path(__file__).parent / "help.txt"
 # So long are the lines of the page's source.
 LINE = 120
+# When what is said here was last changed.
+DATE = "2026-11-30"
+FILES = {
+    "crates/diag/out/diag": "the built program; it needs nothing else and may be copied",
+    "crates/diag/out/diag.sources": "the checksums of the sources and of the program that was built from them",
+    "crates/diag/out/build.log": "all that the kit said when the program was proved",
+}
+EXAMPLES = {
+    "The faults of a netlist that explain a script's readings:": ["diag serve examples/c17.bench < examples/c17.script"],
+    "How large a netlist is along a forest that is looked for:": ["diag plan examples/ttl_74283.bench --narrow"],
+}
 SUMMARY = (
     "`diag` reads the design of a digital device, and then what was seen on its wires. Where the readings disagree with the design, it says"
     " which sets of faulty parts explain them at the least cost."
@@ -25,7 +35,7 @@ SUMMARY = (
 
 @dataclasses.dataclass
 class Entry:
-    """What is explained, and how. `options` explain words that may follow it; `notes` stand behind these."""
+    """What is explained, and how. `options` explain words that may follow it; `notes` come after these."""
 
     head: str
     text: str = ""
@@ -33,10 +43,10 @@ class Entry:
     notes: str = ""
     indent: int = dataclasses.field(default=0, repr=False)
 
-    def option_heads(self) -> list[str]:
-        """The options that may follow, by whatever is said of it, with the number that stands behind one."""
+    def option_words(self) -> dict[str, str]:
+        """The options that may follow, by whatever is said of it, each with the letter of the number that follows it, if one does."""
         said = [self.text, self.notes] + [option.head for option in self.options]
-        return sorted(set(re.findall(r"--[a-z]+(?: [A-Z]\b)?", " ".join(said))))
+        return dict(sorted(re.findall(r"(--[a-z]+)(?: ([A-Z])\b)?", " ".join(said))))
 
 
 @dataclasses.dataclass
@@ -49,7 +59,7 @@ class Section:
 
 @dataclasses.dataclass(frozen=True)
 class Usage:
-    """One command of a script: `see` with the words that stand behind the session's name."""
+    """One command of a script: `see` with the words that follow the session's name."""
 
     command: str
     words: tuple[str, ...]
@@ -57,18 +67,19 @@ class Usage:
 
 
 def read_help() -> list[Section]:
-    """What `diag --help` says now."""
-    launcher = TOP / "diag"
-    if not launcher.exists():
-        raise NotBuilt(f"there is no launcher {launcher}, whose help says which commands there are")
-    done = subprocess.run([launcher, "--help"], capture_output=True, text=True, check=True)
-    return sections(done.stdout)
+    """What `diag --help` prints."""
+    return sections(HELP.read_text(encoding="utf-8"))
+
+
+def forms() -> dict[str, Entry]:
+    """The forms of the command line, by their first words."""
+    return {entry.head.split()[1]: entry for entry in read_help()[0].entries}
 
 
 def sections(text: str) -> list[Section]:
     """The sections of a help text. Blank lines part them, and the first line of each but the first is its title.
 
-    An entry begins at the left edge; what explains it stands behind two spaces or more, or indented below it. An indented line that
+    An entry begins at the left edge; what explains it comes after two spaces or more, or indented below it. An indented line that
     begins with an option and is explained in the same way begins an option of the entry, whose text is indented further.
 
     >>> found = sections("diag go  goes:\\n         --far   farther\\n                 than that\\n         where it is\\n")
@@ -99,16 +110,16 @@ def _add_line(section: Section, line: str) -> None:
         option = entry.options[-1]
         option.text = f"{option.text} {line.strip()}"
     elif entry.options or entry.notes or "FILE ends in" in line:
-        # What is said of FILE is said of more than one entry, and stands by itself.
+        # What is said of FILE is said of more than one entry, and is a note of its own.
         entry.notes = f"{entry.notes} {line.strip()}".strip()
     else:
         entry.text = f"{entry.text} {line.strip()}".strip()
 
 
-def usages(found: Sequence[Section]) -> dict[str, Usage]:
+def usages() -> dict[str, Usage]:
     """The commands of a script, by their words: those of the section whose entries name a session."""
     rows = {}
-    for section in found:
+    for section in read_help():
         if not section.title.startswith("Lines of a script"):
             continue
         for entry in section.entries:
@@ -122,7 +133,7 @@ def usages(found: Sequence[Section]) -> dict[str, Usage]:
 
 
 def _roff(text: str) -> str:
-    """A text as the formatter reads it back, in lines. What stands between backquotes is set in bold."""
+    """A text as the formatter reads it back, in lines. What is between backquotes is set in bold."""
     text = text.replace("\\", "\\e").replace("-", "\\-").replace("'", "\\(aq")
     text = re.sub(r"`([^`]*)`", r"\\fB\1\\fP", text)
     lines = textwrap.wrap(text, LINE, break_long_words=False, break_on_hyphens=False)
@@ -147,13 +158,14 @@ def page(found: Sequence[Section]) -> str:
     forms, *others = found
     lines = [
         ".\\\" Made of the launcher's help by `python3 -m diag_client man`. Do not edit.",
-        ".TH DIAG 1",
+        f".TH DIAG 1 {DATE}",
         ".SH NAME",
         "diag \\- verified diagnosis of digital devices",
         ".SH SYNOPSIS",
     ]
-    for entry in forms.entries:
-        options = "".join(f" [{option}]" for option in entry.option_heads())
+    launchers = [entry for section in others for entry in section.entries if entry.head.startswith("diag ")]
+    for entry in forms.entries + launchers:
+        options = "".join(f" [{' '.join(words).strip()}]" for words in entry.option_words().items() if entry not in launchers)
         lines += [f".B {_roff(entry.head + options)}", ".br"]
     lines[-1] = ".SH DESCRIPTION"
     lines.append(_roff(SUMMARY))
@@ -162,5 +174,11 @@ def page(found: Sequence[Section]) -> str:
         lines += [f".SH {_roff(heading.upper())}"] + ([_roff(more[:1].upper() + more[1:] + ".")] if more else [])
         for entry in section.entries:
             lines += _entry_lines(entry)
-    lines += [".SH SEE ALSO", "README.md, docs/FORMATS.md and docs/PYTHON.md in the checkout."]
+    lines += [".SH FILES"]
+    for name, text in FILES.items():
+        lines += [".TP", f".B {_roff(name)}", _roff(text)]
+    lines += [".SH EXAMPLES"]
+    for text, commands in EXAMPLES.items():
+        lines += [_roff(text), ".PP", ".nf", ".RS", *(_roff(command) for command in commands), ".RE", ".fi", ".PP"]
+    lines += [".SH SEE ALSO", "README.md, docs/SCRIPT.md, docs/NETLIST.md and docs/PYTHON.md in the checkout."]
     return "\n".join(lines) + "\n"

@@ -7,13 +7,18 @@ import enum
 import os
 import pathlib
 import re
-from collections.abc import Callable
+from collections.abc import Callable, Iterator, Sequence
+from typing import Literal
 
+from . import display
 from .errors import Refused
 
 REFUSAL = re.compile(r"error ([0-9]+) (.+)")
 # A command that there is not, so that its reply marks the end of what came before.
 MARK = "."
+MARKED = "error 1 unknown command"
+
+Mode = Literal["ok", "bad"]
 
 
 class NotAReply(Exception):
@@ -27,12 +32,29 @@ class Minimum:
     cost: int
     faulty: tuple[str, ...]
 
+    def _repr_html_(self) -> str:
+        return display.table([self])
+
 
 @dataclasses.dataclass(frozen=True)
 class Diagnosis:
-    """A cheapest set of faulty parts that explains the case. It is empty where nothing is wrong."""
+    """A cheapest set of faulty parts that explains the case. It is empty if nothing is wrong.
+
+    >>> diagnosis = Diagnosis(("10", "22"))
+    >>> len(diagnosis), list(diagnosis), "10" in diagnosis
+    (2, ['10', '22'], True)
+    """
 
     faulty: tuple[str, ...]
+
+    def __iter__(self) -> Iterator[str]:
+        return iter(self.faulty)
+
+    def __len__(self) -> int:
+        return len(self.faulty)
+
+    def __contains__(self, part: object) -> bool:
+        return part in self.faulty
 
     def __str__(self) -> str:
         return " ".join(self.faulty) or "nothing"
@@ -51,11 +73,22 @@ class Level:
 
 @dataclasses.dataclass(frozen=True)
 class Probe:
-    """The least cost where a wire is seen as 0 too, and where it is seen as 1 too; None where no set explains that."""
+    """The least cost if a wire is seen as 0 too, and if it is seen as 1 too; None if no set explains that."""
 
     wire: str
     if_zero: int | None
     if_one: int | None
+
+    @property
+    def fault_free(self) -> int | None:
+        """The bit that the wire has if all parts are ok; None if it may have either, or if they cannot be.
+
+        >>> Probe("11", 1, 0).fault_free, Probe("22", 0, 0).fault_free, Probe("1", 0, None).fault_free
+        (1, None, 0)
+        """
+        if (self.if_zero == 0) == (self.if_one == 0):
+            return None
+        return 0 if self.if_zero == 0 else 1
 
 
 class Verdict(enum.StrEnum):
@@ -74,11 +107,14 @@ class Blame:
     verdict: Verdict
 
 
-@dataclasses.dataclass(frozen=True)
+@dataclasses.dataclass(frozen=True, repr=False)
 class Graph:
-    """A decomposable graph over the parts, as `.nnf` text. Variable i is the i-th part in name order, true where it is ok."""
+    """A decomposable graph over the parts, as `.nnf` text. Variable i is the i-th part in name order, true if it is ok."""
 
     text: str
+
+    def __repr__(self) -> str:
+        return f"Graph(nodes={self.nodes}, edges={self.edges}, parts={self.parts})"
 
     @property
     def nodes(self) -> int:
@@ -106,11 +142,17 @@ class Graph:
 class Request:
     """One line of a script, and its reply as it comes."""
 
+    is_answered = False
+
     def __init__(self, session: str, line: str) -> None:
         self.session = session
         self.line = line
-        self.is_answered = False
-        self.refused: Refused | None = None
+        self.refusals: list[Refused] = []
+
+    @property
+    def refused(self) -> Refused | None:
+        """Why it is refused, if it is: the first reason."""
+        return self.refusals[0] if self.refusals else None
 
     @property
     def sent(self) -> str:
@@ -121,11 +163,24 @@ class Request:
         """Takes the next line of the reply, and says whether it was the last one."""
         raise NotImplementedError
 
+    def take_from(self, lines: Sequence[str], place: int) -> int:
+        """Takes what these lines have of the reply, which goes on at a place. Gives the place after it."""
+        while place < len(lines) and not self.is_answered:
+            self.is_answered = self.take(lines[place])
+            place += 1
+        return place
+
+    def refusal(self, line: str) -> re.Match[str] | None:
+        """What a line says if it is a refusal: the session's own reply, or that to a line that names none."""
+        if "error " not in line:
+            return None
+        return REFUSAL.fullmatch(line) or REFUSAL.fullmatch(line.removeprefix(f"{self.session} "))
+
     def refuse(self, line: str) -> bool:
-        """Whether a line refuses the request: as the session's own reply, or as that to a line that names none."""
-        said = REFUSAL.fullmatch(line) or REFUSAL.fullmatch(line.removeprefix(f"{self.session} "))
+        """Whether a line of the reply refuses the request."""
+        said = self.refusal(line)
         if said is not None:
-            self.refused = Refused(int(said[1]), said[2], self.line)
+            self.refusals.append(Refused(int(said[1]), said[2], self.line))
         return said is not None
 
 
@@ -147,7 +202,7 @@ class Ready(Request):
 class Listing(Request):
     """A line whose reply has lines that begin with the session and a word.
 
-    A line with a word in `more` is followed by another one, but for the one that makes them `most`; one with a word in `last` ends it.
+    A line with a word in `more` is followed by another one, except the one that makes them `most`; one with a word in `last` ends it.
     `rows` are the words of all of them, the session left out.
     """
 
@@ -173,22 +228,58 @@ class Listing(Request):
         return self.rows[-1:] == [["inconsistent"]]
 
     def told(self, word: str) -> list[list[str]]:
-        """What stands behind the word in each line that begins with it."""
+        """What follows the word in each line that begins with it."""
         return [row[1:] for row in self.rows if row[0] == word]
 
 
-class Change(Listing):
-    """A line that changes what a session knows, and what is to be noted once it is carried out."""
+class Lines(Request):
+    """Lines that have the same beginning and the same reply each, unless they are refused. `line` is the one that was answered last.
 
-    def __init__(self, session: str, line: str, reply: str, note: Callable[[], None]) -> None:
-        super().__init__(session, line, last=reply)
-        self._note = note
+    If they change what a session knows, `note` is called with how those end that were carried out.
+    """
+
+    def __init__(
+        self, session: str, begins: str, rests: Sequence[str] = ("",), reply: str = "ok", note: Callable[[Sequence[str]], None] | None = None
+    ) -> None:
+        super().__init__(session, begins + rests[0])
+        self._begins = begins
+        self._rests = rests
+        self._done = f"{session} {reply}"
+        self._answered = 0
+        self.note = note
+        # The lines of the replies.
+        self.lines: list[str] = []
+
+    @property
+    def sent(self) -> str:
+        """The lines that are still to be answered."""
+        return self._begins + f"\n{self._begins}".join(self._rests[self._answered:]) + "\n"
+
+    def take_from(self, lines: Sequence[str], place: int) -> int:
+        rests = self._rests[self._answered:self._answered + len(lines) - place]
+        told = lines[place:place + len(rests)]
+        if told.count(self._done) < len(told):
+            return super().take_from(lines, place)
+        # All of them are carried out.
+        if self.note is not None:
+            self.note(rests)
+        self.lines += told
+        self.line = self._begins + rests[-1]
+        self._answered += len(told)
+        self.is_answered = self._answered == len(self._rests)
+        return place + len(told)
 
     def take(self, line: str) -> bool:
-        ends = super().take(line)
-        if self.refused is None:
-            self._note()
-        return ends
+        rest = self._rests[self._answered]
+        self.line = self._begins + rest
+        if line != self._done:
+            if not self.refuse(line):
+                raise NotAReply(line)
+        elif self.note is not None:
+            self.note([rest])
+        self.lines.append(line)
+        self._answered += 1
+        return self._answered == len(self._rests)
 
 
 class GraphText(Request):
@@ -222,23 +313,45 @@ class GraphText(Request):
         return "".join(f"{line}\n" for line in self.lines)
 
 
-class AnyLine(Request):
-    """Any line of a script that has a reply, whatever its command: with a mark behind it, whose reply ends that to the line."""
+class AnyLines(Request):
+    """Any lines of a script that have a reply. A mark is sent after each, and the reply to the mark ends that to the line.
 
-    def __init__(self, line: str, session: str = "") -> None:
-        super().__init__(session, line)
+    `lines` are those of all replies, and `line` is the one that was answered last. `note` is called for each that is answered by `ok`.
+    """
+
+    def __init__(self, asked: Sequence[str], session: str = "", note: Callable[[str], None] | None = None) -> None:
+        super().__init__(session, asked[0])
+        self._asked = asked
+        self._answered = 0
+        self._has_begun = False
+        self._done = f"{session} ok"
+        self.note = note
+        self._is_wanted = True
         self.lines: list[str] = []
 
     @property
     def sent(self) -> str:
-        """The line, and the mark."""
-        return f"{self.line}\n{MARK}\n"
+        """The lines, and the marks."""
+        return f"\n{MARK}\n".join([*self._asked, ""])
 
     def take(self, line: str) -> bool:
-        # Only the first line of a reply can be a refusal that names no session.
-        if self.lines and REFUSAL.fullmatch(line):
-            return True
-        if not self.lines:
-            self.refuse(line)
-        self.lines.append(line)
+        if not self._has_begun:
+            # Only the first line of a reply can be a refusal that names no session.
+            self._has_begun = True
+            self.line = self._asked[self._answered]
+            if line != self._done:
+                self.refuse(line)
+            elif self.note is not None:
+                self.note(self.line)
+        elif line == MARKED:
+            self._has_begun = False
+            self._answered += 1
+            return self._answered == len(self._asked)
+        if self._is_wanted:
+            self.lines.append(line)
         return False
+
+    def forget(self) -> None:
+        """Nobody waits for the reply any more, so what comes of it is not kept."""
+        self._is_wanted = False
+        self.lines.clear()

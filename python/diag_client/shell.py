@@ -3,16 +3,23 @@
 from __future__ import annotations
 
 import cmd
+import collections
+import dataclasses
 import difflib
+import io
 import os
 import pathlib
 import sys
+from collections.abc import Callable, Iterable, Iterator, Sequence
 from typing import Any
 
-from . import manual, picture
+from . import graphviz, manual, picture
 from .devices import read_device
-from .errors import DiagError, Ended, Inconsistent, Refused
-from .service import Service, Session
+from .errors import DiagError, Ended, Inconsistent, Refused, sentence
+from .progress import Progress
+from .replies import AnyLines, Lines
+from .service import Service
+from .session import CHANGES, Session, case_lines
 
 try:
     import readline
@@ -22,14 +29,29 @@ except ImportError:  # A Python that was built without it: there is no completio
 MORE = {
     "best": ("best [WIRE ..]", "the wires that split the diagnoses at hand best, of these or of all that are not seen; advice, not proved"),
     "case": ("case", "what was seen and held"),
+    "expect": ("expect [WIRE ..]", "the bits that these wires, or all, have if all parts are ok, as far as the inputs seen fix them"),
+    "load": ("load FILE", "adds the case that a script holds, such as one that was saved"),
     "picture": ("picture OUT", "draws the device and the case into out.svg, out.pdf, out.png or out.dot"),
-    "quit": ("quit", "ends; so does the end of the input"),
+    "quit": ("quit", "ends; so do exit and the end of the input"),
+    "save": ("save FILE", "writes the case as a script"),
 }
 HISTORY_LINES = 1000
-# So many of the best wires are told.
+# So many of the best wires are printed.
 BEST = 5
-# So many names that look like an unknown one are told.
+# So many names that look like an unknown one are printed.
 NEAR = 3
+PIECE = 65536
+# What is counted of each command that changes the case.
+COUNTED = {
+    "see": ("reading taken", "readings taken"),
+    "unsee": ("reading taken back", "readings taken back"),
+    "hold": ("part held", "parts held"),
+    "unhold": ("part released", "parts released"),
+}
+# What to do about a refusal of the program, by its text.
+CURES = {"no levels": "start the terminal with --levels C", "no least": "start the terminal with --least"}
+# Replies that mean that nothing is wrong.
+NOTHING_WRONG = ("diag", "min 0", "level 0")
 
 
 def history_file() -> pathlib.Path:
@@ -37,8 +59,18 @@ def history_file() -> pathlib.Path:
     return pathlib.Path(os.environ.get("DIAG_HISTORY") or pathlib.Path.home() / ".diag_history")
 
 
+@dataclasses.dataclass(slots=True)
+class Asked:
+    """Commands with their words, which are carried out. What a line that names several wires or parts does to the case is counted."""
+
+    rows: list[list[str]]
+    is_counted: bool = False
+    requests: list[Lines | AnyLines] = dataclasses.field(default_factory=list)
+    told: int = 0
+
+
 class Shell(cmd.Cmd):
-    """Reads lines, and prints answers. What commands there are is told by the launcher's help, but for those of the shell itself."""
+    """Reads lines, and prints answers. The launcher's help says which commands there are, except those of the shell itself."""
 
     prompt = "diag> "
 
@@ -49,65 +81,177 @@ class Shell(cmd.Cmd):
             self.prompt = ""
         self.service = service
         self.session = session
-        self.commands = {name: usage for name, usage in manual.usages(manual.read_help()).items() if name not in ("open", "close")}
+        self.has_refused = False
+        self.commands = {name: usage for name, usage in manual.usages().items() if name not in ("open", "close")}
+        # Those that take one name, so that several are asked one after the other.
+        self.for_each = {name for name, usage in self.commands.items() if len(usage.words) == 1 and usage.words[0] != "k"}
         self.intro = f"{service.title}. Type ? for help." if self.prompt else None
+        # Whether an interrupt left the program at work on what nobody waits for.
+        self.was_interrupted = False
 
     def onecmd(self, line: str) -> bool:
-        """Carries out a line, and tells what is refused in words."""
+        """Carries out a line, and says in words what is refused."""
         try:
             return bool(super().onecmd(line))
         except Refused as refused:
-            print(f"refused: {self._why(refused)}")
+            self.refuse(f"refused: {self._why(refused)}")
         except Inconsistent:
             print("no set of faulty parts explains what was seen and held")
         except KeyboardInterrupt:
-            print("interrupted")
-        except Ended:
+            if not self.use_rawinput:
+                raise
+            self.interrupt()
+        except BrokenPipeError:
             raise
-        except (DiagError, OSError, ValueError) as error:
-            print(error)
+        except (DiagError, OSError, ValueError, TypeError) as error:
+            if isinstance(error, Ended) and not self.use_rawinput:
+                raise
+            self.refuse(sentence(error))
         return False
+
+    def refuse(self, text: str) -> None:
+        """Says why something was not done."""
+        self.has_refused = True
+        print(text)
+
+    def interrupt(self) -> None:
+        """Lets go of what is awaited. If the program is still at work on what an interrupt let go of before, it is started anew."""
+        try:
+            if not self.service.is_behind:
+                print("\ninterrupted")
+            elif self.was_interrupted:
+                self._restart()
+            else:
+                self.was_interrupted = True
+                print("\ninterrupted. The program is still at work on it: Ctrl-C once more starts it anew, and the case stays")
+        except KeyboardInterrupt:
+            print("\ninterrupted. The next command starts the program anew, and the case stays")
+        except DiagError as error:
+            self.refuse(str(error))
 
     def emptyline(self) -> bool:
         """An empty line asks nothing."""
         return False
 
     def default(self, line: str) -> bool:  # type: ignore[override] # What it answers is answered by `onecmd`.
-        """A command of scripts. One that takes one name is carried out for each that stands behind it."""
-        command, *words = line.split()
-        if command == "EOF":
+        """A command of scripts. One that takes one name is carried out for each that is given."""
+        if line == "EOF":
             return self.do_quit("")
-        if command.startswith("#"):
-            return False
-        if command in ("open", "close"):
-            raise ValueError("there is one session here, which is open to the end")
-        usage = self.commands.get(command)
-        takes_one = usage is not None and len(usage.words) == 1 and usage.words[0] != "k"
-        for row in [[word] for word in words] if takes_one and len(words) > 1 else [words]:
-            for reply in self.session.ask(command, *row):
-                print(reply.removeprefix(f"{self.session.name} "))
+        if not line.startswith("#"):
+            self.carry_out([self._asked(line.split())])
+        return False
+
+    def carry_out(self, asked: Sequence[Asked]) -> None:
+        """Asks what these lines ask, all at once, and prints the replies as they come."""
+        if not self.service.is_running and self.use_rawinput:
+            self._restart()
+        for row in asked:
+            is_piece = len(row.rows) > 1 and not row.is_counted
+            row.requests = [self.session.piece(row.rows)] if is_piece else self.session.requests(row.rows)
+        requests = [request for row in asked for request in row.requests]
+        left = collections.deque(asked)
+        with Progress(requests[0].line if sum(len(row.rows) for row in asked) == 1 else "at work") as progress:
+            try:
+                for _ in self.service.follow(requests):
+                    self._tell(left, progress.clear)
+            finally:
+                for request in reversed(requests):
+                    if request.is_answered:
+                        break
+                    if isinstance(request, AnyLines):
+                        request.forget()
+        self.was_interrupted = False
+
+    def lines_from_pipe(self, lines: Iterable[str]) -> bool:
+        """Carries out lines that came at once, those that are commands of scripts in one piece. Says whether it is the end."""
+        asked: list[Asked] = []
+        for line in lines:
+            words = line.split()
+            if not words or words[0].startswith("#"):
+                continue
+            if words[0] in self.commands or not hasattr(self, f"do_{self.parseline(line)[0]}"):
+                try:
+                    row = self._asked(words)
+                    if asked and not (asked[-1].is_counted or row.is_counted):
+                        asked[-1].rows += row.rows
+                    else:
+                        asked.append(row)
+                    continue
+                except ValueError:
+                    # The reason is printed once the lines before it are answered.
+                    pass
+            self.carry_out(asked)
+            asked.clear()
+            if self.onecmd(line):
+                return True
+        self.carry_out(asked)
         return False
 
     def do_best(self, rest: str) -> bool:
         """The next measurement."""
-        rows = self.session.rank_probes(rest.split() or None)
+        rows = self._waited("best", lambda: self.session.rank_probes(rest.split() or None))
         told = [str(row) for row in rows if row.reduction > 0][:BEST]
         print("\n".join(told) or "no wire splits the diagnoses at hand")
         return False
 
     def do_case(self, _: str) -> bool:
         """What was seen and held."""
-        self.service.catch_up()
+        self._waited("case", self.service.catch_up)
         print("seen:", " ".join(f"{wire}={bit}" for wire, bit in self.session.seen.items()) or "nothing")
         print("held:", " ".join(f"{part}={mode}" for part, mode in self.session.held.items()) or "nothing")
         return False
 
+    def do_expect(self, rest: str) -> bool:
+        """What wires should be."""
+        bits = self._waited("expect", self.session.expected)
+        wires = rest.split()
+        for wire in wires or bits:
+            if wire not in bits:
+                # An unknown name is refused.
+                self.session.probe(wire)
+                print(f"{wire} may be 0 or 1: the inputs that were seen do not fix it")
+                continue
+            seen = self.session.seen.get(wire, bits[wire])
+            print(f"{wire} should be {bits[wire]}" + (f", and was seen as {seen}" if seen != bits[wire] else ""))
+        if not wires and not bits:
+            print("the inputs that were seen fix no wire")
+        return False
+
+    def do_load(self, rest: str) -> bool:
+        """The case of a script."""
+        text = _path(rest, "load FILE: which script?").read_text(encoding="utf-8", errors="surrogateescape")
+        rows = case_lines(text)
+        if not rows:
+            raise ValueError("nothing is seen or held in this script")
+        self.carry_out([Asked(rows, is_counted=True)])
+        return False
+
+    def do_save(self, rest: str) -> bool:
+        """The case as a script."""
+        path = _path(rest, "save FILE: into which file? board.script, say")
+        self._waited("save", self.service.catch_up)
+        if path.exists():
+            with path.open("rb") as there:
+                if there.read(len(b"open ")) != b"open ":
+                    raise ValueError(f"{path} is there and is not a saved case: choose another name")
+        text, told = self._saved()
+        beside = path.with_name(path.name + ".new")
+        beside.write_text(text, encoding="utf-8", errors="surrogateescape")
+        beside.replace(path)
+        print(f"wrote {path}: {told}")
+        return False
+
+    def _saved(self) -> tuple[str, str]:
+        """The case as a script, and what is in it."""
+        seen, held = len(self.session.seen), len(self.session.held)
+        return f"open {self.session.name}\n{self.session.script()}", f"{seen} seen, {held} held"
+
     def do_picture(self, rest: str) -> bool:
         """A picture of the case."""
-        if not rest.strip():
-            raise ValueError("picture OUT: into which file? out.svg, say")
-        text = picture.dot_text(read_device(self.service.file), picture.Case.of(self.session), self.service.title)
-        print("wrote", picture.render(text, rest.strip()))
+        picture.check_drawable(self.service)
+        out = graphviz.check_output(_path(rest, "picture OUT: into which file? out.svg, say"))
+        case = self._waited("picture", lambda: picture.Case.of(self.session))
+        print("wrote", picture.render(picture.dot_text(read_device(self.service.file), case, self.service.title), out))
         return False
 
     def do_quit(self, _: str) -> bool:
@@ -115,6 +259,8 @@ class Shell(cmd.Cmd):
         if self.use_rawinput:
             print()
         return True
+
+    do_exit = do_quit
 
     def do_help(self, arg: str) -> None:
         """What a command does, or all of them."""
@@ -129,10 +275,10 @@ class Shell(cmd.Cmd):
 
     def completenames(self, text: str, *_: Any) -> list[str]:
         """The commands that begin so."""
-        return sorted(name for name in self.commands.keys() | MORE.keys() if name.startswith(text))
+        return sorted(f"{name} " for name in self.commands.keys() | MORE.keys() if name.startswith(text))
 
     def completedefault(self, *given: Any) -> list[str]:
-        """The names that begin so, of the kind that the command takes, and behind a name its values."""
+        """The names that begin so, of the kind that the command takes, and after a name its values."""
         text, line, *_ = given
         return sorted(word for word in self._words(line.split()[0], text) if word.startswith(text))
 
@@ -140,9 +286,101 @@ class Shell(cmd.Cmd):
         """The wires that begin so."""
         return sorted(wire for wire in self.service.wires if wire.startswith(text) and wire not in self.session.seen)
 
+    def complete_expect(self, text: str, *_: Any) -> list[str]:
+        """The wires that begin so."""
+        return sorted(wire for wire in self.service.wires if wire.startswith(text))
+
     def complete_help(self, *given: Any) -> list[str]:
         """The commands that begin so."""
         return self.completenames(given[0])
+
+    def complete_load(self, text: str, *_: Any) -> list[str]:
+        """The files and folders that begin so."""
+        folder, begun = os.path.split(text)
+        try:
+            entries = sorted(os.scandir(os.path.expanduser(folder) or "."), key=lambda entry: entry.name)
+        except OSError:
+            return []
+        names = [entry.name + ("/" if entry.is_dir() else "") for entry in entries if entry.name.startswith(begun)]
+        return [os.path.join(folder, name) for name in names]
+
+    complete_save = complete_picture = complete_load
+
+    def _asked(self, words: list[str]) -> Asked:
+        command = words[0]
+        if command in ("open", "close"):
+            raise ValueError("there is one session here, which is open to the end")
+        text = " ".join([*words, ""])
+        if command in CHANGES and (" =" in text or "= " in text):
+            raise ValueError(f"refused: write {command} name=value without blanks around =; nothing of this line was taken")
+        if len(words) > 2 and command in self.for_each:
+            return Asked([[command, word] for word in words[1:]], command in CHANGES)
+        return Asked([words])
+
+    def _tell(self, left: collections.deque[Asked], clear: Callable[[], None]) -> None:
+        """Prints what has come by now of the replies that are left."""
+        texts: list[str] = []
+        begin = f"{self.session.name} "
+        while left:
+            row = left[0]
+            if row.is_counted:
+                if not row.requests[-1].is_answered:
+                    break
+                texts.append(self._counted(row.requests))
+            else:
+                texts += self._told(row, begin)
+                if row.told < len(row.requests):
+                    break
+            left.popleft()
+        if texts:
+            clear()
+            print("\n".join(texts), flush=True)
+
+    def _told(self, row: Asked, begin: str) -> list[str]:
+        """What has come by now of the replies to a line and is not printed yet. The words that they begin with are left out."""
+        texts: list[str] = []
+        for request in row.requests[row.told:]:
+            # To say why something is refused, the program may be asked for names, so that more comes.
+            while lines := request.lines:
+                refusals, request.lines, request.refusals = request.refusals, [], []
+                told = [line.removeprefix(begin) for line in lines]
+                if refusals:
+                    self.has_refused = True
+                    whys = map(self._why, refusals)
+                    told = [f"refused: {next(whys)}" if request.refusal(line) else text for line, text in zip(lines, told)]
+                texts += map(in_words, told) if self.prompt else told
+            if not request.is_answered:
+                break
+            row.told += 1
+        return texts
+
+    def _counted(self, requests: Sequence[Lines | AnyLines]) -> str:
+        """How many lines that change the case were carried out, and which were refused."""
+        taken: collections.Counter[str] = collections.Counter()
+        for request in requests:
+            taken[request.line.split()[0]] += len(request.lines) - len(request.refusals)
+        texts = [f"{count} {COUNTED[command][count > 1]}" for command, count in taken.items() if count]
+        refused = [refused for request in requests for refused in request.refusals]
+        if refused:
+            self.has_refused = True
+            whys = "; ".join(dict.fromkeys(map(self._why, refused)))
+            texts.append(f"{len(refused)} refused: {whys}")
+        return ", ".join(texts)
+
+    def _waited(self, what: str, ask: Callable[[], Any]) -> Any:
+        """What is answered. If that takes longer, a terminal shows for how long."""
+        if not self.service.is_running and self.use_rawinput:
+            self._restart()
+        with Progress(what):
+            answer = ask()
+        self.was_interrupted = False
+        return answer
+
+    def _restart(self) -> None:
+        with Progress("starting the program anew"):
+            self.service.restart()
+        self.was_interrupted = False
+        print("the program was started anew, and the case is as it was")
 
     def _words(self, command: str, text: str) -> list[str]:
         usage = self.commands.get(command)
@@ -161,44 +399,105 @@ class Shell(cmd.Cmd):
         return [f"{name}={value}" for value in values] if equals else [f"{name}=" for name in names]
 
     def _why(self, refused: Refused) -> str:
-        """A refusal in words, and of a name that is not known what looks like it."""
-        told = f"{refused.text} (error {refused.number})"
+        """A refusal in words, and what to do."""
         command, _, *words = refused.line.split() + [""]
-        if refused.text not in ("no wire", "no part"):
-            usage = self.commands.get(command)
-            return f"{told}: {command}; ? tells the commands" if usage is None else f"{told}; it is {' '.join([command, *usage.words])}"
+        told = f"{refused.text} (error {refused.number})"
+        if refused.text in ("no wire", "no part"):
+            return f"{told}: {self._unknown_name(refused.text, words)}"
+        if refused.text in CURES:
+            return f"{told}: {CURES[refused.text]}"
+        usage = self.commands.get(command)
+        if usage is None:
+            small = command.lower()
+            near = [small] if small in self.commands else difflib.get_close_matches(small, [*self.commands, *MORE, "exit"], 1)
+            return f"{told}: {command}" + (f"; do you mean {near[0]}?" if near else "; ? lists the commands")
+        given = " ".join(filter(None, words))
+        return f"{told}: {given or command}; {_hint(given) or 'it is ' + ' '.join([command, *usage.words])}"
+
+    def _unknown_name(self, text: str, words: Sequence[str]) -> str:
+        """The name in a line that is not known, and what looks like it."""
+        names = [word.rpartition("=")[0] or word for word in words if word]
         try:
-            known = self.service.wires if refused.text == "no wire" else self.service.parts
+            known = self.service.wires if text == "no wire" else self.service.parts
         except (Inconsistent, Refused):
             # The program names nothing, or has no room for a session in which it would.
-            return told
-        missing = next((name for name in (word.partition("=")[0] for word in words if word) if name not in known), "")
-        near = difflib.get_close_matches(missing, known, NEAR)
-        return f"{told}: {missing}" + (f"; near it: {', '.join(near)}" if near else "")
+            return " ".join(names)
+        missing = next((name for name in names if name not in known), "")
+        same = [name for name in known if name.lower() == missing.lower()]
+        near = same or difflib.get_close_matches(missing, known, NEAR)
+        return missing + (f"; near it: {', '.join(near)}" if near else "")
 
 
-def run(service: Service) -> int:
-    """A terminal until the end of the input, and its exit status."""
+def in_words(reply: str) -> str:
+    """A reply, as a person is told."""
+    return f"{reply} (nothing is wrong)" if reply in NOTHING_WRONG else reply
+
+
+def _hint(given: str) -> str:
+    """How to write what a reading or a part was given as, if it is clear what was meant."""
+    name, equals, value = given.partition("=")
+    if not equals and ":" in given:
+        name, _, value = given.partition(":")
+        return f"write {name}={value}" if name and value else ""
+    if "," in given:
+        return "put blanks between names, and no commas"
+    if value.upper() in ("H", "L", "HIGH", "LOW"):
+        return f"write {name}={int(value.upper().startswith('H'))}"
+    return f"write {name}={value.lower()}" if value != value.lower() else ""
+
+
+def _path(rest: str, question: str) -> pathlib.Path:
+    """The file that a command names."""
+    if not rest.strip():
+        raise ValueError(question)
+    return pathlib.Path(rest.strip()).expanduser()
+
+
+def run(service: Service, begin: Callable[[Service, Session], Shell] = Shell) -> int:
+    """A terminal until the end of the input, and its exit status: 1 if lines from elsewhere than a terminal were refused."""
+    for stream in (sys.stdin, sys.stdout):
+        if isinstance(stream, io.TextIOWrapper):
+            stream.reconfigure(errors="surrogateescape")
     keep = readline is not None and sys.stdin.isatty()
     if keep:
-        readline.set_completer_delims(" \t\n")
-        readline.set_history_length(HISTORY_LINES)
-        try:
-            readline.read_history_file(history_file())
-        except OSError:
-            pass
+        _read_history()
     try:
         with service.session("S") as session:
-            shell = Shell(service, session)
-            while not _loops(shell):
-                shell.intro = None
+            shell = begin(service, session)
+            if shell.use_rawinput:
+                while not _loops(shell):
+                    shell.intro = None
+            else:
+                any(map(shell.lines_from_pipe, _pieces()))
+            if service.is_behind:
+                # Nobody waits for what is still to come.
+                service.stop()
     finally:
         if keep:
             try:
                 readline.write_history_file(history_file())
             except OSError as error:
-                print(f"diag_client: history: {error}", file=sys.stderr)
-    return 0
+                print(f"diag_client: history: {sentence(error)}", file=sys.stderr)
+    return int(shell.has_refused and not shell.use_rawinput)
+
+
+def _read_history() -> None:
+    readline.set_completer_delims(" \t\n")
+    readline.set_history_length(HISTORY_LINES)
+    try:
+        readline.read_history_file(history_file())
+    except OSError:
+        pass
+
+
+def _pieces() -> Iterator[list[str]]:
+    """The lines of the input, as many at a time as have come."""
+    begun = b""
+    read: Callable[[int], bytes] = getattr(sys.stdin.buffer, "read1")
+    while piece := read(PIECE):
+        *lines, begun = (begun + piece).split(b"\n")
+        yield [line.decode("utf-8", "surrogateescape") for line in lines]
+    yield [begun.decode("utf-8", "surrogateescape")]
 
 
 def _loops(shell: Shell) -> bool:
@@ -207,5 +506,7 @@ def _loops(shell: Shell) -> bool:
         shell.cmdloop()
     except KeyboardInterrupt:
         print("^C")
+        if shell.was_interrupted:
+            shell.interrupt()
         return False
     return True

@@ -6,14 +6,24 @@ import signal
 import sys
 import time
 
+# What lets a reply go on that was held back.
+GO_ON = signal.SIGUSR1
+
 
 def say(text, end="\n"):
     sys.stdout.write(text + end)
     sys.stdout.flush()
 
 
+def interrupt_the_asker():
+    """Whoever asked waits for the reply by now, and for those to the lines after it. The interrupt comes before what is said next."""
+    time.sleep(0.1)
+    os.kill(os.getppid(), signal.SIGINT)
+    time.sleep(0.2)
+
+
 def lists():
-    """Sessions over one wire and nine parts, of which each alone explains whatever is seen. `interrupt` interrupts whoever asks it."""
+    """Sessions over one wire and nine parts. Each part alone explains whatever is seen. `interrupt` interrupts whoever asks it."""
     say("ready 9 1")
     points = {}
     for line in sys.stdin:
@@ -22,10 +32,7 @@ def lists():
             say(f"{name} error 7 open already" if name in points else f"{name} open")
             points.setdefault(name, 0)
         elif command == "interrupt":
-            # Whoever asked waits for the reply by now, and for those to the lines behind it.
-            time.sleep(0.1)
-            os.kill(os.getppid(), signal.SIGINT)
-            time.sleep(0.2)
+            interrupt_the_asker()
             say(f"{name} end")
         elif command not in ("close", "see", "after", "list"):
             say("error 1 unknown command")
@@ -46,44 +53,57 @@ def lists():
     return 0
 
 
+def misbehave(how, session):
+    """What it does at its third line, before it answers that."""
+    if how == "dies":
+        say("error: read")
+        sys.exit(4)
+    if how == "breaks":
+        say(f"{session} o", end="")
+        os.kill(os.getpid(), signal.SIGKILL)
+    if how.startswith("strays"):
+        say("something else")
+    if how == "strays slowly":
+        interrupt_the_asker()
+
+
+def answers(how, canned):
+    """Answers each line, as in `canned` or else as if it were carried out. Gives the exit status."""
+    say("ready 1 1")
+    for number, line in enumerate(sys.stdin):
+        line = line.rstrip("\n")
+        command, session, *_ = line.split() + ["", ""]
+        if number == 2:
+            misbehave(how, session)
+        if how == "dozes" and command == "min":
+            # Longer than anyone waits.
+            time.sleep(900)
+        if how == "sleeps" and command == "min":
+            say(f"{session} ", end="")
+            signal.sigwait({GO_ON})
+            say("min 0")
+            continue
+        say(canned.get(line, f"{session} {({'open': 'open', 'close': 'closed'}).get(command, 'ok')}"))
+    return 7 if how == "ends badly" else 0
+
+
 def main():
-    how = sys.argv[1]
+    how, *words = sys.argv[1:]
+    signal.pthread_sigmask(signal.SIG_BLOCK, {GO_ON})
     if how == "lists":
         return lists()
     if how == "greets":
         say("hello")
         return 0
+    if how == "refuses":
+        # The last line and the status are given.
+        say(words[0])
+        return int(words[1])
     if how == "floods":
         # More than a pipe holds, on the side that nobody waits for.
         sys.stderr.write("noise\n" * 50_000)
         sys.stderr.flush()
-    # What is told to some lines.
-    canned = json.loads(sys.argv[2]) if how == "tells" else {}
-    say("ready 1 1")
-    for number, line in enumerate(sys.stdin):
-        command, session, *_ = line.split() + ["", ""]
-        if line.rstrip("\n") in canned:
-            say(canned[line.rstrip("\n")])
-            continue
-        if how == "dies" and number == 2:
-            say("error: read")
-            return 4
-        if how == "breaks" and number == 2:
-            say(f"{session} o", end="")
-            os.kill(os.getpid(), signal.SIGKILL)
-        if how.startswith("strays") and number == 2:
-            say("something else")
-            if how == "strays slowly":
-                time.sleep(0.1)
-                os.kill(os.getppid(), signal.SIGINT)
-                time.sleep(0.2)
-        if how == "sleeps" and command == "min":
-            say(f"{session} ", end="")
-            time.sleep(1)
-            say("min 0")
-            continue
-        say(f"{session} {({'open': 'open', 'close': 'closed'}).get(command, 'ok')}")
-    return 7 if how == "ends badly" else 0
+    return answers(how, json.loads(words[0]) if how == "tells" else {})
 
 
 sys.exit(main())

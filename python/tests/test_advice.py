@@ -3,10 +3,11 @@
 import fractions
 import tempfile
 import unittest
+from unittest import mock
 
 from support import C17, EXAMPLES, needs_program
 
-from diag_client import Proposal, Refused, Service
+from diag_client import Proposal, Refused, Service, Session, advice
 
 CASE = {"1": 0, "2": 0, "3": 0, "6": 0, "7": 0, "22": 1, "23": 0}
 
@@ -34,7 +35,7 @@ class Counts(unittest.TestCase):
 
 @needs_program
 class Chains(unittest.TestCase):
-    """In a row of buffers of which the last is wrong each may be faulty, and to measure in the middle halves them."""
+    """If the last of a row of buffers is wrong each may be faulty, and to measure in the middle halves them."""
 
     def setUp(self):
         file = self.enterContext(tempfile.NamedTemporaryFile(suffix=".bench", mode="w"))
@@ -45,7 +46,7 @@ class Chains(unittest.TestCase):
         self.session.see(w0=0, w8=1)
 
     def test_middle(self):
-        # Where w4 is 1 the fault lies at or before it, and where it is 0 behind it.
+        # If w4 is 1, the fault is at or before it, and if it is 0, after it.
         self.assertEqual(self.session.best_probe(), Proposal("w4", 8, 4, 4, True))
         ranked = [(row.wire, row.with_zero, row.with_one) for row in self.session.rank_probes()]
         # The further from the middle the worse; of two alike the one that comes first by its name.
@@ -61,6 +62,12 @@ class Chains(unittest.TestCase):
                     session.see({best.wire: int(int(best.wire[1:]) >= faulty)})
                     measured += 1
                 self.assertEqual(([str(diagnosis) for diagnosis in session.diagnoses()], measured), ([f"w{faulty}"], 3))
+
+    def test_many_wires(self):
+        """They are not asked one by one, each by two lists, and the answer is the same."""
+        ranked = self.session.rank_probes()
+        with mock.patch.object(advice, "MANY", 7), mock.patch.object(Session, "diagnoses_with", side_effect=AssertionError):
+            self.assertEqual(self.session.rank_probes(), ranked)
 
     def test_among(self):
         self.assertEqual(self.session.best_probe(among=["w7", "w2", "w0"]).wire, "w2")
@@ -99,6 +106,15 @@ class Others(unittest.TestCase):
         with Service(C17) as served, served.session() as session:
             session.see(CASE)
             self.assertEqual(session.best_probe(), Proposal("10", 2, 1, 1, True))
+
+    def test_both_ways(self):
+        """What is counted by wires and by diagnoses is the same."""
+        for file, seen in (("c17.bench", CASE), ("c17.bench", {"22": 1, "1": 0, "3": 0}), ("pump.dev", {"switch": 1, "ready": 1, "inlet": 0})):
+            with self.subTest(seen), Service(EXAMPLES / file) as served, served.session() as session:
+                session.see(seen)
+                at_hand, wires = list(session.diagnoses()), [row.wire for row in session.probes()]
+                counts = advice.by_wire(session, at_hand, wires)
+                self.assertEqual(advice.by_diagnosis(session, at_hand, wires), counts)
 
     def test_fan_in(self):
         # Two inverters feed an AND, whose output is wrong.

@@ -1,16 +1,16 @@
 """Sessions over the built program. What commands and refusals are called is taken from the program's own replies."""
 
+import io
 import json
 import os
+import pathlib
 import re
-import shutil
 import tempfile
 import threading
-import time
 import unittest
 from unittest import mock
 
-from support import C17, EXAMPLES, TOP, needs_program, replies, stand_in
+from support import C17, EXAMPLES, needs_program, replies, stand_in
 
 from diag_client import (
     Blame, Diagnosis, Ended, Inconsistent, Level, Minimum, NotBuilt, Probe, Refused, Service, Verdict, find_program, service,
@@ -49,7 +49,7 @@ class Readme(unittest.TestCase):
 
 @needs_program
 class Answers(unittest.TestCase):
-    """Each answer is what the program tells."""
+    """Each answer is what the program prints."""
 
     def setUp(self):
         self.service = self.enterContext(Service(C17))
@@ -92,7 +92,7 @@ class Answers(unittest.TestCase):
     def test_graph(self):
         self.session.see({"22": 1})
         graph = self.session.graph()
-        # Its text has the lines that its header tells, and the next answer is in step.
+        # Its text has the lines that its header says, and the next answer is in step.
         self.assertEqual((graph.nodes + 1, graph.parts), (graph.text.count("\n"), 6))
         self.assertEqual(self.session.minimum().cost, 0)
         with tempfile.NamedTemporaryFile(suffix=".nnf") as file:
@@ -318,7 +318,7 @@ class Refusals(unittest.TestCase):
             with self.assertRaises(Refused) as caught:
                 session.minimum()
             numbers.add(self.check(caught.exception, "min S"))
-        # All that there are: the numbers stand in a row.
+        # All that there are: the numbers have no gap.
         self.assertEqual(numbers, set(range(1, len(numbers) + 1)))
         self.assertGreaterEqual(len(numbers), 10)
 
@@ -328,6 +328,15 @@ class Refusals(unittest.TestCase):
                 session.see({"1": 0, "99": 1, "2": 1, "98": 1})
             self.assertIn("99=1", caught.exception.line)
             self.assertEqual(dict(session.seen), {"1": 0, "2": 1})
+
+    def test_many_sessions(self):
+        """There is room for as many as the program allows, unless its own default is asked for."""
+        with Service(C17) as served:
+            self.assertEqual(len({served.session().name for _ in range(1024)}), 1024)
+        with Service(C17, sessions=None) as served, self.assertRaises(Refused) as caught:
+            for _ in range(17):
+                served.session()
+        self.assertEqual(caught.exception.line, "open s17")
 
     def test_best_probe_needs_room(self):
         with Service(C17, sessions=1) as served, served.session("S") as session:
@@ -347,60 +356,156 @@ class Services(unittest.TestCase):
             file.flush()
             with self.assertRaisesRegex(Ended, "status 1: error: line 3: fault 6 driven twice"):
                 Service(file.name)
-        for status, last_line, given in (
-            (4, "error: read", {"file": "nowhere.bench"}),
-            (2, "error: usage", {"file": C17, "budget": 0}),
-            (3, "error: sum above 9", {"file": C17, "budget": 9}),
-            (2, "error: usage", {"file": C17, "no_such_option": True}),
-        ):
-            with self.subTest(given), self.assertRaises(Ended) as caught:
-                Service(**given)
-            self.assertEqual((caught.exception.status, caught.exception.last_line), (status, last_line))
+        with self.assertRaises(FileNotFoundError):
+            Service("nowhere.bench")
+        with self.assertRaises(Ended) as caught:
+            Service(C17, budget=9)
+        self.assertEqual((caught.exception.status, caught.exception.last_line), (3, "error: sum above 9"))
 
     def test_options(self):
-        given = {"narrow": True, "budget": None, "frames": 3, "levels": 0, "least": True, "more": False}
-        self.assertEqual(service.option_words(given), ["--narrow", "--frames", "3", "--levels", "0", "--least"])
-        with Service(EXAMPLES / "narrow/multiplier.bench", narrow=True, sessions=2) as served:
+        with Service(EXAMPLES / "narrow/multiplier.bench", sessions=2) as served:
             self.assertTrue(served.is_running)
 
     def test_made_names(self):
         with Service(C17) as served, served.session("s1"), served.session() as made:
             self.assertEqual(made.name, "s2")
 
+    def test_names_that_are_numbers(self):
+        with Service(C17) as served:
+            sessions = [served.session(number) for number in range(3)]
+            sessions[1].see({"22": 1})
+            self.assertEqual([len(session.seen) for session in sessions], [0, 1, 0])
+            self.assertEqual(sessions[2].name, "2")
+
     def test_threads(self):
+        """Several threads share a service by a lock."""
         with Service(C17, sessions=8) as served:
-            found = []
+            found, lock = [], threading.Lock()
 
             def ask():
-                with served.session() as session:
+                with lock:
+                    session = served.session()
                     session.see(CASE)
-                    found.append([list(session.diagnoses()) for _ in range(50)])
+                for _ in range(20):
+                    with lock:
+                        found.append(list(session.diagnoses()))
 
             threads = [threading.Thread(target=ask) for _ in range(8)]
             for thread in threads:
                 thread.start()
             for thread in threads:
                 thread.join()
-        self.assertEqual(found, [[[Diagnosis(("10",)), Diagnosis(("22",))]] * 50] * 8)
+        self.assertEqual(found, [[Diagnosis(("10",)), Diagnosis(("22",))]] * 160)
 
-    def test_not_built(self):
+    def test_what_is_started(self):
         with tempfile.TemporaryDirectory() as top, mock.patch.dict("os.environ"):
+            top = pathlib.Path(top)
             del os.environ["DIAG_PROGRAM"]
-            with mock.patch.object(service, "TOP", service.pathlib.Path(top)):
+            os.environ["PATH"] = f"{top}/path"
+            with mock.patch.object(service, "TOP", top), mock.patch.object(service, "PACKED", top / "bin/diag"):
                 with self.assertRaisesRegex(NotBuilt, "DIAG_PROGRAM"):
                     find_program()
-                shutil.copy(TOP / "diag", top)
-                with self.assertRaisesRegex(NotBuilt, "not built: .*diag --build"):
+                self.write(top / "path/diag", "")
+                self.assertEqual(find_program(), f"{top}/path/diag")
+                self.write(top / "diag", "exit 1")
+                with self.assertRaisesRegex(NotBuilt, "is not built.*diag --build"):
                     find_program()
-                source, built = service.TOP / "crates/diag/src/main.rt", service.TOP / "crates/diag/out/diag"
-                for path in (source, built, service.TOP / "crates.txt", service.TOP / "HANDLES"):
-                    path.parent.mkdir(parents=True, exist_ok=True)
-                    path.touch(0o755)
-                os.utime(built, (time.time() + 10,) * 2)
-                self.assertEqual(find_program(), str(built))
-                os.utime(source, (time.time() + 20,) * 2)
-                with self.assertRaisesRegex(NotBuilt, "newer .*diag --build"):
+                self.write(top / "crates/diag/out/diag", "")
+                with self.assertRaisesRegex(NotBuilt, "from these sources.*diag --build"):
                     find_program()
+                self.write(top / "diag", '[ "$1" = --path ] && echo /built/diag')
+                self.assertEqual(find_program(), "/built/diag")
+                self.write(top / "bin/diag", "")
+                self.assertEqual(find_program(), f"{top}/bin/diag")
+                os.environ["DIAG_PROGRAM"] = "named"
+                self.assertEqual(find_program(), "named")
+
+    @staticmethod
+    def write(path, text):
+        path.parent.mkdir(parents=True, exist_ok=True)
+        path.write_text(f"#!/bin/sh\n{text}\n")
+        path.chmod(0o755)
+
+
+@needs_program
+class Cases(unittest.TestCase):
+    """A case as a script, and what wires should be."""
+
+    def setUp(self):
+        self.service = self.enterContext(Service(C17))
+        self.session = self.enterContext(self.service.session("S"))
+
+    def test_script(self):
+        self.session.see(CASE)
+        self.session.hold({"10": "ok"})
+        with self.service.session_from(self.session.script()) as other:
+            self.assertEqual((dict(other.seen), dict(other.held)), (CASE, {"10": "ok"}))
+        told = replies(["open S", *self.session.script().splitlines(), "min S"])
+        self.assertEqual(told[-1], "S min 1 22")
+
+    def test_load(self):
+        """As the program carries it out, except what is asked, and other sessions."""
+        script = "open T\nsee T 1=1\n# see T 2=1\n\nopen S\nsee S 1=0\nopen S\nsee S 2=0\nmin S\nsee\tS 3=1\r\nunsee S 3\nclose S\n"
+        self.session.load(io.StringIO(script))
+        self.assertEqual(dict(self.session.seen), {"2": 0})
+        self.session.load(script, of="T")
+        self.assertEqual(dict(self.session.seen), {"1": 1, "2": 0})
+
+    def test_load_refused(self):
+        with self.assertRaises(Refused) as caught:
+            self.session.load("see S 1=0\nsea S 2=1\nsee S 99=1\nsee S 3=0\n")
+        self.assertEqual(caught.exception.text, "unknown command")
+        self.assertEqual(dict(self.session.seen), {"1": 0, "3": 0})
+        with self.assertRaises(Refused):
+            self.service.session_from("see S 99=1\n", 5)
+        self.service.session(5).close()
+
+    def test_batch(self):
+        lines = ["see 1=0", "see 99=1", "hold 10=ok", "min", "probes"]
+        told = self.session.batch(lines)
+        self.assertEqual(sum(told, []), replies(["open S", *(" S ".join((line + " ").split(" ", 1)).strip() for line in lines)])[1:])
+        self.assertEqual((dict(self.session.seen), dict(self.session.held)), ({"1": 0}, {"10": "ok"}))
+        self.assertEqual(self.service.batch([]), [])
+
+    def test_expected(self):
+        self.session.see(CASE)
+        self.session.hold({"22": "bad"})
+        # The gates of C17 are NANDs, and all inputs are 0.
+        should = {**ZERO, "10": 1, "11": 1, "16": 1, "19": 1, "22": 0, "23": 0}
+        self.assertEqual(self.session.expected(), should)
+        self.assertEqual([self.session.expect(wire) for wire in should], list(should.values()))
+        self.assertEqual((dict(self.session.seen), dict(self.session.held)), (CASE, {"22": "bad"}))
+        self.session.unsee("1", "2")
+        self.assertEqual((self.session.expect("2"), self.session.expect("10"), self.session.expect("22")), (None, 1, None))
+        with self.assertRaises(Refused):
+            self.session.expect("99")
+
+    def test_expected_over_times(self):
+        with Service(EXAMPLES / "frames/toggle.bench", frames=2) as served, served.session() as session:
+            self.assertEqual(served.inputs, {"q@0001"})
+            session.see({"q@0001": 0, "q@0002": 0})
+            self.assertEqual(session.expected(), {"next@0001": 1, "next@0002": 0, "q@0001": 0, "q@0002": 1})
+
+    def test_expected_of_a_design(self):
+        with Service(EXAMPLES / "pump.dev") as served, served.session() as session:
+            session.see(switch=1, ready=1)
+            self.assertEqual(session.expect("power"), 1)
+            session.see(inlet=0)
+            self.assertEqual(session.expect("inlet"), 1)
+            session.unsee("ready")
+            self.assertIsNone(session.expect("inlet"))
+
+    def test_names_as_one_text(self):
+        """A text is taken for names of one letter each by no call."""
+        for ask in (lambda: self.session.best_probe("16"), lambda: self.session.rank_probes("1"), lambda: self.session.probe_each("1")):
+            with self.assertRaises(TypeError):
+                ask()
+
+    def test_short_texts(self):
+        graph = self.session.graph()
+        self.assertRegex(repr(graph), r"^Graph\(nodes=[0-9]+, edges=[0-9]+, parts=6\)$")
+        self.session.see(CASE)
+        self.assertEqual(repr(self.session), "<Session S of c17.bench: 7 seen, 0 held>")
 
 
 if __name__ == "__main__":

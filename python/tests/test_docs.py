@@ -5,6 +5,7 @@ import inspect
 import os
 import pathlib
 import re
+import shutil
 import subprocess
 import sys
 import unittest
@@ -12,14 +13,14 @@ import unittest
 from support import C17, TOP, needs_program
 
 import diag_client
-from diag_client import advice, child, devices, errors, manual, picture, replies, service, shell
+from diag_client import advice, child, devices, errors, manual, picture, progress, replies, service, session, shell
 
 FLAGS = doctest.ELLIPSIS | doctest.NORMALIZE_WHITESPACE
 
 
 @needs_program
 class Examples(unittest.TestCase):
-    """They run at the top of the checkout, as they stand there."""
+    """They run at the top of the checkout, as they are."""
 
     def setUp(self):
         self.addCleanup(os.chdir, os.getcwd())
@@ -27,8 +28,8 @@ class Examples(unittest.TestCase):
 
     def test_docstrings(self):
         tried = 0
-        for module in (diag_client, advice, child, devices, errors, manual, picture, replies, service, shell):
-            failed, found = doctest.testmod(module, optionflags=FLAGS)
+        for module in (diag_client, advice, child, devices, errors, manual, picture, progress, replies, service, session, shell):
+            failed, found = doctest.testmod(module, optionflags=FLAGS, extraglobs={"Service": diag_client.Service})
             self.assertEqual(failed, 0, module)
             tried += found
         self.assertGreater(tried, 10)
@@ -41,8 +42,11 @@ class Examples(unittest.TestCase):
             self.assertEqual(doctest.DocTestRunner(optionflags=FLAGS).run(example).failed, 0)
 
     def test_each_call_has_an_example(self):
-        """Every method of a session is tried in its docstring, but for some, which other tests try."""
-        tried_elsewhere = {"open", "close", "unsee", "unhold", "probes", "probe_each", "rank_probes", "diagnoses_with"}
+        """Every method of a session is tried in its docstring, except some, which other tests try."""
+        tried_elsewhere = {
+            "open", "close", "unsee", "unhold", "probes", "probe_each", "rank_probes", "diagnoses_with", "restoring", "reopening",
+            "opening", "seeing", "placing", "requests", "piece",
+        }
         for name, method in vars(diag_client.Session).items():
             if inspect.isfunction(method) and not name.startswith("_") and name not in tried_elsewhere:
                 self.assertIn(">>>", method.__doc__, name)
@@ -52,8 +56,9 @@ class Examples(unittest.TestCase):
 class Troubleshoot(unittest.TestCase):
     """The script finds what it put in, in fewer measurements than in name order."""
 
-    def run_script(self, *words):
-        done = subprocess.run([sys.executable, TOP / "examples/troubleshoot", *words], capture_output=True, text=True, check=False)
+    def run_script(self, *words, **variables):
+        words = [sys.executable, TOP / "examples/troubleshoot", *words]
+        done = subprocess.run(words, capture_output=True, text=True, check=False, env={**os.environ, **variables})
         return done.returncode, done.stdout, done.stderr
 
     def test_repair(self):
@@ -63,14 +68,20 @@ class Troubleshoot(unittest.TestCase):
         self.assertIn(f"left: {stuck}\nreplaced {stuck}: the outputs are right\n", told)
         advised, named = map(int, re.search(r"measurements: ([0-9]+); in name order it takes ([0-9]+)", told).groups())
         self.assertEqual(told.count("\nmeasure "), advised)
-        self.assertIn(told, (TOP / "docs/PYTHON.md").read_text())
+        self.assertIn(f"takes {advised} measurements; in name order it takes {named}.", (TOP / "docs/PYTHON.md").read_text())
         self.assertLess(advised, named)
 
     def test_every_gate(self):
         status, told, _ = self.run_script(C17, "--every")
         self.assertEqual(status, 0)
-        advised, named = map(float, re.findall(r": ([0-9.]+) measurements on the average", told))
+        advised, named = map(float, re.findall(r": ([0-9.]+) measurements on average", told))
         self.assertLess(advised, named)
+
+    def test_looks_for_an_order(self):
+        """Unless it is to take that of the names."""
+        for words, is_narrow in (((C17,), True), ((C17, "--no-narrow"), False)):
+            _, _, said = self.run_script(*words, DIAG_PROGRAM=shutil.which("false"))
+            self.assertEqual("--narrow" in said, is_narrow, said)
 
     def test_says_what_is_wrong(self):
         for words, why in (

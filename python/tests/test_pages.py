@@ -1,8 +1,9 @@
-"""The manual page and the completion say what the launcher's help says."""
+"""The manual page, the completion and the tables of the pages say what the launcher's help says."""
 
 import os
 import pathlib
 import re
+import shlex
 import shutil
 import subprocess
 import tempfile
@@ -12,6 +13,8 @@ from unittest import mock
 from support import TOP
 
 from diag_client import manual
+from diag_client.devices import GATES
+from diag_client.service import LIMITS
 
 COMPLETION = TOP / "completions/diag.bash"
 PAGE = TOP / "docs/diag.1"
@@ -30,8 +33,14 @@ class Help(unittest.TestCase):
         said = " ".join([section.title for section in self.found] + [text for row in entries for text in (row.head, row.text, row.notes)])
         self.assertEqual(sorted(said.replace(":", " ").split()), sorted(self.text.replace(":", " ").split()))
 
+    def test_each_entry_is_explained(self):
+        """Two blanks part what is explained from the explanation."""
+        for entry in [entry for section in self.found for entry in section.entries]:
+            self.assertTrue(entry.text, entry.head)
+            self.assertTrue(all(option.text for option in entry.options), entry.head)
+
     def test_commands(self):
-        usages = manual.usages(self.found)
+        usages = manual.usages()
         self.assertEqual(usages["see"].words, ("w=b",))
         self.assertEqual(usages["after"].words, ("p1", "..", "pk"))
         self.assertEqual(usages["min"].words, ())
@@ -40,21 +49,81 @@ class Help(unittest.TestCase):
 class Page(unittest.TestCase):
     """`docs/diag.1`."""
 
+    def test_sections(self):
+        titles = re.findall(r"^\.SH (.*)$", PAGE.read_text(), re.MULTILINE)
+        self.assertEqual([title for title in ("SYNOPSIS", "FILES", "EXAMPLES", "SEE ALSO") if title not in titles], [])
+        self.assertRegex(PAGE.read_text(), r"(?s)\.TH DIAG 1 [0-9-]{10}\n.*\.SH SYNOPSIS\n.*diag \\-\\-build\n.*\.SH DESCRIPTION")
+
     def test_is_the_help(self):
         self.assertEqual(
             PAGE.read_text(), manual.page(manual.read_help()), "docs/diag.1: make it anew by `PYTHONPATH=python python3 -m diag_client man`"
         )
 
-    @unittest.skipUnless(shutil.which("man"), "there is no man")
+    # A small machine may have a script in its place that only says that it is not there.
+    @unittest.skipUnless(shutil.which("man") and shutil.which("groff"), "there is no man")
     def test_is_set(self):
-        env = {"MANWIDTH": "200", "PATH": os.environ["PATH"], "LC_ALL": "C.UTF-8"}
-        done = subprocess.run(["man", "--warnings", "-l", str(PAGE)], capture_output=True, text=True, check=True, env=env)
+        # Without a filter of system calls, which an emulated machine has not.
+        env = {"PATH": os.environ["PATH"], "LC_ALL": "C", "MANWIDTH": "200", "MAN_DISABLE_SECCOMP": "1"}
+        words = ["man", "--warnings", "--no-hyphenation", "--no-justification", "-l", str(PAGE)]
+        done = subprocess.run(words, capture_output=True, text=True, check=True, env=env)
         self.assertEqual(done.stderr, "")
         text = " ".join(re.sub("\x1b\\[[0-9]*m|.\b", "", done.stdout).split())
         for section in manual.read_help():
             for entry in section.entries:
                 for said in (entry.head, entry.text.replace("`", ""), entry.notes):
                     self.assertIn(said, text)
+
+
+def table(page, heading, number=0):
+    """The rows of a table of a page, each as its cells."""
+    text = (TOP / page).read_text().split(f"\n## {heading}\n")[1].split("\n## ")[0]
+    rows = re.findall(r"(?:^\|.*\n)+", text, re.MULTILINE)[number].splitlines()[2:]
+    return [[cell.strip() for cell in row.strip("|").split("|")] for row in rows]
+
+
+def codes(cell):
+    """What is code in a cell."""
+    return re.findall("`(.*?)`", cell)
+
+
+class Tables(unittest.TestCase):
+    """What several pages say of one thing is the same, and is what the help and the client say."""
+
+    def test_commands(self):
+        shown = [codes(cell)[0] for cell, *_ in table("docs/SCRIPT.md", "Commands")]
+        self.assertEqual(shown, [" ".join([name, "S", *usage.words]) for name, usage in manual.usages().items()])
+
+    def test_forms(self):
+        heads = {word: entry.head for word, entry in manual.forms().items()}
+        self.assertEqual([codes(cell) for cell, _ in table("README.md", "The commands")], [[head] for head in heads.values()])
+        for shown, _ in table("docs/SCRIPT.md", "The command line"):
+            words, _, options = shown.strip("`").partition(" [")
+            form = words.split()[0]
+            self.assertEqual(f"diag {words}", heads.pop(form))
+            if options != "options]":
+                told = [" ".join(option).strip() for option in manual.forms()[form].option_words().items()]
+                self.assertEqual(options.rstrip("]").split("] [") if options else [], told)
+        self.assertEqual(heads, {})
+
+    def test_options(self):
+        told = {option.head: option.text for option in manual.forms()["serve"].options}
+        for head, values, default, _ in table("docs/SCRIPT.md", "The command line", 1):
+            text = told.pop(*codes(head))
+            numbers = re.sub("[^0-9 ]", "", values).split()
+            self.assertEqual(re.findall("from ([0-9]+) to ([0-9]+)", text), [tuple(numbers)] if numbers else [])
+            self.assertEqual(re.findall("; ([0-9]+) if none is given", text), re.findall("[0-9]+", default.replace(",", "")))
+            if numbers:
+                self.assertEqual(LIMITS[head.split()[0].strip("`-")], tuple(map(int, numbers)))
+        self.assertEqual(told, {})
+
+    def test_statuses(self):
+        told = [entry.head for section in manual.read_help() if section.title == "Exit statuses" for entry in section.entries]
+        self.assertEqual([*dict.fromkeys(status for status, *_ in table("docs/SCRIPT.md", "How a run ends"))], told)
+
+    def test_gates(self):
+        rows = table("docs/NETLIST.md", "Gates")
+        shown = {word: int(inputs.split()[-1]) for cell, _, inputs in rows for word in codes(cell)}
+        self.assertEqual(shown, {word: gate.most_inputs for word, gate in GATES.items()})
 
 
 class Completion(unittest.TestCase):
@@ -71,7 +140,7 @@ class Completion(unittest.TestCase):
             'printf "%s\\n" "${COMPREPLY[@]}"'
         )
         with tempfile.NamedTemporaryFile("r") as asked:
-            words = ["bash", "-c", script.replace("3>asked", f"3>{asked.name}"), "bash", str(completion), *words]
+            words = ["bash", "-c", script.replace("3>asked", f"3>{shlex.quote(asked.name)}"), "bash", str(completion), *words]
             done = subprocess.run(words, capture_output=True, text=True, check=True, cwd=folder)
             self.offered_as = asked.read().strip()
         self.assertEqual(done.stderr, "")
@@ -87,12 +156,12 @@ class Completion(unittest.TestCase):
             if "FILE" not in file:
                 self.assertEqual(self.complete(form, ""), [])
                 continue
-            told = {head.split()[0]: len(head.split()) == 2 for head in entry.option_heads()}
+            told = entry.option_words()
             self.assertEqual(self.complete(form, *file, ""), sorted(told), form)
-            for option, takes_number in told.items():
-                behind = self.complete(form, *file, option, "")
-                self.assertEqual(behind, [] if takes_number else sorted(told.keys() - {option}))
-                given = [option, "1"] if takes_number else [option]
+            for option, number in told.items():
+                follows = self.complete(form, *file, option, "")
+                self.assertEqual(follows, [] if number else sorted(told.keys() - {option}))
+                given = [option, "1"] if number else [option]
                 self.assertEqual(self.complete(form, *file, *given, ""), sorted(told.keys() - {option}))
             if len(file) == 2:
                 self.assertEqual(self.complete(form, file[0], ""), [])
@@ -116,7 +185,7 @@ class Completion(unittest.TestCase):
         self.assertIn("examples", self.complete("serve", "ex"))
 
     def test_a_further_form(self):
-        """A form that the help tells is completed as the others are."""
+        """A form that the help names is completed as the others are."""
         text = subprocess.run([TOP / "diag", "--help"], capture_output=True, text=True, check=True).stdout
         text = text.replace("diag check FILE ", "diag tell FILE NUMBER\n    tells; --wide N\n    and --narrow may follow\ndiag check FILE ")
         with tempfile.TemporaryDirectory() as folder:
@@ -124,7 +193,7 @@ class Completion(unittest.TestCase):
             completion.parent.mkdir()
             shutil.copy(COMPLETION, completion)
             pathlib.Path(folder, "c.nnf").write_text(text)
-            launcher.write_text(f"#!/usr/bin/env bash\ncat {folder}/c.nnf\n")
+            launcher.write_text(f"#!/usr/bin/env bash\ncat {shlex.quote(folder)}/c.nnf\n")
             launcher.chmod(0o755)
             for words, wanted in (
                 ("t", ["tell"]), ("tell c", ["c.nnf", "completions"]), ("tell c.nnf ", []), ("tell c.nnf 1 ", ["--narrow", "--wide"]),

@@ -1,16 +1,21 @@
-"""Pictures: C17 against a stored text, blocks, times, large devices, and what is written where."""
+"""Pictures: C17 against a stored text, blocks, times, cones of large devices, devices that are refused, and what is written where."""
 
+import doctest
+import os
 import pathlib
 import re
 import shutil
+import signal
 import subprocess
 import sys
 import tempfile
 import unittest
+from unittest import mock
 
-from support import C17, EXAMPLES, PROGRAM, TESTS, TOP, needs_program
+from support import C17, EXAMPLES, TESTS, TOP, needs_program
 
-from diag_client import DiagError, Refused, Service, Verdict, picture
+from diag_client import DiagError, Refused, Service, Verdict, case, cone, graphviz, picture
+from diag_client.cone import Wiring, derive
 from diag_client.devices import Part, read_device, read_netlist
 
 # The case of the README, up to its first question.
@@ -64,7 +69,10 @@ class Texts(unittest.TestCase):
         case = picture.Case({}, {"x": "ok"}, {"x": Verdict.NEVER, "y": Verdict.ALWAYS}, 1)
         text = picture.dot_text(device, case, "t")
         self.assertIn(f'"part y" [label="y\\nXOR\\nalways" shape="hexagon" fillcolor="{picture.FILLS[Verdict.ALWAYS]}"]', text)
-        self.assertIn(f'"part x" [label="x\\nNOT\\nheld ok" shape="cds" fillcolor="white" color="{picture.HELD["ok"]}" penwidth="3"]', text)
+        self.assertIn(
+            f'"part x" [label="x\\nNOT\\nheld ok" shape="house" fillcolor="white" orientation="270" margin="0.06,0.02" '
+            f'color="{picture.HELD["ok"]}" penwidth="3"]', text,
+        )
         self.assertIn('"part x" -> "part y" [dir="both" arrowtail="odot"]', text)
         self.render(text)
 
@@ -75,39 +83,182 @@ class Texts(unittest.TestCase):
         self.assertIn('label="1.2.3: FULL"', text)
         pump = picture.dot_text(read_device(EXAMPLES / "pump.dev"), picture.Case({}, {}, {}, 0), "t")
         self.assertIn('"part at_inlet" [label="at_inlet\\nSENSOR" shape="component"', pump)
-        self.assertIn('"part at_inlet" -> "wire inlet" [dir="none" taillabel="shown"]', pump)
+        self.assertIn('"part at_inlet" -> "wire inlet" [dir="none" taillabel=" shown " labeldistance="1.6"]', pump)
         self.render(pump)
 
     def test_times(self):
         device = read_netlist("INPUT(d)\nq = DFF(d)\n")
-        text = picture.dot_text(device, picture.Case({"d@0001": 0, "q@0001": 1, "q@0002": 1}, {}, {}, 1, True), "t")
+        text = picture.dot_text(device, picture.Case({"d@0001": 0, "q@0001": 1, "q@0002": 1}, {}, {}, 1, 2), "t")
         self.assertIn('[label="q\\n@1 = 1\\n@2 = 1"', text)
         self.assertIn('[label="d @1 = 0"', text)
 
     def test_names_that_look_like_times(self):
         device = read_netlist("INPUT(a)\na@0001 = NOT(a)\n")
-        rows = (("a@0001", False, "a@0001 = 1"), ("a@0001", True, "a @1 = 1"), ("a@0001@0002", True, "a@0001 @2 = 1"))
-        for seen, has_times, label in rows:
-            self.assertIn(f'[label="{label}"', picture.dot_text(device, picture.Case({seen: 1}, {}, {}, 0, has_times), "t"))
+        rows = (("a@0001", None, "a@0001 = 1"), ("a@0001", 2, "a @1 = 1"), ("a@0001@0002", 2, "a@0001 @2 = 1"))
+        for seen, frames, label in rows:
+            self.assertIn(f'[label="{label}"', picture.dot_text(device, picture.Case({seen: 1}, {}, {}, 0, frames), "t"))
+
+    def test_expected(self):
+        """What is not as expected is marked, and what is expected of the others is in grey."""
+        device = read_netlist("INPUT(a)\nx = NOT(a)\ny = NOT(x)\nz = NOT(y)\n")
+        expected = {"a": 1, "x": 0, "y": 1, "z": 0}
+        text = picture.dot_text(device, picture.Case({"a": 1, "z": 1}, {}, {}, 1, None, expected, "y"), "t")
+        grey = f'<font color="{picture.EXPECTED}">'
+        self.assertIn(f'"part x" [label=<x<br/>NOT {grey}= 0</font>>', text)
+        self.assertIn(f'"wire z" [label=<z = 1 {grey}expected 0</font>> shape="note"', text)
+        self.assertRegex(text, f'"wire z" .* color="{picture.WRONG}" penwidth="3"')
+        self.assertRegex(text, f'"wire y" .label=<y {grey}= 1</font><br/>measure next> .* color="{picture.NEXT}"')
+        # It is right, so nothing more is said of it.
+        self.assertIn('"wire a" [label="a = 1" shape="note"', text)
+        self.render(text)
+
+    def test_expected_at_times(self):
+        device = read_netlist("INPUT(d)\nq = DFF(d)\nz = BUFF(q)\ny = NOT(z)\n")
+        expected = {row: found.bit for row, found in derive(device, {"d@0001": 1}, 2).items()}
+        self.assertEqual(expected, {"d@0001": 1, "q@0002": 1, "z@0002": 1, "y@0002": 0})
+        text = picture.dot_text(device, picture.Case({"d@0001": 1, "y@0002": 1}, {}, {}, 1, 2, expected, "z@0002"), "t")
+        self.assertIn("= - 1</font>", text)
+        self.assertIn("@2 = 1 <font", text)
+        self.assertIn("measure next @2", text)
+        self.render(text)
 
     def test_large(self):
-        # 300 buffers in a row, the 200th suspect: those next to it are drawn, and that is said.
-        lines = "".join(f"w{number:03} = BUFF(w{number - 1:03})\n" for number in range(1, 301))
-        device = read_netlist("INPUT(w000)\n" + lines)
-        text = picture.dot_text(device, picture.Case({}, {}, {"w200": Verdict.SOMETIMES}, 1), "t", most=21)
-        drawn = re.findall(r'"part (w[0-9]+)" \[label', text)
-        self.assertEqual(drawn, [f"w{number:03}" for number in range(190, 211)])
-        self.assertIn("21 of 300 parts are drawn, those that are nearest to the suspects", text)
-        self.assertIn('label="w189\\n+1 part"', text)
+        """Of 300 buffers in a row, with a branch at each, those between the suspect and the wrong reading are drawn."""
+        row = "".join(f"w{number:03} = BUFF(w{number - 1:03})\nside{number} = NOT(w{number:03})\n" for number in range(1, 301))
+        device = read_netlist("INPUT(w000)\n" + row)
+        verdicts = {"w200": Verdict.SOMETIMES}
+        text = picture.dot_text(device, picture.Case({"w220": 1}, {}, verdicts, 1, None, {"w220": 0}), "t")
+        self.assertEqual(self.drawn(text), [f"w{number:03}" for number in range(200, 221)])
+        self.assertIn("of 600 parts 21 are drawn: those between the suspects and the wrong readings", text)
+        self.assertIn('label="w199\\n+2 parts"', text)
         self.render(text)
+        text = picture.dot_text(device, picture.Case({"w220": 1}, {}, verdicts, 1, None, {"w220": 0}), "t", most=5)
+        self.assertEqual(len(self.drawn(text)), 5)
+        self.assertIn("5 of 21 are drawn", text)
+        self.assertIn("w200", self.drawn(text))
+        self.assertIn("w220", self.drawn(text))
         seen = picture.dot_text(device, picture.Case({"w300": 0}, {}, {}, 0), "t", most=2)
-        self.assertEqual(re.findall(r'"part (w[0-9]+)" \[label', seen), ["w299", "w300"])
+        self.assertEqual(sorted(self.drawn(seen)), ["side300", "w300"])
         self.assertIn("nearest to what was seen", seen)
+
+    def test_most(self):
+        for most in (0, -1):
+            with self.assertRaises(ValueError):
+                picture.dot_text(read_netlist("INPUT(a)\n"), picture.Case({}, {}, {}, 0), "t", most)
+
+    def test_cone_without_directions(self):
+        """Ports of a type have no direction, so the cone goes through them both ways."""
+        device = read_device(EXAMPLES / "pump.dev")
+        some = device.parts[0]
+        self.assertEqual(set(Wiring(device).cone([some.name], some.wires)) - {part.name for part in device.parts}, set())
+        self.assertEqual(Wiring(device).cone([some.name], [])[0], some.name)
+
+    def test_derived(self):
+        """A bit follows from one input that decides a gate, if there is one, and names the fewest parts."""
+        device = read_netlist("INPUT(a)\nINPUT(b)\nx = NOT(a)\ny = AND(x, b)\nz = XOR(y, b)\nfree = OR(c, a)\nc = BUFF(free)\n")
+        found = derive(device, {"a": 1, "b": 0})
+        self.assertEqual({name: row.bit for name, row in found.items()}, {"a": 1, "b": 0, "x": 0, "y": 0, "z": 0, "free": 1, "c": 1})
+        self.assertEqual((found["y"].by, found["z"].by), ({"y"}, {"y", "z"}))
+        self.assertEqual(set(derive(device, {"b": 1})), {"b"})
+
+    def test_docstrings(self):
+        self.assertEqual(doctest.testmod(cone), (0, 2))
+
+    def drawn(self, text):
+        return re.findall(r'"part (\w+)" \[label', text)
 
     def render(self, text):
         if shutil.which("dot"):
             done = subprocess.run(["dot", "-Tsvg"], input=text, capture_output=True, text=True, check=True)
-            self.assertEqual(done.stderr, "")
+            # What this machine lacks, such as fonts, is not of the text.
+            wrong = [line for line in done.stderr.splitlines() if line and not re.search("font|metrics|plugin|pango", line, re.IGNORECASE)]
+            self.assertEqual(wrong, [])
+
+
+class TooLarge(unittest.TestCase):
+    """A device that the program refuses for its size."""
+
+    def test_drawn_without_diagnoses(self):
+        lines = ["open S", *SCRIPT[1:], "hold S 16=ok"]
+        text = picture.picture_alone(C17, None, lines, None, 9, "sum above 1")
+        self.assertIn("no diagnoses, since the program refuses the device: sum above 1", text)
+        self.assertIn("22 = 1 <font", text)
+        self.assertNotIn("faulty in all", text)
+        # What the bit of 22 follows from, and nothing else.
+        text = picture.picture_alone(C17, None, lines, None, 3, "sum above 1")
+        self.assertEqual(re.findall(r'"part (\w+)" \[label', text), ["10", "16", "22"])
+        self.assertIn("from which the expected bits of the wrong readings follow", text)
+
+    def test_says_what_is_wrong(self):
+        for line, why in (("see S 99=0", "no wire: see S 99=0"), ("hold S 1=ok", "no part"), ("see S 1=2", "bad value"), ("see S 1", "bad value")):
+            with self.subTest(line), self.assertRaisesRegex(DiagError, why):
+                picture.picture_alone(C17, None, ["open S", line], None, 9, "")
+
+    def test_lines(self):
+        names = {"wire": frozenset("ab"), "part": frozenset("p")}
+        lines = [line.split() for line in ("open S", "see S a=0", "close S", "open S", "see S b=1", "see S a=1", "unsee S b", "hold S p=ok")]
+        self.assertEqual(case.noted(lines, names), ({"a": 1}, {"p": "ok"}))
+        self.assertEqual(case.noted([*lines, ["unhold", "S", "p"]], names), ({"a": 1}, {}))
+
+
+class Written(unittest.TestCase):
+    """OUT is written whole or not at all."""
+
+    def setUp(self):
+        self.folder = pathlib.Path(self.enterContext(tempfile.TemporaryDirectory()))
+        self.out = self.folder / "out.svg"
+        self.out.write_text("before")
+
+    def dot(self, script):
+        """A stand-in for Graphviz's program."""
+        program = self.folder / "dot"
+        program.write_text(f"#!/bin/sh\n{script}\n")
+        program.chmod(0o755)
+        self.enterContext(mock.patch.object(graphviz, "find_dot", lambda: str(program)))
+
+    def test_whole(self):
+        self.dot("cat >/dev/null; echo drawn as $1")
+        self.assertEqual(picture.render("graph {}", self.out), self.out)
+        self.assertEqual(self.out.read_text(), "drawn as -Tsvg\n")
+        loud = self.out.with_name("out.SVG")
+        picture.render("graph {}", loud)
+        self.assertEqual(loud.read_text(), "drawn as -Tsvg\n")
+        self.assertEqual(sorted(path.name for path in self.folder.iterdir()), ["dot", "out.SVG", "out.svg"])
+
+    def test_not_at_all(self):
+        for script, why in (("echo half; echo no room >&2; exit 1", "no room"), ("exit 3", "status 3")):
+            with self.subTest(script):
+                self.dot(script)
+                with self.assertRaisesRegex(DiagError, why):
+                    picture.render("graph {}", self.out)
+                self.assertEqual(self.out.read_text(), "before")
+
+    def test_no_room(self):
+        self.dot("cat >/dev/null; echo drawn")
+        with mock.patch("os.replace", side_effect=OSError), self.assertRaises(OSError):
+            picture.render("graph {}", self.out)
+        self.assertEqual(self.out.read_text(), "before")
+        self.assertEqual(sorted(path.name for path in self.folder.iterdir()), ["dot", "out.svg"])
+
+    def test_slow(self):
+        self.dot("exec sleep 100")
+        with mock.patch.object(graphviz, "PATIENCE", 0.1), self.assertRaisesRegex(DiagError, "--most"):
+            picture.render("graph {}", self.out)
+        self.assertEqual(self.out.read_text(), "before")
+
+    def test_names(self):
+        self.dot("cat >/dev/null; echo drawn")
+        with mock.patch.dict("os.environ", HOME=str(self.folder)):
+            self.assertEqual(picture.render("graph {}", "~/home.svg"), self.folder / "home.svg")
+        with self.assertRaisesRegex(DiagError, "such as out.svg"):
+            picture.render("graph {}", self.folder / "out")
+        with self.assertRaisesRegex(DiagError, "no folder"):
+            picture.render("graph {}", self.folder / "nowhere/out.svg")
+        link = self.folder / "link.svg"
+        link.symlink_to(self.out)
+        picture.render("graph {}", link)
+        self.assertTrue(link.is_symlink())
+        self.assertEqual(self.out.read_text(), "drawn\n")
 
 
 @needs_program
@@ -120,72 +271,104 @@ class Served(unittest.TestCase):
 
     @unittest.skipUnless(shutil.which("dot"), "there is no dot")
     def test_shown(self):
-        """The picture in docs/ is that of the stored text, to the byte where this `dot` is the one that drew it."""
+        """The picture in docs/ is that of the stored text. Where its pieces lie is up to this `dot` and the fonts here."""
         drawn = subprocess.run(["dot", "-Tsvg", STORED], capture_output=True, text=True, check=True).stdout
-        by = re.compile("Generated by graphviz version (.*)")
-        shown = SHOWN.read_text()
-        if by.findall(drawn) == by.findall(shown):
-            self.assertEqual(drawn, shown)
-        names = re.compile("<title>(.*)</title>")
-        self.assertEqual(sorted(names.findall(drawn)), sorted(names.findall(shown)))
+        said = re.compile("<(?:title|text)[^>]*>(.*)</")
+        self.assertEqual(sorted(said.findall(drawn)), sorted(said.findall(SHOWN.read_text())))
 
     def run_tool(self, *words, script=SCRIPT, path=None):
-        env = {"PATH": path or "/usr/bin:/bin", "PYTHONPATH": str(TOP / "python"), "DIAG_PROGRAM": PROGRAM, "PYTHONDONTWRITEBYTECODE": "1"}
+        env = {**os.environ, "PATH": path or os.environ["PATH"], "PYTHONPATH": str(TOP / "python")}
         words = [sys.executable, "-m", "diag_client", "picture", *words]
-        return subprocess.run(words, input="\n".join(script), capture_output=True, text=True, env=env, check=False)
+        return subprocess.run(words, input="\n".join(script).encode(), capture_output=True, env=env, check=False)
 
     def test_tool(self):
-        self.assertEqual(self.run_tool(C17, "-").stdout, STORED.read_text())
+        self.assertEqual(self.run_tool(C17, "--most", "60", "-").stdout.decode(), STORED.read_text())
         with tempfile.TemporaryDirectory() as folder:
-            out = pathlib.Path(folder, "out.dot")
-            self.assertEqual(self.run_tool(C17, "-", "-o", out).returncode, 0)
-            self.assertEqual(out.read_text(), STORED.read_text())
-            done = self.run_tool(C17, "-", "-o", f"{folder}/out.svg")
-            self.assertEqual(done.returncode, 0 if shutil.which("dot", path="/usr/bin:/bin") else 1)
+            # Names that are not UTF-8.
+            file, out = os.path.join(os.fsencode(folder), b"c\xff.bench"), os.path.join(os.fsencode(folder), b"\xff.dot")
+            shutil.copy(C17, file)
+            self.assertNotIn(b"Traceback", self.run_tool(file, "-o", out, "-").stderr)
+            text = picture.picture_alone(os.fsdecode(file), None, None, None, 9, "")
+            self.assertIn("c\ufffd.bench", text)
+            self.assertEqual(picture.render(text, os.fsdecode(out)).read_text(encoding="utf-8"), text)
+
+    def test_too_large(self):
+        done = self.run_tool(C17, "--budget", "1", "-")
+        self.assertEqual(done.returncode, 0)
+        self.assertIn(b"no diagnoses, since the program refuses the device: sum above 1", done.stdout)
+        self.assertIn(b"22 = 1 <font", done.stdout)
+        self.assertIn(b"drawn without diagnoses", done.stderr)
+
+    def test_interrupt(self):
+        """While a device is compiled, an interrupt ends the picture, and the terminal, without a traceback."""
+        env = {**os.environ, "PYTHONPATH": str(TOP / "python")}
+        with tempfile.TemporaryDirectory() as folder:
+            waits = pathlib.Path(folder, "waits")
+            waits.write_text("#!/bin/sh\necho started >&2\nexec sleep 100\n")
+            waits.chmod(0o755)
+            for command in ("picture", "shell"):
+                words = [sys.executable, "-m", "diag_client", command, C17, "--program", waits]
+                with subprocess.Popen(words, stderr=subprocess.PIPE, env=env) as child:
+                    self.assertEqual(child.stderr.readline(), b"started\n")
+                    child.send_signal(signal.SIGINT)
+                    said = child.stderr.read()
+                    self.assertEqual(child.wait(), 130)
+                self.assertIn(b"interrupted", said)
+                self.assertNotIn(b"Traceback", said)
 
     def test_without_dot(self):
         with tempfile.TemporaryDirectory() as folder:
             done = self.run_tool(C17, "-", "-o", f"{folder}/out.svg", path=folder)
             self.assertEqual(done.returncode, 1)
-            self.assertIn("wrote", done.stderr)
+            self.assertIn(b"wrote", done.stderr)
             self.assertEqual(pathlib.Path(folder, "out.dot").read_text(), STORED.read_text())
 
     def test_says_what_is_wrong(self):
         for words, why in (
             ((C17, "-", "--session", "T"), "opens no session T"),
-            (("nowhere.bench",), "error: read"),
+            (("nowhere.bench",), ": nowhere.bench: no such file or directory\n"),
             ((C17, "nowhere.script"), "nowhere.script"),
-            ((EXAMPLES / "lamps.nnf",), "error: usage"),
+            ((EXAMPLES / "lamps.nnf",), "lamps.nnf"),
+            ((C17, "-o", "out"), "such as out.svg"),
+            ((C17, "-o", "nowhere/out.svg"), "no folder"),
         ):
             done = self.run_tool(*words)
             self.assertEqual(done.returncode, 1)
-            self.assertIn(why, done.stderr)
-            self.assertNotIn("Traceback", done.stderr)
+            self.assertIn(why, done.stderr.decode())
+            self.assertNotIn(b"Traceback", done.stderr)
+        for words in ((C17, "--most", "0"), (C17, "--most", "-1"), (C17, "-", "more"), (C17, "--scale")):
+            self.assertEqual(self.run_tool(*words).returncode, 2)
 
     def test_scripts(self):
         with Service(C17) as served:
             # All of the README's script: it ends with part 10 held, and then closes the session.
-            with picture.replay(served, (EXAMPLES / "c17.script").read_text().splitlines()) as session:
+            with case.replay(served, (EXAMPLES / "c17.script").read_text().splitlines()) as session:
                 self.assertEqual((session.name, dict(session.held), session.seen["22"]), ("S", {"10": "ok"}, 1))
             lines = ["open S", "see S 1=0", "open T", "see T 1=1", "close T", "min S", "# see", ""]
-            with picture.replay(served, lines) as session:
+            with case.replay(served, lines) as session:
                 self.assertEqual((session.name, dict(session.seen)), ("T", {"1": 1}))
-            with picture.replay(served, lines, "S") as session:
+            with case.replay(served, lines, "S") as session:
                 self.assertEqual(dict(session.seen), {"1": 0})
             # Of more sessions than may be open, and of lines of others that are refused, one is drawn as if it were alone.
             many = [f"open case{number}" for number in range(20)] + ["open S", "see S 99=1", "see case7 1=1", "open S"]
-            with picture.replay(served, many, "case7") as session:
+            with case.replay(served, many, "case7") as session:
                 self.assertEqual(dict(session.seen), {"1": 1})
             for wrong in (["see S 1=0"], ["open S", "see S 99=0"], ["open S", "see S"], ["open S", "see T 1=0"], ["open"]):
                 with self.subTest(wrong), self.assertRaises((Refused, DiagError)):
-                    picture.replay(served, wrong).close()
+                    case.replay(served, wrong).close()
             # A session that the service has open itself stays as it is.
             with served.session("S") as own:
                 own.see({"1": 0})
                 for wrong in (["see S 2=0"], ["close S", "open S"], ["open S", "see S 2=0"]):
                     with self.subTest(wrong), self.assertRaises((Refused, DiagError)):
-                        picture.replay(served, wrong)
+                        case.replay(served, wrong)
                 self.assertEqual(own.probe("1").if_one, None)
+
+    def test_no_room_for_another_session(self):
+        with Service(C17, sessions=1) as served:
+            text = picture.picture(served, SCRIPT, None, 9)
+        self.assertIn("sometimes", text)
+        self.assertNotIn("measure next", text)
 
     def test_inconsistent(self):
         lines = [*SCRIPT, "hold S 10=ok", "hold S 22=ok", "hold S 23=ok"]

@@ -1,13 +1,14 @@
-"""Programs that end, stray, sleep or flood, and pipes that stand full."""
+"""Programs that end, stray, sleep or flood, and full pipes."""
 
 import contextlib
 import io
+import json
 import os
 import signal
 import threading
 import unittest
 
-from support import C17, EXAMPLES, needs_program, stand_in
+from support import C17, EXAMPLES, interrupt_at, needs_program, stand_in
 
 from diag_client import Ended, NotBuilt, Refused, Service
 from diag_client.replies import Listing
@@ -94,7 +95,7 @@ class Ends(unittest.TestCase):
 
 
 class Pipes(unittest.TestCase):
-    """No pipe stands full while both sides wait."""
+    """No pipe is full while both sides wait."""
 
     def test_much_at_once(self):
         with served("is good") as service, service.session("S" * 64) as session:
@@ -109,7 +110,7 @@ class Pipes(unittest.TestCase):
     def test_the_program_itself(self):
         with Service(C17) as service, service.session("S" * 64) as session:
             lines = [session._change("see", f"{wire}={number % 2}") for number in range(1000) for wire in service.wires]
-            session._carry_out(lines)
+            session.service.do(lines)
             self.assertEqual(len(lines), 11_000)
             self.assertEqual(set(session.seen.values()), {1})
 
@@ -128,26 +129,25 @@ class Interrupts(unittest.TestCase):
             for begin in (lambda: session.see(a=1), lambda: None, lambda: session.after("p3")):
                 begin()
                 first = [str(diagnosis) for diagnosis in session.diagnoses(3)]
-                self.interrupted(lambda: session._carry_out([pause_of(session), *session._placing(("p7",)), page_of(session)]))
+                self.interrupted(lambda: session.service.do([pause_of(session), *session.placing(("p7",)), page_of(session)]))
                 self.assertEqual([str(diagnosis) for diagnosis in session.diagnoses(3)], first)
             self.assertEqual(first, ["p4", "p5", "p6"])
 
     def test_what_was_seen_stays(self):
         """A reading whose reply was not waited for is known to the next listing."""
         with served("lists") as service, service.session("S") as session, service.session("T") as other:
-            self.interrupted(lambda: session._carry_out([pause_of(other), session._change("see", "a=1")]))
+            self.interrupted(lambda: session.service.do([pause_of(other), session._change("see", "a=1")]))
             self.assertEqual([str(diagnosis) for diagnosis in session.diagnoses(1)], ["p1"])
             self.assertEqual(dict(session.seen), {"a": 1})
 
     def test_while_it_waits(self):
         with served("sleeps") as service, service.session("S") as session:
-            alarm = threading.Timer(0.2, signal.pthread_kill, [threading.get_ident(), signal.SIGINT])
-            with self.assertRaises(KeyboardInterrupt):
-                alarm.start()
-                while True:
-                    session.minimum()
+            interrupt_at(service, "min S")
+            self.interrupted(session.minimum)
             # The reply that was not waited for comes first, and is none to this.
+            service._child._process.send_signal(signal.SIGUSR1)
             session.see(a=1)
+            service._child._process.send_signal(signal.SIGUSR1)
             self.assertEqual(session.minimum().cost, 0)
             self.assertEqual(dict(session.seen), {"a": 1})
 
@@ -160,8 +160,12 @@ class Interrupts(unittest.TestCase):
                 service.session("T")
 
             self.interrupted(opened)
-            service.session("T").close()
-            self.interrupted(lambda: session._carry_out([pause_of(session), session._closing(), session._opening()]))
+            with service.session("T") as other:
+                # A name that is taken is refused, and the session that has it stays.
+                with self.assertRaises(Refused):
+                    service.session("T")
+                other.see(a=1)
+            self.interrupted(lambda: session.service.do([pause_of(session), session._closing(), session._opening()]))
             session.close()
             session.close()
             self.assertFalse(session.is_open)
@@ -189,12 +193,12 @@ class Interrupts(unittest.TestCase):
                 self.assertEqual((session.minimum().cost, session.graph().nodes), (0, nodes))
 
     def test_within_a_step(self):
-        """Where it cannot be known how far a reply was read the program is stopped, and that is told."""
+        """If it cannot be known how far a reply was read, the program is stopped and the error says so."""
         with served("is good") as service, service.session("S") as session:
             request = session._change("see", "a=1")
-            request.take = lambda _: (_ for _ in ()).throw(KeyboardInterrupt())
+            request.take_from = lambda *_: (_ for _ in ()).throw(KeyboardInterrupt())
             with self.assertRaises(KeyboardInterrupt):
-                session._carry_out([request])
+                session.service.do([request])
             with self.assertRaisesRegex(Ended, "in the midst of a reply"):
                 session.see(a=1)
 
@@ -202,6 +206,31 @@ class Interrupts(unittest.TestCase):
         """An interrupt at the terminal goes to all of a group of processes."""
         with served("is good") as service:
             self.assertNotEqual(os.getpgid(service._child._process.pid), os.getpgrp())
+
+
+class InOnePiece(unittest.TestCase):
+    """Readings go out in one piece, and the replies are known beforehand. Of those that are others each line counts."""
+
+    def test_all_are_taken(self):
+        seen = {f"w{number}": number % 2 for number in range(20_000)}
+        with served("is good") as service, service.session("S") as session:
+            session.see(seen)
+            self.assertEqual((dict(session.seen), session.changes), (seen, len(seen)))
+
+    def test_some_are_refused(self):
+        canned = {"see S b=1": "S error 9 no wire", "see S c=2": "error 3 wrong word"}
+        with Service("any.bench", program=[*stand_in("tells"), json.dumps(canned)]) as service, service.session("S") as session:
+            with self.assertRaises(Refused) as caught:
+                session.see(a=True, b=1, c=2, d=0)
+            self.assertEqual((caught.exception.number, caught.exception.line), (9, "see S b=1"))
+            self.assertEqual((dict(session.seen), session.changes), ({"a": 1, "d": 0}, 2))
+
+    def test_it_ends_among_them(self):
+        service = served("dies")
+        session = service.session("S")
+        with self.assertRaises(Ended):
+            session.see(a=0, b=1, c=1)
+        self.assertEqual(dict(session.seen), {"a": 0})
 
 
 class Closed(unittest.TestCase):

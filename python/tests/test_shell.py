@@ -1,14 +1,19 @@
 """The terminal, by lines and by its completion."""
 
 import contextlib
+import importlib
 import io
+import os
 import pathlib
 import re
+import signal
+import subprocess
+import sys
 import tempfile
 import unittest
 from unittest import mock
 
-from support import C17, TOP, needs_program, replies
+from support import C17, EXAMPLES, SOON, TOP, interrupt_at, needs_program, replies, stand_in
 
 from diag_client import Proposal, Service, manual, shell
 
@@ -30,7 +35,7 @@ class Lines(unittest.TestCase):
         return told.getvalue().splitlines()
 
     def test_readme(self):
-        self.assertEqual(self.say("see 1=0 2=0 3=0 6=0 7=0"), ["ok"] * 5)
+        self.assertEqual(self.say("see 1=0 2=0 3=0 6=0 7=0"), ["5 readings taken"])
         self.assertEqual(self.say("see 22=1", "see 23=0", "min", "list 9"), ["ok", "ok", "min 1 10", "diag 10", "diag 22", "end"])
         self.assertEqual(self.say("probe 10 16"), ["probe 10 1 1", "probe 16 2 1"])
         self.assertEqual(self.say("best"), [str(Proposal("10", 2, 1, 1, True))])
@@ -48,14 +53,15 @@ class Lines(unittest.TestCase):
     def test_all_commands_are_there(self):
         """What the help names is answered as the program answers it."""
         words = {"w=b": "1=0", "w": "1", "p=m": "10=ok", "p": "10", "k": "2", "p1": "10", "..": "", "pk": "16"}
-        for name, usage in manual.usages(manual.read_help()).items():
+        for name, usage in manual.usages().items():
             if name not in ("open", "close"):
-                behind = " ".join(words[word] for word in usage.words)
-                told = [line.removeprefix("S ") for line in replies(["open S", f"{name} S {behind}"])[1:]]
+                follows = " ".join(words[word] for word in usage.words)
+                told = [line.removeprefix("S ") for line in replies(["open S", f"{name} S {follows}"], "--narrow")[1:]]
                 # A command that needs an option is refused, which is told in words.
-                told[0] = re.sub(r"^error ([0-9]+) (.*)$", rf"refused: \2 (error \1); it is {' '.join([name, *usage.words])}", told[0])
+                told[0] = re.sub("^error ([0-9]+) (.*)$", r"refused: \2 (error \1)", told[0])
                 with self.subTest(name), self.service.session("T") as self.shell.session:
-                    self.assertEqual(self.say(f"{name} {behind}"), told)
+                    said = self.say(f"{name} {follows}")
+                    self.assertEqual([said[0].partition(": start the terminal")[0], *said[1:]], told)
 
     def test_refusals_in_words(self):
         rows = {
@@ -69,7 +75,60 @@ class Lines(unittest.TestCase):
             self.assertTrue(told[0].startswith(f"refused: {text} (error {number})"), told)
         self.assertIn("near it: 2", self.say("see 24=1")[0])
         self.assertIn("it is see w=b", self.say("see 1=2")[0])
-        self.assertIn("? tells the commands", self.say("dance")[0])
+        self.assertIn("? lists the commands", self.say("dance")[0])
+
+    def test_none_is_lost(self):
+        """What comes after a mistyped name is taken, and one line says so."""
+        self.assertEqual(
+            self.say("see 1=0 2=0 99=1 3=0 6=0 7=0", "hold 10=ok 1=ok 22=bad", "unhold 22 23", "unsee 1 2"),
+            [
+                "5 readings taken, 1 refused: no wire (error 9): 99",
+                "2 parts held, 1 refused: no part (error 10): 1; near it: " + ", ".join(["19", "16", "11"]),
+                "2 parts released", "2 readings taken back",
+            ],
+        )
+        self.assertEqual(dict(self.session.seen), {"3": 0, "6": 0, "7": 0})
+        self.assertTrue(self.shell.has_refused)
+
+    def test_hints(self):
+        for line, hint in (
+            ("see 1:0", "write 1=0"), ("see 22=H", "write 22=1"), ("see 22=Low", "write 22=0"), ("SEE 1=0", "do you mean see?"),
+            ("hold 10=OK", "write 10=ok"), ("see 1 = 0", "without blanks"), ("see 1= 0 2=1", "nothing of this line was taken"),
+            ("see 1=0,2=0", "blanks between names"), ("probe 1,2", "no commas"), ("level", "--levels C"), ("leastnnf", "--least"),
+            ("exitt", "do you mean exit?"), ("best 10,16", "no commas"),
+        ):
+            with self.subTest(line):
+                self.assertIn(hint, " ".join(self.say(line)))
+        self.assertEqual(dict(self.session.seen), {})
+
+    def test_saved_and_loaded(self):
+        with tempfile.TemporaryDirectory() as folder, mock.patch.dict("os.environ", HOME=folder):
+            self.say("see 1=0 22=1", "hold 10=ok")
+            self.assertEqual(self.say("save ~/case.script"), [f"wrote {folder}/case.script: 2 seen, 1 held"])
+            script = pathlib.Path(folder, "case.script")
+            self.assertEqual(script.read_text(), "open S\nsee S 1=0\nsee S 22=1\nhold S 10=ok\n")
+            self.say("unsee 1 22", "unhold 10")
+            script.write_text(script.read_text() + "see S 99=1\n")
+            self.assertEqual(self.say(f"load {script}"), ["2 readings taken, 1 part held, 1 refused: no wire (error 9): 99"])
+            self.assertEqual((dict(self.session.seen), dict(self.session.held)), ({"1": 0, "22": 1}, {"10": "ok"}))
+            # Only a saved case is written over.
+            pathlib.Path(folder, "c17.bench").write_text("INPUT(a)\n")
+            self.assertIn("not a saved case", self.say("save ~/c17.bench")[0])
+            self.assertEqual(len(self.say("save ~/case.script", "save", "load")), 3)
+            self.assertEqual(self.say("load ~/nowhere"), [f"{folder}/nowhere: no such file or directory"])
+            self.assertEqual(sorted(path.name for path in pathlib.Path(folder).iterdir()), ["c17.bench", "case.script"])
+
+    def test_expect(self):
+        self.say("see 1=0 2=0 3=0 6=0 22=1")
+        self.assertEqual(self.say("expect 22 16"), ["22 should be 0, and was seen as 1", "16 should be 1"])
+        self.assertEqual(self.say("unsee 2 6", "expect 23"), ["2 readings taken back", "23 may be 0 or 1: the inputs that were seen do not fix it"])
+        self.assertIn("10 should be 1", self.say("expect"))
+        self.assertIn("no wire", self.say("expect 99")[0])
+        self.assertEqual(self.say("unsee 1 3", "expect")[1], "the inputs that were seen fix no wire")
+
+    def test_nothing_is_wrong(self):
+        self.shell.prompt = "diag> "
+        self.assertEqual(self.say("list 2", "min"), ["diag (nothing is wrong)", "end", "min 0 (nothing is wrong)"])
         self.assertEqual(self.say("open T"), ["there is one session here, which is open to the end"])
 
     def test_inconsistent(self):
@@ -84,12 +143,12 @@ class Lines(unittest.TestCase):
             file.flush()
             with Service(file.name) as service, service.session("S") as session:
                 self.shell = shell.Shell(service, session)
-                self.assertEqual(self.say("see y=1"), ["refused: no wire (error 9)"])
+                self.assertEqual(self.say("see y=1"), ["refused: no wire (error 9): y"])
                 self.assertEqual(self.say("min"), ["inconsistent"])
 
     def test_help(self):
         told = self.say("?")
-        for name in [*manual.usages(manual.read_help()), *shell.MORE]:
+        for name in [*manual.usages(), *shell.MORE]:
             self.assertEqual(any(line.startswith(name) for line in told), name not in ("open", "close"), name)
         self.assertEqual(self.say("? min"), [f"{'min':18}{self.shell.commands['min'].text}"])
 
@@ -98,17 +157,70 @@ class Lines(unittest.TestCase):
             self.assertEqual(self.say(f"picture {folder}/out.dot"), [f"wrote {folder}/out.dot"])
             self.assertIn("part 10", pathlib.Path(folder, "out.dot").read_text())
         self.assertEqual(len(self.say("picture")), 1)
+        with mock.patch("diag_client.picture.Case.of", side_effect=AssertionError):
+            # It is found before anything is asked.
+            self.assertIn("there is no folder nowhere", self.say("picture nowhere/out.svg")[0])
 
     def test_ends(self):
         self.assertTrue(self.shell.onecmd("quit"))
+        self.assertTrue(self.shell.onecmd("exit"))
         self.assertTrue(self.shell.onecmd("EOF"))
         self.assertFalse(self.shell.onecmd(""))
 
     def test_loop(self):
-        with mock.patch("sys.stdin", io.StringIO("see 22=1\n\n# a comment\nmin\n")), contextlib.redirect_stdout(io.StringIO()) as told:
-            self.session.close()
-            self.assertEqual(shell.run(self.service), 0)
-        self.assertEqual(told.getvalue().splitlines(), ["ok", "min 0"])
+        self.assertEqual(self.from_pipe(b"see 22=1\n\n# a comment\nmin\n"), (0, ["ok", "min 0"]))
+
+    def from_pipe(self, data):
+        """The status of a terminal whose input is a pipe, and what it prints."""
+        self.session.close()
+        out = io.TextIOWrapper(io.BytesIO(), "utf-8", write_through=True)
+        with mock.patch("sys.stdin", io.TextIOWrapper(io.BytesIO(data), "utf-8")), contextlib.redirect_stdout(out):
+            return shell.run(self.service), out.buffer.getvalue().decode("utf-8", "surrogateescape").splitlines()
+
+    def test_pipe(self):
+        """Lines are answered in order whatever they are, and the status says whether one was refused."""
+        data = b"see 22=1\ncase\nsee 99=1\nmin\nopen T\n\xff\nsee 1=0 2=0\r\nexit\nmin\n"
+        status, told = self.from_pipe(data)
+        self.assertEqual(status, 1)
+        self.assertEqual(told[:5], ["ok", "seen: 22=1", "held: nothing", "refused: no wire (error 9): 99", "min 0"])
+        self.assertEqual(told[5], "there is one session here, which is open to the end")
+        self.assertIn("unknown command (error 1): \udcff", told[6])
+        self.assertEqual(told[7:], ["2 readings taken"])
+
+    def test_many_lines(self):
+        """They are asked in batches, and so without a pause for each."""
+        with mock.patch.object(self.service._child, "follow", side_effect=self.service._child.follow) as follow:
+            status, told = self.from_pipe(b"see 22=1\n" + b"min\n" * 200)
+        self.assertEqual((status, told), (0, ["ok"] + ["min 0"] * 200))
+        self.assertLess(sum(len(call.args[0]) for call in follow.call_args_list), 5)
+
+    def test_nobody_reads(self):
+        """It ends without a word."""
+        words, python = [sys.executable, "-m", "diag_client", "shell", str(C17)], {"PYTHONPATH": str(TOP / "python")}
+        pipes = dict.fromkeys(("stdin", "stdout", "stderr"), subprocess.PIPE)
+        with subprocess.Popen(words, env=os.environ | python, **pipes) as shell_run:
+            shell_run.stdout.close()
+            self.assertEqual(shell_run.communicate(b"min\n")[1], b"")
+        self.assertEqual(shell_run.returncode, 1)
+
+    def test_options_in_words(self):
+        """What Python gives as budget=N is an option at the terminal."""
+        for hint, *given in (
+            ("try --narrow, then --budget 8388608", str(C17), "--no-narrow", "--budget", "1"), ("needs --health N", "c17.nnf"),
+        ):
+            with mock.patch("sys.argv", ["diag_client", "shell", *given]), contextlib.redirect_stderr(io.StringIO()) as said:
+                self.assertEqual(importlib.import_module("diag_client.__main__").main(), 1)
+            self.assertIn(hint, said.getvalue())
+
+    def test_graph(self):
+        """It is asked as a netlist is, and not drawn."""
+        lines = io.TextIOWrapper(io.BytesIO(b"see 00005=0\nmin\npicture out.svg\n"))
+        words = ["diag_client", "shell", str(EXAMPLES / "lamps.nnf"), "--health", "3"]
+        with mock.patch("sys.argv", words), mock.patch("sys.stdin", lines), contextlib.redirect_stdout(io.StringIO()) as told:
+            self.assertEqual(importlib.import_module("diag_client.__main__").main(), 1)
+        *answers, drawn = told.getvalue().splitlines()
+        self.assertEqual([f"S {line}" for line in answers], (EXAMPLES / "lamps.expected").read_text().splitlines()[2:4])
+        self.assertIn("has no gates", drawn)
 
     def test_completion(self):
         def complete(line):
@@ -118,7 +230,7 @@ class Lines(unittest.TestCase):
             command = line.split()[0]
             return getattr(self.shell, f"complete_{command}", self.shell.completedefault)(text, line)
 
-        self.assertEqual(complete("pro"), ["probe", "probes"])
+        self.assertEqual(complete("pro"), ["probe ", "probes "])
         self.assertEqual(complete("see 2"), ["22=", "23=", "2="])
         self.assertEqual(complete("see 1=0 22="), ["22=0", "22=1"])
         self.assertEqual(complete("hold 1"), ["10=", "11=", "16=", "19="])
@@ -130,7 +242,87 @@ class Lines(unittest.TestCase):
         self.session.see({"22": 1})
         self.assertEqual(complete("unsee "), ["22"])
         self.assertEqual(complete("best 2"), ["2", "23"])
-        self.assertEqual(complete("help un"), ["unhold", "unsee"])
+        self.assertEqual(complete("help un"), ["unhold ", "unsee "])
+        with tempfile.TemporaryDirectory() as folder:
+            pathlib.Path(folder, "case.script").touch()
+            self.assertEqual(complete(f"load {folder}/c"), [f"{folder}/case.script"])
+
+
+class Interrupts(unittest.TestCase):
+    """The first interrupt lets go of a reply, and the second one of the program. The case stays."""
+
+    def setUp(self):
+        self.service = self.enterContext(Service("any.bench", program=stand_in("dozes")))
+        self.addCleanup(self.service.stop)
+        self.session = self.service.session("S")
+        self.enterContext(mock.patch("sys.stdin", io.StringIO()))
+        self.shell = shell.Shell(self.service, self.session)
+        self.shell.use_rawinput = True
+
+    def say(self, line):
+        with contextlib.redirect_stdout(io.StringIO()) as told:
+            self.shell.onecmd(line)
+        return told.getvalue()
+
+    def interrupted(self, line):
+        """What is said if an interrupt comes while the reply is awaited."""
+        command, *words = line.split()
+        interrupt_at(self.service, " ".join([command, "S", *words]))
+        return self.say(line)
+
+    def test_twice(self):
+        self.say("see a=1 b=0")
+        self.assertIn("Ctrl-C once more", self.interrupted("min"))
+        # It waits for the reply to the line before it.
+        self.assertIn("the case is as it was", self.interrupted("see c=1"))
+        self.assertEqual(dict(self.session.seen), {"a": 1, "b": 0, "c": 1})
+        self.assertEqual(self.say("see d=1"), "ok\n")
+
+    def test_first_of_another_command(self):
+        """What was interrupted and answered by now does not count."""
+        self.interrupted("min")
+        self.service.restart()
+        self.say("see a=1")
+        self.assertIn("Ctrl-C once more", self.interrupted("min"))
+
+    def test_while_it_starts(self):
+        self.say("see a=1")
+        self.interrupted("min")
+        with mock.patch.object(self.service, "_start", side_effect=KeyboardInterrupt):
+            self.assertIn("The next command starts", self.interrupted("list 1"))
+        self.assertIn("the case is as it was\nok", self.say("see b=1"))
+        self.assertEqual(dict(self.session.seen), {"a": 1, "b": 0} | {"b": 1})
+
+    def test_quit(self):
+        """It waits for nothing, and ends the program that is at work."""
+        self.session.abandon()
+        # If it does wait, that is an error and not for ever.
+        self.service._child._timeout = SOON
+        with mock.patch("builtins.input", side_effect=["min", EOFError]), contextlib.redirect_stdout(io.StringIO()):
+            with mock.patch("sys.stdin.isatty", lambda: True), mock.patch.object(shell, "readline", None):
+                interrupt_at(self.service, "min S")
+                self.assertEqual(shell.run(self.service), 0)
+        self.assertEqual(self.service._child._process.returncode, -signal.SIGKILL)
+
+    def test_import(self):
+        """What looks at all modules, as a browser of their docstrings does, starts nothing."""
+        sys.modules.pop("diag_client.__main__", None)
+        self.assertTrue(importlib.import_module("diag_client.__main__").main)
+
+    def test_lines_as_they_come(self):
+        """What has come of a long listing is printed before the rest of it."""
+        request = mock.Mock(refusals=[], is_answered=False)
+        self.enterContext(mock.patch.object(self.session, "requests", return_value=[request]))
+
+        def follow(_):
+            for part in ("p1", "p2"):
+                request.lines = [f"S diag {part}"]
+                yield
+                self.assertTrue(told.getvalue().endswith(f"diag {part}\n"))
+
+        with mock.patch.object(self.service, "follow", follow), contextlib.redirect_stdout(io.StringIO()) as told:
+            self.shell.carry_out([shell.Asked([["list", "2"]])])
+        self.assertEqual(told.getvalue(), "diag p1\ndiag p2\n")
 
 
 if __name__ == "__main__":

@@ -8,9 +8,9 @@ use Rattle.state_rules.specs.Graphs.{Graph}
 use Rattle.state_rules.proofs.Members.{In, In-at, In-filter, In-filtered, least-from}
 use Rattle.state_rules.proofs.Order.{not_both_before, Sorted, Sorted-states, Sorted-filter}
 use Rattle.conditioner.specs.Models.{has_model, fits_words, models, least_under, diagnoses_under}
-use Rattle.minimiser.specs.declared.listing.Step.{Step}
-use Rattle.minimiser.specs.declared.listing.Step.TheVariants.{Found, End, Inconsistent}
-use Rattle.minimiser.specs.Listing.{step_of}
+use Rattle.diagnosis_lister.specs.declared.listing.Step.{Step}
+use Rattle.diagnosis_lister.specs.declared.listing.Step.TheVariants.{Found, End, Inconsistent}
+use Rattle.diagnosis_lister.specs.Listing.{step_of}
 
 -- ---- what is behind an item of a sorted list
 

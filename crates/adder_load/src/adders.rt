@@ -2,7 +2,8 @@ ghost use Rattle.std.specs.Prelude.{◌≡◌, ◌<◌, ◌≤◌, [], ◌∷◌
 ghost use Rattle.text_rules.specs.declared.text_lines.TheConstants.{TEXT_LIMIT};
 ghost use Rattle.adder_load.specs.Adders.{signal, input_line, gate_line, place_lines, adder_text};
 
-use std::alloc::{AllocError, Global};
+use crate::Memory;
+use std::alloc::Global;
 
 /// The most places of an adder.
 pub const PLACE_LIMIT: u32 = 800;
@@ -23,7 +24,7 @@ pub(crate) fn signal(place: u32, letter: u8) -> [u8; 5]
 
 // Adds the line of an input.
 #[tactic(auto, using(crate::proofs::Texts::behind))]
-fn add_input(text: &mut Vec<u8>, input: &[u8]) -> Result<(), AllocError>
+fn add_input(text: &mut Vec<u8>, input: &[u8]) -> Result<(), Memory>
     ensures { OnOk result (text.new.items ≡ text.old.items ++ input_line input.now) }
 {
     text.extend_from_slice(b"INPUT(")?;
@@ -39,7 +40,7 @@ fn add_gate(
     kind: &[u8],
     first: &[u8],
     second: &[u8],
-) -> Result<(), AllocError>
+) -> Result<(), Memory>
     ensures { OnOk result (text.new.items ≡ text.old.items ++ gate_line output.now kind.now first.now second.now) }
 {
     text.extend_from_slice(output)?;
@@ -54,7 +55,7 @@ fn add_gate(
 
 // Adds the lines of a place.
 #[tactic(auto, using(crate::proofs::Texts::behind))]
-fn add_place(text: &mut Vec<u8>, place: u32) -> Result<(), AllocError>
+fn add_place(text: &mut Vec<u8>, place: u32) -> Result<(), Memory>
     requires { place < PLACE_LIMIT }
     ensures { OnOk result (text.new.items ≡ text.old.items ++ place_lines place) }
 {
@@ -75,7 +76,7 @@ fn add_place(text: &mut Vec<u8>, place: u32) -> Result<(), AllocError>
 }
 
 /// The netlist of an adder of so many places. The only error is that there is no memory.
-pub fn adder_text(alloc: Global, places: u32) -> Result<Vec<u8>, AllocError>
+pub fn adder_text(alloc: Global, places: u32) -> Result<Vec<u8>, Memory>
     requires { places ≤ PLACE_LIMIT }
     ensures text { IfOk result (λ text. text.items ≡ adder_text places) }
     ensures short { IfOk result (λ text. length text.items ≤ TEXT_LIMIT) }

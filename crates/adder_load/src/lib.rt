@@ -8,3 +8,4 @@ mod sampling;
 pub use adders::{PLACE_LIMIT, adder_text};
 pub use readings::note_readings;
 pub use sampling::{Found, sample};
+pub use std::alloc::AllocError as Memory;

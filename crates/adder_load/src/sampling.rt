@@ -4,8 +4,9 @@ ghost use Rattle.conditioner.specs.Models.{least_under, diagnoses_under, total_c
 ghost use Rattle.conditioner.specs.Words.{bits_of};
 ghost use Rattle.fault_graph.specs.Distilled.{Serves};
 
+use diagnosis_lister::Step;
 use fault_graph::Distiller;
-use minimiser::{Step, Steps, TOTAL_LIMIT};
+use minimiser::{Steps, TOTAL_LIMIT};
 use node_store::Graph;
 use std::sync::ledger::Ledger;
 
@@ -56,8 +57,8 @@ fn list_on<L: Ledger>(
     most
 }
 
-/// The least cost over a graph, and how many diagnoses there are, up to `most`, of which the first one and the last one are written
-/// into the states: 0 where a part is ok, and 1 where it is faulty. `None` where the graph allows no state.
+/// The least cost over a graph, and how many diagnoses there are, up to `most`. The first one and the last one are written
+/// into the states: 0 if a part is ok, and 1 if it is faulty. `None` if the graph allows no state.
 ///
 /// The words are the same afterwards.
 pub fn sample<L: Ledger>(

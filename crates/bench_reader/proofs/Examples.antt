@@ -1,9 +1,8 @@
 -- Worked rows: netlists of which a reader can say the device or the fault beforehand. Their check computes both sides.
-use Rattle.std.proofs.Common.{◌≡◌, ℕ, zero, suc, List, [], ◌∷◌, ◌++◌, codes, replicate, refl}
+use Rattle.std.proofs.Common.{◌≡◌, ℕ, zero, suc, List, [], ◌∷◌, ◌++◌, codes, refl}
 use Rattle.text_rules.specs.Names.{Name}
-use Rattle.device_model.specs.declared.component.Kind.TheVariants.{Gate as OfGate}
-use Rattle.device_model.specs.declared.gates.Gate.{Gate}
-use Rattle.device_model.specs.declared.gates.Gate.TheVariants.{And, Nand, Xor, Not, Buff}
+use Rattle.device_model.specs.declared.gates.Kind.{Kind}
+use Rattle.device_model.specs.declared.gates.Kind.TheVariants.{And, Nand, Not, Buff}
 use Rattle.device_model.specs.declared.component.Component.{Component}
 use Rattle.device_model.specs.Devices.{Device}
 use Rattle.std.specs.Prelude.{Result, Ok, Err}
@@ -36,8 +35,8 @@ more_of_a (suc n) = codes ",a" ++ more_of_a n
 abbrev gate_of_a : List ℕ → ℕ → List ℕ
 gate_of_a kind more = codes "y = " ++ kind ++ codes "(a" ++ more_of_a more
 
-abbrev part : List ℕ → Gate → List ℕ → Component
-part name gate ports = record { name = name; kind = OfGate gate; ports = ports }
+abbrev part : List ℕ → Kind → List ℕ → Component
+part name gate ports = record { name = name; kind = gate; ports = ports }
 
 abbrev device : List Component → List Name → Device
 device parts wires = record { parts = parts; wires = wires; tables = [] }
@@ -50,10 +49,6 @@ c17 : netlist (text (codes "# c17" ∷ codes "INPUT(1)" ∷ codes "INPUT(2)" ∷
     ∷ part (codes "19") Nand (2 ∷ 10 ∷ 4 ∷ []) ∷ part (codes "22") Nand (1 ∷ 3 ∷ 6 ∷ []) ∷ part (codes "23") Nand (3 ∷ 4 ∷ 7 ∷ []) ∷ [])
     (codes "1" ∷ codes "10" ∷ codes "11" ∷ codes "16" ∷ codes "19" ∷ codes "2" ∷ codes "22" ∷ codes "23" ∷ codes "3" ∷ codes "6" ∷ codes "7" ∷ []))
 c17 = refl
-
-chain : netlist (text (codes "INPUT(a)" ∷ codes "OUTPUT(c)" ∷ codes "b = BUFF(a)" ∷ codes "c = BUFF(b)" ∷ []))
-    ≡ Ok (device (part (codes "b") Buff (0 ∷ 1 ∷ []) ∷ part (codes "c") Buff (1 ∷ 2 ∷ []) ∷ []) (codes "a" ∷ codes "b" ∷ codes "c" ∷ []))
-chain = refl
 
 -- capital and small letters, blanks, a comment, a carriage return, lines in any order, and what may be said again
 loosely : netlist (text (codes "  c=buf ( b )#kept" ∷ (codes "oUtPuT( c )" ++ 13 ∷ []) ∷ codes "b = Not(a)" ∷ codes "input(a)" ∷ codes "INPUT (a)" ∷ codes "OUTPUT(c)" ∷ []))
@@ -72,17 +67,6 @@ reads_itself = refl
 comments_only : netlist (text (codes "# a" ∷ codes "  # b" ∷ [] ∷ [])) ≡ Ok (device [] [])
 comments_only = refl
 
-no_text : netlist [] ≡ Ok (device [] [])
-no_text = refl
-
-three_inputs : netlist (text (codes "INPUT(a)" ∷ codes "y = AND(a, a, a)" ∷ []))
-    ≡ Ok (device (part (codes "y") And (0 ∷ 0 ∷ 0 ∷ 1 ∷ []) ∷ []) (codes "a" ∷ codes "y" ∷ []))
-three_inputs = refl
-
-small_letters : netlist (text (codes "INPUT(a)" ∷ codes "INPUT(b)" ∷ codes "INPUT(c)" ∷ codes "y = xor(a, b, c)" ∷ []))
-    ≡ Ok (device (part (codes "y") Xor (0 ∷ 1 ∷ 2 ∷ 3 ∷ []) ∷ []) (codes "a" ∷ codes "b" ∷ codes "c" ∷ codes "y" ∷ []))
-small_letters = refl
-
 most_inputs : fault_of (codes "INPUT(a)" ∷ gate_of_a (codes "NOR") 63 ∷ []) ≡ []
 most_inputs = refl
 
@@ -91,30 +75,6 @@ most_inputs_of_xor = refl
 
 -- ---- faults
 
-undriven_input : fault_of (codes "INPUT(a)" ∷ codes "y = AND(a, b)" ∷ []) ≡ 2 ∷ 7 ∷ []
-undriven_input = refl
-
-undriven_output : fault_of (codes "OUTPUT(z)" ∷ []) ≡ 1 ∷ 7 ∷ []
-undriven_output = refl
-
-driven_twice : fault_of (codes "INPUT(a)" ∷ codes "y = NOT(a)" ∷ codes "y = BUFF(a)" ∷ []) ≡ 3 ∷ 6 ∷ []
-driven_twice = refl
-
-input_drives_a_gate : fault_of (codes "INPUT(a)" ∷ codes "y = NOT(a)" ∷ codes "INPUT(y)" ∷ []) ≡ 3 ∷ 6 ∷ []
-input_drives_a_gate = refl
-
-sequential : fault_of (codes "INPUT(a)" ∷ codes "q = DFF(a)" ∷ []) ≡ 2 ∷ 5 ∷ []
-sequential = refl
-
-two_inputs_of_not : fault_of (codes "INPUT(a)" ∷ codes "y = NOT(a, a)" ∷ []) ≡ 2 ∷ 4 ∷ []
-two_inputs_of_not = refl
-
-no_inputs : fault_of (codes "y = AND()" ∷ []) ≡ 1 ∷ 4 ∷ []
-no_inputs = refl
-
-one_input_too_many : fault_of (codes "INPUT(a)" ∷ gate_of_a (codes "NOR") 64 ∷ []) ≡ 2 ∷ 4 ∷ []
-one_input_too_many = refl
-
 one_input_of_xor_too_many : fault_of (codes "INPUT(a)" ∷ gate_of_a (codes "XOR") 64 ∷ []) ≡ 2 ∷ 4 ∷ []
 one_input_of_xor_too_many = refl
 
@@ -122,43 +82,7 @@ one_input_of_xor_too_many = refl
 no_inputs_of_a_flip_flop : fault_of (codes "q = DFF()" ∷ []) ≡ 1 ∷ 5 ∷ []
 no_inputs_of_a_flip_flop = refl
 
-unknown_kind : fault_of (codes "INPUT(a)" ∷ codes "y = MUX(a, a)" ∷ []) ≡ 2 ∷ 3 ∷ []
-unknown_kind = refl
-
-unfinished_line : shown (netlist (codes "INPUT(a)" ++ 10 ∷ codes "y = AND(a")) ≡ 2 ∷ 1 ∷ []
-unfinished_line = refl
-
--- the first fault of a line counts before one of the whole text
-order_of_faults : fault_of (codes "INPUT(a)" ∷ codes "y = AND(a, b)" ∷ codes "z = FOO(a)" ∷ []) ≡ 3 ∷ 3 ∷ []
-order_of_faults = refl
-
--- a signal that is driven twice counts before one that nothing drives, whatever the lines
-twice_before_undriven : fault_of (codes "OUTPUT(z)" ∷ codes "INPUT(a)" ∷ codes "a = NOT(a)" ∷ []) ≡ 3 ∷ 6 ∷ []
-twice_before_undriven = refl
-
--- the least fault of a line
-name_before_kind : fault_of ((codes "y" ++ 127 ∷ codes " = FOO(a)") ∷ []) ≡ 1 ∷ 2 ∷ []
-name_before_kind = refl
-
-long_name : fault_of ((codes "INPUT(" ++ replicate 65 97 ++ codes ")") ∷ []) ≡ 1 ∷ 2 ∷ []
-long_name = refl
-
-longest_name : fault_of ((codes "INPUT(" ++ replicate 64 97 ++ codes ")") ∷ []) ≡ []
-longest_name = refl
-
 -- ---- flip-flops taken
-
-flip_flop : with_flip_flops (codes "INPUT(d)" ∷ codes "q = DFF(d)" ∷ [])
-    ≡ Ok (device (part (codes "q") Buff (0 ∷ 1 ∷ []) ∷ []) (codes "d" ∷ codes "q" ∷ []))
-flip_flop = refl
-
--- a flip-flop and a gate that read each other
-flip_flop_in_a_cycle : with_flip_flops (codes "q = dff(n)" ∷ codes "n = NOT(q)" ∷ [])
-    ≡ Ok (device (part (codes "n") Not (1 ∷ 0 ∷ []) ∷ part (codes "q") Buff (0 ∷ 1 ∷ []) ∷ []) (codes "n" ∷ codes "q" ∷ []))
-flip_flop_in_a_cycle = refl
-
-two_inputs_of_a_flip_flop : shown (with_flip_flops (codes "INPUT(a)" ∷ codes "q = DFF(a, a)" ∷ [])) ≡ 2 ∷ 4 ∷ []
-two_inputs_of_a_flip_flop = refl
 
 no_inputs_of_a_taken_flip_flop : shown (with_flip_flops (codes "q = DFF()" ∷ [])) ≡ 1 ∷ 4 ∷ []
 no_inputs_of_a_taken_flip_flop = refl

@@ -8,12 +8,13 @@ use Rattle.std.proofs.lemmas.List.{length-map, length_push, map-append}
 use Rattle.std.proofs.lemmas.List.Folds.{list_all-append}
 use Rattle.std.proofs.lemmas.Simd.{map-map}
 use Rattle.text_rules.specs.Names.{Name, is_short_name, is_among}
-use Rattle.device_model.specs.declared.component.Kind.TheVariants.{Gate as OfGate}
-use Rattle.device_model.specs.declared.gates.Gate.{Gate as GateKind}
-use Rattle.device_model.specs.declared.gates.Gate.TheVariants.{Buff}
+use Rattle.device_model.specs.declared.gates.Kind.{Kind}
+use Rattle.device_model.specs.declared.gates.Kind.TheVariants.{Buff}
+use Rattle.device_model.specs.declared.gates.Rule.{Rule}
+use Rattle.device_model.specs.declared.gates.Rule.TheVariants.{Gate as OfGate, Table as OfTable}
 use Rattle.device_model.specs.declared.component.Component.{Component}
 use Rattle.device_model.specs.Devices.{part_names, takes_ports, has_arity, has_wires}
-use Rattle.device_model.specs.Gates.{takes}
+use Rattle.device_model.specs.Gates.{rule, takes, takes_inputs}
 use Rattle.device_model.specs.Building.{NamedPart, place_in, joined}
 use Rattle.device_model.proofs.Joining.{named, named-joined, joined-wired}
 use Rattle.bench_reader.specs.declared.kinds.FlipFlops.TheVariants.{Taken}
@@ -30,9 +31,9 @@ use Rattle.bench_reader.specs.inner.Steps.{is_faultless}
 
 pub record IsFaultlessGate (output : Name) (kind : NamedKind) (inputs : List Name) : Type 0 where
   pub named : is_short_name output ≡ true
-  pub gate : GateKind
+  pub gate : Kind
   pub meant : part_gate kind ≡ Some gate
-  pub taken : takes gate (length inputs) ≡ true
+  pub taken : takes_inputs (rule gate) (length inputs) ≡ true
 
 no_fault : (b : Bool) (fault : Option BenchFault) → is_none (if b then fault else Some NoName) ≡ true → (b ≡ true) × (is_none fault ≡ true)
 no_fault true fault h = (refl, h)
@@ -48,8 +49,8 @@ faultless_gate output kind inputs h =
     took false e = cc
 
     by : (m : NamedKind) → is_short_name output ≡ true → is_none (kind_fault Taken (length inputs) m) ≡ true → IsFaultlessGate output m inputs
-    by (Combinational gate) s f = record { named = s; gate = gate; meant = refl; taken = took (takes gate (length inputs)) f }
-    by Sequential s f = record { named = s; gate = Buff; meant = refl; taken = took (takes Buff (length inputs)) f }
+    by (Combinational gate) s f = record { named = s; gate = gate; meant = refl; taken = took (takes_inputs (rule gate) (length inputs)) f }
+    by Sequential s f = record { named = s; gate = Buff; meant = refl; taken = took (takes_inputs (rule Buff) (length inputs)) f }
     by Unknown s f = cc
 
 -- ---- one part
@@ -63,8 +64,9 @@ names-part_of (Input signal) h = refl
 names-part_of (Output signal) h = refl
 names-part_of (Gate output kind inputs) h = ap (λ k. named_names (option_to_list (option_map (part_over output inputs) k))) (faultless_gate output kind inputs h).meant
 
-takes_one_more : (gate : GateKind) (n : ℕ) → takes gate n ≡ true → takes_ports [] (OfGate gate) (n + 1) ≡ true
-takes_one_more gate n h = let same : n + 1 - 1 ≡ n = omega arith in ap (takes gate) same ∙ h
+takes_one_more : (r : Rule) (n : ℕ) → takes_inputs r n ≡ true → takes_ports [] r (n + 1) ≡ true
+takes_one_more (OfGate gate) n h = let same : n + 1 - 1 ≡ n = omega arith in ap (takes gate) same ∙ h
+takes_one_more (OfTable t) n h = cc
 
 module _ (wires : List Name) where
   -- a part of the right arity, over wires that are there
@@ -76,7 +78,7 @@ module _ (wires : List Name) where
   gate_fits output kind inputs gate there =
       let ports = length-map (inputs ++ output ∷ []) (place_in wires) ∙ length_push inputs output in
       ap (λ k. list_all fits (option_to_list (option_map (part_over output inputs) k))) gate.meant
-      ∙ and_from _ _ (and_from _ _ (ap (takes_ports [] (OfGate gate.gate)) ports ∙ takes_one_more gate.gate (length inputs) gate.taken) there) refl
+      ∙ and_from _ _ (and_from _ _ (ap (takes_ports [] (rule gate.gate)) ports ∙ takes_one_more (rule gate.gate) (length inputs) gate.taken) there) refl
 
   pub statement_fits : (s : Statement) → is_faultless s ≡ true → list_all (is_among wires) (driven_by_gate s) ≡ true → list_all (is_among wires) (used s) ≡ true
       → list_all fits (part_of s) ≡ true

@@ -6,8 +6,8 @@ use Rattle.std.proofs.lemmas.Bool.{and_parts}
 use Rattle.std.proofs.lemmas.Bool.Decides.{nat_tests, same_from_decides}
 use Rattle.std.proofs.lemmas.Slice.Eq.{bytes_eq-Decides}
 use Rattle.text_rules.specs.Names.{same_name}
-use Rattle.device_model.specs.declared.gates.Gate.{Gate}
-use Rattle.device_model.specs.Gates.{gate_row}
+use Rattle.device_model.specs.declared.gates.Kind.{Kind}
+use Rattle.device_model.specs.Gates.{word}
 use Rattle.bench_reader.specs.Statements.{capital, capitals}
 use Rattle.bench_reader.specs.inner.Lines.{is_capital}
 
@@ -46,5 +46,5 @@ spells_in_any_case-test test word keyword h e =
     (bytes_eq-Decides (capitals word) keyword)
 
 -- the words of gates are in capital letters
-pub capitals-gate_row : (gate : Gate) → list_all is_capital (gate_row gate).word ≡ true
-capitals-gate_row gate = grind arith
+pub capitals-kind : (kind : Kind) → list_all is_capital (word kind) ≡ true
+capitals-kind kind = grind arith

@@ -5,8 +5,7 @@ use Rattle.std.specs.Option.{option_to_list}
 use Rattle.text_rules.specs.Names.{Name}
 use Rattle.text_rules.specs.TextLines.{all_lines}
 use Rattle.device_model.specs.declared.limits.TheConstants.{PART_LIMIT, WIRE_LIMIT}
-use Rattle.device_model.specs.declared.component.Kind.TheVariants.{Gate as OfGate}
-use Rattle.device_model.specs.declared.gates.Gate.{Gate as GateKind}
+use Rattle.device_model.specs.declared.gates.Kind.{Kind}
 use Rattle.device_model.specs.Devices.{Device}
 use Rattle.device_model.specs.Building.{NamedPart, device_over}
 use Rattle.bench_reader.specs.declared.kinds.FlipFlops.{FlipFlops}
@@ -18,8 +17,8 @@ use Rattle.bench_reader.specs.Statements.{Statement, Gate, part_gate, reading}
 use Rattle.bench_reader.specs.Signals.{driven_by_gate, driven, driven_twice, undriven}
 
 -- the wires at its ports are its inputs and then its output
-abbrev pub part_over : Name → List Name → GateKind → NamedPart
-part_over output inputs gate = record { name = output; kind = OfGate gate; wires = inputs ++ output ∷ [] }
+abbrev pub part_over : Name → List Name → Kind → NamedPart
+part_over output inputs gate = record { name = output; kind = gate; wires = inputs ++ output ∷ [] }
 
 -- the part of a gate or of a flip-flop
 abbrev pub part_of : Statement → List NamedPart

@@ -4,9 +4,9 @@ use Rattle.std.specs.List.{list_any, list_all}
 use Rattle.text_rules.specs.Names.{Name, same_name, is_short_name, is_mark}
 use Rattle.text_rules.specs.TextLines.{uncommented}
 use Rattle.text_rules.specs.Tokens.{tokens}
-use Rattle.device_model.specs.declared.gates.Gate.{Gate as GateKind}
-use Rattle.device_model.specs.declared.gates.Gate.TheVariants.{Buff}
-use Rattle.device_model.specs.Gates.{takes, gate_named}
+use Rattle.device_model.specs.declared.gates.Kind.{Kind}
+use Rattle.device_model.specs.declared.gates.Kind.TheVariants.{Buff}
+use Rattle.device_model.specs.Gates.{rule, takes_inputs, gate_named}
 use Rattle.bench_reader.specs.declared.kinds.FlipFlops.{FlipFlops}
 use Rattle.bench_reader.specs.declared.kinds.FlipFlops.TheVariants.{Refused}
 use Rattle.bench_reader.specs.declared.kinds.NamedKind.{NamedKind}
@@ -30,7 +30,7 @@ capitals word = map capital word
 
 -- The word of a gate names that gate. `BUF` is another word for a buffer, and `DFF` is the word of a flip-flop, which keeps its
 -- value for a time.
-abbrev pub gate_or_other : Name → Option GateKind → NamedKind
+abbrev pub gate_or_other : Name → Option Kind → NamedKind
 gate_or_other word (Some gate) = Combinational gate
 gate_or_other word None =
     if same_name word (codes "BUF") then Combinational Buff else if same_name word (codes "DFF") then Sequential else Unknown
@@ -80,15 +80,15 @@ statement_of tokens = None
 -- ---- faults
 
 -- the gate that a part is: a flip-flop is a buffer
-abbrev pub part_gate : NamedKind → Option GateKind
+abbrev pub part_gate : NamedKind → Option Kind
 part_gate (Combinational gate) = Some gate
 part_gate Sequential = Some Buff
 part_gate Unknown = None
 
 -- a kind that is not known, or a number of inputs that it does not take
-abbrev pub inputs_fault : ℕ → Option GateKind → Option BenchFault
+abbrev pub inputs_fault : ℕ → Option Kind → Option BenchFault
 inputs_fault inputs None = Some NoKind
-inputs_fault inputs (Some gate) = if takes gate inputs then None else Some WrongInputs
+inputs_fault inputs (Some gate) = if takes_inputs (rule gate) inputs then None else Some WrongInputs
 
 -- A flip-flop that is refused is told whatever its inputs; one that is taken has those of a buffer.
 abbrev pub kind_fault : FlipFlops → ℕ → NamedKind → Option BenchFault

@@ -13,7 +13,7 @@ ghost use Rattle.bench_reader.specs.inner.Steps.{signals_in, is_faultless, AreFa
 use crate::fault::BenchError;
 use crate::signals::Signals;
 use crate::statement::{Inputs, NumberedStatement, Statement, has_no_mark};
-use device_model::{BuildError, Component, Device, Kind, Name, WIRE_LIMIT, Wires};
+use device_model::{BuildError, Component, Device, Name, WIRE_LIMIT, Wires};
 use std::alloc::{AllocError, Global};
 
 // The place of the wire of a driven signal.
@@ -64,16 +64,12 @@ fn part_of(
     else {
         return Ok(None);
     };
-    let Some(gate) = kind.part_gate() else {
+    let Some(kind) = kind.part_gate() else {
         return Ok(None);
     };
     let name = Name::new(alloc, output)?;
     let ports = ports_of(alloc, signals, inputs, output)?;
-    Ok(Some(Component {
-        name,
-        kind: Kind::Gate(gate),
-        ports,
-    }))
+    Ok(Some(Component { name, kind, ports }))
 }
 
 fn parts_of(

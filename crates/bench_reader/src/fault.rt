@@ -4,7 +4,7 @@ ghost use Rattle.bench_reader.specs.declared.fault.BenchError.TheVariants.{Memor
 
 use std::alloc::{AllocError, AllocFailed};
 
-/// What is wrong in a netlist. The first line with one of the first five is told, by its first one; where no line has one,
+/// What is wrong in a netlist. The first line with one of the first five counts, with its first one; if no line has one,
 /// the first line with `DrivenTwice`, then the first with `Undriven`, and at last `TooMany`.
 #[derive(Clone, Copy, Debug, PartialEq, Eq)]
 pub enum BenchFault {
@@ -34,7 +34,7 @@ impl BenchFault {
         self.row().0
     }
 
-    /// The name of the fault, as it is told.
+    /// The name of the fault, as it is printed.
     pub fn name(self) -> &'static str
         ensures { result.now ≡ (fault_row self).1 }
     {

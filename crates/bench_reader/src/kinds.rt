@@ -5,7 +5,7 @@ ghost use Rattle.device_model.specs.Gates.{gate_named};
 ghost use Rattle.bench_reader.specs.Statements.{capitals, kind_named, part_gate};
 ghost use Rattle.bench_reader.specs.inner.Lines.{is_capital};
 
-use device_model::Gate;
+use device_model::Kind;
 
 /// Whether flip-flops are taken.
 #[derive(Clone, Copy, Debug, PartialEq, Eq)]
@@ -20,7 +20,7 @@ pub enum FlipFlops {
 #[derive(Clone, Copy, Debug, PartialEq, Eq)]
 pub enum NamedKind {
     /// A gate, whose output follows its inputs at once.
-    Combinational(Gate),
+    Combinational(Kind),
     /// A flip-flop, which keeps its value from one time to the next.
     Sequential,
     Unknown,
@@ -28,12 +28,12 @@ pub enum NamedKind {
 
 impl NamedKind {
     /// The gate that the part is: a flip-flop is a buffer.
-    pub fn part_gate(self) -> Option<Gate>
+    pub fn part_gate(self) -> Option<Kind>
         ensures { result ≡ part_gate self }
     {
         match self {
             NamedKind::Combinational(gate) => Some(gate),
-            NamedKind::Sequential => Some(Gate::Buff),
+            NamedKind::Sequential => Some(Kind::Buff),
             NamedKind::Unknown => None,
         }
     }
@@ -48,10 +48,10 @@ pub fn spells_in_any_case(word: &[u8], keyword: &[u8]) -> bool
 }
 
 // The gate that a word names, in capital letters, small letters or both.
-fn gate_spelled(word: &[u8]) -> Option<Gate>
+fn gate_spelled(word: &[u8]) -> Option<Kind>
     ensures { result ≡ gate_named (capitals word.now) }
 {
-    for gate in Gate::ALL {
+    for gate in Kind::GATES {
         if spells_in_any_case(word, gate.word()) {
             return Some(gate);
         }
@@ -66,7 +66,7 @@ pub fn kind_named(word: &[u8]) -> NamedKind
     if let Some(gate) = gate_spelled(word) {
         NamedKind::Combinational(gate)
     } else if spells_in_any_case(word, b"BUF") {
-        NamedKind::Combinational(Gate::Buff)
+        NamedKind::Combinational(Kind::Buff)
     } else if spells_in_any_case(word, b"DFF") {
         NamedKind::Sequential
     } else {

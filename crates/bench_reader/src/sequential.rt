@@ -16,7 +16,7 @@ use indexmap::IndexSet;
 use std::alloc::{AllocError, Global};
 use text_rules::TEXT_LIMIT;
 
-/// A netlist with flip-flops, each of which puts out at a time what its input was at the time before.
+/// A netlist with flip-flops. Each puts out at a time what its input was at the time before.
 #[derive(Drop)]
 pub struct Sequential {
     /// Its parts are the gates and the flip-flops, which are buffers.

@@ -25,7 +25,7 @@ pub enum Statement<'a> {
     },
 }
 
-/// The inputs of a gate: what stands in its line behind the opening bracket. It is cut again wherever they are read, so that a
+/// The inputs of a gate: what follows the opening bracket in its line. It is cut again wherever they are read, so that a
 /// line takes no memory of its own.
 #[derive(Clone, Copy)]
 pub struct Inputs<'a> {
@@ -198,7 +198,7 @@ fn kind_fault(flip_flops: FlipFlops, kind: NamedKind, inputs: usize) -> Option<B
     }
     match kind.part_gate() {
         None => Some(BenchFault::Kind),
-        Some(gate) => (!gate.takes(inputs)).then_some(BenchFault::Inputs),
+        Some(gate) => (!gate.takes_inputs(inputs)).then_some(BenchFault::Inputs),
     }
 }
 

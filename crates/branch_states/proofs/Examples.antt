@@ -1,9 +1,8 @@
 -- The worked examples of orders, living lists, states, forks and sums.
-use Rattle.std.proofs.Common.{◌≡◌, ℕ, ◌∷◌, [], List, Option, Some, None, map, length, refl, true, false, pos, negsuc}
+use Rattle.std.proofs.Common.{◌≡◌, ℕ, ◌∷◌, [], List, Some, None, map, length, refl, true, false, pos, negsuc}
 use Rattle.clause_encoder.specs.Clauses.{Clause}
-use Rattle.branch_states.specs.Branches.{order, living, state_of, sum_of, is_dead, left}
-use Rattle.branch_states.specs.declared.forks.Fork.{Fork}
-use Rattle.branch_states.specs.Forks.{forks_of}
+use Rattle.elimination_forests.specs.Branches.{order, living, state_of, sum_of, is_dead, left}
+use Rattle.elimination_forests.specs.Levels.{leads_to}
 
 -- ---- an inverter: variable 1 is its health, 2 its input and 3 its output
 
@@ -37,12 +36,9 @@ dead-inverter = refl
 pub states-inverter-2 : map (state_of inverter 2) (living inverter 2) ≡ (0 ∷ []) ∷ (1 ∷ []) ∷ (2 ∷ []) ∷ []
 states-inverter-2 = refl
 
-abbrev fork : Option ℕ → Option ℕ → Fork
-fork to_zero to_one = record { zero = to_zero; one = to_one }
-
 -- The output may be anything where no clause is left, and otherwise one of its bits makes the clause that is left true.
-pub forks-inverter-2 : forks_of inverter 2 ≡ fork (Some 0) (Some 0) ∷ fork None (Some 0) ∷ fork (Some 0) None ∷ []
-forks-inverter-2 = refl
+pub leads-inverter-2 : map (λ list. leads_to inverter 2 list false) (living inverter 2) ≡ Some 0 ∷ None ∷ Some 0 ∷ []
+leads-inverter-2 = refl
 
 -- 1 + 2 + 3 + 1
 pub sum-inverter : sum_of inverter ≡ 7

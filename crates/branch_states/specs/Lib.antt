@@ -1,3 +1,2 @@
 pub mod Branches
-pub mod Forks
 pub mod inner

@@ -1,49 +1,46 @@
 ghost use Rattle.std.specs.Prelude.{◌≡◌, ◌<◌, ◌≤◌, ◌+◌, ◌-◌, ◌/◌, true, not, List, Bool, length, slice_index, IfOk};
 ghost use Rattle.std.specs.Bool.{OnTrue};
 ghost use Rattle.clause_encoder.specs.Clauses.{is_clause_list};
-ghost use Rattle.branch_states.specs.Branches.{order, size, is_dead, branch, state_of, IsLiving};
+ghost use Rattle.elimination_forests.specs.Branches.{order, size, is_dead, branch, state_of, IsLiving};
 ghost use Rattle.clause_encoder.specs.declared.limits.TheConstants.{CLAUSE_LIMIT};
 
+use crate::Memory;
 use crate::order::find_order;
-use crate::spans::find_walks;
-use crate::walks::Walks;
-use clause_encoder::Cnf;
-use std::alloc::{AllocError, Global};
+use crate::stepping::{count_open, step_over};
+use clause_encoder::{Clause, Cnf};
+use indexmap::IndexSet;
+use std::alloc::Global;
 use std::marker::Model;
 
 /// A clause list and a level of it: at level i the first i variables of the order have bits.
 #[derive(Drop)]
-pub struct Branches<'a> {
-    cnf: &'a Cnf,
-    variables: Vec<u32>,
-    // what happens to clauses at the next variable, at each level
-    walks: Walks,
+pub struct Branches {
+    cnf: Cnf,
+    variables: IndexSet<u32>,
     level: u32,
 }
 
-impl<'a> Model for Branches<'a> {
-    ghost use Rattle.branch_states.specs.Branches.{Standing};
+impl Model for Branches {
+    ghost use Rattle.elimination_forests.specs.Branches.{Standing};
     ghost use Rattle.branch_states.specs.inner.Steps.{IsKept};
 
     ghost Value = { Standing };
 
-    ghost view = { λ b. record { cnf = b.cnf.now; level = b.level } };
+    ghost view = { λ b. record { cnf = b.cnf; level = b.level } };
 
-    ghost invariant = { λ b. IsKept b.cnf.now b.level b.variables.items b.walks };
+    ghost invariant = { λ b. IsKept b.cnf b.level b.variables.keys };
 }
 
-impl<'a> Branches<'a> {
+impl Branches {
     /// The order of a clause list's variables; level 0.
-    pub fn of(alloc: Global, cnf: &'a Cnf) -> Result<Branches<'a>, AllocError>
+    pub fn of(alloc: Global, cnf: &Cnf) -> Result<Branches, Memory>
         ensures start { IfOk result (λ b. b ≡ record { cnf = cnf.now; level = 0 }) }
         ensures valid { IfOk result (λ _. is_clause_list cnf.now ≡ true) }
     {
-        let order = find_order(alloc, cnf)?;
-        let walks = find_walks(alloc, cnf, &order.variables, &order.places)?;
+        let variables = find_order(alloc, cnf)?;
         Ok(Branches {
-            cnf,
-            variables: order.variables,
-            walks,
+            cnf: copy_of(alloc, cnf)?,
+            variables,
             level: 0,
         })
     }
@@ -70,7 +67,7 @@ impl<'a> Branches<'a> {
         requires { self.now.level < length (order self.now.cnf.clauses) }
         ensures { result ≡ slice_index (order self.now.cnf.clauses) self.now.level }
     {
-        self.variables[self.level as usize]
+        self.variables.as_slice()[self.level as usize]
     }
 
     /// How many words of 64 bits a state of the present level has.
@@ -78,7 +75,7 @@ impl<'a> Branches<'a> {
         ensures words { result ≡ size self.now.cnf.clauses self.now.level }
         ensures few { result ≤ CLAUSE_LIMIT / 64 + 1 }
     {
-        words_for(self.walks.opened(self.level))
+        words_for(count_open(&self.cnf, &self.variables, self.level))
     }
 
     /// How many a state of the next level has.
@@ -87,7 +84,7 @@ impl<'a> Branches<'a> {
         ensures words { result ≡ size self.now.cnf.clauses (self.now.level + 1) }
         ensures few { result ≤ CLAUSE_LIMIT / 64 + 1 }
     {
-        words_for(self.walks.opened(self.level + 1))
+        words_for(count_open(&self.cnf, &self.variables, self.level + 1))
     }
 
     /// Goes to the next level.
@@ -108,8 +105,10 @@ impl<'a> Branches<'a> {
 
     /// What is left when the next variable has a bit: `next` becomes the state of that list, unless the list is dead.
     ///
-    /// The state is that of a living list of the present level. Where the list that is left is dead, `next` may be anything.
-    pub fn step(&self, state: &[u64], bit: bool, next: &mut [u64]) -> bool
+    /// The clauses are those of `of`, and the state is that of a living list of the present level. If the list that is left is dead,
+    /// `next` may be anything.
+    pub fn step(&self, cnf: &Cnf, state: &[u64], bit: bool, next: &mut [u64]) -> bool
+        requires cnf { cnf.now ≡ self.now.cnf }
         requires level { self.now.level < length (order self.now.cnf.clauses) }
         requires state { length state.now ≡ size self.now.cnf.clauses self.now.level }
         requires next { length next.old ≡ size self.now.cnf.clauses (self.now.level + 1) }
@@ -122,8 +121,27 @@ impl<'a> Branches<'a> {
             → OnTrue result (next.new ≡ state_of self.now.cnf.clauses (self.now.level + 1)
             (branch self.now.cnf.clauses self.now.level list bit)) }
     {
-        self.walks.step(self.level, bit, state, next)
+        step_over(
+            cnf,
+            &self.variables,
+            self.level,
+            self.var(),
+            bit,
+            state,
+            next,
+        )
     }
+}
+
+// The same clauses.
+fn copy_of(alloc: Global, cnf: &Cnf) -> Result<Cnf, Memory>
+    ensures { IfOk result (λ copy. copy ≡ cnf.now) }
+{
+    let mut clauses = Vec::with_capacity(alloc, cnf.len() as usize)?;
+    for at in 0..cnf.len() {
+        clauses.push(Clause::new(alloc, cnf.clause(at))?)?;
+    }
+    Cnf::of(alloc, cnf.vars(), clauses)
 }
 
 // How many words hold so many bits.

@@ -1,20 +1,15 @@
-//! What is left of clauses when their variables get bits one after the other: the states that a compiler goes through, and how many there are.
+//! What is left of clauses when their variables get bits one after the other, by the order of the names: the states, and how many there are.
 #![tactic(auto)]
 
 mod bits;
 mod branches;
-mod counts;
+mod clauses;
 mod descent;
-mod forks;
-mod levels;
 mod measuring;
 mod order;
-mod spans;
-mod states;
-mod walk;
-mod walks;
+mod stepping;
 
 pub use branches::Branches;
-pub use descent::Descent;
-pub use forks::Fork;
+pub use descent::{Levels, descend_levels};
 pub use measuring::{BUDGET_LIMIT, MeasureError, measure};
+pub use std::alloc::AllocError as Memory;

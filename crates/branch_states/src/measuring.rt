@@ -1,15 +1,17 @@
-ghost use Rattle.std.specs.Prelude.{◌≡◌, ◌<◌, ◌≤◌, IfOk};
-ghost use Rattle.branch_states.specs.Branches.{sum_of};
+ghost use Rattle.std.specs.Prelude.{◌≡◌, ◌<◌, ◌≤◌, ◌+◌, ◌^◌, None, IfOk, IfSome, if◌then◌else◌};
+ghost use Rattle.elimination_forests.specs.Branches.{sum_of};
 ghost use Rattle.branch_states.specs.declared.measuring.MeasureError.TheVariants.{Above, Memory};
 
-use crate::descent::Descent;
+use crate::order::find_steps;
 use clause_encoder::Cnf;
+use elimination_forests::Weight;
+use forest_states::{Measured, measure_along};
 use std::alloc::{AllocError, Global};
 
-/// The largest budget: no greater sum is ever told.
+/// The largest budget: no greater sum is ever printed.
 pub const BUDGET_LIMIT: u32 = 8_388_608;
 
-/// Why the sum of a clause list is not told.
+/// Why the sum of a clause list is not given.
 #[derive(Clone, Copy, Debug, PartialEq, Eq)]
 pub enum MeasureError {
     /// It is above the limit.
@@ -37,9 +39,28 @@ pub fn measure(alloc: Global, cnf: &Cnf, top: u32) -> Result<u32, MeasureError>
     ensures within { IfOk result (λ sum. sum ≤ top) }
     ensures above { result ≡ Err Above → top < sum_of cnf.now.clauses }
 {
-    let mut descent = Descent::begin(alloc, cnf, top)?;
-    for _level in 0..descent.left() {
-        descent.go_down(alloc)?;
+    let steps = find_steps(alloc, cnf)?;
+    let Some(found) = measure_along(alloc, cnf, &steps, Weight::Words, top + 1)? else {
+        return Err(MeasureError::Above);
+    };
+    match sum_within(found, top) {
+        Some(sum) => Ok(sum),
+        None => Err(MeasureError::Above),
     }
-    Ok(descent.sum())
+}
+
+// The sum of the levels, if it is within the limit, by that along their forest. This counts one list for the last level, whether there is
+// one or not.
+pub(crate) fn sum_within(found: Measured, top: u32) -> Option<u32>
+    requires some { 1 ≤ found.sum }
+    requires few { found.sum < 2 ^ 31 }
+    ensures sum { IfSome result (λ sum. found.sum + (if found.leads_on then 1 else 0) ≡ 1 + sum) }
+    ensures within { IfSome result (λ sum. sum ≤ top) }
+    ensures above { result ≡ None → 1 + top < found.sum + (if found.leads_on then 1 else 0) }
+{
+    let sum = found.sum - 1 + u32::from(found.leads_on);
+    if top < sum {
+        return None;
+    }
+    Some(sum)
 }

@@ -8,14 +8,14 @@ use Rattle.std.proofs.lemmas.List.{length-map, map-append, take-map, drop-map, g
 use Rattle.std.proofs.lemmas.List.Folds.{list_all-append}
 use Rattle.state_rules.specs.Bits.{same_bit, bit_in, has_odd_ones}
 use Rattle.state_rules.specs.Assignments.{Assignment}
-use Rattle.device_model.specs.declared.component.Kind.{Kind}
-use Rattle.device_model.specs.declared.component.Kind.TheVariants.{Gate as OfGate, Table}
+use Rattle.device_model.specs.declared.gates.Rule.{Rule}
+use Rattle.device_model.specs.declared.gates.Rule.TheVariants.{Gate as OfGate, Table as OfTable}
 use Rattle.device_model.specs.declared.gates.Gate.{Gate}
 use Rattle.device_model.specs.declared.gates.Reduction.{Reduction}
 use Rattle.device_model.specs.declared.gates.Reduction.TheVariants.{AllOnes, AnyOne, OddOnes}
 use Rattle.device_model.specs.TruthTable.{TruthTable}
 use Rattle.device_model.specs.Devices.{gate_allows, any_table_allows, allows, takes_ports, rows_take}
-use Rattle.device_model.specs.Gates.{gate_row, takes, reduced, gate_value}
+use Rattle.device_model.specs.Gates.{takes, reduced, gate_value}
 use Rattle.clause_encoder.specs.Clauses.{is_true_clause, all_hold}
 use Rattle.clause_encoder.specs.Encoding.{gate_clauses, and_step, xor_step, step_clauses, chain_clauses, wide_clauses, is_wide, any_gate_clauses, inner_count, table_clauses, raw_clauses}
 use Rattle.clause_encoder.proofs.Literals.{lit-literal}
@@ -128,17 +128,17 @@ output_is a h y value = not (a h) || same_bit (a y) value
 
 module _ (a : Assignment) (gate : Gate) (h last y : ℕ) (hh : 1 ≤ h) (hl : 1 ≤ last) (hy : 1 ≤ y) where
   chain-settles : (xs : List ℕ) (z before : ℕ) → 1 ≤ z → 1 ≤ before → AllPositive xs
-      → Settles a z (chain_clauses gate h last y z before xs) (chain_bits (gate_row gate).reduction (a before) (map a xs))
-      (output_is a h y (gate_value gate (chain_end (gate_row gate).reduction (a before) (map a xs) ∷ a last ∷ [])))
+      → Settles a z (chain_clauses gate h last y z before xs) (chain_bits gate.reduction (a before) (map a xs))
+      (output_is a h y (gate_value gate (chain_end gate.reduction (a before) (map a xs) ∷ a last ∷ [])))
   chain-settles [] z before hz hb hs = gate-holds a h (before ∷ last ∷ []) y hh hy (hb, (hl, tt)) gate
   chain-settles (x ∷ xs) z before hz hb hs =
-      list_all-append (is_true_clause a) (step_clauses (gate_row gate).reduction z before x) (chain_clauses gate h last y (z + 1) z xs)
-      ∙ (λ i. step-holds a z before x hz hb hs.0 (gate_row gate).reduction i && chain-settles xs (z + 1) z (omega arith) hz hs.1 i)
-      ∙ settled (step_value (gate_row gate).reduction (a before) (a x)) (a z)
-      (λ b. has_bits a (z + 1) (chain_bits (gate_row gate).reduction b (map a xs)) && output_is a h y (gate_value gate (chain_end (gate_row gate).reduction b (map a xs) ∷ a last ∷ [])))
-      ∙ sym (and_assoc (same_bit (step_value (gate_row gate).reduction (a before) (a x)) (a z))
-      (has_bits a (z + 1) (chain_bits (gate_row gate).reduction (step_value (gate_row gate).reduction (a before) (a x)) (map a xs)))
-      (output_is a h y (gate_value gate (chain_end (gate_row gate).reduction (step_value (gate_row gate).reduction (a before) (a x)) (map a xs) ∷ a last ∷ []))))
+      list_all-append (is_true_clause a) (step_clauses gate.reduction z before x) (chain_clauses gate h last y (z + 1) z xs)
+      ∙ (λ i. step-holds a z before x hz hb hs.0 gate.reduction i && chain-settles xs (z + 1) z (omega arith) hz hs.1 i)
+      ∙ settled (step_value gate.reduction (a before) (a x)) (a z)
+      (λ b. has_bits a (z + 1) (chain_bits gate.reduction b (map a xs)) && output_is a h y (gate_value gate (chain_end gate.reduction b (map a xs) ∷ a last ∷ [])))
+      ∙ sym (and_assoc (same_bit (step_value gate.reduction (a before) (a x)) (a z))
+      (has_bits a (z + 1) (chain_bits gate.reduction (step_value gate.reduction (a before) (a x)) (map a xs)))
+      (output_is a h y (gate_value gate (chain_end gate.reduction (step_value gate.reduction (a before) (a x)) (map a xs) ∷ a last ∷ []))))
 
 -- the end of the chain and the last input give what all inputs give
 chain_end-reduced : (reduction : Reduction) (bits : List Bool) (b c : Bool)
@@ -167,11 +167,11 @@ AllPositive-drop (suc n) [] h = tt
 AllPositive-drop (suc n) (v ∷ vs) h = AllPositive-drop n vs h.1
 
 module _ (a : Assignment) (gate : Gate) (h z : ℕ) (xs : List ℕ) (y : ℕ) (hh : 1 ≤ h) (hz : 1 ≤ z) (hy : 1 ≤ y) (hs : AllPositive xs) where
-  wide-settles : 5 ≤ length xs → Settles a z (wide_clauses gate h z xs y) (wide_bits (gate_row gate).reduction (map a xs)) (output_is a h y (gate_value gate (map a xs)))
+  wide-settles : 5 ≤ length xs → Settles a z (wide_clauses gate h z xs y) (wide_bits gate.reduction (map a xs)) (output_is a h y (gate_value gate (map a xs)))
   wide-settles wide =
       chain-settles a gate h last y hh (AllPositive-at xs (length xs - 1) hs (omega arith)) hy middle z first hz (AllPositive-at xs 0 hs (omega arith))
       (AllPositive-take (length xs - 1 - 1) (drop 1 xs) (AllPositive-drop 1 xs hs))
-      ∙ (λ i. has_bits a z (chain_bits (gate_row gate).reduction (first_is i) (middle_is i)) && output_is a h y (value i)) where
+      ∙ (λ i. has_bits a z (chain_bits gate.reduction (first_is i) (middle_is i)) && output_is a h y (value i)) where
         first : ℕ
         first = get_or xs 0 0
 
@@ -188,8 +188,8 @@ module _ (a : Assignment) (gate : Gate) (h z : ℕ) (xs : List ℕ) (y : ℕ) (h
         middle_is = sym (take-map a (length xs - 1 - 1) (drop 1 xs))
             ∙ (λ i. take (sym (length-map xs a) i - 1 - 1) (sym (drop-map a 1 xs) i))
 
-        value : gate_value gate (chain_end (gate_row gate).reduction (a first) (map a middle) ∷ a last ∷ []) ≡ gate_value gate (map a xs)
-        value = ap (same_bit (gate_row gate).positive) (chain_end-reduced (gate_row gate).reduction (map a middle) (a first) (a last))
+        value : gate_value gate (chain_end gate.reduction (a first) (map a middle) ∷ a last ∷ []) ≡ gate_value gate (map a xs)
+        value = ap (same_bit gate.positive) (chain_end-reduced gate.reduction (map a middle) (a first) (a last))
             ∙ ap (λ bits. gate_value gate (a first ∷ bits)) (sym (map-append a middle (last ∷ [])))
             ∙ ap (λ vs. gate_value gate (map a vs)) (ends xs (omega arith))
 
@@ -200,13 +200,13 @@ abbrev pub gate_bits : Reduction → List Bool → List Bool
 gate_bits reduction bits = if is_wide (length bits) then wide_bits reduction bits else []
 
 pub any_gate-settles : (a : Assignment) (gate : Gate) (h z : ℕ) (xs : List ℕ) (y : ℕ) → 1 ≤ h → 1 ≤ z → 1 ≤ y → AllPositive xs
-    → Settles a z (any_gate_clauses gate h z xs y) (gate_bits (gate_row gate).reduction (map a xs)) (output_is a h y (gate_value gate (map a xs)))
+    → Settles a z (any_gate_clauses gate h z xs y) (gate_bits gate.reduction (map a xs)) (output_is a h y (gate_value gate (map a xs)))
 any_gate-settles a gate h z xs y hh hz hy hs =
     by_width (is_wide (length xs)) refl
-    ∙ ap (λ n. has_bits a z (if is_wide n then wide_bits (gate_row gate).reduction (map a xs) else []) && output_is a h y (gate_value gate (map a xs))) (sym (length-map xs a)) where
+    ∙ ap (λ n. has_bits a z (if is_wide n then wide_bits gate.reduction (map a xs) else []) && output_is a h y (gate_value gate (map a xs))) (sym (length-map xs a)) where
       by_width : (w : Bool) → is_wide (length xs) ≡ w
           → all_hold a (if w then wide_clauses gate h z xs y else gate_clauses gate h xs y)
-          ≡ (has_bits a z (if w then wide_bits (gate_row gate).reduction (map a xs) else []) && output_is a h y (gate_value gate (map a xs)))
+          ≡ (has_bits a z (if w then wide_bits gate.reduction (map a xs) else []) && output_is a h y (gate_value gate (map a xs)))
       by_width true wide = wide-settles a gate h z xs y hh hz hy hs (omega (arith, ltb-true 4 (length xs) wide))
       by_width false narrow = gate-holds a h xs y hh hy hs gate
 
@@ -226,31 +226,31 @@ length-gate_bits reduction bits ports long = by_width (is_wide (length bits)) re
   by_width false narrow = refl
 
 -- the bits of the inner variables of a part, by those of its ports
-abbrev pub inner_bits : Kind → List Bool → List Bool
-inner_bits (Table t) row = []
-inner_bits (OfGate gate) row = gate_bits (gate_row gate).reduction (take (length row - 1) row)
+abbrev pub inner_bits : Rule → List Bool → List Bool
+inner_bits (OfTable t) row = []
+inner_bits (OfGate gate) row = gate_bits gate.reduction (take (length row - 1) row)
 
-pub length-inner_bits : (kind : Kind) (row : List Bool) → length (inner_bits kind row) ≡ inner_count kind (length row)
-length-inner_bits (Table t) row = refl
+pub length-inner_bits : (rule : Rule) (row : List Bool) → length (inner_bits rule row) ≡ inner_count rule (length row)
+length-inner_bits (OfTable t) row = refl
 length-inner_bits (OfGate gate) row =
-    length-gate_bits (gate_row gate).reduction (take (length row - 1) row) (length row) (length-take-le (length row - 1) row (omega arith))
+    length-gate_bits gate.reduction (take (length row - 1) row) (length row) (length-take-le (length row - 1) row (omega arith))
 
--- ---- a part of any kind
+-- ---- a part of any rule
 
 -- the last port of a gate is its output
 ports-settle : (a : Assignment) (gate : Gate) (h z : ℕ) (ports : List ℕ) → 1 ≤ h → 1 ≤ z → AllPositive ports → takes gate (length ports - 1) ≡ true
     → Settles a z (any_gate_clauses gate h z (take (length ports - 1) ports) (get_or ports (length ports - 1) 0))
-    (gate_bits (gate_row gate).reduction (take (length (map a ports) - 1) (map a ports))) (gate_allows gate (a h) (map a ports))
+    (gate_bits gate.reduction (take (length (map a ports) - 1) (map a ports))) (gate_allows gate (a h) (map a ports))
 ports-settle a gate h z ports hh hz hs e =
     any_gate-settles a gate h z (take inputs ports) (get_or ports inputs 0) hh hz (AllPositive-at ports inputs hs within) (AllPositive-take inputs ports hs)
     ∙ (λ i. says (output i) (sym (take-map a inputs ports) i))
     ∙ (λ i. says (bit_in (map a ports) (sym (length-map ports a) i - 1)) (take (sym (length-map ports a) i - 1) (map a ports)))
-    ∙ ap (λ b. has_bits a z (gate_bits (gate_row gate).reduction (take (length (map a ports) - 1) (map a ports))) && b) (gate_allows-says gate (a h) (map a ports)) where
+    ∙ ap (λ b. has_bits a z (gate_bits gate.reduction (take (length (map a ports) - 1) (map a ports))) && b) (gate_allows-says gate (a h) (map a ports)) where
       inputs : ℕ
       inputs = length ports - 1
 
       says : Bool → List Bool → Bool
-      says out bits = has_bits a z (gate_bits (gate_row gate).reduction bits) && (not (a h) || same_bit out (gate_value gate bits))
+      says out bits = has_bits a z (gate_bits gate.reduction bits) && (not (a h) || same_bit out (gate_value gate bits))
 
       within : inputs < length ports
       within = omega (arith, takes-some gate (length ports - 1) e)
@@ -259,10 +259,10 @@ ports-settle a gate h z ports hh hz hs e =
       output = sym (get_or-map a ports inputs 0 false within)
 
 -- The clauses of a part settle its inner variables, and are true besides exactly where the part allows the bits of its ports.
-pub raw-settles : (a : Assignment) (tables : List TruthTable) (kind : Kind) (h z : ℕ) (ports : List ℕ) → 1 ≤ h → 1 ≤ z → AllPositive ports
-    → takes_ports tables kind (length ports) ≡ true
-    → Settles a z (raw_clauses tables kind h z ports) (inner_bits kind (map a ports)) (allows tables kind (a h) (map a ports))
-raw-settles a tables (Table t) h z ports hh hz hs e = by_rows (slice_get tables t) e where
+pub raw-settles : (a : Assignment) (tables : List TruthTable) (rule : Rule) (h z : ℕ) (ports : List ℕ) → 1 ≤ h → 1 ≤ z → AllPositive ports
+    → takes_ports tables rule (length ports) ≡ true
+    → Settles a z (raw_clauses tables rule h z ports) (inner_bits rule (map a ports)) (allows tables rule (a h) (map a ports))
+raw-settles a tables (OfTable t) h z ports hh hz hs e = by_rows (slice_get tables t) e where
   by_rows : (rows : Option TruthTable) → rows_take rows (length ports) ≡ true → all_hold a (table_clauses rows h ports) ≡ any_table_allows rows (a h) (map a ports)
   by_rows None e = absurd (false≢true e)
   by_rows (Some rows) e = table-holds a rows h ports hh hs

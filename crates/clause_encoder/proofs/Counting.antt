@@ -15,11 +15,10 @@ use Rattle.device_model.specs.declared.component.Component.{Component}
 use Rattle.device_model.specs.declared.limits.TheConstants.{INPUT_LIMIT}
 use Rattle.device_model.specs.TruthTable.{TruthTable, is_table}
 use Rattle.device_model.specs.Devices.{Device}
-use Rattle.device_model.specs.Gates.{gate_row, takes}
+use Rattle.device_model.specs.Gates.{takes, rule}
 use Rattle.clause_encoder.specs.Clauses.{literal}
 use Rattle.clause_encoder.specs.Encoding.{and_clauses, parity_clauses, reduction_clauses, gate_clauses, step_clauses, chain_clauses, wide_clauses, any_gate_clauses, raw_clauses, clauses_from, wire_variable, blocked_rows, table_clauses, rows_of, row_bits, blocking_literals}
 use Rattle.clause_encoder.proofs.RowBits.{others}
-use Rattle.clause_encoder.proofs.Meaning.{takes-most}
 use Rattle.clause_encoder.proofs.Writing.{IsTable-from, shifted_far, inner_at, split-at}
 
 -- ---- tables
@@ -58,17 +57,17 @@ length-table rows h vs e long =
 length-rows : (odd : Bool) (h : ℕ) (xs : List ℕ) (y n : ℕ) → length xs ≡ n → length (parity_clauses odd h xs y) ≡ 2 ^ n
 length-rows odd h xs y n long = length-map-range_with_len _ 0 (2 ^ length xs) ∙ ap (λ n. 2 ^ n) long
 
-pub length-parity : (gate : Gate) (h : ℕ) (xs : List ℕ) (y inputs : ℕ) → length xs ≡ inputs → inputs ≤ 4 → (gate_row gate).reduction ≡ OddOnes
+pub length-parity : (gate : Gate) (h : ℕ) (xs : List ℕ) (y inputs : ℕ) → length xs ≡ inputs → inputs ≤ 4 → gate.reduction ≡ OddOnes
     → length (gate_clauses gate h xs y) ≡ 1 * 2 ^ inputs % 18446744073709551616
-length-parity gate h xs y inputs long few odd = ap (λ r. length (reduction_clauses r (gate_row gate).positive h xs y)) odd
-    ∙ length-rows (gate_row gate).positive h xs y inputs long ∙ sym (shifted_far inputs (omega arith))
+length-parity gate h xs y inputs long few odd = ap (λ r. length (reduction_clauses r gate.positive h xs y)) odd
+    ∙ length-rows gate.positive h xs y inputs long ∙ sym (shifted_far inputs (omega arith))
 
 -- ands have a clause for each input, and one for all
-pub length-ands : (gate : Gate) (h : ℕ) (xs : List ℕ) (y inputs : ℕ) → length xs ≡ inputs → ((gate_row gate).reduction ≡ AllOnes) ⊎ ((gate_row gate).reduction ≡ AnyOne)
+pub length-ands : (gate : Gate) (h : ℕ) (xs : List ℕ) (y inputs : ℕ) → length xs ≡ inputs → (gate.reduction ≡ AllOnes) ⊎ (gate.reduction ≡ AnyOne)
     → length (gate_clauses gate h xs y) ≡ inputs + 1
 length-ands gate h xs y inputs long which = elim which [
-  | inl all ↦ ap (λ r. length (reduction_clauses r (gate_row gate).positive h xs y)) all ∙ of (literal (gate_row gate).positive y) true
-  | inr any ↦ ap (λ r. length (reduction_clauses r (gate_row gate).positive h xs y)) any ∙ of (literal (not (gate_row gate).positive) y) false
+  | inl all ↦ ap (λ r. length (reduction_clauses r gate.positive h xs y)) all ∙ of (literal gate.positive y) true
+  | inr any ↦ ap (λ r. length (reduction_clauses r gate.positive h xs y)) any ∙ of (literal (not gate.positive) y) false
 ] where
   of : (output : ℤ) (positive : Bool) → length (and_clauses (pos h) output (map (literal positive) xs)) ≡ inputs + 1
   of output positive = omega (
@@ -84,12 +83,6 @@ few-rows n h = let most : 2 ^ n ≤ 2 ^ 4 = pow_mono h in omega arith
 
 -- ---- chains
 
-few_inputs : (gate : Gate) → (gate_row gate).most_inputs ≤ INPUT_LIMIT
-few_inputs gate = grind arith
-
-pub takes-few : (gate : Gate) (n : ℕ) → takes gate n ≡ true → n ≤ INPUT_LIMIT
-takes-few gate n e = omega (arith, few_inputs gate, takes-most gate n e)
-
 -- the gate at the end of a chain has as many clauses as a step
 length-two : (reduction : Reduction) (positive : Bool) (h b l y z c x : ℕ)
     → length (reduction_clauses reduction positive h (b ∷ l ∷ []) y) ≡ length (step_clauses reduction z c x)
@@ -97,20 +90,20 @@ length-two AllOnes positive h b l y z c x = refl
 length-two AnyOne positive h b l y z c x = refl
 length-two OddOnes positive h b l y z c x = refl
 
-module _ (gate : Gate) (h last y n : ℕ) (step : (z b x : ℕ) → length (step_clauses (gate_row gate).reduction z b x) ≡ n) (two : (b : ℕ) → length (gate_clauses gate h (b ∷ last ∷ []) y) ≡ n) where
+module _ (gate : Gate) (h last y n : ℕ) (step : (z b x : ℕ) → length (step_clauses gate.reduction z b x) ≡ n) (two : (b : ℕ) → length (gate_clauses gate h (b ∷ last ∷ []) y) ≡ n) where
   length-chain : (xs : List ℕ) (z before : ℕ) → length (chain_clauses gate h last y z before xs) ≡ n * length xs + n
   length-chain [] z before = omega (arith, two before)
   length-chain (x ∷ xs) z before = omega (
     arith,
-    length-append (step_clauses (gate_row gate).reduction z before x) (chain_clauses gate h last y (z + 1) z xs),
+    length-append (step_clauses gate.reduction z before x) (chain_clauses gate h last y (z + 1) z xs),
     step z before x,
     length-chain xs (z + 1) z,
   )
 
-pub length-any_gate : (gate : Gate) (inputs n : ℕ) → ((z b x : ℕ) → length (step_clauses (gate_row gate).reduction z b x) ≡ n) → 5 ≤ inputs → (h z y : ℕ) (xs : List ℕ) → length xs ≡ inputs → length (any_gate_clauses gate h z xs y) ≡ n * (inputs - 1)
+pub length-any_gate : (gate : Gate) (inputs n : ℕ) → ((z b x : ℕ) → length (step_clauses gate.reduction z b x) ≡ n) → 5 ≤ inputs → (h z y : ℕ) (xs : List ℕ) → length xs ≡ inputs → length (any_gate_clauses gate h z xs y) ≡ n * (inputs - 1)
 length-any_gate gate inputs n step wide h z y xs long =
     ap (λ w. length (if w then wide_clauses gate h z xs y else gate_clauses gate h xs y)) (lt-ltb 4 (length xs) (omega arith))
-    ∙ length-chain gate h last y n step (λ b. length-two (gate_row gate).reduction (gate_row gate).positive h b last y z z z ∙ step z z z) between z (get_or xs 0 0)
+    ∙ length-chain gate h last y n step (λ b. length-two gate.reduction gate.positive h b last y z z z ∙ step z z z) between z (get_or xs 0 0)
     ∙ count (length between) inputs wide (length-take-le (length xs - 1 - 1) (drop 1 xs) (omega (arith, length-drop 1 xs)) ∙ less (length xs) inputs long) where
       last : ℕ
       last = get_or xs (length xs - 1) 0
@@ -135,14 +128,14 @@ length-any_gate gate inputs n step wide h z y xs long =
 -- what one part more adds
 pub part-counted : (device : Device) (place : ℕ) (parts : List Component) (part : Component) (tables : List TruthTable) (ports count n total : ℕ)
     → parts ≡ device.parts → place < length parts → part ≡ get_or parts place part → tables ≡ device.tables → ports ≡ length part.ports
-    → ((h z : ℕ) (vs : List ℕ) → length vs ≡ ports → length (raw_clauses tables part.kind h z vs) ≡ n)
+    → ((h z : ℕ) (vs : List ℕ) → length vs ≡ ports → length (raw_clauses tables (rule part.kind) h z vs) ≡ n)
     → count + length (clauses_from device (place + 1) (inner_at device place) (drop place device.parts)) ≡ total
     → count + n + length (clauses_from device ((place + 1) + 1) (inner_at device (place + 1)) (drop (place + 1) device.parts)) ≡ total
 part-counted device place parts part tables ports count n total same lt is t long counts inv =
     let vs = map (wire_variable device) part.ports in
-    let raw = raw_clauses device.tables part.kind (place + 1) (inner_at device place) vs in
+    let raw = raw_clauses device.tables (rule part.kind) (place + 1) (inner_at device place) vs in
     let rest = clauses_from device ((place + 1) + 1) (inner_at device (place + 1)) (drop (place + 1) device.parts) in
-    let one : length raw ≡ n = ap (λ ts. length (raw_clauses ts part.kind (place + 1) (inner_at device place) vs)) (sym t) ∙ counts (place + 1) (inner_at device place) vs (length-map part.ports (wire_variable device) ∙ sym long) in
+    let one : length raw ≡ n = ap (λ ts. length (raw_clauses ts (rule part.kind) (place + 1) (inner_at device place) vs)) (sym t) ∙ counts (place + 1) (inner_at device place) vs (length-map part.ports (wire_variable device) ∙ sym long) in
     omega (
       arith,
       one,

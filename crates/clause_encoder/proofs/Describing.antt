@@ -8,6 +8,7 @@ use Rattle.state_rules.specs.Bits.{bit_in, lists_of_bits}
 use Rattle.state_rules.specs.Assignments.{Assignment, assignment}
 use Rattle.state_rules.proofs.Members.{any_same}
 use Rattle.device_model.specs.declared.component.Component.{Component}
+use Rattle.device_model.specs.Gates.{rule}
 use Rattle.device_model.specs.Devices.{Device, IsDevice, allows, parts_fit, fits, takes_ports, has_arity, has_wires}
 use Rattle.clause_encoder.specs.Clauses.{Clause, all_hold, is_clause}
 use Rattle.clause_encoder.specs.Encoding.{inner_count, raw_clauses, wire_variable, first_inner, inner_vars, clauses_from, all_clauses, clause_list, tidy, Describes}
@@ -53,8 +54,8 @@ wires-in device (port ∷ ports) e =
     ((omega arith, omega (arith, ltb-true port (length device.wires) es.0)), wires-in device ports es.1)
 
 -- the number of ports, as the part's kind takes it
-arity-at : (device : Device) (part : Component) → has_arity device.tables part ≡ true → takes_ports device.tables part.kind (length (map (wire_variable device) part.ports)) ≡ true
-arity-at device part e = ap (takes_ports device.tables part.kind) (length-variables device part.ports) ∙ e
+arity-at : (device : Device) (part : Component) → has_arity device.tables part ≡ true → takes_ports device.tables (rule part.kind) (length (map (wire_variable device) part.ports)) ≡ true
+arity-at device part e = ap (takes_ports device.tables (rule part.kind)) (length-variables device part.ports) ∙ e
 
 module _ (device : Device) (vars : ℕ) (enough : length device.parts + length device.wires ≤ vars) where
   AllRaw-parts : (h z : ℕ) (parts : List Component) → 1 ≤ h → h + length parts ≤ length device.parts + 1 → 1 ≤ z → z + inner_vars parts ≤ vars + 1
@@ -65,11 +66,11 @@ module _ (device : Device) (vars : ℕ) (enough : length device.parts + length d
       let fit = and_parts (has_arity device.tables part) (list_all (has_arity device.tables) parts) arities in
       let js = and_parts (has_wires (length device.wires) part) (list_all (has_wires (length device.wires)) parts) joined in
       let ports = map (wire_variable device) part.ports in
-      let inner = inner_count part.kind (length part.ports) in
-      let same : inner_count part.kind (length ports) ≡ inner = ap (inner_count part.kind) (length-variables device part.ports) in
-      AllRaw-append vars (raw_clauses device.tables part.kind h z ports) (clauses_from device (h + 1) (z + inner) parts)
-      (all_raw vars (raw_clauses device.tables part.kind h z ports)
-      (Of-raw (InRange vars) h (hh, omega arith) device.tables part.kind z ports (λ v le lt. (omega arith, omega (arith, same)))
+      let inner = inner_count (rule part.kind) (length part.ports) in
+      let same : inner_count (rule part.kind) (length ports) ≡ inner = ap (inner_count (rule part.kind)) (length-variables device part.ports) in
+      AllRaw-append vars (raw_clauses device.tables (rule part.kind) h z ports) (clauses_from device (h + 1) (z + inner) parts)
+      (all_raw vars (raw_clauses device.tables (rule part.kind) h z ports)
+      (Of-raw (InRange vars) h (hh, omega arith) device.tables (rule part.kind) z ports (λ v le lt. (omega arith, omega (arith, same)))
       (more (length device.parts + length device.wires) vars ports enough (wires-in device part.ports js.0)) (arity-at device part fit.0)))
       (AllRaw-parts (h + 1) (z + inner) parts (omega arith) (omega arith) (omega arith) (omega arith) fit.1 js.1)
 
@@ -86,14 +87,14 @@ are_clauses device d = are_clauses-tidy (length device.parts + length device.wir
 -- the bits of the inner variables of parts
 abbrev part_bits : List Component → List Bool → List Bool
 part_bits [] wires = []
-part_bits (part ∷ parts) wires = inner_bits part.kind (map (bit_in wires) part.ports) ++ part_bits parts wires
+part_bits (part ∷ parts) wires = inner_bits (rule part.kind) (map (bit_in wires) part.ports) ++ part_bits parts wires
 
-length-bits : (part : Component) (wires : List Bool) → length (inner_bits part.kind (map (bit_in wires) part.ports)) ≡ inner_count part.kind (length part.ports)
-length-bits part wires = length-inner_bits part.kind (map (bit_in wires) part.ports) ∙ ap (inner_count part.kind) (length-map part.ports (bit_in wires))
+length-bits : (part : Component) (wires : List Bool) → length (inner_bits (rule part.kind) (map (bit_in wires) part.ports)) ≡ inner_count (rule part.kind) (length part.ports)
+length-bits part wires = length-inner_bits (rule part.kind) (map (bit_in wires) part.ports) ∙ ap (inner_count (rule part.kind)) (length-map part.ports (bit_in wires))
 
 length-part_bits : (parts : List Component) (wires : List Bool) → length (part_bits parts wires) ≡ inner_vars parts
 length-part_bits [] wires = refl
-length-part_bits (part ∷ parts) wires = length-append (inner_bits part.kind (map (bit_in wires) part.ports)) (part_bits parts wires)
+length-part_bits (part ∷ parts) wires = length-append (inner_bits (rule part.kind) (map (bit_in wires) part.ports)) (part_bits parts wires)
     ∙ (λ i. length-bits part wires i + length-part_bits parts wires i)
 
 module _ (device : Device) (a : Assignment) (wires : List Bool) (wire_is : (w : ℕ) → w < length device.wires → a (wire_variable device w) ≡ bit_in wires w) where
@@ -115,13 +116,13 @@ module _ (device : Device) (a : Assignment) (wires : List Bool) (wire_is : (w : 
       let ports = map (wire_variable device) part.ports in
       let row = map (bit_in wires) part.ports in
       let vars = length device.parts + length device.wires in
-      let inner = inner_count part.kind (length part.ports) in
+      let inner = inner_count (rule part.kind) (length part.ports) in
       let health : a h ≡ ok = ap a (plus_zero h) ∙ bits 0 (omega arith) in
-      let one : Settles a z (raw_clauses device.tables part.kind h z ports) (inner_bits part.kind row) (allows device.tables part.kind ok row) =
-      raw-settles a device.tables part.kind h z ports hh hz (positive vars ports (wires-in device part.ports js.0)) (arity-at device part fit.0)
-      ∙ (λ i. has_bits a z (inner_bits part.kind (ports-are part.ports js.0 i)) && allows device.tables part.kind (health i) (ports-are part.ports js.0 i)) in
-      Settles-append a z (z + inner) (raw_clauses device.tables part.kind h z ports) (clauses_from device (h + 1) (z + inner) parts)
-      (inner_bits part.kind row) (part_bits parts wires) (allows device.tables part.kind ok row) (parts_fit device.tables parts state wires)
+      let one : Settles a z (raw_clauses device.tables (rule part.kind) h z ports) (inner_bits (rule part.kind) row) (allows device.tables (rule part.kind) ok row) =
+      raw-settles a device.tables (rule part.kind) h z ports hh hz (positive vars ports (wires-in device part.ports js.0)) (arity-at device part fit.0)
+      ∙ (λ i. has_bits a z (inner_bits (rule part.kind) (ports-are part.ports js.0 i)) && allows device.tables (rule part.kind) (health i) (ports-are part.ports js.0 i)) in
+      Settles-append a z (z + inner) (raw_clauses device.tables (rule part.kind) h z ports) (clauses_from device (h + 1) (z + inner) parts)
+      (inner_bits (rule part.kind) row) (part_bits parts wires) (allows device.tables (rule part.kind) ok row) (parts_fit device.tables parts state wires)
       (ap (λ n. z + n) (sym (length-bits part wires))) one
       (parts-settle (h + 1) (z + inner) parts state (omega arith) (omega arith) (omega arith) (λ k lt. ap a (one_more h k) ∙ bits (suc k) (omega arith)) fit.1 js.1) where
         plus_zero : (n : ℕ) → n ≡ n + 0

@@ -1,15 +1,12 @@
 -- Worked rows: the clauses of small devices.
-use Rattle.std.proofs.Common.{◌≡◌, ℕ, List, [], ◌∷◌, ◌++◌, map, ℤ, pos, neg_ℤ, Ok, refl}
+use Rattle.std.proofs.Common.{◌≡◌, ℕ, List, [], ◌∷◌, ◌++◌, map, ℤ, pos, neg_ℤ, refl}
 use Rattle.std.specs.Prelude.{codes}
-use Rattle.std.specs.List.{range_with_len}
-use Rattle.device_model.specs.declared.component.Kind.{Kind}
-use Rattle.device_model.specs.declared.component.Kind.TheVariants.{Gate as OfGate, Table}
-use Rattle.device_model.specs.declared.gates.Gate.{Gate}
-use Rattle.device_model.specs.declared.gates.Gate.TheVariants.{And, Or, Nand, Nor, Xor, Xnor, Not}
+use Rattle.device_model.specs.declared.gates.Kind.{Kind}
+use Rattle.device_model.specs.declared.gates.Kind.TheVariants.{And, Or, Nor, Xor, Xnor, Not, Table}
 use Rattle.device_model.specs.TruthTable.{TruthTable}
 use Rattle.device_model.specs.Devices.{Device}
-use Rattle.clause_encoder.specs.Clauses.{Clause, ClauseList}
-use Rattle.clause_encoder.specs.Encoding.{clause_list, encoded, raw_count, tidy}
+use Rattle.clause_encoder.specs.Clauses.{Clause}
+use Rattle.clause_encoder.specs.Encoding.{clause_list, raw_count, tidy}
 
 -- the variable, and the variable negated
 abbrev p : ℕ → ℤ
@@ -23,28 +20,12 @@ abbrev one_part : Kind → List ℕ → List (List ℕ) → List TruthTable → 
 one_part kind ports wires tables = record { parts = record { name = codes "y"; kind = kind; ports = ports } ∷ []; wires = wires; tables = tables }
 
 -- y is a gate of the wire a
-abbrev of_a : Gate → List ℕ → Device
-of_a gate inputs = one_part (OfGate gate) (inputs ++ 1 ∷ []) (codes "a" ∷ codes "y" ∷ []) []
+abbrev of_a : Kind → List ℕ → Device
+of_a gate inputs = one_part gate (inputs ++ 1 ∷ []) (codes "a" ∷ codes "y" ∷ []) []
 
 -- y is a gate of the wires a and b
-abbrev of_a_and_b : Gate → Device
-of_a_and_b gate = one_part (OfGate gate) (0 ∷ 1 ∷ 2 ∷ []) (codes "a" ∷ codes "b" ∷ codes "y" ∷ []) []
-
-abbrev nand_list : ClauseList
-nand_list = record { vars = 3; clauses = (n 1 ∷ p 2 ∷ p 3 ∷ []) ∷ (n 1 ∷ p 2 ∷ p 3 ∷ []) ∷ (n 1 ∷ n 2 ∷ n 3 ∷ []) ∷ [] }
-
-nand : encoded (of_a Nand (0 ∷ 0 ∷ [])) ≡ Ok nand_list
-nand = refl
-
-nand_count : raw_count (of_a Nand (0 ∷ 0 ∷ [])) ≡ 3
-nand_count = refl
-
-xor : (clause_list (of_a Xor (0 ∷ 0 ∷ []))).clauses ≡ (n 1 ∷ p 2 ∷ n 3 ∷ []) ∷ (n 1 ∷ n 2 ∷ n 3 ∷ []) ∷ []
-xor = refl
-
--- two of its four clauses are always true
-xor_count : raw_count (of_a Xor (0 ∷ 0 ∷ [])) ≡ 4
-xor_count = refl
+abbrev of_a_and_b : Kind → Device
+of_a_and_b gate = one_part gate (0 ∷ 1 ∷ 2 ∷ []) (codes "a" ∷ codes "b" ∷ codes "y" ∷ []) []
 
 inverter : (clause_list (of_a Not (0 ∷ []))).clauses ≡ (n 1 ∷ p 2 ∷ p 3 ∷ []) ∷ (n 1 ∷ n 2 ∷ n 3 ∷ []) ∷ []
 inverter = refl
@@ -69,8 +50,8 @@ table_count = refl
 -- ---- chains
 
 -- y is a gate of the wires a, b, c and d
-abbrev of_four : Gate → Device
-of_four gate = one_part (OfGate gate) (0 ∷ 1 ∷ 2 ∷ 3 ∷ 4 ∷ []) (map codes ("a" ∷ "b" ∷ "c" ∷ "d" ∷ "y" ∷ [])) []
+abbrev of_four : Kind → Device
+of_four gate = one_part gate (0 ∷ 1 ∷ 2 ∷ 3 ∷ 4 ∷ []) (map codes ("a" ∷ "b" ∷ "c" ∷ "d" ∷ "y" ∷ [])) []
 
 -- four inputs need no chain
 and_of_four : clause_list (of_four And) ≡ record {
@@ -80,21 +61,8 @@ and_of_four : clause_list (of_four And) ≡ record {
 and_of_four = refl
 
 -- y is a gate of the wires a to e, which are the variables 2 to 6; the inner variables are 8 to 10
-abbrev of_five : Gate → Device
-of_five gate = one_part (OfGate gate) (0 ∷ 1 ∷ 2 ∷ 3 ∷ 4 ∷ 5 ∷ []) (map codes ("a" ∷ "b" ∷ "c" ∷ "d" ∷ "e" ∷ "y" ∷ [])) []
-
-abbrev and_chain : List Clause
-and_chain =
-    (p 2 ∷ n 8 ∷ []) ∷ (p 3 ∷ n 8 ∷ []) ∷ (n 2 ∷ n 3 ∷ p 8 ∷ [])
-    ∷ (p 8 ∷ n 9 ∷ []) ∷ (p 4 ∷ n 9 ∷ []) ∷ (n 4 ∷ n 8 ∷ p 9 ∷ [])
-    ∷ (p 9 ∷ n 10 ∷ []) ∷ (p 5 ∷ n 10 ∷ []) ∷ (n 5 ∷ n 9 ∷ p 10 ∷ [])
-    ∷ (n 1 ∷ n 7 ∷ p 10 ∷ []) ∷ (n 1 ∷ p 6 ∷ n 7 ∷ []) ∷ (n 1 ∷ n 6 ∷ p 7 ∷ n 10 ∷ []) ∷ []
-
-and_of_five : clause_list (of_five And) ≡ record { vars = 10; clauses = and_chain }
-and_of_five = refl
-
-and_of_five_count : raw_count (of_five And) ≡ 12
-and_of_five_count = refl
+abbrev of_five : Kind → Device
+of_five gate = one_part gate (0 ∷ 1 ∷ 2 ∷ 3 ∷ 4 ∷ 5 ∷ []) (map codes ("a" ∷ "b" ∷ "c" ∷ "d" ∷ "e" ∷ "y" ∷ [])) []
 
 abbrev nor_chain : List Clause
 nor_chain =
@@ -122,7 +90,7 @@ xor_of_five_count = refl
 -- Both parts have the wire a, which is variable 3, five times. The inner variables of x are 6 to 8, and those of y 9 to 11.
 abbrev two_of_five : Device
 two_of_five = record {
-  parts = record { name = codes "x"; kind = OfGate Nor; ports = 0 ∷ 0 ∷ 0 ∷ 0 ∷ 0 ∷ 1 ∷ [] } ∷ record { name = codes "y"; kind = OfGate Xnor; ports = 0 ∷ 0 ∷ 0 ∷ 0 ∷ 0 ∷ 2 ∷ [] } ∷ [];
+  parts = record { name = codes "x"; kind = Nor; ports = 0 ∷ 0 ∷ 0 ∷ 0 ∷ 0 ∷ 1 ∷ [] } ∷ record { name = codes "y"; kind = Xnor; ports = 0 ∷ 0 ∷ 0 ∷ 0 ∷ 0 ∷ 2 ∷ [] } ∷ [];
   wires = codes "a" ∷ codes "x" ∷ codes "y" ∷ [];
   tables = [];
 }
@@ -145,12 +113,6 @@ two_chains_clauses = refl
 two_chains_count : raw_count two_of_five ≡ 28
 two_chains_count = refl
 
-xor_of_64_count : raw_count (one_part (OfGate Xor) (range_with_len 0 65) [] []) ≡ 252
-xor_of_64_count = refl
-
 -- by variable, a literal once
 sorted_distinct : tidy ((n 4 ∷ p 2 ∷ n 4 ∷ p 3 ∷ []) ∷ []) ≡ (p 2 ∷ p 3 ∷ n 4 ∷ []) ∷ []
 sorted_distinct = refl
-
-always_true : tidy ((p 2 ∷ n 3 ∷ n 2 ∷ []) ∷ []) ≡ []
-always_true = refl

@@ -1,6 +1,6 @@
 -- The clauses of a part are true exactly where the part allows the bits of its ports.
 use Rattle.std.proofs.Common.{◌≡◌, ℕ, zero, suc, ◌-◌, ◌^◌, ◌<◌, ◌≤◌, Bool, true, false, not, ◌&&◌, ◌||◌, List, [], ◌∷◌, ◌++◌, map, length, take, get_or, pos, neg_ℤ, Some, refl, ap, sym, ◌∙◌, arith}
-use Rattle.std.specs.Prelude.{◌==◌, nat_le}
+use Rattle.std.specs.Prelude.{◌==◌, nat_le, min}
 use Rattle.std.specs.List.{list_any, list_all}
 use Rattle.std.proofs.lemmas.Bool.{leb-true, and_parts}
 use Rattle.std.proofs.lemmas.List.{length-map}
@@ -12,9 +12,10 @@ use Rattle.state_rules.proofs.Bits.{same_bit-swap}
 use Rattle.device_model.specs.declared.gates.Gate.{Gate}
 use Rattle.device_model.specs.declared.gates.Reduction.{Reduction}
 use Rattle.device_model.specs.declared.gates.Reduction.TheVariants.{AllOnes, AnyOne, OddOnes}
+use Rattle.device_model.specs.declared.limits.TheConstants.{INPUT_LIMIT}
 use Rattle.device_model.specs.TruthTable.{TruthTable}
 use Rattle.device_model.specs.Devices.{gate_allows, table_allows}
-use Rattle.device_model.specs.Gates.{gate_row, takes, reduced, gate_value}
+use Rattle.device_model.specs.Gates.{takes, reduced, gate_value}
 use Rattle.clause_encoder.specs.Clauses.{Clause, literal, is_true_clause, all_hold}
 use Rattle.clause_encoder.specs.Encoding.{parity_clauses, and_clauses, row_bits, rows_of, blocking_literals, row_clause, blocked_rows, table_clauses, reduction_clauses, gate_clauses}
 use Rattle.clause_encoder.proofs.Literals.{lit, lit-literal, neg-literal}
@@ -176,13 +177,13 @@ module _ (a : Assignment) (h : ℕ) (xs : List ℕ) (y : ℕ) (hh : 1 ≤ h) (hy
   reduction-holds OddOnes positive = parity-holds a positive h xs y hh hy hs
 
   pub gate-holds : (gate : Gate) → all_hold a (gate_clauses gate h xs y) ≡ (not (a h) || same_bit (a y) (gate_value gate (map a xs)))
-  gate-holds gate = reduction-holds (gate_row gate).reduction (gate_row gate).positive
+  gate-holds gate = reduction-holds gate.reduction gate.positive
 
 pub takes-some : (gate : Gate) (n : ℕ) → takes gate n ≡ true → 1 ≤ n
-takes-some gate n e = leb-true 1 n (and_parts (nat_le 1 n) (nat_le n (gate_row gate).most_inputs) e).0
+takes-some gate n e = leb-true 1 n (and_parts (nat_le 1 n) (nat_le n (min gate.most_inputs INPUT_LIMIT)) e).0
 
-pub takes-most : (gate : Gate) (n : ℕ) → takes gate n ≡ true → n ≤ (gate_row gate).most_inputs
-takes-most gate n e = leb-true n (gate_row gate).most_inputs (and_parts (nat_le 1 n) (nat_le n (gate_row gate).most_inputs) e).1
+pub takes-few : (gate : Gate) (n : ℕ) → takes gate n ≡ true → n ≤ INPUT_LIMIT
+takes-few gate n e = omega (arith, leb-true n (min gate.most_inputs INPUT_LIMIT) (and_parts (nat_le 1 n) (nat_le n (min gate.most_inputs INPUT_LIMIT)) e).1)
 
 pub AllPositive-take : (n : ℕ) (vs : List ℕ) → AllPositive vs → AllPositive (take n vs)
 AllPositive-take zero vs h = tt

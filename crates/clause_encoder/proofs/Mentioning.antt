@@ -4,14 +4,14 @@ use Rattle.std.specs.Prelude.{slice_get, if◌then◌else◌}
 use Rattle.std.proofs.lemmas.Bool.{ltb-true}
 use Rattle.std.proofs.lemmas.List.{length-take-le, length-drop}
 use Rattle.state_rules.specs.Bits.{has_odd_ones, same_bit}
-use Rattle.device_model.specs.declared.component.Kind.{Kind}
-use Rattle.device_model.specs.declared.component.Kind.TheVariants.{Gate as OfGate, Table}
+use Rattle.device_model.specs.declared.gates.Rule.{Rule}
+use Rattle.device_model.specs.declared.gates.Rule.TheVariants.{Gate as OfGate, Table as OfTable}
 use Rattle.device_model.specs.declared.gates.Gate.{Gate}
 use Rattle.device_model.specs.declared.gates.Reduction.{Reduction}
 use Rattle.device_model.specs.declared.gates.Reduction.TheVariants.{AllOnes, AnyOne, OddOnes}
 use Rattle.device_model.specs.TruthTable.{TruthTable}
 use Rattle.device_model.specs.Devices.{takes_ports}
-use Rattle.device_model.specs.Gates.{gate_row, takes}
+use Rattle.device_model.specs.Gates.{takes}
 use Rattle.clause_encoder.specs.Clauses.{Clause, var_of, literal}
 use Rattle.clause_encoder.specs.Encoding.{parity_clauses, and_clauses, row_bits, rows_of, blocking_literals, row_clause, blocked_rows, table_clauses, reduction_clauses, gate_clauses, and_step, xor_step, step_clauses, chain_clauses, wide_clauses, is_wide, any_gate_clauses, inner_count, raw_clauses}
 use Rattle.clause_encoder.proofs.Literals.{var_of-literal}
@@ -134,15 +134,15 @@ module _ (P : ℕ → Type 0) where
     Of-reduction OddOnes positive xs y hy hs = Of-parity positive xs y hy hs
 
     Of-gate : (gate : Gate) (xs : List ℕ) (y : ℕ) → P y → Variables xs → OfEach (gate_clauses gate h xs y)
-    Of-gate gate = Of-reduction (gate_row gate).reduction (gate_row gate).positive
+    Of-gate gate = Of-reduction gate.reduction gate.positive
 
     -- The inner variables of a chain are z and up, one for each step.
     Of-chain : (gate : Gate) (last y : ℕ) → P last → P y → (xs : List ℕ) (z before : ℕ) → ((v : ℕ) → z ≤ v → v < z + length xs → P v)
         → P before → Variables xs → OfEach (chain_clauses gate h last y z before xs)
     Of-chain gate last y hl hy [] z before hz hb hs = Of-gate gate (before ∷ last ∷ []) y hy (hb, (hl, tt))
     Of-chain gate last y hl hy (x ∷ xs) z before hz hb hs =
-        OfEach-append (step_clauses (gate_row gate).reduction z before x) (chain_clauses gate h last y (z + 1) z xs)
-        (Of-step z before x (hz z (omega arith) (omega arith)) hb hs.0 (gate_row gate).reduction)
+        OfEach-append (step_clauses gate.reduction z before x) (chain_clauses gate h last y (z + 1) z xs)
+        (Of-step z before x (hz z (omega arith) (omega arith)) hb hs.0 gate.reduction)
         (Of-chain gate last y hl hy xs (z + 1) z (λ v le lt. hz v (omega arith) (omega arith)) (hz z (omega arith) (omega arith)) hs.1)
 
     Of-wide : (gate : Gate) (z : ℕ) (xs : List ℕ) (y : ℕ) → 5 ≤ length xs → ((v : ℕ) → z ≤ v → v < z + (length xs - 2) → P v) → P y → Variables xs
@@ -168,9 +168,9 @@ module _ (P : ℕ → Type 0) where
         Of-any_gate gate z (length ports) (take (length ports - 1) ports) (get_or ports (length ports - 1) 0) (length-take-le (length ports - 1) ports (omega arith)) hz
         (Variables-at ports (length ports - 1) hs (omega (arith, takes-some gate (length ports - 1) e))) (Variables-take (length ports - 1) ports hs)
 
-    pub Of-raw : (tables : List TruthTable) (kind : Kind) (z : ℕ) (ports : List ℕ) → ((v : ℕ) → z ≤ v → v < z + inner_count kind (length ports) → P v)
-        → Variables ports → takes_ports tables kind (length ports) ≡ true → OfEach (raw_clauses tables kind h z ports)
-    Of-raw tables (Table t) z ports hz hs e = by_rows (slice_get tables t) where
+    pub Of-raw : (tables : List TruthTable) (rule : Rule) (z : ℕ) (ports : List ℕ) → ((v : ℕ) → z ≤ v → v < z + inner_count rule (length ports) → P v)
+        → Variables ports → takes_ports tables rule (length ports) ≡ true → OfEach (raw_clauses tables rule h z ports)
+    Of-raw tables (OfTable t) z ports hz hs e = by_rows (slice_get tables t) where
       by_rows : (rows : Option TruthTable) → OfEach (table_clauses rows h ports)
       by_rows None = tt
       by_rows (Some rows) = OfEach-append (blocked_rows true rows.ok h ports) (blocked_rows false rows.bad h ports) (Of-side true rows.ok ports hs) (Of-side false rows.bad ports hs)

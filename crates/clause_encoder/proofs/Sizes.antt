@@ -4,15 +4,15 @@ use Rattle.std.specs.Prelude.{nat_lt, if◌then◌else◌}
 use Rattle.std.specs.List.{list_all}
 use Rattle.std.proofs.lemmas.Bool.{ltb-true, ltb-false, and_parts}
 use Rattle.std.proofs.lemmas.List.{length-append, length-map, length-take-le}
-use Rattle.device_model.specs.declared.component.Kind.{Kind}
-use Rattle.device_model.specs.declared.component.Kind.TheVariants.{Gate as OfGate, Table}
+use Rattle.device_model.specs.declared.gates.Rule.{Rule}
+use Rattle.device_model.specs.declared.gates.Rule.TheVariants.{Gate as OfGate, Table as OfTable}
 use Rattle.device_model.specs.declared.gates.Gate.{Gate}
 use Rattle.device_model.specs.declared.gates.Reduction.{Reduction}
 use Rattle.device_model.specs.declared.gates.Reduction.TheVariants.{AllOnes, AnyOne, OddOnes}
 use Rattle.device_model.specs.declared.component.Component.{Component}
 use Rattle.device_model.specs.TruthTable.{TruthTable}
 use Rattle.device_model.specs.Devices.{Device, IsDevice, takes_ports, has_arity}
-use Rattle.device_model.specs.Gates.{gate_row}
+use Rattle.device_model.specs.Gates.{rule}
 use Rattle.clause_encoder.specs.declared.limits.TheConstants.{CLAUSE_LIMIT, NARROW_LIMIT}
 use Rattle.clause_encoder.specs.declared.encoding.EncodeError.TheVariants.{TooManyClauses}
 use Rattle.clause_encoder.specs.Clauses.{ClauseList}
@@ -39,7 +39,7 @@ step-three OddOnes n = omega arith
 
 wide-inner : (gate : Gate) (h z y inputs : ℕ) (xs : List ℕ) → 5 ≤ inputs → length xs ≡ inputs → 3 * (inputs - 2) ≤ length (any_gate_clauses gate h z xs y)
 wide-inner gate h z y inputs xs wide long =
-    let reduction = (gate_row gate).reduction in
+    let reduction = gate.reduction in
     let count : length (any_gate_clauses gate h z xs y) ≡ step-count reduction * (inputs - 1) = length-any_gate gate inputs (step-count reduction) (length-step reduction) wide h z y xs long in
     let three : 3 * (inputs - 1) ≤ step-count reduction * (inputs - 1) = step-three reduction (inputs - 1) in
     let all : 3 * (inputs - 1) ≤ length (any_gate_clauses gate h z xs y) = subst (λ n. 3 * (inputs - 1) ≤ n) (sym count) three in
@@ -57,9 +57,9 @@ gate-inner gate h z ports = by_width (is_wide (length ports - 1)) refl where
       omega (arith, at_least)
   by_width false narrow = omega arith
 
-part-inner : (tables : List TruthTable) (kind : Kind) (h z : ℕ) (ports : List ℕ) → takes_ports tables kind (length ports) ≡ true
-    → 3 * inner_count kind (length ports) ≤ length (raw_clauses tables kind h z ports)
-part-inner tables (Table t) h z ports e = omega arith
+part-inner : (tables : List TruthTable) (rule : Rule) (h z : ℕ) (ports : List ℕ) → takes_ports tables rule (length ports) ≡ true
+    → 3 * inner_count rule (length ports) ≤ length (raw_clauses tables rule h z ports)
+part-inner tables (OfTable t) h z ports e = omega arith
 part-inner tables (OfGate gate) h z ports e = gate-inner gate h z ports
 
 parts-inner : (device : Device) (h z : ℕ) (parts : List Component) → list_all (has_arity device.tables) parts ≡ true
@@ -69,12 +69,12 @@ parts-inner device h z (part ∷ parts) arities =
     let fit = and_parts (has_arity device.tables part) (list_all (has_arity device.tables) parts) arities in
     let ports = map (wire_variable device) part.ports in
     let long : length ports ≡ length part.ports = length-map part.ports (wire_variable device) in
-    let inner = inner_count part.kind (length part.ports) in
-    let one : 3 * inner_count part.kind (length ports) ≤ length (raw_clauses device.tables part.kind h z ports) =
-    part-inner device.tables part.kind h z ports (ap (takes_ports device.tables part.kind) long ∙ fit.0) in
-    let same : inner_count part.kind (length ports) ≡ inner = ap (inner_count part.kind) long in
+    let inner = inner_count (rule part.kind) (length part.ports) in
+    let one : 3 * inner_count (rule part.kind) (length ports) ≤ length (raw_clauses device.tables (rule part.kind) h z ports) =
+    part-inner device.tables (rule part.kind) h z ports (ap (takes_ports device.tables (rule part.kind)) long ∙ fit.0) in
+    let same : inner_count (rule part.kind) (length ports) ≡ inner = ap (inner_count (rule part.kind)) long in
     let rest = parts-inner device (h + 1) (z + inner) parts fit.1 in
-    omega (arith, length-append (raw_clauses device.tables part.kind h z ports) (clauses_from device (h + 1) (z + inner) parts), one, same, rest)
+    omega (arith, length-append (raw_clauses device.tables (rule part.kind) h z ports) (clauses_from device (h + 1) (z + inner) parts), one, same, rest)
 
 -- ---- what is encoded
 

@@ -12,7 +12,7 @@ use Rattle.state_rules.proofs.Lists.{list_all-at}
 use Rattle.device_model.specs.TruthTable.{TruthTable, has_few_ports, is_cost, is_table}
 use Rattle.device_model.specs.declared.gates.Gate.{Gate}
 use Rattle.device_model.specs.declared.gates.Reduction.{Reduction}
-use Rattle.device_model.specs.Gates.{gate_row}
+use Rattle.device_model.specs.Gates.{rule}
 use Rattle.device_model.specs.declared.component.Component.{Component}
 use Rattle.device_model.specs.Devices.{Device, IsDevice, has_arity, has_wires, rows_take, takes_ports}
 use Rattle.clause_encoder.specs.Clauses.{Clause, literal}
@@ -188,7 +188,7 @@ inner_vars-append [] more = omega arith
 inner_vars-append (part ∷ parts) more = omega (arith, inner_vars-append parts more)
 
 pub inner_at-more : (device : Device) (place : ℕ) (part : Component) → place < length device.parts → part ≡ get_or device.parts place part
-    → inner_at device (place + 1) ≡ inner_at device place + inner_count part.kind (length part.ports)
+    → inner_at device (place + 1) ≡ inner_at device place + inner_count (rule part.kind) (length part.ports)
 inner_at-more device place part lt is =
     let more : inner_vars (take (place + 1) device.parts) ≡ inner_vars (take place device.parts ++ get_or device.parts place part ∷ []) = ap inner_vars (take_more device.parts place part lt) in
     let last : inner_vars (get_or device.parts place part ∷ []) ≡ inner_vars (part ∷ []) = ap (λ p. inner_vars (p ∷ [])) (sym is) in
@@ -197,43 +197,43 @@ inner_at-more device place part lt is =
 -- the clauses of a part, and of those behind it
 pub split-at : (device : Device) (place : ℕ) (part : Component) → place < length device.parts → part ≡ get_or device.parts place part
     → clauses_from device (place + 1) (inner_at device place) (drop place device.parts)
-    ≡ raw_clauses device.tables part.kind (place + 1) (inner_at device place) (map (wire_variable device) part.ports)
+    ≡ raw_clauses device.tables (rule part.kind) (place + 1) (inner_at device place) (map (wire_variable device) part.ports)
     ++ clauses_from device ((place + 1) + 1) (inner_at device (place + 1)) (drop (place + 1) device.parts)
 split-at device place part lt is =
     ap (clauses_from device (place + 1) (inner_at device place)) (drop_more device.parts place part lt ∙ ap (λ q. q ∷ drop (place + 1) device.parts) (sym is))
-    ∙ ap (λ z. raw_clauses device.tables part.kind (place + 1) (inner_at device place) (map (wire_variable device) part.ports) ++ clauses_from device ((place + 1) + 1) z (drop (place + 1) device.parts))
+    ∙ ap (λ z. raw_clauses device.tables (rule part.kind) (place + 1) (inner_at device place) (map (wire_variable device) part.ports) ++ clauses_from device ((place + 1) + 1) z (drop (place + 1) device.parts))
     (sym (inner_at-more device place part lt is))
 
 -- the clauses of one part more
 pub part-written : (device : Device) (place : ℕ) (parts : List Component) (part : Component) (tables : List TruthTable) (h z : ℕ) (ports wires : List ℕ) (now next start : List Clause)
     → parts ≡ device.parts → place < length parts → part ≡ get_or parts place part → tables ≡ device.tables → h ≡ place + 1 → z ≡ inner_at device place
     → ports ≡ map (λ wire. length parts + wire + 1) wires → wires ≡ part.ports
-    → next ≡ now ++ tidy (raw_clauses tables part.kind h z ports)
+    → next ≡ now ++ tidy (raw_clauses tables (rule part.kind) h z ports)
     → now ++ tidy (clauses_from device (place + 1) (inner_at device place) (drop place device.parts)) ≡ start
     → next ++ tidy (clauses_from device ((place + 1) + 1) (inner_at device (place + 1)) (drop (place + 1) device.parts)) ≡ start
 part-written device place parts part tables h z ports wires now next start same lt is t height first p w e inv =
-    written now next start (raw_clauses device.tables part.kind (place + 1) (inner_at device place) (map (wire_variable device) part.ports))
+    written now next start (raw_clauses device.tables (rule part.kind) (place + 1) (inner_at device place) (map (wire_variable device) part.ports))
     (clauses_from device ((place + 1) + 1) (inner_at device (place + 1)) (drop (place + 1) device.parts))
-    (e ∙ (λ i. now ++ tidy (raw_clauses (t i) part.kind (height i) (first i) ((p ∙ (λ j. map (λ wire. length (same j) + wire + 1) (w j))) i))))
+    (e ∙ (λ i. now ++ tidy (raw_clauses (t i) (rule part.kind) (height i) (first i) ((p ∙ (λ j. map (λ wire. length (same j) + wire + 1) (w j))) i))))
     (ap (λ cs. now ++ tidy cs) (sym (split-at device place part (omega (arith, ap length same)) (is ∙ ap (λ ps. get_or ps place part) same))) ∙ inv)
 
 -- where the inner variables of the next part begin
 pub inner-next : (device : Device) (place : ℕ) (parts : List Component) (part : Component) (inner next : ℕ) (ports wires : List ℕ)
     → parts ≡ device.parts → place < length parts → part ≡ get_or parts place part → inner ≡ inner_at device place
-    → ports ≡ map (λ wire. length parts + wire + 1) wires → wires ≡ part.ports → next ≡ inner + inner_count part.kind (length ports) → next ≡ inner_at device (place + 1)
+    → ports ≡ map (λ wire. length parts + wire + 1) wires → wires ≡ part.ports → next ≡ inner + inner_count (rule part.kind) (length ports) → next ≡ inner_at device (place + 1)
 inner-next device place parts part inner next ports wires same lt is first p w e =
-    e ∙ (λ i. first i + inner_count part.kind ((ap length p ∙ length-map wires (λ wire. length parts + wire + 1) ∙ ap length w) i))
+    e ∙ (λ i. first i + inner_count (rule part.kind) ((ap length p ∙ length-map wires (λ wire. length parts + wire + 1) ∙ ap length w) i))
     ∙ sym (inner_at-more device place part (omega (arith, ap length same)) (is ∙ ap (λ ps. get_or ps place part) same))
 
 -- ---- chains
 
 -- the step of one input more
 pub step-written : (gate : Gate) (reduction : Reduction) (h last y z before : ℕ) (xs : List ℕ) (i : ℕ) (now next start : List Clause) → i < length xs
-    → reduction ≡ (gate_row gate).reduction → next ≡ now ++ tidy (step_clauses reduction z before (get_or xs i 0))
+    → reduction ≡ gate.reduction → next ≡ now ++ tidy (step_clauses reduction z before (get_or xs i 0))
     → now ++ tidy (chain_clauses gate h last y z before (drop i xs)) ≡ start
     → next ++ tidy (chain_clauses gate h last y (z + 1) z (drop (i + 1) xs)) ≡ start
 step-written gate reduction h last y z before xs i now next start lt is e inv =
-    written now next start (step_clauses (gate_row gate).reduction z before (get_or xs i 0)) (chain_clauses gate h last y (z + 1) z (drop (i + 1) xs))
+    written now next start (step_clauses gate.reduction z before (get_or xs i 0)) (chain_clauses gate h last y (z + 1) z (drop (i + 1) xs))
     (e ∙ ap (λ r. now ++ tidy (step_clauses r z before (get_or xs i 0))) is)
     (ap (λ ys. now ++ tidy (chain_clauses gate h last y z before ys)) (sym (drop_more xs i 0 lt)) ∙ inv)
 
@@ -257,8 +257,8 @@ low device parts place part wires valid same lt is w k d within =
 
 -- the number of ports of a part, as its kind takes it
 pub arity-taken : (device : Device) (parts : List Component) (place : ℕ) (part : Component) (tables : List TruthTable) (ports : List ℕ) → IsDevice device → parts ≡ device.parts
-    → place < length parts → part ≡ get_or parts place part → tables ≡ device.tables → ports ≡ part.ports → takes_ports tables part.kind (length ports) ≡ true
+    → place < length parts → part ≡ get_or parts place part → tables ≡ device.tables → ports ≡ part.ports → takes_ports tables (rule part.kind) (length ports) ≡ true
 arity-taken device parts place part tables ports valid same lt is t p =
-    (λ i. takes_ports (t i) part.kind (length (p i)))
+    (λ i. takes_ports (t i) (rule part.kind) (length (p i)))
     ∙ ap (has_arity device.tables) (is ∙ ap (λ ps. get_or ps place part) same)
     ∙ list_all-at (has_arity device.tables) device.parts place part valid.arities (omega (arith, ap length same))

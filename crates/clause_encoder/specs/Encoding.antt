@@ -3,15 +3,15 @@ use Rattle.std.specs.Prelude.{◌≡◌, ℕ, ◌+◌, ◌-◌, ◌/◌, ◌^◌
 use Rattle.std.specs.List.{filter, list_any, range_with_len}
 use Rattle.state_rules.specs.Bits.{has_odd_ones, same_bit, lists_of_bits, has_bit}
 use Rattle.state_rules.specs.Assignments.{assignment}
-use Rattle.device_model.specs.declared.component.Kind.{Kind}
-use Rattle.device_model.specs.declared.component.Kind.TheVariants.{Gate as OfGate, Table}
+use Rattle.device_model.specs.declared.gates.Rule.{Rule}
+use Rattle.device_model.specs.declared.gates.Rule.TheVariants.{Gate as OfGate, Table as OfTable}
 use Rattle.device_model.specs.declared.gates.Gate.{Gate}
 use Rattle.device_model.specs.declared.gates.Reduction.{Reduction}
 use Rattle.device_model.specs.declared.gates.Reduction.TheVariants.{AllOnes, AnyOne, OddOnes}
 use Rattle.device_model.specs.declared.component.Component.{Component}
 use Rattle.device_model.specs.declared.limits.TheConstants.{PART_LIMIT, WIRE_LIMIT}
 use Rattle.device_model.specs.TruthTable.{TruthTable}
-use Rattle.device_model.specs.Gates.{gate_row}
+use Rattle.device_model.specs.Gates.{rule}
 use Rattle.device_model.specs.Devices.{Device, fits}
 use Rattle.clause_encoder.specs.declared.limits.TheConstants.{CLAUSE_LIMIT, NARROW_LIMIT}
 use Rattle.clause_encoder.specs.declared.encoding.EncodeError.{EncodeError}
@@ -90,7 +90,7 @@ reduction_clauses OddOnes positive h xs y = parity_clauses positive h xs y
 
 -- the clauses of a gate by the variables of its health, of its inputs and of its output
 abbrev pub gate_clauses : Gate → ℕ → List ℕ → ℕ → List Clause
-gate_clauses gate h xs y = reduction_clauses (gate_row gate).reduction (gate_row gate).positive h xs y
+gate_clauses gate h xs y = reduction_clauses gate.reduction gate.positive h xs y
 
 -- ---- a gate of more inputs than the limit: a chain of inner variables
 
@@ -120,7 +120,7 @@ step_clauses OddOnes z a b = xor_step z a b
 abbrev pub chain_clauses : Gate → ℕ → ℕ → ℕ → ℕ → ℕ → List ℕ → List Clause
 chain_clauses gate h last y z before [] = gate_clauses gate h (before ∷ last ∷ []) y
 chain_clauses gate h last y z before (x ∷ xs) =
-    step_clauses (gate_row gate).reduction z before x ++ chain_clauses gate h last y (z + 1) z xs
+    step_clauses gate.reduction z before x ++ chain_clauses gate h last y (z + 1) z xs
 
 -- The chain begins with the first input, and has a step for each between it and the last.
 abbrev pub wide_clauses : Gate → ℕ → ℕ → List ℕ → ℕ → List Clause
@@ -136,14 +136,14 @@ is_wide inputs = nat_lt NARROW_LIMIT inputs
 abbrev pub any_gate_clauses : Gate → ℕ → ℕ → List ℕ → ℕ → List Clause
 any_gate_clauses gate h z xs y = if is_wide (length xs) then wide_clauses gate h z xs y else gate_clauses gate h xs y
 
--- how many inner variables a part of so many ports has: one for each input but the first and the last
-abbrev pub inner_count : Kind → ℕ → ℕ
-inner_count (Table t) ports = 0
+-- how many inner variables a part of a rule and of so many ports has: one for each input but the first and the last
+abbrev pub inner_count : Rule → ℕ → ℕ
+inner_count (OfTable t) ports = 0
 inner_count (OfGate gate) ports = if is_wide (ports - 1) then ports - 3 else 0
 
 -- The last port of a gate is its output. Its inner variables are z and up.
-abbrev pub raw_clauses : List TruthTable → Kind → ℕ → ℕ → List ℕ → List Clause
-raw_clauses tables (Table t) h z ports = table_clauses (slice_get tables t) h ports
+abbrev pub raw_clauses : List TruthTable → Rule → ℕ → ℕ → List ℕ → List Clause
+raw_clauses tables (OfTable t) h z ports = table_clauses (slice_get tables t) h ports
 raw_clauses tables (OfGate gate) h z ports =
     let inputs = length ports - 1 in any_gate_clauses gate h z (take inputs ports) (slice_index_or ports inputs 0)
 
@@ -160,14 +160,14 @@ first_inner device = length device.parts + length device.wires + 1
 -- how many inner variables parts have
 abbrev pub inner_vars : List Component → ℕ
 inner_vars [] = 0
-inner_vars (part ∷ parts) = inner_count part.kind (length part.ports) + inner_vars parts
+inner_vars (part ∷ parts) = inner_count (rule part.kind) (length part.ports) + inner_vars parts
 
 -- of parts of which the first has the health variable h, and all together the inner variables z and up
 abbrev pub clauses_from : Device → ℕ → ℕ → List Component → List Clause
 clauses_from device h z [] = []
 clauses_from device h z (part ∷ parts) =
-    raw_clauses device.tables part.kind h z (map (wire_variable device) part.ports)
-    ++ clauses_from device (h + 1) (z + inner_count part.kind (length part.ports)) parts
+    raw_clauses device.tables (rule part.kind) h z (map (wire_variable device) part.ports)
+    ++ clauses_from device (h + 1) (z + inner_count (rule part.kind) (length part.ports)) parts
 
 abbrev pub all_clauses : Device → List Clause
 all_clauses device = clauses_from device 1 (first_inner device) device.parts

@@ -2,12 +2,13 @@ ghost use Rattle.std.specs.Prelude.{◌≡◌, ◌<◌, ◌≤◌, length, true,
 ghost use Rattle.std.specs.List.{list_all};
 ghost use Rattle.clause_encoder.specs.Clauses.{is_clause, is_clause_list};
 
+use crate::Memory;
 use crate::limits::{CLAUSE_LIMIT, VARIABLE_LIMIT};
 use flat_lists::FlatLists;
-use std::alloc::{AllocError, Global};
+use std::alloc::Global;
 use std::marker::Model;
 
-/// A clause made outside the encoder: literals, of which one at least is true. Variable v is the literal v, and -v where it is negated.
+/// A clause made outside the encoder: literals, at least one of them true. Variable v is the literal v, or -v if it is negated.
 #[derive(Debug, Drop)]
 pub struct Clause {
     literals: Vec<i32>,
@@ -23,7 +24,7 @@ impl Model for Clause {
 
 impl Clause {
     /// Copies the literals of a clause.
-    pub fn new(alloc: Global, literals: &[i32]) -> Result<Clause, AllocError>
+    pub fn new(alloc: Global, literals: &[i32]) -> Result<Clause, Memory>
         ensures { IfOk result (λ clause. clause ≡ literals.now) }
     {
         let literals = Vec::from_slice(alloc, literals)?;
@@ -59,7 +60,7 @@ impl Cnf {
     /// The clauses in their order.
     ///
     /// The variables are fewer than 2^29 and the clauses at most 262,144. Each has a literal, and its variables rise.
-    pub fn of(alloc: Global, vars: u32, clauses: Vec<Clause>) -> Result<Cnf, AllocError>
+    pub fn of(alloc: Global, vars: u32, clauses: Vec<Clause>) -> Result<Cnf, Memory>
         requires vars { vars < VARIABLE_LIMIT }
         requires few { length clauses.items ≤ CLAUSE_LIMIT }
         requires each { list_all (is_clause vars) clauses.items ≡ true }

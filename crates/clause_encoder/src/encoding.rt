@@ -1,7 +1,7 @@
 ghost use Rattle.std.specs.Prelude.{◌≡◌, ◌<◌, ◌≤◌, ◌+◌, ◌++◌, ℕ, true, List, map, length, All, IfOk, OnOk};
 ghost use Rattle.text_rules.specs.Expected.{Fulfils};
 ghost use Rattle.device_model.specs.Devices.{IsDevice, takes_ports};
-ghost use Rattle.device_model.specs.Gates.{takes};
+ghost use Rattle.device_model.specs.Gates.{rule, takes};
 ghost use Rattle.clause_encoder.specs.Encoding.{encoded, reason, Describes, raw_count, raw_clauses, table_clauses, gate_clauses, step_clauses, any_gate_clauses, all_clauses, clause_list, tidy};
 ghost use Rattle.clause_encoder.specs.declared.encoding.EncodeError.TheVariants.{Memory};
 
@@ -9,7 +9,7 @@ use crate::cnf::Cnf;
 use crate::gates::push_part;
 use crate::limits::{CLAUSE_LIMIT, NARROW_LIMIT, VARIABLE_LIMIT};
 use crate::writer::Writer;
-use device_model::{Device, Gate, Kind, Reduction, Table};
+use device_model::{Device, Gate, Kind, Reduction, Rule, Table};
 use std::alloc::{AllocError, Global};
 
 /// Why a device has no list of clauses.
@@ -32,7 +32,7 @@ impl From<AllocError> for EncodeError {
 /// The clauses of a device. Its parts' health variables are 1 and up, in the order of the parts, and the wires' follow. Then come
 /// the inner variables of the gates of more than four inputs.
 ///
-/// All clauses are true, for some bits of the inner variables, exactly where the parts' health and the bits of the wires fit the
+/// All clauses are true, for some bits of the inner variables, exactly if the parts' health and the bits of the wires fit the
 /// device.
 pub fn encode(alloc: Global, device: &Device) -> Result<Cnf, EncodeError>
     ensures encoded { Fulfils (λ cnf. cnf) reason (encoded device.now) result }
@@ -98,14 +98,14 @@ fn raw_count(device: &Device) -> u64
 
 /// How many clauses a part of so many ports has, before any is left out.
 pub fn part_count(tables: &[Table], kind: Kind, ports: usize) -> u64
-    requires { takes_ports tables.now kind ports ≡ true }
+    requires { takes_ports tables.now (rule kind) ports ≡ true }
     ensures count { (h z : ℕ) (vs : List ℕ) → length vs ≡ ports
-        → length (raw_clauses tables.now kind h z vs) ≡ result }
+        → length (raw_clauses tables.now (rule kind) h z vs) ≡ result }
     ensures few { result ≤ 256 }
 {
-    match kind {
-        Kind::Table(table) => table_count(&tables[table as usize]),
-        Kind::Gate(gate) => gate_count(gate, ports - 1),
+    match kind.rule() {
+        Rule::Table(table) => table_count(&tables[table as usize]),
+        Rule::Gate(gate) => gate_count(gate, ports - 1),
     }
 }
 
@@ -116,7 +116,7 @@ fn gate_count(gate: Gate, inputs: usize) -> u64
     ensures few { result ≤ 252 }
 {
     if inputs > NARROW_LIMIT {
-        return step_count(gate.reduction()) * (inputs as u64 - 1);
+        return step_count(gate.reduction) * (inputs as u64 - 1);
     }
     narrow_count(gate, inputs)
 }
@@ -129,7 +129,7 @@ fn narrow_count(gate: Gate, inputs: usize) -> u64
         → length (gate_clauses gate h xs y) ≡ result }
     ensures few { result ≤ 16 }
 {
-    match gate.reduction() {
+    match gate.reduction {
         Reduction::AllOnes | Reduction::AnyOne => inputs as u64 + 1,
         Reduction::OddOnes => 1 << inputs,
     }

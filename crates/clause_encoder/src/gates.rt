@@ -1,13 +1,13 @@
 ghost use Rattle.std.specs.Prelude.{◌≡◌, ◌<◌, ◌≤◌, ◌+◌, ◌-◌, ◌%◌, ◌==◌, ◌++◌, ◌∷◌, pos, true, map, length, count_ones, All, OnOk, IfOk, if◌then◌else◌};
 ghost use Rattle.state_rules.specs.Bits.{same_bit};
 ghost use Rattle.device_model.specs.Devices.{takes_ports};
-ghost use Rattle.device_model.specs.Gates.{takes};
+ghost use Rattle.device_model.specs.Gates.{rule, takes};
 ghost use Rattle.clause_encoder.specs.Clauses.{literal};
 ghost use Rattle.clause_encoder.specs.Encoding.{tidy, and_clauses, parity_clauses, row_bits, blocking_literals, blocked_rows, table_clauses, gate_clauses, and_step, xor_step, step_clauses, wide_clauses, is_wide, any_gate_clauses, inner_count, raw_clauses};
 
 use crate::limits::{NARROW_LIMIT, VARIABLE_LIMIT};
 use crate::writer::Writer;
-use device_model::{Gate, INPUT_LIMIT, Kind, Reduction, Table};
+use device_model::{Gate, INPUT_LIMIT, Kind, Reduction, Rule, Table};
 use std::alloc::AllocError;
 
 // Writes the clauses of a part, by the variables of its health and of its ports. Its inner variables are `inner` and up; the
@@ -20,21 +20,21 @@ pub(crate) fn push_part(
     inner: u32,
     ports: &[u32],
 ) -> Result<u32, AllocError>
-    requires arity { takes_ports tables.now kind (length ports.now) ≡ true }
+    requires arity { takes_ports tables.now (rule kind) (length ports.now) ≡ true }
     requires health { health < VARIABLE_LIMIT }
     requires inner { inner + INPUT_LIMIT < VARIABLE_LIMIT }
     requires ports { All (λ v. v < VARIABLE_LIMIT) ports.now }
     ensures clauses { OnOk result
-        (writer.new.clauses ≡ writer.old.clauses ++ tidy (raw_clauses tables.now kind health inner ports.now)) }
-    ensures inner { IfOk result (λ next. next ≡ inner + inner_count kind (length ports.now)) }
+        (writer.new.clauses ≡ writer.old.clauses ++ tidy (raw_clauses tables.now (rule kind) health inner ports.now)) }
+    ensures inner { IfOk result (λ next. next ≡ inner + inner_count (rule kind) (length ports.now)) }
     ensures few { IfOk result (λ next. next ≤ inner + INPUT_LIMIT) }
 {
-    match kind {
-        Kind::Table(table) => {
+    match kind.rule() {
+        Rule::Table(table) => {
             push_table(writer, &tables[table as usize], health, ports)?;
             Ok(inner)
         }
-        Kind::Gate(gate) => {
+        Rule::Gate(gate) => {
             let inputs = ports.len() - 1;
             push_gate(writer, gate, health, inner, &ports[..inputs], ports[inputs])
         }
@@ -90,7 +90,7 @@ fn push_chain(
     let mut next = inner;
     let mut before = inputs[0];
     for input in between {
-        push_step(writer, gate.reduction(), next, before, *input)?;
+        push_step(writer, gate.reduction, next, before, *input)?;
         before = next;
         next += 1;
     }
@@ -173,11 +173,10 @@ fn push_narrow(
     ensures { OnOk result
         (writer.new.clauses ≡ writer.old.clauses ++ tidy (gate_clauses gate health inputs.now output)) }
 {
-    let positive = gate.is_positive();
-    match gate.reduction() {
-        Reduction::AllOnes => push_and(writer, health, inputs, true, output, positive),
-        Reduction::AnyOne => push_and(writer, health, inputs, false, output, !positive),
-        Reduction::OddOnes => push_parity(writer, health, inputs, output, positive),
+    match gate.reduction {
+        Reduction::AllOnes => push_and(writer, health, inputs, true, output, gate.positive),
+        Reduction::AnyOne => push_and(writer, health, inputs, false, output, !gate.positive),
+        Reduction::OddOnes => push_parity(writer, health, inputs, output, gate.positive),
     }
 }
 

@@ -12,3 +12,4 @@ pub use cnf::{Clause, Cnf};
 pub use encoding::{EncodeError, encode, part_count};
 pub use limits::{CLAUSE_LIMIT, NARROW_LIMIT, VARIABLE_LIMIT};
 pub use replacement::replaced;
+pub use std::alloc::AllocError as Memory;

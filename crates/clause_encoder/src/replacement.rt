@@ -4,17 +4,18 @@ ghost use Rattle.clause_encoder.specs.Clauses.{var_of, all_hold};
 ghost use Rattle.clause_encoder.specs.Encoding.{tidy};
 ghost use Rattle.clause_encoder.specs.Replacing.{variable_for, literal_for, replaced};
 
+use crate::Memory;
 use crate::cnf::Cnf;
 use crate::limits::VARIABLE_LIMIT;
 use crate::writer::Writer;
-use std::alloc::{AllocError, Global};
+use std::alloc::Global;
 
-/// The clauses in which `variables[v - 1]` stands for variable v. One variable may stand for several: so each clause is sorted
+/// The clauses with `variables[v - 1]` in place of variable v. One variable may replace several: so each clause is sorted
 /// again, and one that has both literals of a variable then is left out.
 ///
-/// They are true under an assignment exactly where the clauses that were given are, each variable having the bit of the one that
-/// stands for it.
-pub fn replaced(alloc: Global, cnf: &Cnf, variables: &[u32], vars: u32) -> Result<Cnf, AllocError>
+/// They are true under an assignment exactly if the clauses that were given are, each variable having the bit of the one that
+/// replaces it.
+pub fn replaced(alloc: Global, cnf: &Cnf, variables: &[u32], vars: u32) -> Result<Cnf, Memory>
     requires all { length variables.now ≡ cnf.now.vars }
     requires some { All (λ v. 1 ≤ v) variables.now }
     requires within { All (λ v. v ≤ vars) variables.now }
@@ -33,7 +34,7 @@ pub fn replaced(alloc: Global, cnf: &Cnf, variables: &[u32], vars: u32) -> Resul
 }
 
 // Writes a clause in which other variables stand for its own.
-fn push_replaced(writer: &mut Writer, clause: &[i32], variables: &[u32]) -> Result<(), AllocError>
+fn push_replaced(writer: &mut Writer, clause: &[i32], variables: &[u32]) -> Result<(), Memory>
     requires some { All (λ l. 1 ≤ var_of l) clause.now }
     requires within { All (λ l. var_of l ≤ length variables.now) clause.now }
     requires few { All (λ v. v < VARIABLE_LIMIT) variables.now }

@@ -2,12 +2,12 @@
 use Rattle.std.proofs.Common.{◌≡◌, ℕ, zero, suc, List, [], ◌∷◌, ◌++◌, Result, Ok, Err, refl}
 use Rattle.std.specs.Prelude.{codes, replicate}
 use Rattle.text_rules.specs.Names.{Name}
-use Rattle.device_model.specs.declared.gates.Gate.TheVariants.{Xnor, Not}
+use Rattle.device_model.specs.declared.gates.Kind.TheVariants.{Xnor, Not}
 use Rattle.component_lang.specs.declared.design.UsedKind.TheVariants.{Gate, Shape as OfShape, Block as OfBlock}
 use Rattle.component_lang.specs.declared.design.Shape.{Shape}
 use Rattle.component_lang.specs.declared.design.Block.{Block}
 use Rattle.component_lang.specs.declared.fault.LangFault.{LangFault}
-use Rattle.component_lang.specs.declared.fault.LangFault.TheVariants.{Line as NotHere, Name as NoName, Twice, Unknown, Ports, Row, NoTop, AfterTop, Cost}
+use Rattle.component_lang.specs.declared.fault.LangFault.TheVariants.{Line as NotHere, Twice, Row, Cost}
 use Rattle.component_lang.specs.Designs.{Design}
 use Rattle.component_lang.specs.Reading.{Fault, design}
 
@@ -32,91 +32,20 @@ part_of_a kind ports = codes "part u " ++ kind ++ arguments_a ports
 
 -- ---- refused, each for the first fault of its first line with one
 
-row_too_long : design (text_of (codes "type U p" ∷ codes "ok 00" ∷ codes "end" ∷ [])) ≡ bad 2 Row
-row_too_long = refl
-
 row_of_a_letter : design (text_of (codes "type U p" ∷ codes "bad x" ∷ codes "end" ∷ [])) ≡ bad 2 Row
 row_of_a_letter = refl
-
-gate_of_one_argument : design (text_of (codes "block M a" ∷ codes "part u NOT a" ∷ codes "end" ∷ codes "top M" ∷ [])) ≡ bad 2 Ports
-gate_of_one_argument = refl
-
--- 65 inputs and an output
-one_input_too_many : design (text_of (codes "block M a" ∷ part_of_a (codes "AND") 66 ∷ codes "end" ∷ codes "top M" ∷ [])) ≡ bad 2 Ports
-one_input_too_many = refl
-
-unknown_kind : design (text_of (codes "block M a" ∷ codes "part u V a" ∷ codes "end" ∷ codes "top M" ∷ [])) ≡ bad 2 Unknown
-unknown_kind = refl
-
--- a block does not stand in itself
-own_kind : design (text_of (codes "block M a" ∷ codes "part u M a" ∷ codes "end" ∷ codes "top M" ∷ [])) ≡ bad 2 Unknown
-own_kind = refl
-
-port_twice : design (text_of (codes "block M a a" ∷ codes "end" ∷ codes "top M" ∷ [])) ≡ bad 1 Twice
-port_twice = refl
-
-wire_twice : design (text_of (codes "block M a" ∷ codes "wire b a" ∷ codes "end" ∷ codes "top M" ∷ [])) ≡ bad 2 Twice
-wire_twice = refl
-
--- the name before what is there twice
-dot_before_twice : design (text_of (codes "block M a" ∷ codes "wire a b.c" ∷ [])) ≡ bad 2 NoName
-dot_before_twice = refl
-
-no_top : design (text_of (codes "block M a" ∷ codes "end" ∷ [])) ≡ bad 0 NoTop
-no_top = refl
-
-open_block : design (text_of (codes "block M a" ∷ [])) ≡ bad 0 NoTop
-open_block = refl
-
-after_top : design (text_of (codes "block M a" ∷ codes "end" ∷ codes "top M" ∷ codes "end" ∷ [])) ≡ bad 4 AfterTop
-after_top = refl
-
-part_outside : design (text_of (codes "part u NOT a b" ∷ [])) ≡ bad 1 NotHere
-part_outside = refl
-
-dot_in_a_port : design (text_of (codes "block M a.b" ∷ codes "end" ∷ codes "top M" ∷ [])) ≡ bad 1 NoName
-dot_in_a_port = refl
-
-name_of_a_gate : design (text_of (codes "type AND a" ∷ codes "end" ∷ [])) ≡ bad 1 Twice
-name_of_a_gate = refl
 
 name_of_a_type : design (text_of (codes "type T a" ∷ codes "end" ∷ codes "block T a" ∷ codes "end" ∷ [])) ≡ bad 3 Twice
 name_of_a_type = refl
 
--- the name before the kind that is not known
-dot_before_unknown : design (text_of (codes "block M a" ∷ codes "part u a.b x" ∷ codes "end" ∷ [])) ≡ bad 2 NoName
-dot_before_unknown = refl
-
--- the part that is there twice before the kind that is not known
-twice_before_unknown : design (text_of (codes "block M a" ∷ codes "part u NOT a a" ∷ codes "part u V x" ∷ [])) ≡ bad 3 Twice
-twice_before_unknown = refl
-
-top_of_a_type : design (text_of (codes "type T a" ∷ codes "end" ∷ codes "top T" ∷ [])) ≡ bad 3 Unknown
-top_of_a_type = refl
-
-top_in_a_block : design (text_of (codes "block M a" ∷ codes "top M" ∷ [])) ≡ bad 2 NotHere
-top_in_a_block = refl
-
-type_without_ports : design (text_of (codes "type T" ∷ codes "end" ∷ [])) ≡ bad 1 Ports
-type_without_ports = refl
-
-type_of_seven_ports : design (text_of (codes "type T a b c d e f g" ∷ codes "end" ∷ [])) ≡ bad 1 Ports
-type_of_seven_ports = refl
-
 wire_without_names : design (text_of (codes "block M a" ∷ codes "wire" ∷ [])) ≡ bad 2 NotHere
 wire_without_names = refl
-
-cost_of_0 : design (text_of (codes "type C a" ∷ codes "cost 0" ∷ codes "end" ∷ [])) ≡ bad 2 Cost
-cost_of_0 = refl
 
 cost_of_1001 : design (text_of (codes "type C a" ∷ codes "cost 1001" ∷ codes "end" ∷ [])) ≡ bad 2 Cost
 cost_of_1001 = refl
 
 cost_with_a_leading_zero : design (text_of (codes "type C a" ∷ codes "cost 01" ∷ codes "end" ∷ [])) ≡ bad 2 Cost
 cost_with_a_leading_zero = refl
-
-cost_twice : design (text_of (codes "type C a" ∷ codes "cost 2" ∷ codes "cost 2" ∷ codes "end" ∷ [])) ≡ bad 3 Twice
-cost_twice = refl
 
 -- that it is the second comes before that it is no number
 twice_before_cost : design (text_of (codes "type C a" ∷ codes "cost 2" ∷ codes "cost x" ∷ codes "end" ∷ [])) ≡ bad 3 Twice
@@ -150,18 +79,7 @@ two_blocks : design (text_of (codes "# a design" ∷ codes "type T p q" ∷ code
     } ∷ record { name = codes "N"; ports = 1; wires = codes "x" ∷ []; parts = record { name = codes "m"; kind = OfBlock 0; args = 0 ∷ 0 ∷ [] } ∷ [] } ∷ []) 1
 two_blocks = refl
 
--- without a line `bad` all four rows are allowed
-free_where_faulty : design (text_of (codes "type U p q" ∷ codes "ok 10" ∷ codes "end" ∷ codes "block M a" ∷ codes "part u U a a" ∷ codes "end" ∷ codes "top M" ∷ []))
-    ≡ made (record { name = codes "U"; table = record { ports = 2; ok = 2; bad = 15; cost = 1 } } ∷ [])
-    (record { name = codes "M"; ports = 1; wires = codes "a" ∷ []; parts = record { name = codes "u"; kind = OfShape 0; args = 0 ∷ 0 ∷ [] } ∷ [] } ∷ []) 0
-free_where_faulty = refl
-
 -- 64 inputs and an output
 most_inputs : design (text_of (codes "block M a" ∷ part_of_a (codes "XNOR") 65 ∷ codes "end" ∷ codes "top M" ∷ []))
     ≡ made [] (record { name = codes "M"; ports = 1; wires = codes "a" ∷ []; parts = record { name = codes "u"; kind = Gate Xnor; args = replicate 65 0 } ∷ [] } ∷ []) 0
 most_inputs = refl
-
-dear_where_faulty : design (text_of (codes "type U p" ∷ codes "ok 1" ∷ codes "cost 1000" ∷ codes "end" ∷ codes "block M a" ∷ codes "part u U a" ∷ codes "end" ∷ codes "top M" ∷ []))
-    ≡ made (record { name = codes "U"; table = record { ports = 1; ok = 2; bad = 3; cost = 1000 } } ∷ [])
-    (record { name = codes "M"; ports = 1; wires = codes "a" ∷ []; parts = record { name = codes "u"; kind = OfShape 0; args = 0 ∷ [] } ∷ [] } ∷ []) 0
-dear_where_faulty = refl

@@ -2,7 +2,7 @@
 use Rattle.std.specs.Prelude.{ℕ, ◌-◌, Bool, true, false, not, ◌&&◌, List, [], ◌∷◌, ◌++◌, map, length, ◌==◌, Option, Some, None, nat_lt, nat_le, slice_get}
 use Rattle.std.specs.List.{list_all, list_any}
 use Rattle.text_rules.specs.Names.{Name, is_short_name}
-use Rattle.device_model.specs.Gates.{takes}
+use Rattle.device_model.specs.Gates.{rule, takes_inputs}
 use Rattle.device_model.specs.Building.{repeated}
 use Rattle.component_lang.specs.declared.design.UsedKind.{UsedKind}
 use Rattle.component_lang.specs.declared.design.UsedKind.TheVariants.{Gate, Shape as OfShape, Block as OfBlock}
@@ -45,7 +45,7 @@ block_takes (Some block) args = block.ports == args
 
 -- whether a kind takes so many arguments, of which a gate's last is its output
 abbrev pub takes_args : List Shape → List Block → UsedKind → ℕ → Bool
-takes_args types blocks (Gate gate) args = takes gate (args - 1)
+takes_args types blocks (Gate kind) args = takes_inputs (rule kind) (args - 1)
 takes_args types blocks (OfShape place) args = shape_takes (slice_get types place) args
 takes_args types blocks (OfBlock place) args = block_takes (slice_get blocks place) args
 

@@ -1,7 +1,7 @@
 ghost use Rattle.std.specs.Prelude.{◌≡◌, true};
 ghost use Rattle.component_lang.specs.Designs.{is_design};
 
-use device_model::{Gate, Name, Names, Table, Wires};
+use device_model::{Kind, Name, Names, Table, Wires};
 use std::marker::Model;
 
 /// A type of parts.
@@ -11,10 +11,11 @@ pub struct Shape {
     pub table: Table,
 }
 
-/// What a part of a block is: a gate, a part of a type or an instance of a block, by their places in the design.
+/// What a part of a block is: a gate, a part of a type or an instance of a block, by their places in the design. In a design no
+/// gate is of the kind `Table`, since no number of arguments is right for that.
 #[derive(Clone, Copy, Debug, PartialEq, Eq)]
 pub enum UsedKind {
-    Gate(Gate),
+    Gate(Kind),
     Shape(u32),
     Block(u32),
 }

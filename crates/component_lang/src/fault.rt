@@ -4,7 +4,7 @@ ghost use Rattle.component_lang.specs.declared.fault.LangError.TheVariants.{Memo
 
 use std::alloc::{AllocError, AllocFailed};
 
-/// What is wrong in a design. The first line with a fault is told, by its first one; `NoTop` is told last.
+/// What is wrong in a design. The first line with a fault counts, with its first one; `NoTop` comes last.
 #[derive(Clone, Copy, Debug, PartialEq, Eq)]
 pub enum LangFault {
     /// The first word may not stand here, or has too few or too many words after it.
@@ -35,7 +35,7 @@ impl LangFault {
         self.row().0
     }
 
-    /// The name of the fault, as it is told.
+    /// The name of the fault, as it is printed.
     pub fn name(self) -> &'static str
         ensures { result.now ≡ (fault_row self).1 }
     {

@@ -63,12 +63,12 @@ impl<'a> Library<'a> {
         Some(UsedKind::Block(place as u32))
     }
 
-    /// Whether a kind takes so many arguments, of which a gate's last is its output.
+    /// Whether a kind takes so many arguments. The last one of a gate is its output.
     pub fn takes_args(&self, kind: UsedKind, args: usize) -> bool
         ensures { result ≡ takes_args self.now.types.items self.now.blocks.items kind args }
     {
         match kind {
-            UsedKind::Gate(gate) => gate.takes(args.saturating_sub(1)),
+            UsedKind::Gate(kind) => kind.takes_inputs(args.saturating_sub(1)),
             UsedKind::Shape(place) => match self.types.get(place as usize) {
                 Some(shape) => usize::from(shape.table.ports()) == args,
                 None => false,
@@ -159,7 +159,7 @@ impl<'a> Library<'a> {
         Ok(())
     }
 
-    /// The design with this top, where the text has ended.
+    /// The design with this top, if the text has ended.
     pub fn into_design(self, top: u32) -> Design
         requires { is_design (record { types = self.types.items; blocks = self.blocks.items; top = top }) ≡ true }
         ensures { result ≡ record { types = self.entry.types.items; blocks = self.entry.blocks.items; top = top } }

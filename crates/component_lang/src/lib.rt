@@ -1,4 +1,4 @@
-//! Designs in `.dev` text: types of parts, and blocks of parts that stand in one another.
+//! Designs in `.dev` text: types of parts, and blocks of parts, which may contain each other.
 #![tactic(auto)]
 
 mod blocks;

@@ -22,7 +22,7 @@ use device_model::TYPE_PORT_LIMIT;
 use std::alloc::Global;
 use text_rules::{Lines, TEXT_LIMIT, Tokens, uncommented};
 
-/// Where a line stands.
+/// Where a line is.
 #[derive(Drop)]
 enum Section<'a> {
     Outside,

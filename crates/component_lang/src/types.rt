@@ -15,7 +15,7 @@ use device_model::{COST_LIMIT, Name, TYPE_PORT_LIMIT, Table};
 use std::alloc::Global;
 use text_rules::plain_number;
 
-/// A type while its lines are read. Without a line `bad` every row is allowed where the part is faulty, and without a line `cost`
+/// A type while its lines are read. Without a line `bad` every row is allowed if the part is faulty, and without a line `cost`
 /// a failure costs 1.
 #[derive(Clone, Copy)]
 pub struct OpenType<'a> {
@@ -54,7 +54,7 @@ fn with_row(rows: u64, row: u64) -> u64
 }
 
 impl<'a> OpenType<'a> {
-    /// Allows a row where the part is ok.
+    /// Allows a row if the part is ok.
     pub fn with_ok(self, word: &[u8]) -> Result<OpenType<'a>, LineError>
         requires { self.ports ≤ TYPE_PORT_LIMIT }
         ensures { (reader : Reader) → Fulfils (λ open_type. at reader (InType (open_type_in open_type))) fault_told
@@ -69,7 +69,7 @@ impl<'a> OpenType<'a> {
         })
     }
 
-    /// Allows a row where the part is faulty.
+    /// Allows a row if the part is faulty.
     pub fn with_bad(self, word: &[u8]) -> Result<OpenType<'a>, LineError>
         requires { self.ports ≤ TYPE_PORT_LIMIT }
         ensures { (reader : Reader) → Fulfils (λ open_type. at reader (InType (open_type_in open_type))) fault_told

@@ -1,4 +1,4 @@
 pub mod Failing
-pub mod Ordering
+pub mod Choosing
 pub mod Refusing
 pub mod Statuses

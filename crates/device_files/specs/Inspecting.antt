@@ -10,7 +10,7 @@ use Rattle.device_model.specs.Devices.{Device}
 use Rattle.clause_encoder.specs.declared.encoding.EncodeError.{EncodeError}
 use Rattle.clause_encoder.specs.Clauses.{ClauseList}
 use Rattle.branch_states.specs.declared.measuring.TheConstants.{BUDGET_LIMIT}
-use Rattle.branch_states.specs.Branches.{sum_of}
+use Rattle.elimination_forests.specs.Forests.{Forest}
 use Rattle.session_rules.specs.Items.{Item, line}
 use Rattle.device_files.specs.declared.inspecting.Inspection.{Inspection}
 use Rattle.device_files.specs.declared.inspecting.Inspection.TheVariants.{Plan, Check}
@@ -20,12 +20,12 @@ use Rattle.device_files.specs.Output.{Output, says, result_and_then, told_or_ref
 use Rattle.device_files.specs.Paths.{is_device_path, is_graph_path}
 use Rattle.device_files.specs.Describing.{described}
 use Rattle.device_files.specs.Checking.{graph_in}
-use Rattle.device_files.specs.Orders.{clauses_by}
+use Rattle.device_files.specs.Choices.{Weighed, clauses_by}
 use Rattle.device_files.specs.Weighing.{within}
 
 -- ---- words
 
--- the inspection that a word asks for, of a file with this path, and in a better order of the clauses where that is asked for
+-- the inspection that a word asks for, of a file with this path, and along a forest if that is asked for
 abbrev pub inspection_named : List ℕ → List ℕ → Bool → Option Inspection
 inspection_named word path narrow =
     if same_name word (codes "plan") then then_some (is_device_path path) (Plan narrow)
@@ -44,11 +44,11 @@ size_lines sizes = count_line (codes "parts") sizes.parts ∷ count_line (codes 
     ∷ count_line (codes "clauses") sizes.clauses ∷ count_line (codes "sum") sizes.sum ∷ []
 
 -- the numbers of parts, wires and clauses, and the sum of the clauses
-abbrev pub sizes_by : Device → ClauseList → Sizes
-sizes_by device cnf = record { parts = length device.parts; wires = length device.wires; clauses = length cnf.clauses; sum = sum_of cnf.clauses }
+abbrev pub sizes_by : Device → Weighed → Sizes
+sizes_by device weighed = record { parts = length device.parts; wires = length device.wires; clauses = length weighed.list.clauses; sum = weighed.sum }
 
 -- by what the clauses of devices are
-abbrev pub sizes_in : (Device → Result ClauseList EncodeError) → Result Device Output → Result Sizes Output
+abbrev pub sizes_in : (Device → Result Weighed EncodeError) → Result Device Output → Result Sizes Output
 sizes_in clauses found = result_and_then (λ device. result_map_both (sizes_by device) (λ output. output) (within BUDGET_LIMIT (clauses device))) found
 
 -- the sizes of a device whose clauses are within the budget
@@ -67,7 +67,7 @@ told_decomposable graph = says (decomposable_line graph) Done
 
 -- ---- all inspections
 
--- what each tells of a file, by the order of clauses that is used where another one is asked for
-abbrev pub inspected : (ClauseList → ClauseList) → List ℕ → Inspection → List ℕ → Output
-inspected order path (Plan narrow) file = told_or_refused planned (sizes_in (clauses_by narrow order) (described path file))
-inspected order path Check file = told_or_refused told_decomposable (graph_in file)
+-- what each prints of a file, by the choice of forests, if one is asked for
+abbrev pub inspected : (ClauseList → Option Forest) → List ℕ → Inspection → List ℕ → Output
+inspected choose path (Plan narrow) file = told_or_refused planned (sizes_in (clauses_by narrow choose) (described path file))
+inspected choose path Check file = told_or_refused told_decomposable (graph_in file)

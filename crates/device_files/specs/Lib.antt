@@ -1,8 +1,8 @@
 pub mod Checking
+pub mod Choices
 pub mod Describing
 pub mod GraphFaults
 pub mod Inspecting
-pub mod Orders
 pub mod Output
 pub mod Paths
 pub mod Refusals

@@ -5,8 +5,7 @@ use Rattle.text_rules.specs.Tokens.{spaced}
 use Rattle.clause_encoder.specs.declared.limits.TheConstants.{CLAUSE_LIMIT}
 use Rattle.clause_encoder.specs.declared.encoding.EncodeError.{EncodeError}
 use Rattle.clause_encoder.specs.declared.encoding.EncodeError.TheVariants.{TooManyClauses, Memory}
-use Rattle.clause_encoder.specs.Clauses.{ClauseList}
-use Rattle.branch_states.specs.Branches.{sum_of}
+use Rattle.device_files.specs.Choices.{Weighed}
 use Rattle.device_files.specs.declared.status.Status.TheVariants.{Refused, AboveBudget}
 use Rattle.device_files.specs.Output.{Output, says, no_memory}
 use Rattle.diag_edge.specs.ErrorLines.{above_line}
@@ -20,7 +19,7 @@ abbrev pub not_encoded : EncodeError → Output
 not_encoded (TooManyClauses count) = says (above_line (codes "clauses") count CLAUSE_LIMIT) Refused
 not_encoded Memory = no_memory
 
--- the clauses of a device, whose sum is within a budget
-abbrev pub within : ℕ → Result ClauseList EncodeError → Result ClauseList Output
-within budget (Ok cnf) = if nat_lt budget (sum_of cnf.clauses) then Err (says (sum_line budget) AboveBudget) else Ok cnf
+-- the clauses of a device, if their sum is within a budget
+abbrev pub within : ℕ → Result Weighed EncodeError → Result Weighed Output
+within budget (Ok weighed) = if nat_lt budget weighed.sum then Err (says (sum_line budget) AboveBudget) else Ok weighed
 within budget (Err error) = Err (not_encoded error)

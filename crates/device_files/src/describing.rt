@@ -58,7 +58,7 @@ fn design_device(alloc: Global, text: &[u8]) -> Result<Device, Refusal>
     }
 }
 
-/// The device that a text describes, by the ending of its file's path: a design where this is `.dev`, else a netlist. An error says
+/// The device that a text describes, by the ending of its file's path: a design if this is `.dev`, else a netlist. An error says
 /// why there is none.
 pub fn described(alloc: Global, path: &str, text: &[u8]) -> Result<Device, Refusal>
     requires { length text.now ≤ TEXT_LIMIT }

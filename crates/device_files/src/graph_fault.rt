@@ -45,7 +45,7 @@ impl GraphFault {
         self.row().0
     }
 
-    /// The name of the fault, as it is told.
+    /// The name of the fault, as it is printed.
     pub fn name(self) -> &'static str
         ensures { result.now ≡ (graph_fault_row self).1 }
     {

@@ -1,10 +1,10 @@
-//! What is told of a file alone, with no script.
+//! What is printed about a file alone, with no script.
 ghost use Rattle.std.specs.Prelude.{◌≡◌, ◌≢◌, ◌⊎◌, ◌-◌, ◌^◌, ◌<◌, ◌≤◌, [], ◌∷◌, map, length, Ok};
 ghost use Rattle.diag_edge.specs.Edge.{HasCause, RoseExactly};
 ghost use Rattle.session_rules.specs.Spelling.{Replies};
 ghost use Rattle.device_files.specs.Describing.{described};
 ghost use Rattle.device_files.specs.Inspecting.{inspection_named, count_line, size_lines, sizes_in, planned, told_decomposable, inspected};
-ghost use Rattle.device_files.specs.Orders.{ByOrder, ByClauses};
+ghost use Rattle.device_files.specs.Choices.{ByForest, ByClauses};
 ghost use Rattle.device_files.specs.Output.{Gives, GivesUnlessMemory};
 ghost use Rattle.device_files.specs.Refusals.{Finds};
 
@@ -22,7 +22,7 @@ use node_store::Graph;
 use std::alloc::Global;
 use text_rules::TEXT_LIMIT;
 
-/// What is told of a file alone.
+/// What is printed about a file alone.
 #[derive(Clone, Copy, Debug)]
 pub enum Inspection {
     /// `plan`: how large a device is, and the sum that the budget limits.
@@ -40,7 +40,7 @@ pub struct Sizes {
     pub wires: u64,
     /// That of its clauses.
     pub clauses: u64,
-    /// The sum of the clauses, in words of 64 bits.
+    /// Their sum: the lists by the order of their names, in words of 64 bits, or those along a forest.
     pub sum: u64,
 }
 
@@ -54,8 +54,8 @@ pub struct Count<'a> {
 }
 
 impl Inspection {
-    /// The inspection of this word, if there is one and it is for files with such an ending. `narrow` asks `plan` for a better order of
-    /// the clauses; `check` has none.
+    /// The inspection of this word, if there is one and it is for files with such an ending. `narrow` asks `plan` to go along a forest;
+    /// `check` does not.
     pub fn named(word: &str, path: &str, narrow: bool) -> Option<Inspection>
         ensures { result ≡ inspection_named word.now path.now narrow }
     {
@@ -180,8 +180,8 @@ fn plan_file<O: Sink>(alloc: Global, path: &str, file: &[u8], narrow: bool, out:
     ensures not_usage { result ≢ Status.Usage }
     ensures not_read { result ≢ Status.ReadFailed }
     ensures not_cut { result ≢ Status.CutShort }
-    ensures said { ByOrder (λ order.
-        GivesUnlessMemory (inspected order path.now (Inspection.Plan narrow) file.now) result (O.got out.old) (O.got out.new)) }
+    ensures said { ByForest (λ choose.
+        GivesUnlessMemory (inspected choose path.now (Inspection.Plan narrow) file.now) result (O.got out.old) (O.got out.new)) }
 {
     match sizes_in(alloc, path, file, narrow) {
         Ok(sizes) => tell_sizes(out, sizes),
@@ -197,8 +197,8 @@ fn check_file<O: Sink>(alloc: Global, path: &str, file: &[u8], out: &mut O) -> S
     ensures not_usage { result ≢ Status.Usage }
     ensures not_read { result ≢ Status.ReadFailed }
     ensures not_cut { result ≢ Status.CutShort }
-    ensures said { ByOrder (λ order.
-        GivesUnlessMemory (inspected order path.now Inspection.Check file.now) result (O.got out.old) (O.got out.new)) }
+    ensures said { ByForest (λ choose.
+        GivesUnlessMemory (inspected choose path.now Inspection.Check file.now) result (O.got out.old) (O.got out.new)) }
 {
     match graph_in(alloc, file) {
         Ok(graph) => tell_graph(out, &graph),
@@ -206,7 +206,7 @@ fn check_file<O: Sink>(alloc: Global, path: &str, file: &[u8], out: &mut O) -> S
     }
 }
 
-/// Tells what an inspection of a file, of at most `TEXT_LIMIT` bytes, comes to: `Done`; or why that cannot be told: `Refused`,
+/// Prints what an inspection of a file, of at most `TEXT_LIMIT` bytes, gives: `Done`; or why it gives nothing: `Refused`,
 /// `AboveBudget` or `NoMemory`; or `WriteFailed`.
 pub fn inspect_file<O: Sink>(
     alloc: Global,
@@ -221,8 +221,8 @@ pub fn inspect_file<O: Sink>(
     ensures not_usage { result ≢ Status.Usage }
     ensures not_read { result ≢ Status.ReadFailed }
     ensures not_cut { result ≢ Status.CutShort }
-    ensures said { ByOrder (λ order.
-        GivesUnlessMemory (inspected order path.now inspection file.now) result (O.got out.old) (O.got out.new)) }
+    ensures said { ByForest (λ choose.
+        GivesUnlessMemory (inspected choose path.now inspection file.now) result (O.got out.old) (O.got out.new)) }
 {
     match inspection {
         Inspection::Plan { narrow } => plan_file(alloc, path, file, narrow, out),

@@ -1,4 +1,4 @@
-//! What a file comes to: the device that it describes, its clauses and their sum, or a graph; else the line that refuses it.
+//! What a file is: the device that it describes, its clauses and their sum, or a graph; else the line that refuses it.
 #![tactic(auto)]
 
 mod checking;
@@ -17,4 +17,5 @@ pub use inspecting::{Count, Inspection, Sizes, inspect_file, put_count, put_coun
 pub use paths::{is_design_path, is_device_path, is_graph_path, is_netlist_path};
 pub use refusal::{Refusal, above, tell};
 pub use status::Status;
-pub use weighing::{in_order, ordered_clauses, sum_within};
+pub use std::alloc::AllocError as Memory;
+pub use weighing::{clauses_of, forest_of, found_within, sum_within};

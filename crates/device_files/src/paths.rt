@@ -9,14 +9,14 @@ fn ends_in(ending: &[u8], path: &str) -> bool
     path.len() > ending.len() && path.as_bytes().ends_with(ending)
 }
 
-/// Whether a file is a design: `.dev`, behind at least one more byte.
+/// Whether a file is a design: `.dev`, after at least one more byte.
 pub fn is_design_path(path: &str) -> bool
     ensures { result ≡ is_design_path path.now }
 {
     ends_in(b".dev", path)
 }
 
-/// Whether a file is a netlist: `.bench`, behind at least one more byte.
+/// Whether a file is a netlist: `.bench`, after at least one more byte.
 pub fn is_netlist_path(path: &str) -> bool
     ensures { result ≡ is_netlist_path path.now }
 {
@@ -30,7 +30,7 @@ pub fn is_device_path(path: &str) -> bool
     is_netlist_path(path) || is_design_path(path)
 }
 
-/// Whether a file is a graph: `.nnf`, behind at least one more byte.
+/// Whether a file is a graph: `.nnf`, after at least one more byte.
 pub fn is_graph_path(path: &str) -> bool
     ensures { result ≡ is_graph_path path.now }
 {

@@ -75,7 +75,7 @@ impl Refusal {
     }
 }
 
-/// The refusal that tells a count above its limit.
+/// The refusal of a count above its limit.
 pub fn above(what: &'static str, count: u64, limit: usize) -> Refusal
     ensures { told_by result ≡ Some (says (above_line what.now count limit) Status.Refused) }
 {
@@ -192,7 +192,7 @@ fn put_refusal<O: Sink>(out: &mut O, refusal: Refusal) -> Result<(), WriteFailed
     }
 }
 
-/// Tells a refusal and answers the status, `WriteFailed` where the write failed.
+/// Prints a refusal and answers the status, `WriteFailed` if the write failed.
 #[tactic(auto, using(crate::proofs::Failing::gives_refusal))]
 pub fn tell<O: Sink>(out: &mut O, refusal: Refusal) -> Status
     requires faults { O.faults out.old < 2 ^ 64 - 1 }

@@ -18,7 +18,7 @@ pub enum Status {
     WriteFailed,
     /// There was no memory.
     NoMemory,
-    /// The script was cut where it had as many bytes as may be.
+    /// The script was cut if it had as many bytes as may be.
     CutShort,
 }
 

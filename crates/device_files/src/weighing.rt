@@ -1,25 +1,26 @@
-ghost use Rattle.std.specs.Prelude.{◌≡◌, ◌≤◌, ℕ, Bool, Ok, IfOk, IfErr};
+ghost use Rattle.std.specs.Prelude.{◌≡◌, ◌<◌, ◌≤◌, ℕ, Bool, Option, Ok, IfOk, IfErr};
 ghost use Rattle.text_rules.specs.Expected.{IsExpectedFault, Fulfils};
 ghost use Rattle.clause_encoder.specs.Clauses.{ClauseList};
 ghost use Rattle.clause_encoder.specs.Encoding.{encoded, Describes};
 ghost use Rattle.branch_states.specs.Branches.{sum_of};
-ghost use Rattle.device_files.specs.Orders.{clauses_by, ByClauses, IsInOrder, IsListOf};
+ghost use Rattle.elimination_forests.specs.Forests.{Forest};
+ghost use Rattle.device_files.specs.Choices.{clauses_by, ByClauses, IsChosen, HasSum, IsListOf};
 ghost use Rattle.device_files.specs.Weighing.{within};
 ghost use Rattle.device_files.specs.Refusals.{told_by};
 
+use crate::Memory;
 use crate::refusal::{Refusal, above};
 use branch_states::{BUDGET_LIMIT, MeasureError, measure};
 use clause_encoder::{CLAUSE_LIMIT, Cnf, EncodeError, encode};
-use clause_order::narrow;
 use device_model::Device;
-use std::alloc::{AllocError, Global};
+use std::alloc::Global;
+use tree_finder::{Narrowed, narrow};
 
-// The clauses of a device, unless there are too many, whatever the budget.
-fn clauses_of(alloc: Global, device: &Device) -> Result<Cnf, Refusal>
-    ensures encoded { IfOk result (λ cnf. encoded device.now ≡ Ok cnf) }
-    ensures describes { IfOk result (λ cnf. Describes cnf device.now) }
-    ensures fault { IfErr result (λ refusal. (is_narrow : Bool) (order : ClauseList → ClauseList) (budget : ℕ)
-        → IsExpectedFault (told_by refusal) (within budget (clauses_by is_narrow order device.now))) }
+/// The clauses of a device. An error says that there are too many, whatever the budget, or that memory ran out.
+pub fn clauses_of(alloc: Global, device: &Device) -> Result<Cnf, Refusal>
+    ensures list { IfOk result (IsListOf device.now) }
+    ensures fault { IfErr result (λ refusal. (is_narrow : Bool) (choose : ClauseList → Option Forest) (budget : ℕ)
+        → IsExpectedFault (told_by refusal) (within budget (clauses_by is_narrow choose device.now))) }
 {
     match encode(alloc, device) {
         Ok(cnf) => Ok(cnf),
@@ -30,29 +31,17 @@ fn clauses_of(alloc: Global, device: &Device) -> Result<Cnf, Refusal>
     }
 }
 
-/// Clauses in a better order, where that is asked for.
-pub fn in_order(alloc: Global, cnf: Cnf, is_narrow: bool) -> Result<Cnf, AllocError>
-    ensures { IfOk result (IsInOrder is_narrow cnf) }
+/// The forest along which clauses are compiled, if one is asked for and found; otherwise that is by the order of their names.
+pub fn forest_of(alloc: Global, cnf: &Cnf, is_narrow: bool) -> Result<Option<Narrowed>, Memory>
+    ensures { IfOk result (IsChosen is_narrow cnf.now) }
 {
-    if is_narrow {
-        narrow(alloc, cnf)
-    } else {
-        Ok(cnf)
+    if !is_narrow {
+        return Ok(None);
     }
+    narrow(alloc, cnf)
 }
 
-/// The clauses of a device, in a better order where that is asked for. An error says that there are too many, whatever the budget, or
-/// that memory ran out.
-pub fn ordered_clauses(alloc: Global, device: &Device, is_narrow: bool) -> Result<Cnf, Refusal>
-    ensures list { IfOk result (IsListOf is_narrow device.now) }
-    ensures fault { IfErr result (λ refusal. (order : ClauseList → ClauseList) (budget : ℕ)
-        → IsExpectedFault (told_by refusal) (within budget (clauses_by is_narrow order device.now))) }
-{
-    let cnf = clauses_of(alloc, device)?;
-    Ok(in_order(alloc, cnf, is_narrow)?)
-}
-
-/// The clauses of a device and their sum, where it is within a budget.
+/// The clauses of a device and their sum, if it is within a budget.
 pub(crate) fn clauses_within(
     alloc: Global,
     device: &Device,
@@ -60,21 +49,54 @@ pub(crate) fn clauses_within(
     is_narrow: bool,
 ) -> Result<(Cnf, u32), Refusal>
     requires { budget ≤ BUDGET_LIMIT }
-    ensures list { ByClauses is_narrow (λ clauses.
-        Fulfils (λ found. found.0) told_by (within budget (clauses device.now)) result) }
-    ensures sum { IfOk result (λ found. found.1 ≡ sum_of found.0.clauses) }
+    ensures { ByClauses is_narrow (λ clauses.
+        Fulfils (λ found. record { list = found.0; sum = found.1 }) told_by (within budget (clauses device.now)) result) }
 {
-    let cnf = ordered_clauses(alloc, device, is_narrow)?;
-    let sum = sum_within(alloc, &cnf, budget)?;
+    let cnf = clauses_of(alloc, device)?;
+    let forest = forest_of(alloc, &cnf, is_narrow)?;
+    let sum = sum_within(alloc, &cnf, &forest, budget)?;
     Ok((cnf, sum))
 }
 
-/// The sum of clauses, in words of 64 bits, where it is within a budget.
-pub fn sum_within(alloc: Global, cnf: &Cnf, budget: u32) -> Result<u32, Refusal>
+/// The sum of clauses by the order of their names, or along a forest that was found for them, if it is within a budget.
+pub fn sum_within(
+    alloc: Global,
+    cnf: &Cnf,
+    forest: &Option<Narrowed>,
+    budget: u32,
+) -> Result<u32, Refusal>
     requires { budget ≤ BUDGET_LIMIT }
-    ensures list { Fulfils (λ _. cnf.now) told_by (within budget (Ok cnf.now)) result }
+    ensures list { (sum : ℕ) → HasSum cnf.now forest.now sum
+        → Fulfils (λ _. record { list = cnf.now; sum = sum }) told_by (within budget (Ok (record { list = cnf.now; sum = sum }))) result }
+    ensures sum { (sum : ℕ) → HasSum cnf.now forest.now sum → IfOk result (λ found. found ≡ sum) }
+    ensures few { IfOk result (λ sum. sum ≤ budget) }
+{
+    match forest {
+        Some(found) => found_within(found, budget),
+        None => named_within(alloc, cnf, budget),
+    }
+}
+
+/// The sum along a forest that was found, if it is within a budget.
+pub fn found_within(found: &Narrowed, budget: u32) -> Result<u32, Refusal>
+    ensures sum { IfOk result (λ sum. sum ≡ found.now.sum) }
+    ensures few { IfOk result (λ sum. sum ≤ budget) }
+    ensures fault { IfErr result (λ refusal. refusal ≡ Refusal.Sum budget) }
+    ensures above { IfErr result (λ refusal. budget < found.now.sum) }
+{
+    if budget < found.sum {
+        return Err(Refusal::Sum { budget });
+    }
+    Ok(found.sum)
+}
+
+// The sum by the order of the names, in words of 64 bits, if it is within a budget.
+fn named_within(alloc: Global, cnf: &Cnf, budget: u32) -> Result<u32, Refusal>
+    requires { budget ≤ BUDGET_LIMIT }
     ensures sum { IfOk result (λ sum. sum ≡ sum_of cnf.now.clauses) }
     ensures few { IfOk result (λ sum. sum ≤ budget) }
+    ensures fault { IfErr result (λ refusal. IsExpectedFault (told_by refusal)
+        (within budget (Ok (record { list = cnf.now; sum = sum_of cnf.now.clauses })))) }
 {
     match measure(alloc, cnf, budget) {
         Ok(sum) => Ok(sum),

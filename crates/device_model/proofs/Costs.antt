@@ -5,10 +5,11 @@ use Rattle.std.proofs.lemmas.Bool.{false≢true}
 use Rattle.std.proofs.lemmas.List.{get_or-map}
 use Rattle.std.proofs.lemmas.Option.{slice_get_cases, slice_get_read}
 use Rattle.state_rules.proofs.Members.{In-at}
-use Rattle.device_model.specs.declared.component.Kind.TheVariants.{Table}
+use Rattle.device_model.specs.declared.gates.Rule.TheVariants.{Table}
 use Rattle.device_model.specs.declared.component.Component.{Component}
 use Rattle.device_model.specs.TruthTable.{TruthTable}
-use Rattle.device_model.specs.Devices.{Device, IsDevice, rows_take, takes_ports, has_arity, kind_cost, table_cost, part_costs}
+use Rattle.device_model.specs.Gates.{rule}
+use Rattle.device_model.specs.Devices.{Device, IsDevice, rows_take, takes_ports, has_arity, rule_cost, table_cost, part_costs}
 use Rattle.device_model.proofs.Making.{list_all-among}
 
 table_there : (tables : List TruthTable) (t ports : ℕ) → rows_take (slice_get tables t) ports ≡ true → t < length tables
@@ -18,20 +19,20 @@ table_there tables t ports h = elim (slice_get_cases tables t).1 [
 ]
 
 module _ (device : Device) (place : ℕ) (part : Component) (within : place < length device.parts) (is : part ≡ get_or device.parts place part) where
-  pub cost-at : slice_index (part_costs device) place ≡ kind_cost device.tables part.kind
+  pub cost-at : slice_index (part_costs device) place ≡ rule_cost device.tables (rule part.kind)
   cost-at =
-      get_or-map (λ (p : Component). kind_cost device.tables p.kind) device.parts place part 0 within
-      ∙ ap (λ (p : Component). kind_cost device.tables p.kind) (sym is)
+      get_or-map (λ (p : Component). rule_cost device.tables (rule p.kind)) device.parts place part 0 within
+      ∙ ap (λ (p : Component). rule_cost device.tables (rule p.kind)) (sym is)
 
   -- the table of a part of a type is there
-  pub has_table : (t : ℕ) → IsDevice device → part.kind ≡ Table t → t < length device.tables
+  pub has_table : (t : ℕ) → IsDevice device → rule part.kind ≡ Table t → t < length device.tables
   has_table t valid e =
       let arity = ap (has_arity device.tables) is
       ∙ list_all-among (has_arity device.tables) device.parts valid.arities (get_or device.parts place part) (In-at device.parts place part within) in
-      table_there device.tables t (length part.ports) (subst (λ kind. takes_ports device.tables kind (length part.ports) ≡ true) e arity)
+      table_there device.tables t (length part.ports) (subst (λ r. takes_ports device.tables r (length part.ports) ≡ true) e arity)
 
   -- and such a part costs what its table says
-  pub table-cost : (t : ℕ) (rows : TruthTable) → IsDevice device → part.kind ≡ Table t → rows ≡ get_or device.tables t rows
+  pub table-cost : (t : ℕ) (rows : TruthTable) → IsDevice device → rule part.kind ≡ Table t → rows ≡ get_or device.tables t rows
       → rows.cost ≡ slice_index (part_costs device) place
   table-cost t rows valid e there =
-      sym (cost-at ∙ ap (kind_cost device.tables) e ∙ ap table_cost (slice_get_read device.tables (length device.tables) t rows refl (has_table t valid e) there))
+      sym (cost-at ∙ ap (rule_cost device.tables) e ∙ ap table_cost (slice_get_read device.tables (length device.tables) t rows refl (has_table t valid e) there))

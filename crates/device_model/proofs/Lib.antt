@@ -10,7 +10,8 @@ pub mod Tables
 pub mod NamedGates
 pub mod Making
 pub mod Costs
-mod Placing
+pub mod Placing
+mod Looking
 pub mod Answering
 mod Examples
 pub mod Joining

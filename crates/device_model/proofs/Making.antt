@@ -12,6 +12,7 @@ use Rattle.state_rules.proofs.Members.{In, In-at}
 use Rattle.device_model.specs.declared.component.Component.{Component}
 use Rattle.device_model.specs.TruthTable.{TruthTable}
 use Rattle.device_model.specs.Order.{placed, sorted_distinct}
+use Rattle.device_model.specs.Gates.{rule}
 use Rattle.device_model.specs.Devices.{IsDevice, part_names, takes_ports, has_arity, has_wires}
 use Rattle.device_model.specs.Building.{place_in, renumbered, device_of}
 use Rattle.device_model.proofs.Naming.{same, below, above, compared}
@@ -111,7 +112,7 @@ renumbered-has_wires wires part h = over part.ports h
         and_from _ _ (less_test _ _ (place_in-fits wires p (test_less p (length wires) two.0))) (over ps two.1)
 
 renumbered-has_arity : (tables : List TruthTable) (wires : List Name) (part : Component) → has_arity tables (renumbered wires part) ≡ has_arity tables part
-renumbered-has_arity tables wires part = ap (takes_ports tables part.kind) (length-map part.ports (λ port. place_in (sorted_distinct itself wires) (get_or wires port [])))
+renumbered-has_arity tables wires part = ap (takes_ports tables (rule part.kind)) (length-map part.ports (λ port. place_in (sorted_distinct itself wires) (get_or wires port [])))
 
 abbrev pub component_name : Component → Name
 component_name part = part.name

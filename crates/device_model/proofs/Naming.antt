@@ -30,10 +30,16 @@ pub data Compared (a b : Name) : Type 0 where
   below : Below a b → Compared a b
   above : Below b a → Compared a b
 
+pub same_if_tied : (a b : Name) → slice_cmp nat_cmp a b ≡ Equal → a ≡ b
+same_if_tied a b e = (bytes_eq-Decides a b).0 (sym (is_eq-slice_cmp a b) ∙ ap is_eq e)
+
+pub above_if_greater : (a b : Name) → slice_cmp nat_cmp a b ≡ Greater → Below b a
+above_if_greater a b e = nat_list_cmp_total.antisymm b a ∙ ap ordering_reverse e
+
 by_order : (a b : Name) (o : Ordering) → slice_cmp nat_cmp a b ≡ o → Compared a b
 by_order a b Less e = below e
-by_order a b Equal e = same ((bytes_eq-Decides a b).0 (sym (is_eq-slice_cmp a b) ∙ ap is_eq e))
-by_order a b Greater e = above (nat_list_cmp_total.antisymm b a ∙ ap ordering_reverse e)
+by_order a b Equal e = same (same_if_tied a b e)
+by_order a b Greater e = above (above_if_greater a b e)
 
 pub compared : (a b : Name) → Compared a b
 compared a b = by_order a b (slice_cmp nat_cmp a b) refl

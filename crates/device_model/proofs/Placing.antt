@@ -37,7 +37,7 @@ length-numbered_from : (p : ℕ) (ns : List Name) → length (numbered_from p ns
 length-numbered_from p [] = refl
 length-numbered_from p (n ∷ ns) = ap suc (length-numbered_from (p + 1) ns)
 
-Rises-get_or : {A : Type 0} (name : A → Name) (xs : List A) (i j : ℕ) (d : A) → Rises name xs → i < j → j < length xs → Below (name (get_or xs i d)) (name (get_or xs j d))
+pub Rises-get_or : {A : Type 0} (name : A → Name) (xs : List A) (i j : ℕ) (d : A) → Rises name xs → i < j → j < length xs → Below (name (get_or xs i d)) (name (get_or xs j d))
 Rises-get_or name [] i j d h l k = absurd (omega arith)
 Rises-get_or name (x ∷ xs) i zero d h l k = absurd (omega arith)
 Rises-get_or name (x ∷ xs) zero (suc j) d h l k = Below-among name (name x) xs (get_or xs j d) h.0 (In-at xs j d (omega arith))

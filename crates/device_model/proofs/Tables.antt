@@ -1,8 +1,8 @@
--- The tables of names of a device: their keys are the names, and a look-up gives a name's place.
+-- Tables of names that rise: their keys are the names, and a look-up gives a name's place.
 use Rattle.std.proofs.Common.{◌≡◌, ℕ, zero, suc, ◌+◌, ◌<◌, Bool, false, cond, not, nat_lt, List, [], ◌∷◌, ◌++◌, map, length, get_or, take, Some, None, refl, sym, ap, ◌∙◌, arith}
 use Rattle.std.specs.Prelude.{if◌then◌else◌, position}
 use Rattle.std.specs.List.{list_any, position_or_len}
-use Rattle.std.proofs.lemmas.List.{length-map, get_or-map, take-map, take_more, map_push}
+use Rattle.std.proofs.lemmas.List.{length-map, take_more, map_push}
 use Rattle.indexmap.specs.IndexSet.{insert_key}
 use Rattle.text_rules.specs.Names.{Name, same_name, is_among}
 use Rattle.state_rules.proofs.Lists.{list_any-map}
@@ -38,13 +38,3 @@ module _ {K : Type 0} (bytes : K → Name) where
   position-map p ks =
       ap (λ n. cond (nat_lt n (length ks)) (Some n) None) (position_or_len-map p ks)
       ∙ ap (λ n. cond (nat_lt (position_or_len p (map bytes ks)) n) (Some (position_or_len p (map bytes ks))) None) (sym (length-map ks bytes))
-
--- the same table of names, where a list has items of those names
-pub keys_more_named : {A : Type 0} (name : A → Name) {K : Type 0} (bytes : K → Name) (xs : List A) (ks : List K) (i : ℕ) (k : K) (x : A)
-    → Rises itself (map name xs) → i < length xs → x ≡ get_or xs i x → bytes k ≡ name x → map bytes ks ≡ map name (take i xs)
-    → map bytes (insert_key (λ a b. same_name (bytes a) (bytes b)) ks k) ≡ map name (take (i + 1) xs)
-keys_more_named name bytes xs ks i k x h l at_i is before =
-    keys_more bytes (map name xs) ks i k h (omega (arith, length-map xs name))
-    (is ∙ ap name at_i ∙ sym (get_or-map name xs i x [] l))
-    (before ∙ sym (take-map name i xs))
-    ∙ take-map name (i + 1) xs

@@ -2,7 +2,7 @@
 use Rattle.std.specs.Prelude.{ℕ, not, List, [], ◌∷◌, map, length, Option, Some, None, Result, Ok, Err, slice_index_or, nat_lt, position, if◌then◌else◌}
 use Rattle.std.specs.List.{position_or_len}
 use Rattle.text_rules.specs.Names.{Name, same_name, is_among}
-use Rattle.device_model.specs.declared.component.Kind.{Kind}
+use Rattle.device_model.specs.declared.gates.Kind.{Kind}
 use Rattle.device_model.specs.declared.component.Component.{Component}
 use Rattle.device_model.specs.declared.building.BuildError.{BuildError}
 use Rattle.device_model.specs.declared.building.BuildError.TheVariants.{TooMany, TwoParts, TwoWires, Arity, NoWire, Memory}

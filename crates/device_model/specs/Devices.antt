@@ -3,12 +3,12 @@ use Rattle.std.specs.Prelude.{◌≡◌, ℕ, ◌-◌, ◌≤◌, Bool, true, fa
 use Rattle.std.specs.List.{list_all}
 use Rattle.text_rules.specs.Names.{Name, same_name, names_rise}
 use Rattle.state_rules.specs.Bits.{bit_in, same_bit, row_number, has_bit}
-use Rattle.device_model.specs.declared.component.Kind.{Kind}
-use Rattle.device_model.specs.declared.component.Kind.TheVariants.{Gate as OfGate, Table}
 use Rattle.device_model.specs.declared.gates.Gate.{Gate}
+use Rattle.device_model.specs.declared.gates.Rule.{Rule}
+use Rattle.device_model.specs.declared.gates.Rule.TheVariants.{Gate as OfGate, Table as OfTable}
 use Rattle.device_model.specs.declared.component.Component.{Component}
 use Rattle.device_model.specs.declared.limits.TheConstants.{PART_LIMIT, WIRE_LIMIT}
-use Rattle.device_model.specs.Gates.{takes, gate_value}
+use Rattle.device_model.specs.Gates.{rule, takes, gate_value}
 use Rattle.device_model.specs.TruthTable.{TruthTable}
 
 -- Parts and wires are each in the order of their names. A port of a part is the place of a wire.
@@ -39,13 +39,13 @@ abbrev pub any_table_allows : Option TruthTable → Bool → List Bool → Bool
 any_table_allows None ok row = false
 any_table_allows (Some rows) ok row = table_allows rows ok row
 
--- whether a part of this kind, ok or faulty, allows the bits of its ports
-abbrev pub allows : List TruthTable → Kind → Bool → List Bool → Bool
-allows tables (Table t) ok row = any_table_allows (slice_get tables t) ok row
+-- whether a part of this rule, ok or faulty, allows the bits of its ports
+abbrev pub allows : List TruthTable → Rule → Bool → List Bool → Bool
+allows tables (OfTable t) ok row = any_table_allows (slice_get tables t) ok row
 allows tables (OfGate gate) ok row = gate_allows gate ok row
 
 abbrev pub part_allows : List TruthTable → Component → Bool → List Bool → Bool
-part_allows tables part ok wires = allows tables part.kind ok (map (bit_in wires) part.ports)
+part_allows tables part ok wires = allows tables (rule part.kind) ok (map (bit_in wires) part.ports)
 
 -- each part allows the bits of its wires
 abbrev pub parts_fit : List TruthTable → List Component → List Bool → List Bool → Bool
@@ -60,25 +60,25 @@ abbrev pub table_cost : Option TruthTable → ℕ
 table_cost None = 1
 table_cost (Some rows) = rows.cost
 
--- What a failure of a part of this kind costs: 1 of a gate, and what its table says of a part of a type.
-abbrev pub kind_cost : List TruthTable → Kind → ℕ
-kind_cost tables (Table t) = table_cost (slice_get tables t)
-kind_cost tables (OfGate gate) = 1
+-- What a failure of a part of this rule costs: 1 of a gate, and what its table says of a part of a type.
+abbrev pub rule_cost : List TruthTable → Rule → ℕ
+rule_cost tables (OfTable t) = table_cost (slice_get tables t)
+rule_cost tables (OfGate gate) = 1
 
 abbrev pub part_costs : Device → List ℕ
-part_costs device = map (λ (part : Component). kind_cost device.tables part.kind) device.parts
+part_costs device = map (λ (part : Component). rule_cost device.tables (rule part.kind)) device.parts
 
 abbrev pub rows_take : Option TruthTable → ℕ → Bool
 rows_take None ports = false
 rows_take (Some rows) ports = rows.ports == ports
 
--- whether a kind takes so many ports, of which a gate's last is its output
-abbrev pub takes_ports : List TruthTable → Kind → ℕ → Bool
-takes_ports tables (Table t) ports = rows_take (slice_get tables t) ports
+-- whether a part of this rule has so many ports, of which a gate's last is its output
+abbrev pub takes_ports : List TruthTable → Rule → ℕ → Bool
+takes_ports tables (OfTable t) ports = rows_take (slice_get tables t) ports
 takes_ports tables (OfGate gate) ports = takes gate (ports - 1)
 
 abbrev pub has_arity : List TruthTable → Component → Bool
-has_arity tables part = takes_ports tables part.kind (length part.ports)
+has_arity tables part = takes_ports tables (rule part.kind) (length part.ports)
 
 -- each port is the place of one of so many wires
 abbrev pub has_wires : ℕ → Component → Bool

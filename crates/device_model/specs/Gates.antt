@@ -1,41 +1,52 @@
--- The gates, by one table.
-use Rattle.std.specs.Prelude.{ℕ, Bool, true, false, ◌&&◌, nat_le, List, [], ◌∷◌, map, codes, Option}
+-- The kinds of parts. The gates are one table.
+use Rattle.std.specs.Prelude.{ℕ, Bool, true, false, ◌&&◌, nat_le, min, List, [], ◌∷◌, map, codes, Option}
 use Rattle.std.specs.Map.{lookup}
 use Rattle.std.specs.List.{list_all, list_any}
 use Rattle.text_rules.specs.Names.{Name, same_name}
 use Rattle.state_rules.specs.Bits.{same_bit, has_odd_ones}
+use Rattle.device_model.specs.declared.gates.Kind.{Kind}
+use Rattle.device_model.specs.declared.gates.Kind.TheVariants.{And, Or, Nand, Nor, Xor, Xnor, Not, Buff, Table}
 use Rattle.device_model.specs.declared.gates.Gate.{Gate}
-use Rattle.device_model.specs.declared.gates.Gate.TheVariants.{And, Or, Nand, Nor, Xor, Xnor, Not, Buff}
+use Rattle.device_model.specs.declared.gates.Rule.{Rule}
+use Rattle.device_model.specs.declared.gates.Rule.TheVariants.{Gate as OfGate, Table as OfTable}
 use Rattle.device_model.specs.declared.gates.Reduction.{Reduction}
 use Rattle.device_model.specs.declared.gates.Reduction.TheVariants.{AllOnes, AnyOne, OddOnes}
 use Rattle.device_model.specs.declared.limits.TheConstants.{INPUT_LIMIT}
 
--- A gate's word, what is asked of its inputs, whether the output is that or its opposite, and the most inputs.
-pub record GateRow : Type 0 where
-  pub word : Name
-  pub reduction : Reduction
-  pub positive : Bool
-  pub most_inputs : ℕ
+abbrev pub gate_rule : Reduction → Bool → ℕ → Rule
+gate_rule reduction positive most_inputs = OfGate (record { reduction = reduction; positive = positive; most_inputs = most_inputs })
 
-abbrev pub row : Name → Reduction → Bool → ℕ → GateRow
-row word reduction positive most_inputs = record { word = word; reduction = reduction; positive = positive; most_inputs = most_inputs }
+-- A gate's word, what is asked of its inputs, whether the output is that or its opposite, and the most inputs. A part of a type
+-- has no word.
+abbrev pub kind_row : Kind → Name × Rule
+kind_row And = (codes "AND", gate_rule AllOnes true INPUT_LIMIT)
+kind_row Or = (codes "OR", gate_rule AnyOne true INPUT_LIMIT)
+kind_row Nand = (codes "NAND", gate_rule AllOnes false INPUT_LIMIT)
+kind_row Nor = (codes "NOR", gate_rule AnyOne false INPUT_LIMIT)
+kind_row Xor = (codes "XOR", gate_rule OddOnes true INPUT_LIMIT)
+kind_row Xnor = (codes "XNOR", gate_rule OddOnes false INPUT_LIMIT)
+kind_row Not = (codes "NOT", gate_rule AllOnes false 1)
+kind_row Buff = (codes "BUFF", gate_rule AllOnes true 1)
+kind_row (Table t) = ([], OfTable t)
 
-abbrev pub gate_row : Gate → GateRow
-gate_row And = row (codes "AND") AllOnes true INPUT_LIMIT
-gate_row Or = row (codes "OR") AnyOne true INPUT_LIMIT
-gate_row Nand = row (codes "NAND") AllOnes false INPUT_LIMIT
-gate_row Nor = row (codes "NOR") AnyOne false INPUT_LIMIT
-gate_row Xor = row (codes "XOR") OddOnes true INPUT_LIMIT
-gate_row Xnor = row (codes "XNOR") OddOnes false INPUT_LIMIT
-gate_row Not = row (codes "NOT") AllOnes false 1
-gate_row Buff = row (codes "BUFF") AllOnes true 1
-
-abbrev pub gates : List Gate
+abbrev pub gates : List Kind
 gates = And ∷ Or ∷ Nand ∷ Nor ∷ Xor ∷ Xnor ∷ Not ∷ Buff ∷ []
+
+abbrev pub word : Kind → Name
+word kind = (kind_row kind).0
+
+-- what a part of a kind goes by
+abbrev pub rule : Kind → Rule
+rule kind = (kind_row kind).1
 
 -- whether a gate takes so many inputs
 abbrev pub takes : Gate → ℕ → Bool
-takes gate inputs = nat_le 1 inputs && nat_le inputs (gate_row gate).most_inputs
+takes gate inputs = nat_le 1 inputs && nat_le inputs (min gate.most_inputs INPUT_LIMIT)
+
+-- whether it is a gate that takes so many inputs
+abbrev pub takes_inputs : Rule → ℕ → Bool
+takes_inputs (OfGate gate) inputs = takes gate inputs
+takes_inputs (OfTable t) inputs = false
 
 -- whether all bits are 1, one or more are, or an odd number of them is
 abbrev pub reduced : Reduction → List Bool → Bool
@@ -45,12 +56,12 @@ reduced OddOnes bits = has_odd_ones bits
 
 -- the output that a gate's inputs give
 abbrev pub gate_value : Gate → List Bool → Bool
-gate_value gate inputs = same_bit (gate_row gate).positive (reduced (gate_row gate).reduction inputs)
+gate_value gate inputs = same_bit gate.positive (reduced gate.reduction inputs)
 
 -- the words of gates, each with its gate
-abbrev pub gate_words : List (Name × Gate)
-gate_words = map (λ gate. ((gate_row gate).word, gate)) gates
+abbrev pub gate_words : List (Name × Kind)
+gate_words = map (λ gate. (word gate, gate)) gates
 
 -- the gate that a word names, in just these letters
-abbrev pub gate_named : Name → Option Gate
+abbrev pub gate_named : Name → Option Kind
 gate_named word = lookup (same_name word) gate_words

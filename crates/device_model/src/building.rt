@@ -9,8 +9,9 @@ ghost use Rattle.device_model.specs.Building.{built, reason, repeated};
 ghost use Rattle.device_model.specs.inner.Sorting.{numbered_from, with_places, IsFirstRepeat, IsTwice};
 ghost use Rattle.device_model.specs.declared.building.BuildError.TheVariants.{TwoParts, TwoWires, Memory};
 
-use crate::component::{Component, Kind, Table};
+use crate::component::{Component, Table};
 use crate::device::Device;
+use crate::gates::Rule;
 use crate::limits::{PART_LIMIT, WIRE_LIMIT};
 use crate::names::Name;
 use std::alloc::{AllocError, Global};
@@ -40,23 +41,23 @@ impl From<AllocError> for BuildError {
     }
 }
 
-// Whether a kind takes so many ports.
-fn takes_ports(kind: Kind, tables: &[Table], ports: usize) -> bool
-    ensures { result ≡ takes_ports tables.now kind ports }
+// Whether a part of a rule has so many ports.
+fn takes_ports(rule: Rule, tables: &[Table], ports: usize) -> bool
+    ensures { result ≡ takes_ports tables.now rule ports }
 {
-    match kind {
-        Kind::Table(table) => match tables.get(table as usize) {
+    match rule {
+        Rule::Gate(gate) => gate.takes(ports.saturating_sub(1)),
+        Rule::Table(table) => match tables.get(table as usize) {
             Some(table) => usize::from(table.ports()) == ports,
             None => false,
         },
-        Kind::Gate(gate) => gate.takes(ports.saturating_sub(1)),
     }
 }
 
 fn has_arity(tables: &[Table], part: &Component) -> bool
     ensures { result ≡ has_arity tables.now part.now }
 {
-    takes_ports(part.kind, tables, part.ports.as_slice().len())
+    takes_ports(part.kind.rule(), tables, part.ports.as_slice().len())
 }
 
 fn has_wires(wires: usize, part: &Component) -> bool
@@ -85,7 +86,7 @@ fn first_without_wires(wires: usize, parts: &[Component]) -> Option<usize>
 impl Device {
     /// Sorts parts and wires by name. A port is a position in the given `wires`, and becomes that wire's place in order.
     ///
-    /// The first reason of `BuildError` that applies is the answer, in the order in which they stand there.
+    /// The first reason of `BuildError` that applies is the answer, in their order there.
     pub fn build(
         alloc: Global,
         parts: Vec<Component>,
@@ -118,7 +119,7 @@ impl Device {
         let places = places_of(alloc, &wires)?;
         renumber_all(&mut parts, &places);
         let wires = names_of(alloc, wires)?;
-        Ok(Device::of_sorted(alloc, parts, wires, tables)?)
+        Ok(Device::of_sorted(parts, wires, tables))
     }
 }
 

@@ -2,10 +2,11 @@ ghost use Rattle.std.specs.Prelude.{◌≡◌, ◌<◌, ◌^◌, length, map, sl
 ghost use Rattle.state_rules.specs.Bits.{has_bit};
 ghost use Rattle.device_model.specs.TruthTable.{set_of_all, is_table};
 
-use crate::gates::Gate;
+use crate::Memory;
+use crate::gates::Kind;
 use crate::limits::COST_LIMIT;
 use crate::names::Name;
-use std::alloc::{AllocError, Global};
+use std::alloc::Global;
 use std::marker::Model;
 
 /// The wires at the ports of a part, by their places.
@@ -24,7 +25,7 @@ impl Model for Wires {
 
 impl Wires {
     /// Copies a list of places.
-    pub fn new(alloc: Global, items: &[u32]) -> Result<Wires, AllocError>
+    pub fn new(alloc: Global, items: &[u32]) -> Result<Wires, Memory>
         ensures { IfOk result (λ wires. wires ≡ items.now) }
     {
         let items = Vec::from_slice(alloc, items)?;
@@ -56,13 +57,6 @@ impl Wires {
     }
 }
 
-/// What a part is: a gate, or a part of a type, by the place of its table in the device's list of tables.
-#[derive(Clone, Copy, Debug, PartialEq, Eq)]
-pub enum Kind {
-    Gate(Gate),
-    Table(u32),
-}
-
 /// A part: its name, its kind and the wires at its ports. The ports of a gate are its inputs and then its output.
 #[derive(Debug, Drop)]
 pub struct Component {
@@ -71,7 +65,7 @@ pub struct Component {
     pub ports: Wires,
 }
 
-/// What the parts of a type allow, and what a failure of one of them costs. Bit r of `ok` and of `bad` stands for the row whose
+/// What the parts of a type allow, and what a failure of one of them costs. Bit r of `ok` and of `bad` is for the row whose
 /// port i has bit i of r.
 #[derive(Clone, Copy, Debug)]
 pub struct Table {
@@ -95,7 +89,7 @@ impl Model for Table {
 }
 
 impl Table {
-    /// The rows of a type and what a failure costs. There is none where the number of ports is not 1 to 6, a row is not one of so
+    /// The rows of a type and what a failure costs. There is none if the number of ports is not 1 to 6, a row is not one of so
     /// many ports, or the cost is not 1 to 1,000.
     pub fn new(ports: u8, ok: u64, bad: u64, cost: u32) -> Option<Table>
         ensures { result ≡ (if is_table (record { ports = ports; ok = ok; bad = bad; cost = cost })
@@ -137,14 +131,14 @@ impl Table {
         self.ports
     }
 
-    /// The rows that a part allows where it is ok.
+    /// The rows that a part allows if it is ok.
     pub fn ok(&self) -> u64
         ensures { result ≡ self.now.ok }
     {
         self.ok
     }
 
-    /// The rows that a part allows where it is faulty.
+    /// The rows that a part allows if it is faulty.
     pub fn bad(&self) -> u64
         ensures { result ≡ self.now.bad }
     {

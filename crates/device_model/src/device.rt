@@ -1,11 +1,14 @@
-ghost use Rattle.std.specs.Prelude.{◌≡◌, ◌<◌, true, length, slice_index, IfOk};
+ghost use Rattle.std.specs.Prelude.{◌≡◌, ◌<◌, ◌≤◌, true, length, slice_index, IfOk};
+ghost use Rattle.text_rules.specs.Names.{names_rise};
 ghost use Rattle.device_model.specs.TruthTable.{is_cost};
 ghost use Rattle.device_model.specs.Devices.{IsDevice, place_of, part_names, part_costs};
 
-use crate::component::{Component, Kind, Table};
+use crate::Memory;
+use crate::component::{Component, Table};
+use crate::gates::Rule;
+use crate::limits::WIRE_LIMIT;
 use crate::names::Name;
-use indexmap::IndexSet;
-use std::alloc::{AllocError, Global};
+use std::alloc::Global;
 use std::marker::Model;
 
 /// Parts and wires, each in the order of their names.
@@ -14,51 +17,28 @@ pub struct Device {
     parts: Vec<Component>,
     wires: Vec<Name>,
     tables: Vec<Table>,
-    part_places: IndexSet<Vec<u8>>,
-    wire_places: IndexSet<Vec<u8>>,
 }
 
 impl Model for Device {
-    ghost use Rattle.std.specs.Prelude.{◌≡◌, map, ℕ, Vec};
-    ghost use Rattle.std.specs.declared.alloc.Global.{Global};
-    ghost use Rattle.device_model.specs.Devices.{Device as Shown, IsDevice, part_names};
+    ghost use Rattle.device_model.specs.Devices.{Device as Shown, IsDevice};
 
     ghost Value = { Shown };
 
     ghost view = { λ d. record { parts = d.parts.items; wires = d.wires.items; tables = d.tables.items } };
 
-    ghost invariant = { λ d.
-        IsDevice (record { parts = d.parts.items; wires = d.wires.items; tables = d.tables.items })
-        × (map (λ (n : Vec ℕ Global). n.items) d.part_places.keys ≡ part_names d.parts.items)
-        × (map (λ (n : Vec ℕ Global). n.items) d.wire_places.keys ≡ d.wires.items) };
+    ghost invariant = { λ d. IsDevice (record { parts = d.parts.items; wires = d.wires.items; tables = d.tables.items }) };
 }
 
 impl Device {
-    pub(crate) fn of_sorted(
-        alloc: Global,
-        parts: Vec<Component>,
-        wires: Vec<Name>,
-        tables: Vec<Table>,
-    ) -> Result<Device, AllocError>
+    pub(crate) fn of_sorted(parts: Vec<Component>, wires: Vec<Name>, tables: Vec<Table>) -> Device
         requires { IsDevice (record { parts = parts.items; wires = wires.items; tables = tables.items }) }
-        ensures { IfOk result (λ d.
-            d ≡ record { parts = parts.items; wires = wires.items; tables = tables.items }) }
+        ensures { result ≡ record { parts = parts.items; wires = wires.items; tables = tables.items } }
     {
-        let mut part_places = IndexSet::new(alloc);
-        for part in &parts {
-            part_places.insert(Vec::from_slice(alloc, part.name.as_slice())?)?;
-        }
-        let mut wire_places = IndexSet::new(alloc);
-        for wire in &wires {
-            wire_places.insert(Vec::from_slice(alloc, wire.as_slice())?)?;
-        }
-        Ok(Device {
+        Device {
             parts,
             wires,
             tables,
-            part_places,
-            wire_places,
-        })
+        }
     }
 
     /// The parts, in the order of their names.
@@ -91,28 +71,34 @@ impl Device {
         ensures cost { result ≡ slice_index (part_costs self.now) part }
         ensures within { is_cost result ≡ true }
     {
-        match self.parts[part as usize].kind {
-            Kind::Table(table) => self.tables[table as usize].cost(),
-            _ => 1,
+        match self.parts[part as usize].kind.rule() {
+            Rule::Gate(_) => 1,
+            Rule::Table(table) => self.tables[table as usize].cost(),
         }
     }
 
-    /// The place of the part of a name. There is none exactly where no part has the name.
+    /// The place of the part of a name. There is none exactly if no part has the name.
     pub fn find_part(&self, name: &[u8]) -> Option<u32>
         ensures { result ≡ place_of name.now (part_names self.now.parts) }
     {
-        Some(self.part_places.get_index_of(name)? as u32)
+        match self
+            .parts
+            .binary_search_by(|part| part.name.as_slice().cmp(name))
+        {
+            Ok(place) => Some(place as u32),
+            Err(_) => None,
+        }
     }
 
-    /// The place of the wire of a name. There is none exactly where no wire has the name.
+    /// The place of the wire of a name. There is none exactly if no wire has the name.
     pub fn find_wire(&self, name: &[u8]) -> Option<u32>
         ensures { result ≡ place_of name.now self.now.wires }
     {
-        Some(self.wire_places.get_index_of(name)? as u32)
+        place_of(&self.wires, name)
     }
 
     /// The names of the parts and of the wires, each in order.
-    pub fn take_names(self, alloc: Global) -> Result<(Vec<Name>, Vec<Name>), AllocError>
+    pub fn take_names(self, alloc: Global) -> Result<(Vec<Name>, Vec<Name>), Memory>
         ensures parts { IfOk result (λ names. names.0.items ≡ part_names self.parts) }
         ensures wires { IfOk result (λ names. names.1.items ≡ self.wires) }
     {
@@ -126,5 +112,17 @@ impl Device {
             names.push(name)?;
         }
         Ok((names, self.wires))
+    }
+}
+
+/// The place of a name among names that rise. There is none exactly if it is not there.
+pub fn place_of(names: &[Name], name: &[u8]) -> Option<u32>
+    requires rising { names_rise names.now ≡ true }
+    requires few { length names.now ≤ WIRE_LIMIT }
+    ensures { result ≡ place_of name.now names.now }
+{
+    match names.binary_search_by(|other| other.as_slice().cmp(name)) {
+        Ok(place) => Some(place as u32),
+        Err(_) => None,
     }
 }

@@ -1,12 +1,11 @@
 ghost use Rattle.std.specs.Prelude.{◌≡◌};
-ghost use Rattle.device_model.specs.Gates.{gate_row, gate_named, takes};
+ghost use Rattle.device_model.specs.Gates.{kind_row, gate_rule, word, rule, gate_named, takes, takes_inputs};
 
 use crate::limits::INPUT_LIMIT;
-use std::marker::Model;
 
-/// A gate, by what it computes of its inputs.
+/// What a part is: a gate, or a part of a type, by the place of its table in the device's list of tables.
 #[derive(Clone, Copy, Debug, PartialEq, Eq)]
-pub enum Gate {
+pub enum Kind {
     And,
     Or,
     Nand,
@@ -15,6 +14,7 @@ pub enum Gate {
     Xnor,
     Not,
     Buff,
+    Table(u32),
 }
 
 /// What is asked of the inputs of a gate.
@@ -28,92 +28,102 @@ pub enum Reduction {
     OddOnes,
 }
 
-// The row of a gate in the table.
-#[derive(Drop)]
-struct Row<'a> {
-    word: &'a [u8],
-    reduction: Reduction,
-    // whether the output is what is asked, and not its opposite
-    positive: bool,
-    most_inputs: usize,
+/// What a gate computes of its inputs.
+#[derive(Clone, Copy, Debug, PartialEq, Eq)]
+pub struct Gate {
+    pub reduction: Reduction,
+    /// Whether the output is what is asked, and not its opposite.
+    pub positive: bool,
+    pub most_inputs: usize,
 }
 
-impl<'a> Model for Row<'a> {
-    ghost use Rattle.device_model.specs.Gates.{GateRow};
-
-    ghost Value = { GateRow };
-
-    ghost view = { λ r. record { word = r.word.now; reduction = r.reduction; positive = r.positive; most_inputs = r.most_inputs } };
+/// What a part goes by: a gate, or the place of a table.
+#[derive(Clone, Copy, Debug, PartialEq, Eq)]
+pub enum Rule {
+    Gate(Gate),
+    Table(u32),
 }
 
-impl Gate {
+impl Kind {
     /// Each gate once.
-    pub const ALL: [Gate; 8] = [
-        Gate::And,
-        Gate::Or,
-        Gate::Nand,
-        Gate::Nor,
-        Gate::Xor,
-        Gate::Xnor,
-        Gate::Not,
-        Gate::Buff,
+    pub const GATES: [Kind; 8] = [
+        Kind::And,
+        Kind::Or,
+        Kind::Nand,
+        Kind::Nor,
+        Kind::Xor,
+        Kind::Xnor,
+        Kind::Not,
+        Kind::Buff,
     ];
 
-    fn row<'a>(self) -> Row<'a>
-        ensures { result ≡ gate_row self }
+    // The word and the rule.
+    fn row(self) -> (&'static [u8], Rule)
+        ensures word { result.0.now ≡ (kind_row self).0 }
+        ensures rule { result.1 ≡ (kind_row self).1 }
     {
-        let (word, reduction, positive, most_inputs): (&[u8], Reduction, bool, usize) = match self {
-            Gate::And => (b"AND", Reduction::AllOnes, true, INPUT_LIMIT),
-            Gate::Or => (b"OR", Reduction::AnyOne, true, INPUT_LIMIT),
-            Gate::Nand => (b"NAND", Reduction::AllOnes, false, INPUT_LIMIT),
-            Gate::Nor => (b"NOR", Reduction::AnyOne, false, INPUT_LIMIT),
-            Gate::Xor => (b"XOR", Reduction::OddOnes, true, INPUT_LIMIT),
-            Gate::Xnor => (b"XNOR", Reduction::OddOnes, false, INPUT_LIMIT),
-            Gate::Not => (b"NOT", Reduction::AllOnes, false, 1),
-            Gate::Buff => (b"BUFF", Reduction::AllOnes, true, 1),
-        };
-        Row {
-            word,
-            reduction,
-            positive,
-            most_inputs,
+        match self {
+            Kind::And => (b"AND", gate_rule(Reduction::AllOnes, true, INPUT_LIMIT)),
+            Kind::Or => (b"OR", gate_rule(Reduction::AnyOne, true, INPUT_LIMIT)),
+            Kind::Nand => (b"NAND", gate_rule(Reduction::AllOnes, false, INPUT_LIMIT)),
+            Kind::Nor => (b"NOR", gate_rule(Reduction::AnyOne, false, INPUT_LIMIT)),
+            Kind::Xor => (b"XOR", gate_rule(Reduction::OddOnes, true, INPUT_LIMIT)),
+            Kind::Xnor => (b"XNOR", gate_rule(Reduction::OddOnes, false, INPUT_LIMIT)),
+            Kind::Not => (b"NOT", gate_rule(Reduction::AllOnes, false, 1)),
+            Kind::Buff => (b"BUFF", gate_rule(Reduction::AllOnes, true, 1)),
+            Kind::Table(table) => (b"", Rule::Table(table)),
         }
     }
 
-    /// The word of a gate, in capital letters.
-    pub fn word<'a>(self) -> &'a [u8]
-        ensures { result.now ≡ (gate_row self).word }
+    /// The word of a gate, in capital letters. A part of a type has none.
+    pub fn word(self) -> &'static [u8]
+        ensures { result.now ≡ word self }
     {
-        self.row().word
+        self.row().0
     }
 
-    /// What is asked of the inputs.
-    pub fn reduction(self) -> Reduction
-        ensures { result ≡ (gate_row self).reduction }
+    /// What the parts of this kind go by.
+    pub fn rule(self) -> Rule
+        ensures { result ≡ rule self }
     {
-        self.row().reduction
+        self.row().1
     }
 
-    /// Whether the output is what is asked of the inputs, and not its opposite.
-    pub fn is_positive(self) -> bool
-        ensures { result ≡ (gate_row self).positive }
+    /// Whether this is a gate that takes so many inputs.
+    pub fn takes_inputs(self, inputs: usize) -> bool
+        ensures { result ≡ takes_inputs (rule self) inputs }
     {
-        self.row().positive
+        match self.rule() {
+            Rule::Gate(gate) => gate.takes(inputs),
+            Rule::Table(_) => false,
+        }
     }
+}
 
+fn gate_rule(reduction: Reduction, positive: bool, most_inputs: usize) -> Rule
+    ensures { result ≡ gate_rule reduction positive most_inputs }
+{
+    Rule::Gate(Gate {
+        reduction,
+        positive,
+        most_inputs,
+    })
+}
+
+impl Gate {
     /// Whether a gate takes so many inputs.
     pub fn takes(self, inputs: usize) -> bool
         ensures { result ≡ takes self inputs }
     {
-        1 <= inputs && inputs <= self.row().most_inputs
+        1 <= inputs && inputs <= self.most_inputs.min(INPUT_LIMIT)
     }
 }
 
 /// The gate that a word names, in just these letters.
-pub fn gate_named(word: &[u8]) -> Option<Gate>
+pub fn gate_named(word: &[u8]) -> Option<Kind>
     ensures { result ≡ gate_named word.now }
 {
-    for gate in Gate::ALL {
+    for gate in Kind::GATES {
         if word == gate.word() {
             return Some(gate);
         }

@@ -9,8 +9,9 @@ mod limits;
 mod names;
 
 pub use building::BuildError;
-pub use component::{Component, Kind, Table, Wires};
-pub use device::Device;
-pub use gates::{Gate, Reduction, gate_named};
+pub use component::{Component, Table, Wires};
+pub use device::{Device, place_of};
+pub use gates::{Gate, Kind, Reduction, Rule, gate_named};
 pub use limits::{COST_LIMIT, INPUT_LIMIT, NAME_LIMIT, PART_LIMIT, TYPE_PORT_LIMIT, WIRE_LIMIT};
 pub use names::{Name, Names};
+pub use std::alloc::AllocError as Memory;

@@ -6,7 +6,7 @@ pub const PART_LIMIT: usize = 4096;
 /// The most wires of a device.
 pub const WIRE_LIMIT: usize = 16384;
 
-/// The longest name of a part or a wire, in bytes, with the path of the instances in which it stands. A name in a text is shorter.
+/// The longest name of a part or a wire, in bytes, with the path of the instances that it is in. A name in a text is shorter.
 pub const NAME_LIMIT: usize = 255;
 
 /// The most inputs of a gate.

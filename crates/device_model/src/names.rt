@@ -6,8 +6,9 @@ ghost use Rattle.std.proofs.lemmas.Cmp.{nat_list_cmp_total};
 ghost use Rattle.std.proofs.Common.{rules};
 ghost use Rattle.std.specs.Cmp.Rules.{comparing};
 
+use crate::Memory;
 use crate::limits::NAME_LIMIT;
-use std::alloc::{AllocError, Global};
+use std::alloc::Global;
 use std::cmp::Ordering;
 use std::marker::Model;
 
@@ -30,7 +31,7 @@ impl Model for Name {
 
 impl Name {
     /// Copies the bytes of a name.
-    pub fn new(alloc: Global, bytes: &[u8]) -> Result<Name, AllocError>
+    pub fn new(alloc: Global, bytes: &[u8]) -> Result<Name, Memory>
         requires some { 1 ≤ length bytes.now }
         requires few { length bytes.now ≤ NAME_LIMIT }
         ensures { IfOk result (λ name. name ≡ bytes.now) }
@@ -39,7 +40,7 @@ impl Name {
         Ok(Name { bytes })
     }
 
-    /// Its bytes, of which there is at least one.
+    /// Its bytes, at least one.
     pub fn as_slice(&self) -> &[u8]
         ensures bytes { result.now ≡ self.now }
         ensures some { 1 ≤ length self.now }

@@ -2,10 +2,10 @@
 #![tactic(auto)]
 
 use device_files::{Refusal, tell};
-use diag_cli::diag;
+use diag_cli::{FileShelf, StdSink, StdSource, diag};
 use std::io;
 use std::process::ExitCode;
-use system_edge::{FileShelf, StdSink, StdSource, words_of};
+use system_edge::words_of;
 
 fn main(rt: HostRuntime) -> ExitCode {
     let alloc = rt.alloc();
@@ -15,6 +15,5 @@ fn main(rt: HostRuntime) -> ExitCode {
         return ExitCode::from(tell(&mut out, Refusal::Memory).number());
     };
     let mut shelf = FileShelf::new(rt);
-    let status = diag(alloc, &words, &mut shelf, &mut input, &mut out);
-    ExitCode::from(status.number())
+    ExitCode::from(diag(alloc, &words, &mut shelf, &mut input, &mut out))
 }

@@ -6,46 +6,38 @@ use Rattle.std.proofs.lemmas.Bool.{lt-ltb, ltb-true, cases_lt}
 use Rattle.text_rules.specs.Expected.{IsExpectedFault, Fulfils}
 use Rattle.state_rules.specs.declared.extras.Extras.{Extras}
 use Rattle.state_rules.specs.Graphs.{Graph, edges}
-use Rattle.clause_encoder.specs.Clauses.{ClauseList}
-use Rattle.branch_states.specs.Branches.{sum_of}
-use Rattle.branch_states.specs.declared.measuring.TheConstants.{BUDGET_LIMIT}
-use Rattle.dnnf_compiler.specs.declared.compiling.Compiled.{Compiled}
-use Rattle.dnnf_compiler.specs.Compiled.{IsCompiled, most_nodes}
-use Rattle.part_sets.specs.declared.kept.TheConstants.{PART_LIMIT}
+use Rattle.dnnf_compiler.specs.Compiled.{most_nodes}
 use Rattle.level_lister.specs.Listing.{cost_words}
-use Rattle.level_lister.specs.declared.levels.TheConstants.{TOP_LIMIT}
 use Rattle.session_core.specs.declared.limits.TheConstants.{SERVED_BITS}
 use Rattle.session_core.specs.Services.{CanList, CanDraw}
 use Rattle.device_files.specs.declared.status.Status.TheVariants.{Refused}
 use Rattle.device_files.specs.declared.refusal.Refusal.{Refusal}
+use Rattle.device_files.specs.Choices.{Weighed}
 use Rattle.device_files.specs.Output.{Output, says}
 use Rattle.device_files.specs.Refusals.{told_by}
 use Rattle.diag_cli.specs.Besides.{levels_bits, least_bits, bits_line, if_few, in_few_bits}
+use Rattle.diag_cli.specs.inner.Compiling.{IsGraphBy}
 use Rattle.diag_cli.specs.inner.Serving.{CanTell}
 
 -- ---- few bits of the greatest graph are few of each
 
 module _ (graph : Graph) (parts sum vars : ℕ) (few : length graph.nodes ≤ most_nodes sum vars) where
-  can_list : (levels : Option ℕ) → IfSome levels (λ top. top ≤ TOP_LIMIT) → levels_bits sum vars parts levels ≤ SERVED_BITS → IfSome levels (CanList graph parts)
-  can_list None top bits = tt
-  can_list (Some top) top_is bits = record {
-    top_is = top_is;
+  can_list : (levels : Option ℕ) → levels_bits sum vars parts levels ≤ SERVED_BITS → IfSome levels (CanList graph parts)
+  can_list None bits = tt
+  can_list (Some top) bits = record {
     few = le_trans (mul-le-mul_right (parts + 32 * cost_words top) few) bits;
   }
 
-  can_draw : edges graph.nodes ≤ 6 * (sum + 1) → sum ≤ BUDGET_LIMIT → vars < 2 ^ 20 → parts ≤ PART_LIMIT → (least : Bool) → least_bits sum vars parts least ≤ SERVED_BITS → least ≡ true → CanDraw graph parts
-  can_draw few_edges small few_vars few_parts false bits told = absurd (let no : ⊥ = cc in no)
-  can_draw few_edges small few_vars few_parts true bits told = record {
-    lines = omega (arith, few_edges, small, few, few_vars, few_parts);
+  can_draw : (least : Bool) → (least ≡ true → length graph.nodes + edges graph.nodes + 2 * parts + 1 < 2 ^ 32) → least_bits sum vars parts least ≤ SERVED_BITS → least ≡ true → CanDraw graph parts
+  can_draw false lines bits told = absurd (let no : ⊥ = cc in no)
+  can_draw true lines bits told = record {
+    lines = lines told;
     few = le_trans (mul-le-mul_right (32 * (2 + (parts + 31) / 32)) few) bits;
   }
 
-  can_tell : (extras : Extras) → edges graph.nodes ≤ 6 * (sum + 1) → sum ≤ BUDGET_LIMIT → vars < 2 ^ 20 → parts ≤ PART_LIMIT → IfSome extras.levels (λ top. top ≤ TOP_LIMIT)
+  can_tell : (extras : Extras) → (extras.least ≡ true → length graph.nodes + edges graph.nodes + 2 * parts + 1 < 2 ^ 32)
       → levels_bits sum vars parts extras.levels ≤ SERVED_BITS → least_bits sum vars parts extras.least ≤ SERVED_BITS → CanTell extras graph parts
-  can_tell extras few_edges small few_vars few_parts top listed drawn = record {
-    levels = can_list extras.levels top listed;
-    least = can_draw few_edges small few_vars few_parts extras.least drawn;
-  }
+  can_tell extras lines listed drawn = record { levels = can_list extras.levels listed; least = can_draw extras.least lines drawn }
 
 -- ---- what is refused
 
@@ -55,7 +47,7 @@ not_many bits few = elim (cases_lt SERVED_BITS bits) [
   | inr few ↦ few
 ]
 
-pub few_pass : (bits : ℕ) (other : Result ClauseList Output) → bits ≤ SERVED_BITS → if_few bits other ≡ other
+pub few_pass : (bits : ℕ) (other : Result Weighed Output) → bits ≤ SERVED_BITS → if_few bits other ≡ other
 few_pass bits other few = by (nat_lt SERVED_BITS bits) refl
   where
     by : (b : Bool) → nat_lt SERVED_BITS bits ≡ b → (if b then Err (says (bits_line bits) Refused) else other) ≡ other
@@ -63,29 +55,28 @@ few_pass bits other few = by (nat_lt SERVED_BITS bits) refl
     by true is = absurd (let less = ltb-true SERVED_BITS bits is in omega (arith, less, few))
 
 -- where they are not refused they are few
-passed : (bits : ℕ) (other : Result ClauseList Output) (cnf : ClauseList) → if_few bits other ≡ Ok cnf → (bits ≤ SERVED_BITS) × (other ≡ Ok cnf)
-passed bits other cnf is = by (nat_lt SERVED_BITS bits) refl is
+passed : (bits : ℕ) (other : Result Weighed Output) (weighed : Weighed) → if_few bits other ≡ Ok weighed → (bits ≤ SERVED_BITS) × (other ≡ Ok weighed)
+passed bits other weighed is = by (nat_lt SERVED_BITS bits) refl is
   where
-    by : (b : Bool) → nat_lt SERVED_BITS bits ≡ b → (if b then Err (says (bits_line bits) Refused) else other) ≡ Ok cnf → (bits ≤ SERVED_BITS) × (other ≡ Ok cnf)
+    by : (b : Bool) → nat_lt SERVED_BITS bits ≡ b → (if b then Err (says (bits_line bits) Refused) else other) ≡ Ok weighed → (bits ≤ SERVED_BITS) × (other ≡ Ok weighed)
     by true test is = absurd (let no : ⊥ = cc in no)
     by false test is = (not_many bits test, is)
 
 -- what fits takes few bits
-few_of_all : (extras : Extras) (parts : ℕ) (cnf : ClauseList) → in_few_bits extras parts (Ok cnf) ≡ Ok cnf
-    → (levels_bits (sum_of cnf.clauses) cnf.vars parts extras.levels ≤ SERVED_BITS) × (least_bits (sum_of cnf.clauses) cnf.vars parts extras.least ≤ SERVED_BITS)
-few_of_all extras parts cnf fits =
-    let first = passed (levels_bits (sum_of cnf.clauses) cnf.vars parts extras.levels) (if_few (least_bits (sum_of cnf.clauses) cnf.vars parts extras.least) (Ok cnf)) cnf fits in
-    (first.0, (passed (least_bits (sum_of cnf.clauses) cnf.vars parts extras.least) (Ok cnf) cnf first.1).0)
+few_of_all : (extras : Extras) (parts : ℕ) (weighed : Weighed) → in_few_bits extras parts (Ok weighed) ≡ Ok weighed
+    → (levels_bits weighed.sum weighed.list.vars parts extras.levels ≤ SERVED_BITS) × (least_bits weighed.sum weighed.list.vars parts extras.least ≤ SERVED_BITS)
+few_of_all extras parts weighed fits =
+    let first = passed (levels_bits weighed.sum weighed.list.vars parts extras.levels) (if_few (least_bits weighed.sum weighed.list.vars parts extras.least) (Ok weighed)) weighed fits in
+    (first.0, (passed (least_bits weighed.sum weighed.list.vars parts extras.least) (Ok weighed) weighed first.1).0)
 
 -- ---- what the calls answer
 
--- what is told besides can be told over a graph that was compiled within the budget, where that fits
-pub tells_in_few : (extras : Extras) (parts budget : ℕ) (cnf : ClauseList) (result : Result Compiled Refusal) → parts ≤ PART_LIMIT → cnf.vars < 2 ^ 20 → budget ≤ BUDGET_LIMIT → IfSome extras.levels (λ top. top ≤ TOP_LIMIT)
-    → in_few_bits extras parts (Ok cnf) ≡ Ok cnf → IfOk result (IsCompiled cnf) → IfOk result (λ (_ : Compiled). sum_of cnf.clauses ≤ budget) → IfOk result (λ compiled. CanTell extras compiled.graph parts)
-tells_in_few extras parts budget cnf (Err refusal) few_parts few_vars small top fits made within = tt
-tells_in_few extras parts budget cnf (Ok compiled) few_parts few_vars small top fits made within =
-    let bits = few_of_all extras parts cnf fits in
-    can_tell compiled.graph parts (sum_of cnf.clauses) cnf.vars (omega (arith, made.few_made, made.few_nodes)) extras made.few_edges (omega (arith, within, small)) few_vars few_parts top bits.0 bits.1
+-- what is told besides can be told over a graph that was compiled, if that fits and lines can be numbered
+pub tells_in_few : (extras : Extras) (parts : ℕ) (weighed : Weighed) (graph : Graph)
+    → in_few_bits extras parts (Ok weighed) ≡ Ok weighed → IsGraphBy weighed graph → (extras.least ≡ true → length graph.nodes + edges graph.nodes + 2 * parts + 1 < 2 ^ 32) → CanTell extras graph parts
+tells_in_few extras parts weighed graph fits by lines =
+    let bits = few_of_all extras parts weighed fits in
+    can_tell graph parts weighed.sum weighed.list.vars by.few_nodes extras lines bits.0 bits.1
 
 pub if_ok_map : {T E : Type 0} {A B : T → Type 0} (result : Result T E) → ((t : T) → A t → B t) → IfOk result A → IfOk result B
 if_ok_map (Ok t) f is = f t is

@@ -1,5 +1,5 @@
 -- A device of gates of which no part is held is never at odds with what was seen: where all gates are faulty, they allow anything.
-use Rattle.std.proofs.Common.{◌≡◌, ℕ, zero, suc, Bool, true, false, List, [], ◌∷◌, ◌++◌, map, length, replicate, Option, Some, None, refl, sym, ◌∙◌, subst}
+use Rattle.std.proofs.Common.{◌≡◌, ℕ, zero, suc, Bool, true, false, List, [], ◌∷◌, ◌++◌, map, length, replicate, Option, Some, None, refl, sym, ◌∙◌, subst, ap}
 use Rattle.std.specs.Prelude.{Ok, ◌&&◌, IsSome, option_map, unwrap_or}
 use Rattle.std.specs.List.{filter_map, flat_map, list_all}
 use Rattle.std.specs.Option.{option_to_list}
@@ -7,64 +7,72 @@ use Rattle.std.proofs.lemmas.Bool.{and_parts, and_from}
 use Rattle.std.proofs.lemmas.List.{length-map}
 use Rattle.std.proofs.lemmas.List.Folds.{list_all-append}
 use Rattle.text_rules.specs.Names.{Name}
+use Rattle.text_rules.specs.TextLines.{all_lines}
 use Rattle.state_rules.specs.Bits.{bit_in, lists_of_bits}
 use Rattle.state_rules.specs.Cases.{Case, agrees}
 use Rattle.state_rules.specs.Ranking.{cost}
 use Rattle.state_rules.specs.Systems.{least_cost}
 use Rattle.state_rules.proofs.Bits.{same_bit-refl}
 use Rattle.state_rules.proofs.Members.{In, bits_in, any_in, AtMost, least-below}
-use Rattle.device_model.specs.declared.component.Kind.{Kind}
-use Rattle.device_model.specs.declared.component.Kind.TheVariants.{Gate as OfGate, Table}
-use Rattle.device_model.specs.declared.gates.Gate.{Gate as GateKind}
+use Rattle.device_model.specs.declared.gates.Rule.{Rule}
+use Rattle.device_model.specs.declared.gates.Rule.TheVariants.{Gate as OfGate, Table as OfTable}
 use Rattle.device_model.specs.declared.component.Component.{Component}
 use Rattle.device_model.specs.TruthTable.{TruthTable}
+use Rattle.device_model.specs.Gates.{rule, takes_inputs}
 use Rattle.device_model.specs.Devices.{Device, allows, parts_fit, fits, part_names, part_costs}
 use Rattle.device_model.specs.Diagnosis.{is_consistent, device_system}
 use Rattle.device_model.specs.Building.{NamedPart, joined}
 use Rattle.device_model.proofs.Making.{component_name, list_all-sorted_distinct}
 use Rattle.bench_reader.specs.declared.kinds.FlipFlops.TheVariants.{Refused}
 use Rattle.bench_reader.specs.Faults.{Fault, unless_fault}
-use Rattle.bench_reader.specs.Statements.{Statement, Input, Output, Gate, part_gate}
+use Rattle.bench_reader.specs.Statements.{Statement, Input, Output, Gate}
 use Rattle.bench_reader.specs.Netlists.{part_over, part_of, device_of, fault_in, statement_in, faults_together, readings, netlist}
-use Rattle.bench_reader.proofs.Lines.{said}
+use Rattle.bench_reader.specs.inner.Steps.{is_faultless}
+use Rattle.bench_reader.proofs.Lines.{said, read_are_faultless}
+use Rattle.bench_reader.proofs.Parts.{faultless_gate}
 use Rattle.adder_load.specs.Adders.{adder_text}
 use Rattle.adder_load.specs.Readings.{readings as adder_readings, with_readings, adder_case}
 use Rattle.adder_load.proofs.Cases.{case_seen}
 
 -- ---- each part of a netlist is a gate
 
-abbrev is_gate : Kind → Bool
-is_gate (Table t) = false
+abbrev is_gate : Rule → Bool
+is_gate (OfTable t) = false
 is_gate (OfGate gate) = true
 
+taken_gate : (r : Rule) (inputs : ℕ) → takes_inputs r inputs ≡ true → is_gate r ≡ true
+taken_gate (OfTable t) inputs h = cc
+taken_gate (OfGate gate) inputs h = refl
+
 abbrev named_gate : NamedPart → Bool
-named_gate part = is_gate part.kind
+named_gate part = is_gate (rule part.kind)
 
 abbrev gate_part : Component → Bool
-gate_part part = is_gate part.kind
+gate_part part = is_gate (rule part.kind)
 
-of_kind : (output : Name) (inputs : List Name) (gate : Option GateKind) → list_all named_gate (option_to_list (option_map (part_over output inputs) gate)) ≡ true
-of_kind output inputs None = refl
-of_kind output inputs (Some gate) = refl
+of_statement : (s : Statement) → is_faultless s ≡ true → list_all named_gate (part_of s) ≡ true
+of_statement (Input signal) h = refl
+of_statement (Output signal) h = refl
+of_statement (Gate output kind inputs) h =
+    let gate = faultless_gate output kind inputs h in
+    ap (λ k. list_all named_gate (option_to_list (option_map (part_over output inputs) k))) gate.meant
+    ∙ and_from _ _ (taken_gate (rule gate.gate) (length inputs) gate.taken) refl
 
-of_statement : (s : Statement) → list_all named_gate (part_of s) ≡ true
-of_statement (Input signal) = refl
-of_statement (Output signal) = refl
-of_statement (Gate output kind inputs) = of_kind output inputs (part_gate kind)
-
-of_statements : (statements : List Statement) → list_all named_gate (flat_map part_of statements) ≡ true
-of_statements [] = refl
-of_statements (s ∷ statements) = list_all-append named_gate (part_of s) (flat_map part_of statements) ∙ and_from _ _ (of_statement s) (of_statements statements)
+of_statements : (statements : List Statement) → list_all is_faultless statements ≡ true → list_all named_gate (flat_map part_of statements) ≡ true
+of_statements [] h = refl
+of_statements (s ∷ statements) h =
+    let two = and_parts (is_faultless s) (list_all is_faultless statements) h in
+    list_all-append named_gate (part_of s) (flat_map part_of statements) ∙ and_from _ _ (of_statement s two.0) (of_statements statements two.1)
 
 over_wires : (wires : List Name) (parts : List NamedPart) → list_all named_gate parts ≡ true → list_all gate_part (map (joined wires) parts) ≡ true
 over_wires wires [] h = refl
 over_wires wires (part ∷ parts) h = let two = and_parts (named_gate part) (list_all named_gate parts) h in and_from _ _ two.0 (over_wires wires parts two.1)
 
-device_of_gates : (statements : List Statement) → list_all gate_part (device_of statements).parts ≡ true
-device_of_gates statements =
+device_of_gates : (statements : List Statement) → list_all is_faultless statements ≡ true → list_all gate_part (device_of statements).parts ≡ true
+device_of_gates statements h =
     let wires = (device_of statements).wires in
     let parts = flat_map part_of statements in
-    list_all-sorted_distinct component_name gate_part (map (joined wires) parts) (over_wires wires parts (of_statements statements))
+    list_all-sorted_distinct component_name gate_part (map (joined wires) parts) (over_wires wires parts (of_statements statements h))
 
 abbrev statements_in : List ℕ → List Statement
 statements_in text = map said (filter_map statement_in (readings Refused text))
@@ -75,13 +83,13 @@ netlist_of_gates text device is = by (filter_map fault_in (readings Refused text
     by : (faults : List Fault) → unless_fault faults (device_of (statements_in text)) ≡ Ok device → list_all gate_part device.parts ≡ true
     by [] e =
         let same : device_of (statements_in text) ≡ device = cc in
-        subst (λ (d : Device). list_all gate_part d.parts ≡ true) same (device_of_gates (statements_in text))
+        subst (λ (d : Device). list_all gate_part d.parts ≡ true) same (device_of_gates (statements_in text) (read_are_faultless Refused 1 (all_lines text)))
     by (fault ∷ faults) e = cc
 
 -- ---- faulty gates allow anything
 
-faulty_allows : (tables : List TruthTable) (kind : Kind) (row : List Bool) → is_gate kind ≡ true → allows tables kind false row ≡ true
-faulty_allows tables (Table t) row h = cc
+faulty_allows : (tables : List TruthTable) (r : Rule) (row : List Bool) → is_gate r ≡ true → allows tables r false row ≡ true
+faulty_allows tables (OfTable t) row h = cc
 faulty_allows tables (OfGate gate) row h = refl
 
 all_faulty : List Component → List Bool
@@ -92,7 +100,7 @@ unfolding all_faulty
 faulty_fit tables [] wires h = refl
 faulty_fit tables (part ∷ parts) wires h =
     let two = and_parts (gate_part part) (list_all gate_part parts) h in
-    and_from _ _ (faulty_allows tables part.kind (map (bit_in wires) part.ports) two.0) (faulty_fit tables parts wires two.1)
+    and_from _ _ (faulty_allows tables (rule part.kind) (map (bit_in wires) part.ports) two.0) (faulty_fit tables parts wires two.1)
 
 -- any state agrees where nothing is held
 none_held : (parts : ℕ) (state : List Bool) → agrees (replicate parts None) state ≡ true

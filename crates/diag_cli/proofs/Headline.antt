@@ -12,6 +12,7 @@ use Rattle.diag_edge.specs.Edge.{Reading, Writing, RoseExactly, Holding, absent,
 use Rattle.diag_edge.specs.declared.loading.LoadError.{LoadError}
 use Rattle.diag_edge.specs.declared.loading.LoadError.TheVariants.{Failed as LoadFailed, Long, Memory}
 use Rattle.clause_encoder.specs.Clauses.{ClauseList}
+use Rattle.elimination_forests.specs.Forests.{Forest}
 use Rattle.session_rules.specs.Items.{Item}
 use Rattle.session_rules.specs.Spelling.{Writes}
 use Rattle.device_files.proofs.Statuses.{cases_status}
@@ -39,12 +40,12 @@ same_file file bytes (Some all) same is = same ∙ is
 -- ---- a file may be too long
 
 -- a file that is short enough has the course of the command
-short_course : (order : ClauseList → ClauseList) (path : List ℕ) (command : Command) (file : List ℕ) → length file ≤ TEXT_LIMIT → course_of order (Some (Over path command)) file ≡ course_by order path command file
-short_course order path command file short = let few : nat_le (length file) TEXT_LIMIT ≡ true = grind arith in rw few
+short_course : (choose : ClauseList → Option Forest) (path : List ℕ) (command : Command) (file : List ℕ) → length file ≤ TEXT_LIMIT → course_of choose (Some (Over path command)) file ≡ course_by choose path command file
+short_course choose path command file short = let few : nat_le (length file) TEXT_LIMIT ≡ true = grind arith in rw few
 
 -- a file that is too long has this output
-long_course : (order : ClauseList → ClauseList) (path : List ℕ) (command : Command) (file : List ℕ) → TEXT_LIMIT < length file → course_of order (Some (Over path command)) file ≡ Tells (says long_file_line Refused)
-long_course order path command file long = let many : nat_le (length file) TEXT_LIMIT ≡ false = grind arith in rw many
+long_course : (choose : ClauseList → Option Forest) (path : List ℕ) (command : Command) (file : List ℕ) → TEXT_LIMIT < length file → course_of choose (Some (Over path command)) file ≡ Tells (says long_file_line Refused)
+long_course choose path command file long = let many : nat_le (length file) TEXT_LIMIT ≡ false = grind arith in rw many
 
 -- words with a form may run out of memory
 with_form : (form : Form) {output : Output} {status : Status} {a b : Option (List ℕ)} → GivesUnlessMemory output status a b → GivesUnlessShort (Some form) output status a b
@@ -208,18 +209,18 @@ module _ (input new_input : Reading) (out new_out : Writing) (status : Status) w
 
   -- ---- runs
 
-  module _ (order : ClauseList → ClauseList) (path : List ℕ) (command : Command) (held : List ℕ → Holding) (shelf new_shelf : Reading) where
+  module _ (choose : ClauseList → Option Forest) (path : List ℕ) (command : Command) (held : List ℕ → Holding) (shelf new_shelf : Reading) where
     -- what the command comes to over a file, which may be too long
     abbrev course : List ℕ → Course
-    course file = course_of order (Some (Over path command)) file
+    course file = course_of choose (Some (Over path command)) file
 
     -- The file was read.
     pub run_loaded : (file : List ℕ) → IfSome (told_bytes (held path)) (λ bytes. file ≡ bytes) → held path ≢ absent → new_shelf.faults ≡ shelf.faults
         → new_shelf.taken ≡ shelf.taken + length file → length file ≤ TEXT_LIMIT
         → RoseExactly out.faults new_out.faults (status ≡ WriteFailed) → (status ≢ WriteFailed → RoseExactly input.faults new_input.faults (status ≡ ReadFailed)) → status ≢ Usage
-        → Follows (course_by order path command file) input new_input out new_out status → (status ≡ CutShort → new_input.taken ≡ input.taken + SCRIPT_LIMIT)
+        → Follows (course_by choose path command file) input new_input out new_out status → (status ≡ CutShort → new_input.taken ≡ input.taken + SCRIPT_LIMIT)
         → (status ≢ WriteFailed → status ≢ CutShort → new_input.taken < input.taken + SCRIPT_LIMIT)
-        → IsRun order (Some (Over path command)) held shelf new_shelf input new_input out new_out status
+        → IsRun choose (Some (Over path command)) held shelf new_shelf input new_input out new_out status
     run_loaded file is there kept taken small writes reads other follows cut short = record {
       done = λ _. inl (record { file = file; is_told = is; taken = omega (arith, taken, small); follows = done });
       write_fault = writes;
@@ -248,9 +249,9 @@ module _ (input new_input : Reading) (out new_out : Writing) (status : Status) w
     }
       where
         done : Follows (course file) input new_input out new_out status
-        done = subst (λ c. Follows c input new_input out new_out status) (sym (short_course order path command file small)) follows
+        done = subst (λ c. Follows c input new_input out new_out status) (sym (short_course choose path command file small)) follows
 
-        idle_by : (any : Command) → Follows (course_by order path any file) input new_input out new_out status → asks_script (Some (Over path any)) ≡ false → IsIdle input new_input
+        idle_by : (any : Command) → Follows (course_by choose path any file) input new_input out new_out status → asks_script (Some (Over path any)) ≡ false → IsIdle input new_input
         idle_by (Serve options) done asks = absurd (let never : ⊥ = cc in never)
         idle_by (ServeFrames frames options) done asks = absurd (let never : ⊥ = cc in never)
         idle_by (Ask health sessions) done asks = absurd (let never : ⊥ = cc in never)
@@ -268,8 +269,8 @@ module _ (input new_input : Reading) (out new_out : Writing) (status : Status) w
 -- ---- what may be told without a look at the script
 
 -- an output that tells that memory ran out, or the one that the file comes to
-abbrev pub IsRight : (ClauseList → ClauseList) → List ℕ → Command → Output → List ℕ → Type 0
-IsRight order path command output file = (output ≡ no_memory) ⊎ (course_of order (Some (Over path command)) file ≡ Tells output)
+abbrev pub IsRight : (ClauseList → Option Forest) → List ℕ → Command → Output → List ℕ → Type 0
+IsRight choose path command output file = (output ≡ no_memory) ⊎ (course_of choose (Some (Over path command)) file ≡ Tells output)
 
 -- some bytes are too many, those that are told where any are
 too_many : (limit : ℕ) → (file : List ℕ) × (limit < length file)
@@ -280,13 +281,13 @@ long_file limit None long = let some = too_many limit in (some.0, tt, some.1)
 long_file limit (Some file) long = (file, refl, long)
 
 -- and so it is right to tell that
-long_is_right : (order : ClauseList → ClauseList) (path : List ℕ) (command : Command) (told : Option (List ℕ)) → IfSome told (λ file. TEXT_LIMIT < length file) → IfSome told (IsRight order path command (says long_file_line Refused))
-long_is_right order path command None long = tt
-long_is_right order path command (Some file) long = inr (long_course order path command file long)
+long_is_right : (choose : ClauseList → Option Forest) (path : List ℕ) (command : Command) (told : Option (List ℕ)) → IfSome told (λ file. TEXT_LIMIT < length file) → IfSome told (IsRight choose path command (says long_file_line Refused))
+long_is_right choose path command None long = tt
+long_is_right choose path command (Some file) long = inr (long_course choose path command file long)
 
 -- ---- runs in which the script is not begun
 
-module _ (order : ClauseList → ClauseList) (held : List ℕ → Holding) (shelf new_shelf input : Reading) (out new_out : Writing) (status : Status) where
+module _ (choose : ClauseList → Option Forest) (held : List ℕ → Holding) (shelf new_shelf input : Reading) (out new_out : Writing) (status : Status) where
   idle : IsIdle input input
   idle = record { left = refl; taken = refl; faults = refl }
 
@@ -298,7 +299,7 @@ module _ (order : ClauseList → ClauseList) (held : List ℕ → Holding) (shel
 
   module _ (path : List ℕ) (command : Command) where
     abbrev output_by : List ℕ → Option Output
-    output_by file = whole_output (course_of order (Some (Over path command)) file) input.left
+    output_by file = whole_output (course_of choose (Some (Over path command)) file) input.left
 
     abbrev OutputsGiven : Type 0
     OutputsGiven = IfSome (told_bytes (held path)) (λ file. IfSome (output_by file) (IsGiven (Some (Over path command)) shelf new_shelf input input out new_out status))
@@ -311,19 +312,19 @@ module _ (order : ClauseList → ClauseList) (held : List ℕ → Holding) (shel
     TakenOnce = IfSome (told_bytes (held path)) (λ file. new_shelf.taken ≤ shelf.taken + length file)
 
     abbrev DoneOrShort : Type 0
-    DoneOrShort = IsDone order (Some (Over path command)) (told_bytes (held path)) shelf new_shelf input input out new_out status
+    DoneOrShort = IsDone choose (Some (Over path command)) (told_bytes (held path)) shelf new_shelf input input out new_out status
         ⊎ (IsSome (Some (Over path command)) × IsIdle input input × Gives no_memory status out.got new_out.got)
 
     -- a file that is too long
     long_done : (told : Option (List ℕ)) → IfSome told (λ bytes. TEXT_LIMIT < length bytes) → new_shelf.taken ≡ shelf.taken + TEXT_LIMIT + 1
-        → Gives (says long_file_line Refused) status out.got new_out.got → IsDone order (Some (Over path command)) told shelf new_shelf input input out new_out status
+        → Gives (says long_file_line Refused) status out.got new_out.got → IsDone choose (Some (Over path command)) told shelf new_shelf input input out new_out status
     long_done told long taken said =
         let some = long_file TEXT_LIMIT told long in
         record {
           file = some.0;
           is_told = some.1;
           taken = omega (arith, taken, some.2);
-          follows = subst (λ course. Follows course input input out new_out status) (sym (long_course order path command some.0 some.2)) (idle, inr said);
+          follows = subst (λ course. Follows course input input out new_out status) (sym (long_course choose path command some.0 some.2)) (idle, inr said);
         }
 
     -- the limit was not taken
@@ -332,7 +333,7 @@ module _ (order : ClauseList → ClauseList) (held : List ℕ → Holding) (shel
 
     -- The file could not be read.
     run_failed : shelf.faults < new_shelf.faults → new_shelf.taken ≤ shelf.taken + TEXT_LIMIT + 1 → TakenOnce → RoseExactly out.faults new_out.faults (status ≡ WriteFailed)
-        → Gives (says read_error ReadFailed) status out.got new_out.got → IsRun order (Some (Over path command)) held shelf new_shelf input input out new_out status
+        → Gives (says read_error ReadFailed) status out.got new_out.got → IsRun choose (Some (Over path command)) held shelf new_shelf input input out new_out status
     run_failed moves bounded once writes said = record {
       done = λ kept. absurd (omega (arith, kept, moves));
       write_fault = writes;
@@ -360,9 +361,9 @@ module _ (order : ClauseList → ClauseList) (held : List ℕ → Holding) (shel
         given = some_all (told_bytes (held path)) (λ file. some_all (output_by file) (λ output kept same. absurd (omega (arith, kept, moves))))
 
     -- One output was given without a look at the script.
-    run_told : (output : Output) → DoneOrShort → output.status ≢ Done → output.status ≢ Usage → output.status ≢ ReadFailed → output.status ≢ CutShort → IfSome (told_bytes (held path)) (IsRight order path command output)
+    run_told : (output : Output) → DoneOrShort → output.status ≢ Done → output.status ≢ Usage → output.status ≢ ReadFailed → output.status ≢ CutShort → IfSome (told_bytes (held path)) (IsRight choose path command output)
         → held path ≢ absent → new_shelf.faults ≡ shelf.faults → new_shelf.taken ≤ shelf.taken + TEXT_LIMIT + 1 → TakenOnce → RoseExactly out.faults new_out.faults (status ≡ WriteFailed)
-        → Gives output status out.got new_out.got → IsRun order (Some (Over path command)) held shelf new_shelf input input out new_out status
+        → Gives output status out.got new_out.got → IsRun choose (Some (Over path command)) held shelf new_shelf input input out new_out status
     run_told output done not_done not_usage not_read not_cut_short right there kept bounded once writes said = record {
       done = λ _. done;
       write_fault = writes;
@@ -386,7 +387,7 @@ module _ (order : ClauseList → ClauseList) (held : List ℕ → Holding) (shel
       cut = λ whole. ((λ seven. absurd (known output said CutShort seven (λ e. let never : ⊥ = cc in never) not_cut_short)), not_cut);
     }
       where
-        given_by : (file : List ℕ) → IsRight order path command output file → IfSome (output_by file) (IsGiven (Some (Over path command)) shelf new_shelf input input out new_out status)
+        given_by : (file : List ℕ) → IsRight choose path command output file → IfSome (output_by file) (IsGiven (Some (Over path command)) shelf new_shelf input input out new_out status)
         given_by file (inl memory) = some_all (output_by file) (λ other read taken. inl (refl, subst (λ o. Gives o status out.got new_out.got) memory said))
         given_by file (inr is) =
             subst (λ course. IfSome (whole_output course input.left) (IsGiven (Some (Over path command)) shelf new_shelf input input out new_out status)) (sym is) (λ read taken. inr said)
@@ -398,18 +399,18 @@ module _ (order : ClauseList → ClauseList) (held : List ℕ → Holding) (shel
     pub run_unread : (error : LoadError) → IsUnread error (held path) shelf.faults new_shelf.faults → new_shelf.taken ≤ shelf.taken + TEXT_LIMIT + 1
         → IfSome (told_bytes (held path)) (λ file. new_shelf.taken ≤ shelf.taken + length file)
         → ((limit : ℕ) → error ≡ Long limit → new_shelf.taken ≡ shelf.taken + TEXT_LIMIT + 1) → RoseExactly out.faults new_out.faults (status ≡ WriteFailed)
-        → Gives (not_loaded error) status out.got new_out.got → IsRun order (Some (Over path command)) held shelf new_shelf input input out new_out status
+        → Gives (not_loaded error) status out.got new_out.got → IsRun choose (Some (Over path command)) held shelf new_shelf input input out new_out status
     run_unread LoadFailed rises bounded once taken writes said = run_failed rises bounded once writes said
     run_unread (Long limit) is bounded once taken writes said =
         run_told (says long_file_line Refused) (inl (long_done (told_bytes (held path)) is.0 (taken limit refl) said)) (λ e. let never : ⊥ = cc in never) (λ e. let never : ⊥ = cc in never) (λ e. let never : ⊥ = cc in never) (λ e. let never : ⊥ = cc in never)
-        (long_is_right order path command (told_bytes (held path)) is.0) is.1 is.2 bounded once writes said
+        (long_is_right choose path command (told_bytes (held path)) is.0) is.1 is.2 bounded once writes said
     run_unread Memory is bounded once taken writes said =
         run_told no_memory (inr (refl, idle, said)) (λ e. let never : ⊥ = cc in never) (λ e. let never : ⊥ = cc in never) (λ e. let never : ⊥ = cc in never) (λ e. let never : ⊥ = cc in never)
         (some_all (told_bytes (held path)) (λ file. inl refl)) is.0 is.1 bounded once writes said
 
   -- The words have no form.
   pub run_usage : RoseExactly out.faults new_out.faults (status ≡ WriteFailed) → Gives (says usage_line Usage) status out.got new_out.got
-      → IsRun order None held shelf shelf input input out new_out status
+      → IsRun choose None held shelf shelf input input out new_out status
   run_usage writes said = record {
     done = λ _. inl (record { file = []; is_told = refl; taken = omega arith; follows = (idle, inr said) });
     write_fault = writes;
@@ -435,7 +436,7 @@ module _ (order : ClauseList → ClauseList) (held : List ℕ → Holding) (shel
 
   -- An adder is made, and no file is named.
   pub run_load : (places : ℕ) → RoseExactly out.faults new_out.faults (status ≡ WriteFailed) → status ≢ Usage → status ≢ ReadFailed → status ≢ CutShort → GivesUnlessMemory (loaded places) status out.got new_out.got
-      → IsRun order (Some (Load places)) held shelf shelf input input out new_out status
+      → IsRun choose (Some (Load places)) held shelf shelf input input out new_out status
   run_load places writes not_usage not_read not_cut_short said = record {
     done = λ _. inl (record { file = []; is_told = refl; taken = omega arith; follows = (idle, said) });
     write_fault = writes;

@@ -2,6 +2,7 @@ mod Examples
 mod Limits
 pub mod WordLemmas
 pub mod OptionOrder
+pub mod GraphsBy
 pub mod FewBits
 pub mod Running
 pub mod Shown

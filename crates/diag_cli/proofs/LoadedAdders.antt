@@ -1,8 +1,10 @@
 -- What is found of an adder's graph is what is told of its device.
-use Rattle.std.proofs.Common.{◌≡◌, ℕ, ◌-◌, ◌<◌, Bool, List, [], ◌∷◌, ◌++◌, length, get_or, take, Option, Some, None, IfSome, refl, ap, ap₂, sym, ◌∙◌, subst, arith, inl, inr, codes}
+use Rattle.std.proofs.Common.{◌≡◌, ℕ, ◌-◌, ◌<◌, Bool, List, [], ◌∷◌, length, get_or, take, Option, Some, None, IfSome, refl, ap, ap₂, sym, ◌∙◌, subst, arith, inl, inr, codes}
 use Rattle.std.specs.Option.{option_map}
-use Rattle.std.proofs.Math.Seq.{get_or-take, take-append_seam}
+use Rattle.std.proofs.Math.Seq.{get_or-take}
 use Rattle.std.proofs.lemmas.List.{length-map, length-take}
+use Rattle.std.specs.Prelude.{Result}
+use Rattle.text_rules.specs.Expected.{IsExpectedFault}
 use Rattle.text_rules.specs.Names.{Name}
 use Rattle.state_rules.specs.Cases.{Case}
 use Rattle.state_rules.specs.Ranking.{least, diagnoses}
@@ -21,7 +23,7 @@ use Rattle.adder_load.specs.declared.sampling.Found.{Found}
 use Rattle.adder_load.specs.Readings.{adder_case}
 use Rattle.adder_load.proofs.Cases.{case_seen, case_held}
 use Rattle.device_files.specs.declared.status.Status.{Status}
-use Rattle.device_files.specs.Output.{Output, Gives, GivesUnlessMemory}
+use Rattle.device_files.specs.Output.{Output, Gives, GivesUnlessMemory, told_or_refused}
 use Rattle.device_files.specs.Inspecting.{count_line}
 use Rattle.device_files.specs.Refusals.{or_memory}
 use Rattle.diag_cli.specs.declared.loading.TheConstants.{LISTED_LIMIT}
@@ -29,10 +31,6 @@ use Rattle.diag_cli.specs.declared.loading.Summary.{Summary}
 use Rattle.diag_cli.specs.Loads.{names_line, listed_lines}
 use Rattle.diag_cli.specs.inner.Loading.{if_found, IsSummaryOf}
 use Rattle.diag_cli.specs.inner.Serving.{IsServable}
-
--- what is written over all of a vector
-pub whole : {A : Type 0} (n : ℕ) (xs more : List A) → length xs ≡ n → take n (xs ++ more) ≡ xs
-whole n xs more long = ap (λ m. take m (xs ++ more)) (sym long) ∙ take-append_seam xs more
 
 is_case : (device : Device) (places : ℕ) → IsCaseOf (device_system device) (adder_case device places)
 is_case device places = (case_seen device places, case_held device places ∙ sym (length-map device.parts (λ (part : Component). part.name)))
@@ -90,6 +88,11 @@ have_found parts None first last = ((_, refl), tt)
 have_found parts (Some f) first last = ((_, refl), ((_, refl), ((_, refl), ((_, refl), tt))))
 
 -- ---- what is told of a device, or of none
+
+-- what refuses a device is told of it
+pub refusal_told : {A : Type 0} (told : A → Output) (fault : Option Output) (found : Result A Output) → IsExpectedFault fault found → IfSome fault (λ said. told_or_refused told found ≡ said)
+refusal_told told None found is = tt
+refusal_told told (Some output) found is = ap (told_or_refused told) is
 
 -- a refusal of an output that is told
 pub gives_told : (fault : Option Output) (output : Output) (status : Status) (a b : Option (List ℕ)) → IfSome fault (λ said. output ≡ said) → Gives (or_memory fault) status a b → GivesUnlessMemory output status a b

@@ -1,9 +1,10 @@
 -- A service over a device's graph answers as the device's system does.
 use Rattle.std.proofs.Common.{◌≡◌, ◌≤◌, ◌+◌, ◌*◌, ℕ, List, [], ◌∷◌, length, sym, subst, arith}
-use Rattle.std.specs.Prelude.{Result, Ok}
+use Rattle.std.specs.Prelude.{Result, Ok, Err, IfOk}
+use Rattle.text_rules.specs.Expected.{Fulfils}
 use Rattle.state_rules.specs.declared.extras.Extras.{Extras}
 use Rattle.state_rules.specs.Systems.{with_extras}
-use Rattle.state_rules.specs.Graphs.{Graph, IsGraph}
+use Rattle.state_rules.specs.Graphs.{Graph}
 use Rattle.diag_edge.specs.Edge.{Reading, Writing}
 use Rattle.device_model.specs.Devices.{Device, IsDevice}
 use Rattle.device_model.specs.Diagnosis.{device_system}
@@ -12,7 +13,6 @@ use Rattle.clause_encoder.specs.Encoding.{most_variables, encoded, Describes}
 use Rattle.clause_encoder.proofs.Sizes.{encoded-few_vars}
 use Rattle.clause_encoder.specs.declared.encoding.EncodeError.{EncodeError}
 use Rattle.branch_states.specs.declared.measuring.TheConstants.{BUDGET_LIMIT}
-use Rattle.dnnf_compiler.specs.Compiled.{SaysAll}
 use Rattle.dnnf_compiler.proofs.Laws.{graph_of_device}
 use Rattle.session_rules.specs.Spelling.{IsGraphOf}
 use Rattle.session_rules.specs.Items.{Item}
@@ -22,25 +22,42 @@ use Rattle.session_rules.proofs.Keeping.{HasCases-empty}
 use Rattle.session_core.specs.Services.{Shown}
 use Rattle.device_files.specs.declared.status.Status.{Status}
 use Rattle.device_files.specs.Output.{Output}
+use Rattle.device_files.specs.declared.refusal.Refusal.{Refusal}
+use Rattle.device_files.specs.Refusals.{told_by}
+use Rattle.device_files.specs.Choices.{Weighed, IsListOf}
+use Rattle.device_files.specs.Weighing.{within}
 use Rattle.diag_cli.specs.declared.words.ServeOptions.{ServeOptions}
 use Rattle.diag_cli.specs.Courses.{ready_line, answers_of, if_within, served_device, served_or_refused}
 use Rattle.diag_cli.specs.Following.{IsServed, Follows}
+use Rattle.diag_cli.specs.inner.Compiling.{IsGraphBy, FindsGraph}
 use Rattle.diag_cli.specs.inner.Serving.{IsServable, IsServiceOf}
 
 -- ---- the graph of a device is such as a service takes
 
 module _ (device : Device) (cnf : ClauseList) (is : encoded device ≡ Ok cnf) where
-  pub servable : (graph : Graph) (made sum : ℕ) → IsDevice device → Describes cnf device → sum ≤ BUDGET_LIMIT
-      → IsGraph graph → graph.vars ≡ cnf.vars → SaysAll cnf.clauses graph → made ≤ 3 * sum + 2 → length graph.nodes ≤ made + 2 * cnf.vars → IsServable device graph
-  servable graph made sum valid describes small decomposable vars says few_made few_nodes = record {
-    valid = decomposable;
-    meaning = graph_of_device device cnf graph is describes vars says;
-    few_vars = omega (arith, listed, vars);
-    few_nodes = omega (arith, listed, few_made, few_nodes, small);
+  pub servable : (graph : Graph) (sum : ℕ) → IsDevice device → Describes cnf device → sum ≤ BUDGET_LIMIT → IsGraphBy (record { list = cnf; sum = sum }) graph → IsServable device graph
+  servable graph sum valid describes small by = record {
+    valid = by.decomposable;
+    meaning = graph_of_device device cnf graph is describes by.vars by.truth;
+    few_vars = omega (arith, listed, by.vars);
+    few_nodes = omega (arith, listed, by.few_nodes, small);
   }
     where
       listed : cnf.vars ≤ most_variables
       listed = encoded-few_vars device cnf valid is
+
+pub all_servable : (device : Device) (list : ClauseList) → IsListOf device list → IsDevice device → (budget sum : ℕ) → budget ≤ BUDGET_LIMIT → (result : Result Graph Refusal)
+    → IfOk result (λ (_ : Graph). sum ≤ budget) → IfOk result (IsGraphBy (record { list = list; sum = sum })) → IfOk result (IsServable device)
+all_servable device list of valid budget sum small (Ok graph) few by = servable device list of.encoded graph sum valid of.describes (omega (arith, few, small)) by
+all_servable device list of valid budget sum small (Err refusal) few by = tt
+
+-- what a call answers that compiles it, if its clauses have this sum
+pub found_or_refused : (device : Device) (list : ClauseList) → IsListOf device list → IsDevice device → (budget sum : ℕ) → budget ≤ BUDGET_LIMIT → (result : Result Graph Refusal)
+    → Fulfils (λ (_ : Graph). record { list = list; sum = sum }) told_by (within budget (Ok (record { list = list; sum = sum }))) result → IfOk result (λ (_ : Graph). sum ≤ budget)
+    → IfOk result (IsGraphBy (record { list = list; sum = sum })) → FindsGraph device (within budget (Ok (record { list = list; sum = sum }))) result
+found_or_refused device list of valid budget sum small (Ok graph) is few by =
+    (servable device list of.encoded graph sum valid of.describes (omega (arith, few, small)) by, (record { list = list; sum = sum }, is, by))
+found_or_refused device list of valid budget sum small (Err refusal) is few by = is
 
 -- ---- the same answers
 
@@ -50,7 +67,7 @@ same_answers device graph is extras sessions = λ k lines. ready_line (device_sy
 
 -- What the service of a device answers is what the device's system does. So it follows the course of the device, where it may be
 -- served.
-pub device_served : (options : ServeOptions) (clauses : Device → Result ClauseList EncodeError) (device : Device) (service : Shown) (input new_input : Reading) (out new_out : Writing) (status : Status) → IsServiceOf device options service
+pub device_served : (options : ServeOptions) (clauses : Device → Result Weighed EncodeError) (device : Device) (service : Shown) (input new_input : Reading) (out new_out : Writing) (status : Status) → IsServiceOf device options service
     → if_within options clauses (Ok device) ≡ Ok device → IsServed (answers_of (system_of service.subject) service.limit) input new_input out new_out status
     → Follows (served_or_refused (served_device options) options.sessions (if_within options clauses (Ok device))) input new_input out new_out status
 device_served options clauses device service input new_input out new_out status of within_it done =

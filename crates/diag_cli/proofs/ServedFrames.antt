@@ -5,7 +5,7 @@ use Rattle.std.specs.Result.{result_and}
 use Rattle.std.proofs.lemmas.List.{length-map, length-replicate}
 use Rattle.text_rules.specs.Expected.{IsExpectedFault}
 use Rattle.state_rules.specs.Ranking.{plain_costs}
-use Rattle.state_rules.specs.Graphs.{Graph, IsGraph}
+use Rattle.state_rules.specs.Graphs.{Graph}
 use Rattle.state_rules.specs.GraphsOver.{IsGraphOver}
 use Rattle.diag_edge.specs.Edge.{Reading, Writing}
 use Rattle.device_model.specs.Devices.{part_names}
@@ -19,11 +19,9 @@ use Rattle.frame_unroller.specs.declared.unrolling.UnrollError.TheVariants.{TooM
 use Rattle.frame_unroller.specs.Unrolling.{unrolled, reason, IsUnrolled}
 use Rattle.frame_unroller.proofs.Refusing.{unrolled-names}
 use Rattle.frame_unroller.specs.Diagnosis.{frame_wires, fits_over, frame_system}
-use Rattle.branch_states.specs.Branches.{sum_of}
 use Rattle.branch_states.specs.declared.measuring.TheConstants.{BUDGET_LIMIT}
-use Rattle.clause_order.specs.Orders.{SameTruth}
+use Rattle.tree_finder.specs.declared.narrowing.Narrowed.{Narrowed}
 use Rattle.dnnf_compiler.proofs.Laws.{graph_over}
-use Rattle.dnnf_compiler.specs.Compiled.{SaysAll}
 use Rattle.session_rules.specs.Items.{Item}
 use Rattle.session_rules.specs.GraphSystems.{system_of}
 use Rattle.session_rules.proofs.GraphReplies.{fitting_replies}
@@ -32,14 +30,15 @@ use Rattle.session_core.specs.Services.{Shown}
 use Rattle.device_files.specs.declared.status.Status.{Status}
 use Rattle.device_files.specs.declared.status.Status.TheVariants.{NoMemory}
 use Rattle.device_files.specs.Weighing.{within}
-use Rattle.device_files.specs.Orders.{list_by, ByOrder, IsInOrder}
+use Rattle.device_files.specs.Choices.{Weighed, weighed_by, ByForest, IsChosen, HasSum}
 use Rattle.device_files.specs.Output.{Output}
-use Rattle.device_files.proofs.Ordering.{by_same, by_list}
+use Rattle.device_files.proofs.Choosing.{by_same, chosen_gives}
 use Rattle.diag_cli.specs.declared.words.ServeOptions.{ServeOptions}
 use Rattle.diag_cli.specs.Besides.{in_few_bits}
 use Rattle.diag_cli.specs.Courses.{ready_line, answers_of, served_frames, served_or_refused}
 use Rattle.diag_cli.specs.Frames.{unrolled_within, if_unrolled}
 use Rattle.diag_cli.specs.Following.{IsServed, Follows}
+use Rattle.diag_cli.specs.inner.Compiling.{IsGraphBy}
 use Rattle.diag_cli.specs.inner.Serving.{IsFrameService, frames_told}
 
 module _ (seq : Sequential) (frames : ℕ) (options : ServeOptions) where
@@ -57,34 +56,33 @@ module _ (seq : Sequential) (frames : ℕ) (options : ServeOptions) where
         ∷ fitting_replies (part_names seq.device.parts) (frame_wires seq frames) (plain_costs (length seq.device.parts)) (fits_over seq frames) of.graph over_names options.extras options.sessions [] (HasCases-empty (frame_system seq frames)) lines k)
 
     -- so it follows the course of the netlist, where it may be served
-    pub frames_served : (put : ClauseList → ClauseList) (input new_input : Reading) (out new_out : Writing) (status : Status) → if_unrolled frames options put (Ok seq) ≡ Ok seq
+    pub frames_served : (weigh : ClauseList → Weighed) (input new_input : Reading) (out new_out : Writing) (status : Status) → if_unrolled frames options weigh (Ok seq) ≡ Ok seq
         → IsServed (answers_of (system_of service.subject) service.limit) input new_input out new_out status
-        → Follows (served_or_refused (served_frames frames options) options.sessions (if_unrolled frames options put (Ok seq))) input new_input out new_out status
-    frames_served put input new_input out new_out status within_it done =
+        → Follows (served_or_refused (served_frames frames options) options.sessions (if_unrolled frames options weigh (Ok seq))) input new_input out new_out status
+    frames_served weigh input new_input out new_out status within_it done =
         subst (λ (expected : Result Sequential Output). Follows (served_or_refused (served_frames frames options) options.sessions expected) input new_input out new_out status) (sym within_it)
         (subst (λ (answers : List (List ℕ) → List Item). IsServed answers input new_input out new_out status) same_answers done)
 
 -- ---- a netlist that is not unrolled, or not served
 
 module _ (seq : Sequential) (frames : ℕ) (options : ServeOptions) where
-  pub not_unrolled_told : (put : ClauseList → ClauseList) (error : UnrollError) (told : Option Output) → told ≡ frames_told error → IsExpectedFault (reason error) (unrolled seq frames)
-      → IsExpectedFault told (if_unrolled frames options put (Ok seq))
-  not_unrolled_told put error told is h = subst (λ o. IsExpectedFault o (if_unrolled frames options put (Ok seq))) (sym is) (by error h)
+  pub not_unrolled_told : (weigh : ClauseList → Weighed) (error : UnrollError) (told : Option Output) → told ≡ frames_told error → IsExpectedFault (reason error) (unrolled seq frames)
+      → IsExpectedFault told (if_unrolled frames options weigh (Ok seq))
+  not_unrolled_told weigh error told is h = subst (λ o. IsExpectedFault o (if_unrolled frames options weigh (Ok seq))) (sym is) (by error h)
     where
-      by : (e : UnrollError) → IsExpectedFault (reason e) (unrolled seq frames) → IsExpectedFault (frames_told e) (if_unrolled frames options put (Ok seq))
-      by (TooManyParts count) h = ap (λ r. result_and (in_few_bits options.extras (length seq.device.parts) (unrolled_within options.budget put r)) (Ok seq)) h
-      by (TooManyWires count) h = ap (λ r. result_and (in_few_bits options.extras (length seq.device.parts) (unrolled_within options.budget put r)) (Ok seq)) h
-      by (TooManyClauses count) h = ap (λ r. result_and (in_few_bits options.extras (length seq.device.parts) (unrolled_within options.budget put r)) (Ok seq)) h
+      by : (e : UnrollError) → IsExpectedFault (reason e) (unrolled seq frames) → IsExpectedFault (frames_told e) (if_unrolled frames options weigh (Ok seq))
+      by (TooManyParts count) h = ap (λ r. result_and (in_few_bits options.extras (length seq.device.parts) (unrolled_within options.budget weigh r)) (Ok seq)) h
+      by (TooManyWires count) h = ap (λ r. result_and (in_few_bits options.extras (length seq.device.parts) (unrolled_within options.budget weigh r)) (Ok seq)) h
+      by (TooManyClauses count) h = ap (λ r. result_and (in_few_bits options.extras (length seq.device.parts) (unrolled_within options.budget weigh r)) (Ok seq)) h
       by NoMemory h = tt
 
-  -- what its clauses come to in the order in which they were put
-  pub unrolled_gives : (made : Unrolled) → unrolled seq frames ≡ Ok made → (found : ClauseList) → IsInOrder options.narrow made.cnf found → (Gives : Result Sequential Output → Type 0)
-      → Gives (result_and (in_few_bits options.extras (length seq.device.parts) (within options.budget (Ok found))) (Ok seq)) → ByOrder (λ order. Gives (if_unrolled frames options (list_by options.narrow order) (Ok seq)))
-  unrolled_gives made is found in_order Gives given =
-      by_same (by_list made.cnf found options.narrow in_order) (λ order same.
-      let so = ap (λ r. result_and (in_few_bits options.extras (length seq.device.parts) (unrolled_within options.budget (list_by options.narrow order) r)) (Ok seq)) is
-      ∙ ap (λ cnf. result_and (in_few_bits options.extras (length seq.device.parts) (within options.budget (Ok cnf))) (Ok seq)) same in
-      subst Gives (sym so) given)
+  -- what its clauses come to by the forest that was chosen for them
+  pub unrolled_gives : (made : Unrolled) → unrolled seq frames ≡ Ok made → (chosen : Option Narrowed) → IsChosen options.narrow made.cnf chosen → (Gives : Result Sequential Output → Type 0)
+      → ((sum : ℕ) → HasSum made.cnf chosen sum → Gives (result_and (in_few_bits options.extras (length seq.device.parts) (within options.budget (Ok (record { list = made.cnf; sum = sum })))) (Ok seq)))
+      → ByForest (λ choose. Gives (if_unrolled frames options (weighed_by options.narrow choose) (Ok seq)))
+  unrolled_gives made is chosen of Gives given =
+      by_same (chosen_gives made.cnf options.narrow chosen of (λ weighed. Gives (result_and (in_few_bits options.extras (length seq.device.parts) (within options.budget (Ok weighed))) (Ok seq))) given)
+      (λ choose holds. subst Gives (sym (ap (λ r. result_and (in_few_bits options.extras (length seq.device.parts) (unrolled_within options.budget (weighed_by options.narrow choose) r)) (Ok seq)) is)) holds)
 
 -- ---- the service of what was unrolled
 
@@ -102,11 +100,8 @@ module _ (seq : Sequential) (frames : ℕ) (made : Unrolled) (is : unrolled seq 
   pub many_costs : (costs : List ℕ) → costs ≡ plain_costs (length seq.device.parts) → length costs ≡ length made.parts
   many_costs costs are = omega (arith, ap length are, length-replicate {A = ℕ} (length seq.device.parts) 1, many_parts)
 
-  -- the clauses in another order describe the same
-  module _ (describes : DescribesBy made.cnf (length seq.device.parts) (length (frame_wires seq frames)) (fits_over seq frames)) (found : ClauseList) (vars_are : found.vars ≡ made.cnf.vars)
-      (alike : SameTruth made.cnf found)
-      (graph : Graph) (count : ℕ) (decomposable : IsGraph graph) (vars : graph.vars ≡ found.vars) (says : SaysAll found.clauses graph)
-      (few_made : count ≤ 3 * sum_of found.clauses + 2) (few_nodes : length graph.nodes ≤ count + 2 * found.vars) (small : sum_of found.clauses ≤ BUDGET_LIMIT) where
+  module _ (describes : DescribesBy made.cnf (length seq.device.parts) (length (frame_wires seq frames)) (fits_over seq frames))
+      (graph : Graph) (sum : ℕ) (small : sum ≤ BUDGET_LIMIT) (by : IsGraphBy (record { list = made.cnf; sum = sum }) graph) where
     room : length seq.device.parts + length (frame_wires seq frames) ≤ made.cnf.vars
     room = omega (arith, valid.room, many_parts, ap length wires_are)
 
@@ -115,9 +110,9 @@ module _ (seq : Sequential) (frames : ℕ) (made : Unrolled) (is : unrolled seq 
         → IsFrameService seq frames options service
     frame_service options costs service are shown = record {
       graph = graph;
-      valid = decomposable;
-      meaning = graph_over (length seq.device.parts) (length (frame_wires seq frames)) (fits_over seq frames) made.cnf graph room describes (vars ∙ vars_are) (λ a. says a ∙ alike a);
-      few_vars = omega (arith, vars, vars_are, valid.few_vars);
-      few_nodes = omega (arith, vars, vars_are, valid.few_vars, few_made, few_nodes, small);
+      valid = by.decomposable;
+      meaning = graph_over (length seq.device.parts) (length (frame_wires seq frames)) (fits_over seq frames) made.cnf graph room describes by.vars by.truth;
+      few_vars = omega (arith, by.vars, valid.few_vars);
+      few_nodes = omega (arith, valid.few_vars, by.few_nodes, small);
       shown = shown ∙ (λ i. record { subject = record { parts = parts_are i; wires = wires_are i; costs = are i; graph = graph; extras = options.extras }; limit = options.sessions; table = [] });
     }

@@ -2,6 +2,7 @@
 use Rattle.std.proofs.Common.{◌≡◌, ℕ, List, Option, sym, ap, subst₂, refl}
 use Rattle.diag_edge.specs.Edge.{Reading, Writing, Holding}
 use Rattle.clause_encoder.specs.Clauses.{ClauseList}
+use Rattle.elimination_forests.specs.Forests.{Forest}
 use Rattle.session_rules.specs.Items.{Item}
 use Rattle.device_files.specs.declared.status.Status.{Status}
 use Rattle.device_files.specs.Output.{Output, Gives, GivesUnlessMemory}
@@ -37,9 +38,9 @@ pub served_shown : {answers : List (List ℕ) → List Item} {status : Status} {
     → IsServed answers input new_input out new_out status → IsServed answers input_shown new_input_shown out_shown new_out_shown status
 served_shown {answers} {status} a b c d served = at_ends (λ x y u v. IsServed answers x y u v status) a b c d served
 
-pub run_shown : {order : ClauseList → ClauseList} {form : Option Form} {held : List ℕ → Holding} {status : Status}
+pub run_shown : {choose : ClauseList → Option Forest} {form : Option Form} {held : List ℕ → Holding} {status : Status}
     {shelf new_shelf input new_input shelf_shown new_shelf_shown input_shown new_input_shown : Reading} {out new_out out_shown new_out_shown : Writing}
     → shelf_shown ≡ shelf → new_shelf_shown ≡ new_shelf → input_shown ≡ input → new_input_shown ≡ new_input → out_shown ≡ out → new_out_shown ≡ new_out
-    → IsRun order form held shelf new_shelf input new_input out new_out status → IsRun order form held shelf_shown new_shelf_shown input_shown new_input_shown out_shown new_out_shown status
-run_shown {order} {form} {held} {status} {shelf} {new_shelf} {input_shown = i} {new_input_shown = j} {out_shown = o} {new_out_shown = p} a b c d e f run =
-    at_ends (λ x y u v. IsRun order form held x y i j u v status) a b (λ _. o) (λ _. p) (at_ends (λ x y u v. IsRun order form held shelf new_shelf x y u v status) c d e f run)
+    → IsRun choose form held shelf new_shelf input new_input out new_out status → IsRun choose form held shelf_shown new_shelf_shown input_shown new_input_shown out_shown new_out_shown status
+run_shown {choose} {form} {held} {status} {shelf} {new_shelf} {input_shown = i} {new_input_shown = j} {out_shown = o} {new_out_shown = p} a b c d e f run =
+    at_ends (λ x y u v. IsRun choose form held x y i j u v status) a b (λ _. o) (λ _. p) (at_ends (λ x y u v. IsRun choose form held shelf new_shelf x y u v status) c d e f run)

@@ -8,9 +8,7 @@ use Rattle.diag_edge.specs.Edge.{Puts}
 use Rattle.nnf_text.specs.GraphTexts.{parsed}
 use Rattle.nnf_text.specs.WrittenGraphs.{graph_text}
 use Rattle.device_model.specs.Devices.{Device}
-use Rattle.clause_encoder.specs.Clauses.{ClauseList}
 use Rattle.clause_encoder.specs.declared.encoding.EncodeError.{EncodeError}
-use Rattle.branch_states.specs.Branches.{sum_of}
 use Rattle.dnnf_compiler.specs.Compiled.{most_nodes}
 use Rattle.session_rules.specs.Items.{Whole}
 use Rattle.session_rules.specs.Spelling.{IsWholeOf}
@@ -19,6 +17,7 @@ use Rattle.device_files.specs.declared.status.Status.{Status}
 use Rattle.device_files.specs.declared.status.Status.TheVariants.{Done, WriteFailed}
 use Rattle.device_files.specs.Output.{Output, Gives, GivesUnlessMemory, told_or_refused}
 use Rattle.device_files.specs.Describing.{described}
+use Rattle.device_files.specs.Choices.{Weighed}
 use Rattle.device_files.specs.Weighing.{within}
 use Rattle.device_files.specs.Refusals.{or_memory}
 use Rattle.device_files.proofs.Failing.{replies_give}
@@ -27,34 +26,34 @@ use Rattle.diag_cli.specs.Courses.{graph_by, compiled}
 use Rattle.diag_cli.specs.inner.Serving.{IsServable}
 
 -- there are too many clauses, or their sum is above the budget
-pub not_compiled : (fault : Option Output) (path file : List ℕ) (budget : ℕ) (clauses : Device → Result ClauseList EncodeError) (device : Device) (status : Status) (a b : Option (List ℕ)) → described path file ≡ Ok device
+pub not_compiled : (fault : Option Output) (path file : List ℕ) (budget : ℕ) (clauses : Device → Result Weighed EncodeError) (device : Device) (status : Status) (a b : Option (List ℕ)) → described path file ≡ Ok device
     → IsExpectedFault fault (within budget (clauses device)) → Gives (or_memory fault) status a b → GivesUnlessMemory (compiled budget clauses (described path file)) status a b
 not_compiled fault path file budget clauses device status a b is refused said =
     subst (λ found. GivesUnlessMemory (compiled budget clauses found) status a b) (sym is) (refused_told (graph_by device) (within budget (clauses device)) fault status a b refused said)
 
-module _ (path file : List ℕ) (budget : ℕ) (clauses : Device → Result ClauseList EncodeError) (device : Device) (cnf : ClauseList) (graph : Graph) (status : Status) (a b : Option (List ℕ)) where
+module _ (path file : List ℕ) (budget : ℕ) (clauses : Device → Result Weighed EncodeError) (device : Device) (weighed : Weighed) (graph : Graph) (status : Status) (a b : Option (List ℕ)) where
   abbrev most : ℕ
-  most = most_nodes (sum_of cnf.clauses) cnf.vars
+  most = most_nodes weighed.sum weighed.list.vars
 
   abbrev output : Output
-  output = record { items = Whole device cnf.vars most ∷ []; status = Done }
+  output = record { items = Whole device weighed.list.vars most ∷ []; status = Done }
 
-  output_is : described path file ≡ Ok device → within budget (clauses device) ≡ Ok cnf → compiled budget clauses (described path file) ≡ output
+  output_is : described path file ≡ Ok device → within budget (clauses device) ≡ Ok weighed → compiled budget clauses (described path file) ≡ output
   output_is is list = ap (compiled budget clauses) is ∙ ap (told_or_refused (graph_by device)) list
 
-  is_whole : IsServable device graph → graph.vars ≡ cnf.vars → length graph.nodes ≤ most → IsWholeOf device cnf.vars most (Ok graph)
+  is_whole : IsServable device graph → graph.vars ≡ weighed.list.vars → length graph.nodes ≤ most → IsWholeOf device weighed.list.vars most (Ok graph)
   is_whole is vars few_nodes = (vars, is.valid.nodes.apart, few_nodes, is.meaning)
 
   -- its text, with its own number of variables said again, was written, or a write failed
   pub graph_gives : {T E : Type 0} (result : Result T E) (vars : ℕ) → vars ≡ graph.vars
-      → described path file ≡ Ok device → within budget (clauses device) ≡ Ok cnf
-      → IsServable device graph → graph.vars ≡ cnf.vars → length graph.nodes ≤ most
+      → described path file ≡ Ok device → within budget (clauses device) ≡ Ok weighed
+      → IsServable device graph → graph.vars ≡ weighed.list.vars → length graph.nodes ≤ most
       → is_neat (graph_text (record graph { vars = vars })) ≡ true → parsed (graph_text (record graph { vars = vars })) ≡ Ok (record graph { vars = vars })
       → Puts a b result (graph_text (record graph { vars = vars })) → MatchResult result (λ _. status ≡ Done) (λ _. status ≡ WriteFailed)
       → GivesUnlessMemory (compiled budget clauses (described path file)) status a b
   graph_gives result vars same is list servable of_cnf few_nodes neat reads puts ends =
       inr (subst (λ (o : Output). Gives o status a b) (sym (output_is is list))
-      (replies_give output status a b result (λ five. let never : ⊥ = cc in never) (replies_one a b result (Whole device cnf.vars most) _ ((neat, (record graph { vars = vars }, refl)), spelled) puts) ends))
+      (replies_give output status a b result (λ five. let never : ⊥ = cc in never) (replies_one a b result (Whole device weighed.list.vars most) _ ((neat, (record graph { vars = vars }, refl)), spelled) puts) ends))
     where
-      spelled : IsWholeOf device cnf.vars most (parsed (graph_text (record graph { vars = vars })))
-      spelled = subst (IsWholeOf device cnf.vars most) (sym (reads ∙ ap (λ n. Ok (record graph { vars = n })) same)) (is_whole servable of_cnf few_nodes)
+      spelled : IsWholeOf device weighed.list.vars most (parsed (graph_text (record graph { vars = vars })))
+      spelled = subst (IsWholeOf device weighed.list.vars most) (sym (reads ∙ ap (λ n. Ok (record graph { vars = n })) same)) (is_whole servable of_cnf few_nodes)

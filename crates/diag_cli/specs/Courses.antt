@@ -14,7 +14,7 @@ use Rattle.bench_reader.specs.declared.sequential.Sequential.{Sequential}
 use Rattle.clause_encoder.specs.Clauses.{ClauseList}
 use Rattle.clause_encoder.specs.declared.encoding.EncodeError.{EncodeError}
 use Rattle.frame_unroller.specs.Diagnosis.{frame_system}
-use Rattle.branch_states.specs.Branches.{sum_of}
+use Rattle.elimination_forests.specs.Forests.{Forest}
 use Rattle.dnnf_compiler.specs.Compiled.{most_nodes}
 use Rattle.session_rules.specs.Items.{Item, Plain, Whole, line}
 use Rattle.session_rules.specs.Sessions.{replies}
@@ -22,7 +22,7 @@ use Rattle.session_rules.specs.GraphSystems.{system_of}
 use Rattle.device_files.specs.declared.status.Status.TheVariants.{Done, Refused, Usage, ReadFailed, CutShort}
 use Rattle.device_files.specs.Output.{Output, says, too_long_line, no_memory, result_and_then, told_or_refused}
 use Rattle.device_files.specs.Describing.{described}
-use Rattle.device_files.specs.Orders.{list_by, clauses_by}
+use Rattle.device_files.specs.Choices.{Weighed, weighed_by, clauses_by}
 use Rattle.device_files.specs.Weighing.{within}
 use Rattle.device_files.specs.Inspecting.{inspected}
 use Rattle.device_files.specs.Checking.{graph_in}
@@ -89,11 +89,11 @@ wholly_served answers script = served answers (take SCRIPT_LIMIT script) (end_of
 -- ---- a device is compiled
 
 -- its graph, over the variables of the clauses, with at most so many nodes
-abbrev pub graph_by : Device → ClauseList → Output
-graph_by device cnf = record { items = Whole device cnf.vars (most_nodes (sum_of cnf.clauses) cnf.vars) ∷ []; status = Done }
+abbrev pub graph_by : Device → Weighed → Output
+graph_by device weighed = record { items = Whole device weighed.list.vars (most_nodes weighed.sum weighed.list.vars) ∷ []; status = Done }
 
 -- by what the clauses of devices are
-abbrev pub compiled : ℕ → (Device → Result ClauseList EncodeError) → Result Device Output → Output
+abbrev pub compiled : ℕ → (Device → Result Weighed EncodeError) → Result Device Output → Output
 compiled budget clauses found = told_or_refused (λ device. told_or_refused (graph_by device) (within budget (clauses device))) found
 
 -- ---- all forms
@@ -103,7 +103,7 @@ pub data Course : Type 0 where
   Serves : (answers : List (List ℕ) → List Item) → Course
 
 -- the sum of a device is within the budget, and what is told besides takes few bits
-abbrev pub if_within : ServeOptions → (Device → Result ClauseList EncodeError) → Result Device Output → Result Device Output
+abbrev pub if_within : ServeOptions → (Device → Result Weighed EncodeError) → Result Device Output → Result Device Output
 if_within options clauses found = result_and_then (λ device.
     result_and (in_few_bits options.extras (length device.parts) (within options.budget (clauses device))) (Ok device)) found
 
@@ -124,19 +124,19 @@ abbrev pub whole_output : Course → Option (List ℕ) → Option Output
 whole_output (Tells output) left = Some output
 whole_output (Serves answers) left = option_map (wholly_served answers) left
 
--- by the command, over a file, and by the order of clauses that is used where another one is asked for
-abbrev pub course_by : (ClauseList → ClauseList) → List ℕ → Command → List ℕ → Course
-course_by order path (Serve options) file =
-    served_or_refused (served_device options) options.sessions (if_within options (clauses_by options.narrow order) (described path file))
-course_by order path (ServeFrames frames options) file =
-    served_or_refused (served_frames frames options) options.sessions (if_unrolled frames options (list_by options.narrow order) (sequential_in file))
-course_by order path (Ask health sessions) file = served_or_refused system_of sessions (asked health (graph_in file))
-course_by order path (Inspect inspection) file = Tells (inspected order path inspection file)
-course_by order path (Compile budget narrow) file = Tells (compiled budget (clauses_by narrow order) (described path file))
+-- by the command, over a file, and by the choice of forests, if one is asked for
+abbrev pub course_by : (ClauseList → Option Forest) → List ℕ → Command → List ℕ → Course
+course_by choose path (Serve options) file =
+    served_or_refused (served_device options) options.sessions (if_within options (clauses_by options.narrow choose) (described path file))
+course_by choose path (ServeFrames frames options) file =
+    served_or_refused (served_frames frames options) options.sessions (if_unrolled frames options (weighed_by options.narrow choose) (sequential_in file))
+course_by choose path (Ask health sessions) file = served_or_refused system_of sessions (asked health (graph_in file))
+course_by choose path (Inspect inspection) file = Tells (inspected choose path inspection file)
+course_by choose path (Compile budget narrow) file = Tells (compiled budget (clauses_by narrow choose) (described path file))
 
 -- by the form; of a file that is too long, that is told
-abbrev pub course_of : (ClauseList → ClauseList) → Option Form → List ℕ → Course
-course_of order None file = Tells (says usage_line Usage)
-course_of order (Some (Load places)) file = Tells (loaded places)
-course_of order (Some (Over path command)) file =
-    if nat_le (length file) TEXT_LIMIT then course_by order path command file else Tells (says long_file_line Refused)
+abbrev pub course_of : (ClauseList → Option Forest) → Option Form → List ℕ → Course
+course_of choose None file = Tells (says usage_line Usage)
+course_of choose (Some (Load places)) file = Tells (loaded places)
+course_of choose (Some (Over path command)) file =
+    if nat_le (length file) TEXT_LIMIT then course_by choose path command file else Tells (says long_file_line Refused)

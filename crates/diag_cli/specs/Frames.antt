@@ -15,6 +15,7 @@ use Rattle.device_files.specs.declared.status.Status.TheVariants.{Refused}
 use Rattle.device_files.specs.Output.{Output, says, no_memory, result_and_then}
 use Rattle.device_files.specs.Describing.{netlist_line, or_line}
 use Rattle.diag_cli.specs.declared.words.ServeOptions.{ServeOptions}
+use Rattle.device_files.specs.Choices.{Weighed}
 use Rattle.device_files.specs.Weighing.{within}
 use Rattle.diag_cli.specs.Besides.{in_few_bits}
 
@@ -29,12 +30,12 @@ not_unrolled (TooManyWires count) = says (above_line (codes "wires") count WIRE_
 not_unrolled (TooManyClauses count) = says (above_line (codes "clauses") count CLAUSE_LIMIT) Refused
 not_unrolled Memory = no_memory
 
--- the clauses over all times, put into an order, where their sum is within a budget
-abbrev pub unrolled_within : ℕ → (ClauseList → ClauseList) → Result Unrolled UnrollError → Result ClauseList Output
-unrolled_within budget put (Ok made) = within budget (Ok (put made.cnf))
-unrolled_within budget put (Err error) = Err (not_unrolled error)
+-- the clauses over all times, if their sum is within a budget
+abbrev pub unrolled_within : ℕ → (ClauseList → Weighed) → Result Unrolled UnrollError → Result Weighed Output
+unrolled_within budget weigh (Ok made) = within budget (Ok (weigh made.cnf))
+unrolled_within budget weigh (Err error) = Err (not_unrolled error)
 
 -- the netlist, where it is unrolled within the budget, and what is told besides takes few bits
-abbrev pub if_unrolled : ℕ → ServeOptions → (ClauseList → ClauseList) → Result Sequential Output → Result Sequential Output
-if_unrolled frames options put found = result_and_then (λ seq.
-    result_and (in_few_bits options.extras (length seq.device.parts) (unrolled_within options.budget put (unrolled seq frames))) (Ok seq)) found
+abbrev pub if_unrolled : ℕ → ServeOptions → (ClauseList → Weighed) → Result Sequential Output → Result Sequential Output
+if_unrolled frames options weigh found = result_and_then (λ seq.
+    result_and (in_few_bits options.extras (length seq.device.parts) (unrolled_within options.budget weigh (unrolled seq frames))) (Ok seq)) found

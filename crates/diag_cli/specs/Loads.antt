@@ -6,7 +6,7 @@ use Rattle.state_rules.specs.Systems.{System, least_cost, all_diagnoses}
 use Rattle.device_model.specs.Devices.{Device}
 use Rattle.device_model.specs.Diagnosis.{device_system}
 use Rattle.bench_reader.specs.Netlists.{netlist}
-use Rattle.clause_encoder.specs.Clauses.{ClauseList}
+use Rattle.std.specs.Result.{result_map_both}
 use Rattle.clause_encoder.specs.Encoding.{encoded}
 use Rattle.session_rules.specs.Items.{Item, line}
 use Rattle.session_rules.specs.Replies.{faulty_names}
@@ -15,6 +15,7 @@ use Rattle.adder_load.specs.Readings.{adder_case}
 use Rattle.device_files.specs.declared.status.Status.TheVariants.{Done}
 use Rattle.device_files.specs.Output.{Output, told_or_refused}
 use Rattle.device_files.specs.Describing.{or_line, netlist_line}
+use Rattle.device_files.specs.Choices.{Weighed, by_names}
 use Rattle.device_files.specs.Weighing.{within}
 use Rattle.device_files.specs.Inspecting.{count_line}
 use Rattle.diag_cli.specs.declared.words.TheConstants.{DEFAULT_BUDGET}
@@ -38,12 +39,12 @@ summary_lines system clauses known =
     ∷ listed_lines system.parts (least_cost system known) (take LISTED_LIMIT (all_diagnoses system known))
 
 -- the output for a device, by its clauses
-abbrev pub summary_by : ℕ → Device → ClauseList → Output
-summary_by places device cnf = record { items = summary_lines (device_system device) (length cnf.clauses) (adder_case device places); status = Done }
+abbrev pub summary_by : ℕ → Device → Weighed → Output
+summary_by places device weighed = record { items = summary_lines (device_system device) (length weighed.list.clauses) (adder_case device places); status = Done }
 
--- where their sum is within the budget
+-- if their sum is within the budget
 abbrev pub summary_of : ℕ → Result Device Output → Output
-summary_of places found = told_or_refused (λ device. told_or_refused (summary_by places device) (within DEFAULT_BUDGET (encoded device))) found
+summary_of places found = told_or_refused (λ device. told_or_refused (summary_by places device) (within DEFAULT_BUDGET (result_map_both by_names (λ error. error) (encoded device)))) found
 
 -- the adder of so many places, and what was seen of it
 abbrev pub loaded : ℕ → Output

@@ -28,8 +28,8 @@ fn unnamed(error: AskError) -> Refusal
     ensures { told_by result ≡ option_map (λ fault. says (asking_line fault) Status.Refused) (told error) }
 {
     match error {
-        AskError::Health { health, vars } => above("health", u64::from(health), vars as usize),
-        AskError::Wires { count } => above("wires", u64::from(count), WIRE_LIMIT),
+        AskError::Health { health, vars } => above("health", health, vars as usize),
+        AskError::Wires { count } => above("wires", count, WIRE_LIMIT),
         AskError::Memory => Refusal::Memory,
     }
 }

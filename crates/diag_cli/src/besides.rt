@@ -1,30 +1,34 @@
 //! What is told besides, and whether it takes few bits over the graph of clauses.
-ghost use Rattle.std.specs.Prelude.{◌≡◌, ◌^◌, ◌+◌, ◌*◌, ◌<◌, ◌≤◌, Ok, Some, not, ◌&&◌, is_none, length, IfOk, IfErr, IfSome};
+ghost use Rattle.std.specs.Prelude.{◌≡◌, ◌^◌, ◌+◌, ◌*◌, ◌<◌, ◌≤◌, ℕ, true, Ok, Some, not, ◌&&◌, is_none, length, IfOk, IfErr, IfSome};
 ghost use Rattle.text_rules.specs.Expected.{IsExpectedFault, Fulfils};
-ghost use Rattle.branch_states.specs.Branches.{sum_of};
-ghost use Rattle.dnnf_compiler.specs.Compiled.{IsCompiled};
-ghost use Rattle.device_files.specs.Orders.{ByClauses};
+ghost use Rattle.state_rules.specs.Graphs.{edges};
+ghost use Rattle.device_files.specs.Choices.{ByClauses, HasSum};
 ghost use Rattle.device_files.specs.Output.{says};
 ghost use Rattle.device_files.specs.Weighing.{within};
 ghost use Rattle.device_files.specs.Refusals.{told_by};
 ghost use Rattle.diag_cli.specs.Besides.{levels_bits, least_bits, bits_line, in_few_bits};
 ghost use Rattle.diag_cli.specs.Courses.{if_within};
+ghost use Rattle.diag_cli.specs.inner.Compiling.{IsGraphBy};
 ghost use Rattle.diag_cli.specs.inner.Forms.{AreWithinLimits};
 ghost use Rattle.diag_cli.specs.inner.Serving.{IsServable, CanTell};
 
 use crate::graphs::compiled_within;
 use crate::words::ServeOptions;
 use clause_encoder::Cnf;
-use device_files::{Refusal, Status, above, ordered_clauses, sum_within};
+use device_files::{Refusal, Status, above, clauses_of, forest_of, sum_within};
 use device_model::{Device, PART_LIMIT};
-use dnnf_compiler::{Compiled, most_nodes};
+use dnnf_compiler::most_nodes;
 use level_lister::{TOP_LIMIT, level_bits};
 use node_store::Graph;
 use part_sets::part_words;
 use session_core::{Extras, SERVED_BITS};
 use std::alloc::Global;
+use tree_finder::Narrowed;
 
-/// The graph of a device, where the sum of its clauses is within the budget and what is told besides takes few bits.
+// Lines are numbered in 32 bits.
+const LINE_LIMIT: u64 = 1 << 32;
+
+/// The graph of a device, if the sum of its clauses is within the budget and what is told besides takes few bits.
 pub(crate) fn graph_in_few_bits(
     alloc: Global,
     device: &Device,
@@ -38,46 +42,72 @@ pub(crate) fn graph_in_few_bits(
 {
     // Its contract says that a device has few parts.
     let parts = device.parts().len() as u32;
-    let cnf = ordered_clauses(alloc, device, options.narrow)?;
-    let compiled = compile_in_few_bits(alloc, &cnf, parts, options)?;
-    Ok(compiled.graph)
+    let cnf = clauses_of(alloc, device)?;
+    let forest = forest_of(alloc, &cnf, options.narrow)?;
+    compile_in_few_bits(alloc, &cnf, &forest, parts, options)
 }
 
-/// The graph of clauses over so many parts, where their sum is within the budget and what is told besides takes few bits.
+/// The graph of clauses over so many parts, if their sum is within the budget and what is told besides takes few bits.
 pub(crate) fn compile_in_few_bits(
     alloc: Global,
     cnf: &Cnf,
+    forest: &Option<Narrowed>,
     parts: u32,
     options: ServeOptions,
-) -> Result<Compiled, Refusal>
+) -> Result<Graph, Refusal>
     requires options { AreWithinLimits options }
+    requires sum { (sum : ℕ) × HasSum cnf.now forest.now sum }
     requires vars { cnf.now.vars < 2 ^ 20 }
     requires parts { parts ≤ PART_LIMIT }
-    ensures list { Fulfils (λ _. cnf.now) told_by (in_few_bits options.extras parts (within options.budget (Ok cnf.now))) result }
-    ensures within { IfOk result (λ _. sum_of cnf.now.clauses ≤ options.budget) }
-    ensures compiled { IfOk result (IsCompiled cnf.now) }
-    ensures told { IfOk result (λ compiled. CanTell options.extras compiled.graph parts) }
+    ensures list { (sum : ℕ) → HasSum cnf.now forest.now sum
+        → Fulfils (λ _. record { list = cnf.now; sum = sum }) told_by
+        (in_few_bits options.extras parts (within options.budget (Ok (record { list = cnf.now; sum = sum })))) result }
+    ensures within { (sum : ℕ) → HasSum cnf.now forest.now sum → IfOk result (λ graph. sum ≤ options.budget) }
+    ensures graph { (sum : ℕ) → HasSum cnf.now forest.now sum → IfOk result (IsGraphBy (record { list = cnf.now; sum = sum })) }
+    ensures told { IfOk result (λ graph. CanTell options.extras graph parts) }
 {
-    check_bits(alloc, cnf, parts, options)?;
-    compiled_within(alloc, cnf, options.budget)
+    check_bits(alloc, cnf, forest, parts, options)?;
+    let graph = compiled_within(alloc, cnf, forest, options.budget)?;
+    check_lines(&graph, parts, options.extras.least)?;
+    Ok(graph)
 }
 
 // Whether what is told besides takes few bits over clauses whose sum is within the budget.
-fn check_bits(alloc: Global, cnf: &Cnf, parts: u32, options: ServeOptions) -> Result<(), Refusal>
+fn check_bits(
+    alloc: Global,
+    cnf: &Cnf,
+    forest: &Option<Narrowed>,
+    parts: u32,
+    options: ServeOptions,
+) -> Result<(), Refusal>
     requires options { AreWithinLimits options }
     requires vars { cnf.now.vars < 2 ^ 20 }
     requires parts { parts ≤ PART_LIMIT }
-    ensures few { IfOk result (λ _. in_few_bits options.extras parts (Ok cnf.now) ≡ Ok cnf.now) }
-    ensures fault { IfErr result (λ refusal. IsExpectedFault (told_by refusal)
-        (in_few_bits options.extras parts (within options.budget (Ok cnf.now)))) }
+    ensures few { (sum : ℕ) → HasSum cnf.now forest.now sum → IfOk result (λ _.
+        in_few_bits options.extras parts (Ok (record { list = cnf.now; sum = sum })) ≡ Ok (record { list = cnf.now; sum = sum })) }
+    ensures fault { (sum : ℕ) → HasSum cnf.now forest.now sum → IfErr result (λ refusal. IsExpectedFault (told_by refusal)
+        (in_few_bits options.extras parts (within options.budget (Ok (record { list = cnf.now; sum = sum }))))) }
 {
     let extras = options.extras;
     if tells_nothing(extras) {
         return Ok(());
     }
-    let sum = sum_within(alloc, cnf, options.budget)?;
+    let sum = sum_within(alloc, cnf, forest, options.budget)?;
     few_bits(levels_bits(sum, cnf.vars(), parts, extras.levels))?;
     few_bits(least_bits(sum, cnf.vars(), parts, extras.least))
+}
+
+// Whether the lines of the graph of the diagnoses can be numbered, if that is told. If not, they do not fit into memory either.
+fn check_lines(graph: &Graph, parts: u32, is_told: bool) -> Result<(), Refusal>
+    requires { parts ≤ PART_LIMIT }
+    ensures few { IfOk result (λ _. is_told ≡ true → length graph.now.nodes + edges graph.now.nodes + 2 * parts + 1 < 2 ^ 32) }
+    ensures memory { IfErr result (λ refusal. refusal ≡ Refusal.Memory) }
+{
+    let others = u64::from(graph.len()) + 2 * u64::from(parts) + 1;
+    if is_told && LINE_LIMIT <= others.saturating_add(graph.edges()) {
+        return Err(Refusal::Memory);
+    }
+    Ok(())
 }
 
 // Whether nothing is told besides, so that no sum has to be found.
@@ -97,7 +127,7 @@ fn levels_bits(sum: u32, vars: u32, parts: u32, levels: Option<u32>) -> u64
 {
     match levels {
         None => 0,
-        Some(top) => level_bits(most_nodes(sum, vars), parts, top),
+        Some(top) => level_bits(u64::from(sum), vars, parts, top),
     }
 }
 

@@ -1,7 +1,7 @@
 ghost use Rattle.std.specs.Prelude.{◌≡◌, ◌≢◌, ◌-◌, ◌^◌, ◌<◌, ◌≤◌, length};
 ghost use Rattle.diag_edge.specs.Edge.{RoseExactly};
 ghost use Rattle.device_files.specs.Describing.{described};
-ghost use Rattle.device_files.specs.Orders.{ByClauses};
+ghost use Rattle.device_files.specs.Choices.{ByClauses};
 ghost use Rattle.diag_cli.specs.Courses.{compiled};
 ghost use Rattle.device_files.specs.Output.{GivesUnlessMemory};
 
@@ -13,7 +13,7 @@ use nnf_text::write_nnf;
 use std::alloc::Global;
 use text_rules::TEXT_LIMIT;
 
-/// Writes the graph of the device of a file, or tells why there is none, and answers the status.
+/// Writes the graph of the device of a file, or why there is none, and answers the status.
 pub(crate) fn compile_file<O: Sink>(
     alloc: Global,
     path: &str,
@@ -37,7 +37,7 @@ pub(crate) fn compile_file<O: Sink>(
         Err(refusal) => return tell(out, refusal),
     };
     let graph = match graph_within(alloc, &device, budget, is_narrow) {
-        Ok((_, graph)) => graph,
+        Ok(graph) => graph,
         Err(refusal) => return tell(out, refusal),
     };
     match write_nnf(&graph, graph.vars(), out) {

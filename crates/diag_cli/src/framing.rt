@@ -5,24 +5,24 @@ ghost use Rattle.text_rules.specs.Expected.{Fulfils};
 ghost use Rattle.state_rules.specs.Ranking.{plain_costs};
 ghost use Rattle.diag_edge.specs.Edge.{RoseExactly};
 ghost use Rattle.bench_reader.specs.SequentialNetlists.{sequential_netlist, HasShortNames};
-ghost use Rattle.device_files.specs.Orders.{list_by, ByOrder};
+ghost use Rattle.device_files.specs.Choices.{weighed_by, ByForest};
 ghost use Rattle.device_files.specs.Describing.{netlist_line, or_line};
 ghost use Rattle.device_files.specs.Refusals.{Finds, told_by};
 ghost use Rattle.diag_cli.specs.Courses.{served_frames, served_or_refused};
 ghost use Rattle.diag_cli.specs.Frames.{sequential_in, if_unrolled};
 ghost use Rattle.diag_cli.specs.Following.{Follows};
 ghost use Rattle.diag_cli.specs.inner.Forms.{AreWithinLimits};
-ghost use Rattle.diag_cli.specs.inner.Serving.{IsFrameService, frames_told};
+ghost use Rattle.diag_cli.specs.inner.Serving.{IsFrameService};
 
 use crate::besides::compile_in_few_bits;
+use crate::refusing::not_unrolled;
 use crate::serving::{SCRIPT_LIMIT, answer};
 use crate::words::ServeOptions;
 use bench_reader::{BenchError, Sequential, read_sequential};
-use clause_encoder::CLAUSE_LIMIT;
-use device_files::{Refusal, Status, above, in_order, tell};
-use device_model::{PART_LIMIT, WIRE_LIMIT};
+use device_files::{Refusal, Status, forest_of, tell};
+use device_model::PART_LIMIT;
 use diag_edge::{Sink, Source};
-use frame_unroller::{FRAME_LIMIT, UnrollError, Unrolled, unroll};
+use frame_unroller::{FRAME_LIMIT, Unrolled, unroll};
 use session_core::Service;
 use std::alloc::{AllocError, Global};
 use text_rules::TEXT_LIMIT;
@@ -44,18 +44,6 @@ fn sequential(alloc: Global, text: &[u8]) -> Result<Sequential, Refusal>
     }
 }
 
-// What tells that a netlist is not unrolled.
-fn not_unrolled(error: UnrollError) -> Refusal
-    ensures { told_by result ≡ frames_told error }
-{
-    match error {
-        UnrollError::TooManyParts { count } => above("parts", count, PART_LIMIT),
-        UnrollError::TooManyWires { count } => above("wires", count, WIRE_LIMIT),
-        UnrollError::TooManyClauses { count } => above("clauses", count, CLAUSE_LIMIT as usize),
-        UnrollError::Memory => Refusal::Memory,
-    }
-}
-
 // The costs of so many parts, each 1.
 fn plain_costs(alloc: Global, parts: usize) -> Result<Vec<u32>, AllocError>
     requires { parts ≤ PART_LIMIT }
@@ -66,7 +54,7 @@ fn plain_costs(alloc: Global, parts: usize) -> Result<Vec<u32>, AllocError>
     vec![in alloc; 1u32; parts]
 }
 
-// The service of a netlist over so many times, where the sum of its clauses is within the budget and what is told besides takes few
+// The service of a netlist over so many times, if the sum of its clauses is within the budget and what is told besides takes few
 // bits.
 fn service_within(
     alloc: Global,
@@ -79,8 +67,8 @@ fn service_within(
     requires short { HasShortNames seq.now.device }
     requires options { AreWithinLimits options }
     ensures service { IfOk result (IsFrameService seq.now frames options) }
-    ensures within { ByOrder (λ order.
-        Fulfils (λ _. seq.now) told_by (if_unrolled frames options (list_by options.narrow order) (Ok seq.now)) result) }
+    ensures within { ByForest (λ choose.
+        Fulfils (λ _. seq.now) told_by (if_unrolled frames options (weighed_by options.narrow choose) (Ok seq.now)) result) }
 {
     let made = match unroll(alloc, seq, frames) {
         Ok(made) => made,
@@ -88,15 +76,15 @@ fn service_within(
     };
     let Unrolled { parts, wires, cnf } = made;
     let count = seq.device.parts().len();
-    let cnf = in_order(alloc, cnf, options.narrow)?;
-    let compiled = compile_in_few_bits(alloc, &cnf, count as u32, options)?;
+    let forest = forest_of(alloc, &cnf, options.narrow)?;
+    let graph = compile_in_few_bits(alloc, &cnf, &forest, count as u32, options)?;
     let costs = plain_costs(alloc, count)?;
     match Service::over(
         alloc,
         parts.into_vec(),
         wires.into_vec(),
         costs,
-        compiled.graph,
+        graph,
         options.sessions,
         options.extras,
     ) {
@@ -124,8 +112,8 @@ fn serve_sequential<I: Source, O: Sink>(
     ensures write_fault { RoseExactly (O.faults out.old) (O.faults out.new) (result ≡ Status.WriteFailed) }
     ensures read_fault { result ≢ Status.WriteFailed → RoseExactly (I.faults input.old) (I.faults input.new) (result ≡ Status.ReadFailed) }
     ensures not_usage { result ≢ Status.Usage }
-    ensures follows { ByOrder (λ order.
-        Follows (served_or_refused (served_frames frames options) options.sessions (if_unrolled frames options (list_by options.narrow order) (Ok seq)))
+    ensures follows { ByForest (λ choose.
+        Follows (served_or_refused (served_frames frames options) options.sessions (if_unrolled frames options (weighed_by options.narrow choose) (Ok seq)))
         (I.shown input.old) (I.shown input.new) (O.shown out.old) (O.shown out.new) result) }
     ensures cut { result ≡ Status.CutShort → I.taken input.new ≡ I.taken input.old + SCRIPT_LIMIT }
     ensures short { result ≢ Status.WriteFailed → result ≢ Status.CutShort → I.taken input.new < I.taken input.old + SCRIPT_LIMIT }
@@ -159,8 +147,8 @@ pub(crate) fn serve_frames<I: Source, O: Sink>(
     ensures write_fault { RoseExactly (O.faults out.old) (O.faults out.new) (result ≡ Status.WriteFailed) }
     ensures read_fault { result ≢ Status.WriteFailed → RoseExactly (I.faults input.old) (I.faults input.new) (result ≡ Status.ReadFailed) }
     ensures not_usage { result ≢ Status.Usage }
-    ensures follows { ByOrder (λ order.
-        Follows (served_or_refused (served_frames frames options) options.sessions (if_unrolled frames options (list_by options.narrow order) (sequential_in file.now)))
+    ensures follows { ByForest (λ choose.
+        Follows (served_or_refused (served_frames frames options) options.sessions (if_unrolled frames options (weighed_by options.narrow choose) (sequential_in file.now)))
         (I.shown input.old) (I.shown input.new) (O.shown out.old) (O.shown out.new) result) }
     ensures cut { result ≡ Status.CutShort → I.taken input.new ≡ I.taken input.old + SCRIPT_LIMIT }
     ensures short { result ≢ Status.WriteFailed → result ≢ Status.CutShort → I.taken input.new < I.taken input.old + SCRIPT_LIMIT }

@@ -1,69 +1,90 @@
-//! What a device is asked by: its graph, and the costs of its parts.
-ghost use Rattle.std.specs.Prelude.{◌≡◌, ◌*◌, ◌<◌, ◌≤◌, Ok, length, All, IfOk};
-ghost use Rattle.std.specs.List.{sum};
-ghost use Rattle.text_rules.specs.Expected.{Fulfils};
-ghost use Rattle.device_model.specs.Devices.{part_costs};
+//! The graph that a device is asked by.
+ghost use Rattle.std.specs.Prelude.{◌≡◌, ◌≤◌, ℕ, Ok, IfOk, IfErr};
+ghost use Rattle.text_rules.specs.Expected.{IsExpectedFault, Fulfils};
 ghost use Rattle.branch_states.specs.Branches.{sum_of};
-ghost use Rattle.dnnf_compiler.specs.Compiled.{IsCompiled, most_nodes};
-ghost use Rattle.device_files.specs.Orders.{ByClauses};
+ghost use Rattle.elimination_forests.specs.declared.steps.Weight.TheVariants.{Lists};
+ghost use Rattle.elimination_forests.specs.Forests.{forest_sum};
+ghost use Rattle.tree_finder.specs.Narrowing.{IsFound};
+ghost use Rattle.device_files.specs.Choices.{ByClauses, HasSum};
 ghost use Rattle.device_files.specs.Weighing.{within};
 ghost use Rattle.device_files.specs.Refusals.{told_by};
-ghost use Rattle.diag_cli.specs.inner.Serving.{IsServable};
+ghost use Rattle.diag_cli.specs.inner.Compiling.{IsGraphBy, FindsGraph};
 
 use branch_states::{BUDGET_LIMIT, MeasureError};
 use clause_encoder::Cnf;
-use device_files::{Refusal, ordered_clauses};
-use device_model::{COST_LIMIT, Device, PART_LIMIT};
-use dnnf_compiler::{Compiled, compile_within};
+use device_files::{Refusal, clauses_of, forest_of, found_within};
+use device_model::Device;
+use dnnf_compiler::{compile_forest, compile_within};
 use node_store::Graph;
-use std::alloc::{AllocError, Global};
+use std::alloc::Global;
+use tree_finder::Narrowed;
 
-/// The clauses of a device and their graph, where their sum is within a budget.
+/// The graph of a device, if the sum of its clauses is within a budget.
 pub(crate) fn graph_within(
     alloc: Global,
     device: &Device,
     budget: u32,
     is_narrow: bool,
-) -> Result<(Cnf, Graph), Refusal>
+) -> Result<Graph, Refusal>
     requires { budget ≤ BUDGET_LIMIT }
-    ensures list { ByClauses is_narrow (λ clauses.
-        Fulfils (λ found. found.0) told_by (within budget (clauses device.now)) result) }
-    ensures servable { IfOk result (λ found. IsServable device.now found.1) }
-    ensures vars { IfOk result (λ found. found.1.vars ≡ found.0.vars) }
-    ensures few_nodes { IfOk result (λ found. length found.1.nodes ≤ most_nodes (sum_of found.0.clauses) found.0.vars) }
+    ensures { ByClauses is_narrow (λ clauses. FindsGraph device.now (within budget (clauses device.now)) result) }
 {
     // Its contract says that a device has few parts and wires.
     let _parts = device.parts();
-    let cnf = ordered_clauses(alloc, device, is_narrow)?;
-    let compiled = compiled_within(alloc, &cnf, budget)?;
-    Ok((cnf, compiled.graph))
+    let cnf = clauses_of(alloc, device)?;
+    let forest = forest_of(alloc, &cnf, is_narrow)?;
+    compiled_within(alloc, &cnf, &forest, budget)
 }
 
-/// The graph of clauses, where their sum is within a budget.
-pub(crate) fn compiled_within(alloc: Global, cnf: &Cnf, budget: u32) -> Result<Compiled, Refusal>
-    requires { budget ≤ BUDGET_LIMIT }
-    ensures list { Fulfils (λ _. cnf.now) told_by (within budget (Ok cnf.now)) result }
-    ensures within { IfOk result (λ _. sum_of cnf.now.clauses ≤ budget) }
-    ensures compiled { IfOk result (IsCompiled cnf.now) }
+/// The graph of clauses, if their sum is within a budget: by the order of their names, or along the forest that was found for them.
+pub(crate) fn compiled_within(
+    alloc: Global,
+    cnf: &Cnf,
+    forest: &Option<Narrowed>,
+    budget: u32,
+) -> Result<Graph, Refusal>
+    requires budget { budget ≤ BUDGET_LIMIT }
+    requires sum { (sum : ℕ) × HasSum cnf.now forest.now sum }
+    ensures list { (sum : ℕ) → HasSum cnf.now forest.now sum
+        → Fulfils (λ _. record { list = cnf.now; sum = sum }) told_by (within budget (Ok (record { list = cnf.now; sum = sum }))) result }
+    ensures within { (sum : ℕ) → HasSum cnf.now forest.now sum → IfOk result (λ graph. sum ≤ budget) }
+    ensures graph { (sum : ℕ) → HasSum cnf.now forest.now sum → IfOk result (IsGraphBy (record { list = cnf.now; sum = sum })) }
 {
-    match compile_within(alloc, cnf, budget) {
-        Ok(compiled) => Ok(compiled),
+    match forest {
+        Some(found) => compiled_along(alloc, cnf, found, budget),
+        None => compiled_by_names(alloc, cnf, budget),
+    }
+}
+
+// Along a forest that was found for the clauses.
+fn compiled_along(alloc: Global, cnf: &Cnf, found: &Narrowed, budget: u32) -> Result<Graph, Refusal>
+    requires budget { budget ≤ BUDGET_LIMIT }
+    requires found { IsFound cnf.now found.now }
+    ensures within { (is : IsFound cnf.now found.now) → IfOk result (λ graph. forest_sum Lists is.forest cnf.now.clauses ≤ budget) }
+    ensures graph { (is : IsFound cnf.now found.now)
+        → IfOk result (IsGraphBy (record { list = cnf.now; sum = forest_sum Lists is.forest cnf.now.clauses })) }
+    ensures fault { (is : IsFound cnf.now found.now) → IfErr result (λ refusal.
+        IsExpectedFault (told_by refusal) (within budget (Ok (record { list = cnf.now; sum = forest_sum Lists is.forest cnf.now.clauses })))) }
+{
+    found_within(found, budget)?;
+    match compile_forest(alloc, cnf, found.steps.as_slice(), budget) {
+        Ok(compiled) => Ok(compiled.graph),
         Err(MeasureError::Above) => Err(Refusal::Sum { budget }),
         Err(MeasureError::Memory) => Err(Refusal::Memory),
     }
 }
 
-/// What a failure of each part costs.
-pub(crate) fn costs_of(alloc: Global, device: &Device) -> Result<Vec<u32>, AllocError>
-    ensures costs { IfOk result (λ costs. costs.items ≡ part_costs device.now) }
-    ensures many { IfOk result (λ costs. length costs.items ≡ length device.now.parts) }
-    ensures dear { IfOk result (λ costs. All (λ c. 0 < c) costs.items) }
-    ensures total { IfOk result (λ costs. sum costs.items ≤ COST_LIMIT * PART_LIMIT) }
+/// The graph of clauses by the order of their names, if their sum is within a budget.
+pub(crate) fn compiled_by_names(alloc: Global, cnf: &Cnf, budget: u32) -> Result<Graph, Refusal>
+    requires budget { budget ≤ BUDGET_LIMIT }
+    ensures within { IfOk result (λ graph. sum_of cnf.now.clauses ≤ budget) }
+    ensures graph { IfOk result (IsGraphBy (record { list = cnf.now; sum = sum_of cnf.now.clauses })) }
+    ensures fault { IfErr result (λ refusal.
+        IsExpectedFault (told_by refusal) (within budget (Ok (record { list = cnf.now; sum = sum_of cnf.now.clauses })))) }
 {
-    let parts = device.parts().len();
-    let mut costs = Vec::with_capacity(alloc, parts)?;
-    for part in 0..parts as u32 {
-        costs.push(device.cost(part))?;
+    match compile_within(alloc, cnf, budget) {
+        Ok(compiled) => Ok(compiled.graph),
+        Err(MeasureError::Above) => Err(Refusal::Sum { budget }),
+        Err(MeasureError::Memory) => Err(Refusal::Memory),
     }
-    Ok(costs)
 }

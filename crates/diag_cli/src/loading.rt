@@ -12,13 +12,16 @@ ghost use Rattle.device_files.specs.Refusals.{Finds};
 ghost use Rattle.diag_cli.specs.inner.Loading.{IsSummaryOf, IsInStep, Loads, listed_items, inconsistent_items, found_items, summary_items, summary_output};
 ghost use Rattle.diag_cli.specs.inner.Serving.{IsServable};
 
-use crate::graphs::{costs_of, graph_within};
+use crate::costs::costs_of;
+use crate::graphs::compiled_by_names;
+use crate::load_memory::LoadMemory;
 use crate::words::DEFAULT_BUDGET;
-use adder_load::{Found, PLACE_LIMIT, adder_text, note_readings, sample};
-use device_files::{Count, Refusal, Status, netlist_device, put_count, put_counts, tell};
+use adder_load::{Found, PLACE_LIMIT, adder_text};
+use device_files::{
+    Count, Refusal, Status, clauses_of, netlist_device, put_count, put_counts, tell,
+};
 use device_model::{Device, Name};
 use diag_edge::{Sink, WriteFailed, put_line};
-use fault_graph::Distiller;
 use minimiser::Steps;
 use node_store::Graph;
 use session_core::put_faulty;
@@ -67,31 +70,17 @@ fn summary_by<L: Ledger>(
     ensures in_step { IfOk result IsInStep }
 {
     let costs = costs_of(alloc, &device)?;
-    let mut words = vec![in alloc; 0; graph.vars() as usize]?;
-    let mut values = vec![in alloc; 0; graph.len() as usize]?;
-    let mut first = vec![in alloc; 0; costs.len()]?;
-    let mut last = vec![in alloc; 0; costs.len()]?;
-    let mut distiller = Distiller::new(alloc, graph)?;
-    note_readings(&mut words, &device, places);
+    let mut memory = LoadMemory::new(alloc, graph, costs.len())?;
+    memory.note(&device, places);
     let (parts, wires) = device.take_names(alloc)?;
-    let found = sample(
-        &mut distiller,
-        graph,
-        &mut words,
-        &costs,
-        &mut values,
-        &mut first,
-        &mut last,
-        LISTED_LIMIT,
-        &mut Steps::<L>::new(blank),
-    );
+    let found = memory.sample(graph, &costs, &mut Steps::<L>::new(blank));
     Ok(Summary {
         parts,
         wires: wires.len() as u64,
         clauses,
         found,
-        first,
-        last,
+        first: memory.first,
+        last: memory.last,
     })
 }
 
@@ -101,7 +90,10 @@ fn summary_within(alloc: Global, device: Device, places: u32) -> Result<Summary,
     ensures summary { Loads (summary_of places (Ok device)) result }
     ensures in_step { IfOk result IsInStep }
 {
-    let (cnf, graph) = graph_within(alloc, &device, DEFAULT_BUDGET, false)?;
+    // Its contract says that a device has few parts and wires.
+    let _parts = device.parts();
+    let cnf = clauses_of(alloc, &device)?;
+    let graph = compiled_by_names(alloc, &cnf, DEFAULT_BUDGET)?;
     let clauses = u64::from(cnf.len());
     Ok(summary_by::<Brand>(alloc, Blank::new(1), device, &graph, clauses, places)?)
 }

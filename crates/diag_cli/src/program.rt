@@ -1,6 +1,8 @@
-ghost use Rattle.std.specs.Prelude.{◌-◌, ◌^◌, ◌<◌, map, string_bytes, Some, IfSome};
+ghost use Rattle.std.specs.Prelude.{◌≡◌, ◌-◌, ◌^◌, ◌<◌, map, string_bytes, Some, IfSome};
 ghost use Rattle.diag_cli.specs.Words.{form_of, named_file, Over};
-ghost use Rattle.device_files.specs.Orders.{ByOrder};
+ghost use Rattle.device_files.specs.Choices.{ByForest};
+ghost use Rattle.device_files.specs.Statuses.{number_of};
+ghost use Rattle.device_files.specs.declared.status.Status.{Status};
 ghost use Rattle.diag_cli.specs.Runs.{IsRun};
 ghost use Rattle.diag_cli.specs.inner.Forms.{IsCommandWithin};
 
@@ -29,7 +31,7 @@ fn run_over<H: Shelf, I: Source, O: Sink>(
     requires shelf_faults { H.faults shelf.old < 2 ^ 64 - 1 }
     requires input_faults { I.faults input.old < 2 ^ 64 - 1 }
     requires out_faults { O.faults out.old < 2 ^ 64 - 1 }
-    ensures { ByOrder (λ order. IsRun order (Some (Over path.now command)) (H.held shelf.old)
+    ensures { ByForest (λ choose. IsRun choose (Some (Over path.now command)) (H.held shelf.old)
         (H.shown shelf.old) (H.shown shelf.new) (I.shown input.old) (I.shown input.new) (O.shown out.old) (O.shown out.new) result) }
 {
     match load(alloc, shelf, path, TEXT_LIMIT) {
@@ -39,29 +41,32 @@ fn run_over<H: Shelf, I: Source, O: Sink>(
 }
 
 /// Does all that the program does: reads the file that the words name, if they name one, does what they ask for, and gives
-/// the status.
+/// the number that the process ends with.
 ///
-/// `words` are those behind the program's name. `IsRun` says, clause by clause, what holds of each run, by some order of clauses where
-/// words ask for another one.
+/// `words` are those after the program's name. `IsRun` says, clause by clause, what holds of each run, by some choice of forests if the
+/// words ask for one.
 pub fn diag<H: Shelf, I: Source, O: Sink>(
     alloc: Global,
     words: &[String],
     shelf: &mut H,
     input: &mut I,
     out: &mut O,
-) -> Status
+) -> u8
     requires may { IfSome (named_file (form_of (map string_bytes words.now))) (λ name. H.may shelf.old name) }
     requires shelf_taken { H.taken shelf.old < 2 ^ 62 }
     requires input_taken { I.taken input.old < 2 ^ 62 }
     requires shelf_faults { H.faults shelf.old < 2 ^ 64 - 1 }
     requires input_faults { I.faults input.old < 2 ^ 64 - 1 }
     requires out_faults { O.faults out.old < 2 ^ 64 - 1 }
-    ensures { ByOrder (λ order. IsRun order (form_of (map string_bytes words.now)) (H.held shelf.old)
-        (H.shown shelf.old) (H.shown shelf.new) (I.shown input.old) (I.shown input.new) (O.shown out.old) (O.shown out.new) result) }
+    ensures { ByForest (λ choose. (status : Status) × (number_of status ≡ result)
+        × IsRun choose (form_of (map string_bytes words.now)) (H.held shelf.old)
+        (H.shown shelf.old) (H.shown shelf.new) (I.shown input.old) (I.shown input.new) (O.shown out.old) (O.shown out.new) status) }
 {
     match form_of(words) {
-        None => say_usage(out),
-        Some(Form::Load { places }) => load_adder(alloc, places, out),
-        Some(Form::Over { path, command }) => run_over(alloc, path, command, shelf, input, out),
+        None => say_usage(out).number(),
+        Some(Form::Load { places }) => load_adder(alloc, places, out).number(),
+        Some(Form::Over { path, command }) => {
+            run_over(alloc, path, command, shelf, input, out).number()
+        }
     }
 }

@@ -1,6 +1,6 @@
 ghost use Rattle.std.specs.Prelude.{◌≡◌, ◌≢◌, ◌+◌, ◌-◌, ◌^◌, ◌<◌, ◌≤◌, length};
 ghost use Rattle.diag_edge.specs.Edge.{RoseExactly};
-ghost use Rattle.device_files.specs.Orders.{ByOrder};
+ghost use Rattle.device_files.specs.Choices.{ByForest};
 ghost use Rattle.diag_cli.specs.Courses.{course_by};
 ghost use Rattle.diag_cli.specs.Following.{Follows};
 ghost use Rattle.diag_cli.specs.inner.Forms.{IsCommandWithin};
@@ -32,7 +32,7 @@ pub(crate) fn run_file<I: Source, O: Sink>(
     ensures write_fault { RoseExactly (O.faults out.old) (O.faults out.new) (result ≡ Status.WriteFailed) }
     ensures read_fault { result ≢ Status.WriteFailed → RoseExactly (I.faults input.old) (I.faults input.new) (result ≡ Status.ReadFailed) }
     ensures not_usage { result ≢ Status.Usage }
-    ensures follows { ByOrder (λ order. Follows (course_by order path.now command file.now)
+    ensures follows { ByForest (λ choose. Follows (course_by choose path.now command file.now)
         (I.shown input.old) (I.shown input.new) (O.shown out.old) (O.shown out.new) result) }
     ensures cut { result ≡ Status.CutShort → I.taken input.new ≡ I.taken input.old + SCRIPT_LIMIT }
     ensures short { result ≢ Status.WriteFailed → result ≢ Status.CutShort → I.taken input.new < I.taken input.old + SCRIPT_LIMIT }

@@ -3,7 +3,7 @@ ghost use Rattle.text_rules.specs.Tokens.{spaced};
 ghost use Rattle.text_rules.specs.Expected.{Fulfils};
 ghost use Rattle.diag_edge.specs.Edge.{HasCause, Puts, RoseExactly};
 ghost use Rattle.session_rules.specs.GraphSystems.{system_of};
-ghost use Rattle.device_files.specs.Orders.{ByClauses};
+ghost use Rattle.device_files.specs.Choices.{ByClauses};
 ghost use Rattle.diag_cli.specs.Courses.{answers_of, if_within, served_device, served_or_refused};
 ghost use Rattle.device_files.specs.Describing.{described};
 ghost use Rattle.device_files.specs.Refusals.{told_by};
@@ -12,7 +12,7 @@ ghost use Rattle.diag_cli.specs.inner.Forms.{AreWithinLimits};
 ghost use Rattle.diag_cli.specs.inner.Serving.{IsServable, IsServiceOf, CanTell};
 
 use crate::besides::graph_in_few_bits;
-use crate::graphs::costs_of;
+use crate::costs::names_and_costs;
 use crate::saying::{say_read_fault, say_too_long};
 use crate::words::ServeOptions;
 use device_files::{Refusal, Status, described, tell};
@@ -47,8 +47,7 @@ fn service_over(
     } = options;
     // Its contract says that the names of a device rise, and are few.
     let _parts = device.parts();
-    let costs = costs_of(alloc, &device)?;
-    let (parts, wires) = device.take_names(alloc)?;
+    let (parts, wires, costs) = names_and_costs(alloc, device)?;
     match Service::over(alloc, parts, wires, costs, graph, sessions, extras) {
         Ok(service) => Ok(service),
         Err(_) => Err(Refusal::Memory),

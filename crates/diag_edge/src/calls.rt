@@ -1,4 +1,4 @@
-//! Calls that are numbered from 1, of which chosen ones fail.
+//! Calls that are numbered from 1. Chosen ones fail.
 ghost use Rattle.std.specs.Prelude.{◌≡◌, ◌↔◌, ◌+◌, Contains, IsTrue};
 ghost use Rattle.diag_edge.specs.InMemory.{Calls, IsNextFailing, after_call, no_calls};
 
@@ -24,7 +24,7 @@ impl NumberedCalls {
     }
 
     /// Counts one more call, and answers whether it is to fail. The count stops at the greatest
-    /// u64: a call past it has a number that cannot stand in `failing`, so it never fails.
+    /// u64: a call past it has a number that cannot be in `failing`, so it never fails.
     pub(crate) fn next_fails(&mut self) -> bool
         ensures fails { IsTrue result ↔ IsNextFailing self.old }
         ensures counted { self.new ≡ after_call self.old }

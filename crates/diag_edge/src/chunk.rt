@@ -51,7 +51,7 @@ impl Chunk {
         out.put(&self.bytes[..self.len])
     }
 
-    /// Adds a text. What was gathered before is put where there is no room for both. After a failed write it is still gathered,
+    /// Adds a text. What was gathered before is put if there is no room for both. After a failed write it is still gathered,
     /// or all of it was put and nothing is.
     pub fn add<O: Sink>(&mut self, out: &mut O, text: &[u8]) -> Result<(), WriteFailed>
         ensures bytes { Adds (O.got out.old) (O.got out.new) self.old self.new result text.now }
@@ -79,7 +79,7 @@ impl Chunk {
         self.add(out, Buffer::new().format(number).as_bytes())
     }
 
-    /// Adds a word behind a space.
+    /// Adds a space and a word.
     pub fn add_word<O: Sink>(&mut self, out: &mut O, word: &[u8]) -> Result<(), WriteFailed>
         ensures bytes { Adds (O.got out.old) (O.got out.new) self.old self.new result
             (32 ∷ word.now) }
@@ -106,7 +106,7 @@ impl Chunk {
         self.add(out, word)
     }
 
-    /// Adds a number in decimal digits behind a space.
+    /// Adds a space and a number in decimal digits.
     pub fn add_count<O: Sink, I: Integer>(
         &mut self,
         out: &mut O,
@@ -119,7 +119,7 @@ impl Chunk {
         self.add_word(out, Buffer::new().format(number).as_bytes())
     }
 
-    /// Adds words, each behind a space.
+    /// Adds words, each after a space.
     #[tactic(auto, using(crate::proofs::Added::adds_each))]
     pub fn add_words<O: Sink>(&mut self, out: &mut O, words: &[&[u8]]) -> Result<(), WriteFailed>
         ensures bytes { Adds (O.got out.old) (O.got out.new) self.old self.new result
@@ -132,7 +132,7 @@ impl Chunk {
         Ok(())
     }
 
-    /// Adds words, each behind a space, and a line feed.
+    /// Adds words, each after a space, and a line feed.
     #[tactic(auto, using(crate::proofs::Added::adds_on))]
     pub fn end_line<O: Sink>(&mut self, out: &mut O, words: &[&[u8]]) -> Result<(), WriteFailed>
         ensures bytes { Adds (O.got out.old) (O.got out.new) self.old self.new result

@@ -4,7 +4,7 @@ ghost use Rattle.diag_edge.specs.ErrorLines.{fault_line, above_line};
 use crate::{Chunk, Sink, WriteFailed, put_line};
 use itoa::Buffer;
 
-/// Puts the line that tells a fault of a text: the number of the line, which is 0 where it is of none, that of the fault, and its
+/// Puts the line for a fault of a text: the number of the line, 0 if there is none, that of the fault, and its
 /// name.
 pub fn put_fault<O: Sink>(
     out: &mut O,
@@ -23,7 +23,7 @@ pub fn put_fault<O: Sink>(
     chunk.put(out)
 }
 
-/// Puts the line that tells a count of something above its limit.
+/// Puts the line for a count of something above its limit.
 pub fn put_above<O: Sink>(
     out: &mut O,
     what: &[u8],

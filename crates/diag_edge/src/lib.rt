@@ -26,5 +26,6 @@ pub use loading::{LoadError, load};
 pub use mem_shelf::MemShelf;
 pub use mem_sink::MemSink;
 pub use mem_source::MemSource;
-pub use outside::{Memory, ReadFailed, Shelf, Sink, Source, WriteFailed};
+pub use outside::{ReadFailed, Shelf, Sink, Source, WriteFailed};
+pub use std::alloc::AllocError as Memory;
 pub use sure::{SureShelf, SureSource, TallySink};

@@ -39,7 +39,7 @@ impl From<AllocError> for LoadError {
 
 /// Picks the file with this name and reads it to its end, `limit` bytes at most.
 ///
-/// `LoadError::Failed` comes only from the shelf. `LoadError::Long` comes exactly where one byte
+/// `LoadError::Failed` comes only from the shelf. `LoadError::Long` comes exactly if one byte
 /// more than `limit` was read, and then no more is read. `LoadError::Memory` may come at any time.
 /// After an error it is open which bytes of the file are still to come.
 pub fn load<H: Shelf>(
@@ -69,7 +69,7 @@ pub fn load<H: Shelf>(
         IfSome (told_bytes (H.held shelf.old name.now)) (λ bytes. limit < length bytes) }
     ensures that_limit { (other : ℕ) → IsErrOf result (LoadError.Long other) → other ≡ limit }
 
-    // Whatever the answer is. No byte of the file is taken twice.
+    // Whatever the answer is, no more bytes are taken than the file has, and at most one more than the limit.
     ensures once { IfSome (told_bytes (H.held shelf.old name.now)) (λ bytes.
         H.taken shelf.new ≤ H.taken shelf.old + length bytes) }
     ensures at_most { H.taken shelf.new ≤ H.taken shelf.old + limit + 1 }

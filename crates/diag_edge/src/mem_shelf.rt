@@ -11,7 +11,7 @@ use crate::copying::copy_from;
 use crate::{ReadFailed, Shelf, Source};
 use std::marker::Model;
 
-/// Named files, of which the first with a name counts, and calls that fail.
+/// Named files, and calls that fail. Of several files with one name the first counts.
 #[derive(Drop)]
 pub struct MemShelf {
     files: Vec<(String, Vec<u8>)>,
@@ -40,7 +40,7 @@ impl Model for MemShelf {
 
 impl MemShelf {
     /// A shelf with these files, each a name and its bytes. The calls of `pick` and `read` are
-    /// numbered together, from 1, and those whose numbers stand in `failing` fail. Before a pick
+    /// numbered together, from 1, and those whose numbers are in `failing` fail. Before a pick
     /// there is nothing to read.
     pub fn new(files: Vec<(String, Vec<u8>)>, failing: Vec<u64>) -> Self
         ensures { result ≡ record {

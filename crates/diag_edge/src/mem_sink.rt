@@ -34,10 +34,10 @@ impl Model for MemSink {
 
 impl MemSink {
     /// A sink with room for `room` bytes, which are allocated here and at no later call. The calls
-    /// whose numbers, counted from 1, stand in `failing` fail, and so does one past the room. Such
+    /// whose numbers, counted from 1, are in `failing` fail, and so does one past the room. Such
     /// a call keeps the first `keep` bytes of its piece, as far as there are so many and they fit.
     ///
-    /// `Memory` where there is not so much memory.
+    /// `Memory` if there is not so much memory.
     pub fn new(alloc: Global, room: usize, failing: Vec<u64>, keep: usize) -> Result<Self, Memory>
         ensures { IfOk result (λ sink. sink ≡ record {
           got = [];
@@ -47,16 +47,13 @@ impl MemSink {
           faults = 0;
         }) }
     {
-        match Vec::with_capacity(alloc, room) {
-            Ok(bytes) => Ok(MemSink {
-                bytes,
-                room,
-                keep,
-                calls: NumberedCalls::new(failing),
-                faults: 0,
-            }),
-            Err(_) => Err(Memory),
-        }
+        Ok(MemSink {
+            bytes: Vec::with_capacity(alloc, room)?,
+            room,
+            keep,
+            calls: NumberedCalls::new(failing),
+            faults: 0,
+        })
     }
 
     /// The bytes accepted so far.

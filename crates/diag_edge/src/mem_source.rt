@@ -38,7 +38,7 @@ impl Model for MemSource {
 
 impl MemSource {
     /// A source of these bytes. A read gives at most `piece` bytes, and the calls whose numbers,
-    /// counted from 1, stand in `failing` fail.
+    /// counted from 1, are in `failing` fail.
     pub fn new(bytes: Vec<u8>, piece: usize, failing: Vec<u64>) -> Self
         requires { 0 < piece }
         ensures { result ≡ record {

@@ -12,13 +12,9 @@ pub struct ReadFailed;
 #[derive(Clone, Copy, Debug, PartialEq, Eq)]
 pub struct WriteFailed;
 
-/// There was no memory.
-#[derive(Clone, Copy, Debug, PartialEq, Eq)]
-pub struct Memory;
-
 /// What bytes come from.
 pub trait Source {
-    /// The bytes still to come, where they are told.
+    /// The bytes still to come, if they are shown.
     ghost left: { Self → Option (List ℕ) };
 
     /// How many bytes were handed out.
@@ -40,7 +36,7 @@ pub trait Source {
     ghost shown_is: { (s : Self) → shown s ≡ record { left = left s; taken = taken s; faults = faults s } };
 
     /// Reads some of the bytes still to come into the front of `into`, and answers how many.
-    /// With room for a byte it answers 0 only at the end of the input. What `into` has behind
+    /// With room for a byte it answers 0 only at the end of the input. What `into` has after
     /// them, and at `ReadFailed`, is open. At `ReadFailed` no byte was handed out.
     fn read(&mut self, into: &mut [u8]) -> Result<usize, ReadFailed>
         requires { taken self.old < 2 ^ 63 }
@@ -56,12 +52,12 @@ pub trait Source {
         ensures fixed { fixed self.new ≡ fixed self.old };
 }
 
-/// Named files, of which one at a time is read.
+/// Named files. One at a time is read.
 pub trait Shelf: Source {
     /// Which names may be picked.
     ghost may: { Self → List ℕ → Type 0 };
 
-    /// What is told of each name.
+    /// What is shown of each name.
     ghost held: { Self → List ℕ → Holding };
 
     /// Goes to the beginning of the file with this name: from here on `read` gives its bytes.
@@ -87,7 +83,7 @@ pub trait Shelf: Source {
 
 /// What bytes go to.
 pub trait Sink {
-    /// The bytes accepted, where they are told.
+    /// The bytes accepted, if they are shown.
     ghost got: { Self → Option (List ℕ) };
 
     /// How often a call has failed, up to the greatest u64.

@@ -1,4 +1,4 @@
-//! Ends whose calls never fail, for runs of which the whole output is wanted.
+//! Ends whose calls never fail, for runs whose whole output is wanted.
 ghost use Rattle.std.specs.Prelude.{◌≡◌, ◌≢◌, ◌+◌, ◌-◌, ◌%◌, ◌^◌, ◌<◌, ◌≤◌, min, Some, None, [], List, ℕ, length, drop, IsOk, IfOk, IfSome, OnOk, MatchResult, vec_len, refl};
 ghost use Rattle.std.specs.Io.{ReadsAtMost};
 ghost use Rattle.std.specs.Io.KnownBytes.{ReadConsumes};
@@ -81,7 +81,7 @@ impl Source for SureSource {
     }
 }
 
-/// One file, which stands under every name.
+/// One file, which has every name.
 #[derive(Drop)]
 pub struct SureShelf {
     bytes: Vec<u8>,

@@ -1,52 +1,76 @@
-use crate::running::{CHAIN, Meeting, NOTHING_FAILS, run};
+//! Runs in which a call of the shelf, the source or the sink fails, each call in turn.
+use crate::files::CHAIN;
+use crate::rows::{Row, answer};
+use crate::running::{Meeting, NOTHING_FAILS, run};
+use crate::scripts::{REPORTS, TURNS, TURNS_OUT};
 use std::alloc::Global;
 use std::process::Abort;
 use std::test::Fail;
 
-const WORDS: [&str; 2] = ["serve", "chain.bench"];
+pub const WORDS: [&str; 2] = ["serve", "f.bench"];
 
-const SCRIPT: &[u8] = b"open S\nmin S\nlist S 3\nclose T\nprobes S\nblame S\n";
-
-const OUT: &str =
-    "ready 2 3\nS open\nS min 0\nS diag\nS end\nT error 6 no session\nS probe a 0 0\nS probe b 0 0\nS probe c 0 0\nS end\nS blame b never\nS blame c never\nS end\n";
-
-// The second piece ends within the third line, which is not answered.
-#[test]
-fn a_read_fails_within_a_line(rt: HostRuntime) -> Result<(), Fail> {
-    let meeting = Meeting {
-        piece: 7,
-        failing_read: 3,
-        ..NOTHING_FAILS
-    };
-    let ran = run(rt.alloc(), CHAIN, &WORDS, SCRIPT, &meeting)?;
-    let want = "ready 2 3\nS open\nS min 0\nerror: read\n";
-    assert_eq!(rt; ran.out.as_slice(), want.as_bytes());
-    assert_eq!(rt; ran.status, 4);
-    Ok(())
-}
-
-// The calls of the shelf: the pick, the read that brings the file, and the one that meets its end.
-#[test]
-fn the_file_cannot_be_read(rt: HostRuntime) -> Result<(), Fail> {
-    for failing_pick_or_load in 1..=3 {
-        let meeting = Meeting {
-            failing_pick_or_load,
+// Calls that fail, and what is written.
+static STOPPED: [(Meeting, &[u8]); 4] = [
+    // the calls of the shelf: the pick, the read that brings the file, and the one that meets its end
+    (
+        Meeting {
+            failing_pick_or_load: 1,
             ..NOTHING_FAILS
+        },
+        b"error: read\n",
+    ),
+    (
+        Meeting {
+            failing_pick_or_load: 2,
+            ..NOTHING_FAILS
+        },
+        b"error: read\n",
+    ),
+    (
+        Meeting {
+            failing_pick_or_load: 3,
+            ..NOTHING_FAILS
+        },
+        b"error: read\n",
+    ),
+    // The second piece ends within the third line, which is not answered.
+    (
+        Meeting {
+            piece: 7,
+            failing_read: 3,
+            ..NOTHING_FAILS
+        },
+        b"ready 2 3\nS open\nS min 0\nerror: read\n",
+    ),
+];
+
+#[test]
+fn stops_where_a_read_fails(rt: HostRuntime) -> Result<(), Fail> {
+    for stopped in &STOPPED {
+        let (meeting, out) = *stopped;
+        let row = Row {
+            name: "f.bench",
+            text: CHAIN,
+            words: &WORDS,
+            script: REPORTS,
+            out,
+            status: 4,
         };
-        let ran = run(rt.alloc(), CHAIN, &WORDS, SCRIPT, &meeting)?;
-        assert_eq!(rt;
-            ran.out.as_slice(),
-            "error: read\n".as_bytes(),
-            "call {failing_pick_or_load}"
-        );
-        assert_eq!(rt; ran.status, 4, "call {failing_pick_or_load}");
+        assert!(&rt; 0 < meeting.piece);
+        answer(&rt, rt.alloc(), &row, &meeting)?;
     }
     Ok(())
 }
 
 // Each write in turn, until those past the last leave the run whole. Of the first one the sink keeps so many bytes at most.
-fn writes_fail(rt: &impl Abort, alloc: Global, keep: usize) -> Result<(), Fail> {
-    let mut whole = 0;
+fn writes_fail(
+    rt: &impl Abort,
+    alloc: Global,
+    script: &[u8],
+    whole: &[u8],
+    keep: usize,
+) -> Result<(), Fail> {
+    let mut is_whole = false;
     for failing_write in 1..=100 {
         let meeting = Meeting {
             failing_write,
@@ -54,26 +78,73 @@ fn writes_fail(rt: &impl Abort, alloc: Global, keep: usize) -> Result<(), Fail> 
             ..NOTHING_FAILS
         };
         assert!(rt; 0 < meeting.piece);
-        let ran = run(alloc, CHAIN, &WORDS, SCRIPT, &meeting)?;
+        let ran = run(alloc, "f.bench", CHAIN, &WORDS, script, &meeting)?;
         let out = ran.out.as_slice();
-        assert!(rt; OUT.as_bytes().starts_with(out), "call {failing_write}");
+        assert!(rt; whole.starts_with(out), "call {failing_write}");
         assert!(rt; failing_write != 1 || out.len() <= keep);
-        if ran.status == 0 {
-            assert_eq!(rt; out.len(), OUT.len(), "call {failing_write}");
-            whole = failing_write;
+        assert!(rt; !is_whole || ran.status == 0, "call {failing_write}");
+        is_whole = ran.status == 0;
+        if is_whole {
+            assert_eq!(rt; out.len(), whole.len(), "call {failing_write}");
         } else {
             assert_eq!(rt; ran.status, 5, "call {failing_write}");
-            assert_eq!(rt; whole, 0, "call {failing_write} after a whole run");
         }
     }
-    assert_eq!(rt; whole, 100);
+    assert!(rt; is_whole);
     Ok(())
 }
 
+// The bytes of a graph's text are not known before, so that those of a run in which nothing fails stand for them.
 #[test]
-fn a_write_fails(rt: HostRuntime) -> Result<(), Fail> {
-    for keep in [0, 1, 3] {
-        writes_fail(&rt, rt.alloc(), keep)?;
+fn each_write_fails_in_turn(rt: HostRuntime) -> Result<(), Fail> {
+    for script in [TURNS, REPORTS, b"open S\ndnnf S\n".as_slice()] {
+        let ran = run(rt.alloc(), "f.bench", CHAIN, &WORDS, script, &NOTHING_FAILS)?;
+        for keep in [0, 1, 3] {
+            writes_fail(&rt, rt.alloc(), script, ran.out.as_slice(), keep)?;
+        }
+    }
+    Ok(())
+}
+
+fn lines_in(bytes: &[u8]) -> usize {
+    bytes.iter().filter(|byte| **byte == b'\n').count()
+}
+
+// The lines in what the reads before it brought are answered. The read that meets the end of the script may fail too, and after it
+// there is none.
+#[test]
+fn each_read_fails_in_turn(rt: HostRuntime) -> Result<(), Fail> {
+    for piece in [1, 7, 4096] {
+        let mut taken = 0usize;
+        let mut is_over = false;
+        for failing_read in 1..=160 {
+            let meeting = Meeting {
+                piece,
+                failing_read,
+                ..NOTHING_FAILS
+            };
+            assert!(rt; 0 < meeting.piece && taken <= TURNS.len());
+            let ran = run(rt.alloc(), "f.bench", CHAIN, &WORDS, TURNS, &meeting)?;
+            let out = ran.out.as_slice();
+            let told = out.strip_suffix(b"error: read\n");
+            let status = if told.is_some() { 4 } else { 0 };
+            let told = told.unwrap_or(out);
+            assert_eq!(rt; ran.status, status, "read {failing_read} of {piece}");
+            assert_eq!(rt; status == 0, is_over, "read {failing_read} of {piece}");
+            assert!(rt;
+                TURNS_OUT.starts_with(told),
+                "read {failing_read} of {piece}"
+            );
+            let answered = lines_in(&TURNS[..taken]);
+            assert_eq!(rt;
+                lines_in(told),
+                answered.saturating_add(1),
+                "read {failing_read} of {piece}"
+            );
+            is_over = taken == TURNS.len();
+            taken = taken.saturating_add(piece).min(TURNS.len());
+        }
+        assert!(rt; is_over);
     }
     Ok(())
 }

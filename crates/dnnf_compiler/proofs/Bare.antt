@@ -125,7 +125,7 @@ module _ (m : Maker) (s : Stored) (first second node : ℕ) (is : IsMaker m) whe
   of_two : IsChild first → IsChild second → Makes m.store s Or (first ∷ second ∷ []) node → Means m.store.nodes s.nodes Or (first ∷ second ∷ []) node → IsStore s
       → IsJoin m (record m { store = s }) (Some first) (Some second) node
   of_two one two makes means store = record {
-    adds = adds_store m s is store (kept_in m.store.nodes s.nodes either makes.nodes)
+    adds = adds_store m s 2 is store (kept_in m.store.nodes s.nodes either makes.nodes)
         (bare_push m.store.vars m.store.nodes s.nodes either is.store.nodes makes.nodes is.bare (two_plain IsChild first second one two))
         (grows_by m.store.nodes s.nodes Or (first ∷ second ∷ []) node makes.nodes means) makes.vars (omega (arith, makes.made)) (omega (arith, makes.handed));
     within = slice_get_within s.nodes node either makes.there;

@@ -1,12 +1,9 @@
 -- What stays while nodes come.
-use Rattle.std.proofs.Common.{ℕ, zero, suc, ◌<◌, Bool, false, ◌&&◌, ◌||◌, List, [], ◌∷◌, length, All, refl, ap, ◌∙◌, arith, inl, inr, length-append}
-use Rattle.std.proofs.Math.Bool.{and-true}
-use Rattle.std.proofs.lemmas.Option.{slice_get_within}
-use Rattle.state_rules.specs.declared.nodes.NodeKind.TheVariants.{And}
+use Rattle.std.proofs.Common.{ℕ, Bool, List, [], ◌∷◌, length, refl, ap, ◌∙◌, arith, inl, inr, length-append}
 use Rattle.state_rules.specs.declared.nodes.NodeKind.{NodeKind}
-use Rattle.state_rules.specs.Graphs.{Node, is_true, mentions}
-use Rattle.node_store.specs.Stores.{Stored, Makes, Means, AddsAtMost}
-use Rattle.dnnf_compiler.specs.inner.Joining.{Grows, IsConstant, IsBoth}
+use Rattle.state_rules.specs.Graphs.{Node}
+use Rattle.node_store.specs.Stores.{Means, AddsAtMost}
+use Rattle.dnnf_compiler.specs.inner.Joining.{Grows, IsConstant}
 
 pub grows_not : (nodes : List Node) → Grows nodes nodes
 grows_not nodes = record { longer = omega arith; truth = λ k a h. refl; variables = λ k v h. refl }
@@ -28,18 +25,3 @@ constant_grows old new value node g is = record {
 pub grows_by : (old new : List Node) (kind : NodeKind) (kids : List ℕ) (number : ℕ) → AddsAtMost old (record { what = kind; kids = kids }) new → Means old new kind kids number → Grows old new
 grows_by old new kind kids number (inl e) means = record { longer = omega (arith, ap length e); truth = λ k a h. means.true_before k a h; variables = λ k v h. means.variables_before k v h }
 grows_by old new kind kids number (inr e) means = record { longer = omega (arith, ap length e, length-append old (record { what = kind; kids = kids } ∷ [])); truth = λ k a h. means.true_before k a h; variables = λ k v h. means.variables_before k v h }
-
--- an and of the literal and the node
-pub made_both : (old new : Stored) (literal node both : ℕ) → Makes old new And (literal ∷ node ∷ []) both → Means old.nodes new.nodes And (literal ∷ node ∷ []) both → IsBoth old.nodes new.nodes literal node both
-made_both old new literal node both makes means = record {
-  grows = grows_by old.nodes new.nodes And (literal ∷ node ∷ []) both makes.nodes means;
-  within = slice_get_within new.nodes both (record { what = And; kids = literal ∷ node ∷ [] }) makes.there;
-  truth = λ a. means.truth a ∙ ap (λ b. is_true old.nodes literal a && b) (and-true (is_true old.nodes node a));
-  variables = λ v lit no. means.variables v ∙ (λ j. lit j || (no j || false));
-  names = λ v lit. means.variables v ∙ ap (λ b. b || (mentions old.nodes v node || false)) lit;
-}
-
-pub two_in : (nodes : List Node) (a b : ℕ) → a < length nodes → b < length nodes → All (λ k. k < length nodes) (a ∷ b ∷ [])
-two_in nodes a b h k zero d lt = h
-two_in nodes a b h k (suc zero) d lt = k
-two_in nodes a b h k (suc (suc i)) d lt = absurd (omega arith)

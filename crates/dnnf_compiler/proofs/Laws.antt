@@ -12,7 +12,7 @@ use Rattle.clause_encoder.specs.Encoding.{encoded, DescribesBy, Describes}
 use Rattle.clause_encoder.proofs.Sizes.{encoded-is}
 use Rattle.dnnf_compiler.specs.Compiled.{SaysAll}
 
--- With what is said of clauses and of their graph, the graph is true where they describe that bits fit.
+-- With what is said of clauses and of their graph, the graph is true if they describe that bits fit.
 pub graph_over : (parts wires : ℕ) (fits_by : List Bool → List Bool → Bool) (cnf : ClauseList) (graph : Graph) → parts + wires ≤ cnf.vars → DescribesBy cnf parts wires fits_by
     → graph.vars ≡ cnf.vars → SaysAll cnf.clauses graph → IsGraphOver parts wires fits_by graph
 graph_over parts wires fits_by cnf graph enough describes vars says = record {

@@ -4,7 +4,7 @@ use Rattle.state_rules.specs.Assignments.{Assignment}
 use Rattle.state_rules.specs.Graphs.{Graph, IsGraph, is_true, edges}
 use Rattle.node_store.specs.Stores.{HasNoBareKid}
 use Rattle.clause_encoder.specs.Clauses.{Clause, ClauseList, all_hold}
-use Rattle.branch_states.specs.Branches.{sum_of}
+use Rattle.elimination_forests.specs.Branches.{sum_of}
 use Rattle.dnnf_compiler.specs.declared.compiling.Compiled.{Compiled}
 
 -- The root, which is the last node, is true exactly under the assignments that make all clauses true.

@@ -1,16 +1,15 @@
 ghost use Rattle.std.specs.Prelude.{◌≡◌, ◌<◌, ◌≤◌, IfOk};
 ghost use Rattle.branch_states.specs.declared.measuring.TheConstants.{BUDGET_LIMIT};
 ghost use Rattle.branch_states.specs.declared.measuring.MeasureError.TheVariants.{Above};
-ghost use Rattle.branch_states.specs.Branches.{sum_of};
+ghost use Rattle.elimination_forests.specs.Branches.{sum_of};
 ghost use Rattle.dnnf_compiler.specs.Compiled.{IsCompiled, most_nodes};
-ghost use Rattle.dnnf_compiler.specs.inner.Rooting.{IsRoot};
 
-use crate::forks::{count_forks, find_forks};
-use crate::maker::Maker;
-use branch_states::{BUDGET_LIMIT, Descent, MeasureError};
+use crate::Memory;
+use crate::along::compile_along;
+use branch_states::{BUDGET_LIMIT, MeasureError, descend_levels};
 use clause_encoder::Cnf;
-use node_store::{Graph, Store};
-use std::alloc::{AllocError, Global};
+use node_store::Graph;
+use std::alloc::Global;
 
 /// The graph of clauses, and how often a node was made for it.
 #[derive(Debug, Drop)]
@@ -26,48 +25,27 @@ pub fn most_nodes(sum: u32, vars: u32) -> u64
     3 * u64::from(sum) + 2 * u64::from(vars) + 2
 }
 
-/// The decomposable graph that is true exactly where all clauses are.
+/// The decomposable graph that is true exactly if all clauses are.
 ///
 /// The sum of the clause list is at most `BUDGET_LIMIT`. That sum bounds how often a node is made, and so the size of the graph.
-pub fn compile(alloc: Global, cnf: &Cnf) -> Result<Compiled, AllocError>
+pub fn compile(alloc: Global, cnf: &Cnf) -> Result<Compiled, Memory>
     requires { sum_of cnf.now.clauses ≤ BUDGET_LIMIT }
     ensures { IfOk result (IsCompiled cnf.now) }
 {
     // A sum within the limit is not above it.
-    compile_within(alloc, cnf, BUDGET_LIMIT).map_err(|_| AllocError)
+    compile_within(alloc, cnf, BUDGET_LIMIT).map_err(|_| Memory)
 }
 
-/// The decomposable graph that is true exactly where all clauses are, if the sum of the clause list is within a limit.
+/// The decomposable graph that is true exactly if all clauses are, if the sum of the clause list is within a limit.
 ///
 /// Each level's states are found once, and counted as they are. It stops as soon as the sum is above the limit.
 pub fn compile_within(alloc: Global, cnf: &Cnf, top: u32) -> Result<Compiled, MeasureError>
     requires { top ≤ BUDGET_LIMIT }
-    // Where the sum is above the limit the answer is an error, and the error says so only there.
+    // If the sum is above the limit, the answer is an error, and the error says so only then.
     ensures within { IfOk result (λ _. sum_of cnf.now.clauses ≤ top) }
     ensures above { result ≡ Err Above → top < sum_of cnf.now.clauses }
     ensures compiled { IfOk result (IsCompiled cnf.now) }
 {
-    let mut descent = Descent::begin(alloc, cnf, top)?;
-    let levels = find_forks(alloc, &mut descent)?;
-    let last = descent.count();
-    let mut branches = descent.into_branches();
-    // Mostly there are no more nodes than states.
-    let mut maker = Maker::new(alloc, cnf.vars(), count_forks(&levels))?;
-    let mut nodes = vec![in alloc; maker.yes; last]?;
-    for level in (0..branches.len()).rev() {
-        branches.up();
-        nodes = maker.make_level(alloc, branches.var(), &levels[level as usize], &nodes)?;
-    }
-    Ok(frozen(cnf, maker.store, nodes[0])?)
-}
-
-// The graph of the node of all clauses.
-fn frozen(cnf: &Cnf, store: Store, root: u32) -> Result<Compiled, AllocError>
-    requires { IsRoot cnf.now store root }
-    ensures { IfOk result (IsCompiled cnf.now) }
-{
-    match store.freeze(root) {
-        Ok((graph, made)) => Ok(Compiled { graph, made }),
-        Err((_, error)) => Err(error),
-    }
+    let levels = descend_levels(alloc, cnf, top)?;
+    Ok(compile_along(alloc, cnf, &levels.steps, &levels.forks)?)
 }

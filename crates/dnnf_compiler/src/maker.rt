@@ -1,17 +1,19 @@
-ghost use Rattle.std.specs.Prelude.{◌≡◌, ◌≢◌, ℕ, ◌+◌, ◌*◌, ◌<◌, ◌≤◌, true, false, Option, [], ◌∷◌, All, map, length, IfOk, OnOk, IfSome};
-ghost use Rattle.state_rules.specs.Graphs.{at_most_one, mentions};
+ghost use Rattle.std.specs.Prelude.{◌≡◌, ◌+◌, ◌*◌, ◌<◌, ◌≤◌, ◌++◌, All, length, option_map, IfOk, IfSome};
 ghost use Rattle.node_store.specs.declared.store.TheConstants.{MADE_LIMIT, VARIABLE_LIMIT};
-ghost use Rattle.node_store.specs.Stores.{IsStore, HasNoBareKid};
-ghost use Rattle.dnnf_compiler.specs.inner.Joining.{IsConstant, IsPlain, AddsBoth};
-ghost use Rattle.dnnf_compiler.specs.inner.Noting.{IsNoting};
-ghost use Rattle.dnnf_compiler.specs.inner.Making.{IsMaker, IsVariable, AreFree, AreWithin, IsBranch, IsJoin, IsMade, AreMade};
+ghost use Rattle.branch_states.specs.declared.measuring.TheConstants.{BUDGET_LIMIT};
+ghost use Rattle.dnnf_compiler.specs.inner.Joining.{IsPlain};
+ghost use Rattle.dnnf_compiler.specs.inner.Making.{IsMaker, IsVariable, IsJoin};
+ghost use Rattle.dnnf_compiler.specs.inner.Meeting.{AreApart, IsMeet, taken, AreHeld, IsUsable, IsTaken, IsChosen, AreChoices};
 
-use crate::ands::Ands;
-use branch_states::Fork;
+use elimination_forests::Forks;
 use node_store::Store;
+use smallvec::SmallVec;
 use std::alloc::{AllocError, Global};
 
-/// Makes nodes, of which one is everywhere true and one is nowhere.
+/// Children: mostly two.
+pub(crate) type Kids = SmallVec<u32, 2>;
+
+/// Makes nodes. `yes` is always true, and `no` never.
 #[derive(Drop)]
 pub(crate) struct Maker {
     pub(crate) store: Store,
@@ -20,7 +22,7 @@ pub(crate) struct Maker {
 }
 
 impl Maker {
-    /// Over so many variables, with room for so many nodes.
+    /// A maker over so many variables, with room for so many nodes.
     pub(crate) fn new(alloc: Global, vars: u32, room: usize) -> Result<Maker, AllocError>
         requires { vars < VARIABLE_LIMIT }
         ensures maker { IfOk result IsMaker }
@@ -34,92 +36,112 @@ impl Maker {
         Ok(Maker { store, yes, no })
     }
 
-    /// For each fork a node that is true where the bit of a variable leads to a node below that is.
-    pub(crate) fn make_level(
+    /// Makes a node for each list of a place. It is true if the variable's bit leads to nodes below that are all true.
+    pub(crate) fn make_place(
         &mut self,
         alloc: Global,
         var: u32,
-        forks: &[Fork],
-        below: &[u32],
+        forks: &Forks,
+        below: &[Vec<u32>],
     ) -> Result<Vec<u32>, AllocError>
         requires maker { IsMaker self.old }
         requires var { IsVariable self.old var }
-        requires below { AreFree self.old.store.nodes var below.now }
-        requires forks { All (AreWithin (length below.now)) forks.now }
-        requires few { self.old.store.made + 3 * length forks.now ≤ MADE_LIMIT }
-        ensures { IfOk result (λ nodes. AreMade self.old self.new var below.now forks.now nodes.items) }
+        requires long { length forks.now.one.ways ≡ length forks.now.zero.ways }
+        requires zeros { All (λ way. IfSome way (IsUsable self.old.store.nodes var below.now)) forks.now.zero.ways }
+        requires ones { All (λ way. IfSome way (IsUsable self.old.store.nodes var below.now)) forks.now.one.ways }
+        requires few { self.old.store.made + 3 * length forks.now.zero.ways ≤ MADE_LIMIT }
+        ensures { IfOk result (λ nodes. AreChoices self.old self.new var below.now forks.now nodes.items) }
     {
-        let mut zeros = Ands::new(alloc, self.store.literal(var, false), below, self.no)?;
-        let mut ones = Ands::new(alloc, self.store.literal(var, true), below, self.no)?;
-        let mut nodes = Vec::with_capacity(alloc, forks.len())?;
-        for fork in forks {
-            let node = self.make(var, *fork, below, &mut zeros, &mut ones)?;
+        let mut nodes = Vec::with_capacity(alloc, forks.zero.len())?;
+        for list in 0..forks.zero.len() {
+            let node = self.choose(alloc, var, forks.zero.get(list), forks.one.get(list), below)?;
             nodes.push(node)?;
         }
         Ok(nodes)
     }
 
-    // The node for one fork.
-    fn make(
+    // Makes the node that is true if the variable's bit leads to nodes that are all true.
+    fn choose(
         &mut self,
+        alloc: Global,
         var: u32,
-        fork: Fork,
-        below: &[u32],
-        zeros: &mut Ands,
-        ones: &mut Ands,
+        zero: Option<&[u32]>,
+        one: Option<&[u32]>,
+        below: &[Vec<u32>],
     ) -> Result<u32, AllocError>
         requires maker { IsMaker self.old }
         requires var { IsVariable self.old var }
-        requires below { AreFree self.old.store.nodes var below.now }
-        requires fork { AreWithin (length below.now) fork }
-        requires zeros { IsNoting self.old.store.nodes var false zeros.old }
-        requires ones { IsNoting self.old.store.nodes var true ones.old }
+        requires zero { IfSome (option_map (λ numbers. numbers.now) zero) (IsUsable self.old.store.nodes var below.now) }
+        requires one { IfSome (option_map (λ numbers. numbers.now) one) (IsUsable self.old.store.nodes var below.now) }
         requires few { self.old.store.made + 3 ≤ MADE_LIMIT }
-        ensures made { IfOk result (IsMade self.old self.new var below.now fork) }
-        ensures zeros { OnOk result (IsNoting self.new.store.nodes var false zeros.new) }
-        ensures ones { OnOk result (IsNoting self.new.store.nodes var true ones.new) }
+        ensures { IfOk result (IsChosen self.old self.new var below.now (option_map (λ numbers. numbers.now) zero.entry) (option_map (λ numbers. numbers.now) one.entry)) }
     {
-        let zero = self.branch(var, false, fork.zero, below, zeros)?;
-        let one = self.branch(var, true, fork.one, below, ones)?;
-        let node = self.join(zero, one)?;
+        let first = self.take(alloc, var, false, zero, below)?;
+        let second = self.take(alloc, var, true, one, below)?;
+        let node = self.join(first, second)?;
         Ok(node)
     }
 
-    // The node that is true where the variable has the bit, and the bit leads to a node that is true. For what is nowhere true
-    // there is none.
-    fn branch(
+    // Makes the node that is true if the variable has the bit, and all nodes to which the way leads are true. There is none for
+    // what is never true.
+    fn take(
         &mut self,
+        alloc: Global,
         var: u32,
         bit: bool,
-        way: Option<u32>,
-        below: &[u32],
-        ands: &mut Ands,
+        way: Option<&[u32]>,
+        below: &[Vec<u32>],
     ) -> Result<Option<u32>, AllocError>
         requires maker { IsMaker self.old }
         requires var { IsVariable self.old var }
-        requires below { AreFree self.old.store.nodes var below.now }
-        requires way { IfSome way (λ place. place < length below.now) }
-        requires ands { IsNoting self.old.store.nodes var bit ands.old }
+        requires way { IfSome (option_map (λ numbers. numbers.now) way) (IsUsable self.old.store.nodes var below.now) }
         requires few { self.old.store.made < MADE_LIMIT }
-        ensures branch { IfOk result (IsBranch self.old self.new var bit below.now way) }
-        ensures ands { OnOk result (IsNoting self.new.store.nodes var bit ands.new) }
+        ensures { IfOk result (IsTaken self.old self.new var bit below.now (option_map (λ numbers. numbers.now) way.entry)) }
     {
-        let Some(place) = way else {
+        let Some(numbers) = way else {
             return Ok(None);
         };
-        let node = below[place as usize];
+        let literal = self.store.literal(var, bit);
+        let kids = taken(Kids::from_slice(alloc, &[literal])?, numbers, below)?;
+        let node = self.meet(alloc, kids.as_slice())?;
         if node == self.no {
             return Ok(None);
         }
-        if let Some(both) = ands.of(node) {
-            return Ok(Some(both));
-        }
-        let both = conjoin(&mut self.store, ands.literal, node, self.yes)?;
-        ands.note(node, both);
-        Ok(Some(both))
+        Ok(Some(node))
     }
 
-    // The node that is true where one of two is.
+    /// The node that is true if all of these are. It leaves out those that are always true, and makes none if one is never true, or
+    /// if one alone is left.
+    pub(crate) fn meet(&mut self, alloc: Global, kids: &[u32]) -> Result<u32, AllocError>
+        requires maker { IsMaker self.old }
+        requires within { All (λ k. k < length self.old.store.nodes) kids.now }
+        requires apart { AreApart self.old.store.nodes kids.now }
+        requires few_kids { length kids.now ≤ BUDGET_LIMIT + 1 }
+        requires few { self.old.store.made < MADE_LIMIT }
+        ensures { IfOk result (IsMeet self.old self.new kids.now) }
+    {
+        let mut kept = Kids::new(alloc);
+        for i in 0..kids.len() {
+            let kid = kids[i];
+            if kid == self.no {
+                return Ok(kid);
+            }
+            if kid == self.yes {
+                continue;
+            }
+            kept.push(kid)?;
+        }
+        match kept.as_slice() {
+            [] => Ok(self.yes),
+            [only] => Ok(*only),
+            several => {
+                let node = self.store.and(several)?;
+                Ok(node)
+            }
+        }
+    }
+
+    // The node that is true if one of two is.
     fn join(&mut self, zero: Option<u32>, one: Option<u32>) -> Result<u32, AllocError>
         requires maker { IsMaker self.old }
         requires zero { IfSome zero (λ node. node < length self.old.store.nodes) }
@@ -141,21 +163,14 @@ impl Maker {
     }
 }
 
-// The node that is true where the literal and the node are. For what is everywhere true none is made.
-fn conjoin(store: &mut Store, literal: u32, node: u32, yes: u32) -> Result<u32, AllocError>
-    requires valid { IsStore store.old }
-    requires kids { All (λ k. k < length store.old.nodes) (literal ∷ node ∷ []) }
-    requires apart { (v : ℕ) → at_most_one (map (mentions store.old.nodes v) (literal ∷ node ∷ [])) ≡ true }
-    requires few { store.old.made < MADE_LIMIT }
-    requires yes { IsConstant store.old.nodes true yes }
-    requires bare { HasNoBareKid store.old.nodes }
-    requires literal { IsPlain store.old.nodes literal }
-    requires other { node ≢ yes → IsPlain store.old.nodes node }
-    ensures { IfOk result (λ both. AddsBoth store.old store.new literal node both) }
+/// Adds to children the nodes to which numbers lead, one of each level.
+pub(crate) fn taken(kids: Kids, numbers: &[u32], levels: &[Vec<u32>]) -> Result<Kids, AllocError>
+    requires { AreHeld levels.now numbers.now }
+    ensures { IfOk result (λ all. all.items ≡ kids.items ++ taken levels.now numbers.now) }
 {
-    if node == yes {
-        return Ok(literal);
+    let mut kids = kids;
+    for i in 0..numbers.len() {
+        kids.push(levels[i][numbers[i] as usize])?;
     }
-    let both = store.and(&[literal, node])?;
-    Ok(both)
+    Ok(kids)
 }

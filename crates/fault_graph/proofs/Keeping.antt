@@ -4,7 +4,7 @@ use Rattle.std.specs.Prelude.{is_some, IsSome, IsSomeAnd, IfSome}
 use Rattle.state_rules.specs.Ranking.{cost, least, least_with}
 use Rattle.state_rules.specs.Graphs.{Graph}
 use Rattle.conditioner.specs.Models.{models, least_under}
-use Rattle.minimiser.specs.Listing.{step_of}
+use Rattle.diagnosis_lister.specs.Listing.{step_of}
 use Rattle.fault_graph.specs.Small.{IsSmall}
 use Rattle.fault_graph.specs.Distilled.{Last, Kept, IsOf, Serves, IsDistilled}
 

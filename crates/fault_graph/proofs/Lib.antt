@@ -9,3 +9,5 @@ pub mod Smallness
 pub mod Roots
 pub mod Building
 pub mod Keeping
+pub mod Written
+pub mod Presuming

@@ -1,3 +1,4 @@
 -- What only private contracts cite.
 pub mod Marks
 pub mod Rows
+pub mod Presumed

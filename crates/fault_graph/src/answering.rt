@@ -2,20 +2,22 @@ ghost use Rattle.std.specs.Prelude.{◌≡◌, ℕ, ◌+◌, ◌*◌, ◌<◌, �
 ghost use Rattle.state_rules.specs.Ranking.{rest};
 ghost use Rattle.conditioner.specs.Models.{models, least_under, diagnoses_under, total_cost};
 ghost use Rattle.conditioner.specs.Words.{bits_of};
-ghost use Rattle.minimiser.specs.Listing.{step_of, fault_count};
+ghost use Rattle.diagnosis_lister.specs.Listing.{step_of, fault_count};
 ghost use Rattle.probe_report.specs.Verdicts.{blame_of};
 ghost use Rattle.fault_graph.specs.Distilled.{IsOf, Serves};
 
+use crate::blaming::blame_all;
 use crate::distiller::Distiller;
-use minimiser::{Step, Steps, TOTAL_LIMIT, first, next};
+use diagnosis_lister::{Step, first, next};
+use minimiser::{Steps, TOTAL_LIMIT};
 use node_store::Graph;
-use probe_report::{Blame, blame_all};
+use probe_report::Blame;
 use std::sync::ledger::Ledger;
 
 impl Distiller {
-    /// The least cost, with the first diagnosis in the state, as [`minimiser::first`] gives them.
+    /// The least cost, with the first diagnosis in the state, as [`diagnosis_lister::first`] gives them.
     ///
-    /// It takes one pass over the graph, and none where what is kept is of these words, which then stays. The others are over what
+    /// It takes one pass over the graph, and none if what is kept is of these words, which then stays. The others are over what
     /// is kept.
     pub fn first<L: Ledger>(
         &mut self,
@@ -57,9 +59,9 @@ impl Distiller {
         first(small, words, costs, values, state, steps)
     }
 
-    /// Whether there is a diagnosis after the state, which it then becomes, as [`minimiser::next`] tells it.
+    /// Whether there is a diagnosis after the state, which it then becomes, as with [`diagnosis_lister::next`].
     ///
-    /// It takes one pass over the graph, and none where what is kept is of these words, which then stays. The others are over what
+    /// It takes one pass over the graph, and none if what is kept is of these words, which then stays. The others are over what
     /// is kept.
     pub fn next<L: Ledger>(
         &mut self,
@@ -105,9 +107,9 @@ impl Distiller {
         next(small, words, costs, values, state, steps)
     }
 
-    /// Of each part whether it is faulty in all diagnoses, in some or in none, as [`blame_all`] tells it.
+    /// Whether each part is faulty in all diagnoses, in some or in none, as with [`blame_all`].
     ///
-    /// It takes one pass over the graph, and none where what is kept is of these words, which then stays. The others are over what
+    /// It takes one pass over the graph, and none if what is kept is of these words, which then stays. The others are over what
     /// is kept.
     pub fn blame_all<L: Ledger>(
         &mut self,

@@ -2,10 +2,11 @@ ghost use Rattle.std.specs.Prelude.{◌≡◌, ℕ, ◌+◌, ◌<◌, ◌≤◌,
 ghost use Rattle.conditioner.specs.Models.{least_under, total_cost};
 ghost use Rattle.fault_graph.specs.Distilled.{IsOf, Serves};
 
+use crate::Memory;
 use crate::distilling::distil;
 use minimiser::{Steps, TOTAL_LIMIT};
 use node_store::{Graph, Nodes};
-use std::alloc::{AllocError, Global};
+use std::alloc::Global;
 use std::marker::Model;
 use std::mem;
 use std::sync::ledger::Ledger;
@@ -41,7 +42,7 @@ impl Model for Distiller {
 
 impl Distiller {
     /// With room for whatever is distilled from a graph. Nothing is distilled yet. The only error is that there is no memory.
-    pub fn new(alloc: Global, graph: &Graph) -> Result<Distiller, AllocError>
+    pub fn new(alloc: Global, graph: &Graph) -> Result<Distiller, Memory>
         ensures made { IfOk result (λ made. made
             ≡ record { nodes = length graph.now.nodes; vars = graph.now.vars; last = None }) }
         ensures serves { IfOk result (λ made. (costs : List ℕ) → Serves graph.now costs made) }
@@ -64,7 +65,7 @@ impl Distiller {
     /// Whether some state agrees with the words; and then the graph is distilled under them. The only error is that some state
     /// does, and memory to distil is wanting.
     ///
-    /// It takes one pass over the graph, and none where what is kept is of these words, which then stays.
+    /// It takes one pass over the graph, and none if what is kept is of these words, which then stays.
     pub fn prepare<L: Ledger>(
         &mut self,
         graph: &Graph,
@@ -72,7 +73,7 @@ impl Distiller {
         costs: &[u32],
         values: &mut [u32],
         steps: &mut Steps<L>,
-    ) -> Result<bool, AllocError>
+    ) -> Result<bool, Memory>
         requires long { length words.now ≡ graph.now.vars }
         requires words { All (λ w. w < 3) words.now }
         requires parts { length costs.now ≤ graph.now.vars }
@@ -160,7 +161,7 @@ impl Distiller {
         costs: &[u32],
         values: &mut [u32],
         steps: &mut Steps<L>,
-    ) -> Result<bool, AllocError>
+    ) -> Result<bool, Memory>
         requires long { length words.now ≡ graph.now.vars }
         requires words { All (λ w. w < 3) words.now }
         requires parts { length costs.now ≤ graph.now.vars }

@@ -5,14 +5,14 @@ ghost use Rattle.fault_graph.specs.Distilled.{IsDistilled};
 ghost use Rattle.fault_graph.specs.Small.{IsSmall};
 ghost use Rattle.fault_graph.specs.inner.Rows.{kept_kids, kept_node, Adds, root_node};
 
+use crate::Memory;
 use crate::marking::mark;
 use minimiser::{Steps, TOTAL_LIMIT, least};
 use node_store::{Graph, Nodes};
 use state_rules::NodeKind;
-use std::alloc::AllocError;
 use std::sync::ledger::Ledger;
 
-/// Marks a node that costs something and stands on a derivation of least cost.
+/// Marks a node that costs something and is on a derivation of least cost.
 pub(crate) const MARKED: u32 = 1;
 
 // The least cost; the nodes are then those of the smaller graph. Where nothing is wrong, that is one true node.
@@ -25,7 +25,7 @@ pub(crate) fn distil<L: Ledger>(
     values: &mut [u32],
     places: &mut [u32],
     steps: &mut Steps<L>,
-) -> Result<Option<u32>, AllocError>
+) -> Result<Option<u32>, Memory>
     requires long { length words.now ≡ graph.now.vars }
     requires words { All (λ w. w < 3) words.now }
     requires parts { length costs.now ≤ graph.now.vars }
@@ -70,7 +70,7 @@ fn add(
     values: &[u32],
     places: &[u32],
     at: u32,
-) -> Result<u32, AllocError>
+) -> Result<u32, Memory>
     requires at { at < length graph.now.nodes }
     requires values { length values.now ≡ length graph.now.nodes }
     requires places { length places.now ≡ length graph.now.nodes }
@@ -96,7 +96,7 @@ fn add_root(
     graph: &Graph,
     values: &[u32],
     places: &[u32],
-) -> Result<(), AllocError>
+) -> Result<(), Memory>
     requires values { length values.now ≡ length graph.now.nodes }
     requires places { length places.now ≡ length graph.now.nodes }
     ensures { OnOk result (nodes.new ≡ nodes.old ++ root_node graph.now values.now places.now ∷ []) }
@@ -113,7 +113,7 @@ fn gather(
     values: &[u32],
     places: &[u32],
     cost: u32,
-) -> Result<(), AllocError>
+) -> Result<(), Memory>
     requires kids { All (λ k. k < length values.now) kids.now }
     requires room { length places.now ≡ length values.now }
     ensures { OnOk result (row.new.items ≡ kept_kids values.now places.now cost kids.now) }

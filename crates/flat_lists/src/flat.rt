@@ -2,11 +2,12 @@ ghost use Rattle.std.specs.Prelude.{◌≡◌, ◌<◌, ◌++◌, [], ◌∷◌,
 ghost use Rattle.std.specs.List.{sum_by};
 ghost use Rattle.flat_lists.specs.inner.Flat.{start_at};
 
+use crate::Memory;
 use crate::lists::Lists;
-use std::alloc::{AllocError, Global};
+use std::alloc::Global;
 use std::marker::Model;
 
-/// Lists one behind the other in one vector, so that none has a block of memory of its own.
+/// Lists one after the other in one vector, so that none has a block of memory of its own.
 #[derive(Debug, Drop)]
 pub struct FlatLists<T> {
     items: Vec<T>,
@@ -71,7 +72,7 @@ impl<T> FlatLists<T> {
     }
 
     /// Takes memory for so many more lists, which have so many items in all.
-    pub fn reserve(&mut self, lists: usize, items: usize) -> Result<(), AllocError>
+    pub fn reserve(&mut self, lists: usize, items: usize) -> Result<(), Memory>
         ensures { self.new ≡ self.old }
     {
         self.ends.reserve(lists)?;
@@ -90,8 +91,8 @@ impl<T: Drop> FlatLists<T> {
 }
 
 impl<T: Copy> FlatLists<T> {
-    /// Adds a copy of a list behind the others.
-    pub fn push(&mut self, list: &[T]) -> Result<(), AllocError>
+    /// Adds a copy of a list after the others.
+    pub fn push(&mut self, list: &[T]) -> Result<(), Memory>
         ensures ok { OnOk result (self.new ≡ self.old ++ list.now ∷ []) }
         ensures err { OnErr result (self.new ≡ self.old) }
     {

@@ -1,4 +1,4 @@
-//! Lists that stand one behind the other in one vector.
+//! Lists one after the other in one vector.
 #![tactic(auto)]
 
 mod flat;
@@ -6,3 +6,4 @@ mod lists;
 
 pub use flat::FlatLists;
 pub use lists::Lists;
+pub use std::alloc::AllocError as Memory;

@@ -7,10 +7,11 @@ use Rattle.std.proofs.lemmas.List.{length-map}
 use Rattle.text_rules.specs.Names.{Name}
 use Rattle.state_rules.specs.Values.{values}
 use Rattle.state_rules.proofs.Lists.{list_all-both}
-use Rattle.device_model.specs.declared.component.Kind.TheVariants.{Gate as OfGate}
+use Rattle.device_model.specs.declared.gates.Rule.{Rule}
+use Rattle.device_model.specs.declared.gates.Rule.TheVariants.{Gate as OfGate, Table as OfTable}
 use Rattle.device_model.specs.TruthTable.{TruthTable}
 use Rattle.device_model.specs.Devices.{takes_ports, rows_take}
-use Rattle.device_model.specs.Gates.{takes}
+use Rattle.device_model.specs.Gates.{rule, takes_inputs}
 use Rattle.device_model.specs.Building.{NamedPart}
 use Rattle.component_lang.specs.declared.design.UsedKind.{UsedKind}
 use Rattle.component_lang.specs.declared.design.UsedKind.TheVariants.{Gate, Shape as OfShape, Block as OfBlock}
@@ -26,7 +27,12 @@ abbrev pub tables_of : List Shape → List TruthTable
 tables_of types = map (λ (s : Shape). s.table) types
 
 abbrev pub is_fed : List TruthTable → NamedPart → Bool
-is_fed tables part = takes_ports tables part.kind (length part.wires)
+is_fed tables part = takes_ports tables (rule part.kind) (length part.wires)
+
+-- a gate takes its ports beside any tables
+gate_fed : (tables : List TruthTable) (r : Rule) (ports : ℕ) → takes_inputs r (ports - 1) ≡ true → takes_ports tables r ports ≡ true
+gate_fed tables (OfGate gate) ports h = h
+gate_fed tables (OfTable t) ports h = cc
 
 type_fed : (types : List Shape) (place n : ℕ) → shape_takes (slice_get types place) n ≡ true → rows_take (slice_get (tables_of types) place) n ≡ true
 type_fed [] place n h = h
@@ -39,7 +45,7 @@ AllFed types made = (path : Name) (passed : List Name) → list_all (is_fed (tab
 module _ (types : List Shape) (above : List Block) (mades : List Instance) (h : (j : ℕ) → AllFed types (get_or mades j nothing)) where
   kind_fed : (kind : UsedKind) (path : Name) (passed : List Name) (n : ℕ) → length passed ≡ n → takes_args types above kind n ≡ true
       → list_all (is_fed (tables_of types)) (kind_content mades kind path passed).parts ≡ true
-  kind_fed (Gate gate) path passed n e g = and_from (takes_ports (tables_of types) (OfGate gate) (length passed)) true (ap (λ k. takes gate (k - 1)) e ∙ g) refl
+  kind_fed (Gate kind) path passed n e g = and_from (takes_ports (tables_of types) (rule kind) (length passed)) true (gate_fed (tables_of types) (rule kind) (length passed) (ap (λ k. takes_inputs (rule kind) (k - 1)) e ∙ g)) refl
   kind_fed (OfShape place) path passed n e g =
       and_from (rows_take (slice_get (tables_of types) place) (length passed)) true (type_fed types place (length passed) (ap (shape_takes (slice_get types place)) e ∙ g)) refl
   kind_fed (OfBlock place) path passed n e g = h place path passed

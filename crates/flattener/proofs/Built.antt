@@ -13,6 +13,7 @@ use Rattle.device_model.specs.declared.limits.TheConstants.{PART_LIMIT, WIRE_LIM
 use Rattle.device_model.specs.declared.building.BuildError.{BuildError}
 use Rattle.device_model.specs.declared.building.BuildError.TheVariants.{Memory as NoMemory}
 use Rattle.device_model.specs.TruthTable.{TruthTable}
+use Rattle.device_model.specs.Gates.{rule}
 use Rattle.device_model.specs.Devices.{Device, part_names, takes_ports, has_arity}
 use Rattle.device_model.specs.Building.{NamedPart, reason, repeated, built, device_over}
 use Rattle.device_model.proofs.Joining.{built-over}
@@ -35,7 +36,7 @@ ports_fed : (tables : List TruthTable) (wires : List Name) (parts : List Compone
 ports_fed tables wires [] h = refl
 ports_fed tables wires (p ∷ ps) h =
     let two = and_parts (is_fed tables (shown wires p)) (list_all (is_fed tables) (map (shown wires) ps)) h in
-    and_from (has_arity tables p) (list_all (has_arity tables) ps) (ap (takes_ports tables p.kind) (sym (length-map p.ports (wire_at wires))) ∙ two.0) (ports_fed tables wires ps two.1)
+    and_from (has_arity tables p) (list_all (has_arity tables) ps) (ap (takes_ports tables (rule p.kind)) (sym (length-map p.ports (wire_at wires))) ∙ two.0) (ports_fed tables wires ps two.1)
 
 module _ (design : Design) (valid : is_design design ≡ true) (passed : refusal (counts_of_design design) ≡ None) (parts : List Component) (wires : List Name) (flat : IsFlat design parts wires) where
   names_are : part_names parts ≡ get_or (values names_in design.blocks) design.top no_names Parts

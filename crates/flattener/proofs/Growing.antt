@@ -11,9 +11,8 @@ use Rattle.text_rules.specs.Names.{Name}
 use Rattle.state_rules.specs.Values.{values}
 use Rattle.state_rules.proofs.Values.{values-at, values-before}
 use Rattle.state_rules.proofs.Lists.{list_all-at, list_all-both}
-use Rattle.device_model.specs.declared.component.Kind.{Kind}
-use Rattle.device_model.specs.declared.component.Kind.TheVariants.{Gate as OfGate, Table}
-use Rattle.device_model.specs.declared.gates.Gate.{Gate as GateKind}
+use Rattle.device_model.specs.declared.gates.Kind.{Kind}
+use Rattle.device_model.specs.declared.gates.Kind.TheVariants.{Table}
 use Rattle.device_model.specs.declared.component.Component.{Component}
 use Rattle.device_model.specs.declared.limits.TheConstants.{WIRE_LIMIT, NAME_LIMIT}
 use Rattle.device_model.specs.Devices.{has_wires}
@@ -445,10 +444,10 @@ module _ {design : Design} {place : ℕ} {path : Name} {passed : List ℕ} {old 
       as_kind : (kind : UsedKind) → used.kind ≡ kind → content used ≡ kind_content (values instance design.blocks) kind (below path used.name) (map (wire_at (names ++ own)) used.args)
       as_kind kind e = ap (λ (k : UsedKind). kind_content (values instance design.blocks) k (below path used.name) (map (wire_at (names ++ own)) used.args)) e
 
-      pub gate_grows : (gate : GateKind) (more_parts : List Component) → used.kind ≡ Gate gate
-          → more_parts ≡ parts ++ record { name = below path used.name; kind = OfGate gate; ports = map (position_of passed (length old)) used.args } ∷ []
+      pub gate_grows : (gate : Kind) (more_parts : List Component) → used.kind ≡ Gate gate
+          → more_parts ≡ parts ++ record { name = below path used.name; kind = gate; ports = map (position_of passed (length old)) used.args } ∷ []
           → Grows old_parts old (so_far design place (i + 1) path names) more_parts wires
-      gate_grows gate more_parts e is = part_grows (OfGate gate) more_parts (as_kind (Gate gate) e) is
+      gate_grows gate more_parts e is = part_grows gate more_parts (as_kind (Gate gate) e) is
 
       pub type_grows : (shape : ℕ) (more_parts : List Component) → used.kind ≡ OfShape shape
           → more_parts ≡ parts ++ record { name = below path used.name; kind = Table shape; ports = map (position_of passed (length old)) used.args } ∷ []

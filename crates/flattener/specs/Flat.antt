@@ -3,8 +3,8 @@ use Rattle.std.specs.Prelude.{ℕ, ◌-◌, ◌^◌, min, max, List, [], ◌∷�
 use Rattle.std.specs.List.{flat_map}
 use Rattle.text_rules.specs.Names.{Name}
 use Rattle.state_rules.specs.Values.{values}
-use Rattle.device_model.specs.declared.component.Kind.{Kind}
-use Rattle.device_model.specs.declared.component.Kind.TheVariants.{Gate as OfGate, Table}
+use Rattle.device_model.specs.declared.gates.Kind.{Kind}
+use Rattle.device_model.specs.declared.gates.Kind.TheVariants.{Table}
 use Rattle.device_model.specs.declared.limits.TheConstants.{PART_LIMIT, WIRE_LIMIT, NAME_LIMIT}
 use Rattle.device_model.specs.Devices.{Device}
 use Rattle.device_model.specs.Building.{NamedPart, device_over}
@@ -44,7 +44,7 @@ one_instance path inner = record inner { instances = path ∷ inner.instances }
 
 -- what a part of a block is, by the instances of the blocks before
 abbrev pub kind_content : List Instance → UsedKind → Instance
-kind_content above (Gate gate) path passed = one_part path (OfGate gate) passed
+kind_content above (Gate gate) path passed = one_part path gate passed
 kind_content above (OfShape place) path passed = one_part path (Table place) passed
 kind_content above (OfBlock place) path passed = one_instance path (slice_index_or above place nothing path passed)
 

@@ -16,7 +16,7 @@ pub(crate) struct Flat {
 /// Adds what an instance of a block has: its own wires, and then what its parts have, in their order.
 ///
 /// Wires are only added, so a position stays that of its wire. The path of an instance has at most 255 bytes, and below the
-/// top two more at least than that of the instance around it, so calls stand at most 129 deep.
+/// top two more at least than that of the instance around it, so calls are at most 129 deep.
 pub(crate) fn expand(
     alloc: Global,
     design: &Design,
@@ -39,9 +39,7 @@ pub(crate) fn expand(
         let name = with_prefix(alloc, &mut prefix, used.name.as_slice())?;
         read_positions(used.args.as_slice(), passed, start, &mut ports)?;
         match used.kind {
-            UsedKind::Gate(gate) => {
-                push_part(alloc, name, Kind::Gate(gate), &ports, &mut flat.parts)?
-            }
+            UsedKind::Gate(gate) => push_part(alloc, name, gate, &ports, &mut flat.parts)?,
             UsedKind::Shape(table) => {
                 push_part(alloc, name, Kind::Table(table), &ports, &mut flat.parts)?
             }

@@ -42,8 +42,8 @@ impl From<AllocError> for FlattenError {
 /// Makes the device of a design: each part, wire and instance of a block is named by its path, and each port of an instance
 /// is the wire that is passed to it.
 ///
-/// The first reason of `FlattenError` that applies is the answer, in the order in which they stand there. All counts are
-/// taken before anything is made.
+/// The first reason of `FlattenError` that applies is the answer, in their order there. As it is
+/// written, all counts are taken before anything is made.
 pub fn flatten(alloc: Global, design: &Design) -> Result<Device, FlattenError>
     ensures { Fulfils (λ device. device) told (flattened design.now) result }
 {

@@ -15,6 +15,7 @@ use Rattle.device_model.specs.declared.building.BuildError.{BuildError}
 use Rattle.device_model.specs.declared.building.BuildError.TheVariants.{Memory as NoMemory}
 use Rattle.device_model.specs.TruthTable.{TruthTable}
 use Rattle.device_model.specs.Order.{sorted_distinct}
+use Rattle.device_model.specs.Gates.{rule}
 use Rattle.device_model.specs.Devices.{Device, IsDevice, part_names, takes_ports, has_arity, has_wires}
 use Rattle.device_model.specs.Building.{NamedPart, joined, reason, repeated, built, device_over}
 use Rattle.device_model.proofs.Ordered.{Rises, sorted_distinct-is}
@@ -84,7 +85,7 @@ module _ (seq : Sequential) (frames : ℕ) (valid : IsDevice seq.device) where
         )
 
     given_arity : has_arity seq.device.tables (given_copy (length names) c) ≡ true
-    given_arity = ap (takes_ports seq.device.tables c.part.kind) given_long ∙ list_all-among (has_arity seq.device.tables) seq.device.parts valid.arities c.part is.there
+    given_arity = ap (takes_ports seq.device.tables (rule c.part.kind)) given_long ∙ list_all-among (has_arity seq.device.tables) seq.device.parts valid.arities c.part is.there
 
   -- ---- all copies
 

@@ -5,6 +5,7 @@ use Rattle.std.specs.List.{flat_map, enumerate_from, range_with_len}
 use Rattle.std.proofs.lemmas.Bool.{lt-ltb}
 use Rattle.std.proofs.lemmas.List.{drop_more, drop_all, map-append, length-append, length-map, take-append-drop}
 use Rattle.device_model.specs.declared.component.Component.{Component}
+use Rattle.device_model.specs.Gates.{rule}
 use Rattle.device_model.specs.Devices.{Device}
 use Rattle.device_model.specs.Building.{place_in, joined}
 use Rattle.bench_reader.specs.declared.sequential.Sequential.{Sequential}
@@ -23,8 +24,8 @@ module _ (device : Device) where
       same : (n : ℕ) → n ≡ n + 0
       same n = omega arith
   clauses-append h z (x ∷ xs) ys =
-      let raw = raw_clauses device.tables x.kind h z (map (wire_variable device) x.ports) in
-      let inner = inner_count x.kind (length x.ports) in
+      let raw = raw_clauses device.tables (rule x.kind) h z (map (wire_variable device) x.ports) in
+      let inner = inner_count (rule x.kind) (length x.ports) in
       let health : h + 1 + length xs ≡ h + length (x ∷ xs) = omega arith in
       let next : z + inner + inner_vars xs ≡ z + inner_vars (x ∷ xs) = omega arith in
       ap (λ cs. raw ++ cs) (clauses-append (h + 1) (z + inner) xs ys)
@@ -48,9 +49,9 @@ module _ (device : Device) where
         second (h + length xs) (z + inner_vars xs),
       )
 
-  have_one : (part : Component) (n : ℕ) → ((h z : ℕ) (vs : List ℕ) → length vs ≡ length part.ports → length (raw_clauses device.tables part.kind h z vs) ≡ n) → Have (part ∷ []) n
+  have_one : (part : Component) (n : ℕ) → ((h z : ℕ) (vs : List ℕ) → length vs ≡ length part.ports → length (raw_clauses device.tables (rule part.kind) h z vs) ≡ n) → Have (part ∷ []) n
   have_one part n each h z =
-      let raw = raw_clauses device.tables part.kind h z (map (wire_variable device) part.ports) in
+      let raw = raw_clauses device.tables (rule part.kind) h z (map (wire_variable device) part.ports) in
       omega (arith, length-append raw [], each h z (map (wire_variable device) part.ports) (length-map part.ports (wire_variable device)))
 
 -- ---- copies
@@ -82,7 +83,7 @@ module _ (seq : Sequential) (frames : ℕ) where
 
   -- a part has so many clauses
   abbrev pub Has : Component → ℕ → Type 0
-  Has part n = (h z : ℕ) (vs : List ℕ) → length vs ≡ length part.ports → length (raw_clauses seq.device.tables part.kind h z vs) ≡ n
+  Has part n = (h z : ℕ) (vs : List ℕ) → length vs ≡ length part.ports → length (raw_clauses seq.device.tables (rule part.kind) h z vs) ≡ n
 
   -- and its copies for a time
   abbrev pub HasAt : ℕ → ℕ × Component → ℕ → Type 0

@@ -8,6 +8,7 @@ use Rattle.std.proofs.lemmas.List.{length-map, get_or-map, get_or_append_left, g
 use Rattle.std.proofs.lemmas.List.FromFn.{get_or-range_with_len}
 use Rattle.state_rules.specs.Bits.{same_bit}
 use Rattle.device_model.specs.declared.component.Component.{Component}
+use Rattle.device_model.specs.Gates.{rule}
 use Rattle.device_model.specs.Devices.{Device, IsDevice, takes_ports, has_arity}
 use Rattle.clause_encoder.specs.declared.limits.TheConstants.{CLAUSE_LIMIT}
 use Rattle.clause_encoder.specs.declared.encoding.EncodeError.TheVariants.{TooManyClauses}
@@ -72,11 +73,11 @@ module _ (device : Device) where
   one_health h z (part ∷ parts) hz arities =
       let fit = and_parts (has_arity device.tables part) (list_all (has_arity device.tables) parts) arities in
       let ports = map (wire_variable device) part.ports in
-      let inner = inner_count part.kind (length part.ports) in
-      OneEach-append (length device.parts) (raw_clauses device.tables part.kind h z ports) (clauses_from device (h + 1) (z + inner) parts)
-      (OneEach-of (length device.parts) h (raw_clauses device.tables part.kind h z ports)
-      (Of-raw (Names (length device.parts) h) h (inl refl) device.tables part.kind z ports (λ v le lt. inr (omega arith)) (wires_only h part.ports)
-      (ap (takes_ports device.tables part.kind) (length-map part.ports (wire_variable device)) ∙ fit.0)))
+      let inner = inner_count (rule part.kind) (length part.ports) in
+      OneEach-append (length device.parts) (raw_clauses device.tables (rule part.kind) h z ports) (clauses_from device (h + 1) (z + inner) parts)
+      (OneEach-of (length device.parts) h (raw_clauses device.tables (rule part.kind) h z ports)
+      (Of-raw (Names (length device.parts) h) h (inl refl) device.tables (rule part.kind) z ports (λ v le lt. inr (omega arith)) (wires_only h part.ports)
+      (ap (takes_ports device.tables (rule part.kind)) (length-map part.ports (wire_variable device)) ∙ fit.0)))
       (one_health (h + 1) (z + inner) parts (omega arith) fit.1)
 
   pub one_health-tidy : IsDevice device → OneEach (length device.parts) (tidy (all_clauses device))

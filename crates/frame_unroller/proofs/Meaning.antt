@@ -14,6 +14,7 @@ use Rattle.state_rules.specs.Assignments.{Assignment, assignment}
 use Rattle.state_rules.proofs.Members.{any_same, In, In-at}
 use Rattle.device_model.specs.declared.component.Component.{Component}
 use Rattle.device_model.specs.TruthTable.{TruthTable}
+use Rattle.device_model.specs.Gates.{rule}
 use Rattle.device_model.specs.Devices.{IsDevice, has_wires, allows, part_allows, parts_fit, fits}
 use Rattle.device_model.specs.Building.{place_in, joined}
 use Rattle.device_model.proofs.Making.{list_all-among, list_all-from_among}
@@ -67,9 +68,9 @@ module _ (seq : Sequential) (frames : ℕ) (valid : IsDevice seq.device) (state 
     wired : (list_all (λ port. nat_lt port (length names)) (inputs part) ≡ true) × (list_all (λ port. nat_lt port (length names)) (output part) ≡ true)
     wired = both_pass (λ port. nat_lt port (length names)) (length part.ports - 1) part.ports (list_all-among (has_wires (length names)) seq.device.parts valid.joined part there)
 
-    allowed-row : (before now : ℕ) → allowed (copy before now) ≡ allows tables part.kind (bit_in state place) (row_across part (waves before) (waves now))
+    allowed-row : (before now : ℕ) → allowed (copy before now) ≡ allows tables (rule part.kind) (bit_in state place) (row_across part (waves before) (waves now))
     allowed-row before now =
-        ap (allows tables part.kind (bit_in state place))
+        ap (allows tables (rule part.kind) (bit_in state place))
         (ap (map (bit_in bits)) (map-append (place_in (frame_wires seq frames)) (wires_at names before (inputs part)) (wires_at names now (output part)))
         ∙ map-append (bit_in bits) (map (place_in (frame_wires seq frames)) (wires_at names before (inputs part))) (map (place_in (frame_wires seq frames)) (wires_at names now (output part)))
         ∙ (λ i. row_at before (inputs part) wired.0 i ++ row_at now (output part) wired.1 i))
@@ -88,10 +89,10 @@ module _ (seq : Sequential) (frames : ℕ) (valid : IsDevice seq.device) (state 
     copies-fit t some = by (is_delayed seq place)
       where
         by : (b : Bool) → list_all allowed (if nat_lt 0 (if b then t - 1 else t) then copy (if b then t - 1 else t) t ∷ [] else []) ≡ fits_at tables b part (bit_in state place) waves t
-        by false = one_copy t t some ∙ allowed-row t t ∙ ap (allows tables part.kind (bit_in state place)) (row-now t)
+        by false = one_copy t t some ∙ allowed-row t t ∙ ap (allows tables (rule part.kind) (bit_in state place)) (row-now t)
         by true = elim (cases_lt 1 t) [
-          | inl l ↦ one_copy (t - 1) t (omega arith) ∙ allowed-row (t - 1) t ∙ ap (λ (b : Bool). b || allows tables part.kind (bit_in state place) (row_across part (waves (t - 1)) (waves t))) (sym (later t l))
-          | inr g ↦ no_copy (t - 1) t (omega arith) ∙ ap (λ (b : Bool). b || allows tables part.kind (bit_in state place) (row_across part (waves (t - 1)) (waves t))) (sym (le-leb t 1 g))
+          | inl l ↦ one_copy (t - 1) t (omega arith) ∙ allowed-row (t - 1) t ∙ ap (λ (b : Bool). b || allows tables (rule part.kind) (bit_in state place) (row_across part (waves (t - 1)) (waves t))) (sym (later t l))
+          | inr g ↦ no_copy (t - 1) t (omega arith) ∙ ap (λ (b : Bool). b || allows tables (rule part.kind) (bit_in state place) (row_across part (waves (t - 1)) (waves t))) (sym (le-leb t 1 g))
         ]
           where
             later : (t : ℕ) → 1 < t → nat_le t 1 ≡ false

@@ -4,6 +4,7 @@ use Rattle.std.specs.List.{list_all, list_any, enumerate_from}
 use Rattle.state_rules.specs.Bits.{bit_in}
 use Rattle.device_model.specs.declared.component.Component.{Component}
 use Rattle.device_model.specs.TruthTable.{TruthTable}
+use Rattle.device_model.specs.Gates.{rule}
 use Rattle.device_model.specs.Devices.{allows, part_allows}
 use Rattle.bench_reader.specs.declared.sequential.Sequential.{Sequential}
 use Rattle.frame_unroller.specs.Times.{times}
@@ -31,7 +32,7 @@ row_across part before now = map (bit_in before) (inputs part) ++ map (bit_in no
 -- output at the time; at the first time its output is free.
 abbrev pub fits_at : List TruthTable → Bool → Component → Bool → Waves → ℕ → Bool
 fits_at tables false part ok waves t = part_allows tables part ok (waves t)
-fits_at tables true part ok waves t = nat_le t 1 || allows tables part.kind ok (row_across part (waves (t - 1)) (waves t))
+fits_at tables true part ok waves t = nat_le t 1 || allows tables (rule part.kind) ok (row_across part (waves (t - 1)) (waves t))
 
 -- At each time each part fits, and each is ok, or faulty, at all times alike.
 abbrev pub frame_fits : Sequential → ℕ → List Bool → Waves → Bool

@@ -5,6 +5,7 @@ mod copying;
 mod counting;
 mod delays;
 mod names;
+mod tables;
 mod unrolling;
 
 pub use unrolling::{FRAME_LIMIT, UnrollError, Unrolled, unroll};

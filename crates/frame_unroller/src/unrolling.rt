@@ -14,9 +14,10 @@ ghost use Rattle.frame_unroller.specs.declared.unrolling.UnrollError.TheVariants
 use crate::copying::{Copies, copies_over};
 use crate::counting::clause_count;
 use crate::delays::{copy_count, delays_of};
+use crate::tables::tables_of;
 use bench_reader::Sequential;
 use clause_encoder::{CLAUSE_LIMIT, Cnf, EncodeError, VARIABLE_LIMIT, encode, replaced};
-use device_model::{BuildError, Component, Device, Name, Names, PART_LIMIT, Table, WIRE_LIMIT};
+use device_model::{BuildError, Component, Device, Name, Names, PART_LIMIT, WIRE_LIMIT};
 use std::alloc::{AllocError, Global};
 
 /// The most frames of a netlist.
@@ -31,7 +32,7 @@ pub struct Unrolled {
     pub cnf: Cnf,
 }
 
-/// Why a netlist is not unrolled. The first one that applies is told.
+/// Why a netlist is not unrolled. The first one that applies counts.
 #[derive(Clone, Copy, Debug, PartialEq, Eq)]
 pub enum UnrollError {
     /// More than 4,096 copies of parts; the number of them.
@@ -55,7 +56,7 @@ impl From<AllocError> for UnrollError {
 /// The clauses of a netlist over so many frames, with one health state. Wire w at time t, counted from 1, is named `w@t`, with t
 /// in four digits.
 ///
-/// All clauses are true, for some bits of the inner variables, exactly where the parts' health and the bits of the wires at all
+/// All clauses are true, for some bits of the inner variables, exactly if the parts' health and the bits of the wires at all
 /// times fit, frame by frame. None of the copies' clauses is left out for the health that they share.
 pub fn unroll(alloc: Global, seq: &Sequential, frames: u32) -> Result<Unrolled, UnrollError>
     requires some { 1 ≤ frames }
@@ -147,12 +148,6 @@ fn device_of(
             _ => unreachable!(),
         },
     }
-}
-
-fn tables_of(alloc: Global, tables: &[Table]) -> Result<Vec<Table>, AllocError>
-    ensures { IfOk result (λ copies. copies.items ≡ tables.now) }
-{
-    Vec::from_slice(alloc, tables)
 }
 
 // The clauses in which the health of its part stands for that of each copy. The parts are so many.

@@ -11,7 +11,7 @@ use Rattle.state_rules.specs.Graphs.{Graph}
 use Rattle.state_rules.proofs.Order.{before-at, same_bits}
 use Rattle.conditioner.specs.Words.{word_of}
 use Rattle.minimiser.proofs.Models.{Agree, Agree-bit, Agree-same, Refines, model-agrees, ModelWithin-old, ModelWithin-new}
-use Rattle.minimiser.specs.inner.Fixing.{IsFirst, fixed_bits}
+use Rattle.diagnosis_lister.specs.inner.Fixing.{IsFirst, fixed_bits}
 use Rattle.level_lister.specs.inner.Searching.{OfCost, HasCost}
 
 pub Refines-start : (parts : ℕ) (words : List ℕ) → Refines parts words words

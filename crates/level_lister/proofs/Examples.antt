@@ -2,5 +2,5 @@
 use Rattle.std.proofs.Common.{◌≡◌, refl}
 use Rattle.level_lister.specs.Bits.{level_bits}
 
-a_field_of_gates : level_bits 520066 4095 32 ≡ 2162954494
+a_field_of_gates : level_bits 159704 20476 4095 32 ≡ 2162954494
 a_field_of_gates = refl

@@ -5,7 +5,7 @@ use Rattle.std.proofs.lemmas.Bool.{cases_order, and_parts, and_from, or_cases, o
 use Rattle.state_rules.specs.Ranking.{cost, is_before}
 use Rattle.state_rules.specs.Graphs.{Graph}
 use Rattle.state_rules.specs.Levels.{is_level_before}
-use Rattle.minimiser.specs.inner.Fixing.{IsFirst}
+use Rattle.diagnosis_lister.specs.inner.Fixing.{IsFirst}
 use Rattle.level_lister.specs.inner.Searching.{OfCost, HasCost, NoneAfter, IsListed, IsFirstLevel, Finds, is_later}
 
 module _ (costs : List ℕ) (h k : List Bool) where

@@ -5,7 +5,7 @@ use Rattle.std.proofs.lemmas.Bool.{cases_lt}
 use Rattle.state_rules.specs.Bits.{bit_in}
 use Rattle.state_rules.specs.Graphs.{Graph}
 use Rattle.minimiser.proofs.Models.{Agree, Refines}
-use Rattle.minimiser.proofs.Fixing.{FixesOk}
+use Rattle.diagnosis_lister.proofs.Fixing.{FixesOk}
 use Rattle.level_lister.specs.inner.Searching.{OfCost}
 use Rattle.level_lister.specs.inner.Pairs.{FaultIn, OkAmong}
 use Rattle.level_lister.proofs.Exact.{Settling, OfCost-agrees, OfCost-old, OfCost-new, set-new, settle_faulty}

@@ -10,8 +10,8 @@ use Rattle.state_rules.specs.Graphs.{Graph}
 use Rattle.state_rules.proofs.Order.{before-at, not_both_before, Differs, differs}
 use Rattle.conditioner.specs.Words.{word_of}
 use Rattle.minimiser.proofs.Models.{Agree, Agree-bit, Agree-same, Refines}
-use Rattle.minimiser.specs.inner.Fixing.{IsFirst, Follows}
-use Rattle.minimiser.proofs.Points.{alike-more}
+use Rattle.diagnosis_lister.specs.inner.Fixing.{IsFirst, Follows}
+use Rattle.diagnosis_lister.proofs.Points.{alike-more}
 use Rattle.level_lister.specs.inner.Searching.{OfCost, HasCost, NoneAfter, Leaves}
 use Rattle.level_lister.proofs.Exact.{OfCost-agrees, OfCost-old, OfCost-new}
 

@@ -26,3 +26,5 @@ pub mod Told
 pub mod Faulting
 pub mod FaultNodes
 pub mod Skips
+pub mod ByParts
+pub mod Rooms

@@ -2,6 +2,6 @@
 use Rattle.std.specs.Prelude.{ℕ, ◌+◌, ◌*◌}
 use Rattle.level_lister.specs.Listing.{cost_words}
 
--- for each of so many nodes, a bit for each part and the words of its costs
-abbrev pub level_bits : (nodes parts top : ℕ) → ℕ
-level_bits nodes parts top = nodes * (parts + 32 * cost_words top)
+-- for each node that a graph has at most, by the sum of its clauses and their variables, a bit for each part and the words of its costs
+abbrev pub level_bits : (sum vars parts top : ℕ) → ℕ
+level_bits sum vars parts top = (3 * sum + 2 * vars + 2) * (parts + 32 * cost_words top)

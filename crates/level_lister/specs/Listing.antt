@@ -1,5 +1,5 @@
 -- What the lister of levels keeps and answers.
-use Rattle.std.specs.Prelude.{ℕ, ◌+◌, ◌/◌, ◌<◌, ◌≤◌, Bool, true, false, List, [], ◌∷◌, length, Option, Some, None}
+use Rattle.std.specs.Prelude.{ℕ, ◌+◌, ◌*◌, ◌/◌, ◌^◌, ◌<◌, ◌≤◌, Bool, true, false, List, [], ◌∷◌, length, Option, Some, None}
 use Rattle.state_rules.specs.Ranking.{cost}
 use Rattle.state_rules.specs.Graphs.{Graph}
 use Rattle.state_rules.specs.Levels.{levels, levels_rest}
@@ -9,7 +9,6 @@ use Rattle.part_sets.specs.declared.kept.TheConstants.{PART_LIMIT}
 use Rattle.part_sets.specs.PartSets.{AreBelow, AreLacking}
 use Rattle.level_lister.specs.declared.levels.LevelStep.{LevelStep}
 use Rattle.level_lister.specs.declared.levels.LevelStep.TheVariants.{Found, End, Inconsistent}
-use Rattle.level_lister.specs.declared.levels.TheConstants.{TOP_LIMIT}
 
 -- the costs of the parts, the greatest cost that is listed, and for each node of a graph the parts below it and whether a kid lacks
 -- one of them
@@ -24,13 +23,21 @@ pub record IsFor (graph : Graph) (kept : Kept) : Type 0 where
   pub parts : length kept.costs ≤ graph.vars
   pub few : length kept.costs ≤ PART_LIMIT
   pub total : total_cost kept.costs < TOTAL_LIMIT
-  pub top : kept.top ≤ TOP_LIMIT
+  pub top : kept.top < 2 ^ 31
   pub below : AreBelow graph (length kept.costs) kept.below
   pub lacking : AreLacking graph (length kept.costs) kept.lacking
 
 -- how many words of 32 bits a set of the costs has that are listed
 abbrev pub cost_words : ℕ → ℕ
 cost_words top = top / 32 + 1
+
+-- so many words are enough to find the next state
+abbrev pub step_words : Graph → Kept → ℕ
+step_words graph kept = (length graph.nodes + 2) * (cost_words kept.top + 1) + length kept.costs
+
+-- and with so many it takes the fewest passes
+abbrev pub fast_words : Graph → Kept → ℕ
+fast_words graph kept = length kept.costs + length graph.nodes + (length graph.nodes + 2) * (2 * cost_words kept.top)
 
 -- a state is a point or it is none
 abbrev pub point_if : Bool → List Bool → Option (List Bool)

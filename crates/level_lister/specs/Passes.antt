@@ -1,6 +1,6 @@
 -- How many passes over the graph a call makes.
 use Rattle.std.specs.Prelude.{ℕ, ◌+◌, ◌*◌, ◌/◌, ◌^◌, ◌<◌, ◌≤◌, nat_le, max, if◌then◌else◌, Bool, List, Option, Some, None}
-use Rattle.minimiser.specs.Listing.{fault_count}
+use Rattle.diagnosis_lister.specs.Listing.{fault_count}
 
 -- a word has room for so many groups of parts at each cost that is listed
 abbrev pub group_count : ℕ → ℕ

@@ -1,20 +1,26 @@
-ghost use Rattle.std.specs.Prelude.{◌≡◌, ℕ, ◌+◌, ◌*◌, ◌<◌, ◌≤◌, length, IfOk, All, Some, slice_index_or};
+ghost use Rattle.std.specs.Prelude.{◌≡◌, ℕ, [], ◌+◌, ◌*◌, ◌^◌, ◌<◌, ◌≤◌, length, IfOk, All, Some, slice_index_or};
 ghost use Rattle.conditioner.specs.Models.{models, total_cost};
 ghost use Rattle.conditioner.specs.Words.{bits_of};
-ghost use Rattle.level_lister.specs.Listing.{IsFor, cost_words, point_if, later_levels, level_step};
+ghost use Rattle.scratch_pool.specs.Regions.{free_words};
+ghost use Rattle.level_lister.specs.Listing.{IsFor, cost_words, step_words, fast_words, point_if, later_levels, level_step};
 ghost use Rattle.level_lister.specs.Passes.{AreEnough, most_passes, told_groups};
 
+use crate::Memory;
 use crate::search::Search;
 use crate::states::{keep, put_back, read_state};
 use minimiser::{Steps, TOTAL_LIMIT};
 use node_store::Graph;
 use part_sets::{PART_LIMIT, PartSets};
-use std::alloc::{AllocError, Global};
-use std::marker::Model;
-use std::sync::ledger::Ledger;
+use scratch_pool::Region;
+use std::alloc::Global;
+use std::marker::{Brand, Model};
+use std::sync::ledger::{Blank, Ledger};
 
-/// States of more than this cost are never listed.
+/// The greatest cost up to which the program lists states.
 pub const TOP_LIMIT: u32 = 4_096_000;
+
+/// What is kept of a graph, and its costs, has at most so many bits.
+pub const BITS_LIMIT: u64 = 2_147_483_648;
 
 /// What comes next.
 #[derive(Clone, Copy, Debug, PartialEq, Eq)]
@@ -45,16 +51,18 @@ impl Model for Levels {
 
 impl Levels {
     /// What is listed of a graph whose first variables are parts of these costs: its states that cost no more than a greatest cost.
-    pub fn new(alloc: Global, graph: &Graph, costs: &[u32], top: u32) -> Result<Levels, AllocError>
+    pub fn new(alloc: Global, graph: &Graph, costs: &[u32], top: u32) -> Result<Levels, Memory>
         requires parts { length costs.now ≤ graph.now.vars }
         requires few { length costs.now ≤ PART_LIMIT }
         requires total { total_cost costs.now < TOTAL_LIMIT }
-        requires top { top ≤ TOP_LIMIT }
+        requires bits { length graph.now.nodes * (length costs.now + 32 * cost_words top) ≤ BITS_LIMIT }
 
         ensures for_graph { IfOk result (λ levels. IsFor graph.now levels) }
         ensures costs { IfOk result (λ levels. levels.costs ≡ costs.now) }
         ensures top { IfOk result (λ levels. levels.top ≡ top) }
     {
+        // Its contract says that this is a graph.
+        let _vars = graph.vars();
         Ok(Levels {
             costs: costs.to_vec(alloc)?,
             top,
@@ -77,7 +85,7 @@ impl Levels {
 
     // In how many groups of parts a pass tells the first fault.
     pub(crate) fn told_groups(&self) -> u32
-        requires { self.now.top ≤ TOP_LIMIT }
+        requires { self.now.top < 2 ^ 31 }
         ensures count { result ≡ told_groups self.now.top }
         ensures some { 0 < result }
         ensures few { result ≤ 32 }
@@ -111,23 +119,98 @@ impl Levels {
         &self.sets
     }
 
-    /// How many words one step needs.
+    /// With how many words a step is fastest.
     pub fn room(&self, graph: &Graph) -> usize
         requires graph { IsFor graph.now self.now }
-        ensures { result ≡ length self.now.costs + length graph.now.nodes + (length graph.now.nodes + 2) * (2 * cost_words self.now.top) }
+        ensures { result ≡ fast_words graph.now self.now }
     {
         let nodes = graph.len() as usize;
         self.costs.len() + nodes + (nodes + 2) * (2 * self.size())
     }
 
     /// The next of the states that agree with the words, by cost and then in their order: the first one of all, or the first one
-    /// after the state, where `pointed` says that it is a point. A point need not be listed. It is worked out in words that are lent for
-    /// it, as many as `room` tells, whatever they hold; the passes over the graph are counted, and the one sweep from the root down is
-    /// not. As it is written, the passes skip each node through which every derivation of the graph costs more in open parts than what is
-    /// listed.
+    /// after the state, if `pointed` says that it is a point. A point need not be listed. It is worked out in the region, of which no
+    /// run is out. With fewer words than `room` says, it is slower.
     ///
-    /// The words are the same afterwards. Where nothing is found the state stays.
-    pub fn next<L: Ledger>(
+    /// The words are the same afterwards. If nothing is found the state stays.
+    pub fn next(
+        &self,
+        graph: &Graph,
+        words: &mut [u32],
+        region: &mut Region,
+        state: &mut [u32],
+        pointed: bool,
+    ) -> LevelStep
+        requires graph { IsFor graph.now self.now }
+        requires long { length words.old ≡ graph.now.vars }
+        requires words { All (λ w. w < 3) words.old }
+        requires state { length state.old ≡ length self.now.costs }
+        requires state_words { All (λ s. s < 2) state.old }
+        requires idle { region.old.runs ≡ [] }
+        requires room { step_words graph.now self.now ≤ free_words region.old }
+
+        ensures step { result ≡ level_step self.now.costs (models graph.now words.old (length self.now.costs))
+            (later_levels graph.now words.old self.now (point_if pointed (bits_of state.old))) }
+        ensures next { bits_of state.new ≡ slice_index_or
+            (later_levels graph.now words.old self.now (point_if pointed (bits_of state.old))) 0 (bits_of state.old) }
+        ensures state { All (λ s. s < 2) state.new }
+        ensures words { words.new ≡ words.old }
+        ensures idle { region.new.runs ≡ [] }
+        ensures free { length region.new.words ≡ length region.old.words }
+    {
+        let run = region.carve(self.room(graph).min(region.free())).unwrap();
+        let step = self.next_alone::<Brand>(
+            Blank::new(1),
+            graph,
+            words,
+            region.run_mut(&run),
+            state,
+            pointed,
+        );
+        region.release(run);
+        step
+    }
+
+    // The same, in scratch.
+    fn next_alone<L: Ledger>(
+        &self,
+        blank: Blank,
+        graph: &Graph,
+        words: &mut [u32],
+        scratch: &mut [u32],
+        state: &mut [u32],
+        pointed: bool,
+    ) -> LevelStep
+        requires name { blank.name ≡ L.name }
+        requires shares { blank.parts ≡ L.parts }
+        requires some { 0 < blank.parts }
+        requires graph { IsFor graph.now self.now }
+        requires long { length words.old ≡ graph.now.vars }
+        requires words { All (λ w. w < 3) words.old }
+        requires state { length state.old ≡ length self.now.costs }
+        requires state_words { All (λ s. s < 2) state.old }
+        requires room { step_words graph.now self.now ≤ length scratch.old }
+        ensures step { result ≡ level_step self.now.costs (models graph.now words.old (length self.now.costs))
+            (later_levels graph.now words.old self.now (point_if pointed (bits_of state.old))) }
+        ensures next { bits_of state.new ≡ slice_index_or
+            (later_levels graph.now words.old self.now (point_if pointed (bits_of state.old))) 0 (bits_of state.old) }
+        ensures state { All (λ s. s < 2) state.new }
+        ensures words { words.new ≡ words.old }
+    {
+        self.next_in(
+            graph,
+            words,
+            scratch,
+            state,
+            pointed,
+            &mut Steps::<L>::new(blank),
+        )
+    }
+
+    /// What [`next`](Levels::next) answers, worked out in words that are lent for it, whatever they hold. The passes over the graph
+    /// are counted, and the one sweep from the root down is not. As it is written, the passes skip each node through which every
+    /// derivation of the graph costs more in open parts than what is listed.
+    pub fn next_in<L: Ledger>(
         &self,
         graph: &Graph,
         words: &mut [u32],
@@ -141,7 +224,8 @@ impl Levels {
         requires words { All (λ w. w < 3) words.old }
         requires state { length state.old ≡ length self.now.costs }
         requires state_words { All (λ s. s < 2) state.old }
-        requires room { length scratch.old ≡ length self.now.costs + length graph.now.nodes + (length graph.now.nodes + 2) * (2 * cost_words self.now.top) }
+        requires room { step_words graph.now self.now ≤ length scratch.old }
+
         ensures step { result ≡ level_step self.now.costs (models graph.now words.old (length self.now.costs))
             (later_levels graph.now words.old self.now (point_if pointed (bits_of state.old))) }
         ensures next { bits_of state.new ≡ slice_index_or
@@ -149,8 +233,9 @@ impl Levels {
         ensures state { All (λ s. s < 2) state.new }
         ensures words { words.new ≡ words.old }
 
-        // How many passes are made at most.
-        ensures steps { (search : ℕ) → AreEnough (length self.now.costs) self.now.top search → steps.new ≤ steps.old
+        // How many passes are made at most, where there is room for the fast way.
+        ensures steps { fast_words graph.now self.now ≤ length scratch.old
+            → (search : ℕ) → AreEnough (length self.now.costs) self.now.top search → steps.new ≤ steps.old
             + most_passes search (point_if pointed (bits_of state.old)) (bits_of state.new) }
     {
         let (saved, rest) = scratch.split_at_mut(self.costs().len());

@@ -17,3 +17,4 @@ mod states;
 
 pub use bits::level_bits;
 pub use levels::{LevelStep, Levels, TOP_LIMIT};
+pub use std::alloc::AllocError as Memory;

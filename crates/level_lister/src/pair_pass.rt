@@ -1,4 +1,4 @@
-//! One pass over the nodes, which brings two words for each, where only costs below 32 are listed.
+//! One pass over the nodes, which brings two words for each, if only costs below 32 are listed.
 ghost use Rattle.std.specs.Prelude.{◌≡◌, ℕ, ◌+◌, ◌*◌, ◌<◌, ◌≤◌, Bool, true, false, ◌&&◌, List, length, slice_index, All, ◌==◌};
 ghost use Rattle.state_rules.specs.Assignments.{Assignment};
 ghost use Rattle.state_rules.specs.Bits.{same_bit, has_bit};

@@ -1,13 +1,13 @@
-//! Two words for a node, where few costs are listed: which costs it can have, and at which of them a part of a group is faulty.
+//! Two words for a node, if few costs are listed: which costs it can have, and at which of them a part of a group is faulty.
 ghost use Rattle.std.specs.Prelude.{◌≡◌, ℕ, ◌+◌, ◌*◌, ◌<◌, ◌≤◌, Bool, false, ◌&&◌, ◌||◌, List, ◌==◌};
 ghost use Rattle.state_rules.specs.Assignments.{Assignment};
 ghost use Rattle.state_rules.specs.Bits.{has_bit};
 ghost use Rattle.level_lister.specs.inner.Pairs.{IsSpread, Tells};
 
-/// How many numbers a word tells.
+/// How many numbers a word holds.
 const BITS: u32 = 32;
 
-/// What is told of a node: by the first word its costs, and by the second one at which of them a part of each group is faulty.
+/// What is known of a node: the first word has its costs, and the second one at which of them a part of each group is faulty.
 #[derive(Clone, Copy, Debug)]
 pub(crate) struct Pair {
     pub(crate) costs: u32,

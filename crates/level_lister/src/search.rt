@@ -1,8 +1,8 @@
 //! The search for the next state.
 ghost use Rattle.std.specs.Prelude.{◌≡◌, ℕ, ◌+◌, ◌*◌, ◌<◌, ◌≤◌, length, All, Some, MatchOption, slice_index};
 ghost use Rattle.conditioner.specs.Words.{bits_of};
-ghost use Rattle.minimiser.specs.Listing.{fault_count};
-ghost use Rattle.minimiser.specs.inner.Fixing.{fixed_bits};
+ghost use Rattle.diagnosis_lister.specs.Listing.{fault_count};
+ghost use Rattle.diagnosis_lister.specs.inner.Fixing.{fixed_bits};
 ghost use Rattle.level_lister.specs.Listing.{IsFor, cost_words, point_if};
 ghost use Rattle.level_lister.specs.Passes.{AreEnough, fixing_passes, point_faults};
 ghost use Rattle.level_lister.specs.inner.Searching.{FindsFirst, FindsNext};
@@ -40,11 +40,12 @@ impl Search<'_> {
         requires enough { IsEnough self.now.graph.now self.now.skips.now words.old self.now.levels.now.costs self.now.levels.now.top }
         requires saved { length saved.now ≡ length self.now.levels.now.costs }
         requires same { (k : ℕ) → k < length self.now.levels.now.costs → slice_index saved.now k ≡ slice_index words.old k }
-        requires work { length work.old ≡ (length self.now.graph.now.nodes + 2) * (2 * cost_words self.now.levels.now.top) }
+        requires work { (length self.now.graph.now.nodes + 2) * cost_words self.now.levels.now.top ≤ length work.old }
         requires state { length state.now ≡ length self.now.levels.now.costs }
         ensures found { FindsNext self.now.graph.now words.old self.now.levels.now (point_if pointed (bits_of state.now)) words.new result }
         ensures steps { MatchOption result (steps.new ≤ steps.old + (point_faults (point_if pointed (bits_of state.now)) + 1))
-            (λ _. (search : ℕ) → AreEnough (length self.now.levels.now.costs) self.now.levels.now.top search → steps.new ≤ steps.old
+            (λ _. (length self.now.graph.now.nodes + 2) * (2 * cost_words self.now.levels.now.top) ≤ length work.old
+            → (search : ℕ) → AreEnough (length self.now.levels.now.costs) self.now.levels.now.top search → steps.new ≤ steps.old
             + (point_faults (point_if pointed (bits_of state.now)) + 1
             + fixing_passes search (fixed_bits (length self.now.levels.now.costs) words.new))) }
     {
@@ -69,11 +70,12 @@ impl Search<'_> {
         requires enough { IsEnough self.now.graph.now self.now.skips.now words.old self.now.levels.now.costs self.now.levels.now.top }
         requires saved { length saved.now ≡ length self.now.levels.now.costs }
         requires same { (k : ℕ) → k < length self.now.levels.now.costs → slice_index saved.now k ≡ slice_index words.old k }
-        requires work { length work.old ≡ (length self.now.graph.now.nodes + 2) * (2 * cost_words self.now.levels.now.top) }
+        requires work { (length self.now.graph.now.nodes + 2) * cost_words self.now.levels.now.top ≤ length work.old }
         requires state { length state.now ≡ length self.now.levels.now.costs }
         ensures found { FindsNext self.now.graph.now words.old self.now.levels.now (Some (bits_of state.now)) words.new result }
         ensures steps { MatchOption result (steps.new ≤ steps.old + (fault_count (bits_of state.now) + 1))
-            (λ _. (search : ℕ) → AreEnough (length self.now.levels.now.costs) self.now.levels.now.top search → steps.new ≤ steps.old
+            (λ _. (length self.now.graph.now.nodes + 2) * (2 * cost_words self.now.levels.now.top) ≤ length work.old
+            → (search : ℕ) → AreEnough (length self.now.levels.now.costs) self.now.levels.now.top search → steps.new ≤ steps.old
             + (fault_count (bits_of state.now) + 1
             + fixing_passes search (fixed_bits (length self.now.levels.now.costs) words.new))) }
     {
@@ -102,10 +104,11 @@ impl Search<'_> {
         requires long { length words.old ≡ self.now.graph.now.vars }
         requires words { All (λ w. w < 3) words.old }
         requires enough { IsEnough self.now.graph.now self.now.skips.now words.old self.now.levels.now.costs self.now.levels.now.top }
-        requires work { length work.old ≡ (length self.now.graph.now.nodes + 2) * (2 * cost_words self.now.levels.now.top) }
+        requires work { (length self.now.graph.now.nodes + 2) * cost_words self.now.levels.now.top ≤ length work.old }
         ensures found { FindsFirst self.now.graph.now words.old self.now.levels.now from words.new result }
         ensures steps { MatchOption result (steps.new ≤ steps.old + 1)
-            (λ _. (search : ℕ) → AreEnough (length self.now.levels.now.costs) self.now.levels.now.top search → steps.new ≤ steps.old
+            (λ _. (length self.now.graph.now.nodes + 2) * (2 * cost_words self.now.levels.now.top) ≤ length work.old
+            → (search : ℕ) → AreEnough (length self.now.levels.now.costs) self.now.levels.now.top search → steps.new ≤ steps.old
             + (1 + fixing_passes search (fixed_bits (length self.now.levels.now.costs) words.new))) }
     {
         match self.next_cost(words, work, from, steps) {

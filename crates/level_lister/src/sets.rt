@@ -4,11 +4,10 @@ ghost use Rattle.std.specs.Int.{bit_at};
 ghost use Rattle.part_sets.specs.Numbers.{has_number};
 ghost use Rattle.level_lister.specs.inner.CostSets.{has_shifted, word_before, AreSums};
 
-use crate::levels::TOP_LIMIT;
 use part_sets::{WIDTH, clear, has_number};
 
-/// A set has at most so many words: those for the costs up to the greatest that is ever listed.
-pub const SET_LIMIT: usize = TOP_LIMIT as usize / WIDTH + 1;
+/// A set has at most so many words: those for costs below 2^31.
+pub const SET_LIMIT: usize = 67_108_864;
 
 // Adds to a set the numbers of another, each of them greater by so much.
 pub(crate) fn add_shifted(set: &mut [u32], other: &[u32], more: usize)

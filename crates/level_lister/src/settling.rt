@@ -1,8 +1,8 @@
 //! Parts that are fixed one after the other, so that one state of a cost is left.
-ghost use Rattle.std.specs.Prelude.{◌≡◌, ◌≢◌, ◌↔◌, ℕ, ◌+◌, ◌*◌, ◌<◌, ◌≤◌, length, All, IsTrue, MatchOption, slice_index};
+ghost use Rattle.std.specs.Prelude.{◌≡◌, ◌≢◌, ◌↔◌, ℕ, ◌+◌, ◌*◌, ◌<◌, ◌≤◌, true, length, All, IsTrue, MatchOption, slice_index};
 ghost use Rattle.conditioner.specs.Words.{bits_of};
-ghost use Rattle.minimiser.specs.Listing.{fault_count};
-ghost use Rattle.minimiser.specs.inner.Fixing.{IsFirst, fixed_bits};
+ghost use Rattle.diagnosis_lister.specs.Listing.{fault_count};
+ghost use Rattle.diagnosis_lister.specs.inner.Fixing.{IsFirst, fixed_bits};
 ghost use Rattle.level_lister.specs.Listing.{cost_words};
 ghost use Rattle.level_lister.specs.Passes.{AreEnough, fixing_passes};
 ghost use Rattle.level_lister.specs.inner.Searching.{OfCost, HasCost, NoneAfter, Leaves};
@@ -11,7 +11,7 @@ ghost use Rattle.level_lister.specs.inner.Skips.{IsEnough};
 use crate::pairs::{Groups, has_bit};
 use crate::search::Search;
 use crate::states::follow;
-use conditioner::{fix_ok, is_false, is_faulty};
+use conditioner::{fix_ok, is_false, is_faulty, is_open};
 use minimiser::Steps;
 use part_sets::has_number;
 use std::sync::ledger::Ledger;
@@ -23,6 +23,14 @@ const NO_GROUPS: Groups = Groups {
 };
 
 impl Search<'_> {
+    // Whether two words a node are there, where two words tell all that is listed of a node.
+    fn has_pairs(&self, work: &[u32]) -> bool
+        ensures few { result ≡ true → self.now.levels.now.top < 32 }
+        ensures room { result ≡ true → 2 * length self.now.graph.now.nodes ≤ length work.now }
+    {
+        self.levels.top() < 32 && 2 * self.graph.len() as usize <= work.len()
+    }
+
     // Whether some state that agrees with the words has this cost. It takes one pass.
     fn reaches<L: Ledger>(
         &self,
@@ -34,13 +42,13 @@ impl Search<'_> {
         requires long { length words.now ≡ self.now.graph.now.vars }
         requires words { All (λ w. w < 3) words.now }
         requires enough { IsEnough self.now.graph.now self.now.skips.now words.now self.now.levels.now.costs self.now.levels.now.top }
-        requires work { length work.old ≡ (length self.now.graph.now.nodes + 2) * (2 * cost_words self.now.levels.now.top) }
+        requires work { (length self.now.graph.now.nodes + 2) * cost_words self.now.levels.now.top ≤ length work.old }
         requires cost { cost ≤ self.now.levels.now.top }
         ensures reached { IsTrue result ↔ HasCost self.now.graph.now words.now self.now.levels.now.costs cost }
         ensures steps { steps.new ≡ steps.old + 1 }
     {
         steps.tick();
-        if self.levels.top() < 32 {
+        if self.has_pairs(work) {
             self.reaches_by_pairs(words, work, cost)
         } else {
             self.reaches_by_sets(words, work, cost)
@@ -89,7 +97,7 @@ impl Search<'_> {
         requires long { length words.now ≡ self.now.graph.now.vars }
         requires words { All (λ w. w < 3) words.now }
         requires enough { IsEnough self.now.graph.now self.now.skips.now words.now self.now.levels.now.costs self.now.levels.now.top }
-        requires work { length work.old ≡ (length self.now.graph.now.nodes + 2) * (2 * cost_words self.now.levels.now.top) }
+        requires work { (length self.now.graph.now.nodes + 2) * cost_words self.now.levels.now.top ≤ length work.old }
         ensures next { MatchOption result
             ((c : ℕ) → from ≤ c → c ≤ self.now.levels.now.top → HasCost self.now.graph.now words.now self.now.levels.now.costs c → ⊥)
             (λ cost. (from ≤ cost) × (cost ≤ self.now.levels.now.top) × HasCost self.now.graph.now words.now self.now.levels.now.costs cost
@@ -97,7 +105,7 @@ impl Search<'_> {
         ensures steps { steps.new ≡ steps.old + 1 }
     {
         steps.tick();
-        if self.levels.top() < 32 {
+        if self.has_pairs(work) {
             self.next_by_pairs(words, work, from)
         } else {
             self.next_by_sets(words, work, from)
@@ -149,9 +157,42 @@ impl Search<'_> {
         None
     }
 
-    // Fixes each open part from one on, so that only the first of the states of this cost is left that agree with the words: the next
-    // part that can be faulty is searched, and those before it are ok.
+    // Fixes each open part from one on, so that only the first of the states of this cost is left that agree with the words.
     pub(crate) fn settle<L: Ledger>(
+        &self,
+        words: &mut [u32],
+        work: &mut [u32],
+        cost: u32,
+        from: usize,
+        steps: &mut Steps<L>,
+    )
+        requires long { length words.old ≡ self.now.graph.now.vars }
+        requires words { All (λ w. w < 3) words.old }
+        requires enough { IsEnough self.now.graph.now self.now.skips.now words.old self.now.levels.now.costs self.now.levels.now.top }
+        requires work { (length self.now.graph.now.nodes + 2) * cost_words self.now.levels.now.top ≤ length work.old }
+        requires cost { cost ≤ self.now.levels.now.top }
+        requires from { from ≤ length self.now.levels.now.costs }
+        requires front { (k : ℕ) → k < from → slice_index words.old k ≢ 0 }
+        requires some { HasCost self.now.graph.now words.old self.now.levels.now.costs cost }
+        ensures others { (k : ℕ) → length self.now.levels.now.costs ≤ k → slice_index words.new k ≡ slice_index words.old k }
+        ensures words { All (λ w. w < 3) words.new }
+        ensures first { IsFirst (OfCost self.now.graph.now words.old self.now.levels.now.costs cost)
+            (fixed_bits (length self.now.levels.now.costs) words.new) }
+        ensures steps { (length self.now.graph.now.nodes + 2) * (2 * cost_words self.now.levels.now.top) ≤ length work.old
+            → (search : ℕ) → AreEnough (length self.now.levels.now.costs) self.now.levels.now.top search → steps.new ≤ steps.old
+            + fixing_passes search (fixed_bits (length self.now.levels.now.costs) words.new) }
+    {
+        let wide = (self.graph.len() as usize + 2) * (2 * self.levels.size());
+        if work.len() < wide {
+            self.settle_by_parts(words, work, cost, from, steps);
+        } else {
+            let (work, _) = work.split_at_mut(wide);
+            self.settle_by_groups(words, work, cost, from, steps);
+        }
+    }
+
+    // The same: the next part that can be faulty is searched, and those before it are ok.
+    fn settle_by_groups<L: Ledger>(
         &self,
         words: &mut [u32],
         work: &mut [u32],
@@ -183,6 +224,38 @@ impl Search<'_> {
         fix_ok(words, from, self.levels.costs().len());
     }
 
+    // The same, for less room: each open part is fixed to faulty where that leaves a state, and else to ok. It takes a pass for each.
+    fn settle_by_parts<L: Ledger>(
+        &self,
+        words: &mut [u32],
+        work: &mut [u32],
+        cost: u32,
+        from: usize,
+        steps: &mut Steps<L>,
+    )
+        requires long { length words.old ≡ self.now.graph.now.vars }
+        requires words { All (λ w. w < 3) words.old }
+        requires enough { IsEnough self.now.graph.now self.now.skips.now words.old self.now.levels.now.costs self.now.levels.now.top }
+        requires work { (length self.now.graph.now.nodes + 2) * cost_words self.now.levels.now.top ≤ length work.old }
+        requires cost { cost ≤ self.now.levels.now.top }
+        requires from { from ≤ length self.now.levels.now.costs }
+        requires front { (k : ℕ) → k < from → slice_index words.old k ≢ 0 }
+        requires some { HasCost self.now.graph.now words.old self.now.levels.now.costs cost }
+        ensures others { (k : ℕ) → length self.now.levels.now.costs ≤ k → slice_index words.new k ≡ slice_index words.old k }
+        ensures words { All (λ w. w < 3) words.new }
+        ensures first { IsFirst (OfCost self.now.graph.now words.old self.now.levels.now.costs cost)
+            (fixed_bits (length self.now.levels.now.costs) words.new) }
+    {
+        for part in from..self.levels.costs().len() {
+            if is_open(words[part]) {
+                words[part] = 2;
+                if !self.reaches(words, work, cost, steps) {
+                    words[part] = 1;
+                }
+            }
+        }
+    }
+
     // The last part at which a later state of this cost can leave a state: the same before it, ok where the state has faulty. The
     // words are then fixed so far. It takes a pass for each part that is faulty in the state, at most.
     pub(crate) fn leave<L: Ledger>(
@@ -199,7 +272,7 @@ impl Search<'_> {
         requires enough { IsEnough self.now.graph.now self.now.skips.now words.old self.now.levels.now.costs self.now.levels.now.top }
         requires saved { length saved.now ≡ length self.now.levels.now.costs }
         requires same { (k : ℕ) → k < length self.now.levels.now.costs → slice_index saved.now k ≡ slice_index words.old k }
-        requires work { length work.old ≡ (length self.now.graph.now.nodes + 2) * (2 * cost_words self.now.levels.now.top) }
+        requires work { (length self.now.graph.now.nodes + 2) * cost_words self.now.levels.now.top ≤ length work.old }
         requires state { length state.now ≡ length self.now.levels.now.costs }
         requires cost { cost ≤ self.now.levels.now.top }
         ensures words { All (λ w. w < 3) words.new }

@@ -1,11 +1,11 @@
 //! Nodes that no state of a listed cost needs.
-ghost use Rattle.std.specs.Prelude.{◌≡◌, ◌≢◌, ℕ, ◌+◌, ◌<◌, ◌≤◌, [], true, false, length, All, slice_index};
+ghost use Rattle.std.specs.Prelude.{◌≡◌, ◌≢◌, ℕ, ◌+◌, ◌^◌, ◌<◌, ◌≤◌, [], true, false, length, All, slice_index};
 ghost use Rattle.state_rules.specs.Graphs.{node_at};
 ghost use Rattle.conditioner.specs.Models.{models};
 ghost use Rattle.level_lister.specs.Listing.{IsFor};
 ghost use Rattle.level_lister.specs.inner.Skips.{IsEnough, AreRests, others_cost, rest_below, skip_of};
 
-use crate::levels::{Levels, TOP_LIMIT};
+use crate::levels::Levels;
 use minimiser::{Steps, least};
 use node_store::Graph;
 use state_rules::NodeKind;
@@ -92,7 +92,7 @@ fn others_cost(what: NodeKind, own: u32, kid: u32) -> u32
 // Makes a mark of each rest: of the nodes that cost more than so much with it.
 fn mark_dear(least: &[u32], top: u32, rests: &mut [u32])
     requires least { length least.now ≡ length rests.old }
-    requires top { top ≤ TOP_LIMIT }
+    requires top { top < 2 ^ 31 }
     ensures { (k : ℕ) → k < length rests.old
         → slice_index rests.new k ≡ skip_of top (slice_index least.now k) (slice_index rests.old k) }
 {

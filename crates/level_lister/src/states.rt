@@ -3,7 +3,7 @@ ghost use Rattle.std.specs.Prelude.{◌≡◌, ◌+◌, ◌<◌, ◌≤◌, ◌+
 ghost use Rattle.state_rules.specs.Ranking.{cost};
 ghost use Rattle.conditioner.specs.Models.{total_cost};
 ghost use Rattle.conditioner.specs.Words.{bits_of};
-ghost use Rattle.minimiser.specs.inner.Fixing.{Follows, fixed_bits};
+ghost use Rattle.diagnosis_lister.specs.inner.Fixing.{Follows, fixed_bits};
 
 use conditioner::{is_false, is_faulty, is_open, word_of_known};
 use minimiser::TOTAL_LIMIT;

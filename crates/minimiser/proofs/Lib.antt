@@ -8,9 +8,4 @@ pub mod Models
 pub mod Derivations
 pub mod Valued
 pub mod Sweeping
-pub mod Faults
-pub mod OpenMarks
-pub mod Fixing
-pub mod Points
-pub mod Answering
 mod Examples

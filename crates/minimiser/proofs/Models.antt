@@ -12,7 +12,7 @@ use Rattle.conditioner.specs.Models.{has_model, fits_words, models, least_under,
 use Rattle.conditioner.proofs.FittingWords.{fits_words-at, fits_words-from}
 use Rattle.minimiser.proofs.Costs.{and_left, and_right}
 use Rattle.minimiser.proofs.Whole.{from_bounds}
-use Rattle.minimiser.specs.LeastStates.{ModelWithin}
+use Rattle.minimiser.specs.LeastStates.{ModelWithin, LeastState}
 
 -- a bit that agrees with a word
 abbrev pub Agree : ℕ → Bool → Type 0
@@ -142,3 +142,13 @@ module _ (graph : Graph) (words costs : List ℕ) (most : ℕ) (e : LeastIs grap
       let a = In-filter is_low h (models graph words (length costs)) m in
       let b = In-filter (has_model graph (fits_words words) (length costs)) h (states (length costs)) a.0 in
       record { long = bits_length (length costs) h b.0; model = b.1; cheap = low-out h a.1 }
+
+-- ---- states of least cost
+
+pub least-passes : (graph : Graph) (words costs : List ℕ) (most : ℕ) (h : List Bool) → LeastIs graph costs words most → LeastState graph words costs h → ModelWithin graph words costs most h
+least-passes graph words costs most h e l = subst (λ n. ModelWithin graph words costs n h) (some-same l.most most (sym l.least_is ∙ e)) l.passes where
+  some-same : (m n : ℕ) → Some m ≡ Some n → m ≡ n
+  some-same m n q = cc
+
+pub passes-least : (graph : Graph) (words costs : List ℕ) (most : ℕ) (h : List Bool) → LeastIs graph costs words most → ModelWithin graph words costs most h → LeastState graph words costs h
+passes-least graph words costs most h e p = record { most = most; least_is = e; passes = p }

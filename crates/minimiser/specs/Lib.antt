@@ -1,5 +1,4 @@
 pub mod Costs
 pub mod Stored
 pub mod LeastStates
-pub mod Listing
 pub mod inner

@@ -1,5 +1,3 @@
 -- What only private contracts cite.
 pub mod Held
 pub mod Swept
-pub mod OpenMarks
-pub mod Fixing

@@ -14,13 +14,13 @@ use std::sync::ledger::Ledger;
 /// All parts together cost less than this, so that a cost leaves the highest bit of its number free.
 pub const TOTAL_LIMIT: u32 = 2_147_483_647;
 
-/// What stands for no cost.
+/// What means no cost.
 pub const NONE: u32 = u32::MAX;
 
 /// The least cost of a health state that some bits of the other variables make a model: they agree with the words, and the graph
-/// is true under them. `None` where there is none.
+/// is true under them. `None` if there is none.
 ///
-/// The parts are the first variables, and each has a cost. One that is fixed to faulty counts also where the graph does not mention
+/// The parts are the first variables, and each has a cost. One that is fixed to faulty counts also if the graph does not mention
 /// it, and one that is open and not mentioned counts as ok. One call is one pass over the nodes, which leaves the least cost at each
 /// in `values`, for [`first_suspect`](crate::first_suspect) and [`find_suspects`](crate::find_suspects).
 pub fn least<L: Ledger>(

@@ -14,7 +14,7 @@ const MARK: u32 = TOTAL_LIMIT + 1;
 
 /// The first open part that is faulty in some state of least cost, parts being counted from 0.
 ///
-/// The values are those that [`least`](crate::least) left where some state agrees with the words. They are spoilt. One sweep over
+/// The values are those that [`least`](crate::least) left if some state agrees with the words. They are spoilt. One sweep over
 /// the nodes, from the root down, and one look at them.
 pub fn first_suspect(graph: &Graph, words: &[u32], costs: &[u32], values: &mut [u32]) -> Option<u32>
     requires long { length words.now ≡ graph.now.vars }

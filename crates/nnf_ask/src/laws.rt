@@ -12,9 +12,9 @@ ghost use Rattle.session_rules.specs.Spelling.{Spelled};
 ghost use Rattle.nnf_ask.specs.Asking.{asked_system};
 ghost use Rattle.nnf_ask.specs.Alike.{AreAlike, case_among};
 
-/// A text that spells the whole graph of a device, every failure of which costs 1, may be asked for the device. Asked with as many
+/// A text that spells the whole graph of a device may be asked for the device, if every failure costs 1. Asked with as many
 /// parts as the device has, its graph has for each case of the device the same consistent states, the same least cost, the same
-/// diagnoses, and the same of these behind any point, position by position.
+/// diagnoses, and the same of these after any point, position by position.
 ///
 /// The variables are the parts, then the wires, then those of which the device knows nothing and a case says nothing.
 pub fn answers_for_device()

@@ -1,4 +1,4 @@
-//! Questions to a graph of which no device is known: the names and the costs of its variables, and the law that a device's graph
+//! Questions to a graph whose device is not known: the names and the costs of its variables, and the law that a device's graph
 //! answers for the device.
 #![tactic(auto)]
 
@@ -7,3 +7,4 @@ mod names;
 
 pub use laws::answers_for_device;
 pub use names::{AskError, ask_costs, ask_names};
+pub use std::alloc::AllocError as Memory;

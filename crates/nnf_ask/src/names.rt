@@ -4,34 +4,35 @@ ghost use Rattle.text_rules.specs.Names.{names_rise};
 ghost use Rattle.state_rules.specs.Ranking.{plain_costs};
 ghost use Rattle.conditioner.specs.Models.{total_cost};
 ghost use Rattle.nnf_ask.specs.Asking.{five_digits, variable_names, asked_names, told};
-ghost use Rattle.nnf_ask.specs.declared.names.AskError.TheVariants.{Memory};
+ghost use Rattle.nnf_ask.specs.declared.names.AskError.TheVariants as fault;
 
+use crate::Memory;
 use device_model::{Name, PART_LIMIT, WIRE_LIMIT};
-use std::alloc::{AllocError, Global};
+use std::alloc::Global;
 
 /// Why the variables of a graph have no names.
 #[derive(Clone, Copy, Debug, PartialEq, Eq)]
 pub enum AskError {
     /// There are to be more parts than variables.
-    Health { health: u32, vars: u32 },
+    Health { health: u64, vars: u64 },
     /// More than 16,384 variables are left for wires; the number of them.
-    Wires { count: u32 },
+    Wires { count: u64 },
     /// There was no memory.
     Memory,
 }
 
-impl From<AllocError> for AskError {
-    ghost from_gives = { λ _ e. e ≡ Memory };
+impl From<Memory> for AskError {
+    ghost from_gives = { λ _ e. e ≡ fault.Memory };
 
-    fn from(_: AllocError) -> Self {
+    fn from(_: Memory) -> Self {
         AskError::Memory
     }
 }
 
-/// The names of a graph's variables, the first of which are so many parts, and the others wires: their numbers in five digits.
+/// The names of a graph's variables, first so many parts and then wires: their numbers in five digits.
 /// The names of the parts come first, then those of the wires.
 ///
-/// The first reason of `AskError` that applies is the answer, in the order in which they stand there.
+/// The first reason of `AskError` that applies is the answer, in their order there.
 pub fn ask_names(alloc: Global, health: u32, vars: u32) -> Result<(Vec<Name>, Vec<Name>), AskError>
     requires few { health ≤ PART_LIMIT }
     ensures names { Fulfils (λ names. (names.0.items, names.1.items)) told (asked_names health vars) result }
@@ -42,11 +43,16 @@ pub fn ask_names(alloc: Global, health: u32, vars: u32) -> Result<(Vec<Name>, Ve
     ensures all { IfOk result (λ names. length names.0.items + length names.1.items ≡ vars) }
 {
     if health > vars {
-        return Err(AskError::Health { health, vars });
+        return Err(AskError::Health {
+            health: u64::from(health),
+            vars: u64::from(vars),
+        });
     }
     let count = vars - health;
     if count as usize > WIRE_LIMIT {
-        return Err(AskError::Wires { count });
+        return Err(AskError::Wires {
+            count: u64::from(count),
+        });
     }
     let parts = variable_names(alloc, 1, health)?;
     let wires = variable_names(alloc, health + 1, count)?;
@@ -68,7 +74,7 @@ fn five_digits(number: u32) -> [u8; 5]
 }
 
 // The names of so many variables from one on.
-fn variable_names(alloc: Global, first: u32, count: u32) -> Result<Vec<Name>, AllocError>
+fn variable_names(alloc: Global, first: u32, count: u32) -> Result<Vec<Name>, Memory>
     requires { first + count ≤ 100000 }
     ensures names { IfOk result (λ names. names.items ≡ variable_names first count) }
     ensures rise { IfOk result (λ names. names_rise names.items ≡ true) }
@@ -82,7 +88,7 @@ fn variable_names(alloc: Global, first: u32, count: u32) -> Result<Vec<Name>, Al
 }
 
 /// What the failure of each part costs: 1.
-pub fn ask_costs(alloc: Global, health: u32) -> Result<Vec<u32>, AllocError>
+pub fn ask_costs(alloc: Global, health: u32) -> Result<Vec<u32>, Memory>
     requires few { health ≤ PART_LIMIT }
     ensures costs { IfOk result (λ costs. costs.items ≡ plain_costs health) }
     ensures many { IfOk result (λ costs. length costs.items ≡ health) }

@@ -5,7 +5,7 @@ ghost use Rattle.diag_edge.specs.Edge.{HasCause};
 
 use diag_edge::{Chunk, Sink, WriteFailed};
 
-/// Adds how many numbers there are from a first one on and each of them, each behind a space, and a line feed.
+/// Adds how many numbers there are from a first one on and each of them, each after a space, and a line feed.
 pub fn add_counted_range<O: Sink>(
     chunk: &mut Chunk,
     out: &mut O,

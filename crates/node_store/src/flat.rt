@@ -1,13 +1,14 @@
 ghost use Rattle.std.specs.Prelude.{◌≡◌, ◌<◌, ◌↔◌, ◌++◌, [], ◌∷◌, length, IsTrue, OnOk, OnErr};
 ghost use Rattle.state_rules.specs.Graphs.{node_at, edges};
 
+use crate::Memory;
 use crate::walk::Walk;
 use flat_lists::FlatLists;
 use state_rules::NodeKind;
-use std::alloc::{AllocError, Global};
+use std::alloc::Global;
 use std::marker::Model;
 
-/// Nodes in order, whatever they are. Their children stand one behind the other in one vector.
+/// Nodes in order, whatever they are. Their children are one after the other in one vector.
 #[derive(Debug, Drop)]
 pub struct Nodes {
     kinds: Vec<NodeKind>,
@@ -83,7 +84,7 @@ impl Nodes {
     }
 
     /// Takes memory for so many more nodes, which have so many children in all.
-    pub fn reserve(&mut self, nodes: usize, kids: usize) -> Result<(), AllocError>
+    pub fn reserve(&mut self, nodes: usize, kids: usize) -> Result<(), Memory>
         ensures { self.new ≡ self.old }
     {
         self.kinds.reserve(nodes)?;
@@ -98,8 +99,8 @@ impl Nodes {
         self.kids.clear();
     }
 
-    /// Adds a node behind the others.
-    pub fn push(&mut self, what: NodeKind, kids: &[u32]) -> Result<(), AllocError>
+    /// Adds a node after the others.
+    pub fn push(&mut self, what: NodeKind, kids: &[u32]) -> Result<(), Memory>
         ensures ok { OnOk result (self.new ≡ self.old ++ record { what = what; kids = kids.now } ∷ []) }
         ensures err { OnErr result (self.new ≡ self.old) }
     {

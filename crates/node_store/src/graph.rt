@@ -1,10 +1,11 @@
 ghost use Rattle.std.specs.Prelude.{◌≡◌, ℕ, ◌<◌, ◌++◌, [], ◌∷◌, true, length, IfOk, IfErr, OnOk, OnErr};
 ghost use Rattle.state_rules.specs.Graphs.{node_at, mentions, apart_at, node_fits, IsGraph, edges};
 
+use crate::Memory;
 use crate::flat::Nodes;
 use crate::walk::Walk;
 use state_rules::NodeKind;
-use std::alloc::{AllocError, Global};
+use std::alloc::Global;
 use std::marker::Model;
 
 /// A builder takes at most so many nodes.
@@ -38,7 +39,7 @@ impl Graph {
         Graph { nodes, vars }
     }
 
-    /// The nodes, of which other graphs can be made.
+    /// The nodes, to make other graphs from.
     pub fn into_nodes(self) -> Nodes
         ensures { result ≡ self.nodes }
     {
@@ -114,36 +115,36 @@ impl Model for GraphBuilder {
 
 impl GraphBuilder {
     /// A builder with no node.
-    pub fn new(alloc: Global, vars: u32) -> GraphBuilder
-        ensures { result ≡ record { nodes = []; vars = vars } }
+    pub fn new(alloc: Global, vars: u32) -> Result<GraphBuilder, Memory>
+        ensures { IfOk result (λ builder. builder ≡ record { nodes = []; vars = vars }) }
     {
-        GraphBuilder {
+        Ok(GraphBuilder {
             nodes: Nodes::new(alloc),
             vars,
-        }
+        })
     }
 
     /// Adds a node, and gives its number.
     ///
     /// A literal has no child, and its variable is 1 to `vars`. The children of an And or an Or are nodes that are there, fewer
     /// than `CHILD_LIMIT`, and those of an And share no variable.
-    pub fn push(&mut self, what: NodeKind, kids: &[u32]) -> Result<u32, AllocError>
+    pub fn push(&mut self, kind: NodeKind, kids: &[u32]) -> Result<u32, Memory>
         requires fits { node_fits self.old.vars (length self.old.nodes)
-            (record { what = what; kids = kids.now }) ≡ true }
-        requires apart { (v : ℕ) → apart_at (mentions self.old.nodes v) what kids.now ≡ true }
+            (record { what = kind; kids = kids.now }) ≡ true }
+        requires apart { (v : ℕ) → apart_at (mentions self.old.nodes v) kind kids.now ≡ true }
         requires few { length self.old.nodes < NODE_LIMIT }
 
         ensures number { IfOk result (λ number. number ≡ length self.old.nodes) }
         ensures ok { OnOk result (self.new
-            ≡ record self.old { nodes = self.old.nodes ++ record { what = what; kids = kids.now } ∷ [] }) }
+            ≡ record self.old { nodes = self.old.nodes ++ record { what = kind; kids = kids.now } ∷ [] }) }
         ensures err { OnErr result (self.new ≡ self.old) }
     {
         let number = self.nodes.len() as u32;
-        self.nodes.push(what, kids)?;
+        self.nodes.push(kind, kids)?;
         Ok(number)
     }
 
-    /// The graph of these nodes; or the builder, exactly where it has none.
+    /// The graph of these nodes; or the builder, exactly if it has none.
     pub fn finish(self) -> Result<Graph, GraphBuilder>
         ensures ok { IfOk result (λ graph. graph ≡ self) }
         ensures some { OnOk result (0 < length self.nodes) }

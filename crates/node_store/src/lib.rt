@@ -9,5 +9,7 @@ mod walk;
 
 pub use flat::Nodes;
 pub use graph::{Graph, GraphBuilder, NODE_LIMIT};
+pub use state_rules::NodeKind;
+pub use std::alloc::AllocError as Memory;
 pub use store::{MADE_LIMIT, Store, VARIABLE_LIMIT};
 pub use walk::{NodeRef, Walk};

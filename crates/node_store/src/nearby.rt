@@ -1,4 +1,4 @@
-//! Hashes that keep nodes near each other in a table where their children are near each other.
+//! Hashes that keep nodes near each other in a table if their children are near each other.
 ghost use Rattle.std.specs.Prelude.{◌≡◌};
 ghost use Rattle.node_store.specs.inner.Nearby.{mixed};
 
@@ -25,7 +25,7 @@ impl BuildHasher for Nearby {
 /// Keeps the last two words that were written, and the others mixed.
 ///
 /// Of a node these words are the numbers of its children; what is not four bytes long is passed over, since nodes of the same
-/// children seldom differ by it. A table takes the group of a hash from its low bits, and tells the hashes in a group apart by its
+/// children seldom differ by it. A table takes the group of a hash from its low bits, and separates the hashes in a group by its
 /// high ones. So nodes have one group whose last children are the same but for 4 numbers, and whose other children are the same but
 /// for 64: those that are made one after the other, and few more. The groups themselves lie anywhere. Were they in the order of the
 /// children, full ones would lie side by side, and a search would walk through all of them. Nodes that share their last child are

@@ -8,13 +8,14 @@ ghost use Rattle.node_store.specs.inner.Literals.{IsNew};
 ghost use Rattle.node_store.specs.inner.Keeping.{shown};
 ghost use Rattle.node_store.specs.inner.Freezing.{AreBefore, IsBelow, IsClosed, Marks, IsCopied};
 
+use crate::Memory;
 use crate::flat::Nodes;
 use crate::graph::Graph;
 use crate::nearby::Nearby;
 use indexmap::IndexSet;
 use smallvec::SmallVec;
 use state_rules::{CHILD_LIMIT, NodeKind};
-use std::alloc::{AllocError, Global};
+use std::alloc::Global;
 use std::marker::Model;
 
 /// A store makes at most so many nodes.
@@ -33,7 +34,7 @@ struct Kept {
     kids: Kids,
 }
 
-/// Nodes that are shared: each stands once, and its number is its place.
+/// Nodes that are shared: each is there once, and its number is its place.
 #[derive(Debug, Drop)]
 pub struct Store {
     nodes: IndexSet<Kept, Nearby>,
@@ -56,7 +57,7 @@ impl Model for Store {
 
 impl Store {
     /// A store of the two literals of each variable.
-    pub fn new(alloc: Global, vars: u32) -> Result<Store, AllocError>
+    pub fn new(alloc: Global, vars: u32) -> Result<Store, Memory>
         requires { vars < VARIABLE_LIMIT }
         ensures literals { IfOk result (λ store. store
             ≡ record { nodes = literals vars; vars = vars; made = 0; handed = 0 }) }
@@ -89,9 +90,9 @@ impl Store {
         2 * (var - 1) + u32::from(!positive)
     }
 
-    /// The node that is true where all of its children are, each of which is a node of the store. No two of them, at
+    /// The node that is true if all of its children are. Each is a node of the store. No two of them, at
     /// different places, share a variable. After want of memory the store is as it was.
-    pub fn and(&mut self, kids: &[u32]) -> Result<u32, AllocError>
+    pub fn and(&mut self, kids: &[u32]) -> Result<u32, Memory>
         requires kids { All (λ k. k < length self.old.nodes) kids.now }
         requires apart { (v : ℕ) → at_most_one (map (mentions self.old.nodes v) kids.now) ≡ true }
         requires few { length kids.now < CHILD_LIMIT }
@@ -105,9 +106,9 @@ impl Store {
         self.add(NodeKind::And, kids)
     }
 
-    /// The node that is true where one of its children is, each of which is a node of the store. After want of memory the
+    /// The node that is true if one of its children is. Each is a node of the store. After want of memory the
     /// store is as it was.
-    pub fn or(&mut self, kids: &[u32]) -> Result<u32, AllocError>
+    pub fn or(&mut self, kids: &[u32]) -> Result<u32, Memory>
         requires kids { All (λ k. k < length self.old.nodes) kids.now }
         requires few { length kids.now < CHILD_LIMIT }
         requires few_made { self.old.made < MADE_LIMIT }
@@ -122,13 +123,13 @@ impl Store {
 
     /// Makes room for so many more nodes, so that the table need not grow while they come. The store is as it was, also after
     /// want of memory.
-    pub fn reserve(&mut self, room: usize) -> Result<(), AllocError>
+    pub fn reserve(&mut self, room: usize) -> Result<(), Memory>
         ensures { self.new ≡ self.old }
     {
         self.nodes.reserve(room)
     }
 
-    /// How often a node was made, also where an equal one was there.
+    /// How often a node was made, also if an equal one was there.
     pub fn made(&self) -> u64
         ensures made { result ≡ self.now.made }
         ensures valid { IsStore self.now }
@@ -143,23 +144,21 @@ impl Store {
         self.handed
     }
 
-    /// The graph of a node and of those below it, which is its root, and how often a node was made. Where there is no memory the
-    /// store comes back.
-    pub fn freeze(self, root: u32) -> Result<(Graph, u64), (Store, AllocError)>
+    /// The graph of a node and of those below it, which is its root. If there is no memory the store comes back.
+    pub fn freeze(self, root: u32) -> Result<Graph, (Store, Memory)>
         requires { root < length self.nodes }
-        ensures ok { IfOk result (λ found. IsFrozen self root found.0) }
-        ensures made { IfOk result (λ found. found.1 ≡ self.made) }
-        ensures valid { IfOk result (λ found. IsGraph found.0) }
+        ensures ok { IfOk result (λ graph. IsFrozen self root graph) }
+        ensures valid { IfOk result IsGraph }
         ensures err { IfErr result (λ e. e.0 ≡ self) }
     {
         match self.frozen(root) {
-            Ok(graph) => Ok((graph, self.made)),
+            Ok(graph) => Ok(graph),
             Err(error) => Err((self, error)),
         }
     }
 
     // The same of a store that stays.
-    fn frozen(&self, root: u32) -> Result<Graph, AllocError>
+    fn frozen(&self, root: u32) -> Result<Graph, Memory>
         requires { root < length self.now.nodes }
         ensures ok { IfOk result (λ graph. IsFrozen self.now root graph) }
         ensures valid { IfOk result IsGraph }
@@ -172,7 +171,7 @@ impl Store {
     }
 
     // Makes a node, or takes the equal one.
-    fn add(&mut self, what: NodeKind, kids: &[u32]) -> Result<u32, AllocError>
+    fn add(&mut self, what: NodeKind, kids: &[u32]) -> Result<u32, Memory>
         requires fits { node_fits self.old.vars (length self.old.nodes)
             (record { what = what; kids = kids.now }) ≡ true }
         requires apart { (v : ℕ) → apart_at (mentions self.old.nodes v) what kids.now ≡ true }
@@ -198,7 +197,7 @@ fn insert(
     nodes: &mut IndexSet<Kept, Nearby>,
     what: NodeKind,
     kids: &[u32],
-) -> Result<usize, AllocError>
+) -> Result<usize, Memory>
     ensures there { IfOk result (λ place. slice_get (map shown nodes.new.keys) place
         ≡ Some (record { what = what; kids = kids.now })) }
     ensures nodes { OnOk result (AddsAtMost (map shown nodes.old.keys)
@@ -212,7 +211,7 @@ fn insert(
 }
 
 // Children as they are kept. Most nodes have two, and then nothing is copied in a loop.
-fn kept_kids(alloc: Global, kids: &[u32]) -> Result<Kids, AllocError>
+fn kept_kids(alloc: Global, kids: &[u32]) -> Result<Kids, Memory>
     ensures { IfOk result (λ kept. kept.items ≡ kids.now) }
 {
     match kids {
@@ -227,7 +226,7 @@ fn add_literal(
     nodes: &mut IndexSet<Kept, Nearby>,
     var: u32,
     positive: bool,
-) -> Result<(), AllocError>
+) -> Result<(), Memory>
     requires { IsNew (map shown nodes.old.keys) (literal_node var positive) }
     ensures nodes { OnOk result (map shown nodes.new.keys
         ≡ map shown nodes.old.keys ++ literal_node var positive ∷ []) }
@@ -238,7 +237,7 @@ fn add_literal(
 }
 
 // Which nodes up to a root are the root or below it.
-fn below(alloc: Global, nodes: &[Kept], root: usize) -> Result<Vec<bool>, AllocError>
+fn below(alloc: Global, nodes: &[Kept], root: usize) -> Result<Vec<bool>, Memory>
     requires root { root < length nodes.now }
     requires kids { AreBefore (map shown nodes.now) }
     ensures { IfOk result (λ below. IsBelow (map shown nodes.now) root below.items) }
@@ -266,7 +265,7 @@ fn mark(below: &mut [bool], at: usize, kids: &[u32])
 }
 
 // The nodes that are marked, each over the numbers that its children have now.
-fn copied(alloc: Global, nodes: &[Kept], below: &[bool], vars: u32) -> Result<Nodes, AllocError>
+fn copied(alloc: Global, nodes: &[Kept], below: &[bool], vars: u32) -> Result<Nodes, Memory>
     requires long { length below.now ≤ length nodes.now }
     requires few { length nodes.now < 2 ^ 32 }
     requires nodes { AreNodes vars (map shown nodes.now) }
@@ -291,7 +290,7 @@ fn copied(alloc: Global, nodes: &[Kept], below: &[bool], vars: u32) -> Result<No
 }
 
 // Makes `kids` the numbers of children.
-fn renumber(kids: &mut Vec<u32>, old: &[u32], numbers: &[u32]) -> Result<(), AllocError>
+fn renumber(kids: &mut Vec<u32>, old: &[u32], numbers: &[u32]) -> Result<(), Memory>
     requires { All (λ k. k < length numbers.now) old.now }
     ensures { OnOk result (kids.new.items ≡ map (slice_index numbers.now) old.now) }
 {

@@ -5,18 +5,15 @@ ghost use Rattle.state_rules.specs.Graphs.{mentions};
 ghost use Rattle.part_sets.specs.Numbers.{has_number, part_words, set_at};
 ghost use Rattle.part_sets.specs.PartSets.{ArePartsOf, ArePartsBelow, AreBelow};
 
+use crate::Memory;
 use crate::kept::PART_LIMIT;
 use crate::numbers::{add_all, add_one, clear, part_words, put_one, set_at};
 use node_store::Graph;
 use state_rules::NodeKind;
-use std::alloc::{AllocError, Global};
+use std::alloc::Global;
 
 // The sets of the parts below the nodes of a graph, and behind them the set of all parts.
-pub(crate) fn parts_below(
-    alloc: Global,
-    graph: &Graph,
-    parts: usize,
-) -> Result<Vec<u32>, AllocError>
+pub(crate) fn parts_below(alloc: Global, graph: &Graph, parts: usize) -> Result<Vec<u32>, Memory>
     requires { parts ≤ PART_LIMIT }
     ensures { IfOk result (λ below. AreBelow graph.now parts below.items) }
 {
@@ -37,9 +34,11 @@ fn put_all(graph: &Graph, parts: usize, below: &mut [u32])
     put_every(all, parts);
 }
 
-fn put_nodes(graph: &Graph, parts: usize, below: &mut [u32])
+/// Puts the sets of the parts below the nodes of a graph, one after the other.
+pub fn put_nodes(graph: &Graph, parts: usize, below: &mut [u32])
     requires parts { parts ≤ PART_LIMIT }
     requires long { length below.old ≡ length graph.now.nodes * part_words parts }
+
     ensures { ArePartsBelow graph.now parts below.new (length graph.now.nodes) }
 {
     let size = part_words(parts);

@@ -2,10 +2,11 @@
 ghost use Rattle.std.specs.Prelude.{◌≡◌, ◌≤◌, IfOk};
 ghost use Rattle.part_sets.specs.PartSets.{AreFor};
 
+use crate::Memory;
 use crate::below::parts_below;
 use crate::lacking::nodes_lacking;
 use node_store::Graph;
-use std::alloc::{AllocError, Global};
+use std::alloc::Global;
 use std::marker::Model;
 
 /// Sets are kept of at most so many parts.
@@ -31,8 +32,8 @@ impl Model for PartSets {
 }
 
 impl PartSets {
-    /// The sets of a graph of which so many variables are parts. `Err` means that memory ran out.
-    pub fn new(alloc: Global, graph: &Graph, parts: usize) -> Result<PartSets, AllocError>
+    /// The sets of a graph with so many parts among its variables. `Err` means that memory ran out.
+    pub fn new(alloc: Global, graph: &Graph, parts: usize) -> Result<PartSets, Memory>
         requires few { parts ≤ PART_LIMIT }
         ensures for_graph { IfOk result (λ sets. AreFor graph.now parts sets) }
     {
@@ -41,15 +42,15 @@ impl PartSets {
         Ok(PartSets { below, lacking })
     }
 
-    /// For each node the parts below it, one set behind the other, and behind them all parts.
+    /// For each node the parts below it, one set after the other, and at the end all parts.
     pub fn below(&self) -> &[u32]
         ensures { result.now ≡ self.now.below }
     {
         &self.below
     }
 
-    /// For each node a word that is 0 exactly where the node is no or, or no child of it lacks a part of it; and behind them one that
-    /// is 0 exactly where the last node lacks no part.
+    /// For each node a word that is 0 exactly if the node is no or, or no child of it lacks a part of it; and at the end one that
+    /// is 0 exactly if the last node lacks no part.
     pub fn lacking(&self) -> &[u32]
         ensures { result.now ≡ self.now.lacking }
     {

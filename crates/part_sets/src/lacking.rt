@@ -5,11 +5,12 @@ ghost use Rattle.state_rules.specs.Graphs.{node_at};
 ghost use Rattle.part_sets.specs.Numbers.{has_number, part_words, set_at};
 ghost use Rattle.part_sets.specs.PartSets.{AreBelow, SameBelow, LacksNone, AreLacking};
 
+use crate::Memory;
 use crate::kept::PART_LIMIT;
 use crate::numbers::{next_missing, part_words, set_at};
 use node_store::Graph;
 use state_rules::NodeKind;
-use std::alloc::{AllocError, Global};
+use std::alloc::Global;
 
 // For each node a word that is 0 where it is no or, or no kid of it lacks a part; and behind them one that is 0 where the last node
 // lacks none at all.
@@ -18,7 +19,7 @@ pub(crate) fn nodes_lacking(
     graph: &Graph,
     below: &[u32],
     parts: usize,
-) -> Result<Vec<u32>, AllocError>
+) -> Result<Vec<u32>, Memory>
     requires parts { parts ≤ PART_LIMIT }
     requires below { AreBelow graph.now parts below.now }
     ensures { IfOk result (λ lacking. AreLacking graph.now parts lacking.items) }

@@ -4,7 +4,7 @@ ghost use Rattle.part_sets.specs.Numbers.{has_number, part_words, set_at};
 
 use crate::kept::PART_LIMIT;
 
-/// How many numbers a word tells.
+/// How many numbers a word holds.
 pub const WIDTH: usize = 32;
 
 /// How many words a set of so many parts has.
@@ -14,7 +14,7 @@ pub fn part_words(parts: usize) -> usize
     parts.div_ceil(WIDTH)
 }
 
-/// The set of one of those that stand one behind the other.
+/// One of several sets that are one after the other.
 pub fn set_at(sets: &[u32], k: usize, size: usize) -> &[u32]
     requires { k * size + size ≤ length sets.now }
     ensures set { result.now ≡ set_at sets.now k size }
@@ -68,8 +68,8 @@ pub(crate) fn add_all(set: &mut [u32], other: &[u32])
     }
 }
 
-/// The first number from one on that the outer set has and the inner one has not. Where there is none it is the number behind both
-/// sets, or the one to begin from, where that is greater.
+/// The first number from one on that the outer set has and the inner one has not. If there is none it is the number after both
+/// sets, or the one to begin from, if that is greater.
 pub fn next_missing(outer: &[u32], inner: &[u32], from: usize) -> usize
     requires inner { length inner.now ≡ length outer.now }
     requires few { length outer.now ≤ part_words PART_LIMIT }

@@ -1,22 +1,19 @@
 -- In which diagnoses a part is faulty.
-use Rattle.std.proofs.Common.{◌≡◌, ℕ, zero, suc, ◌<◌, ◌≤◌, Bool, true, false, not, cond, ◌&&◌, ◌||◌, List, [], ◌∷◌, map, length, get_or, Some, None, refl, ap, sym, ◌∙◌, subst, inl, inr}
-use Rattle.std.specs.Prelude.{◌↔◌, ◌==◌, slice_get}
+use Rattle.std.proofs.Common.{◌≡◌, ℕ, ◌<◌, ◌≤◌, Bool, true, false, not, cond, ◌&&◌, ◌||◌, List, [], ◌∷◌, map, length, Some, None, refl, ap, sym, ◌∙◌, inl, inr}
 use Rattle.std.specs.List.{list_all, list_any}
 use Rattle.std.proofs.Math.Bool.{and-false}
-use Rattle.std.proofs.lemmas.Bool.{and_from, false≢true, eqb-true, eq-eqb}
+use Rattle.std.proofs.lemmas.Bool.{and_from}
 use Rattle.state_rules.specs.Bits.{bit_in, same_bit}
 use Rattle.state_rules.specs.Ranking.{least, passing, diagnoses}
 use Rattle.state_rules.proofs.Lists.{list_any-map}
 use Rattle.state_rules.proofs.Members.{In, any_in}
 use Rattle.state_rules.specs.Graphs.{Graph}
 use Rattle.conditioner.specs.Models.{has_model, fits_words, models, least_under, diagnoses_under}
-use Rattle.minimiser.specs.LeastStates.{ModelWithin, Suspect}
-use Rattle.minimiser.proofs.Models.{Agree, Agree-bit, ModelWithin-agrees, LeastIs, least-some, least-none, diagnosis-in, diagnosis-out}
-use Rattle.minimiser.proofs.Fixing.{least-passes, passes-least}
+use Rattle.minimiser.specs.LeastStates.{ModelWithin}
+use Rattle.minimiser.proofs.Models.{LeastIs, least-some, least-none, diagnosis-in, diagnosis-out}
 use Rattle.probe_report.specs.declared.verdicts.Blame.{Blame}
 use Rattle.probe_report.specs.declared.verdicts.Blame.TheVariants.{Always, Sometimes, Never, Inconsistent}
 use Rattle.probe_report.specs.Verdicts.{verdict, blame_of}
-use Rattle.probe_report.specs.inner.Presumed.{presumed, IsPresumed}
 use Rattle.probe_report.proofs.With.{bit-out, bit-in}
 
 -- ---- verdicts
@@ -103,48 +100,3 @@ module _ (graph : Graph) (words costs : List ℕ) (i most : ℕ) (lt : i < lengt
 
 pub is-inconsistent : (graph : Graph) (words costs : List ℕ) (i : ℕ) → least_under graph words costs ≡ None → Inconsistent ≡ blame_of graph words costs i
 is-inconsistent graph words costs i e = λ j. verdict (map (λ state. not (bit_in state i)) (diagnoses costs (sym (least-none costs (models graph words (length costs)) e) j)))
-
--- ---- all parts
-
-module _ (graph : Graph) (words costs : List ℕ) (most : ℕ) (within : length costs ≤ graph.vars) (e : LeastIs graph costs words most) where
-  abbrev all : List (List Bool)
-  all = diagnoses_under graph words costs
-
-  -- the first diagnosis
-  pub first-passes-all : (d : List Bool) → ModelWithin graph words costs most (get_or (diagnoses_under graph words costs) 0 d)
-  first-passes-all d =
-      let some = least-some graph costs within words most e in
-      diagnosis-out graph words costs most e _ (first-in all some.state (diagnosis-in graph words costs most e some.state some.passes)) where
-        first-in : (ds : List (List Bool)) (h : List Bool) → In h ds → In (get_or ds 0 d) ds
-        first-in [] h m = absurd m
-        first-in (x ∷ ds) h m = inl refl
-
-  pub first-same : (c d : List Bool) → get_or (diagnoses_under graph words costs) 0 c ≡ get_or (diagnoses_under graph words costs) 0 d
-  first-same c d =
-      let some = least-some graph costs within words most e in
-      same-first all some.state (diagnosis-in graph words costs most e some.state some.passes) where
-        same-first : (ds : List (List Bool)) (h : List Bool) → In h ds → get_or ds 0 c ≡ get_or ds 0 d
-        same-first [] h m = absurd m
-        same-first (x ∷ ds) h m = refl
-
-module _ (graph : Graph) (words costs : List ℕ) (i most : ℕ) (lt : i < length costs) (within : length costs ≤ graph.vars) (long : length words ≡ graph.vars) (e : LeastIs graph costs words most) where
-  -- what is presumed, of a part that is a suspect or not
-  pub presumed-right : (suspect : ℕ) → (suspect ≡ 1) ↔ Suspect graph words costs i → (verdicts : List Blame) → slice_get verdicts i ≡ Some (presumed (get_or words i 0) suspect) → IsPresumed graph words costs verdicts i
-  presumed-right suspect is verdicts f = by_word (get_or words i 0) refl (suspect == 1) refl where
-    by_word : (w : ℕ) → get_or words i 0 ≡ w → (b : Bool) → (suspect == 1) ≡ b → IsPresumed graph words costs verdicts i
-    by_word zero q true t = inr (is.0 (eqb-true suspect 1 t), f ∙ (λ j. Some (presumed (q j) suspect)) ∙ (λ j. Some (cond (t j) Sometimes Never)))
-    by_word zero q false t = inl (f ∙ (λ j. Some (presumed (q j) suspect)) ∙ (λ j. Some (cond (t j) Sometimes Never)) ∙ ap Some (all-ok graph words costs i most lt within e ok)) where
-      ok : (h : List Bool) → ModelWithin graph words costs most h → bit_in h i ≡ true
-      ok h p = by_bit (bit_in h i) refl where
-        by_bit : (b : Bool) → bit_in h i ≡ b → b ≡ true
-        by_bit true r = refl
-        by_bit false r = absurd (false≢true (sym t ∙ eq-eqb suspect 1 (is.1 (record { within = lt; open_ = q; state = h; is_least = passes-least graph words costs most h e p; faulty = r }))))
-    by_word (suc zero) q b t = inl (f ∙ (λ j. Some (presumed (q j) suspect)) ∙ ap Some (all-ok graph words costs i most lt within e (λ h p. Agree-bit true (bit_in h i) (subst (λ w. Agree w (bit_in h i)) q (ModelWithin-agrees graph costs within words most h long p i lt)))))
-    by_word (suc (suc n)) q b t = inl (f ∙ (λ j. Some (presumed (q j) suspect)) ∙ ap Some (all-faulty graph words costs i most lt within e (λ h p. Agree-bit false (bit_in h i) (subst (λ w. Agree w (bit_in h i)) q (ModelWithin-agrees graph costs within words most h long p i lt)))))
-
-  -- a part that is ok or not open in some diagnosis needs no pass
-  pub presumed-stays : (verdicts : List Blame) (h : List Bool) → ModelWithin graph words costs most h → (get_or words i 0 ≡ 0 → bit_in h i ≡ true) → IsPresumed graph words costs verdicts i → slice_get verdicts i ≡ Some (blame_of graph words costs i)
-  presumed-stays verdicts h p ok (inl f) = f
-  presumed-stays verdicts h p ok (inr s) =
-      let u = s.0 in
-      s.1 ∙ ap Some (some-differ graph words costs i most lt within e u.state h (least-passes graph words costs most u.state e u.is_least) p u.faulty (ok u.open_))

@@ -1,6 +1,5 @@
 pub mod With
 pub mod Blames
-pub mod Written
 pub mod Lowering
 pub mod Bits
 pub mod Outers

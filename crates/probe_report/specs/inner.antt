@@ -1,5 +1,4 @@
 -- What only private contracts cite.
-pub mod Presumed
 pub mod Outside
 pub mod Leaving
 pub mod Settled

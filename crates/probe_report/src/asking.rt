@@ -6,7 +6,7 @@ use minimiser::{Steps, TOTAL_LIMIT, least};
 use node_store::Graph;
 use std::sync::ledger::Ledger;
 
-/// The least cost where a wire's variable is 0, and where it is 1; none where no state is left.
+/// The least cost if a wire's variable is 0, and if it is 1; none if no state is left.
 ///
 /// The words are the same afterwards. It takes two passes at most.
 pub fn probe<L: Ledger>(

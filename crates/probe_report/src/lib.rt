@@ -1,4 +1,4 @@
-//! What is asked about one wire, one part, or all parts.
+//! What is asked about one wire, all wires, or one part.
 #![tactic(auto)]
 
 mod asking;
@@ -10,6 +10,6 @@ mod probing;
 mod verdicts;
 
 pub use asking::probe;
-pub use blaming::{blame, blame_all};
+pub use blaming::{blame, blame_faulty};
 pub use probing::{cost_of, probe_all};
 pub use verdicts::Blame;

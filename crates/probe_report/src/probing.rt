@@ -14,7 +14,7 @@ use std::sync::ledger::Ledger;
 
 /// For the wires at once, what [`probe`](crate::probe) gives for one, and the least cost of all states.
 ///
-/// The wires' variables are the next ones behind the parts'. [`cost_of`] reads the numbers, of which there are two for each wire.
+/// The wires' variables are the next ones after the parts'. [`cost_of`] reads the numbers, two for each wire.
 /// The room is worked in, and holds nothing afterwards.
 pub fn probe_all<L: Ledger>(
     graph: &Graph,
@@ -46,7 +46,7 @@ pub fn probe_all<L: Ledger>(
     )
 }
 
-/// The least cost where a wire has a bit, by the numbers that [`probe_all`] left. None where no state is left.
+/// The least cost if a wire has a bit, by the numbers that [`probe_all`] left. None if no state is left.
 pub fn cost_of(numbers: &[u32], wire: usize, bit: bool) -> Option<u32>
     requires even { length numbers.now % 2 ≡ 0 }
     requires wire { wire < length numbers.now / 2 }

@@ -13,10 +13,10 @@ use diag_edge::{Chunk, Sink, WriteFailed};
 use nnf_text::add_header;
 use node_store::Graph;
 
-/// Writes the graph of the health states that a graph allows under words, one word a variable: 0 where it is open, 1 where it
-/// is true, 2 where it is false. Variables 1 to `parts` are the health of the parts, and a part whose word is not 0 is held.
+/// Writes the graph of the health states that a graph allows under words, one word a variable: 0 if it is open, 1 if it
+/// is true, 2 if it is false. Variables 1 to `parts` are the health of the parts, and a part whose word is not 0 is held.
 ///
-/// Behind its header the text has a line for each node of the graph, one for each held part, and one for its root. No memory is
+/// After its header the text has a line for each node of the graph, one for each held part, and one for its root. No memory is
 /// taken.
 pub fn write_projected<O: Sink>(
     graph: &Graph,

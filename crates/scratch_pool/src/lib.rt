@@ -7,3 +7,4 @@ mod region;
 
 pub use pool::{Block, POOL_LIMIT, Pool};
 pub use region::{REGION_LIMIT, RUN_LIMIT, Region, Run, Span};
+pub use std::alloc::AllocError as Memory;

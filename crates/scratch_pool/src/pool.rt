@@ -2,8 +2,9 @@ ghost use Rattle.std.specs.Prelude.{◌≡◌, ◌↔◌, ℕ, ◌*◌, ◌<◌,
 ghost use Rattle.std.specs.Borrow.{sem};
 ghost use Rattle.scratch_pool.specs.Pools.{IsOut, IsFree, IsSound, free_blocks, block_words, taken, given};
 
+use crate::Memory;
 use crate::parts::{part, zero};
-use std::alloc::{AllocError, Global};
+use std::alloc::Global;
 use std::marker::Model;
 
 /// The words of all blocks of a pool are fewer.
@@ -47,8 +48,8 @@ impl Model for Pool {
 impl Pool {
     ghost use Rattle.scratch_pool.specs.Lending.{LendsBlock};
 
-    /// A pool of so many blocks of so many words, none of which is out.
-    pub fn new(alloc: Global, blocks: u32, words: u32) -> Result<Pool, AllocError>
+    /// A pool of so many blocks of so many words. None is out.
+    pub fn new(alloc: Global, blocks: u32, words: u32) -> Result<Pool, Memory>
         requires { blocks * words < POOL_LIMIT }
         ensures { IfOk result (λ pool. pool ≡ record {
           size = words;

@@ -2,8 +2,9 @@ ghost use Rattle.std.specs.Prelude.{◌≡◌, ◌↔◌, ◌<◌, ◌≤◌, �
 ghost use Rattle.std.specs.Borrow.{sem};
 ghost use Rattle.scratch_pool.specs.Regions.{IsLast, IsSound, words_used, free_words, run_words, carved};
 
+use crate::Memory;
 use crate::parts::{part, zero};
-use std::alloc::{AllocError, Global};
+use std::alloc::Global;
 use std::marker::Model;
 
 /// The words of a region are fewer.
@@ -56,8 +57,8 @@ impl Model for Region {
 impl Region {
     ghost use Rattle.scratch_pool.specs.Lending.{LendsRun};
 
-    /// A region of so many words, of which none is carved.
-    pub fn new(alloc: Global, words: usize) -> Result<Region, AllocError>
+    /// A region of so many words. None is carved.
+    pub fn new(alloc: Global, words: usize) -> Result<Region, Memory>
         requires { words < REGION_LIMIT }
         ensures { IfOk result (λ region. region ≡ record { words = replicate words 0; runs = [] }) }
     {
@@ -75,7 +76,7 @@ impl Region {
         self.words.len() - self.used
     }
 
-    /// Carves a run behind the last one, with all its words 0.
+    /// Carves a run after the last one, with all its words 0.
     pub fn carve(&mut self, n: usize) -> Option<Run>
         requires some { 1 ≤ n }
         requires few { length self.old.runs < RUN_LIMIT }

@@ -1,5 +1,5 @@
 -- The lines of a script, and what each asks.
-use Rattle.std.specs.Prelude.{ℕ, Bool, true, false, ◌&&◌, List, [], ◌∷◌, length, Option, Some, None, codes, ◌==◌, nat_lt, if◌then◌else◌}
+use Rattle.std.specs.Prelude.{ℕ, Bool, true, false, ◌&&◌, List, [], ◌∷◌, length, Option, Some, None, codes, ◌==◌, nat_lt, if◌then◌else◌, ◌≤◌}
 use Rattle.std.specs.List.{list_all}
 use Rattle.std.specs.Map.{lookup}
 use Rattle.std.specs.Option.{option_map}
@@ -9,6 +9,8 @@ use Rattle.text_rules.specs.Numbers.{plain_number_in}
 use Rattle.device_model.specs.declared.limits.TheConstants.{NAME_LIMIT}
 use Rattle.script_lang.specs.declared.line.Line.{Line as LineRead}
 use Rattle.script_lang.specs.declared.line.Line.TheVariants as line
+use Rattle.script_lang.specs.declared.line.AskedLine.{AskedLine as AskedRead}
+use Rattle.script_lang.specs.declared.line.AskedLine.TheVariants as of
 use Rattle.script_lang.specs.declared.line.Question.{Question as QuestionRead}
 use Rattle.script_lang.specs.declared.line.Question.TheVariants as question
 use Rattle.script_lang.specs.declared.line.Request.{Request as RequestRead}
@@ -17,6 +19,7 @@ use Rattle.script_lang.specs.declared.line.Noted.{Noted}
 use Rattle.script_lang.specs.declared.line.Noted.TheVariants.{Wire, Part}
 use Rattle.script_lang.specs.declared.refusal.LineRefusal.{LineRefusal}
 use Rattle.script_lang.specs.declared.refusal.LineRefusal.TheVariants.{UnknownCommand, BadWords, BadName, BadValue, TooLong}
+use Rattle.script_lang.specs.Refusals.{refusal_of}
 use Rattle.script_lang.specs.declared.limits.TheConstants.{COUNT_LIMIT, LINE_LIMIT}
 
 -- what is told of a session's case, which stays as it is
@@ -163,8 +166,35 @@ asked request.Level = Level
 asked (request.Levels count) = Levels count
 asked request.LeastNnf = LeastNnf
 
+-- what is asked, and of which session
+abbrev pub asked_line : AskedRead → Line
+asked_line of.Nothing = Blank
+asked_line (of.Refused refusal) = Refused refusal
+asked_line (of.Of session request) = Ask session.now (asked request)
+
 -- what a line that was read means
 abbrev pub meaning : LineRead → Line
 meaning line.Blank = Blank
-meaning (line.Refused refusal) = Refused refusal
-meaning (line.Ask session request) = Ask session.now (asked request)
+meaning (line.Start session) = Ask session.now Start
+meaning (line.Stop session) = Ask session.now Stop
+meaning (line.See session name bit) = Ask session.now (Note Wire name.now (Some bit))
+meaning (line.Unsee session name) = Ask session.now (Note Wire name.now None)
+meaning (line.Hold session name ok) = Ask session.now (Note Part name.now (Some ok))
+meaning (line.Unhold session name) = Ask session.now (Note Part name.now None)
+meaning (line.Min session) = Ask session.now (Tell Min)
+meaning (line.Next session) = Ask session.now Next
+meaning (line.List session count) = Ask session.now (Several count)
+meaning (line.After session names) = Ask session.now (After (words names.now))
+meaning (line.Probe session name) = Ask session.now (Tell (Probe name.now))
+meaning (line.Probes session) = Ask session.now (Tell Probes)
+meaning (line.Blame session) = Ask session.now (Tell Blame)
+meaning (line.Dnnf session) = Ask session.now Dnnf
+meaning (line.Level session) = Ask session.now Level
+meaning (line.Levels session count) = Ask session.now (Levels count)
+meaning (line.LeastNnf session) = Ask session.now LeastNnf
+meaning (line.Refused number) = Refused (refusal_of number)
+
+-- a refusal is one of the five
+abbrev pub IsNumbered : LineRead → Type 0
+IsNumbered (line.Refused number) = (1 ≤ number) × (number ≤ 5)
+IsNumbered read = Unit {0}

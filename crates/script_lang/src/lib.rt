@@ -4,10 +4,13 @@
 mod cutting;
 mod limits;
 mod line;
+mod naming;
 mod parsing;
 mod refusal;
 
 pub use limits::{COUNT_LIMIT, LINE_LIMIT};
-pub use line::{Line, Noted, Question, Request};
+pub use line::{AskedLine, Line, Noted, Question, Request};
+pub use naming::each_name;
 pub use parsing::parse_line;
 pub use refusal::LineRefusal;
+pub use text_rules::Tokens as NameIter;

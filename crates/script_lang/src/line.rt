@@ -1,6 +1,97 @@
+ghost use Rattle.std.specs.Prelude.{◌≡◌};
+ghost use Rattle.script_lang.specs.Script.{Note, asked, asked_line, meaning};
+
 use crate::refusal::LineRefusal;
 
-/// What a name names, of which something is noted.
+/// A line of a script. Its names are spelled as names are, but not looked up: there need be no such session, wire or part.
+#[derive(Clone, Copy, Debug)]
+pub enum Line<'a> {
+    /// Nothing: no word, or a comment.
+    Blank,
+    /// `open S`: a session of this name begins.
+    Start {
+        session: &'a [u8],
+    },
+    /// `close S`: the session ends.
+    Stop {
+        session: &'a [u8],
+    },
+    /// `see S WIRE=1` or `see S WIRE=0`: the wire was seen to be 1 or 0.
+    See {
+        session: &'a [u8],
+        name: &'a [u8],
+        bit: bool,
+    },
+    /// `unsee S WIRE`: nothing is known of the wire any more.
+    Unsee {
+        session: &'a [u8],
+        name: &'a [u8],
+    },
+    /// `hold S PART=ok` or `hold S PART=bad`: the part is held to be sound or faulty.
+    Hold {
+        session: &'a [u8],
+        name: &'a [u8],
+        ok: bool,
+    },
+    /// `unhold S PART`: nothing is known of the part any more.
+    Unhold {
+        session: &'a [u8],
+        name: &'a [u8],
+    },
+    /// `min S`: the least cost, with the first diagnosis.
+    Min {
+        session: &'a [u8],
+    },
+    /// `next S`: the next diagnosis.
+    Next {
+        session: &'a [u8],
+    },
+    /// `list S COUNT`: the next diagnoses, from 1 to a million.
+    List {
+        session: &'a [u8],
+        count: u32,
+    },
+    /// `after S PART PART ..`: any number of names, or none. `names` is the text after the session,
+    /// and [`each_name`](crate::each_name) walks it.
+    After {
+        session: &'a [u8],
+        names: &'a [u8],
+    },
+    /// `probe S WIRE`: the least cost if the wire is 0, and if it is 1.
+    Probe {
+        session: &'a [u8],
+        name: &'a [u8],
+    },
+    /// `probes S`: the same of each wire that is not seen.
+    Probes {
+        session: &'a [u8],
+    },
+    /// `blame S`: of each part whether it is faulty in all diagnoses, in some, or in none.
+    Blame {
+        session: &'a [u8],
+    },
+    /// `dnnf S`: the graph of the states that agree with the case.
+    Dnnf {
+        session: &'a [u8],
+    },
+    /// `level S`: the next state by rising cost.
+    Level {
+        session: &'a [u8],
+    },
+    /// `levels S COUNT`: the next states by rising cost, from 1 to a million.
+    Levels {
+        session: &'a [u8],
+        count: u32,
+    },
+    /// `leastnnf S`: the graph of the diagnoses.
+    LeastNnf {
+        session: &'a [u8],
+    },
+    /// Nothing that can be asked. The number is that of a [`LineRefusal`].
+    Refused(u8),
+}
+
+/// What a name names, if something is noted of it.
 #[derive(Clone, Copy, Debug, PartialEq, Eq)]
 pub enum Noted {
     /// A wire, which is seen to be 1 or 0.
@@ -9,27 +100,26 @@ pub enum Noted {
     Part,
 }
 
-/// What a line of a script asks. Its names are spelled as names are, but not looked up:
-/// there need be no such session, wire or part.
+/// A line with the commands that are answered alike taken together.
 #[derive(Clone, Copy, Debug)]
-pub enum Line<'a> {
-    /// Nothing: no word, or a comment.
-    Blank,
+pub enum AskedLine<'a> {
+    /// Nothing.
+    Nothing,
     /// Nothing that can be asked.
     Refused(LineRefusal),
     /// Something of a session.
-    Ask {
+    Of {
         session: &'a [u8],
         request: Request<'a>,
     },
 }
 
-/// What is told of a session's case, which stays as it is.
+/// A question about a session's case, which stays as it is.
 #[derive(Clone, Copy, Debug)]
 pub enum Question<'a> {
     /// `min S`: the least cost, with the first diagnosis.
     Min,
-    /// `probe S WIRE`: the least cost where the wire is 0, and where it is 1.
+    /// `probe S WIRE`: the least cost if the wire is 0, and if it is 1.
     Probe { wire: &'a [u8] },
     /// `probes S`: the same of each wire that is not seen.
     Probes,
@@ -59,8 +149,7 @@ pub enum Request<'a> {
     List {
         count: u32,
     },
-    /// `after S PART PART ..`: any number of names, or none. `names` is the text behind the session,
-    /// and `text_rules::Tokens::words(names)` walks them.
+    /// `after S PART PART ..`. `names` is the text after the session.
     After {
         names: &'a [u8],
     },
@@ -74,4 +163,44 @@ pub enum Request<'a> {
     },
     /// `leastnnf S`.
     LeastNnf,
+}
+
+impl<'a> Line<'a> {
+    /// What the line asks, and of which session.
+    pub fn asked(self) -> AskedLine<'a>
+        ensures { asked_line result ≡ meaning self.entry }
+    {
+        let (session, request) = match self {
+            Line::Blank => return AskedLine::Nothing,
+            Line::Refused(number) => return AskedLine::Refused(LineRefusal::numbered(number)),
+            Line::Start { session } => (session, Request::Start),
+            Line::Stop { session } => (session, Request::Stop),
+            Line::See { session, name, bit } => (session, note(Noted::Wire, name, Some(bit))),
+            Line::Unsee { session, name } => (session, note(Noted::Wire, name, None)),
+            Line::Hold { session, name, ok } => (session, note(Noted::Part, name, Some(ok))),
+            Line::Unhold { session, name } => (session, note(Noted::Part, name, None)),
+            Line::Min { session } => (session, Request::Tell(Question::Min)),
+            Line::Next { session } => (session, Request::Next),
+            Line::List { session, count } => (session, Request::List { count }),
+            Line::After { session, names } => (session, Request::After { names }),
+            Line::Probe { session, name } => (
+                session,
+                Request::Tell(Question::Probe { wire: name }),
+            ),
+            Line::Probes { session } => (session, Request::Tell(Question::Probes)),
+            Line::Blame { session } => (session, Request::Tell(Question::Blame)),
+            Line::Dnnf { session } => (session, Request::Dnnf),
+            Line::Level { session } => (session, Request::Level),
+            Line::Levels { session, count } => (session, Request::Levels { count }),
+            Line::LeastNnf { session } => (session, Request::LeastNnf),
+        };
+        AskedLine::Of { session, request }
+    }
+}
+
+// What is known of a wire or a part, or that nothing is any more.
+fn note<'a>(what: Noted, name: &'a [u8], known: Option<bool>) -> Request<'a>
+    ensures { asked result ≡ Note what name.now known }
+{
+    Request::Note { what, name, known }
 }

@@ -1,15 +1,15 @@
-ghost use Rattle.std.specs.Prelude.{◌≡◌, ℕ, Bool, List, Some, None, drop};
+ghost use Rattle.std.specs.Prelude.{◌≡◌, ℕ, Bool, List, drop};
 ghost use Rattle.std.specs.List.{list_all};
 ghost use Rattle.std.specs.Map.{lookup};
 ghost use Rattle.text_rules.specs.Names.{Name, same_name};
 ghost use Rattle.text_rules.specs.Tokens.{words};
-ghost use Rattle.script_lang.specs.Script.{asked, meaning, Ask, Note, Tell, Probe, Several, After, Levels, begins_comment, commands, is_script_name, line_of, on_session, on_name, on_value, on_count, on_names, read_as, read_by};
+ghost use Rattle.script_lang.specs.Script.{Ask, begins_comment, commands, is_script_name, line_of, meaning, on_count, on_name, on_names, on_session, on_value, read_as, read_by, IsNumbered};
 ghost use Rattle.script_lang.specs.inner.Found.{asked_by};
 ghost use Rattle.script_lang.specs.Script as script;
 
 use crate::cutting::{at_equals, one_word, split_word, two_words};
 use crate::limits::{COUNT_LIMIT, LINE_LIMIT};
-use crate::line::{Line, Noted, Question, Request};
+use crate::line::Line;
 use crate::refusal::LineRefusal;
 use device_model::NAME_LIMIT;
 use text_rules::{Tokens, is_name, is_short_name, plain_number};
@@ -20,18 +20,19 @@ fn is_script_name(word: &[u8]) -> bool
     is_name(NAME_LIMIT, word)
 }
 
-// A session alone, of which something is asked.
-fn session_in<'a>(text: &'a [u8], request: Request<'a>) -> Result<Line<'a>, LineRefusal>
-    ensures { asked_by meaning result ≡ on_session (asked request.entry) (words text.now) }
+// A session alone. What is asked of it does not matter to how it is read, here and below.
+fn session_in(text: &[u8]) -> Result<&[u8], LineRefusal>
+    ensures { (request : script.Request)
+        → asked_by (λ session. Ask session.now request) result ≡ on_session request (words text.now) }
 {
     match one_word(text) {
-        Some(session) if is_short_name(session) => Ok(Line::Ask { session, request }),
+        Some(session) if is_short_name(session) => Ok(session),
         Some(_) => Err(LineRefusal::BadName),
         None => Err(LineRefusal::BadWords),
     }
 }
 
-// A session and a name. What is asked of it does not matter to how it is read, here and below.
+// A session and a name.
 fn name_in(text: &[u8]) -> Result<(&[u8], &[u8]), LineRefusal>
     ensures { (request : Name → script.Request)
         → asked_by (λ found. Ask found.0.now (request found.1.now)) result
@@ -107,132 +108,85 @@ fn names_in(text: &[u8]) -> Result<(&[u8], &[u8]), LineRefusal>
     }
 }
 
-// A session, a wire or a part, and what is known of it, by the words for true and false.
-fn note_in<'a>(
-    what: Noted,
-    text: &'a [u8],
-    one: &[u8],
-    other: &[u8],
-) -> Result<Line<'a>, LineRefusal>
-    ensures { asked_by meaning result ≡ on_value one.now other.now (λ name known. Note what name (Some known)) (words text.now) }
-{
-    let (session, name, known) = value_in(text, one, other)?;
-    let known = Some(known);
-    Ok(Line::Ask {
-        session,
-        request: Request::Note { what, name, known },
-    })
-}
-
-// A session, and a wire or a part of which nothing is known any more.
-fn unnote_in(what: Noted, text: &[u8]) -> Result<Line<'_>, LineRefusal>
-    ensures { asked_by meaning result ≡ on_name (λ name. Note what name None) (words text.now) }
-{
-    let (session, name) = name_in(text)?;
-    let known = None;
-    Ok(Line::Ask {
-        session,
-        request: Request::Note { what, name, known },
-    })
-}
-
 fn same_word(word: &[u8], other: &[u8]) -> bool
     ensures { result ≡ same_name word.now other.now }
 {
     word == other
 }
 
-// A session, and how many of its diagnoses are asked for.
-fn list_in(text: &[u8]) -> Result<Line<'_>, LineRefusal>
-    ensures { asked_by meaning result ≡ on_count Several (words text.now) }
-{
-    let (session, count) = count_in(text)?;
-    Ok(Line::Ask {
-        session,
-        request: Request::List { count },
-    })
-}
-
-// A session, and how many of its states by rising cost.
-fn levels_in(text: &[u8]) -> Result<Line<'_>, LineRefusal>
-    ensures { asked_by meaning result ≡ on_count Levels (words text.now) }
-{
-    let (session, count) = count_in(text)?;
-    Ok(Line::Ask {
-        session,
-        request: Request::Levels { count },
-    })
-}
-
-// A session, and the parts of the state that it goes on after.
-fn after_in(text: &[u8]) -> Result<Line<'_>, LineRefusal>
-    ensures { asked_by meaning result ≡ on_names After (words text.now) }
-{
-    let (session, names) = names_in(text)?;
-    Ok(Line::Ask {
-        session,
-        request: Request::After { names },
-    })
-}
-
-// A session, and the wire that is asked about.
-fn probe_in(text: &[u8]) -> Result<Line<'_>, LineRefusal>
-    ensures { asked_by meaning result ≡ on_name (λ wire. Tell (Probe wire)) (words text.now) }
-{
-    let (session, wire) = name_in(text)?;
-    Ok(Line::Ask {
-        session,
-        request: Request::Tell(Question::Probe { wire }),
-    })
-}
-
-// What a command and the text behind it say.
+// What a command and the text behind it say, if the command is one of a session's life or of its case.
 fn read_command<'a>(command: &[u8], text: &'a [u8]) -> Result<Line<'a>, LineRefusal>
     ensures { asked_by meaning result ≡ read_as command.now (words text.now) }
 {
     if same_word(command, b"open") {
-        session_in(text, Request::Start)
+        let session = session_in(text)?;
+        Ok(Line::Start { session })
     } else if same_word(command, b"close") {
-        session_in(text, Request::Stop)
+        let session = session_in(text)?;
+        Ok(Line::Stop { session })
     } else if same_word(command, b"see") {
-        note_in(Noted::Wire, text, b"1", b"0")
+        let (session, name, bit) = value_in(text, b"1", b"0")?;
+        Ok(Line::See { session, name, bit })
     } else if same_word(command, b"unsee") {
-        unnote_in(Noted::Wire, text)
+        let (session, name) = name_in(text)?;
+        Ok(Line::Unsee { session, name })
     } else if same_word(command, b"hold") {
-        note_in(Noted::Part, text, b"ok", b"bad")
+        let (session, name, ok) = value_in(text, b"ok", b"bad")?;
+        Ok(Line::Hold { session, name, ok })
     } else if same_word(command, b"unhold") {
-        unnote_in(Noted::Part, text)
+        let (session, name) = name_in(text)?;
+        Ok(Line::Unhold { session, name })
+    } else {
+        read_question(command, text)
+    }
+}
+
+// What they say if the command is none of these six.
+fn read_question<'a>(command: &[u8], text: &'a [u8]) -> Result<Line<'a>, LineRefusal>
+    ensures { asked_by meaning result ≡ read_by (lookup (same_name command.now) (drop 6 commands)) (words text.now) }
+{
+    if same_word(command, b"min") {
+        let session = session_in(text)?;
+        Ok(Line::Min { session })
+    } else if same_word(command, b"next") {
+        let session = session_in(text)?;
+        Ok(Line::Next { session })
+    } else if same_word(command, b"list") {
+        let (session, count) = count_in(text)?;
+        Ok(Line::List { session, count })
+    } else if same_word(command, b"after") {
+        let (session, names) = names_in(text)?;
+        Ok(Line::After { session, names })
+    } else if same_word(command, b"probe") {
+        let (session, name) = name_in(text)?;
+        Ok(Line::Probe { session, name })
+    } else if same_word(command, b"probes") {
+        let session = session_in(text)?;
+        Ok(Line::Probes { session })
     } else {
         read_other(command, text)
     }
 }
 
-// What they say where the command is none of these six.
+// What they say if it is none of these twelve.
 fn read_other<'a>(command: &[u8], text: &'a [u8]) -> Result<Line<'a>, LineRefusal>
-    ensures { asked_by meaning result ≡ read_by (lookup (same_name command.now) (drop 6 commands)) (words text.now) }
+    ensures { asked_by meaning result ≡ read_by (lookup (same_name command.now) (drop 12 commands)) (words text.now) }
 {
-    if same_word(command, b"min") {
-        session_in(text, Request::Tell(Question::Min))
-    } else if same_word(command, b"next") {
-        session_in(text, Request::Next)
-    } else if same_word(command, b"list") {
-        list_in(text)
-    } else if same_word(command, b"after") {
-        after_in(text)
-    } else if same_word(command, b"probe") {
-        probe_in(text)
-    } else if same_word(command, b"probes") {
-        session_in(text, Request::Tell(Question::Probes))
-    } else if same_word(command, b"blame") {
-        session_in(text, Request::Tell(Question::Blame))
+    if same_word(command, b"blame") {
+        let session = session_in(text)?;
+        Ok(Line::Blame { session })
     } else if same_word(command, b"dnnf") {
-        session_in(text, Request::Dnnf)
+        let session = session_in(text)?;
+        Ok(Line::Dnnf { session })
     } else if same_word(command, b"level") {
-        session_in(text, Request::Level)
+        let session = session_in(text)?;
+        Ok(Line::Level { session })
     } else if same_word(command, b"levels") {
-        levels_in(text)
+        let (session, count) = count_in(text)?;
+        Ok(Line::Levels { session, count })
     } else if same_word(command, b"leastnnf") {
-        session_in(text, Request::LeastNnf)
+        let session = session_in(text)?;
+        Ok(Line::LeastNnf { session })
     } else {
         Err(LineRefusal::UnknownCommand)
     }
@@ -245,19 +199,29 @@ fn begins_comment(word: &[u8]) -> bool
     word.first() == Some(&b'#')
 }
 
+// A refused line, by its number.
+fn refused<'a>(refusal: LineRefusal) -> Line<'a>
+    ensures means { meaning result ≡ script.Refused refusal }
+    ensures numbered { IsNumbered result }
+{
+    Line::Refused(refusal.number())
+}
+
 /// Reads one line of a script, without its line feed. Nothing is copied: the parts of the result lie in the line.
 pub fn parse_line(line: &[u8]) -> Line<'_>
-    ensures { meaning result ≡ line_of line.now }
+    ensures means { meaning result ≡ line_of line.now }
+    // A refusal is one of the five.
+    ensures numbered { IsNumbered result }
 {
     if line.len() > LINE_LIMIT {
-        return Line::Refused(LineRefusal::TooLong);
+        return refused(LineRefusal::TooLong);
     }
     match split_word(line) {
         None => Line::Blank,
         Some((command, _)) if begins_comment(command) => Line::Blank,
         Some((command, text)) => match read_command(command, text) {
             Ok(line) => line,
-            Err(refusal) => Line::Refused(refusal),
+            Err(refusal) => refused(refusal),
         },
     }
 }

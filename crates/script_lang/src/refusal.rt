@@ -1,7 +1,7 @@
 ghost use Rattle.std.specs.Prelude.{◌≡◌};
-ghost use Rattle.script_lang.specs.Refusals.{refusal_row};
+ghost use Rattle.script_lang.specs.Refusals.{refusal_of, refusal_row};
 
-/// Why a line asks nothing. Where several hold, the length counts first, and otherwise the first of these.
+/// Why a line asks nothing. If several hold, the length counts first, and otherwise the first of these.
 #[derive(Clone, Copy, Debug, PartialEq, Eq)]
 pub enum LineRefusal {
     /// The first word is no command.
@@ -10,7 +10,7 @@ pub enum LineRefusal {
     BadWords,
     /// A session, a wire or a part is not spelled as a name is.
     BadName,
-    /// A value is none of those that may stand there.
+    /// A value is none of those that are allowed there.
     BadValue,
     /// The line has more bytes than a line may have.
     TooLong,
@@ -18,7 +18,7 @@ pub enum LineRefusal {
 
 impl LineRefusal {
     // The number of the refusal, and what it says.
-    fn row(self) -> (u32, &'static str)
+    fn row(self) -> (u8, &'static str)
         ensures number { result.0 ≡ (refusal_row self).0 }
         ensures text { result.1.now ≡ (refusal_row self).1 }
     {
@@ -32,10 +32,23 @@ impl LineRefusal {
     }
 
     /// The number of the refusal, 1 to 5.
-    pub fn number(self) -> u32
+    pub fn number(self) -> u8
         ensures { result ≡ (refusal_row self).0 }
     {
         self.row().0
+    }
+
+    /// The refusal of a number: the last of any other number.
+    pub fn numbered(number: u8) -> LineRefusal
+        ensures { result ≡ refusal_of number }
+    {
+        match number {
+            1 => LineRefusal::UnknownCommand,
+            2 => LineRefusal::BadWords,
+            3 => LineRefusal::BadName,
+            4 => LineRefusal::BadValue,
+            _ => LineRefusal::TooLong,
+        }
     }
 
     /// What the refusal says.

@@ -9,16 +9,17 @@ use Rattle.state_rules.specs.Graphs.{IsGraph}
 use Rattle.script_lang.specs.Script.{Line, Ask, Request, Dnnf, LeastNnf, line_of}
 use Rattle.session_rules.specs.declared.refusal.Refusal.TheVariants.{NoLeast}
 use Rattle.session_rules.specs.Items.{Item, Projected, LeastText, line}
-use Rattle.session_rules.specs.Spelling.{Spelled, Spells}
+use Rattle.session_rules.specs.Spelling.{Spelled, Spells, Writes}
 use Rattle.session_rules.specs.Sessions.{Table, Entry, Step, Declined, tells, entry_of, carried, outcome}
 use Rattle.session_rules.specs.Moves.{said, left_by, moves, line_moves, script_moves}
 use Rattle.session_rules.specs.Carrying.{Makes, BreaksOff}
 use Rattle.session_rules.specs.GraphSystems.{HasLeastTexts, system_of}
 use Rattle.session_rules.specs.CaseSizes.{HasCasesOf}
 use Rattle.session_rules.proofs.Spellings.{spells_more}
-use Rattle.session_rules.proofs.Whole.{line_moves-whole}
+use Rattle.session_rules.proofs.Whole.{line_moves-whole, left_by-append, said-replies}
 use Rattle.session_rules.proofs.Keeping.{step-keeps}
 use Rattle.session_core.proofs.ReplyTexts.{case-spelled, least-spelled}
+use Rattle.session_core.specs.Dialogues.{SpellReplies}
 use Rattle.session_core.specs.Services.{Shown, case_text, least_case_text, told_graph, exact_moves, moves_of}
 
 -- A move leads to the table of another, and a text that spells its items spells the other's.
@@ -190,3 +191,19 @@ module _ (shown : Shown) (is_graph : IsGraph shown.subject.graph) (room : length
   pub breaks_over : (old new : Table) (lines : List (List ℕ)) (a b : Option (List ℕ)) → HasCasesOf (system_of shown.subject) old
       → BreaksOff new (script_moves (moves_of shown) old lines) a b → BreaksOff new (script_moves (line_moves (system_of shown.subject) shown.limit) old lines) a b
   breaks_over old new lines a b h = breaks_same new _ _ a b (script_exact old lines h)
+
+  cases_after : (table : Table) (lines : List (List ℕ)) → HasCasesOf system table → HasCasesOf system (left_by table (script_moves (line_moves system shown.limit) table lines))
+  cases_after table [] h = h
+  cases_after table (l ∷ lines) h =
+      let one = line_moves system shown.limit in
+      subst (HasCasesOf system) (sym (left_by-append table (one table l) (script_moves one (left_by table (one table l)) lines)))
+      (cases_after (left_by table (one table l)) lines (cases_kept table l h))
+
+  -- so what is written spells the replies
+  pub spell_replies : (table : Table) (lines : List (List ℕ)) → HasCasesOf (system_of shown.subject) table → SpellReplies shown table lines
+  spell_replies table lines h = record {
+    made = λ new a b made. makes_over table new lines a b h made;
+    replies = λ new a b made. subst (Writes a b) (said-replies system shown.limit table lines) (makes_over table new lines a b h made).written;
+    cases = λ new a b made. subst (HasCasesOf system) (sym (makes_over table new lines a b h made).table) (cases_after table lines h);
+    broke = λ new a b broke. breaks_over table new lines a b h broke;
+  }

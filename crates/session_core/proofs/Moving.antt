@@ -9,8 +9,8 @@ use Rattle.std.proofs.lemmas.Cmp.{nat_list_cmp_total, tied_itself}
 use Rattle.text_rules.specs.Names.{Name}
 use Rattle.state_rules.specs.Ranking.{rest}
 use Rattle.state_rules.specs.Systems.{System, all_diagnoses}
-use Rattle.minimiser.specs.declared.listing.Step.{Step as Answer}
-use Rattle.minimiser.specs.declared.listing.Step.TheVariants.{Found, End, Inconsistent}
+use Rattle.diagnosis_lister.specs.declared.listing.Step.{Step as Answer}
+use Rattle.diagnosis_lister.specs.declared.listing.Step.TheVariants.{Found, End, Inconsistent}
 use Rattle.script_lang.specs.Script.{Ask, Request, Several, Level, Levels as LevelsOf}
 use Rattle.session_rules.specs.GraphSystems.{Subject, system_of}
 use Rattle.session_rules.specs.declared.refusal.Refusal.TheVariants.{NoLevels}

@@ -3,9 +3,9 @@ use Rattle.std.proofs.Common.{◌≡◌, ◌≢◌, ◌∙◌, ℕ, Bool, true, 
 use Rattle.std.specs.Prelude.{is_some, IfSome}
 use Rattle.text_rules.specs.Names.{Name}
 use Rattle.state_rules.specs.Ranking.{least, diagnoses}
-use Rattle.minimiser.specs.declared.listing.Step.{Step}
-use Rattle.minimiser.specs.declared.listing.Step.TheVariants.{Found, End, Inconsistent}
-use Rattle.minimiser.specs.Listing.{step_of}
+use Rattle.diagnosis_lister.specs.declared.listing.Step.{Step}
+use Rattle.diagnosis_lister.specs.declared.listing.Step.TheVariants.{Found, End, Inconsistent}
+use Rattle.diagnosis_lister.specs.Listing.{step_of}
 use Rattle.session_rules.specs.Items.{Item, line}
 use Rattle.session_rules.specs.Replies.{Found as Next, found, inconsistent, end_line}
 use Rattle.session_core.proofs.Minimum.{some_diagnosis}

@@ -5,7 +5,6 @@ use Rattle.state_rules.specs.Cases.{Case}
 use Rattle.state_rules.specs.Graphs.{Graph, IsGraph, edges}
 use Rattle.projector.specs.Projecting.{projected_text}
 use Rattle.level_lister.specs.Listing.{cost_words}
-use Rattle.level_lister.specs.declared.levels.TheConstants.{TOP_LIMIT}
 use Rattle.smooth_nnf.specs.Layouts.{least_text}
 use Rattle.smooth_nnf.specs.Sizes.{drawing_bits}
 use Rattle.script_lang.specs.Script.{Line, Blank, Refused, Ask, Dnnf, LeastNnf, line_of}
@@ -19,7 +18,6 @@ use Rattle.session_core.specs.declared.limits.TheConstants.{SERVED_BITS}
 
 -- States are listed up to this cost. The sets of the nodes have few bits: for each node one for each part, and those of its costs.
 pub record CanList (graph : Graph) (parts top : ℕ) : Type 0 where
-  pub top_is : top ≤ TOP_LIMIT
   pub few : length graph.nodes * (parts + 32 * cost_words top) ≤ SERVED_BITS
 
 -- The graph of the diagnoses is told. Its lines can be numbered, and it is drawn with few bits.

@@ -8,7 +8,6 @@ ghost use Rattle.minimiser.specs.declared.pass.TheConstants.{TOTAL_LIMIT};
 ghost use Rattle.scratch_pool.specs.declared.region.TheConstants.{REGION_LIMIT};
 ghost use Rattle.part_sets.specs.PartSets.{AreFor};
 ghost use Rattle.level_lister.specs.Listing.{IsFor};
-ghost use Rattle.level_lister.specs.declared.levels.TheConstants.{TOP_LIMIT};
 ghost use Rattle.session_rules.specs.GraphSystems.{system_of};
 ghost use Rattle.session_rules.specs.Sessions.{names_of};
 ghost use Rattle.session_core.specs.Services.{CanList, CanDraw};
@@ -240,7 +239,7 @@ fn levels_of(
     requires parts { length costs.now ≤ graph.now.vars }
     requires few { length costs.now ≤ PART_LIMIT }
     requires total { total_cost costs.now < TOTAL_LIMIT }
-    requires top { IfSome top (λ top. top ≤ TOP_LIMIT) }
+    requires top { IfSome top (CanList graph.now (length costs.now)) }
     ensures top { IfOk result (λ levels. option_map (λ kept. kept.top) levels ≡ top) }
     ensures listed { IfOk result (λ levels. IfSome levels
         (λ kept. IsFor graph.now kept × (kept.costs ≡ costs.now))) }

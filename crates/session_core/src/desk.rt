@@ -7,7 +7,7 @@ ghost use Rattle.text_rules.specs.Tokens.{words};
 ghost use Rattle.state_rules.specs.Ranking.{rest};
 ghost use Rattle.diag_edge.specs.Edge.{HasCause, Puts};
 ghost use Rattle.conditioner.specs.Words.{bits_of};
-ghost use Rattle.minimiser.specs.Listing.{step_of};
+ghost use Rattle.diagnosis_lister.specs.Listing.{step_of};
 ghost use Rattle.probe_report.specs.Probed.{probed};
 ghost use Rattle.level_lister.specs.Listing.{level_step, point_if};
 ghost use Rattle.session_rules.specs.Sessions.{state_of};
@@ -17,19 +17,20 @@ ghost use Rattle.session_core.specs.inner.Bases.{AreKnown};
 ghost use Rattle.session_core.specs.inner.Desks.{asked_case, agreeing, least_asked, diagnoses_asked, later_asked, least_seen, blame_asked};
 
 use crate::basis::Basis;
+use crate::desk_memory::DeskMemory;
 use conditioner::is_open;
 use diag_edge::{Sink, WriteFailed};
+use diagnosis_lister::Step;
 use fault_graph::Distiller;
 use level_lister::LevelStep;
-use minimiser::{Step, Steps};
+use minimiser::Steps;
 use probe_report::{Blame, cost_of, probe, probe_all};
 use scratch_pool::Region;
-use script_lang::Noted;
-use smooth_nnf::write_least;
+use script_lang::{Noted, each_name};
+use smooth_nnf::write_least_with;
 use std::alloc::{AllocError, Global};
 use std::marker::Model;
 use std::sync::ledger::Ledger;
-use text_rules::Tokens;
 
 /// What is asked over, the words of the case that is asked, and the memory that answers are worked out in. All of it is taken when
 /// a desk is made.
@@ -77,18 +78,24 @@ impl Desk {
     pub(crate) fn new(alloc: Global, basis: Basis) -> Result<Desk, AllocError>
         ensures { IfOk result (λ desk. desk.subject ≡ basis) }
     {
-        let parts = basis.parts().len();
-        let wires = basis.wires().len();
-        let nodes = basis.nodes();
+        let DeskMemory {
+            known,
+            values,
+            state,
+            verdicts,
+            numbers,
+            distiller,
+            room,
+        } = DeskMemory::new(alloc, &basis)?;
         Ok(Desk {
-            known: vec![in alloc; 0; basis.vars()]?,
-            values: vec![in alloc; 0; nodes]?,
-            state: vec![in alloc; 0; parts]?,
-            verdicts: vec![in alloc; Blame::Never; parts]?,
-            numbers: vec![in alloc; 0; 2 * wires]?,
-            distiller: Distiller::new(alloc, basis.graph())?,
-            room: Region::new(alloc, basis.most_room())?,
             basis,
+            known,
+            values,
+            state,
+            verdicts,
+            numbers,
+            distiller,
+            room,
         })
     }
 
@@ -228,7 +235,7 @@ impl Desk {
         let pointed = start_at(&mut self.state, point);
         let levels = self.basis.levels().unwrap();
         let run = self.room.carve(self.basis.level_room(levels)).unwrap();
-        let step = levels.next(
+        let step = levels.next_in(
             self.basis.graph(),
             &mut self.known,
             self.room.run_mut(&run),
@@ -248,7 +255,7 @@ impl Desk {
         ensures same { self.new ≡ self.old }
         ensures cause { HasCause (O.faults out.old) (O.faults out.new) result }
     {
-        write_least(
+        write_least_with(
             self.basis.graph(),
             self.basis.part_sets(),
             &self.known,
@@ -366,7 +373,7 @@ fn mark_named(basis: &Basis, names: &[u8], state: &mut [u32]) -> bool
     // the names of parts rise, so that no two parts have one name
     let _parts = basis.parts();
     state.fill(0);
-    for name in Tokens::words(names) {
+    for name in each_name(names) {
         match basis.find(Noted::Part, name) {
             None => return false,
             Some(part) => state[part as usize] = 1,

@@ -3,8 +3,10 @@ ghost use Rattle.std.specs.Prelude.{◌≡◌, ℕ, List, Option, Some};
 ghost use Rattle.session_rules.specs.Sessions.{Table};
 ghost use Rattle.session_rules.specs.Moves.{script_moves};
 ghost use Rattle.session_rules.specs.Carrying.{Makes};
-ghost use Rattle.session_core.specs.Dialogues.{AreToldAlone};
-ghost use Rattle.session_core.specs.Services.{Shown, moves_of};
+ghost use Rattle.session_rules.specs.CaseSizes.{HasCasesOf};
+ghost use Rattle.session_rules.specs.GraphSystems.{system_of};
+ghost use Rattle.session_core.specs.Dialogues.{AreToldAlone, SpellReplies};
+ghost use Rattle.session_core.specs.Services.{Shown, IsSound, moves_of};
 
 /// What a service writes is one text: where the moves of a script were made twice, from one table and after the same bytes, the
 /// same bytes stand, and the same table.
@@ -19,4 +21,11 @@ pub fn one_text()
 /// there to its end are told what they are told with no other line before, between or behind them, where one session may be open.
 pub fn told_alone()
     ensures { (shown : Shown) (table : Table) (lines : List (List ℕ)) → AreToldAlone shown table lines }
+{}
+
+/// What a service writes spells the replies of its system: the moves of a script, from a table whose cases fit the system, are moves
+/// over the system, and where they break off, those do.
+pub fn spells_replies()
+    ensures { (shown : Shown) → IsSound shown → (table : Table) → HasCasesOf (system_of shown.subject) table
+        → (lines : List (List ℕ)) → SpellReplies shown table lines }
 {}

@@ -4,6 +4,7 @@
 mod asking;
 mod basis;
 mod desk;
+mod desk_memory;
 mod laws;
 mod levelling;
 mod limits;
@@ -17,9 +18,10 @@ mod serving;
 mod sessions;
 mod telling;
 
-pub use laws::{one_text, told_alone};
+pub use laws::{one_text, spells_replies, told_alone};
 pub use limits::{SERVED_BITS, SERVED_NODES, SERVED_VARIABLES, SESSION_LIMIT};
 pub use replies::put_faulty;
 pub use service::Service;
 pub use serving::{READ_LIMIT, ServeEnd};
 pub use state_rules::Extras;
+pub use std::alloc::AllocError as Memory;

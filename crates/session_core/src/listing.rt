@@ -17,7 +17,8 @@ ghost use Rattle.session_core.specs.inner.Obeying.{Obeys, IsOpen, MovesOn, NextM
 use crate::replies::{put_faulty, put_refusal};
 use crate::sessions::{OpenSession, Sessions};
 use diag_edge::{Sink, WriteFailed, put_line};
-use minimiser::{Step, Steps};
+use diagnosis_lister::Step;
+use minimiser::Steps;
 use session_rules::Refusal;
 use std::marker::Brand;
 use std::sync::ledger::{Blank, Ledger};

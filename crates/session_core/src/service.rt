@@ -6,12 +6,13 @@ ghost use Rattle.script_lang.specs.Script.{line_of};
 ghost use Rattle.session_rules.specs.Carrying.{CarriesOut};
 ghost use Rattle.session_core.specs.Services.{moves_of, ChangesTable, CanList, CanDraw, IsRefused, IsSound};
 
+use crate::Memory;
 use crate::basis::Basis;
 use crate::limits::{SERVED_NODES, SERVED_VARIABLES, SESSION_LIMIT};
 use crate::line_buffer::LineBuffer;
 use crate::sessions::Sessions;
 use device_model::{Name, PART_LIMIT, WIRE_LIMIT};
-use diag_edge::{Memory, Sink, WriteFailed};
+use diag_edge::{Sink, WriteFailed};
 use minimiser::TOTAL_LIMIT;
 use node_store::Graph;
 use state_rules::Extras;
@@ -67,19 +68,13 @@ impl Service {
               table = [];
             }) }
     {
-        let Ok(gathered) = LineBuffer::new(alloc) else {
-            return Err(Memory);
-        };
-        let Ok(basis) = Basis::of(alloc, parts, wires, costs, graph, extras) else {
-            return Err(Memory);
-        };
-        match Sessions::new(alloc, basis, sessions) {
-            Ok(sessions) => Ok(Service { sessions, gathered }),
-            Err(_) => Err(Memory),
-        }
+        let gathered = LineBuffer::new(alloc)?;
+        let basis = Basis::of(alloc, parts, wires, costs, graph, extras)?;
+        let sessions = Sessions::new(alloc, basis, sessions)?;
+        Ok(Service { sessions, gathered })
     }
 
-    /// Closes all sessions, and gives all memory back.
+    /// Spends the service with all its sessions.
     pub fn finish(self) {
         let Service {
             sessions,
@@ -104,8 +99,8 @@ impl Service {
     }
 
     /// Carries out one line, without its line feed, and writes its replies. `Err` means that a
-    /// write failed: the line was carried out up to the reply that met the failure, of which a
-    /// beginning was written at most.
+    /// write failed: the line was carried out up to one of its replies, and those before it were written.
+    /// Of that one a beginning was written, perhaps nothing, or all.
     pub fn line<O: Sink>(&mut self, line: &[u8], out: &mut O) -> Result<(), WriteFailed>
         ensures carried { CarriesOut self.old.table self.new.table
             (moves_of self.old self.old.table line.now)

@@ -23,8 +23,8 @@ pub enum ServeEnd {
     Done,
     /// A read failed. The lines that a line feed ended were answered.
     ReadFault,
-    /// A write failed. The line that it was to answer was carried out up to the reply that met the
-    /// failure, no line after it, and no read was tried after it.
+    /// A write failed. The lines were carried out up to one reply, and those before it were written. Of that one a
+    /// beginning was written, perhaps nothing, or all. No read was tried after it.
     WriteFault,
     /// As many bytes as the limit were taken, and no end was met. The lines that a line feed ended
     /// were answered.
@@ -150,7 +150,7 @@ fn serve_from<I: Source, O: Sink>(
 }
 
 impl Service {
-    /// Answers a script, at most `limit` bytes of it: each line as soon as its line feed was read.
+    /// Answers a script, at most `limit` bytes of it. As it is written, each line is answered as soon as its line feed was read.
     /// Each call begins with no unfinished line, and with the sessions as the last call left them,
     /// however it ended.
     pub fn serve<I: Source, O: Sink>(&mut self, input: &mut I, out: &mut O, limit: u64) -> ServeEnd

@@ -13,7 +13,7 @@ use crate::limits::SESSION_LIMIT;
 use crate::listing::Listed;
 use crate::replies::{put_line_refusal, put_refusal};
 use diag_edge::{Sink, WriteFailed, put_line};
-use script_lang::{Line, Noted, Request, parse_line};
+use script_lang::{AskedLine, Noted, Request, parse_line};
 use session_rules::Refusal;
 use session_table::OpenSessions;
 use std::alloc::{AllocError, Global};
@@ -89,10 +89,10 @@ impl Sessions {
         ensures stays { ChangesTable self.old self.new }
         ensures cause { HasCause (O.faults out.old) (O.faults out.new) result }
     {
-        match parse_line(line) {
-            Line::Blank => Ok(()),
-            Line::Refused(refusal) => put_line_refusal(out, refusal),
-            Line::Ask { session, request } => self.ask(session, request, out),
+        match parse_line(line).asked() {
+            AskedLine::Nothing => Ok(()),
+            AskedLine::Refused(refusal) => put_line_refusal(out, refusal),
+            AskedLine::Of { session, request } => self.ask(session, request, out),
         }
     }
 

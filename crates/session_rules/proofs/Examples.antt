@@ -4,10 +4,8 @@ use Rattle.std.specs.Prelude.{codes}
 use Rattle.std.specs.Fmt.{digits}
 use Rattle.state_rules.specs.Systems.{with_extras}
 use Rattle.device_model.specs.declared.component.Component.{Component}
-use Rattle.device_model.specs.declared.component.Kind.{Kind}
-use Rattle.device_model.specs.declared.component.Kind.TheVariants.{Gate as OfGate, Table}
-use Rattle.device_model.specs.declared.gates.Gate.{Gate}
-use Rattle.device_model.specs.declared.gates.Gate.TheVariants.{Nand, Buff}
+use Rattle.device_model.specs.declared.gates.Kind.{Kind}
+use Rattle.device_model.specs.declared.gates.Kind.TheVariants.{Nand, Buff, Table}
 use Rattle.device_model.specs.Devices.{Device}
 use Rattle.device_model.specs.Diagnosis.{device_system}
 use Rattle.session_rules.specs.Items.{Item, Plain, Projected, LeastText, Whole, line}
@@ -33,14 +31,11 @@ replied limit device lines = text_of (replies (device_system device) limit [] li
 abbrev part : List ℕ → Kind → List ℕ → Component
 part name kind ports = record { name = name; kind = kind; ports = ports }
 
-abbrev gate : List ℕ → Gate → List ℕ → Component
-gate name what ports = part name (OfGate what) ports
-
 -- ---- two buffers: b = BUFF(a), c = BUFF(b)
 
 abbrev pub chain : Device
 chain = record {
-  parts = gate (codes "b") Buff (0 ∷ 1 ∷ []) ∷ gate (codes "c") Buff (1 ∷ 2 ∷ []) ∷ [];
+  parts = part (codes "b") Buff (0 ∷ 1 ∷ []) ∷ part (codes "c") Buff (1 ∷ 2 ∷ []) ∷ [];
   wires = codes "a" ∷ codes "b" ∷ codes "c" ∷ [];
   tables = [];
 }
@@ -97,12 +92,12 @@ probes_and_blame = refl
 
 abbrev c17 : Device
 c17 = record {
-  parts = gate (codes "10") Nand (0 ∷ 8 ∷ 1 ∷ [])
-      ∷ gate (codes "11") Nand (8 ∷ 9 ∷ 2 ∷ [])
-      ∷ gate (codes "16") Nand (5 ∷ 2 ∷ 3 ∷ [])
-      ∷ gate (codes "19") Nand (2 ∷ 10 ∷ 4 ∷ [])
-      ∷ gate (codes "22") Nand (1 ∷ 3 ∷ 6 ∷ [])
-      ∷ gate (codes "23") Nand (3 ∷ 4 ∷ 7 ∷ []) ∷ [];
+  parts = part (codes "10") Nand (0 ∷ 8 ∷ 1 ∷ [])
+      ∷ part (codes "11") Nand (8 ∷ 9 ∷ 2 ∷ [])
+      ∷ part (codes "16") Nand (5 ∷ 2 ∷ 3 ∷ [])
+      ∷ part (codes "19") Nand (2 ∷ 10 ∷ 4 ∷ [])
+      ∷ part (codes "22") Nand (1 ∷ 3 ∷ 6 ∷ [])
+      ∷ part (codes "23") Nand (3 ∷ 4 ∷ 7 ∷ []) ∷ [];
   wires = map codes ("1" ∷ "10" ∷ "11" ∷ "16" ∷ "19" ∷ "2" ∷ "22" ∷ "23" ∷ "3" ∷ "6" ∷ "7" ∷ []);
   tables = [];
 }
@@ -191,7 +186,7 @@ projected_one = refl
 -- ---- one wire at two ports: y = NAND(a, a)
 
 abbrev inverter : Device
-inverter = record { parts = gate (codes "y") Nand (0 ∷ 0 ∷ 1 ∷ []) ∷ []; wires = codes "a" ∷ codes "y" ∷ []; tables = [] }
+inverter = record { parts = part (codes "y") Nand (0 ∷ 0 ∷ 1 ∷ []) ∷ []; wires = codes "a" ∷ codes "y" ∷ []; tables = [] }
 
 one_wire_at_two_ports : replied 16 inverter (map codes ("open S" ∷ "see S a=0" ∷ "see S y=0" ∷ "min S" ∷ []))
     ≡ text (map codes ("S open" ∷ "S ok" ∷ "S ok" ∷ "S min 1 y" ∷ []))

@@ -5,8 +5,7 @@ use Rattle.std.specs.Fmt.{digits}
 use Rattle.state_rules.specs.declared.nodes.NodeKind.TheVariants.{And, Or}
 use Rattle.state_rules.specs.Graphs.{Graph, literal_node}
 use Rattle.state_rules.specs.GraphsOver.{holds_for}
-use Rattle.device_model.specs.declared.component.Kind.TheVariants.{Gate as OfGate}
-use Rattle.device_model.specs.declared.gates.Gate.TheVariants.{Buff}
+use Rattle.device_model.specs.declared.gates.Kind.TheVariants.{Buff}
 use Rattle.device_model.specs.Devices.{Device}
 use Rattle.conditioner.specs.Models.{models}
 use Rattle.session_rules.specs.Items.{line, Projected}
@@ -25,7 +24,7 @@ words_of_what_is_open = refl
 
 abbrev buffer : Device
 buffer = record {
-  parts = record { name = codes "b"; kind = OfGate Buff; ports = 0 ∷ 1 ∷ [] } ∷ [];
+  parts = record { name = codes "b"; kind = Buff; ports = 0 ∷ 1 ∷ [] } ∷ [];
   wires = codes "a" ∷ codes "b" ∷ [];
   tables = [];
 }

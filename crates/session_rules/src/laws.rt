@@ -17,13 +17,13 @@ ghost use Rattle.session_rules.specs.Moves.{whole, line_moves, line_step, script
 ghost use Rattle.session_rules.specs.Sessions.{Table, replies};
 
 /// Each session is answered as if it were alone: wherever it opens among some lines, its own lines from there to its end have
-/// the answers that they have with no other line before, between or behind them.
+/// the answers that they have with no other line before, between or after them.
 pub fn answered_alone()
     ensures { (system : System) (limit : ℕ) (table : Table) (lines : List (List ℕ))
         → AreAnsweredAlone system limit table lines }
 {}
 
-/// What a line is answered, and what becomes of the session that it names, hangs on that session's entry, and where the line
+/// What a line is answered, and what becomes of the session that it names, hangs on that session's entry, and if the line
 /// opens it on whether there is room. It changes no other session.
 pub fn is_its_own()
     ensures { (system : System) (limit : ℕ) (line : Line) → IsItsOwn system limit line }
@@ -35,7 +35,7 @@ pub fn moves_are_steps()
         → whole table (line_moves system limit table line) ≡ line_step system limit table line }
 {}
 
-/// Over a graph that is true exactly where bits of wires fit a health state, a case that has a place for each wire and each part has
+/// Over a graph that is true exactly if bits of wires fit a health state, a case that has a place for each wire and each part has
 /// the consistent states of what fits. So it has, over the graph of a device, those that it has over the device.
 pub fn same_states()
     ensures fitting { (parts wires : List Name) (costs : List ℕ) (fits_by : List Bool → List Bool → Bool) (graph : Graph)
@@ -48,7 +48,7 @@ pub fn same_states()
         → (compiled_system device graph).consistent known ≡ (device_system device).consistent known }
 {}
 
-/// Over such a graph every script has the replies that it has over what fits, move by move, whatever is told besides, from any
+/// Over such a graph every script has the replies that it has over what fits, move by move, whatever else is offered, from any
 /// table whose cases have a place for each wire and each part. The empty table is one. So it has, over the graph of a device, those
 /// over the device.
 pub fn graph_replies()

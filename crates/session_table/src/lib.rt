@@ -8,3 +8,4 @@ mod open_sessions;
 mod short_name;
 
 pub use open_sessions::OpenSessions;
+pub use std::alloc::AllocError as Memory;

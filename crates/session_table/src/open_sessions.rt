@@ -9,11 +9,11 @@ ghost use Rattle.session_table.specs.Tables.{StandsAt, fresh_entry, Fits, count_
 
 use crate::block::Layout;
 use crate::in_order::{Open, find_place};
-use crate::in_pool;
 use crate::short_name::ShortName;
+use crate::{Memory, in_pool};
 use scratch_pool::Pool;
 use script_lang::Noted;
-use std::alloc::{AllocError, Global};
+use std::alloc::Global;
 use std::marker::Model;
 
 /// The open sessions, in the order of their names. All memory is taken when it is made. It is not `Drop`: [`OpenSessions::finish`]
@@ -52,7 +52,7 @@ impl OpenSessions {
         wires: u32,
         vars: u32,
         sessions: u32,
-    ) -> Result<OpenSessions, AllocError>
+    ) -> Result<OpenSessions, Memory>
         requires vars { parts + wires ≤ vars }
         requires words { sessions * (vars + 1 + parts) < POOL_LIMIT }
         ensures { IfOk result (λ opened. opened
@@ -77,7 +77,7 @@ impl OpenSessions {
         self.limit as usize <= self.open.len()
     }
 
-    /// The place of an open session. There is none exactly where no session of this name is open.
+    /// The place of an open session. There is none exactly if no session of this name is open.
     pub fn find(&self, session: &[u8]) -> Option<usize>
         ensures within { IfSome result (λ place. place < length self.now.table) }
         ensures some { IfSome result (λ place. (entry : Entry) × StandsAt self.now.table place session.now entry) }
@@ -133,7 +133,7 @@ impl OpenSessions {
         self.layout.known(self.pool.words(&self.open[place].block))
     }
 
-    /// The state after which the session at a place goes on, if there is one: 0 where a part is ok, and 1 where it is faulty.
+    /// The state after which the session at a place goes on, if there is one: 0 if a part is ok, and 1 if it is faulty.
     pub fn point(&self, place: usize) -> Option<&[u32]>
         requires { place < length self.now.table }
         ensures point { (session : Name) (entry : Entry) → StandsAt self.now.table place session entry

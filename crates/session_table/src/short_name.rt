@@ -39,7 +39,7 @@ impl ShortName {
         }
     }
 
-    /// How the name stands to another, byte by byte.
+    /// How the name compares to another, byte by byte.
     pub(crate) fn compare(&self, other: &[u8]) -> Ordering
         ensures { result ≡ slice_cmp nat_cmp self.now other.now }
     {

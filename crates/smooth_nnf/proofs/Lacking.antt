@@ -1,6 +1,6 @@
 -- What is kept of a graph, as a drawing has it: sets of parts, and nodes below which nothing is missing.
-use Rattle.std.proofs.Common.{◌≡◌, ℕ, ◌+◌, ◌*◌, ◌/◌, ◌%◌, ◌<◌, ◌≤◌, Bool, true, false, not, ◌&&◌, List, [], map, length, drop, get_or, Option, Some, None, refl, ap, sym, ◌∙◌, arith, ⊎_elim}
-use Rattle.std.specs.Prelude.{◌==◌, nat_lt, nat_le}
+use Rattle.std.proofs.Common.{◌≡◌, ℕ, ◌+◌, ◌*◌, ◌/◌, ◌%◌, ◌<◌, ◌≤◌, Bool, true, false, not, ◌&&◌, List, [], map, length, drop, get_or, Option, Some, None, refl, ap, sym, ◌∙◌, subst, arith, ⊎_elim}
+use Rattle.std.specs.Prelude.{◌==◌, nat_lt, nat_le, IfSome, MatchOption}
 use Rattle.std.specs.Int.{bit_at}
 use Rattle.std.specs.List.{range_with_len}
 use Rattle.std.proofs.lemmas.Bool.{cases_lt, lt-ltb, le-ltb, le-leb, lt-leb}
@@ -10,7 +10,7 @@ use Rattle.state_rules.specs.Graphs.{node_at, mentions, IsGraph}
 use Rattle.state_rules.specs.Bits.{has_bit}
 use Rattle.state_rules.proofs.Lists.{filter-never}
 use Rattle.part_sets.specs.Numbers.{part_words, set_at}
-use Rattle.part_sets.specs.PartSets.{ArePartsOf}
+use Rattle.part_sets.specs.PartSets.{ArePartsOf, AreLacking}
 use Rattle.smooth_nnf.specs.Layouts.{filler, fillers}
 use Rattle.smooth_nnf.specs.inner.Sets.{part_at}
 use Rattle.smooth_nnf.specs.inner.Drawings.{Drawing, IsDrawing, IsUnder, is_over, missing_in}
@@ -30,17 +30,26 @@ set-bit parts some sets k word b are w s =
       next p n = ⊎_elim (λ (h : p < n). lt-ltb p n h ∙ sym (le-leb (p + 1) n (omega arith))) (λ (h : n ≤ p). le-ltb p n h ∙ sym (lt-leb (p + 1) n (omega arith))) (cases_lt p n)
 
 -- nothing is missing below the last node, or below a kid of an or, where its word says so
-pub none-of_all : (d : Drawing) → IsDrawing d → get_or d.lacking (length d.graph.nodes) 0 ≡ 0 → (node part : ℕ) → IsUnder d None node → 1 ≤ part → part ≤ d.parts → missing_in d None node part ≡ false
-none-of_all d is zero node part under low high = ap (λ b. true && not b) (ap (mentions d.graph.nodes part) under ∙ is.lacks.all.0 zero part low high)
+pub none-of_all : (d : Drawing) (lacking : List ℕ) → AreLacking d.graph d.parts lacking → get_or lacking (length d.graph.nodes) 0 ≡ 0 → (node part : ℕ) → IsUnder d None node → 1 ≤ part → part ≤ d.parts → missing_in d None node part ≡ false
+none-of_all d lacking is zero node part under low high = ap (λ b. true && not b) (ap (mentions d.graph.nodes part) under ∙ is.all.0 zero part low high)
 
-pub none-of_or : (d : Drawing) → IsDrawing d → (o : ℕ) → get_or d.lacking o 0 ≡ 0 → (node part : ℕ) → IsUnder d (Some o) node → 1 ≤ part → part ≤ d.parts → missing_in d (Some o) node part ≡ false
-none-of_or d is o zero node part under low high =
+pub none-of_or : (d : Drawing) (lacking : List ℕ) → AreLacking d.graph d.parts lacking → (o : ℕ) → get_or lacking o 0 ≡ 0 → (node part : ℕ) → IsUnder d (Some o) node → 1 ≤ part → part ≤ d.parts → missing_in d (Some o) node part ≡ false
+none-of_or d lacking is o zero node part under low high =
     let same : mentions d.graph.nodes part node ≡ mentions d.graph.nodes part o =
-    ap (mentions d.graph.nodes part) (sym under.1.kid_is) ∙ (is.lacks.nodes o under.0).0 zero under.1.what under.1.place part under.1.within low high in
+    ap (mentions d.graph.nodes part) (sym under.1.kid_is) ∙ (is.nodes o under.0).0 zero under.1.what under.1.place part under.1.within low high in
     ap (λ b. mentions d.graph.nodes part o && not b) same ∙ never (mentions d.graph.nodes part o) where
       never : (b : Bool) → (b && not b) ≡ false
       never true = refl
       never false = refl
+
+-- nothing is missing where the word at its place says so
+pub none-under : (d : Drawing) (lacking : List ℕ) → AreLacking d.graph d.parts lacking → (over : Option ℕ) (place : ℕ) → MatchOption over (place ≡ length d.graph.nodes) (λ node. place ≡ node) → get_or lacking place 0 ≡ 0
+    → (node part : ℕ) → IsUnder d over node → 1 ≤ part → part ≤ d.parts → missing_in d over node part ≡ false
+none-under d lacking is None place at zero = none-of_all d lacking is (ap (λ n. get_or lacking n 0) (sym at) ∙ zero)
+none-under d lacking is (Some node) place at zero = none-of_or d lacking is node (ap (λ n. get_or lacking n 0) (sym at) ∙ zero)
+
+pub is-lacking : (d : Drawing) → IsDrawing d → (lacking : List ℕ) → d.lacking ≡ Some lacking → AreLacking d.graph d.parts lacking
+is-lacking d is lacking e = subst (λ o. IfSome o (AreLacking d.graph d.parts)) e is.lacks
 
 -- then no part is filled in
 pub no-fillers : (d : Drawing) (over : Option ℕ) (node : ℕ) → ((part : ℕ) → 1 ≤ part → part ≤ d.parts → missing_in d over node part ≡ false) → fillers d.words d.parts (missing_in d over node) ≡ []

@@ -10,3 +10,4 @@ mod WordParts
 mod FilledTexts
 mod LineLemmas
 mod EdgeLemmas
+pub mod PartBits

@@ -156,14 +156,14 @@ pub node_parts : (d : Drawing) → IsDrawing d → (node : ℕ) → node < lengt
     → length (set_parts 0 set) ≡ part_count d node
 node_parts d is node lt set at =
     let width : ℕ = part_words d.parts in
-    let room = block-below node (length d.graph.nodes + 1) width (omega arith) in
-    let enough : width ≤ length (drop (node * width) d.sets) = omega (arith, length-drop (node * width) d.sets, is.below.long, room) in
+    let room = block-below node (length d.graph.nodes) width lt in
+    let enough : width ≤ length (drop (node * width) d.sets) = omega (arith, length-drop (node * width) d.sets, is.wide, room) in
     let long : length set ≡ width = ap length at ∙ length-take-le width (drop (node * width) d.sets) enough in
     let few : d.parts ≤ 32 * length set = omega (arith, long) in
     ap length (set_parts-are (λ p. nat_le p d.parts && mentions d.graph.nodes p node) 0 set (λ i b inside s.
     let first : 0 + i ≡ i = omega arith in
     ap (λ xs. has_bit (get_or xs i 0) b) at ∙ ap (λ n. has_bit n b) (get_or-take width (drop (node * width) d.sets) i 0 (omega (arith, long)) ∙ get_or-drop (node * width) d.sets i 0)
-    ∙ set-bit d.parts (λ v. mentions d.graph.nodes v node) d.sets node i b (is.below.nodes node lt) (omega (arith, long)) s ∙ ap (λ n. nat_le (part_at n b) d.parts && mentions d.graph.nodes (part_at n b) node) (sym first)))
+    ∙ set-bit d.parts (λ v. mentions d.graph.nodes v node) d.sets node i b (is.below node lt) (omega (arith, long)) s ∙ ap (λ n. nat_le (part_at n b) d.parts && mentions d.graph.nodes (part_at n b) node) (sym first)))
     ∙ ap length (all-words (λ p. mentions d.graph.nodes p node) d.parts (32 * length set) few)
 
 pub part_count-le : (d : Drawing) (node : ℕ) → part_count d node ≤ d.parts

@@ -1,7 +1,8 @@
 //! What a text is drawn from.
-ghost use Rattle.std.specs.Prelude.{◌≡◌, ℕ, ◌*◌, ◌^◌, ◌<◌, ◌≤◌, ◌&&◌, true, false, not, nat_le, map, length, slice_index};
+ghost use Rattle.std.specs.Prelude.{◌≡◌, ℕ, ◌*◌, ◌^◌, ◌<◌, ◌≤◌, ◌&&◌, true, false, not, nat_le, map, length, slice_index, MatchOption};
 ghost use Rattle.std.specs.List.{filter, range_with_len};
 ghost use Rattle.state_rules.specs.Bits.{has_bit};
+ghost use Rattle.state_rules.specs.Graphs.{mentions};
 ghost use Rattle.minimiser.specs.Costs.{cost_at};
 ghost use Rattle.minimiser.specs.Stored.{cost_in};
 ghost use Rattle.part_sets.specs.Numbers.{part_words};
@@ -11,10 +12,11 @@ ghost use Rattle.smooth_nnf.specs.inner.Drawings.{IsDrawing, IsNodeOf, IsUnder, 
 
 use conditioner::is_false;
 use node_store::Graph;
-use part_sets::{PartSets, part_words, set_at};
+use part_sets::{part_words, set_at};
 use std::marker::Model;
 
-/// A graph under words, the number of its parts, the least cost and the own line of each node, and what is kept of its parts.
+/// A graph under words, the number of its parts, and of each node the least cost, the own line and the parts below it. If it is known,
+/// which ors have a child that lacks a part.
 #[derive(Drop)]
 pub(crate) struct Drawing<'a> {
     pub(crate) graph: &'a Graph,
@@ -22,17 +24,19 @@ pub(crate) struct Drawing<'a> {
     pub(crate) parts: u32,
     pub(crate) values: &'a [u32],
     pub(crate) lines: &'a [u32],
-    pub(crate) sets: &'a PartSets,
+    pub(crate) below: &'a [u32],
+    pub(crate) lacking: Option<&'a [u32]>,
 }
 
 impl<'a> Model for Drawing<'a> {
+    ghost use Rattle.std.specs.Option.{option_map};
     ghost use Rattle.smooth_nnf.specs.inner.Drawings.{Drawing as Kept, IsDrawing};
 
     ghost Value = { Kept };
 
-    ghost view = { λ d. record { graph = d.graph.now; words = d.words.now; parts = d.parts; values = d.values.now; lines = d.lines.now; sets = d.sets.now.below; lacking = d.sets.now.lacking } };
+    ghost view = { λ d. record { graph = d.graph.now; words = d.words.now; parts = d.parts; values = d.values.now; lines = d.lines.now; sets = d.below.now; lacking = option_map (λ words. words.now) d.lacking } };
 
-    ghost invariant = { λ d. IsDrawing (record { graph = d.graph.now; words = d.words.now; parts = d.parts; values = d.values.now; lines = d.lines.now; sets = d.sets.now.below; lacking = d.sets.now.lacking }) };
+    ghost invariant = { λ d. IsDrawing (record { graph = d.graph.now; words = d.words.now; parts = d.parts; values = d.values.now; lines = d.lines.now; sets = d.below.now; lacking = option_map (λ words. words.now) d.lacking }) };
 }
 
 impl<'a> Drawing<'a> {
@@ -76,6 +80,15 @@ impl<'a> Drawing<'a> {
         self.values
     }
 
+    // The sets of the parts below the nodes.
+    fn below(&self) -> &[u32]
+        ensures sets { result.now ≡ self.now.sets }
+        ensures wide { length self.now.graph.nodes * part_words self.now.parts ≤ length result.now }
+        ensures whole { IsDrawing self.now }
+    {
+        self.below
+    }
+
     // How many words a set has.
     pub(crate) fn width(&self) -> usize
         ensures { result ≡ part_words self.now.parts }
@@ -89,7 +102,7 @@ impl<'a> Drawing<'a> {
         ensures count { result ≡ part_count self.now node }
         ensures most { result ≤ self.now.parts }
     {
-        count_parts(set_at(self.sets.below(), node as usize, self.width()))
+        count_parts(set_at(self.below(), node as usize, self.width()))
     }
 
     // How many parts a line is to have below it.
@@ -110,9 +123,21 @@ impl<'a> Drawing<'a> {
         ensures { (node part : ℕ) → result ≡ true → IsUnder self.now over node → 1 ≤ part → part ≤ self.now.parts
             → missing_in self.now over node part ≡ false }
     {
+        match self.lacking {
+            Some(lacking) => lacking[self.place_over(over)] == 0,
+            None => false,
+        }
+    }
+
+    // The place of the node, or the one after all nodes.
+    fn place_over(&self, over: Option<u32>) -> usize
+        requires { IsNodeOf self.now over }
+        ensures within { result ≤ length self.now.graph.nodes }
+        ensures place { MatchOption over (result ≡ length self.now.graph.nodes) (λ node. result ≡ node) }
+    {
         match over {
-            Some(node) => self.sets.lacking()[node as usize] == 0,
-            None => self.sets.lacking()[self.graph.len() as usize] == 0,
+            Some(node) => node as usize,
+            None => self.graph.len() as usize,
         }
     }
 
@@ -139,11 +164,20 @@ impl<'a> Drawing<'a> {
         ensures { (b : ℕ) → b < 32 → has_bit result b
             ≡ (nat_le (part_at word b) self.now.parts && is_over self.now.graph.nodes over (part_at word b)) }
     {
-        let node = match over {
-            Some(node) => node,
-            None => self.graph.len(),
-        };
-        self.sets.below()[node as usize * self.width() + word]
+        match over {
+            Some(node) => self.node_word(node, word),
+            None => part_bits(self.parts, word),
+        }
+    }
+
+    // The parts of a word that are below a node.
+    fn node_word(&self, node: u32, word: usize) -> u32
+        requires node { node < length self.now.graph.nodes }
+        requires word { word < part_words self.now.parts }
+        ensures { (b : ℕ) → b < 32 → has_bit result b
+            ≡ (nat_le (part_at word b) self.now.parts && mentions self.now.graph.nodes (part_at word b) node) }
+    {
+        self.below()[node as usize * self.width() + word]
     }
 
     // The parts of a word that are missing below a node.
@@ -154,8 +188,7 @@ impl<'a> Drawing<'a> {
         ensures { (b : ℕ) → b < 32 → has_bit result b
             ≡ (nat_le (part_at word b) self.now.parts && missing_in self.now over node (part_at word b)) }
     {
-        let all = self.over_word(over, word);
-        without(all, self.sets.below()[node as usize * self.width() + word])
+        without(self.over_word(over, word), self.node_word(node, word))
     }
 
     // The line that fills in a part.
@@ -177,6 +210,15 @@ fn count_parts(set: &[u32]) -> u32
         count += word.count_ones();
     }
     count
+}
+
+// The bits of a word that are parts'.
+fn part_bits(parts: u32, word: usize) -> u32
+    requires { word < part_words parts }
+    ensures { (b : ℕ) → b < 32 → has_bit result b ≡ nat_le (part_at word b) parts }
+{
+    let count = (parts as usize - 32 * word).min(32);
+    ((1_u64 << count) - 1) as u32
 }
 
 // The bits of a word that another does not have.

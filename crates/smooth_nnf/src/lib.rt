@@ -8,4 +8,4 @@ mod lines;
 mod places;
 mod writing;
 
-pub use writing::write_least;
+pub use writing::{write_least, write_least_with};

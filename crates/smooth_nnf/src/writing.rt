@@ -1,4 +1,4 @@
-ghost use Rattle.std.specs.Prelude.{◌≡◌, ◌+◌, ◌*◌, ◌^◌, ◌<◌, ◌≤◌, [], length, All, true};
+ghost use Rattle.std.specs.Prelude.{◌≡◌, ◌+◌, ◌*◌, ◌^◌, ◌<◌, ◌≤◌, [], length, All, IfSome, true};
 ghost use Rattle.text_rules.specs.Tokens.{is_neat};
 ghost use Rattle.state_rules.specs.Graphs.{IsGraph, edges};
 ghost use Rattle.diag_edge.specs.Edge.{HasCause, Puts};
@@ -7,10 +7,11 @@ ghost use Rattle.nnf_text.specs.WrittenGraphs.{graph_text};
 ghost use Rattle.nnf_text.specs.StateGraphs.{IsSmoothGraphOfStates};
 ghost use Rattle.conditioner.specs.Models.{diagnoses_under, total_cost};
 ghost use Rattle.scratch_pool.specs.Regions.{free_words};
-ghost use Rattle.part_sets.specs.PartSets.{AreFor};
+ghost use Rattle.part_sets.specs.Numbers.{part_words};
+ghost use Rattle.part_sets.specs.PartSets.{ArePartsBelow, AreLacking, AreFor};
 ghost use Rattle.smooth_nnf.specs.Layouts.{all_lines, least_text};
 ghost use Rattle.smooth_nnf.specs.inner.Drawings.{shown};
-ghost use Rattle.smooth_nnf.specs.Sizes.{drawing_words};
+ghost use Rattle.smooth_nnf.specs.Sizes.{drawing_words, least_words};
 
 use crate::drawing::Drawing;
 use crate::edges::edge_count;
@@ -20,17 +21,60 @@ use diag_edge::{Chunk, Sink, WriteFailed};
 use minimiser::{Steps, TOTAL_LIMIT, put_least_costs};
 use nnf_text::add_header;
 use node_store::Graph;
-use part_sets::PartSets;
+use part_sets::{PART_LIMIT, PartSets, part_words, put_nodes};
 use scratch_pool::Region;
 use std::marker::Brand;
 use std::sync::ledger::{Blank, Ledger};
 
-/// Writes the graph of the diagnoses that a graph allows under words, one word a variable: 0 where it is open, 1 where it is true,
-/// 2 where it is false. The parts are the first variables, and each has a cost.
+/// Writes the graph of the diagnoses that a graph allows under words, one word a variable: 0 if it is open, 1 if it is true,
+/// 2 if it is false. The parts are the first variables, and each has a cost.
 ///
 /// The text is smooth and decomposable, and has at most a line for each node of the graph and each of its edges, two for each part,
-/// and one more. The region lends 2 words for each node. No memory is taken.
+/// and one more. The region lends 2 words for each node, and for each those of a set of parts. No memory is taken.
 pub fn write_least<O: Sink>(
+    graph: &Graph,
+    words: &[u32],
+    costs: &[u32],
+    region: &mut Region,
+    out: &mut O,
+) -> Result<(), WriteFailed>
+    requires words { length words.now ≡ graph.now.vars }
+    requires small { All (λ w. w < 3) words.now }
+    requires parts { length costs.now ≤ graph.now.vars }
+    requires dear { All (λ c. 0 < c) costs.now }
+    requires total { total_cost costs.now < TOTAL_LIMIT }
+    requires few { length graph.now.nodes + edges graph.now.nodes + 2 * length costs.now + 1 < 2 ^ 32 }
+    requires idle { region.old.runs ≡ [] }
+    requires few_parts { length costs.now ≤ PART_LIMIT }
+    requires room { least_words (length graph.now.nodes) (length costs.now) ≤ free_words region.old }
+
+    ensures bytes { Puts (O.got out.old) (O.got out.new) result
+        (least_text graph.now words.now costs.now) }
+    ensures cause { HasCause (O.faults out.old) (O.faults out.new) result }
+    ensures idle { region.new.runs ≡ [] }
+    ensures free { length region.new.words ≡ length region.old.words }
+
+    // The text has no blank line, and is read as a smooth and decomposable graph over the parts that is true for the diagnoses alone.
+    ensures neat { is_neat (least_text graph.now words.now costs.now) ≡ true }
+    ensures diagnoses { IsSmoothGraphOfStates (length costs.now) (diagnoses_under graph.now words.now costs.now)
+        (parsed (least_text graph.now words.now costs.now)) }
+{
+    let size = 2 + part_words(costs.len());
+    let run = region.carve(graph.len() as usize * size).unwrap();
+    let written = write_fresh::<O, Brand>(
+        Blank::new(1),
+        graph,
+        words,
+        costs,
+        region.run_mut(&run),
+        out,
+    );
+    region.release(run);
+    written
+}
+
+/// What [`write_least`] writes, from sets of the parts below the nodes that are kept. The region lends 2 words for each node.
+pub fn write_least_with<O: Sink>(
     graph: &Graph,
     sets: &PartSets,
     words: &[u32],
@@ -63,7 +107,8 @@ pub fn write_least<O: Sink>(
     let written = write_in::<O, Brand>(
         Blank::new(1),
         graph,
-        sets,
+        sets.below(),
+        Some(sets.lacking()),
         words,
         costs,
         region.run_mut(&run),
@@ -73,11 +118,10 @@ pub fn write_least<O: Sink>(
     written
 }
 
-// Writes it, in scratch.
-fn write_in<O: Sink, L: Ledger>(
+// Puts the sets, and writes it.
+fn write_fresh<O: Sink, L: Ledger>(
     blank: Blank,
     graph: &Graph,
-    sets: &PartSets,
     words: &[u32],
     costs: &[u32],
     scratch: &mut [u32],
@@ -92,7 +136,41 @@ fn write_in<O: Sink, L: Ledger>(
     requires dear { All (λ c. 0 < c) costs.now }
     requires total { total_cost costs.now < TOTAL_LIMIT }
     requires few { length graph.now.nodes + edges graph.now.nodes + 2 * length costs.now + 1 < 2 ^ 32 }
-    requires sets { AreFor graph.now (length costs.now) sets.now }
+    requires few_parts { length costs.now ≤ PART_LIMIT }
+    requires room { length scratch.old ≡ least_words (length graph.now.nodes) (length costs.now) }
+    ensures bytes { Puts (O.got out.old) (O.got out.new) result
+        (least_text graph.now words.now costs.now) }
+    ensures cause { HasCause (O.faults out.old) (O.faults out.new) result }
+    ensures valid { IsGraph graph.now }
+{
+    let (below, scratch) = scratch.split_at_mut(graph.len() as usize * part_words(costs.len()));
+    put_nodes(graph, costs.len(), below);
+    write_in::<O, L>(blank, graph, below, None, words, costs, scratch, out)
+}
+
+// Writes it, in scratch.
+fn write_in<O: Sink, L: Ledger>(
+    blank: Blank,
+    graph: &Graph,
+    below: &[u32],
+    lacking: Option<&[u32]>,
+    words: &[u32],
+    costs: &[u32],
+    scratch: &mut [u32],
+    out: &mut O,
+) -> Result<(), WriteFailed>
+    requires name { blank.name ≡ L.name }
+    requires shares { blank.parts ≡ L.parts }
+    requires some { 0 < blank.parts }
+    requires words { length words.now ≡ graph.now.vars }
+    requires small { All (λ w. w < 3) words.now }
+    requires parts { length costs.now ≤ graph.now.vars }
+    requires dear { All (λ c. 0 < c) costs.now }
+    requires total { total_cost costs.now < TOTAL_LIMIT }
+    requires few { length graph.now.nodes + edges graph.now.nodes + 2 * length costs.now + 1 < 2 ^ 32 }
+    requires wide { length graph.now.nodes * part_words (length costs.now) ≤ length below.now }
+    requires below { ArePartsBelow graph.now (length costs.now) below.now (length graph.now.nodes) }
+    requires lacking { IfSome lacking (λ words. AreLacking graph.now (length costs.now) words.now) }
     requires room { length scratch.old ≡ drawing_words (length graph.now.nodes) }
     ensures bytes { Puts (O.got out.old) (O.got out.new) result
         (least_text graph.now words.now costs.now) }
@@ -110,7 +188,8 @@ fn write_in<O: Sink, L: Ledger>(
         parts,
         values,
         lines,
-        sets,
+        below,
+        lacking,
     };
     put_lines(&drawing, count + 1, out)
 }

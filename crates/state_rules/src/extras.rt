@@ -1,4 +1,4 @@
-/// What sessions are told besides.
+/// What else sessions may ask for.
 #[derive(Clone, Copy, Debug, PartialEq, Eq)]
 pub struct Extras {
     /// States by rising cost, up to this cost.

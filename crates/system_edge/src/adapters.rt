@@ -4,8 +4,9 @@ ghost use Rattle.std.specs.Io.{ReadsAtMost};
 ghost use Rattle.std.specs.Io.KnownBytes.{ReadConsumes};
 ghost use Rattle.diag_edge.specs.Edge.{untold, Rose};
 
+use crate::Memory;
 use diag_edge::{ReadFailed, Shelf, Sink, Source, WriteFailed};
-use std::alloc::{AllocError, Global};
+use std::alloc::Global;
 use std::fs::File;
 use std::io::{ErrorKind, Read, Write};
 use std::{env, fs};
@@ -26,7 +27,7 @@ fn read_from<R: Read>(input: &mut R, into: &mut [u8]) -> Result<usize, ReadFaile
 }
 
 /// Files, by their paths. Each pick opens its file anew and lets go of the one before. Which files there are and what
-/// they hold is not told.
+/// they hold is not shown.
 #[derive(Drop)]
 pub struct FileShelf {
     rt: HostRuntime,
@@ -102,8 +103,8 @@ impl Shelf for FileShelf {
     }
 }
 
-/// The standard input, or another reader. What is still to come is told where the reader tells it, as one over memory
-/// does; the standard input tells nothing.
+/// The standard input, or another reader. What is still to come is shown if the reader shows it, as one over memory
+/// does; the standard input shows nothing.
 #[derive(Drop)]
 pub struct StdSource<R: Read + Drop> {
     input: R,
@@ -155,8 +156,8 @@ impl<R: Read + Drop> Source for StdSource<R> {
     }
 }
 
-/// The standard output, or another writer. What was accepted is told where the writer tells it, as one over memory
-/// does; the standard output tells nothing.
+/// The standard output, or another writer. What was accepted is shown if the writer shows it, as one over memory
+/// does; the standard output shows nothing.
 #[derive(Drop)]
 pub struct StdSink<W: Write + Drop> {
     out: W,
@@ -208,9 +209,9 @@ impl<W: Write + Drop> Sink for StdSink<W> {
     }
 }
 
-/// The words behind the program's name. Where they cannot be had as text there are none, so that they are answered as
+/// The words after the program's name. If they cannot be had as text there are none, so that they are answered as
 /// wrong words. An error is want of memory.
-pub fn words_of(rt: &HostRuntime, alloc: Global) -> Result<Vec<String>, AllocError> {
+pub fn words_of(rt: &HostRuntime, alloc: Global) -> Result<Vec<String>, Memory> {
     let mut words = Vec::new(alloc);
     match env::args(rt) {
         Ok(args) => {
@@ -218,7 +219,7 @@ pub fn words_of(rt: &HostRuntime, alloc: Global) -> Result<Vec<String>, AllocErr
                 words.push(word)?;
             }
         }
-        Err(error) if error.kind() == ErrorKind::OutOfMemory => return Err(AllocError),
+        Err(error) if error.kind() == ErrorKind::OutOfMemory => return Err(Memory),
         Err(_) => {}
     }
     Ok(words)

@@ -5,3 +5,4 @@
 mod adapters;
 
 pub use adapters::{FileShelf, StdSink, StdSource, words_of};
+pub use std::alloc::AllocError as Memory;

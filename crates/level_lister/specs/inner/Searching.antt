@@ -6,7 +6,7 @@ use Rattle.state_rules.specs.Graphs.{Graph}
 use Rattle.state_rules.specs.Levels.{is_level_before}
 use Rattle.conditioner.specs.Words.{word_of}
 use Rattle.conditioner.specs.Models.{has_model, fits_words}
-use Rattle.minimiser.specs.inner.Fixing.{fixed_bits}
+use Rattle.diagnosis_lister.specs.inner.Fixing.{fixed_bits}
 use Rattle.level_lister.specs.Listing.{Kept}
 
 -- a state of the parts that the graph allows under the words, of just so much cost

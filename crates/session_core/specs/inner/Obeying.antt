@@ -3,8 +3,8 @@ use Rattle.std.specs.Prelude.{◌≡◌, ℕ, ◌<◌, Bool, true, is_some, List
 use Rattle.text_rules.specs.Names.{Name}
 use Rattle.state_rules.specs.Ranking.{rest}
 use Rattle.state_rules.specs.Systems.{all_diagnoses}
-use Rattle.minimiser.specs.declared.listing.Step.{Step as Answer}
-use Rattle.minimiser.specs.Listing.{step_of}
+use Rattle.diagnosis_lister.specs.declared.listing.Step.{Step as Answer}
+use Rattle.diagnosis_lister.specs.Listing.{step_of}
 use Rattle.level_lister.specs.declared.levels.LevelStep.{LevelStep}
 use Rattle.level_lister.specs.Listing.{level_step}
 use Rattle.script_lang.specs.Script.{Request, Ask}

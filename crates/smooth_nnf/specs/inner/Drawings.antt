@@ -1,15 +1,16 @@
 -- What a text is drawn from, as it is kept.
-use Rattle.std.specs.Prelude.{◌≡◌, ℕ, ◌*◌, ◌+◌, ◌-◌, ◌^◌, ◌<◌, ◌≤◌, Bool, true, not, ◌&&◌, List, [], ◌∷◌, ◌++◌, map, length, slice_index, Option, Some, None, All}
+use Rattle.std.specs.Prelude.{◌≡◌, ℕ, ◌*◌, ◌+◌, ◌-◌, ◌^◌, ◌<◌, ◌≤◌, Bool, true, not, ◌&&◌, List, [], ◌∷◌, ◌++◌, map, length, slice_index, Option, Some, None, IfSome, All}
 use Rattle.std.specs.List.{filter, range_with_len}
 use Rattle.state_rules.specs.declared.nodes.NodeKind.TheVariants.{Or}
 use Rattle.state_rules.specs.Graphs.{Node, Graph, node_at, mentions, edges}
 use Rattle.state_rules.specs.Bits.{has_bit}
 use Rattle.minimiser.specs.Costs.{cost_at}
 use Rattle.minimiser.specs.Stored.{cost_in}
-use Rattle.part_sets.specs.PartSets.{AreBelow, AreLacking}
+use Rattle.part_sets.specs.Numbers.{part_words}
+use Rattle.part_sets.specs.PartSets.{ArePartsBelow, AreLacking}
 use Rattle.smooth_nnf.specs.Layouts.{Layout, and_over, fillers, lines_to, own_lines}
 
--- a layout, with its costs as numbers, the sets of the parts below each node, and whether a kid lacks one
+-- a layout, with its costs as numbers, the sets of the parts below each node, and, if it is known, whether a kid lacks one
 pub record Drawing : Type 0 where
   pub graph : Graph
   pub words : List ℕ
@@ -17,7 +18,7 @@ pub record Drawing : Type 0 where
   pub values : List ℕ
   pub lines : List ℕ
   pub sets : List ℕ
-  pub lacking : List ℕ
+  pub lacking : Option (List ℕ)
 
 abbrev pub shown : Drawing → Layout
 shown drawing = record {
@@ -38,8 +39,9 @@ pub record IsDrawing (drawing : Drawing) : Type 0 where
   pub places : length drawing.lines ≡ length drawing.graph.nodes
   pub placed : drawing.lines ≡ own_lines (map cost_in drawing.values) (2 * drawing.parts) 0 drawing.graph.nodes
   pub count : length drawing.graph.nodes + edges drawing.graph.nodes + 2 * drawing.parts + 1 < 2 ^ 32
-  pub below : AreBelow drawing.graph drawing.parts drawing.sets
-  pub lacks : AreLacking drawing.graph drawing.parts drawing.lacking
+  pub wide : length drawing.graph.nodes * part_words drawing.parts ≤ length drawing.sets
+  pub below : ArePartsBelow drawing.graph drawing.parts drawing.sets (length drawing.graph.nodes)
+  pub lacks : IfSome drawing.lacking (AreLacking drawing.graph drawing.parts)
 
 -- how many lines there are up to the last one of these nodes, where the first one has this number and its lines begin at this line
 abbrev pub lines_after : List (Option ℕ) → ℕ → ℕ → List Node → ℕ

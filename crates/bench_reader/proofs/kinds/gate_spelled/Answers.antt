@@ -5,11 +5,11 @@ use Rattle.device_model.specs.Gates.{gates}
 use Rattle.device_model.proofs.NamedGates.{first_named-later}
 use Rattle.bench_reader.specs.Statements.{capitals}
 use Rattle.bench_reader.specs.inner.Lines.{is_capital}
-use Rattle.bench_reader.proofs.Words.{capitals-gate_row}
+use Rattle.bench_reader.proofs.Words.{capitals-kind}
 use Rattle.bench_reader.proofs.kinds.gate_spelled.Goals as goal
 
 pub spells_in_any_case-requires : goal.spells_in_any_case-requires
-spells_in_any_case-requires c = ap (list_all is_capital) c.word.ensures ∙ capitals-gate_row _
+spells_in_any_case-requires c = ap (list_all is_capital) c.word.ensures ∙ capitals-kind _
 
 pub loop-gate-preserved : goal.loop-gate-preserved
 loop-gate-preserved c =

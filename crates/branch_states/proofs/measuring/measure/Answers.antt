@@ -1,15 +1,37 @@
-use Rattle.std.proofs.Common.{◌≡◌, ◌-◌, ℕ, length, refl, ap, ◌∙◌}
-use Rattle.branch_states.specs.Branches.{order}
-use Rattle.branch_states.specs.Forks.{Limited}
-use Rattle.branch_states.proofs.Descending.{goes-on}
+use Rattle.std.proofs.Common.{◌≡◌, ◌+◌, Ok, ap, ◌∙◌, arith}
+use Rattle.elimination_forests.specs.Branches.{order}
+use Rattle.elimination_forests.specs.Forests.{chain}
+use Rattle.elimination_forests.proofs.Chains.{chain-forest}
+use Rattle.forest_states.proofs.Mapped.{if-some}
+use Rattle.branch_states.proofs.Sums.{some-counted, whole-sum, above-sum}
 use Rattle.branch_states.proofs.measuring.measure.Goals as goal
 
--- the levels below the first one
-below : (first d : Limited) (count : ℕ) → first ≡ record d { level = 0 } → count ≡ length (order first.cnf.clauses) - first.level → count ≡ length (order d.cnf.clauses) - 0
-below first d count e l = l ∙ ap (λ (d : Limited). length (order d.cnf.clauses) - d.level) e
+pub returns-in_default-clause-above : goal.returns-in_default-clause-above
+returns-in_default-clause-above c _ =
+    let valid = c.in_ok-steps.ensures.valid in
+    above-sum c.args.cnf.now valid c.args.top
+    (c.in_ok-found.ensures.above (ap (λ o. Ok o) c.in_default.is) (chain (order c.args.cnf.now.clauses)) (c.deref.ensures.value ∙ c.in_ok-steps.ensures.steps) (chain-forest c.args.cnf.now valid))
 
-pub go_down-requires : goal.go_down-requires
-go_down-requires c =
-    let first : Limited = record { cnf = c.args.cnf.now; level = 0; top = c.args.top } in
-    goes-on c.loop-level.descent first c.loop-level._level c.left-level-end.result c.loop-level.invariant refl c.loop-level-test.true
-    (below c.in_ok-descent.descent first c.left-level-end.result c.in_ok-descent.ensures.begin c.left-level-end.ensures.left)
+pub sum_within-requires-clause-some : goal.sum_within-requires-clause-some
+sum_within-requires-clause-some c =
+    let valid = c.in_ok-steps.ensures.valid in
+    some-counted c.args.cnf.now valid c.in-Some.found.sum
+    (if-some _ _ _ c.in-Some.is c.in_ok-found.ensures.sum (chain (order c.args.cnf.now.clauses)) (c.deref.ensures.value ∙ c.in_ok-steps.ensures.steps) (chain-forest c.args.cnf.now valid))
+
+pub returns-clause-above : goal.returns-clause-above
+returns-clause-above c _ =
+    let valid = c.in_ok-steps.ensures.valid in
+    let forest = chain (order c.args.cnf.now.clauses) in
+    let steps = c.deref.ensures.value ∙ c.in_ok-steps.ensures.steps in
+    let is = chain-forest c.args.cnf.now valid in
+    let whole = whole-sum c.args.cnf.now valid c.in-Some.found.sum c.in-Some.found.leads_on (if-some _ _ _ c.in-Some.is c.in_ok-found.ensures.sum forest steps is) (if-some _ _ _ c.in-Some.is c.in_ok-found.ensures.leads_on forest steps is) in
+    omega (arith, whole, c.sum_within.ensures.above c.in-None.is)
+
+pub returns-in-Some-sum_within-clause-sum : goal.returns-in-Some-sum_within-clause-sum
+returns-in-Some-sum_within-clause-sum c =
+    let valid = c.in_ok-steps.ensures.valid in
+    let forest = chain (order c.args.cnf.now.clauses) in
+    let steps = c.deref.ensures.value ∙ c.in_ok-steps.ensures.steps in
+    let is = chain-forest c.args.cnf.now valid in
+    let whole = whole-sum c.args.cnf.now valid c.in-Some.found.sum c.in-Some.found.leads_on (if-some _ _ _ c.in-Some.is c.in_ok-found.ensures.sum forest steps is) (if-some _ _ _ c.in-Some.is c.in_ok-found.ensures.leads_on forest steps is) in
+    omega (arith, whole, if-some _ _ _ c.in-Some-sum_within.is c.sum_within.ensures.sum)

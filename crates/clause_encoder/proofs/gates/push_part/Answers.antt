@@ -9,7 +9,8 @@ pub returns-in_ok-push_table-in-Table-clause-clauses : goal.returns-in_ok-push_t
 returns-in_ok-push_table-in-Table-clause-clauses c =
     let tables = c.args.tables.now in
     let ports = c.args.ports.now in
-    let arity : rows_take (slice_get tables c.in-Table.table) (length ports) ≡ true = subst (λ kind. takes_ports tables kind (length ports) ≡ true) c.in-Table.is c.requires.arity in
+    let table_rule = sym c.rule.ensures ∙ c.in-Table.is in
+    let arity : rows_take (slice_get tables c.in-Table.table) (length ports) ≡ true = subst (λ r. takes_ports tables r (length ports) ≡ true) table_rule c.requires.arity in
     let table = taken tables c.in-Table.table (length ports) c.index-tables-table.result arity c.index-tables-table.is in
     c.in_ok-push_table-in-Table.ensures ∙ ap (λ rows. c.args.writer.now.clauses ++ tidy (table_clauses rows c.args.health ports)) (sym table.0)
-    ∙ ap (λ kind. c.args.writer.now.clauses ++ tidy (raw_clauses tables kind c.args.health c.args.inner ports)) (sym c.in-Table.is)
+    ∙ ap (λ r. c.args.writer.now.clauses ++ tidy (raw_clauses tables r c.args.health c.args.inner ports)) (sym table_rule)

@@ -1,10 +1,10 @@
 use Rattle.device_files.specs.Refusals.{told_by}
-use Rattle.device_files.proofs.Ordering.{by_any}
+use Rattle.device_files.proofs.Choosing.{by_any}
 use Rattle.device_files.proofs.Refusing.{found_told, refused_told}
 use Rattle.device_files.proofs.inspecting.check_file.Goals as goal
 
 pub returns-in-Ok-clause-said : goal.returns-in-Ok-clause-said
-returns-in-Ok-clause-said g c = by_any (λ order. found_told _ _ _ _ _ _ c.in-Ok.ensures.graph c.tell_graph.ensures.said)
+returns-in-Ok-clause-said g c = by_any (λ choose. found_told _ _ _ _ _ _ c.in-Ok.ensures.graph c.tell_graph.ensures.said)
 
 pub returns-in-Err-clause-said : goal.returns-in-Err-clause-said
-returns-in-Err-clause-said g c = by_any (λ order. refused_told _ _ (told_by c.in-Err.refusal) _ _ _ c.in-Err.ensures.graph c.tell.ensures.said)
+returns-in-Err-clause-said g c = by_any (λ choose. refused_told _ _ (told_by c.in-Err.refusal) _ _ _ c.in-Err.ensures.graph c.tell.ensures.said)

@@ -1,32 +1,27 @@
-use Rattle.std.proofs.Common.{◌≡◌, Ok, ◌∙◌, arith}
+use Rattle.std.proofs.Common.{◌≡◌, Ok, arith}
 use Rattle.std.proofs.lemmas.Result.{err_from_is_err_and}
-use Rattle.text_rules.specs.Expected.{IsExpectedFault}
-use Rattle.branch_states.specs.Branches.{sum_of}
 use Rattle.device_files.specs.Weighing.{within}
-use Rattle.device_files.specs.Refusals.{told_by}
-use Rattle.diag_cli.proofs.ServedDevices.{servable}
-use Rattle.device_files.proofs.Ordering.{by_any, list_vars, list_alike, list_gives}
+use Rattle.device_files.proofs.Choosing.{by_any, has_sum, list_gives}
+use Rattle.diag_cli.specs.inner.Compiling.{FindsGraph}
+use Rattle.diag_cli.proofs.ServedDevices.{found_or_refused}
 use Rattle.diag_cli.proofs.graphs.graph_within.Goals as goal
 
-pub returns-in_err-cnf-clause-list : goal.returns-in_err-cnf-clause-list
-returns-in_err-cnf-clause-list c =
+pub returns-in_err-cnf : goal.returns-in_err-cnf
+returns-in_err-cnf c =
     let p = err_from_is_err_and c.from_residual.result c.from_residual.ensures.1 in
-    rw (p.1, p.2) (by_any (λ order. c.in_err-cnf.ensures.fault order c.args.budget))
+    rw (p.1, p.2) (by_any (λ choose. c.in_err-cnf.ensures.fault c.args.is_narrow choose c.args.budget))
 
-pub returns-in_err-compiled-clause-list : goal.returns-in_err-compiled-clause-list
-returns-in_err-compiled-clause-list c =
-    let p = err_from_is_err_and c.from_residual-in_err-compiled.result c.from_residual-in_err-compiled.ensures.1 in
-    rw (p.1, p.2) (list_gives c.args.is_narrow c.args.device.now c.in_ok-cnf.cnf c.in_ok-cnf.ensures.list
-    (λ clauses. IsExpectedFault (told_by c.in_err-compiled.field-0.0) (within c.args.budget clauses)) c.in_err-compiled.ensures.list)
+pub returns-in_err-forest : goal.returns-in_err-forest
+returns-in_err-forest c =
+    let p = err_from_is_err_and c.from_residual-in_err-forest.result c.from_residual-in_err-forest.ensures.1 in
+    rw (p.1, p.2) (by_any (λ choose. tt))
 
-pub returns-clause-list : goal.returns-clause-list
-returns-clause-list c =
-    list_gives c.args.is_narrow c.args.device.now c.in_ok-cnf.cnf c.in_ok-cnf.ensures.list (λ clauses. within c.args.budget clauses ≡ Ok c.in_ok-cnf.cnf) c.in_ok-compiled.ensures.list
+pub compiled_within-requires-clause-sum : goal.compiled_within-requires-clause-sum
+compiled_within-requires-clause-sum c = has_sum c.in_ok-cnf.cnf c.args.is_narrow c.in_ok-forest.forest c.in_ok-forest.ensures
 
-pub returns-clause-servable : goal.returns-clause-servable
-returns-clause-servable c =
-    let made = c.in_ok-compiled.ensures.compiled in
+pub returns : goal.returns
+returns c =
     let of = c.in_ok-cnf.ensures.list in
-    let vars = list_vars c.args.is_narrow c.args.device.now c.in_ok-cnf.cnf of in
-    servable c.args.device.now of.given of.encoded _ c.in_ok-compiled.compiled.made (sum_of c.in_ok-cnf.cnf.clauses) c.parts-parts.ensures.valid of.describes (omega (arith, c.in_ok-compiled.ensures.within, c.requires))
-    made.decomposable (made.vars ∙ vars) (λ a. made.truth a ∙ list_alike c.args.is_narrow c.args.device.now c.in_ok-cnf.cnf of a) made.few_made (omega (arith, made.few_nodes, vars))
+    list_gives c.args.is_narrow c.args.device.now c.in_ok-cnf.cnf c.in_ok-forest.forest of c.in_ok-forest.ensures (λ clauses. FindsGraph c.args.device.now (within c.args.budget clauses) c.compiled_within.result)
+    (λ sum has. found_or_refused c.args.device.now c.in_ok-cnf.cnf of c.parts-parts.ensures.valid c.args.budget sum c.requires c.compiled_within.result
+    (c.compiled_within.ensures.list sum has) (c.compiled_within.ensures.within sum has) (c.compiled_within.ensures.graph sum has))

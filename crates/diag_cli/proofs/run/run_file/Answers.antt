@@ -1,14 +1,14 @@
-use Rattle.device_files.proofs.Ordering.{by_any, by_same}
+use Rattle.device_files.proofs.Choosing.{by_any, by_same}
 use Rattle.diag_cli.proofs.Shown.{told_shown}
 use Rattle.diag_cli.proofs.run.run_file.Goals as goal
 
 pub returns-in-Inspect-clause-follows : goal.returns-in-Inspect-clause-follows
 returns-in-Inspect-clause-follows g c =
-    by_same c.inspect_file.ensures.said (λ order said. rw c.in-Inspect.is (told_shown (g.O.Sink.shown_is c.args.out.now) (g.O.Sink.shown_is c.inspect_file.new.out) said))
+    by_same c.inspect_file.ensures.said (λ choose said. rw c.in-Inspect.is (told_shown (g.O.Sink.shown_is c.args.out.now) (g.O.Sink.shown_is c.inspect_file.new.out) said))
 
 pub returns-in-Compile-clause-follows : goal.returns-in-Compile-clause-follows
 returns-in-Compile-clause-follows g c =
-    by_same c.compile_file.ensures.said (λ order said. rw c.in-Compile.is (told_shown (g.O.Sink.shown_is c.args.out.now) (g.O.Sink.shown_is c.compile_file.new.out) said))
+    by_same c.compile_file.ensures.said (λ choose said. rw c.in-Compile.is (told_shown (g.O.Sink.shown_is c.args.out.now) (g.O.Sink.shown_is c.compile_file.new.out) said))
 
 pub returns-in-Ask-clause-follows : goal.returns-in-Ask-clause-follows
-returns-in-Ask-clause-follows g c = by_any (λ order. rw c.in-Ask.is c.ask_file.ensures.follows)
+returns-in-Ask-clause-follows g c = by_any (λ choose. rw c.in-Ask.is c.ask_file.ensures.follows)

@@ -1,5 +1,5 @@
 use Rattle.std.proofs.Common.{◌≡◌, ℕ, [], ◌∷◌, ◌+◌, List, ◌++◌, map, length, ap, sym, subst, ◌∙◌, arith}
-use Rattle.device_model.specs.declared.component.Kind.TheVariants.{Gate as OfGate, Table}
+use Rattle.device_model.specs.declared.gates.Kind.TheVariants.{Table}
 use Rattle.device_model.specs.declared.limits.TheConstants.{WIRE_LIMIT}
 use Rattle.flattener.specs.declared.expanding.Flat.{Flat}
 use Rattle.flattener.specs.Flat.{below}
@@ -80,7 +80,7 @@ loop-used-preserved t c =
             | in-Gate+in_ok-push_part-in-Gate w ↦ subst P (sym w.flat-is)
                 (gate_grows can part grown w.in-Gate.gate _ w.in-Gate.is
                 (w.in_ok-push_part-in-Gate.ensures
-                ∙ (λ k. c.loop-used.flat.parts.items ++ record { name = name k; kind = OfGate w.in-Gate.gate; ports = (w.deref.ensures.value ∙ ports) k } ∷ [])))
+                ∙ (λ k. c.loop-used.flat.parts.items ++ record { name = name k; kind = w.in-Gate.gate; ports = (w.deref.ensures.value ∙ ports) k } ∷ [])))
             | in-Shape+in_ok-push_part-in-Shape w ↦ subst P (sym w.flat-is)
                 (type_grows can part grown w.in-Shape.table _ w.in-Shape.is
                 (w.in_ok-push_part-in-Shape.ensures

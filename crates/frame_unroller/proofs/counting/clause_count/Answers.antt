@@ -1,4 +1,5 @@
 use Rattle.std.proofs.Common.{◌≡◌, ◌<◌, ◌≤◌, ◌+◌, ◌*◌, length, get_or, ap, sym, subst, ◌∙◌, arith}
+use Rattle.device_model.specs.Gates.{rule}
 use Rattle.clause_encoder.specs.Encoding.{raw_clauses}
 use Rattle.frame_unroller.proofs.ClauseCounts.{Has, Counted, at_first, none_at_first, at_later, counted_more, counted_all, count-copies}
 use Rattle.frame_unroller.proofs.counting.clause_count.Goals as goal
@@ -16,7 +17,7 @@ loop-place-preserved c =
     let is : part ≡ get_or parts place part = c.part-item.is ∙ ap (λ ps. get_or ps place part) c.parts-part-items.ensures.parts in
     let said = c.requires.delays.say place lt in
     let has : Has seq frames part n = λ h z vs long.
-    ap (λ ts. length (raw_clauses ts part.kind h z vs)) (sym c.tables.ensures.tables) ∙ c.part_count-clauses.ensures.count h z vs (long ∙ sym (ap length c.as_slice-ports.ensures)) in
+    ap (λ ts. length (raw_clauses ts (rule part.kind) h z vs)) (sym c.tables.ensures.tables) ∙ c.part_count-clauses.ensures.count h z vs (long ∙ sym (ap length c.as_slice-ports.ensures)) in
     let so_far = c.loop-place.invariant.at_first in
     let none : c.loop-place.first + 0 ≡ c.loop-place.first = omega arith in
     record {

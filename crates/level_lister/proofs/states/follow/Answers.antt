@@ -6,8 +6,8 @@ use Rattle.state_rules.specs.Bits.{bit_in}
 use Rattle.conditioner.specs.Words.{word_of, bits_of}
 use Rattle.conditioner.proofs.FittingWords.{word_of-small}
 use Rattle.conditioner.proofs.StateBits.{bit_in-bits}
-use Rattle.minimiser.proofs.OpenMarks.{length-bits}
-use Rattle.minimiser.proofs.Points.{FollowsTo, FollowsTo-set, FollowsTo-stay, Follows-all}
+use Rattle.diagnosis_lister.proofs.OpenMarks.{length-bits}
+use Rattle.diagnosis_lister.proofs.Points.{FollowsTo, FollowsTo-set, FollowsTo-stay, Follows-all}
 use Rattle.level_lister.proofs.states.follow.Goals as goal
 use Rattle.level_lister.proofs.states.follow.Goals.{then-is_open, else-is_open+else-words-part}
 

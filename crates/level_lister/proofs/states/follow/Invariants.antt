@@ -1,6 +1,6 @@
 use Rattle.std.proofs.Common.{◌<◌, All}
 use Rattle.conditioner.specs.Words.{bits_of}
-use Rattle.minimiser.proofs.Points.{FollowsTo}
+use Rattle.diagnosis_lister.proofs.Points.{FollowsTo}
 use Rattle.level_lister.proofs.states.follow.Given as goal
 
 -- the words so far say the point's bits

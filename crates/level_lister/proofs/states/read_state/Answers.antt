@@ -1,5 +1,5 @@
 use Rattle.std.proofs.Common.{length, arith}
-use Rattle.minimiser.proofs.OpenMarks.{written-bits, written-small}
+use Rattle.diagnosis_lister.proofs.OpenMarks.{written-bits, written-small}
 use Rattle.level_lister.proofs.states.read_state.Goals as goal
 
 pub returns-clause-bits : goal.returns-clause-bits

@@ -81,4 +81,4 @@ returns-clause-built c =
     c.in_ok-parts.ensures.distinct c.in_ok-wires.ensures.distinct
     (arity_at None _ _ _ _ c.deref.ensures.value c.deref-2.ensures.value c.in_default.ensures.first)
     (wire_at None _ _ _ _ (omega arith) c.deref-3.ensures.value c.in_default-joined.ensures.first)
-    ∙ ap (λ (d : Device). Ok d) (sym (c.in_ok-of_sorted.ensures ∙ made))
+    ∙ ap (λ (d : Device). Ok d) (sym (c.of_sorted.ensures ∙ made))

@@ -1,20 +1,24 @@
-use Rattle.std.proofs.Common.{ℕ, Vec, Global, ap, ◌∙◌}
-use Rattle.text_rules.specs.Names.{Name, same_name}
+use Rattle.std.proofs.Common.{◌≡◌, sym, ap, ◌∙◌, subst, true, rules}
+use Rattle.std.proofs.lemmas.Fn.{always_returns_same}
+use Rattle.text_rules.specs.Names.{names_rise}
 use Rattle.device_model.specs.Devices.{Device, part_names, place_of}
-use Rattle.device_model.proofs.Tables.{position-map}
+use Rattle.device_model.proofs.Making.{component_name}
+use Rattle.device_model.proofs.Sorting.{Rises-from_names_rise, Rises-unmap}
+use Rattle.device_model.proofs.Looking.{order, looked_up, found_place}
 use Rattle.device_model.proofs.device.Device.find_part.Goals as goal
+use Rattle.device_model.proofs.device.Device.find_part.Goals.{After-binary_search_by}
 
-abbrev bytes : Vec ℕ Global → Name
-bytes n = n.items
+found : (c : After-binary_search_by) → found_place c.binary_search_by.result ≡ place_of c.args.name.now (part_names c.args.self.now.parts)
+found c =
+    let facts = c.binary_search_by.ensures in
+    let by_name = facts.position (order component_name c.args.name.now) (always_returns_same _ _ _ (λ a r f called. search rules)) in
+    let parts = c.deref.result.now in
+    let rising : names_rise (part_names parts) ≡ true = subst (λ ps. names_rise (part_names ps) ≡ true) (sym c.deref.ensures.value) c.self.invariant.parts_rise in
+    looked_up component_name parts c.args.name.now c.binary_search_by.result (Rises-unmap component_name parts (Rises-from_names_rise (part_names parts) rising)) facts.bound by_name
+    ∙ ap (λ ps. place_of c.args.name.now (part_names ps)) (c.deref.ensures.value ∙ ap (λ (d : Device). d.parts) c.self.view_is)
 
-pub returns-in_err-get_index_of : goal.returns-in_err-get_index_of
-returns-in_err-get_index_of c =
-    let named = ap (place_of c.args.name.now) (c.self.invariant.1 ∙ ap (λ (d : Device). part_names d.parts) c.self.view_is) in
-    let found = position-map bytes (same_name c.args.name.now) c.self.inside.part_places.keys in
-    c.from_residual.ensures ∙ c.in_err-get_index_of.ensures.index ∙ found ∙ named
+pub returns-in-Ok : goal.returns-in-Ok
+returns-in-Ok c = ap found_place (sym c.in-Ok.is) ∙ found c.before
 
-pub returns : goal.returns
-returns c =
-    let named = ap (place_of c.args.name.now) (c.self.invariant.1 ∙ ap (λ (d : Device). part_names d.parts) c.self.view_is) in
-    let found = position-map bytes (same_name c.args.name.now) c.self.inside.part_places.keys in
-    c.in_ok-get_index_of.ensures.index ∙ found ∙ named
+pub returns-in-Err : goal.returns-in-Err
+returns-in-Err c = ap found_place (sym c.in-Err.is) ∙ found c.before

@@ -2,7 +2,7 @@ use Rattle.std.proofs.Common.{◌∙◌, ◌+◌, ◌*◌, ◌≤◌, [], List, 
 use Rattle.std.specs.Prelude.{not}
 use Rattle.state_rules.specs.Bits.{bit_in}
 use Rattle.state_rules.specs.Ranking.{diagnoses}
-use Rattle.minimiser.specs.Listing.{fault_count}
+use Rattle.diagnosis_lister.specs.Listing.{fault_count}
 use Rattle.probe_report.specs.Verdicts.{verdict}
 use Rattle.fault_graph.proofs.Keeping.{known-distilled, no-models}
 use Rattle.fault_graph.proofs.distiller.Distiller.blame_all.Goals as goal

@@ -2,7 +2,7 @@ use Rattle.std.proofs.Common.{◌≡◌, ◌∙◌, List, Bool, Some, length, ge
 use Rattle.state_rules.specs.Ranking.{rest, diagnoses}
 use Rattle.conditioner.specs.Models.{models, diagnoses_under}
 use Rattle.conditioner.specs.Words.{bits_of}
-use Rattle.minimiser.specs.Listing.{step_of}
+use Rattle.diagnosis_lister.specs.Listing.{step_of}
 use Rattle.fault_graph.proofs.Keeping.{known-distilled, step-same, no-models}
 use Rattle.fault_graph.proofs.distiller.Distiller.next.Goals as goal
 

@@ -2,8 +2,8 @@ use Rattle.std.specs.Prelude.{MatchOption}
 use Rattle.std.proofs.Common.{◌≡◌, ◌+◌, ℕ, Option, Some, None, true, List, length, refl, sym, ◌∙◌, ap, subst, arith}
 use Rattle.state_rules.specs.Ranking.{cost, is_before}
 use Rattle.conditioner.specs.Words.{bits_of}
-use Rattle.minimiser.specs.inner.Fixing.{IsFirst, fixed_bits}
-use Rattle.minimiser.proofs.OpenMarks.{length-bits}
+use Rattle.diagnosis_lister.specs.inner.Fixing.{IsFirst, fixed_bits}
+use Rattle.diagnosis_lister.proofs.OpenMarks.{length-bits}
 use Rattle.level_lister.specs.inner.Searching.{OfCost, NoneAfter, FindsFirst, IsListed}
 use Rattle.level_lister.specs.inner.Skips.{IsEnough}
 use Rattle.level_lister.proofs.Leaving.{leaves-first}
@@ -60,10 +60,10 @@ pub returns-then-own-top-clause-steps : goal.returns-then-own-top-clause-steps
 returns-then-own-top-clause-steps g c = omega arith
 
 pub returns-in-Some-clause-steps : goal.returns-in-Some-clause-steps
-returns-in-Some-clause-steps g c search h = omega (arith, c.in-Some.ensures.steps, c.settle.ensures.steps search h)
+returns-in-Some-clause-steps g c wide search h = omega (arith, c.in-Some.ensures.steps, c.settle.ensures.steps (omega (arith, wide)) search h)
 
 pub returns-in-None-clause-steps : goal.returns-in-None-clause-steps
-returns-in-None-clause-steps g c = more c.find_from.result _ _ _ _ (λ s. omega (arith, c.in-None.ensures.steps, s)) (λ n s search h. omega (arith, c.in-None.ensures.steps, s search h)) c.find_from.ensures.steps
+returns-in-None-clause-steps g c = more c.find_from.result _ _ _ _ (λ s. omega (arith, c.in-None.ensures.steps, s)) (λ n s wide search h. omega (arith, c.in-None.ensures.steps, s (omega (arith, wide)) search h)) c.find_from.ensures.steps
 
 pub settle-requires-clause-enough : goal.settle-requires-clause-enough
 settle-requires-clause-enough g c = enough_more c.args.self.now.graph.now c.args.self.now.skips.now c.args.self.now.levels.now.costs c.args.self.now.levels.now.top c.args.words.now c.leave.new.words c.in-Some.ensures.left.kept c.requires.enough

@@ -19,4 +19,4 @@ pub returns-in-None-clause-steps : goal.returns-in-None-clause-steps
 returns-in-None-clause-steps g c = omega (arith, c.in-None.ensures.steps)
 
 pub returns-in-Some-clause-steps : goal.returns-in-Some-clause-steps
-returns-in-Some-clause-steps g c search h = omega (arith, c.in-Some.ensures.steps, c.settle.ensures.steps search h)
+returns-in-Some-clause-steps g c wide search h = omega (arith, c.in-Some.ensures.steps, c.settle.ensures.steps (omega (arith, wide)) search h)

@@ -7,9 +7,9 @@ use Rattle.std.proofs.lemmas.List.Elements.{All-set}
 use Rattle.state_rules.specs.Bits.{bit_in}
 use Rattle.conditioner.specs.Words.{bits_of}
 use Rattle.conditioner.proofs.StateBits.{is_ok, is_faulty, faulty_word, ok_word}
-use Rattle.minimiser.specs.Listing.{fault_count}
-use Rattle.minimiser.proofs.Faults.{faults-at, faults-back, faults-all}
-use Rattle.minimiser.proofs.OpenMarks.{length-bits}
+use Rattle.diagnosis_lister.specs.Listing.{fault_count}
+use Rattle.diagnosis_lister.proofs.Faults.{faults-at, faults-back, faults-all}
+use Rattle.diagnosis_lister.proofs.OpenMarks.{length-bits}
 use Rattle.level_lister.proofs.Leaving.{GoesBack, back_start, back_next, none-held, kept, none-tried, leaves-tried}
 use Rattle.level_lister.proofs.Skips.{enough_more}
 use Rattle.level_lister.proofs.search.Search.leave.Goals as goal

@@ -1,6 +1,6 @@
 use Rattle.std.proofs.Common.{◌+◌, ◌<◌, ◌≤◌, All, drop, length}
 use Rattle.conditioner.specs.Words.{bits_of}
-use Rattle.minimiser.specs.Listing.{fault_count}
+use Rattle.diagnosis_lister.specs.Listing.{fault_count}
 use Rattle.level_lister.proofs.Leaving.{GoesBack}
 use Rattle.level_lister.proofs.search.Search.leave.Given as goal
 

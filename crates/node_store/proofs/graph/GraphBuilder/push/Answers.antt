@@ -5,7 +5,7 @@ use Rattle.node_store.proofs.graph.GraphBuilder.push.Goals as goal
 
 pub invariant_of-self-2 : goal.invariant_of-self-2
 invariant_of-self-2 c =
-    let node : Node = record { what = c.args.what; kids = c.args.kids.now } in
+    let node : Node = record { what = c.args.kind; kids = c.args.kids.now } in
     let longer : c.push.new.self ≡ c.self.inside.nodes ++ node ∷ [] = c.in_ok-push.ensures.ok in
     let nodes : c.args.self.now.nodes ≡ c.self.inside.nodes = ap (λ (g : Graph). g.nodes) (sym c.self.view_is) in (
       subst (λ ns. AreNodes c.self.inside.vars ns) (sym longer) (AreNodes-push c.self.inside.vars c.self.inside.nodes node c.self.invariant.0

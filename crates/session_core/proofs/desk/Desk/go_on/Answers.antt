@@ -1,7 +1,7 @@
 use Rattle.std.proofs.Common.{◌∙◌, [], Some, get_or, ap, sym}
 use Rattle.state_rules.specs.Ranking.{rest}
 use Rattle.conditioner.specs.Words.{bits_of}
-use Rattle.minimiser.specs.Listing.{step_of}
+use Rattle.diagnosis_lister.specs.Listing.{step_of}
 use Rattle.session_core.specs.inner.Desks.{OnDesk, agreeing, diagnoses_asked}
 use Rattle.session_core.proofs.Desks.{states-asked, diagnoses-asked}
 use Rattle.session_core.proofs.Holding.{written_back}

@@ -3,7 +3,7 @@ use Rattle.std.specs.Option.{option_map}
 use denote.Ref.{Bor}
 use Rattle.state_rules.specs.Ranking.{rest}
 use Rattle.conditioner.specs.Words.{bits_of}
-use Rattle.minimiser.specs.Listing.{step_of}
+use Rattle.diagnosis_lister.specs.Listing.{step_of}
 use Rattle.session_core.specs.inner.Desks.{OnDesk, agreeing, diagnoses_asked}
 use Rattle.session_core.proofs.desk.Desk.next.Goals as goal
 

@@ -44,17 +44,17 @@ invariant_of-self g c =
     let before = c.self.inside.room in
     let run = c.unwrap-run.result in
     let at = carved_so before c.carve.new.self c.level_room.result c.carve.result run c.unwrap-run.ensures c.carve.ensures.run in
-    let known = written_back c.self.inside.known.len c.next-step.new.words c.self.inside.known.items (sym (c.next-step.auto.words ∙ c.deref_mut-2.ensures.len))
-    ∙ (c.next-step.ensures.words ∙ c.deref_mut-2.ensures.value) in
-    let state = written_back c.self.inside.state.len c.next-step.new.state _ (sym (c.next-step.auto.state ∙ c.deref_mut-3.ensures.len)) in
+    let known = written_back c.self.inside.known.len c.next_in-step.new.words c.self.inside.known.items (sym (c.next_in-step.auto.words ∙ c.deref_mut-2.ensures.len))
+    ∙ (c.next_in-step.ensures.words ∙ c.deref_mut-2.ensures.value) in
+    let state = written_back c.self.inside.state.len c.next_in-step.new.state _ (sym (c.next_in-step.auto.state ∙ c.deref_mut-3.ensures.len)) in
     record {
       known = subst (AreKnown c.self.inside.basis) (sym known) c.self.invariant.known;
-      one_a_part = ap length state ∙ (c.next-step.auto.state ∙ (c.deref_mut-3.ensures.len ∙ (sym c.deref_mut.ensures.len ∙ (ap length c.deref_mut.ensures.value ∙ c.self.invariant.one_a_part))));
-      bits = subst (λ (xs : List ℕ). All (λ s. s < 2) xs) (sym state) c.next-step.ensures.state;
+      one_a_part = ap length state ∙ (c.next_in-step.auto.state ∙ (c.deref_mut-3.ensures.len ∙ (sym c.deref_mut.ensures.len ∙ (ap length c.deref_mut.ensures.value ∙ c.self.invariant.one_a_part))));
+      bits = subst (λ (xs : List ℕ). All (λ s. s < 2) xs) (sym state) c.next_in-step.ensures.state;
       verdict_a_part = c.self.invariant.verdict_a_part;
       two_a_wire = c.self.invariant.two_a_wire;
       one_a_node = c.self.invariant.one_a_node;
-      enough = subst (AreEnough c.self.inside.basis) (sym (released_words before c.carve.new.self run c.self.invariant.unused at.1 c.release.new.self c.next-step.new.scratch c.release.ensures.words)) c.self.invariant.enough;
+      enough = subst (AreEnough c.self.inside.basis) (sym (released_words before c.carve.new.self run c.self.invariant.unused at.1 c.release.new.self c.next_in-step.new.scratch c.release.ensures.words)) c.self.invariant.enough;
       unused = released_runs before c.carve.new.self run c.self.invariant.unused at.1 c.release.new.self c.release.ensures.runs;
       serves = c.self.invariant.serves;
     }
@@ -68,7 +68,7 @@ returns-clause-step g c =
     let point = option_map (λ (old : Bor (List ℕ)). bits_of old.now) c.args.point in
     let start = written_back c.self.inside.state.len c.start_at-pointed.new.state c.self.inside.state.items (sym (c.start_at-pointed.auto.state ∙ c.deref_mut.ensures.len)) in
     let from = ap (λ (xs : List ℕ). point_if c.start_at-pointed.result (bits_of xs)) (c.deref_mut-3.ensures.value ∙ start) ∙ c.start_at-pointed.ensures.point in
-    c.next-step.ensures.step
+    c.next_in-step.ensures.step
     ∙ ((λ i. level_step kept.costs (models (c.graph.ensures.graph i) (c.deref_mut-2.ensures.value i) (length kept.costs)) (later_levels (c.graph.ensures.graph i) (c.deref_mut-2.ensures.value i) kept (from i)))
     ∙ (step-is basis known c.levels.ensures.basis c.self.invariant.known kept so.0 so.2 point
     ∙ ap (λ (d : OnDesk). level_step d.subject.costs (agreeing d) (later_asked d point)) c.self.view_is))
@@ -83,10 +83,10 @@ returns-clause-state g c = λ cost found.
     let point = option_map (λ (old : Bor (List ℕ)). bits_of old.now) c.args.point in
     let start = written_back c.self.inside.state.len c.start_at-pointed.new.state c.self.inside.state.items (sym (c.start_at-pointed.auto.state ∙ c.deref_mut.ensures.len)) in
     let from = ap (λ (xs : List ℕ). point_if c.start_at-pointed.result (bits_of xs)) (c.deref_mut-3.ensures.value ∙ start) ∙ c.start_at-pointed.ensures.point in
-    let state = written_back c.self.inside.state.len c.next-step.new.state _ (sym (c.next-step.auto.state ∙ c.deref_mut-3.ensures.len)) in
+    let state = written_back c.self.inside.state.len c.next_in-step.new.state _ (sym (c.next_in-step.auto.state ∙ c.deref_mut-3.ensures.len)) in
     let old = bits_of c.deref_mut-3.result.now in
     ap bits_of state
-    ∙ (c.next-step.ensures.next
+    ∙ (c.next_in-step.ensures.next
     ∙ ((λ i. get_or (later_levels (c.graph.ensures.graph i) (c.deref_mut-2.ensures.value i) kept (from i)) 0 old)
     ∙ (ap (λ (xs : List (List Bool)). get_or xs 0 old) (later-are basis known c.levels.ensures.basis c.self.invariant.known kept so.0 so.2 point)
     ∙ (ap (λ (d : OnDesk). get_or (later_asked d point) 0 old) c.self.view_is
@@ -97,7 +97,7 @@ run_mut-requires g c =
     let at = carved_so c.self.inside.room c.carve.new.self c.level_room.result c.carve.result c.unwrap-run.result c.unwrap-run.ensures c.carve.ensures.run in
     is_held c.self.inside.room c.carve.new.self c.unwrap-run.result c.self.invariant.unused at.1
 
-pub next-step-requires-clause-state_words : goal.next-step-requires-clause-state_words
-next-step-requires-clause-state_words g c =
+pub next_in-step-requires-clause-state_words : goal.next_in-step-requires-clause-state_words
+next_in-step-requires-clause-state_words g c =
     let start = written_back c.self.inside.state.len c.start_at-pointed.new.state c.self.inside.state.items (sym (c.start_at-pointed.auto.state ∙ c.deref_mut.ensures.len)) in
     subst (λ (xs : List ℕ). All (λ s. s < 2) xs) (sym (c.deref_mut-3.ensures.value ∙ start)) c.start_at-pointed.ensures.bits

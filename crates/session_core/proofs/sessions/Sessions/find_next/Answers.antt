@@ -4,9 +4,9 @@ use Rattle.state_rules.specs.Cases.{Case}
 use Rattle.state_rules.specs.Ranking.{rest}
 use Rattle.state_rules.specs.Systems.{all_diagnoses}
 use Rattle.conditioner.specs.Words.{bits_of}
-use Rattle.minimiser.specs.declared.listing.Step.{Step}
-use Rattle.minimiser.specs.declared.listing.Step.TheVariants.{Found}
-use Rattle.minimiser.specs.Listing.{step_of}
+use Rattle.diagnosis_lister.specs.declared.listing.Step.{Step}
+use Rattle.diagnosis_lister.specs.declared.listing.Step.TheVariants.{Found}
+use Rattle.diagnosis_lister.specs.Listing.{step_of}
 use Rattle.session_rules.specs.GraphSystems.{Subject, system_of}
 use Rattle.session_rules.specs.Replies.{diagnosis_line}
 use Rattle.session_rules.specs.Sessions.{Entry, Table, with_entry}

@@ -13,21 +13,21 @@ use Rattle.session_core.proofs.sessions.Sessions.line.Goals as goal
 
 pub ask-requires : goal.ask-requires
 ask-requires g c =
-    (and_parts (is_short_name c.in-Ask.session.now) (is_well_named (asked c.in-Ask.request))
-    (ap is_well_asked c.in-Ask.ensures ∙ well_asked c.args.line.now)).0
+    (and_parts (is_short_name c.in-Of.session.now) (is_well_named (asked c.in-Of.request))
+    (ap is_well_asked (c.in-Of.ensures ∙ c.parse_line.ensures.means) ∙ well_asked c.args.line.now)).0
 
-pub returns-in-Blank-clause-carried : goal.returns-in-Blank-clause-carried
-returns-in-Blank-clause-carried g c =
+pub returns-in-Nothing-clause-carried : goal.returns-in-Nothing-clause-carried
+returns-in-Nothing-clause-carried g c =
     let old = c.args.self.now in
     let before = g.O.Sink.got c.args.out.now in
-    subst (λ (l : Line). Makes old.table old.table (exact_moves old old.table l) before before) c.in-Blank.ensures
+    subst (λ (l : Line). Makes old.table old.table (exact_moves old old.table l) before before) (c.in-Nothing.ensures ∙ c.parse_line.ensures.means)
     (record { written = writes_none before; table = refl })
 
 pub returns-in-Refused-clause-carried : goal.returns-in-Refused-clause-carried
 returns-in-Refused-clause-carried g c =
     let old = c.args.self.now in
-    subst (λ (l : Line). CarriesOut old.table old.table (exact_moves old old.table l) (g.O.Sink.got c.args.out.now) (g.O.Sink.got c.put_line_refusal.new.out) c.put_line_refusal.result) c.in-Refused.ensures
+    subst (λ (l : Line). CarriesOut old.table old.table (exact_moves old old.table l) (g.O.Sink.got c.args.out.now) (g.O.Sink.got c.put_line_refusal.new.out) c.put_line_refusal.result) (c.in-Refused.ensures ∙ c.parse_line.ensures.means)
     (carries_step _ _ _ _ _ _ _ refl (replies_one _ _ _ _ _ refl c.put_line_refusal.ensures.text) refl)
 
-pub returns-in-Ask-clause-carried : goal.returns-in-Ask-clause-carried
-returns-in-Ask-clause-carried g c = line_carried c.args.self.now c.ask.new.self _ _ c.args.line.now _ _ _ c.in-Ask.ensures c.ask.ensures.obeys
+pub returns-in-Of-clause-carried : goal.returns-in-Of-clause-carried
+returns-in-Of-clause-carried g c = line_carried c.args.self.now c.ask.new.self _ _ c.args.line.now _ _ _ (c.in-Of.ensures ∙ c.parse_line.ensures.means) c.ask.ensures.obeys

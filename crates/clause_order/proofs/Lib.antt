@@ -1,3 +1,0 @@
-pub mod Arranging
-pub mod Orders
-pub mod Choosing

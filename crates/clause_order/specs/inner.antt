@@ -1,3 +1,0 @@
--- What only the private contracts of this crate cite.
-pub mod Arranging
-pub mod Candidates

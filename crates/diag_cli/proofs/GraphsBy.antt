@@ -1,0 +1,54 @@
+-- What is compiled, by the sum that a budget limits.
+use Rattle.std.proofs.Common.{◌≡◌, ◌≤◌, ◌+◌, ◌*◌, ℕ, length, Option, Some, None, Result, Ok, Err, sym, subst, arith}
+use Rattle.std.specs.Prelude.{IfOk, IfErr}
+use Rattle.text_rules.specs.Expected.{IsExpectedFault, Fulfils}
+use Rattle.clause_encoder.specs.Clauses.{ClauseList}
+use Rattle.branch_states.specs.Branches.{sum_of}
+use Rattle.elimination_forests.specs.declared.steps.Weight.TheVariants.{Lists}
+use Rattle.elimination_forests.specs.Forests.{Forest, forest_sum}
+use Rattle.tree_finder.specs.declared.narrowing.Narrowed.{Narrowed}
+use Rattle.tree_finder.specs.Narrowing.{IsFound}
+use Rattle.dnnf_compiler.specs.declared.compiling.Compiled.{Compiled}
+use Rattle.dnnf_compiler.specs.Compiled.{IsCompiled}
+use Rattle.dnnf_compiler.specs.Along.{IsCompiledAlong}
+use Rattle.device_files.specs.declared.refusal.Refusal.{Refusal}
+use Rattle.device_files.specs.Choices.{Weighed, by_names, along, HasSum}
+use Rattle.device_files.specs.Refusals.{told_by}
+use Rattle.device_files.specs.Weighing.{within}
+use Rattle.device_files.proofs.Choosing.{kept_within}
+use Rattle.diag_cli.specs.inner.Compiling.{IsGraphBy}
+
+-- ---- a graph
+
+pub graph_along : (list : ClauseList) (forest : Forest) (compiled : Compiled) → IsCompiledAlong forest list compiled → IsGraphBy (along forest list) compiled.graph
+graph_along list forest compiled is = record { decomposable = is.decomposable; vars = is.vars; truth = is.truth; few_nodes = omega (arith, is.few_made, is.few_nodes) }
+
+pub graph_by_names : (list : ClauseList) (compiled : Compiled) → IsCompiled list compiled → IsGraphBy (by_names list) compiled.graph
+graph_by_names list compiled is = record { decomposable = is.decomposable; vars = is.vars; truth = is.truth; few_nodes = omega (arith, is.few_made, is.few_nodes) }
+
+-- ---- by each sum that they have
+
+-- along a forest that was found
+pub found_each : (list : ClauseList) (forest : Option Narrowed) (found : Narrowed) → forest ≡ Some found → (Holds : ℕ → Type 0)
+    → ((is : IsFound list found) → Holds (forest_sum Lists is.forest list.clauses)) → (sum : ℕ) → HasSum list forest sum → Holds sum
+found_each list forest found e Holds given sum has =
+    let chosen = subst (λ f. HasSum list f sum) e has in
+    subst Holds (sym chosen.1) (given chosen.0)
+
+-- or by the order of the names
+pub named_each : (list : ClauseList) (forest : Option Narrowed) → forest ≡ None → (Holds : ℕ → Type 0) → Holds (sum_of list.clauses) → (sum : ℕ) → HasSum list forest sum → Holds sum
+named_each list forest e Holds given sum has =
+    let named = subst (λ f. HasSum list f sum) e has in
+    subst Holds (sym named) given
+
+-- there is a forest, if one is told of
+pub is_found : (list : ClauseList) (forest : Option Narrowed) (found : Narrowed) → forest ≡ Some found → (sum : ℕ) × HasSum list forest sum → IsFound list found
+is_found list forest found e some =
+    let chosen = subst (λ f. HasSum list f some.0) e some.1 in
+    chosen.0
+
+-- what is within the budget is found, and what is not is refused
+pub fulfils_within : {A : Type 0} (weighed : Weighed) (budget : ℕ) (result : Result A Refusal) → IfOk result (λ (_ : A). weighed.sum ≤ budget)
+    → IfErr result (λ refusal. IsExpectedFault (told_by refusal) (within budget (Ok weighed))) → Fulfils (λ (_ : A). weighed) told_by (within budget (Ok weighed)) result
+fulfils_within weighed budget (Ok found) few fault = kept_within budget weighed few
+fulfils_within weighed budget (Err refusal) few fault = fault

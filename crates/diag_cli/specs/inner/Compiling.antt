@@ -1,0 +1,24 @@
+-- The graphs that clauses are compiled to.
+use Rattle.std.specs.Prelude.{◌≡◌, ◌≤◌, ℕ, length, Result, Ok, Err}
+use Rattle.text_rules.specs.Expected.{IsExpectedFault}
+use Rattle.state_rules.specs.Graphs.{Graph, IsGraph}
+use Rattle.device_model.specs.Devices.{Device}
+use Rattle.clause_encoder.specs.Clauses.{ClauseList}
+use Rattle.dnnf_compiler.specs.Compiled.{SaysAll, most_nodes}
+use Rattle.device_files.specs.declared.refusal.Refusal.{Refusal}
+use Rattle.device_files.specs.Choices.{Weighed}
+use Rattle.device_files.specs.Output.{Output}
+use Rattle.device_files.specs.Refusals.{told_by}
+use Rattle.diag_cli.specs.inner.Serving.{IsServable}
+
+-- It is true exactly where all clauses are, and their sum bounds its size.
+pub record IsGraphBy (weighed : Weighed) (graph : Graph) : Type 0 where
+  pub decomposable : IsGraph graph
+  pub vars : graph.vars ≡ weighed.list.vars
+  pub truth : SaysAll weighed.list.clauses graph
+  pub few_nodes : length graph.nodes ≤ most_nodes weighed.sum weighed.list.vars
+
+-- the graph of a device, if its clauses are found within a budget, or the refusal that is expected
+abbrev pub FindsGraph : Device → Result Weighed Output → Result Graph Refusal → Type 0
+FindsGraph device expected (Ok graph) = IsServable device graph × ((weighed : Weighed) × (expected ≡ Ok weighed) × IsGraphBy weighed graph)
+FindsGraph device expected (Err refusal) = IsExpectedFault (told_by refusal) expected

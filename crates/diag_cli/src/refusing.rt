@@ -1,0 +1,21 @@
+//! What tells that a netlist is not unrolled. It has a file of its own, since the prover is slow with it among many imports.
+ghost use Rattle.std.specs.Prelude.{◌≡◌};
+ghost use Rattle.device_files.specs.Refusals.{told_by};
+ghost use Rattle.diag_cli.specs.inner.Serving.{frames_told};
+
+use clause_encoder::CLAUSE_LIMIT;
+use device_files::{Refusal, above};
+use device_model::{PART_LIMIT, WIRE_LIMIT};
+use frame_unroller::UnrollError;
+
+/// What tells that a netlist is not unrolled.
+pub(crate) fn not_unrolled(error: UnrollError) -> Refusal
+    ensures { told_by result ≡ frames_told error }
+{
+    match error {
+        UnrollError::TooManyParts { count } => above("parts", count, PART_LIMIT),
+        UnrollError::TooManyWires { count } => above("wires", count, WIRE_LIMIT),
+        UnrollError::TooManyClauses { count } => above("clauses", count, CLAUSE_LIMIT as usize),
+        UnrollError::Memory => Refusal::Memory,
+    }
+}

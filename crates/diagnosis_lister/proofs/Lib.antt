@@ -1,0 +1,5 @@
+pub mod Faults
+pub mod OpenMarks
+pub mod Fixing
+pub mod Points
+pub mod Answering

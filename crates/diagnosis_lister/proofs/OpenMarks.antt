@@ -1,0 +1,81 @@
+-- Marks in the words of a state, and what is written back.
+use Rattle.std.proofs.Common.{◌≡◌, ◌≢◌, ℕ, zero, suc, ◌+◌, ◌%◌, ◌<◌, ◌≤◌, Bool, true, false, not, cond, List, [], ◌∷◌, map, length, get_or, All, refl, ap, sym, ◌∙◌, subst, arith, ⊎_elim}
+use Rattle.std.specs.Prelude.{◌==◌, nat_le, if◌then◌else◌}
+use Rattle.std.proofs.Math.ListN.{length-map}
+use Rattle.std.proofs.lemmas.Bool.{cases_lt, eqb-true, leb-true, le-leb}
+use Rattle.std.proofs.lemmas.Grind.{same_number_lists}
+use Rattle.std.proofs.lemmas.List.{get_or_default}
+use Rattle.conditioner.specs.Words.{bits_of}
+use Rattle.diagnosis_lister.specs.inner.OpenMarks.{mark_of, is_marked, marked_bits, AreMarks}
+use Rattle.diagnosis_lister.specs.inner.Fixing.{fixed_bits}
+
+suc-zero : (n : ℕ) → (suc n == 0) ≡ false
+suc-zero n = by_test (suc n == 0) refl where
+  by_test : (b : Bool) → (suc n == 0) ≡ b → b ≡ false
+  by_test true e = let q : suc n ≡ 0 = eqb-true _ _ e in absurd (omega arith)
+  by_test false e = refl
+
+mark_of-marked : (w s : ℕ) → s < 2 → is_marked (mark_of w s) ≡ (w == 0)
+mark_of-marked zero s h = le-leb 2 (s + 2) (omega arith)
+mark_of-marked (suc n) s h = by_test (nat_le 2 s) refl ∙ sym (suc-zero n) where
+  by_test : (b : Bool) → nat_le 2 s ≡ b → b ≡ false
+  by_test true e = let g : 2 ≤ s = leb-true _ _ e in absurd (omega arith)
+  by_test false e = refl
+
+mark_of-bit : (w s : ℕ) → s < 2 → mark_of w s % 2 ≡ s
+mark_of-bit zero s h = omega arith
+mark_of-bit (suc n) s h = omega arith
+
+module _ (words state marks : List ℕ) (small : All (λ s. s < 2) state) (long : length marks ≡ length state)
+    (marked : (k : ℕ) → k < length state → get_or marks k 0 ≡ mark_of (get_or words k 0) (get_or state k 0)) where
+  pub marked-AreMarks : AreMarks words marks
+  marked-AreMarks k h = ap is_marked (marked k (omega arith)) ∙ mark_of-marked (get_or words k 0) (get_or state k 0) (small k 0 (omega arith))
+
+  -- without the marks the state is as it was
+  pub unmarked-state : (new : List ℕ) → length new ≡ length marks → ((k : ℕ) → k < length marks → get_or new k 0 ≡ get_or marks k 0 % 2) → new ≡ state
+  unmarked-state new same e = same_number_lists new state (same ∙ long) (λ k h. e k (omega arith) ∙ (λ i. marked k (omega arith) i % 2) ∙ mark_of-bit (get_or words k 0) (get_or state k 0) (small k 0 (omega arith)))
+
+  pub marked-bits : marked_bits marks ≡ bits_of state
+  marked-bits = map_at marks state long (λ k h. (λ i. marked k h i % 2) ∙ mark_of-bit (get_or words k 0) (get_or state k 0) (small k 0 h)) where
+    map_at : (xs ys : List ℕ) → length xs ≡ length ys → ((k : ℕ) → k < length ys → get_or xs k 0 % 2 ≡ get_or ys k 0) → map (λ m. m % 2 == 0) xs ≡ map (λ s. s == 0) ys
+    map_at [] [] l e = refl
+    map_at [] (y ∷ ys) l e = absurd (omega arith)
+    map_at (x ∷ xs) [] l e = absurd (omega arith)
+    map_at (x ∷ xs) (y ∷ ys) l e =
+        let one : x % 2 ≡ y = e zero (omega arith) in
+        let more : map (λ m. m % 2 == 0) xs ≡ map (λ s. s == 0) ys = map_at xs ys (omega arith) (λ k h. e (suc k) (omega arith)) in
+        λ i. (one i == 0) ∷ more i
+
+  -- The open parts are opened again, and the others were not changed.
+  pub opened-again : (fixed new : List ℕ) → length fixed ≡ length words → length new ≡ length fixed → length marks ≤ length words
+      → ((k : ℕ) → get_or words k 0 ≢ 0 → get_or fixed k 0 ≡ get_or words k 0) → ((k : ℕ) → length marks ≤ k → get_or fixed k 0 ≡ get_or words k 0)
+      → ((k : ℕ) → k < length marks → get_or new k 0 ≡ (if is_marked (get_or marks k 0) then 0 else get_or fixed k 0)) → ((k : ℕ) → length marks ≤ k → get_or new k 0 ≡ get_or fixed k 0)
+      → new ≡ words
+  opened-again fixed new l m room kept others written behind = same_number_lists new words (m ∙ l) (λ k h. ⊎_elim
+      (λ (p : k < length marks). written k p ∙ (λ i. cond (marked-AreMarks k p i) 0 (get_or fixed k 0)) ∙ by_word k (get_or words k 0) refl)
+      (λ (p : length marks ≤ k). behind k p ∙ others k p) (cases_lt k (length marks))) where
+        by_word : (k w : ℕ) → get_or words k 0 ≡ w → cond (w == 0) 0 (get_or fixed k 0) ≡ w
+        by_word k zero e = refl
+        by_word k (suc n) e = (λ i. cond (suc-zero n i) 0 (get_or fixed k 0)) ∙ kept k (λ q. absurd (omega arith)) ∙ e
+
+-- what is written is the state that the words say
+pub written-bits : (parts : ℕ) (fixed new : List ℕ) → length new ≡ parts → parts ≤ length fixed → ((k : ℕ) → k < parts → get_or new k 0 ≡ (if get_or fixed k 0 == 2 then 1 else 0)) → bits_of new ≡ fixed_bits parts fixed
+written-bits zero fixed [] l h e = refl
+written-bits zero fixed (x ∷ new) l h e = absurd (omega arith)
+written-bits (suc n) fixed [] l h e = absurd (omega arith)
+written-bits (suc n) [] (x ∷ new) l h e = absurd (omega arith)
+written-bits (suc n) (w ∷ fixed) (x ∷ new) l h e =
+    let more : bits_of new ≡ fixed_bits n fixed = written-bits n fixed new (omega arith) (omega arith) (λ k g. e (suc k) (omega arith)) in
+    λ i. (ap (λ s. s == 0) (e zero (omega arith)) ∙ flip (w == 2)) i ∷ more i where
+      flip : (b : Bool) → (cond b 1 0 == 0) ≡ not b
+      flip true = refl
+      flip false = refl
+
+pub written-small : (new fixed : List ℕ) → ((k : ℕ) → k < length new → get_or new k 0 ≡ (if get_or fixed k 0 == 2 then 1 else 0)) → All (λ s. s < 2) new
+written-small new fixed e k d h = subst (λ n. n < 2) (sym (get_or_default new k d 0 h ∙ e k h)) (one (get_or fixed k 0 == 2)) where
+  one : (b : Bool) → cond b 1 0 < 2
+  one true = omega arith
+  one false = omega arith
+
+pub length-bits : (state : List ℕ) → length (bits_of state) ≡ length state
+length-bits state = length-map state (λ s. s == 0)

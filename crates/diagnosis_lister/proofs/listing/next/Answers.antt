@@ -1,0 +1,85 @@
+use Rattle.std.proofs.Common.{◌≡◌, ◌<◌, ℕ, Bool, List, length, get_or, All, sym, ◌∙◌, ap, subst, arith}
+use Rattle.conditioner.specs.Words.{bits_of}
+use Rattle.diagnosis_lister.specs.Listing.{fault_count}
+use Rattle.diagnosis_lister.specs.inner.Fixing.{NoneAfter, Leaves, fixed_bits}
+use Rattle.diagnosis_lister.proofs.Faults.{faults-few}
+use Rattle.diagnosis_lister.proofs.Fixing.{first-passes}
+use Rattle.diagnosis_lister.proofs.OpenMarks.{unmarked-state, opened-again, length-bits}
+use Rattle.diagnosis_lister.proofs.Answering.{none-next, no-next, step-end, step-found, next-diagnosis, Leaves-first}
+use Rattle.diagnosis_lister.proofs.listing.next.Goals as goal
+
+pub returns-in_default-clause-next : goal.returns-in_default-clause-next
+returns-in_default-clause-next g c = none-next c.args.graph.now c.args.words.now c.args.costs.now (bits_of c.args.state.now) (bits_of c.args.state.now) (sym c.in_default.ensures.least)
+
+pub returns-in-None-clause-step : goal.returns-in-None-clause-step
+returns-in-None-clause-step g c =
+    step-end c.args.graph.now c.args.words.now c.args.costs.now c.in-Some.fewest (sym c.in-Some.ensures.least) (bits_of c.args.state.now)
+    (subst (λ (p : List Bool). NoneAfter c.args.graph.now c.args.words.now c.args.costs.now c.in-Some.fewest p 0) c.mark.ensures.bits c.in-None.ensures.left.1)
+
+pub returns-in-None-clause-next : goal.returns-in-None-clause-next
+returns-in-None-clause-next g c =
+    let none = no-next c.args.graph.now c.args.words.now c.args.costs.now c.in-Some.fewest (sym c.in-Some.ensures.least) (bits_of c.args.state.now)
+    (subst (λ (p : List Bool). NoneAfter c.args.graph.now c.args.words.now c.args.costs.now c.in-Some.fewest p 0) c.mark.ensures.bits c.in-None.ensures.left.1) in
+    let same : c.unmark.new.state ≡ c.args.state.now = unmarked-state c.args.words.now c.args.state.now c.mark.new.state c.requires.state_words c.mark.auto.state c.mark.ensures.each c.unmark.new.state c.unmark.auto.state c.unmark.ensures in
+    ap bits_of same ∙ (λ i. get_or (sym none i) 0 (bits_of c.args.state.now))
+
+pub returns-in-None-clause-state : goal.returns-in-None-clause-state
+returns-in-None-clause-state g c =
+    let same : c.unmark.new.state ≡ c.args.state.now = unmarked-state c.args.words.now c.args.state.now c.mark.new.state c.requires.state_words c.mark.auto.state c.mark.ensures.each c.unmark.new.state c.unmark.auto.state c.unmark.ensures in
+    subst (λ (xs : List ℕ). All (λ s. s < 2) xs) (sym same) c.requires.state_words
+
+pub returns-in-None-clause-few_steps : goal.returns-in-None-clause-few_steps
+returns-in-None-clause-few_steps g c = omega (arith, ap fault_count c.mark.ensures.bits, c.leave.ensures.steps, c.least.ensures.steps)
+
+pub returns-in-None-clause-steps : goal.returns-in-None-clause-steps
+returns-in-None-clause-steps g c = omega (arith, ap fault_count c.mark.ensures.bits, c.leave.ensures.steps, c.least.ensures.steps, faults-few c.args.state.now, c.requires.state)
+
+-- what the words say is the first diagnosis after the state
+pub returns-in-Some-leave-clause-step : goal.returns-in-Some-leave-clause-step
+returns-in-Some-leave-clause-step g c =
+    let graph = c.args.graph.now in
+    let old = c.args.words.now in
+    let costs = c.args.costs.now in
+    let most = c.in-Some.fewest in
+    let point = bits_of c.args.state.now in
+    let least = sym c.in-Some.ensures.least in
+    let leaves : Leaves graph old costs most point c.leave.new.words c.in-Some-leave.part = subst (λ (p : List Bool). Leaves graph old costs most p c.leave.new.words c.in-Some-leave.part) c.mark.ensures.bits c.in-Some-leave.ensures.left in
+    step-found graph old costs most least point (fixed_bits (length costs) c.settle.new.words)
+    (Leaves-first graph costs c.requires.parts old point most c.leave.new.words c.in-Some-leave.part (fixed_bits (length costs) c.settle.new.words) c.requires.long c.leave.auto.words
+    (length-bits c.args.state.now ∙ c.requires.state) leaves (first-passes graph c.leave.new.words costs most (fixed_bits (length costs) c.settle.new.words) leaves.least c.settle.ensures.first))
+
+pub returns-in-Some-leave-clause-next : goal.returns-in-Some-leave-clause-next
+returns-in-Some-leave-clause-next g c =
+    let graph = c.args.graph.now in
+    let old = c.args.words.now in
+    let costs = c.args.costs.now in
+    let most = c.in-Some.fewest in
+    let point = bits_of c.args.state.now in
+    let least = sym c.in-Some.ensures.least in
+    let marks : length c.mark.new.state ≡ length costs = c.mark.auto.state ∙ c.requires.state in
+    let leaves : Leaves graph old costs most point c.leave.new.words c.in-Some-leave.part = subst (λ (p : List Bool). Leaves graph old costs most p c.leave.new.words c.in-Some-leave.part) c.mark.ensures.bits c.in-Some-leave.ensures.left in
+    c.write_back.ensures.bits ∙ ap (λ n. fixed_bits n c.settle.new.words) marks
+    ∙ next-diagnosis graph old costs most least point (fixed_bits (length costs) c.settle.new.words) point
+    (Leaves-first graph costs c.requires.parts old point most c.leave.new.words c.in-Some-leave.part (fixed_bits (length costs) c.settle.new.words) c.requires.long c.leave.auto.words
+    (length-bits c.args.state.now ∙ c.requires.state) leaves (first-passes graph c.leave.new.words costs most (fixed_bits (length costs) c.settle.new.words) leaves.least c.settle.ensures.first))
+
+pub returns-in-Some-leave-clause-words : goal.returns-in-Some-leave-clause-words
+returns-in-Some-leave-clause-words g c =
+    let marks : length c.mark.new.state ≡ length c.args.costs.now = c.mark.auto.state ∙ c.requires.state in
+    let leaves = c.in-Some-leave.ensures.left in
+    opened-again c.args.words.now c.args.state.now c.mark.new.state c.requires.state_words c.mark.auto.state c.mark.ensures.each
+    c.settle.new.words c.write_back.new.words (c.settle.auto.words ∙ c.leave.auto.words) c.write_back.auto.words (omega (arith, marks, c.requires.long, c.requires.parts))
+    (λ k ne. c.settle.ensures.kept k (λ e. ne (sym (leaves.kept k ne) ∙ e)) ∙ leaves.kept k ne)
+    (λ k h. c.settle.ensures.others k (omega (arith, marks)) ∙ leaves.behind k (omega (arith, marks, leaves.within)))
+    c.write_back.ensures.words c.write_back.ensures.others
+
+pub returns-in-Some-leave-clause-few_steps : goal.returns-in-Some-leave-clause-few_steps
+returns-in-Some-leave-clause-few_steps g c =
+    let marks : length c.mark.new.state ≡ length c.args.costs.now = c.mark.auto.state ∙ c.requires.state in
+    let same : fault_count (bits_of c.write_back.new.state) ≡ fault_count (fixed_bits (length c.args.costs.now) c.settle.new.words) =
+    ap fault_count (c.write_back.ensures.bits ∙ ap (λ n. fixed_bits n c.settle.new.words) marks) in
+    omega (arith, same, ap fault_count c.mark.ensures.bits, c.settle.ensures.steps, c.leave.ensures.steps, c.least.ensures.steps)
+
+pub returns-in-Some-leave-clause-steps : goal.returns-in-Some-leave-clause-steps
+returns-in-Some-leave-clause-steps g c =
+    omega (arith, returns-in-Some-leave-clause-few_steps g c, faults-few c.args.state.now, faults-few c.write_back.new.state, c.write_back.auto.state, c.mark.auto.state, c.requires.state)

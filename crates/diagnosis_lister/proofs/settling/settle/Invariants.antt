@@ -1,0 +1,20 @@
+use Rattle.std.proofs.Common.{ℕ, ◌≤◌, ◌<◌, ◌+◌, ◌-◌, All, length}
+use Rattle.minimiser.specs.Stored.{AreLeastCosts}
+use Rattle.minimiser.proofs.Models.{LeastIs}
+use Rattle.diagnosis_lister.specs.Listing.{fault_count}
+use Rattle.diagnosis_lister.specs.inner.Fixing.{fixed_bits}
+use Rattle.diagnosis_lister.proofs.Fixing.{Settles}
+use Rattle.diagnosis_lister.proofs.settling.settle.Given as goal
+
+-- the parts before one are fixed, and the values are the costs of the nodes
+abbrev pub invariant-loop-part : goal.invariant-loop-part
+invariant-loop-part g l = record {
+  small : All (λ w. w < 3) l.words;
+  settles : (most : ℕ) → LeastIs l.graph l.costs l.fn.words most → Settles l.graph l.costs l.fn.words l.words most l.from;
+  values : AreLeastCosts l.graph l.words l.costs l.values;
+  steps : l.steps ≤ l.fn.steps + fault_count (fixed_bits (length l.costs) l.words);
+  within : l.from ≤ length l.costs;
+}
+
+abbrev pub decreases-loop-part : goal.decreases-loop-part
+decreases-loop-part g l = length l.costs - l.from

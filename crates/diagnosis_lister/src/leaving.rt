@@ -1,0 +1,73 @@
+ghost use Rattle.std.specs.Prelude.{◌≡◌, ◌+◌, ◌<◌, ◌≤◌, length, All, Some, IfSome, MatchOption};
+ghost use Rattle.conditioner.specs.Models.{least_under, total_cost};
+ghost use Rattle.minimiser.specs.Stored.{AreLeastCosts};
+ghost use Rattle.diagnosis_lister.specs.Listing.{fault_count};
+ghost use Rattle.diagnosis_lister.specs.inner.OpenMarks.{marked_bits, AreMarks};
+ghost use Rattle.diagnosis_lister.specs.inner.Fixing.{Follows, Leaves, NoneAfter};
+
+use crate::settling::reaches;
+use conditioner::{is_false, word_of_known};
+use minimiser::{Steps, TOTAL_LIMIT};
+use node_store::Graph;
+use std::sync::ledger::Ledger;
+
+// Fixes the open parts as the state has them, up to the first part that is held otherwise; how many parts these are, with that one.
+fn follow(words: &mut [u32], state: &[u32]) -> usize
+    requires long { length state.now ≤ length words.old }
+    requires words { All (λ w. w < 3) words.old }
+    requires marks { AreMarks words.old state.now }
+    ensures within { result ≤ length state.now }
+    ensures words { All (λ w. w < 3) words.new }
+    ensures follows { Follows words.old (marked_bits state.now) words.new result }
+{
+    for (part, mark) in state.iter().enumerate() {
+        let word = word_of_known(Some(*mark % 2 == 0));
+        if *mark >= 2 {
+            words[part] = word;
+        } else if words[part] != word {
+            return part + 1;
+        }
+    }
+    state.len()
+}
+
+// The last part at which a later diagnosis can leave the state: the same before it, ok where the state has faulty. The words
+// are then fixed so far. It takes a pass for each part that is faulty in the state, at most.
+pub(crate) fn leave<L: Ledger>(
+    graph: &Graph,
+    words: &mut [u32],
+    costs: &[u32],
+    values: &mut [u32],
+    state: &[u32],
+    fewest: u32,
+    steps: &mut Steps<L>,
+) -> Option<usize>
+    requires long { length words.old ≡ graph.now.vars }
+    requires words { All (λ w. w < 3) words.old }
+    requires parts { length costs.now ≤ graph.now.vars }
+    requires total { total_cost costs.now < TOTAL_LIMIT }
+    requires room { length values.old ≡ length graph.now.nodes }
+    requires state { length state.now ≡ length costs.now }
+    requires marks { AreMarks words.old state.now }
+    requires least { least_under graph.now words.old costs.now ≡ Some fewest }
+    ensures words { All (λ w. w < 3) words.new }
+    ensures left { MatchOption result
+        ((words.new ≡ words.old) × NoneAfter graph.now words.old costs.now fewest (marked_bits state.now) 0)
+        (λ part. Leaves graph.now words.old costs.now fewest (marked_bits state.now) words.new part) }
+    ensures values { IfSome result (λ _. AreLeastCosts graph.now words.new costs.now values.new) }
+    ensures steps { steps.new ≤ steps.old + fault_count (marked_bits state.now) }
+{
+    let end = follow(words, state);
+    for part in (0..end).rev() {
+        let mark = state[part];
+        let word = if mark >= 2 { 0 } else { words[part] };
+        if mark % 2 == 1 && !is_false(word) {
+            words[part] = 1;
+            if reaches(graph, words, costs, values, fewest, steps) {
+                return Some(part);
+            }
+        }
+        words[part] = word;
+    }
+    None
+}

@@ -1,0 +1,176 @@
+-- What is made of nodes that are all to be true.
+use Rattle.std.proofs.Common.{◌≡◌, ◌≢◌, ℕ, zero, suc, ◌+◌, ◌<◌, ◌≤◌, Bool, true, false, not, ◌&&◌, ◌||◌, cond, List, [], ◌∷◌, ◌++◌, map, length, drop, get_or, All, refl, ap, sym, ◌∙◌, subst, arith}
+use Rattle.std.specs.Prelude.{◌==◌, Contains}
+use Rattle.std.specs.List.{list_any, list_all, filter, AllByRecursion}
+use Rattle.std.proofs.Math.Bool.{and-true, or-false}
+use Rattle.std.proofs.lemmas.Bool.{eqb-true}
+use Rattle.std.proofs.lemmas.List.{drop_more, append_assoc}
+use Rattle.std.proofs.lemmas.List.Folds.{list_all-map}
+use Rattle.std.proofs.lemmas.Option.{slice_get_within}
+use Rattle.state_rules.specs.Assignments.{Assignment}
+use Rattle.state_rules.specs.declared.nodes.NodeKind.TheVariants.{And}
+use Rattle.state_rules.specs.Graphs.{Node, at_most_one, is_true, mentions}
+use Rattle.state_rules.proofs.Lists.{list_any-map, length-filter-le}
+use Rattle.node_store.specs.Stores.{Stored, IsStore, Makes, Means}
+use Rattle.dnnf_compiler.specs.declared.maker.Maker.{Maker}
+use Rattle.dnnf_compiler.specs.inner.Joining.{Grows, IsPlain}
+use Rattle.dnnf_compiler.specs.inner.Making.{IsMaker, Adds}
+use Rattle.dnnf_compiler.specs.inner.Meeting.{AreApart, IsMeet}
+use Rattle.dnnf_compiler.proofs.Growing.{grows_by}
+use Rattle.dnnf_compiler.proofs.Making.{kept_in, adds_not, adds_store}
+use Rattle.dnnf_compiler.proofs.Bare.{bare_push}
+
+-- ---- lists of nodes
+
+pub all_from : {X : Type 0} (P : X → Type 0) (xs : List X) → AllByRecursion P xs → All P xs
+all_from P [] each k d h = absurd (omega arith)
+all_from P (x ∷ xs) each zero d h = each.0
+all_from P (x ∷ xs) each (suc k) d h = all_from P xs each.1 k d (omega arith)
+
+pub each_in : (P : ℕ → Type 0) (xs : List ℕ) (k : ℕ) → AllByRecursion P xs → Contains xs k → P k
+each_in P xs k each (j, h, e) = subst P e (all_from P xs each j k h)
+
+pub each_more : {X : Type 0} (P Q : X → Type 0) (xs : List X) → ((x : X) → P x → Q x) → AllByRecursion P xs → AllByRecursion Q xs
+each_more P Q [] h each = tt
+each_more P Q (x ∷ xs) h each = (h x each.0, each_more P Q xs h each.1)
+
+pub map_same : {X Y : Type 0} (P : X → Type 0) (f g : X → Y) (xs : List X) → ((x : X) → P x → f x ≡ g x) → AllByRecursion P xs → map f xs ≡ map g xs
+map_same P f g [] h each = refl
+map_same P f g (x ∷ xs) h each = λ j. h x each.0 j ∷ map_same P f g xs h each.1 j
+
+pub all_same : (P : ℕ → Type 0) (f g : ℕ → Bool) (xs : List ℕ) → ((x : ℕ) → P x → f x ≡ g x) → AllByRecursion P xs → list_all f xs ≡ list_all g xs
+all_same P f g xs h each = sym (list_all-map (λ b. b) f xs) ∙ ap (list_all (λ b. b)) (map_same P f g xs h each) ∙ list_all-map (λ b. b) g xs
+
+pub any_same : (P : ℕ → Type 0) (f g : ℕ → Bool) (xs : List ℕ) → ((x : ℕ) → P x → f x ≡ g x) → AllByRecursion P xs → list_any f xs ≡ list_any g xs
+any_same P f g xs h each = sym (list_any-map (λ b. b) f xs) ∙ ap (list_any (λ b. b)) (map_same P f g xs h each) ∙ list_any-map (λ b. b) g xs
+
+-- at most one, if the first is none, or no other is one
+pub first_none : (b : Bool) (bs : List Bool) → b ≡ false → at_most_one bs ≡ true → at_most_one (b ∷ bs) ≡ true
+first_none b bs e h = ap (λ b. at_most_one (b ∷ bs)) e ∙ h
+
+pub others_none : (b : Bool) (bs : List Bool) → list_any (λ b. b) bs ≡ false → at_most_one (b ∷ bs) ≡ true
+others_none true bs e = ap not e
+others_none false bs e = by bs e where
+  by : (bs : List Bool) → list_any (λ b. b) bs ≡ false → at_most_one bs ≡ true
+  by [] e = refl
+  by (true ∷ bs) e = absurd (cc)
+  by (false ∷ bs) e = by bs e
+
+-- ---- those that are always true are left out
+
+abbrev pub keeps_of : Maker → ℕ → Bool
+keeps_of m k = not (k == m.yes)
+
+module _ (m : Maker) (is : IsMaker m) where
+  abbrev its : List Node
+  its = m.store.nodes
+
+  abbrev keeps : ℕ → Bool
+  keeps k = not (k == m.yes)
+
+  all_kept : (a : Assignment) (kids : List ℕ) → list_all (λ k. is_true its k a) (filter keeps kids) ≡ list_all (λ k. is_true its k a) kids
+  all_kept a [] = refl
+  all_kept a (k ∷ kids) = by (k == m.yes) refl (all_kept a kids) where
+    by : (b : Bool) → (k == m.yes) ≡ b → list_all (λ k. is_true its k a) (filter keeps kids) ≡ list_all (λ k. is_true its k a) kids
+        → list_all (λ k. is_true its k a) (cond (not b) (k ∷ filter keeps kids) (filter keeps kids)) ≡ (is_true its k a && list_all (λ k. is_true its k a) kids)
+    by true e rest = rest ∙ (λ j. sym (ap (λ n. is_true its n a) (eqb-true k m.yes e) ∙ is.yes.truth a) j && list_all (λ k. is_true its k a) kids)
+    by false e rest = ap (λ b. is_true its k a && b) rest
+
+  any_kept : (v : ℕ) (kids : List ℕ) → list_any (mentions its v) (filter keeps kids) ≡ list_any (mentions its v) kids
+  any_kept v [] = refl
+  any_kept v (k ∷ kids) = by (k == m.yes) refl (any_kept v kids) where
+    by : (b : Bool) → (k == m.yes) ≡ b → list_any (mentions its v) (filter keeps kids) ≡ list_any (mentions its v) kids
+        → list_any (mentions its v) (cond (not b) (k ∷ filter keeps kids) (filter keeps kids)) ≡ (mentions its v k || list_any (mentions its v) kids)
+    by true e rest = rest ∙ (λ j. sym (ap (mentions its v) (eqb-true k m.yes e) ∙ is.yes.variables v) j || list_any (mentions its v) kids)
+    by false e rest = ap (λ b. mentions its v k || b) rest
+
+  one_kept : (v : ℕ) (kids : List ℕ) → at_most_one (map (mentions its v) (filter keeps kids)) ≡ at_most_one (map (mentions its v) kids)
+  one_kept v [] = refl
+  one_kept v (k ∷ kids) = by (k == m.yes) refl (one_kept v kids) where
+    first : (b : Bool) → at_most_one (map (mentions its v) (filter keeps kids)) ≡ at_most_one (map (mentions its v) kids) → at_most_one (b ∷ map (mentions its v) (filter keeps kids)) ≡ at_most_one (b ∷ map (mentions its v) kids)
+    first true rest = ap not (list_any-map (λ b. b) (mentions its v) (filter keeps kids) ∙ any_kept v kids ∙ sym (list_any-map (λ b. b) (mentions its v) kids))
+    first false rest = rest
+
+    by : (b : Bool) → (k == m.yes) ≡ b → at_most_one (map (mentions its v) (filter keeps kids)) ≡ at_most_one (map (mentions its v) kids)
+        → at_most_one (map (mentions its v) (cond (not b) (k ∷ filter keeps kids) (filter keeps kids))) ≡ at_most_one (mentions its v k ∷ map (mentions its v) kids)
+    by true e rest = rest ∙ (λ j. at_most_one (sym (ap (mentions its v) (eqb-true k m.yes e) ∙ is.yes.variables v) j ∷ map (mentions its v) kids))
+    by false e rest = first (mentions its v k) rest
+
+  few_kept : (kids : List ℕ) → length (filter keeps kids) ≤ length kids
+  few_kept kids = length-filter-le keeps kids
+
+  -- ---- while kids are gone over
+
+  one_on : (kids kept : List ℕ) (i k : ℕ) → i < length kids → k ≡ get_or kids i 0 → kept ++ filter keeps (drop i kids) ≡ kept ++ cond (keeps k) (k ∷ filter keeps (drop (i + 1) kids)) (filter keeps (drop (i + 1) kids))
+  one_on kids kept i k low at = ap (λ ks. kept ++ filter keeps ks) (drop_more kids i 0 low) ∙ ap (λ n. kept ++ filter keeps (n ∷ drop (i + 1) kids)) (sym at)
+
+  pub kept_not : (kids kept : List ℕ) (i k : ℕ) → i < length kids → k ≡ get_or kids i 0 → k ≡ m.yes → kept ++ filter keeps (drop i kids) ≡ filter keeps kids → kept ++ filter keeps (drop (i + 1) kids) ≡ filter keeps kids
+  kept_not kids kept i k low at e so_far =
+      sym (one_on kids kept i k low at ∙ ap (λ b. kept ++ cond (not b) (k ∷ filter keeps (drop (i + 1) kids)) (filter keeps (drop (i + 1) kids))) (same k m.yes e)) ∙ so_far where
+        same : (n l : ℕ) → n ≡ l → (n == l) ≡ true
+        same n l e = grind (arith, e)
+
+  pub kept_more : (kids kept : List ℕ) (i k : ℕ) → i < length kids → k ≡ get_or kids i 0 → k ≢ m.yes → kept ++ filter keeps (drop i kids) ≡ filter keeps kids → (kept ++ k ∷ []) ++ filter keeps (drop (i + 1) kids) ≡ filter keeps kids
+  kept_more kids kept i k low at e so_far =
+      append_assoc kept (k ∷ []) (filter keeps (drop (i + 1) kids))
+      ∙ sym (one_on kids kept i k low at ∙ ap (λ b. kept ++ cond (not b) (k ∷ filter keeps (drop (i + 1) kids)) (filter keeps (drop (i + 1) kids))) (apart k m.yes e)) ∙ so_far where
+        apart : (n l : ℕ) → n ≢ l → (n == l) ≡ false
+        apart n l e = grind (arith, e)
+
+  -- ---- what is made
+
+  module _ (kids kept : List ℕ) (e : kept ≡ filter keeps kids) where
+    all_of : (a : Assignment) → list_all (λ k. is_true its k a) kept ≡ list_all (λ k. is_true its k a) kids
+    all_of a = ap (list_all (λ k. is_true its k a)) e ∙ all_kept a kids
+
+    any_of : (v : ℕ) → list_any (mentions its v) kept ≡ list_any (mentions its v) kids
+    any_of v = ap (list_any (mentions its v)) e ∙ any_kept v kids
+
+    pub kept_apart : AreApart its kids → AreApart its kept
+    kept_apart apart v = ap (λ ks. at_most_one (map (mentions its v) ks)) e ∙ one_kept v kids ∙ apart v
+
+    pub kept_few : length kept ≤ length kids
+    kept_few = omega (arith, ap length e, few_kept kids)
+
+    pub meet_none : kept ≡ [] → IsMeet m m kids m.yes
+    meet_none empty = record {
+      adds = adds_not m 1 (length kids) is;
+      within = is.yes.within;
+      truth = λ a. is.yes.truth a ∙ sym (ap (list_all (λ k. is_true its k a)) empty) ∙ all_of a;
+      silent = λ v h. is.yes.variables v;
+      alone = λ h. adds_not m 0 0 is;
+      names = λ other v h. absurd (false_true (sym (sym (any_of v) ∙ ap (list_any (mentions its v)) empty) ∙ h));
+    } where
+      false_true : false ≡ true → ⊥
+      false_true e = cc
+
+    pub meet_one : (k : ℕ) → kept ≡ k ∷ [] → k < length its → IsMeet m m kids k
+    meet_one k one within = record {
+      adds = adds_not m 1 (length kids) is;
+      within = within;
+      truth = λ a. sym (and-true (is_true its k a)) ∙ sym (ap (list_all (λ k. is_true its k a)) one) ∙ all_of a;
+      silent = λ v h. sym (or-false (mentions its v k)) ∙ sym (ap (list_any (mentions its v)) one) ∙ any_of v ∙ h;
+      alone = λ h. adds_not m 0 0 is;
+      names = λ other v h. sym (or-false (mentions its v k)) ∙ sym (ap (list_any (mentions its v)) one) ∙ any_of v ∙ h;
+    }
+
+    pub meet_more : (s : Stored) (node : ℕ) → 2 ≤ length kept → AllByRecursion (λ k. (k < length its) × IsPlain its k) kept → Makes m.store s And kept node → Means its s.nodes And kept node → IsStore s
+        → IsMeet m (record m { store = s }) kids node
+    meet_more s node several plain makes means store = record {
+      adds = adds;
+      within = slice_get_within s.nodes node (record { what = And; kids = kept }) makes.there;
+      truth = λ a. means.truth a ∙ list_all-map (λ b. b) (λ k. is_true its k a) kept ∙ all_of a;
+      silent = λ v h. mention v ∙ h;
+      alone = λ h. absurd (omega (arith, h, several, kept_few));
+      names = λ other v h. mention v ∙ h;
+    } where
+      mention : (v : ℕ) → mentions s.nodes v node ≡ list_any (mentions its v) kids
+      mention v = means.variables v ∙ list_any-map (λ b. b) (mentions its v) kept ∙ any_of v
+
+      grows : Grows its s.nodes
+      grows = grows_by its s.nodes And kept node makes.nodes means
+
+      adds : Adds m (record m { store = s }) 1 (length kids)
+      adds = adds_store m s (length kids) is store (kept_in its s.nodes (record { what = And; kids = kept }) makes.nodes)
+          (bare_push m.store.vars its s.nodes (record { what = And; kids = kept }) is.store.nodes makes.nodes is.bare (λ k. each_in (λ k. (k < length its) × IsPlain its k) kept k plain))
+          grows makes.vars (omega (arith, makes.made)) (omega (arith, makes.handed, kept_few))

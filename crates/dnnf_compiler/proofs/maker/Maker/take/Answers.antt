@@ -1,0 +1,43 @@
+use Rattle.std.proofs.Common.{◌≡◌, ◌<◌, ◌++◌, ◌∷◌, Some, None, length, ap, sym, ◌∙◌, subst, arith}
+use Rattle.std.specs.Prelude.{option_map, IfSome}
+use Rattle.std.proofs.lemmas.Option.{slice_get_within}
+use Rattle.dnnf_compiler.specs.inner.Meeting.{taken, AreApart, IsMeet, IsUsable, IsTaken}
+use Rattle.dnnf_compiler.proofs.Taking.{kids_few, kids_apart, take_false, take_some}
+use Rattle.dnnf_compiler.proofs.maker.Maker.take.Goals as goal
+use Rattle.dnnf_compiler.proofs.maker.Maker.take.Goals.{After-as_slice}
+
+its_kids : (c : After-as_slice) → c.as_slice.result.now ≡ c.literal-literal.result ∷ taken c.args.below.now c.in-Some.numbers.now
+its_kids c = c.as_slice.ensures ∙ c.in_ok-kids.ensures ∙ ap (λ ks. ks ++ taken c.args.below.now c.in-Some.numbers.now) c.in_ok-from_slice.ensures.ok
+
+usable : (c : After-as_slice) → IsUsable c.args.self.now.store.nodes c.args.var c.args.below.now c.in-Some.numbers.now
+usable c = subst (λ way. IfSome (option_map (λ numbers. numbers.now) way) (IsUsable c.args.self.now.store.nodes c.args.var c.args.below.now)) c.in-Some.is c.requires.way
+
+literal_in : (c : After-as_slice) → c.literal-literal.result < length c.args.self.now.store.nodes
+literal_in c = slice_get_within c.args.self.now.store.nodes c.literal-literal.result _ c.literal-literal.ensures.there
+
+pub meet-requires-clause-apart : goal.meet-requires-clause-apart
+meet-requires-clause-apart c =
+    let d = (goal.at.meet-requires-clause-apart c).After-as_slice in
+    subst (AreApart c.args.self.now.store.nodes) (sym (its_kids d))
+    (kids_apart c.args.self.now c.args.var c.args.bit c.args.below.now c.in-Some.numbers.now c.literal-literal.result (usable d) (literal_in d) c.literal-literal.ensures.truth c.literal-literal.ensures.variables)
+
+pub meet-requires-clause-few_kids : goal.meet-requires-clause-few_kids
+meet-requires-clause-few_kids c =
+    let d = (goal.at.meet-requires-clause-few_kids c).After-as_slice in
+    omega (arith, ap length (its_kids d), kids_few c.args.self.now c.args.var c.args.bit c.args.below.now c.in-Some.numbers.now c.literal-literal.result (usable d) (literal_in d) c.literal-literal.ensures.truth c.literal-literal.ensures.variables)
+
+pub returns-then-node-self : goal.returns-then-node-self
+returns-then-node-self c =
+    let d = (goal.at.returns-then-node-self c).After-as_slice in
+    let m = c.args.self.now in
+    subst (λ way. IsTaken c.args.self.now c.meet.new.self c.args.var c.args.bit c.args.below.now (option_map (λ numbers. numbers.now) way) None) (sym c.in-Some.is)
+    (take_false m c.args.var c.args.bit c.args.below.now c.in-Some.numbers.now c.literal-literal.result (usable d) (literal_in d) c.literal-literal.ensures.truth c.literal-literal.ensures.variables
+    c.meet.new.self c.in_ok-node.node (subst (λ ks. IsMeet c.args.self.now c.meet.new.self ks c.in_ok-node.node) (its_kids d) c.in_ok-node.ensures) c.if-node-self.true)
+
+pub returns : goal.returns
+returns c =
+    let d = (goal.at.returns c).After-as_slice in
+    let m = c.args.self.now in
+    subst (λ way. IsTaken c.args.self.now c.meet.new.self c.args.var c.args.bit c.args.below.now (option_map (λ numbers. numbers.now) way) (Some c.in_ok-node.node)) (sym c.in-Some.is)
+    (take_some m c.args.var c.args.bit c.args.below.now c.in-Some.numbers.now c.literal-literal.result (usable d) (literal_in d) c.literal-literal.ensures.truth c.literal-literal.ensures.variables
+    c.meet.new.self c.in_ok-node.node (subst (λ ks. IsMeet c.args.self.now c.meet.new.self ks c.in_ok-node.node) (its_kids d) c.in_ok-node.ensures) c.if-node-self.false)

@@ -1,0 +1,15 @@
+pub mod Lists
+pub mod Places
+pub mod Branching
+pub mod Ordering
+pub mod Finding
+pub mod Counting
+pub mod Leading
+pub mod LevelLaws
+pub mod WayLists
+pub mod Passing
+pub mod Examples
+pub mod Chains
+pub mod Lasts
+pub mod Weights
+pub mod LastWays

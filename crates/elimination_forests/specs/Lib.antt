@@ -1,0 +1,4 @@
+pub mod Branches
+pub mod Forests
+pub mod Levels
+pub mod Ways

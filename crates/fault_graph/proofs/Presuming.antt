@@ -1,0 +1,58 @@
+-- What is presumed of all parts, and what the first diagnosis says of it.
+use Rattle.std.proofs.Common.{◌≡◌, ℕ, zero, suc, ◌<◌, ◌≤◌, Bool, true, false, cond, not, List, [], ◌∷◌, length, get_or, Some, refl, ap, sym, ◌∙◌, subst, inl, inr}
+use Rattle.std.specs.Prelude.{◌↔◌, ◌==◌, slice_get}
+use Rattle.std.proofs.lemmas.Bool.{false≢true, eqb-true, eq-eqb}
+use Rattle.state_rules.specs.Bits.{bit_in}
+use Rattle.state_rules.proofs.Members.{In}
+use Rattle.state_rules.specs.Graphs.{Graph}
+use Rattle.conditioner.specs.Models.{diagnoses_under}
+use Rattle.minimiser.specs.LeastStates.{ModelWithin, Suspect}
+use Rattle.minimiser.proofs.Models.{Agree, Agree-bit, ModelWithin-agrees, LeastIs, least-some, least-passes, passes-least, diagnosis-in, diagnosis-out}
+use Rattle.probe_report.specs.declared.verdicts.Blame.{Blame}
+use Rattle.probe_report.specs.declared.verdicts.Blame.TheVariants.{Sometimes, Never}
+use Rattle.probe_report.specs.Verdicts.{blame_of}
+use Rattle.probe_report.proofs.Blames.{all-ok, all-faulty, some-differ}
+use Rattle.fault_graph.specs.inner.Presumed.{presumed, IsPresumed}
+
+module _ (graph : Graph) (words costs : List ℕ) (most : ℕ) (within : length costs ≤ graph.vars) (e : LeastIs graph costs words most) where
+  abbrev all : List (List Bool)
+  all = diagnoses_under graph words costs
+
+  -- the first diagnosis
+  pub first-passes-all : (d : List Bool) → ModelWithin graph words costs most (get_or (diagnoses_under graph words costs) 0 d)
+  first-passes-all d =
+      let some = least-some graph costs within words most e in
+      diagnosis-out graph words costs most e _ (first-in all some.state (diagnosis-in graph words costs most e some.state some.passes)) where
+        first-in : (ds : List (List Bool)) (h : List Bool) → In h ds → In (get_or ds 0 d) ds
+        first-in [] h m = absurd m
+        first-in (x ∷ ds) h m = inl refl
+
+  pub first-same : (c d : List Bool) → get_or (diagnoses_under graph words costs) 0 c ≡ get_or (diagnoses_under graph words costs) 0 d
+  first-same c d =
+      let some = least-some graph costs within words most e in
+      same-first all some.state (diagnosis-in graph words costs most e some.state some.passes) where
+        same-first : (ds : List (List Bool)) (h : List Bool) → In h ds → get_or ds 0 c ≡ get_or ds 0 d
+        same-first [] h m = absurd m
+        same-first (x ∷ ds) h m = refl
+
+module _ (graph : Graph) (words costs : List ℕ) (i most : ℕ) (lt : i < length costs) (within : length costs ≤ graph.vars) (long : length words ≡ graph.vars) (e : LeastIs graph costs words most) where
+  -- what is presumed, of a part that is a suspect or not
+  pub presumed-right : (suspect : ℕ) → (suspect ≡ 1) ↔ Suspect graph words costs i → (verdicts : List Blame) → slice_get verdicts i ≡ Some (presumed (get_or words i 0) suspect) → IsPresumed graph words costs verdicts i
+  presumed-right suspect is verdicts f = by_word (get_or words i 0) refl (suspect == 1) refl where
+    by_word : (w : ℕ) → get_or words i 0 ≡ w → (b : Bool) → (suspect == 1) ≡ b → IsPresumed graph words costs verdicts i
+    by_word zero q true t = inr (is.0 (eqb-true suspect 1 t), f ∙ (λ j. Some (presumed (q j) suspect)) ∙ (λ j. Some (cond (t j) Sometimes Never)))
+    by_word zero q false t = inl (f ∙ (λ j. Some (presumed (q j) suspect)) ∙ (λ j. Some (cond (t j) Sometimes Never)) ∙ ap Some (all-ok graph words costs i most lt within e ok)) where
+      ok : (h : List Bool) → ModelWithin graph words costs most h → bit_in h i ≡ true
+      ok h p = by_bit (bit_in h i) refl where
+        by_bit : (b : Bool) → bit_in h i ≡ b → b ≡ true
+        by_bit true r = refl
+        by_bit false r = absurd (false≢true (sym t ∙ eq-eqb suspect 1 (is.1 (record { within = lt; open_ = q; state = h; is_least = passes-least graph words costs most h e p; faulty = r }))))
+    by_word (suc zero) q b t = inl (f ∙ (λ j. Some (presumed (q j) suspect)) ∙ ap Some (all-ok graph words costs i most lt within e (λ h p. Agree-bit true (bit_in h i) (subst (λ w. Agree w (bit_in h i)) q (ModelWithin-agrees graph costs within words most h long p i lt)))))
+    by_word (suc (suc n)) q b t = inl (f ∙ (λ j. Some (presumed (q j) suspect)) ∙ ap Some (all-faulty graph words costs i most lt within e (λ h p. Agree-bit false (bit_in h i) (subst (λ w. Agree w (bit_in h i)) q (ModelWithin-agrees graph costs within words most h long p i lt)))))
+
+  -- a part that is ok or not open in some diagnosis needs no pass
+  pub presumed-stays : (verdicts : List Blame) (h : List Bool) → ModelWithin graph words costs most h → (get_or words i 0 ≡ 0 → bit_in h i ≡ true) → IsPresumed graph words costs verdicts i → slice_get verdicts i ≡ Some (blame_of graph words costs i)
+  presumed-stays verdicts h p ok (inl f) = f
+  presumed-stays verdicts h p ok (inr s) =
+      let u = s.0 in
+      s.1 ∙ ap Some (some-differ graph words costs i most lt within e u.state h (least-passes graph words costs most u.state e u.is_least) p u.faulty (ok u.open_))

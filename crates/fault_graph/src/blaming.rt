@@ -1,0 +1,124 @@
+ghost use Rattle.std.specs.Prelude.{◌≡◌, ℕ, ◌+◌, ◌*◌, ◌<◌, ◌≤◌, length, All, Some, [], slice_get, slice_index, slice_index_or};
+ghost use Rattle.conditioner.specs.Models.{least_under, diagnoses_under, total_cost};
+ghost use Rattle.conditioner.specs.Words.{bits_of};
+ghost use Rattle.minimiser.specs.LeastStates.{ModelWithin};
+ghost use Rattle.diagnosis_lister.specs.Listing.{fault_count};
+ghost use Rattle.probe_report.specs.Verdicts.{blame_of};
+ghost use Rattle.fault_graph.specs.inner.Presumed.{presumed, IsPresumed};
+
+use conditioner::{is_faulty, is_open, known_of};
+use diagnosis_lister::first;
+use minimiser::{Steps, TOTAL_LIMIT, find_suspects, least};
+use node_store::Graph;
+use probe_report::{Blame, blame_faulty};
+use std::sync::ledger::Ledger;
+
+/// What [`blame`](probe_report::blame) says of each part, in their order.
+///
+/// One pass and one sweep tell which parts are faulty in no diagnosis, and only those of the first one can be faulty in all: a pass
+/// for each of them. The state is spoilt; the words are the same afterwards.
+pub fn blame_all<L: Ledger>(
+    graph: &Graph,
+    words: &mut [u32],
+    costs: &[u32],
+    values: &mut [u32],
+    state: &mut [u32],
+    verdicts: &mut [Blame],
+    steps: &mut Steps<L>,
+)
+    requires long { length words.old ≡ graph.now.vars }
+    requires words { All (λ w. w < 3) words.old }
+    requires parts { length costs.now ≤ graph.now.vars }
+    requires total { total_cost costs.now < TOTAL_LIMIT }
+    requires dear { All (λ c. 0 < c) costs.now }
+    requires room { length values.old ≡ length graph.now.nodes }
+    requires state { length state.old ≡ length costs.now }
+    requires state_words { All (λ s. s < 2) state.old }
+    requires verdicts { length verdicts.old ≡ length costs.now }
+
+    ensures blame { (part : ℕ) → part < length costs.now
+        → slice_get verdicts.new part ≡ Some (blame_of graph.now words.old costs.now part) }
+    ensures words { words.new ≡ words.old }
+    ensures state { All (λ s. s < 2) state.new }
+
+    // How many passes are made at most.
+    ensures steps { steps.new ≤ steps.old + 2 * length costs.now + 2 }
+    ensures few_steps { steps.new ≤ steps.old
+        + 2 * fault_count (slice_index_or (diagnoses_under graph.now words.old costs.now) 0 []) + 2 }
+{
+    let Some(fewest) = least(graph, words, costs, values, steps) else {
+        verdicts.fill(Blame::Inconsistent);
+        return;
+    };
+    find_suspects(graph, words, costs, values, state);
+    presume(words, state, verdicts);
+    first(graph, words, costs, values, state, steps);
+    confirm(graph, words, costs, values, state, fewest, verdicts, steps);
+}
+
+// The verdict on each part by its word, and on an open one by whether it is faulty in some diagnosis: Sometimes, for the time being.
+fn presume(words: &[u32], suspects: &[u32], verdicts: &mut [Blame])
+    requires long { length verdicts.old ≤ length words.now }
+    requires suspects { length verdicts.old ≤ length suspects.now }
+    ensures { (part : ℕ) → part < length verdicts.old
+        → slice_get verdicts.new part ≡ Some (presumed (slice_index words.now part) (slice_index suspects.now part)) }
+{
+    for (part, verdict) in verdicts.iter_mut().enumerate() {
+        *verdict = presumed(words[part], suspects[part]);
+    }
+}
+
+fn presumed(word: u32, suspect: u32) -> Blame
+    ensures { result ≡ presumed word suspect }
+{
+    match known_of(word) {
+        None if suspect == 1 => Blame::Sometimes,
+        None | Some(true) => Blame::Never,
+        Some(false) => Blame::Always,
+    }
+}
+
+// Asks for each open part that is faulty in one diagnosis whether it is so in all. The others, where they are faulty in some
+// diagnosis, are ok in this one.
+fn confirm<L: Ledger>(
+    graph: &Graph,
+    words: &mut [u32],
+    costs: &[u32],
+    values: &mut [u32],
+    state: &[u32],
+    fewest: u32,
+    verdicts: &mut [Blame],
+    steps: &mut Steps<L>,
+)
+    requires long { length words.old ≡ graph.now.vars }
+    requires words { All (λ w. w < 3) words.old }
+    requires parts { length costs.now ≤ graph.now.vars }
+    requires total { total_cost costs.now < TOTAL_LIMIT }
+    requires room { length values.old ≡ length graph.now.nodes }
+    requires state { length state.now ≡ length costs.now }
+    requires verdicts { length verdicts.old ≡ length costs.now }
+    requires least { least_under graph.now words.old costs.now ≡ Some fewest }
+    requires diagnosis { ModelWithin graph.now words.old costs.now fewest (bits_of state.now) }
+    requires presumed { (part : ℕ) → part < length costs.now
+        → IsPresumed graph.now words.old costs.now verdicts.old part }
+    ensures blame { (part : ℕ) → part < length costs.now
+        → slice_get verdicts.new part ≡ Some (blame_of graph.now words.old costs.now part) }
+    ensures words { words.new ≡ words.old }
+    ensures steps { steps.new ≤ steps.old + fault_count (bits_of state.now) }
+{
+    // There are no more parts than variables, and so their numbers fit.
+    let _vars = graph.vars();
+    for (part, mark) in state.iter().enumerate() {
+        if is_faulty(*mark) && is_open(words[part]) {
+            verdicts[part] = blame_faulty(
+                graph,
+                words,
+                costs,
+                part as u32 + 1,
+                fewest,
+                values,
+                steps,
+            );
+        }
+    }
+}

@@ -1,0 +1,197 @@
+-- One place of a forest: what happens to the states of its lists is what happens to the lists.
+use Rattle.std.proofs.Common.{◌≡◌, ℕ, ◌+◌, Bool, true, false, not, ◌||◌, cond, List, [], ◌∷◌, ◌++◌, map, Some, None, get_or, suc, refl, ap, sym, ◌∙◌, inl, inr, arith}
+use Rattle.std.specs.Prelude.{option_to_list, option_map, ◌==◌, if◌then◌else◌}
+use Rattle.std.specs.List.{filter, flat_map, position_or_len, AllByRecursion}
+use Rattle.std.proofs.lemmas.Bool.{false≢true, or_left, or_right, or_cases}
+use Rattle.std.proofs.lemmas.List.{map-append}
+use Rattle.std.proofs.lemmas.List.Folds.{list_any-append}
+use Rattle.state_rules.proofs.Bits.{pointwise-refl, pointwise-equal}
+use Rattle.state_rules.proofs.Lists.{AllByRecursion-append}
+use Rattle.clause_encoder.specs.Clauses.{Clause, var_of}
+use Rattle.elimination_forests.specs.Branches.{same_list, different, has_true, without, bits_of}
+use Rattle.elimination_forests.proofs.Counting.{among-different}
+use Rattle.elimination_forests.proofs.Lists.{is_among as is_listed, each-different}
+use Rattle.elimination_forests.specs.Forests.{Forest, none, tree, trees, variables, is_among, meets, Place, is_dead_by, decided, part_of, part, number_in, begins, way_by, forks_at}
+use Rattle.forest_states.specs.inner.BitLists.{is_same}
+use Rattle.forest_states.specs.inner.Walked.{lead, walked, picked, decided_states, decided_forks, part_states, column, row_at, forks_found}
+use Rattle.forest_states.proofs.Turned.{is_open}
+use Rattle.forest_states.proofs.Leaving.{IsKnown, Ends, table_of, unless, walked-same, known-next, bits-lists, picked-same, known-part}
+use Rattle.forest_states.proofs.Mapped.{each-among, among-given, mapped-agree, mapped-twice, different-mapped, place-mapped}
+
+abbrev pub at : List ℕ → List Clause → List (List Bool) → Place
+at bound cs lists = record { bound = bound; clauses = cs; lists = lists }
+
+-- the state of a list
+abbrev pub state_of : List ℕ → List ℕ → List Clause → List Bool → List Bool
+state_of vs bound cs list = bits_of (is_open vs bound) cs list
+
+-- ---- the tree on a base with these variables
+
+module _ (ws bound : List ℕ) (cs : List Clause) (lists : List (List Bool)) (known : AllByRecursion (IsKnown ws bound cs) lists) where
+  abbrev states : List (List Bool)
+  states = map (state_of ws bound cs) lists
+
+  abbrev pub flags_of : List ℕ → List Bool
+  flags_of own = map (meets own) (filter (is_open ws bound) cs)
+
+  module _ (own : List ℕ) (inside : (c : Clause) → meets own c ≡ true → meets ws c ≡ true) where
+    abbrev own_part : List Bool → List Bool
+    own_part list = part_of own (at bound cs lists) list
+
+    known-parts : (ls : List (List Bool)) → AllByRecursion (IsKnown ws bound cs) ls → AllByRecursion (IsKnown own bound cs) (map own_part ls)
+    known-parts [] all = tt
+    known-parts (l ∷ ls) all = (known-part ws bound own inside cs l all.0, known-parts ls all.1)
+
+    parts-mapped : (ls : List (List Bool)) → AllByRecursion (IsKnown ws bound cs) ls
+        → map (picked (flags_of own)) (map (state_of ws bound cs) ls) ≡ map (state_of own bound cs) (map own_part ls)
+    parts-mapped [] all = refl
+    parts-mapped (l ∷ ls) all = λ i. picked-same ws bound own inside cs l all.0 i ∷ parts-mapped ls all.1 i
+
+    pub known-apart : AllByRecursion (IsKnown own bound cs) (part own (at bound cs lists)).lists
+    known-apart = each-different (IsKnown own bound cs) (map own_part lists) (known-parts lists known)
+
+    pub part-mapped : part_states (flags_of own) states ≡ map (state_of own bound cs) (part own (at bound cs lists)).lists
+    part-mapped = ap different (parts-mapped lists known)
+        ∙ different-mapped (IsKnown own bound cs) (state_of own bound cs) (λ x y p q e. bits-lists own bound cs x y p q e) (map own_part lists) (known-parts lists known)
+
+    -- where the state of a list leads to
+    column-mapped : (list : List Bool) → IsKnown ws bound cs list
+        → position_or_len (is_same (picked (flags_of own) (state_of ws bound cs list))) (part_states (flags_of own) states)
+        ≡ number_in (part own (at bound cs lists)).lists (own_part list)
+    column-mapped list it =
+        (λ i. position_or_len (is_same (picked-same ws bound own inside cs list it i)) (part-mapped i))
+        ∙ place-mapped (IsKnown own bound cs) (state_of own bound cs) (λ x y p q e. bits-lists own bound cs x y p q e) (own_part list)
+        (known-part ws bound own inside cs list it) (part own (at bound cs lists)).lists known-apart
+
+    -- at the number of a list
+    read-mapped : (f : List Bool → ℕ) (ls : List (List Bool)) (x : List Bool) → is_listed ls x ≡ true → get_or (map f ls) (number_in ls x) 0 ≡ f x
+    read-mapped f [] x there = absurd (false≢true there)
+    read-mapped f (l ∷ ls) x there = by (same_list l x) refl there (read-mapped f ls x) where
+      by : (b : Bool) → same_list l x ≡ b → (b || is_listed ls x) ≡ true → (is_listed ls x ≡ true → get_or (map f ls) (number_in ls x) 0 ≡ f x)
+          → get_or (f l ∷ map f ls) (cond (not b) (1 + number_in ls x) 0) 0 ≡ f x
+      by true e h rest = ap f (pointwise-equal l x e)
+      by false e h rest = ap (λ k. get_or (f l ∷ map f ls) k 0) (next (number_in ls x)) ∙ rest h where
+        next : (k : ℕ) → 1 + k ≡ suc k
+        next k = omega arith
+
+    pub row-mapped : (list : List Bool) → is_listed lists list ≡ true → IsKnown ws bound cs list
+        → get_or (column (flags_of own) states) (number_in lists list) 0 ≡ number_in (part own (at bound cs lists)).lists (own_part list)
+    row-mapped list there it =
+        ap (λ xs. get_or xs (number_in lists list) 0) (mapped-twice _ (state_of ws bound cs) lists)
+        ∙ read-mapped (λ l. position_or_len (is_same (picked (flags_of own) (state_of ws bound cs l))) (part_states (flags_of own) states)) lists list there
+        ∙ column-mapped list it
+
+  -- the columns of the trees side by side
+  abbrev pub columns_of : Forest → List (List ℕ)
+  columns_of none = []
+  columns_of (tree v below beside) = column (flags_of (v ∷ variables below)) states ∷ columns_of beside
+
+  pub meets_wider : (xs ys : List ℕ) → ((u : ℕ) → is_among xs u ≡ true → is_among ys u ≡ true) → (c : Clause) → meets xs c ≡ true → meets ys c ≡ true
+  meets_wider xs ys h [] e = e
+  meets_wider xs ys h (l ∷ c) e = elim (or_cases (is_among xs (var_of l)) (meets xs c) e) [
+    | inl here ↦ or_left (is_among ys (var_of l)) (meets ys c) (h (var_of l) here)
+    | inr later ↦ or_right (is_among ys (var_of l)) (meets ys c) (meets_wider xs ys h c later)
+  ]
+
+  pub rows-mapped : (f : Forest) → ((u : ℕ) → is_among (variables f) u ≡ true → is_among ws u ≡ true) → (list : List Bool) → is_listed lists list ≡ true → IsKnown ws bound cs list
+      → row_at (columns_of f) (number_in lists list) ≡ begins f (at bound cs lists) list
+  rows-mapped none inside list there it = refl
+  rows-mapped (tree v below beside) inside list there it =
+      let own = v ∷ variables below in
+      let both = λ (u : ℕ). list_any-append (λ x. x == u) own (variables beside) in
+      λ j. row-mapped own (meets_wider own ws (λ u e. inside u (both u ∙ or_left (is_among own u) (is_among (variables beside) u) e))) list there it j
+      ∷ rows-mapped beside (λ u e. inside u (both u ∙ or_right (is_among own u) (is_among (variables beside) u) e)) list there it j
+
+-- ---- where a variable gets a bit
+
+module _ (v : ℕ) (below : Forest) (bound : List ℕ) (cs : List Clause) (ends : AllByRecursion (Ends v (variables below) bound) cs) where
+  abbrev ws : List ℕ
+  ws = variables below
+
+  abbrev left_by : Bool → List Bool → List Bool
+  left_by bit list = without (has_true v bit) cs list
+
+  abbrev is_dead : List Bool → Bool
+  is_dead list = is_dead_by (v ∷ bound) cs list
+
+  -- what a bit leaves, if it is not dead
+  abbrev alive_by : Bool → List Bool → List (List Bool)
+  alive_by bit list = filter (λ next. not (is_dead next)) (left_by bit list ∷ [])
+
+  abbrev either : List Bool → List (List Bool)
+  either list = alive_by false list ++ alive_by true list
+
+  abbrev base_state : List Bool → List Bool
+  base_state list = state_of ws (v ∷ bound) cs list
+
+  abbrev own_state : List Bool → List Bool
+  own_state list = state_of (v ∷ ws) bound cs list
+
+  walked-mapped : (bit : Bool) (list : List Bool) → IsKnown (v ∷ ws) bound cs list → option_to_list (walked bit (table_of v ws bound cs) (own_state list)) ≡ map base_state (alive_by bit list)
+  walked-mapped bit list known = ap option_to_list (walked-same v ws bound bit cs list ends known) ∙ by (is_dead (left_by bit list)) where
+    by : (d : Bool) → option_to_list (unless d (base_state (left_by bit list))) ≡ map base_state (cond (not d) (left_by bit list ∷ []) [])
+    by true = refl
+    by false = refl
+
+  known-alive_by : (bit : Bool) (list : List Bool) → IsKnown (v ∷ ws) bound cs list → AllByRecursion (IsKnown ws (v ∷ bound) cs) (alive_by bit list)
+  known-alive_by bit list known = by (is_dead (left_by bit list)) refl where
+    by : (d : Bool) → is_dead (left_by bit list) ≡ d → AllByRecursion (IsKnown ws (v ∷ bound) cs) (cond (not d) (left_by bit list ∷ []) [])
+    by true d = tt
+    by false d = (known-next v ws bound bit cs list ends known d, tt)
+
+  all-mapped : (lists : List (List Bool)) → AllByRecursion (IsKnown (v ∷ ws) bound cs) lists
+      → flat_map (λ s. option_to_list (walked false (table_of v ws bound cs) s) ++ option_to_list (walked true (table_of v ws bound cs) s)) (map own_state lists) ≡ map base_state (flat_map either lists)
+  all-mapped [] known = refl
+  all-mapped (l ∷ lists) known =
+      (λ i. (walked-mapped false l known.0 i ++ walked-mapped true l known.0 i) ++ all-mapped lists known.1 i)
+      ∙ ap (λ ss. ss ++ map base_state (flat_map either lists)) (sym (map-append base_state (alive_by false l) (alive_by true l)))
+      ∙ sym (map-append base_state (either l) (flat_map either lists))
+
+  known-all : (lists : List (List Bool)) → AllByRecursion (IsKnown (v ∷ ws) bound cs) lists → AllByRecursion (IsKnown ws (v ∷ bound) cs) (flat_map either lists)
+  known-all [] known = tt
+  known-all (l ∷ lists) known = AllByRecursion-append (IsKnown ws (v ∷ bound) cs) (either l) (flat_map either lists)
+      (AllByRecursion-append (IsKnown ws (v ∷ bound) cs) (alive_by false l) (alive_by true l) (known-alive_by false l known.0) (known-alive_by true l known.0)) (known-all lists known.1)
+
+  module _ (lists : List (List Bool)) (known : AllByRecursion (IsKnown (v ∷ ws) bound cs) lists) where
+    pub known-decided : AllByRecursion (IsKnown ws (v ∷ bound) cs) (decided v (at bound cs lists)).lists
+    known-decided = each-different (IsKnown ws (v ∷ bound) cs) (flat_map either lists) (known-all lists known)
+
+    pub decided-mapped : decided_states (table_of v ws bound cs) (map own_state lists) ≡ map base_state (decided v (at bound cs lists)).lists
+    decided-mapped = ap different (all-mapped lists known)
+        ∙ different-mapped (IsKnown ws (v ∷ bound) cs) base_state (λ x y p q e. bits-lists ws (v ∷ bound) cs x y p q e) (flat_map either lists) (known-all lists known)
+
+    abbrev ds : List (List Bool)
+    ds = (decided v (at bound cs lists)).lists
+
+    module _ (columns : List (List ℕ)) (rows : (x : List Bool) → is_listed ds x ≡ true → IsKnown ws (v ∷ bound) cs x → row_at columns (number_in ds x) ≡ begins below (decided v (at bound cs lists)) x) where
+      way-mapped : (bit : Bool) (list : List Bool) → is_listed lists list ≡ true → IsKnown (v ∷ ws) bound cs list
+          → option_map (row_at columns) (lead (decided_states (table_of v ws bound cs) (map own_state lists)) (walked bit (table_of v ws bound cs) (own_state list))) ≡ way_by v below (at bound cs lists) bit list
+      way-mapped bit list there it = (λ i. option_map (row_at columns) (lead (decided-mapped i) (walked-same v ws bound bit cs list ends it i))) ∙ by (is_dead next) refl where
+        next : List Bool
+        next = left_by bit list
+
+        own : is_dead next ≡ false → is_listed (alive_by bit list) next ≡ true
+        own d = ap (λ x. is_listed (cond (not x) (next ∷ []) []) next) d ∙ or_left (same_list next next) false (pointwise-refl next)
+
+        given : (b : Bool) → is_listed (alive_by b list) next ≡ true → is_listed (either list) next ≡ true
+        given false e = list_any-append (λ o. same_list o next) (alive_by false list) (alive_by true list) ∙ or_left (is_listed (alive_by false list) next) (is_listed (alive_by true list) next) e
+        given true e = list_any-append (λ o. same_list o next) (alive_by false list) (alive_by true list) ∙ or_right (is_listed (alive_by false list) next) (is_listed (alive_by true list) next) e
+
+        by : (d : Bool) → is_dead next ≡ d → option_map (row_at columns) (lead (map base_state ds) (unless d (base_state next))) ≡ (if d then None else Some (begins below (decided v (at bound cs lists)) next))
+        by true d = refl
+        by false d =
+            let known_next = known-next v ws bound bit cs list ends it d in
+            ap (λ n. Some (row_at columns n)) (place-mapped (IsKnown ws (v ∷ bound) cs) base_state (λ x y p q e. bits-lists ws (v ∷ bound) cs x y p q e) next known_next ds known-decided)
+            ∙ ap Some (rows next (among-different (flat_map either lists) next ∙ among-given either lists list next there (given bit (own d))) known_next)
+
+      ways-mapped : (bit : Bool) → map (λ s. option_map (row_at columns) (lead (decided_states (table_of v ws bound cs) (map own_state lists)) (walked bit (table_of v ws bound cs) s))) (map own_state lists)
+          ≡ map (way_by v below (at bound cs lists) bit) lists
+      ways-mapped bit =
+          mapped-twice _ own_state lists
+          ∙ mapped-agree (λ x. (is_listed lists x ≡ true) × IsKnown (v ∷ ws) bound cs x) _ _ (λ x p. way-mapped bit x p.0 p.1) lists (each-among (IsKnown (v ∷ ws) bound cs) lists known)
+
+      pub forks-mapped : forks_found (trees below) columns (decided_forks (table_of v ws bound cs) (map own_state lists)) ≡ forks_at v below (at bound cs lists)
+      forks-mapped =
+          let zero = ap (map (option_map (row_at columns))) (mapped-twice _ _ (map own_state lists)) ∙ mapped-twice _ _ (map own_state lists) ∙ ways-mapped false in
+          let one = ap (map (option_map (row_at columns))) (mapped-twice _ _ (map own_state lists)) ∙ mapped-twice _ _ (map own_state lists) ∙ ways-mapped true in
+          λ j. record { zero = record { trees = trees below; ways = zero j }; one = record { trees = trees below; ways = one j } }

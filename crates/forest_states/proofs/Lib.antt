@@ -1,0 +1,15 @@
+pub mod Along
+pub mod Going
+pub mod Having
+pub mod Leaving
+pub mod Mapped
+pub mod Marking
+pub mod Numbers
+pub mod Sets
+pub mod Spread
+pub mod Standing
+pub mod Turned
+pub mod Walks
+pub mod Whole
+pub mod WordBits
+pub mod Words

@@ -1,0 +1,89 @@
+-- Lists and their states, if different known lists have different ones.
+use Rattle.std.proofs.Common.{◌≡◌, ℕ, ◌+◌, Option, Some, None, Bool, true, false, not, ◌||◌, cond, List, [], ◌∷◌, ◌++◌, map, refl, ap, sym, ◌∙◌, subst, inl, inr}
+use Rattle.std.specs.Prelude.{is_some, option_map, IfSome}
+use Rattle.std.specs.List.{filter, flat_map, list_any, position_or_len, AllByRecursion}
+use Rattle.std.proofs.lemmas.Bool.{false≢true, cases_Bool, or_left, or_right, false_from_ne_true}
+use Rattle.std.proofs.lemmas.List.Folds.{list_any-append}
+use Rattle.state_rules.proofs.Bits.{pointwise-refl, pointwise-equal}
+use Rattle.elimination_forests.specs.Branches.{same_list, different}
+use Rattle.elimination_forests.proofs.Lists.{is_among, each-different}
+use Rattle.forest_states.specs.inner.BitLists.{is_same}
+use Rattle.forest_states.specs.inner.Walked.{any_leads, row_at, ways_found}
+use Rattle.forest_states.specs.declared.places.Fork.{Fork}
+use Rattle.elimination_forests.specs.declared.forks.Forks.{Forks}
+use Rattle.elimination_forests.specs.Forests.{has_way, leads_on}
+
+-- ---- what is among lists
+
+pub each-among : (P : List Bool → Type 0) (ls : List (List Bool)) → AllByRecursion P ls → AllByRecursion (λ x. (is_among ls x ≡ true) × P x) ls
+each-among P [] all = tt
+each-among P (l ∷ ls) all = ((or_left (same_list l l) (is_among ls l) (pointwise-refl l), all.0), wider ls (each-among P ls all.1)) where
+  wider : (ms : List (List Bool)) → AllByRecursion (λ x. (is_among ls x ≡ true) × P x) ms → AllByRecursion (λ x. (is_among (l ∷ ls) x ≡ true) × P x) ms
+  wider [] given = tt
+  wider (m ∷ ms) given = ((or_right (same_list l m) (is_among ls m) given.0.0, given.0.1), wider ms given.1)
+
+pub among-given : (f : List Bool → List (List Bool)) (ls : List (List Bool)) (l x : List Bool) → is_among ls l ≡ true → is_among (f l) x ≡ true → is_among (flat_map f ls) x ≡ true
+among-given f [] l x there given = absurd (false≢true there)
+among-given f (k ∷ ls) l x there given = list_any-append (λ o. same_list o x) (f k) (flat_map f ls) ∙ by (same_list k l) refl there (among-given f ls l x) where
+  by : (t : Bool) → same_list k l ≡ t → (t || is_among ls l) ≡ true → (is_among ls l ≡ true → is_among (f l) x ≡ true → is_among (flat_map f ls) x ≡ true)
+      → (is_among (f k) x || is_among (flat_map f ls) x) ≡ true
+  by true t h rest = or_left (is_among (f k) x) (is_among (flat_map f ls) x) (ap (λ m. is_among (f m) x) (pointwise-equal k l t) ∙ given)
+  by false t h rest = or_right (is_among (f k) x) (is_among (flat_map f ls) x) (rest h given)
+
+pub mapped-agree : {X Y : Type 0} (P : X → Type 0) (f g : X → Y) → ((x : X) → P x → f x ≡ g x) → (xs : List X) → AllByRecursion P xs → map f xs ≡ map g xs
+mapped-agree P f g same [] all = refl
+mapped-agree P f g same (x ∷ xs) all = λ i. same x all.0 i ∷ mapped-agree P f g same xs all.1 i
+
+pub mapped-twice : {X Y Z : Type 0} (f : Y → Z) (g : X → Y) (xs : List X) → map f (map g xs) ≡ map (λ x. f (g x)) xs
+mapped-twice f g [] = refl
+mapped-twice f g (x ∷ xs) = ap (λ ys. f (g x) ∷ ys) (mapped-twice f g xs)
+
+-- ---- the states of known lists
+
+module _ (P : List Bool → Type 0) (e : List Bool → List Bool) (same : (x y : List Bool) → P x → P y → e x ≡ e y → x ≡ y) where
+  test-same : (x y : List Bool) → P x → P y → same_list (e x) (e y) ≡ same_list x y
+  test-same x y p q = elim (cases_Bool (same_list (e x) (e y))) [
+    | inl is ↦ is ∙ sym (ap (λ z. same_list z y) (same x y p q (pointwise-equal (e x) (e y) is)) ∙ pointwise-refl y)
+    | inr other ↦ other ∙ sym (false_from_ne_true (same_list x y) (λ is. false≢true (sym other ∙ ap (λ z. same_list z (e y)) (ap e (pointwise-equal x y is)) ∙ pointwise-refl (e y))))
+  ]
+
+  filter-kept : (x : List Bool) → P x → (ls : List (List Bool)) → AllByRecursion P ls → map e (filter (λ y. not (same_list x y)) ls) ≡ filter (λ s. not (same_list (e x) s)) (map e ls)
+  filter-kept x p [] all = refl
+  filter-kept x p (l ∷ ls) all = by (same_list x l) (filter-kept x p ls all.1) ∙ ap (λ b. cond (not b) (e l ∷ filter (λ s. not (same_list (e x) s)) (map e ls)) (filter (λ s. not (same_list (e x) s)) (map e ls))) (sym (test-same x l p all.0)) where
+    by : (b : Bool) → map e (filter (λ y. not (same_list x y)) ls) ≡ filter (λ s. not (same_list (e x) s)) (map e ls)
+        → map e (cond (not b) (l ∷ filter (λ y. not (same_list x y)) ls) (filter (λ y. not (same_list x y)) ls)) ≡ cond (not b) (e l ∷ filter (λ s. not (same_list (e x) s)) (map e ls)) (filter (λ s. not (same_list (e x) s)) (map e ls))
+    by true rest = rest
+    by false rest = ap (λ ss. e l ∷ ss) rest
+
+  -- each once
+  pub different-mapped : (ls : List (List Bool)) → AllByRecursion P ls → different (map e ls) ≡ map e (different ls)
+  different-mapped [] all = refl
+  different-mapped (l ∷ ls) all = ap (λ ss. e l ∷ filter (λ s. not (same_list (e l) s)) ss) (different-mapped ls all.1)
+      ∙ ap (λ ss. e l ∷ ss) (sym (filter-kept l all.0 (different ls) (each-different P ls all.1)))
+
+  -- and the place of one
+  pub place-mapped : (x : List Bool) → P x → (ls : List (List Bool)) → AllByRecursion P ls → position_or_len (is_same (e x)) (map e ls) ≡ position_or_len (λ o. same_list o x) ls
+  place-mapped x p [] all = refl
+  place-mapped x p (l ∷ ls) all = λ j. cond (not (test-same l x all.0 p j)) (1 + place-mapped x p ls all.1 j) 0
+
+-- ---- whether a state leads on
+
+pub ways-some : (columns : List (List ℕ)) (leads : List Fork) → any_leads leads
+    ≡ (list_any is_some (ways_found columns (map (λ f. f.zero) leads)) || list_any is_some (ways_found columns (map (λ f. f.one) leads)))
+ways-some columns [] = refl
+ways-some columns (f ∷ leads) = by f.zero f.one (list_any is_some (ways_found columns (map (λ f. f.zero) leads))) (list_any is_some (ways_found columns (map (λ f. f.one) leads))) (ways-some columns leads) where
+  by : (a b : Option ℕ) (x y : Bool) → any_leads leads ≡ (x || y)
+      → ((is_some a || is_some b) || any_leads leads) ≡ ((is_some (option_map (row_at columns) a) || x) || (is_some (option_map (row_at columns) b) || y))
+  by (Some n) b x y rest = refl
+  by None (Some m) true y rest = refl
+  by None (Some m) false y rest = refl
+  by None None x y rest = rest
+
+-- one place more
+pub leads-push : (places : List Forks) (forks : Forks) → leads_on (places ++ forks ∷ []) ≡ has_way forks
+leads-push [] forks = refl
+leads-push (p ∷ []) forks = refl
+leads-push (p ∷ q ∷ places) forks = leads-push (q ∷ places) forks
+
+pub if-some : {X : Type 0} (P : X → Type 0) (o : Option X) (x : X) → o ≡ Some x → IfSome o P → P x
+if-some P o x e h = subst (λ o. IfSome o P) e h

@@ -1,0 +1,132 @@
+-- Different lists one after the other.
+use Rattle.std.proofs.Common.{◌≡◌, ℕ, ◌+◌, ◌<◌, Bool, true, false, not, ◌||◌, cond, List, [], ◌∷◌, ◌++◌, map, length, take, drop, get_or, Some, None, refl, ap, sym, ◌∙◌, arith}
+use Rattle.std.specs.Prelude.{Option, option_to_list, slice_get}
+use Rattle.std.specs.List.{flat_map, position_or_len}
+use Rattle.std.proofs.lemmas.Bool.{or_right, or_left}
+use Rattle.std.proofs.lemmas.List.{append_assoc, append-nil, take-append-drop, get_or-map, length-map, take_more, map-append}
+use Rattle.std.proofs.lemmas.List.Concat.{flat_map-append}
+use Rattle.std.proofs.lemmas.List.Folds.{list_any-append}
+use Rattle.std.proofs.lemmas.Option.{slice_get_within, slice_get_read, get_or_from_slice_get}
+use Rattle.state_rules.proofs.Bits.{pointwise-refl}
+use Rattle.elimination_forests.specs.Branches.{same_list, different}
+use Rattle.elimination_forests.proofs.Counting.{among-different}
+use Rattle.elimination_forests.proofs.Lists.{is_among, different-append}
+use Rattle.elimination_forests.proofs.Finding.{place-front}
+use Rattle.forest_states.specs.inner.BitLists.{is_same}
+use Rattle.forest_states.specs.inner.Walked.{joined, lead}
+
+-- bits after others, if there are any
+abbrev pub behind : List Bool → Option (List Bool) → Option (List Bool)
+behind bits None = None
+behind bits (Some more) = Some (bits ++ more)
+
+-- ---- one item more
+
+take-more : {X : Type 0} (xs : List X) (k : ℕ) (x : X) → slice_get xs k ≡ Some x → take (k + 1) xs ≡ take k xs ++ x ∷ []
+take-more xs k x at = take_more xs k x (slice_get_within xs k x at) ∙ ap (λ y. take k xs ++ y ∷ []) (get_or_from_slice_get xs k x x at)
+
+pub mapped-more : {X Y : Type 0} (h : X → Y) (xs : List X) (ys : List Y) (k : ℕ) (x : X) → slice_get xs k ≡ Some x → ys ≡ take k (map h xs) → ys ++ h x ∷ [] ≡ take (k + 1) (map h xs)
+mapped-more h xs ys k x at e =
+    let within : k < length (map h xs) = omega (arith, length-map xs h, slice_get_within xs k x at) in
+    ap (λ zs. zs ++ h x ∷ []) e
+    ∙ ap (λ y. take k (map h xs) ++ y ∷ []) (ap h (sym (get_or_from_slice_get xs k x x at)) ∙ sym (get_or-map h xs k x (h x) (slice_get_within xs k x at)))
+    ∙ sym (take_more (map h xs) k (h x) within)
+
+-- one list more
+pub joined-more : (ks : List (List Bool)) (more : Option (List Bool)) → joined (different ks) more ≡ different (ks ++ option_to_list more)
+joined-more ks None = ap different (sym (append-nil ks))
+joined-more ks (Some k) = by (is_among (different ks) k) (among-different ks k) ∙ sym (different-append ks (k ∷ [])) where
+  by : (b : Bool) → b ≡ is_among ks k → cond b (different ks) (different ks ++ k ∷ []) ≡ different ks ++ cond (not (is_among ks k)) (k ∷ []) []
+  by true e = sym (append-nil (different ks)) ∙ ap (λ x. different ks ++ cond (not x) (k ∷ []) []) e
+  by false e = ap (λ x. different ks ++ cond (not x) (k ∷ []) []) e
+
+-- what is added after the first ones has its place there
+pub place-ahead : (ks : List (List Bool)) (k : List Bool) (more : List (List Bool)) → position_or_len (is_same k) (different ks) ≡ position_or_len (is_same k) (different ((ks ++ k ∷ []) ++ more))
+place-ahead ks k more = by (is_among ks k) refl ∙ back where
+  all : List (List Bool)
+  all = ks ++ k ∷ []
+
+  there : is_among (different all) k ≡ true
+  there = among-different all k ∙ list_any-append (λ o. same_list o k) ks (k ∷ []) ∙ or_right (is_among ks k) (same_list k k || false) (or_left (same_list k k) false (pointwise-refl k))
+
+  back : position_or_len (is_same k) (different all) ≡ position_or_len (is_same k) (different (all ++ more))
+  back = sym (place-front (is_same k) (different all) _ there) ∙ ap (position_or_len (is_same k)) (sym (different-append all more))
+
+  by : (b : Bool) → is_among ks k ≡ b → position_or_len (is_same k) (different ks) ≡ position_or_len (is_same k) (different all)
+  by true e = sym (place-front (is_same k) (different ks) _ (among-different ks k ∙ e)) ∙ ap (position_or_len (is_same k)) (sym (different-append ks (k ∷ [])))
+  by false e = new (different ks) (among-different ks k ∙ e) ∙ ap (position_or_len (is_same k)) (ap (λ x. different ks ++ cond (not x) (k ∷ []) []) (sym e) ∙ sym (different-append ks (k ∷ []))) where
+    new : (ls : List (List Bool)) → is_among ls k ≡ false → position_or_len (is_same k) ls ≡ position_or_len (is_same k) (ls ++ k ∷ [])
+    new [] h = ap (λ x. cond (not x) 1 0) (sym (pointwise-refl k))
+    new (l ∷ ls) h = step (same_list l k) h (new ls) where
+      step : (x : Bool) → (x || is_among ls k) ≡ false → (is_among ls k ≡ false → position_or_len (is_same k) ls ≡ position_or_len (is_same k) (ls ++ k ∷ []))
+          → cond (not x) (1 + position_or_len (is_same k) ls) 0 ≡ cond (not x) (1 + position_or_len (is_same k) (ls ++ k ∷ [])) 0
+      step true h rest = refl
+      step false h rest = ap (λ n. 1 + n) (rest h)
+
+pub lead-front : (ks : List (List Bool)) (k : Option (List Bool)) (more : List (List Bool)) → lead (different ks) k ≡ lead (different ((ks ++ option_to_list k) ++ more)) k
+lead-front ks None more = refl
+lead-front ks (Some k) more = ap (λ n. Some n) (place-ahead ks k more)
+
+-- ---- the states of a place one after the other: what each gives by one bit, and then by the other
+
+module _ (f g : List Bool → Option (List Bool)) (states : List (List Bool)) where
+  abbrev pub both : List Bool → List (List Bool)
+  both s = option_to_list (f s) ++ option_to_list (g s)
+
+  -- what the first states give
+  abbrev pub reached : ℕ → List (List Bool)
+  reached k = flat_map both (take k states)
+
+  abbrev later : ℕ → List (List Bool)
+  later k = flat_map both (drop (k + 1) states)
+
+  reached-more : (k : ℕ) (s : List Bool) → slice_get states k ≡ Some s → (reached k ++ option_to_list (f s)) ++ option_to_list (g s) ≡ reached (k + 1)
+  reached-more k s at =
+      append_assoc (reached k) (option_to_list (f s)) (option_to_list (g s))
+      ∙ ap (λ ls. reached k ++ ls) (sym (append-nil (both s)))
+      ∙ sym (flat_map-append both (take k states) (s ∷ []))
+      ∙ ap (flat_map both) (sym (take-more states k s at))
+
+  all-three : (k : ℕ) (s : List Bool) → slice_get states k ≡ Some s → ((reached k ++ option_to_list (f s)) ++ option_to_list (g s)) ++ later k ≡ flat_map both states
+  all-three k s at =
+      ap (λ ls. ls ++ later k) (reached-more k s at)
+      ∙ sym (flat_map-append both (take (k + 1) states) (drop (k + 1) states))
+      ∙ ap (flat_map both) (take-append-drop (k + 1) states)
+
+  pub first-lead : (k : ℕ) (s : List Bool) → slice_get states k ≡ Some s → lead (different (reached k)) (f s) ≡ lead (different (flat_map both states)) (f s)
+  first-lead k s at =
+      lead-front (reached k) (f s) (option_to_list (g s) ++ later k)
+      ∙ ap (λ ls. lead (different ls) (f s)) (sym (append_assoc (reached k ++ option_to_list (f s)) (option_to_list (g s)) (later k)) ∙ all-three k s at)
+
+  pub second-lead : (k : ℕ) (s : List Bool) → slice_get states k ≡ Some s → lead (joined (different (reached k)) (f s)) (g s) ≡ lead (different (flat_map both states)) (g s)
+  second-lead k s at =
+      ap (λ ls. lead ls (g s)) (joined-more (reached k) (f s))
+      ∙ lead-front (reached k ++ option_to_list (f s)) (g s) (later k)
+      ∙ ap (λ ls. lead (different ls) (g s)) (all-three k s at)
+
+  pub both-joined : (k : ℕ) (s : List Bool) → slice_get states k ≡ Some s → joined (joined (different (reached k)) (f s)) (g s) ≡ different (reached (k + 1))
+  both-joined k s at =
+      ap (λ ls. joined ls (g s)) (joined-more (reached k) (f s))
+      ∙ joined-more (reached k ++ option_to_list (f s)) (g s)
+      ∙ ap different (reached-more k s at)
+
+-- ---- the part of each
+
+module _ (m : List Bool → List Bool) (states : List (List Bool)) where
+  parts-more : (k : ℕ) (s : List Bool) → slice_get states k ≡ Some s → map m (take k states) ++ m s ∷ [] ≡ map m (take (k + 1) states)
+  parts-more k s at = sym (map-append m (take k states) (s ∷ [])) ∙ ap (map m) (sym (take-more states k s at))
+
+  pub part-joined : (k : ℕ) (s : List Bool) → slice_get states k ≡ Some s → joined (different (map m (take k states))) (Some (m s)) ≡ different (map m (take (k + 1) states))
+  part-joined k s at = joined-more (map m (take k states)) (Some (m s)) ∙ ap different (parts-more k s at)
+
+  pub part-place : (k : ℕ) (s : List Bool) → slice_get states k ≡ Some s → position_or_len (is_same (m s)) (different (map m (take k states))) ≡ position_or_len (is_same (m s)) (different (map m states))
+  part-place k s at =
+      place-ahead (map m (take k states)) (m s) (map m (drop (k + 1) states))
+      ∙ ap (λ ls. position_or_len (is_same (m s)) (different ls)) (
+      ap (λ ls. ls ++ map m (drop (k + 1) states)) (parts-more k s at)
+      ∙ sym (map-append m (take (k + 1) states) (drop (k + 1) states))
+      ∙ ap (map m) (take-append-drop (k + 1) states))
+
+-- what is read of items
+pub item-at : {X : Type 0} (xs ys : List X) (k : ℕ) (x : X) → xs ≡ ys → k < length xs → x ≡ get_or xs k x → slice_get ys k ≡ Some x
+item-at xs ys k x e low is = ap (λ zs. slice_get zs k) (sym e) ∙ slice_get_read xs (length xs) k x refl low is

@@ -1,0 +1,329 @@
+-- A place of a forest as its open clauses and its states show it, and what becomes of these at the places right below.
+use Rattle.std.proofs.Common.{◌≡◌, ℕ, ◌+◌, ◌*◌, ◌<◌, Bool, true, false, not, ◌&&◌, ◌||◌, List, [], ◌∷◌, ◌++◌, map, length, set, get_or, refl, ap, sym, ◌∙◌, arith, ◌⊎◌, inl, inr}
+use Rattle.std.specs.Prelude.{◌==◌, if◌then◌else◌}
+use Rattle.std.specs.List.{filter, range_with_len, AllByRecursion}
+use Rattle.std.proofs.lemmas.Bool.{false≢true, and_parts, and_left, and_right, or_from, or_left, or_right, or_cases, not-true, false_from_ne_true, eqb-true}
+use Rattle.std.proofs.lemmas.List.{length-map, length-set}
+use Rattle.std.proofs.lemmas.List.Folds.{list_any-append}
+use Rattle.state_rules.specs.Bits.{bit_in}
+use Rattle.state_rules.proofs.Lists.{filter-filter}
+use Rattle.clause_encoder.specs.Clauses.{Clause}
+use Rattle.elimination_forests.specs.declared.steps.Weight.{Weight}
+use Rattle.elimination_forests.specs.Forests.{Forest, none, tree, trees, variables, is_among, meets, is_within, is_once, is_along, Place, decided, part, weigh, weight_at, forks_at}
+use Rattle.forest_states.specs.inner.Walked.{has_var, merged, meets_marked, within_marked, is_in_tree, goes_to, entry_at, Stand, met_at, table_at, decided_states, decided_forks, part_states, column, forks_found, stand_decided, stand_part, column_at, weight_of}
+use Rattle.forest_states.proofs.Turned.{is_open, is_walked, meets-more}
+use Rattle.forest_states.proofs.Leaving.{IsKnown, Ends, entry_of, table_of, twice}
+use Rattle.forest_states.proofs.Mapped.{mapped-twice}
+use Rattle.forest_states.proofs.Along.{at, state_of, flags_of, columns_of, known-apart, part-mapped, rows-mapped, meets_wider, known-decided, decided-mapped, forks-mapped}
+use Rattle.forest_states.proofs.Marking.{along-closed, ends-there, any-same, within-same, mark-bit, AreSides}
+use Rattle.forest_states.proofs.Numbers.{IsIndex, merged-either, filter-within, map-within, passing, each-at}
+
+-- a place of a forest
+pub record Item : Type 0 where
+  pub v : ℕ
+  pub below : Forest
+  pub bound : List ℕ
+  pub lists : List (List Bool)
+
+abbrev pub own_of : Item → List ℕ
+own_of it = it.v ∷ variables it.below
+
+abbrev pub place : List Clause → Item → Place
+place clauses it = at it.bound clauses it.lists
+
+-- its open clauses and its states
+pub record IsItem (clauses : List Clause) (it : Item) (s : Stand) : Type 0 where
+  pub along : (n : ℕ) → n < length clauses → meets (own_of it) (get_or clauses n []) ≡ true → is_along it.below (it.v ∷ it.bound) (get_or clauses n []) ≡ true
+  pub free : (u : ℕ) → is_among (own_of it) u ≡ true → is_among it.bound u ≡ false
+  pub known : AllByRecursion (IsKnown (own_of it) it.bound clauses) it.lists
+  pub opened : s.opened ≡ filter (λ n. is_open (own_of it) it.bound (get_or clauses n [])) (range_with_len 0 (length clauses))
+  pub states : s.states ≡ map (state_of (own_of it) it.bound clauses) it.lists
+
+-- a base on which these trees stand, beside others: those of all trees on it
+pub record IsBase (clauses : List Clause) (ws : List ℕ) (f : Forest) (bound : List ℕ) (lists : List (List Bool)) (s : Stand) : Type 0 where
+  pub along : (n : ℕ) → n < length clauses → meets (variables f) (get_or clauses n []) ≡ true → is_along f bound (get_or clauses n []) ≡ true
+  pub free : (u : ℕ) → is_among (variables f) u ≡ true → is_among bound u ≡ false
+  pub inside : (u : ℕ) → is_among (variables f) u ≡ true → is_among ws u ≡ true
+  pub known : AllByRecursion (IsKnown ws bound clauses) lists
+  pub opened : s.opened ≡ filter (λ n. is_open ws bound (get_or clauses n [])) (range_with_len 0 (length clauses))
+  pub states : s.states ≡ map (state_of ws bound clauses) lists
+
+abbrev pub IsBefore : List Bool → List ℕ → Type 0
+IsBefore seen bound = (u : ℕ) → u < length seen → is_among bound u ≡ true → bit_in seen u ≡ true
+
+abbrev pub AreItems : List Clause → List Bool → List Item → List Stand → Type 0
+AreItems clauses seen [] [] = Unit {0}
+AreItems clauses seen [] (s ∷ stands) = ⊥
+AreItems clauses seen (it ∷ items) [] = ⊥
+AreItems clauses seen (it ∷ items) (s ∷ stands) = IsItem clauses it s × IsBefore seen it.bound × AreItems clauses seen items stands
+
+either-way : (h m w o mm : Bool) → o ≡ (h || w) → (h ≡ true → mm ≡ m) → ((m && o) || (h && not mm)) ≡ ((h || m) && (h || w))
+either-way true true w o mm e k = ap (λ x. x || not mm) e
+either-way true false w o mm e k = ap not (k refl)
+either-way false true w o mm e k = or_none o ∙ e where
+  or_none : (x : Bool) → (x || false) ≡ x
+  or_none true = refl
+  or_none false = refl
+either-way false false w o mm e k = refl
+
+one-way : (h m o mm : Bool) → (h ≡ true → mm ≡ m) → ((m && o) && (h && not mm)) ≡ false
+one-way false m o mm k = and_right (m && o) false refl
+one-way true true o mm k = and_right o (not mm) (ap not (k refl))
+one-way true false o mm k = refl
+
+next-way : (h m w wm mb : Bool) → mb ≡ (h || m) → ((h || w) ≡ true → wm ≡ not w) → (((h || m) && (h || w)) && not wm) ≡ (mb && w)
+next-way true m w wm mb e k = ap not (k refl) ∙ twice w ∙ ap (λ x. x && w) (sym e)
+next-way false true true wm mb e k = ap not (k refl) ∙ ap (λ x. x && true) (sym e)
+next-way false false true wm mb e k = ap (λ x. x && true) (sym e)
+next-way false m false wm mb e k = and_left (m && false) (not wm) (and_right m false refl) ∙ sym (and_right mb false refl)
+
+-- ---- the trees on a base
+
+module _ (clauses : List Clause) (ws bound : List ℕ) (lists : List (List Bool)) (s : Stand) where
+  abbrev cl : ℕ → Clause
+  cl n = get_or clauses n []
+
+  abbrev range : List ℕ
+  range = range_with_len 0 (length clauses)
+
+  module _ (v : ℕ) (below beside : Forest) (h : IsBase clauses ws (tree v below beside) bound lists s) where
+    own : List ℕ
+    own = v ∷ variables below
+
+    both : (u : ℕ) → is_among (variables (tree v below beside)) u ≡ (is_among (v ∷ variables below) u || is_among (variables beside) u)
+    both u = list_any-append (λ x. x == u) (v ∷ variables below) (variables beside)
+
+    first : (u : ℕ) → is_among (v ∷ variables below) u ≡ true → is_among (variables (tree v below beside)) u ≡ true
+    first u e = both u ∙ or_left (is_among (v ∷ variables below) u) (is_among (variables beside) u) e
+
+    later : (u : ℕ) → is_among (variables beside) u ≡ true → is_among (variables (tree v below beside)) u ≡ true
+    later u e = both u ∙ or_right (is_among (v ∷ variables below) u) (is_among (variables beside) u) e
+
+    inside : (c : Clause) → meets (v ∷ variables below) c ≡ true → meets ws c ≡ true
+    inside c e = meets_wider ws bound clauses lists h.known (v ∷ variables below) ws (λ u e. h.inside u (first u e)) c e
+
+    wider : (xs : List ℕ) → ((u : ℕ) → is_among xs u ≡ true → is_among (variables (tree v below beside)) u ≡ true) → (c : Clause) → meets xs c ≡ true → meets (variables (tree v below beside)) c ≡ true
+    wider xs e c = meets_wider ws bound clauses lists h.known xs (variables (tree v below beside)) e c
+
+    pub base-beside : IsBase clauses ws beside bound lists s
+    base-beside = record {
+      along = λ n low e. by n (meets (v ∷ variables below) (cl n)) refl e (h.along n low (wider (variables beside) later (cl n) e));
+      free = λ u e. h.free u (later u e);
+      inside = λ u e. h.inside u (later u e);
+      known = h.known;
+      opened = h.opened;
+      states = h.states;
+    } where
+      by : (n : ℕ) (b : Bool) → meets (v ∷ variables below) (cl n) ≡ b → meets (variables beside) (cl n) ≡ true
+          → (if b then not (meets (variables beside) (cl n)) && is_along below (v ∷ bound) (cl n) else is_along beside bound (cl n)) ≡ true → is_along beside bound (cl n) ≡ true
+      by n true m e f = absurd (false≢true (sym (not-true (meets (variables beside) (cl n)) (and_parts (not (meets (variables beside) (cl n))) (is_along below (v ∷ bound) (cl n)) f).0) ∙ e))
+      by n false m e f = f
+
+    module _ (g : ℕ → Bool) (goes : (n : ℕ) → n < length clauses → is_open ws bound (cl n) ≡ true → g n ≡ meets (v ∷ variables below) (cl n)) where
+      flags-are : map g s.opened ≡ flags_of ws bound clauses lists h.known (v ∷ variables below)
+      flags-are =
+          ap (map g) h.opened
+          ∙ map-within g (λ n. meets (v ∷ variables below) (cl n)) (λ n. is_open ws bound (cl n)) 0 (length clauses) (λ n k e. goes n (omega arith) e)
+          ∙ sym (mapped-twice (meets (v ∷ variables below)) cl (filter (λ n. is_open ws bound (cl n)) range))
+          ∙ ap (map (meets (v ∷ variables below))) (sym (passing clauses (is_open ws bound)))
+
+      pub column-is : column (map g s.opened) s.states ≡ column (flags_of ws bound clauses lists h.known (v ∷ variables below)) (map (state_of ws bound clauses) lists)
+      column-is = λ j. column (flags-are j) (h.states j)
+
+      abbrev pub item_of : Item
+      item_of = record { v = v; below = below; bound = bound; lists = (part (v ∷ variables below) (at bound clauses lists)).lists }
+
+      pub item-of : IsItem clauses item_of (record { opened = filter g s.opened; states = part_states (map g s.opened) s.states })
+      item-of = record {
+        along = λ n low e. by n (meets (v ∷ variables below) (cl n)) e (h.along n low (wider (v ∷ variables below) first (cl n) e));
+        free = λ u e. h.free u (first u e);
+        known = known-apart ws bound clauses lists h.known (v ∷ variables below) inside;
+        opened = ap (filter g) h.opened ∙ filter-filter g (λ n. is_open ws bound (cl n)) range
+            ∙ filter-within _ (λ n. is_open (v ∷ variables below) bound (cl n)) 0 (length clauses) (λ n k. kept n (omega arith) (is_open ws bound (cl n)) refl (meets (v ∷ variables below) (cl n)) refl);
+        states = (λ j. part_states (flags-are j) (h.states j)) ∙ part-mapped ws bound clauses lists h.known (v ∷ variables below) inside;
+      } where
+        by : (n : ℕ) (b : Bool) → b ≡ true → (if b then not (meets (variables beside) (cl n)) && is_along below (v ∷ bound) (cl n) else is_along beside bound (cl n)) ≡ true → is_along below (v ∷ bound) (cl n) ≡ true
+        by n true m f = (and_parts (not (meets (variables beside) (cl n))) (is_along below (v ∷ bound) (cl n)) f).1
+        by n false m f = absurd (false≢true m)
+
+        kept : (n : ℕ) → n < length clauses → (o : Bool) → is_open ws bound (cl n) ≡ o → (p : Bool) → meets (v ∷ variables below) (cl n) ≡ p → (o && g n) ≡ (meets bound (cl n) && p)
+        kept n k true o p e = goes n k o ∙ e ∙ ap (λ m. m && p) (sym (and_parts (meets bound (cl n)) (meets ws (cl n)) o).0)
+        kept n k false o false e = sym (and_right (meets bound (cl n)) false refl)
+        kept n k false o true e = off (meets bound (cl n)) (meets ws (cl n)) o (inside (cl n) e) where
+          off : (x y : Bool) → (x && y) ≡ false → y ≡ true → false ≡ (x && true)
+          off x true e f = sym e
+          off x false e f = absurd (false≢true f)
+
+-- ---- where a variable gets a bit
+
+module _ (clauses : List Clause) (of : List (List ℕ)) (seen : List Bool) (found : IsIndex clauses of (length seen)) (v : ℕ) (below : Forest) (bound : List ℕ) (lists : List (List Bool)) (s : Stand)
+    (h : IsItem clauses (record { v = v; below = below; bound = bound; lists = lists }) s) (before : IsBefore seen bound)
+    (new : (u : ℕ) → is_among (v ∷ variables below) u ≡ true → bit_in seen u ≡ false) (once : is_once (v ∷ variables below) ≡ true) where
+  abbrev ws : List ℕ
+  ws = variables below
+
+  abbrev clause : ℕ → Clause
+  clause n = get_or clauses n []
+
+  abbrev numbers_of : List ℕ
+  numbers_of = range_with_len 0 (length clauses)
+
+  pub weight-is : (weight : Weight) → weight_of weight s ≡ weight_at weight (v ∷ variables below) (at bound clauses lists)
+  weight-is weight =
+      let many = ap length h.states ∙ length-map lists (state_of (v ∷ variables below) bound clauses) in
+      let long = ap length h.opened ∙ sym (length-map (filter (λ n. is_open (v ∷ variables below) bound (clause n)) numbers_of) clause) ∙ ap length (sym (passing clauses (is_open (v ∷ variables below) bound))) in
+      λ j. many j * weigh weight (long j)
+
+  closed : (n : ℕ) → n < length clauses → meets (v ∷ variables below) (clause n) ≡ true → is_within (variables below ++ (v ∷ bound)) (clause n) ≡ true
+  closed n low there = along-closed below (v ∷ bound) (clause n) (h.along n low there)
+
+  apart : (u : ℕ) → is_among (variables below) u ≡ true → is_among (v ∷ bound) u ≡ false
+  apart u e = or_from (v == u) (is_among bound u)
+      (false_from_ne_true (v == u) (λ same. false≢true (sym (not-true (is_among (variables below) v) (and_parts (not (is_among (variables below) v)) (is_once (variables below)) once).0)
+      ∙ ap (is_among (variables below)) (eqb-true v u same) ∙ e)))
+      (h.free u (or_right (v == u) (is_among (variables below) u) e))
+
+  ends : (n : ℕ) → n < length clauses → meets (v ∷ variables below) (clause n) ≡ true → is_within (v ∷ bound) (clause n) ≡ not (meets (variables below) (clause n))
+  ends n low there = ends-there (variables below) (v ∷ bound) apart (clause n) (closed n low there)
+
+  ends-all : AllByRecursion (Ends v (variables below) bound) clauses
+  ends-all = each-at (Ends v (variables below) bound) clauses ends
+
+  marked-at : (u : ℕ) → u < length seen → is_among (variables below ++ (v ∷ bound)) u ≡ true → bit_in seen u ≡ is_among bound u
+  marked-at u low e = by (is_among bound u) refl (or_cases (is_among (variables below) u) ((v == u) || is_among bound u) (sym (list_any-append (λ x. x == u) (variables below) (v ∷ bound)) ∙ e)) where
+    by : (b : Bool) → is_among bound u ≡ b → (is_among (variables below) u ≡ true) ⊎ (((v == u) || is_among bound u) ≡ true) → bit_in seen u ≡ b
+    by true there k = before u low there
+    by false off (inl k) = new u (or_right (v == u) (is_among (variables below) u) k)
+    by false off (inr k) = elim (or_cases (v == u) (is_among bound u) k) [ inl same ↦ new u (or_left (v == u) (is_among (variables below) u) same) | inr there ↦ absurd (false≢true (sym off ∙ there)) ]
+
+  meets-is : (n : ℕ) → n < length clauses → meets (v ∷ variables below) (clause n) ≡ true → meets_marked seen (clause n) ≡ meets bound (clause n)
+  meets-is n low there = any-same (variables below ++ (v ∷ bound)) (length seen) (bit_in seen) (is_among bound) marked-at (clause n) (found.small n low) (closed n low there)
+
+  ends-is : (n : ℕ) → n < length clauses → meets (v ∷ variables below) (clause n) ≡ true → within_marked v seen (clause n) ≡ is_within (v ∷ bound) (clause n)
+  ends-is n low there = within-same (variables below ++ (v ∷ bound)) bound seen (length seen) marked-at v (clause n) (found.small n low) (closed n low there)
+
+  abbrev is_first : ℕ → Bool
+  is_first n = has_var v (clause n) && not (meets_marked seen (clause n))
+
+  own-has : (n : ℕ) → has_var v (clause n) ≡ true → meets (v ∷ variables below) (clause n) ≡ true
+  own-has n e = meets-more v (variables below) (clause n) ∙ or_left (has_var v (clause n)) (meets (variables below) (clause n)) e
+
+  own-walked : (n : ℕ) → is_walked v (variables below) bound (clause n) ≡ true → meets (v ∷ variables below) (clause n) ≡ true
+  own-walked n e = meets-more v (variables below) (clause n)
+      ∙ (and_parts (has_var v (clause n) || meets bound (clause n)) (has_var v (clause n) || meets (variables below) (clause n)) e).1
+
+  met-is : met_at clauses of seen v s.opened ≡ filter (λ n. is_walked v (variables below) bound (clause n)) numbers_of
+  met-is =
+      (λ j. merged (h.opened j) (begun_here j))
+      ∙ merged-either (λ n. is_open (v ∷ variables below) bound (clause n)) is_first 0 (length clauses)
+      (λ n k. one-way (has_var v (clause n)) (meets bound (clause n)) (meets (v ∷ variables below) (clause n)) (meets_marked seen (clause n)) (λ e. meets-is n (omega arith) (own-has n e)))
+      ∙ filter-within _ (λ n. is_walked v (variables below) bound (clause n)) 0 (length clauses)
+      (λ n k. either-way (has_var v (clause n)) (meets bound (clause n)) (meets (variables below) (clause n)) (meets (v ∷ variables below) (clause n)) (meets_marked seen (clause n))
+      (meets-more v (variables below) (clause n)) (λ e. meets-is n (omega arith) (own-has n e))) where
+        begun_here : filter (λ n. not (meets_marked seen (clause n))) (get_or of v []) ≡ filter is_first numbers_of
+        begun_here = ap (filter (λ n. not (meets_marked seen (clause n)))) (found.each v) ∙ filter-filter (λ n. not (meets_marked seen (clause n))) (λ n. has_var v (clause n)) numbers_of
+
+  table-is : table_at clauses of seen v s.opened ≡ table_of v (variables below) bound clauses
+  table-is =
+      ap (map (entry_at clauses seen v)) met-is
+      ∙ map-within (entry_at clauses seen v) (λ n. entry_of v bound (clause n)) (λ n. is_walked v (variables below) bound (clause n)) 0 (length clauses) (λ n k e. entry n (omega arith) (own-walked n e))
+      ∙ sym (mapped-twice (entry_of v bound) clause (filter (λ n. is_walked v (variables below) bound (clause n)) numbers_of))
+      ∙ ap (map (entry_of v bound)) (sym (passing clauses (is_walked v (variables below) bound))) where
+        entry : (n : ℕ) → n < length clauses → meets (v ∷ variables below) (clause n) ≡ true → entry_at clauses seen v n ≡ entry_of v bound (clause n)
+        entry n k there = λ j. record {
+          fresh = not (meets-is n k there j);
+          true_at_0 = (entry_of v bound (clause n)).true_at_0;
+          true_at_1 = (entry_of v bound (clause n)).true_at_1;
+          ends = ends-is n k there j;
+        }
+
+  next-opened : filter (λ n. not (within_marked v seen (clause n))) (met_at clauses of seen v s.opened) ≡ filter (λ n. is_open (variables below) (v ∷ bound) (clause n)) numbers_of
+  next-opened =
+      ap (filter (λ n. not (within_marked v seen (clause n)))) met-is
+      ∙ filter-filter (λ n. not (within_marked v seen (clause n))) (λ n. is_walked v (variables below) bound (clause n)) numbers_of
+      ∙ filter-within _ (λ n. is_open (variables below) (v ∷ bound) (clause n)) 0 (length clauses)
+      (λ n k. next-way (has_var v (clause n)) (meets bound (clause n)) (meets (variables below) (clause n)) (within_marked v seen (clause n)) (meets (v ∷ bound) (clause n)) (meets-more v bound (clause n))
+      (λ e. let there = meets-more v (variables below) (clause n) ∙ e in ends-is n (omega arith) there ∙ ends n (omega arith) there))
+
+  pub base-is : IsBase clauses (variables below) below (v ∷ bound) (decided v (at bound clauses lists)).lists (stand_decided clauses of seen v s)
+  base-is = record {
+    along = λ n low e. h.along n low (meets-more v (variables below) (clause n) ∙ or_right (has_var v (clause n)) (meets (variables below) (clause n)) e);
+    free = apart;
+    inside = λ u e. e;
+    known = known-decided v below bound clauses ends-all lists h.known;
+    opened = next-opened;
+    states = (λ j. decided_states (table-is j) (h.states j)) ∙ decided-mapped v below bound clauses ends-all lists h.known;
+  }
+
+  -- ---- the trees below
+
+  module _ (nums : List ℕ) where
+    abbrev marked : List Bool
+    marked = set seen v true
+
+    -- a variable of a clause that goes on
+    in-tree : (j : ℕ) (own : List ℕ) → ((u : ℕ) → is_among own u ≡ true → is_among (variables below) u ≡ true)
+        → ((u : ℕ) → u < length seen → is_among (variables below) u ≡ true → ((trees below == 1) || (get_or nums u 0 == j)) ≡ is_among own u)
+        → (u : ℕ) → u < length seen → is_among (variables below ++ (v ∷ bound)) u ≡ true → is_in_tree (trees below) (set seen v true) nums j u ≡ is_among own u
+    in-tree j own inside sides u low e = by (is_among (variables below) u) refl (sym (list_any-append (λ x. x == u) (variables below) (v ∷ bound)) ∙ e) where
+      by : (b : Bool) → is_among (variables below) u ≡ b → (b || is_among (v ∷ bound) u) ≡ true → is_in_tree (trees below) (set seen v true) nums j u ≡ is_among own u
+      by true there k =
+          let off = mark-bit seen v u low ∙ or_from (v == u) (bit_in seen u) (two (v == u) (is_among bound u) (apart u there)) (new u (or_right (v == u) (is_among (variables below) u) there)) in
+          ap (λ b. not b && ((trees below == 1) || (get_or nums u 0 == j))) off ∙ sides u low there where
+            two : (x y : Bool) → (x || y) ≡ false → x ≡ false
+            two false y e = refl
+            two true y e = absurd (false≢true (sym e))
+      by false off k =
+          let on = mark-bit seen v u low ∙ seen-one (v == u) (is_among bound u) k (λ there. before u low there) in
+          ap (λ b. not b && ((trees below == 1) || (get_or nums u 0 == j))) on ∙ sym (false_from_ne_true (is_among own u) (λ there. false≢true (sym off ∙ inside u there))) where
+            seen-one : (x y : Bool) → (x || y) ≡ true → (y ≡ true → bit_in seen u ≡ true) → (x || bit_in seen u) ≡ true
+            seen-one true y e f = refl
+            seen-one false y e f = f e
+
+    goes-is : (j : ℕ) (own : List ℕ) → ((u : ℕ) → is_among own u ≡ true → is_among (variables below) u ≡ true)
+        → ((u : ℕ) → u < length seen → is_among (variables below) u ≡ true → ((trees below == 1) || (get_or nums u 0 == j)) ≡ is_among own u)
+        → (n : ℕ) → n < length clauses → is_open (variables below) (v ∷ bound) (clause n) ≡ true → goes_to clauses (trees below) (set seen v true) nums j n ≡ meets own (clause n)
+    goes-is j own inside sides n low open_there =
+        any-same (variables below ++ (v ∷ bound)) (length seen) (is_in_tree (trees below) (set seen v true) nums j) (is_among own) (in-tree j own inside sides) (clause n) (found.small n low)
+        (closed n low (meets-more v (variables below) (clause n) ∙ or_right (has_var v (clause n)) (meets (variables below) (clause n)) (and_parts (meets (v ∷ bound) (clause n)) (meets (variables below) (clause n)) open_there).1))
+
+    abbrev base : Stand
+    base = stand_decided clauses of seen v s
+
+    next-before : IsBefore (set seen v true) (v ∷ bound)
+    next-before u low there = mark-bit seen v u (omega (arith, length-set seen v true)) ∙ by (v == u) (is_among bound u) there (before u (omega (arith, low, length-set seen v true))) where
+      by : (x y : Bool) → (x || y) ≡ true → (y ≡ true → bit_in seen u ≡ true) → (x || bit_in seen u) ≡ true
+      by true y e f = refl
+      by false y e f = f e
+
+    -- the places of trees side by side
+    abbrev pub items_on : Forest → List Item
+    items_on none = []
+    items_on (tree x down beside) = (record { v = x; below = down; bound = v ∷ bound; lists = (part (x ∷ variables down) (at (v ∷ bound) clauses (decided v (at bound clauses lists)).lists)).lists }) ∷ items_on beside
+
+    pub trees-are : (f : Forest) (j : ℕ) → IsBase clauses (variables below) f (v ∷ bound) (decided v (at bound clauses lists)).lists (stand_decided clauses of seen v s) → AreSides (trees below == 1) (variables below) nums (length seen) j f
+        → AreItems clauses (set seen v true) (items_on f) (map (λ i. stand_part clauses (trees below) (set seen v true) nums i (stand_decided clauses of seen v s)) (range_with_len j (trees f)))
+    trees-are none j h sides = tt
+    trees-are (tree x down beside) j h sides = (
+      item-of clauses (variables below) (v ∷ bound) (decided v (at bound clauses lists)).lists (stand_decided clauses of seen v s) x down beside h (goes_to clauses (trees below) (set seen v true) nums j)
+          (goes-is j (x ∷ variables down) (λ u e. h.inside u (list_any-append (λ y. y == u) (x ∷ variables down) (variables beside) ∙ or_left (is_among (x ∷ variables down) u) (is_among (variables beside) u) e)) sides.0),
+      next-before,
+      trees-are beside (j + 1) (base-beside clauses (variables below) (v ∷ bound) (decided v (at bound clauses lists)).lists (stand_decided clauses of seen v s) x down beside h) sides.1,
+    )
+
+    pub columns-are : (f : Forest) (j : ℕ) → (h : IsBase clauses (variables below) f (v ∷ bound) (decided v (at bound clauses lists)).lists (stand_decided clauses of seen v s)) → AreSides (trees below == 1) (variables below) nums (length seen) j f
+        → map (λ i. column_at clauses (trees below) (set seen v true) nums i (stand_decided clauses of seen v s)) (range_with_len j (trees f))
+        ≡ columns_of (variables below) (v ∷ bound) clauses (decided v (at bound clauses lists)).lists base-is.known f
+    columns-are none j h sides = refl
+    columns-are (tree x down beside) j h sides = λ i.
+        column-is clauses (variables below) (v ∷ bound) (decided v (at bound clauses lists)).lists (stand_decided clauses of seen v s) x down beside h (goes_to clauses (trees below) (set seen v true) nums j)
+        (goes-is j (x ∷ variables down) (λ u e. h.inside u (list_any-append (λ y. y == u) (x ∷ variables down) (variables beside) ∙ or_left (is_among (x ∷ variables down) u) (is_among (variables beside) u) e)) sides.0) i
+        ∷ columns-are beside (j + 1) (base-beside clauses (variables below) (v ∷ bound) (decided v (at bound clauses lists)).lists (stand_decided clauses of seen v s) x down beside h) sides.1 i
+
+    pub forks-are : AreSides (trees below == 1) (variables below) nums (length seen) 0 below
+        → forks_found (trees below) (map (λ i. column_at clauses (trees below) (set seen v true) nums i (stand_decided clauses of seen v s)) (range_with_len 0 (trees below))) (decided_forks (table_at clauses of seen v s.opened) s.states)
+        ≡ forks_at v below (at bound clauses lists)
+    forks-are sides =
+        (λ j. forks_found (trees below) (columns-are below 0 base-is sides j) (decided_forks (table-is j) (h.states j)))
+        ∙ forks-mapped v below bound clauses ends-all lists h.known (columns_of (variables below) (v ∷ bound) clauses (decided v (at bound clauses lists)).lists base-is.known below)
+        (λ x there it. rows-mapped (variables below) (v ∷ bound) clauses (decided v (at bound clauses lists)).lists base-is.known below (λ u e. e) x there it)

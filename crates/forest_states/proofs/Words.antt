@@ -1,0 +1,122 @@
+-- Lists of bits in words.
+use Rattle.std.proofs.Common.{◌≡◌, ℕ, zero, suc, ◌+◌, ◌*◌, ◌/◌, ◌%◌, ◌<◌, ◌≤◌, Bool, true, false, List, [], ◌∷◌, ◌++◌, length, take, drop, refl, ap, sym, ◌∙◌, subst, arith}
+use Rattle.std.specs.Prelude.{nat_eq}
+use Rattle.std.specs.List.{refill}
+use Rattle.std.specs.Str.{bytes_eq}
+use Rattle.std.proofs.lemmas.Bool.{false≢true, false_from_ne_true, ne_eqb}
+use Rattle.std.proofs.lemmas.Slice.Eq.{bytes_eq-Decides}
+use Rattle.std.proofs.lemmas.List.{ext_get_or, length-drop, length-append, drop_all, take_all, append-nil}
+use Rattle.std.proofs.lemmas.List.FromFn.{get_or-map-range_with_len, length-map-range_with_len}
+use Rattle.state_rules.specs.Bits.{row_number, number_of_bit}
+use Rattle.elimination_forests.specs.Branches.{words_of}
+use Rattle.forest_states.proofs.WordBits.{word-bit}
+use Rattle.forest_states.specs.inner.BitLists.{word_bit, bits_in, AreBits, is_same, same-equal, same-laws, other_bits, copied}
+
+pub length-words : (n : ℕ) (bits : List Bool) → length (words_of n bits) ≡ n
+length-words zero bits = refl
+length-words (suc n) bits = ap suc (length-words n (drop 64 bits))
+
+-- a list that is written over as a whole
+refill-whole : (xs ws : List ℕ) → length ws ≡ length xs → refill (length xs) xs ws ≡ ws
+refill-whole xs ws e = ap (λ ys. take (length xs) (ws ++ ys)) (drop_all (length ws) xs (omega arith)) ∙ ap (take (length xs)) (append-nil ws) ∙ take_all (length xs) ws (omega arith)
+
+-- the bits of the words of bits
+pub bits-words : (n m : ℕ) (bits : List Bool) → length bits ≡ n → n ≤ 64 * m → bits_in n (words_of m bits) ≡ bits
+bits-words n m bits long room = ext_get_or false (bits_in n (words_of m bits)) bits (length-map-range_with_len (word_bit (words_of m bits)) 0 n ∙ sym long) (λ i low.
+    let within : i < n = omega (arith, length-map-range_with_len (word_bit (words_of m bits)) 0 n) in
+    get_or-map-range_with_len (word_bit (words_of m bits)) 0 n i i false within (omega arith)
+    ∙ word-bit (words_of m bits) bits i (ap (λ k. words_of k bits) (sym (length-words m bits))) (omega (arith, length-words m bits)))
+
+pub length-bits : (n : ℕ) (words : List ℕ) → length (bits_in n words) ≡ n
+length-bits n words = length-map-range_with_len (word_bit words) 0 n
+
+-- one word more
+pub words-longer : (m : ℕ) (bits : List Bool) → length bits ≤ 64 * m → words_of m bits ++ 0 ∷ [] ≡ words_of (m + 1) bits
+words-longer zero [] room = refl
+words-longer zero (b ∷ bits) room = absurd (omega arith)
+words-longer (suc m) bits room = ap (λ ws. row_number (take 64 bits) ∷ ws) (words-longer m (drop 64 bits) (omega (arith, length-drop 64 bits))) ∙ ap (λ k. words_of k bits) (plus m) where
+  plus : (n : ℕ) → suc (n + 1) ≡ suc n + 1
+  plus n = omega arith
+
+pub words-many : (n : ℕ) (words : List ℕ) → AreBits n words → length words ≡ n / 64 + 1
+words-many n words are = ap length are ∙ length-words (n / 64 + 1) (bits_in n words)
+
+-- words with room for some bits more, which stay in one word
+pub words-room : (n c : ℕ) (words : List ℕ) → AreBits n words → n % 64 + c ≡ 64 → words ++ 0 ∷ [] ≡ words_of ((n + c) / 64 + 1) (bits_in n words)
+words-room n c words are e =
+    ap (λ ws. ws ++ 0 ∷ []) are ∙ words-longer (n / 64 + 1) (bits_in n words) (omega (arith, length-bits n words))
+    ∙ ap (λ m. words_of m (bits_in n words)) (omega arith)
+
+pub words-kept : (n c : ℕ) (words : List ℕ) → AreBits n words → n % 64 + c ≤ 64 → (n % 64 + c ≡ 64 → ⊥) → words ≡ words_of ((n + c) / 64 + 1) (bits_in n words)
+words-kept n c words are within e = are ∙ ap (λ m. words_of m (bits_in n words)) (omega (arith, e))
+
+bits-more : (n c : ℕ) (words next : List ℕ) (more : List Bool) → length more ≡ c → next ≡ words_of ((n + c) / 64 + 1) (bits_in n words ++ more) → bits_in (n + c) next ≡ bits_in n words ++ more
+bits-more n c words next more many e =
+    ap (bits_in (n + c)) e ∙ bits-words (n + c) ((n + c) / 64 + 1) (bits_in n words ++ more) (length-append (bits_in n words) more ∙ omega (arith, length-bits n words, many)) (omega arith)
+
+are-more : (n c : ℕ) (words next : List ℕ) (more : List Bool) → length more ≡ c → next ≡ words_of ((n + c) / 64 + 1) (bits_in n words ++ more) → AreBits (n + c) next
+are-more n c words next more many e = e ∙ ap (words_of ((n + c) / 64 + 1)) (sym (bits-more n c words next more many e))
+
+-- ---- the same words
+
+pub same-words : (n m : ℕ) (xs ys : List ℕ) → AreBits n xs → AreBits m ys → n ≡ m → bytes_eq xs ys ≡ is_same (bits_in n xs) (bits_in m ys)
+same-words n m xs ys ax ay e = by (bytes_eq xs ys) refl where
+  by : (b : Bool) → bytes_eq xs ys ≡ b → b ≡ is_same (bits_in n xs) (bits_in m ys)
+  by true b = sym (ap (λ bits. is_same bits (bits_in m ys)) (λ i. bits_in (e i) ((bytes_eq-Decides xs ys).0 b i)) ∙ same-laws.refl (bits_in m ys))
+  by false b = sym (false_from_ne_true (is_same (bits_in n xs) (bits_in m ys)) (λ s. false≢true (sym b ∙ (bytes_eq-Decides xs ys).1
+      (ax ∙ (λ i. words_of (e i / 64 + 1) (same-equal (bits_in n xs) (bits_in m ys) s i)) ∙ sym ay))))
+
+pub other-words : (n m : ℕ) (xs ys : List ℕ) → (n ≡ m → ⊥) → nat_eq n m ≡ is_same (bits_in n xs) (bits_in m ys)
+other-words n m xs ys h = ne_eqb n m h ∙ sym (false_from_ne_true (is_same (bits_in n xs) (bits_in m ys)) (λ s.
+    h (sym (length-bits n xs) ∙ ap length (same-equal (bits_in n xs) (bits_in m ys) s) ∙ length-bits m ys)))
+
+-- ---- some bits more
+
+module _ (n k c row : ℕ) (words before slice put : List ℕ) (more : List Bool) (many_more : length more ≡ c) (is_row : row ≡ row_number more) (within : n % 64 + c ≤ 64)
+    (same : k ≡ n) (room : before ≡ words_of ((n + c) / 64 + 1) (bits_in n words)) (is : slice ≡ before) (long : length put ≡ length slice)
+    (done : (bits more : List Bool) → length bits ≡ k → k % 64 + length more ≤ 64 → row ≡ row_number more → slice ≡ words_of (length slice) bits → put ≡ words_of (length slice) (bits ++ more)) where
+  many : length slice ≡ (n + c) / 64 + 1
+  many = ap length (is ∙ room) ∙ length-words ((n + c) / 64 + 1) (bits_in n words)
+
+  put-is : refill (length before) before put ≡ words_of ((n + c) / 64 + 1) (bits_in n words ++ more)
+  put-is = refill-whole before put (long ∙ ap length is)
+      ∙ done (bits_in n words) more (length-bits n words ∙ sym same) (omega (arith, same, many_more, within)) is_row (is ∙ room ∙ ap (λ m. words_of m (bits_in n words)) (sym many))
+      ∙ ap (λ m. words_of m (bits_in n words ++ more)) many
+
+  pub pushed-bits : bits_in (k + c) (refill (length before) before put) ≡ bits_in n words ++ more
+  pushed-bits = ap (λ j. bits_in (j + c) (refill (length before) before put)) same ∙ bits-more n c words (refill (length before) before put) more many_more put-is
+
+  pub pushed-are : AreBits (k + c) (refill (length before) before put)
+  pushed-are = subst (λ j. AreBits (j + c) (refill (length before) before put)) (sym same) (are-more n c words (refill (length before) before put) more many_more put-is)
+
+pub pushed-room : (n c : ℕ) (words before slice : List ℕ) → before ≡ words_of ((n + c) / 64 + 1) (bits_in n words) → slice ≡ before → n < 64 * length slice
+pushed-room n c words before slice room is = omega (arith, ap length (is ∙ room) ∙ length-words ((n + c) / 64 + 1) (bits_in n words))
+
+-- ---- bits of another list
+
+pub length-copied : (n : ℕ) (bits : List Bool) → length (copied n bits) ≡ n
+length-copied zero bits = refl
+length-copied (suc n) bits = ap suc (length-copied n (other_bits bits))
+
+none-dropped : (m : ℕ) → [] ≡ drop {A = Bool} m []
+none-dropped zero = refl
+none-dropped (suc m) = refl
+
+pub copied-add : (m n : ℕ) (bits : List Bool) → copied m bits ++ copied n (drop m bits) ≡ copied (m + n) bits
+copied-add zero n bits = let same : n ≡ 0 + n = omega arith in ap (λ k. copied k bits) same
+copied-add (suc m) n [] =
+    let next : suc (m + n) ≡ suc m + n = omega arith in
+    ap (λ bs. false ∷ bs) (ap (λ bs. copied m [] ++ copied n bs) (none-dropped m) ∙ copied-add m n []) ∙ ap (λ k. copied k []) next
+copied-add (suc m) n (b ∷ bits) = let next : suc (m + n) ≡ suc m + n = omega arith in ap (λ bs. b ∷ bs) (copied-add m n bits) ∙ ap (λ k. copied k (b ∷ bits)) next
+
+copied-none : (n : ℕ) → row_number (copied n []) ≡ 0
+copied-none zero = refl
+copied-none (suc n) = omega (arith, copied-none n)
+
+pub copied-number : (n : ℕ) (bits : List Bool) → row_number (copied n bits) ≡ row_number (take n bits)
+copied-number zero bits = refl
+copied-number (suc n) [] = copied-none (suc n)
+copied-number (suc n) (b ∷ bits) = ap (λ m. number_of_bit b + 2 * m) (copied-number n bits)
+
+pub copied-past : (n at : ℕ) (bits : List Bool) → length bits ≤ at → row_number (copied n (drop at bits)) ≡ 0
+copied-past n at bits past = ap (λ bs. row_number (copied n bs)) (drop_all at bits past) ∙ copied-none n

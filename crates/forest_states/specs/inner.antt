@@ -1,0 +1,3 @@
+pub mod BitLists
+pub mod Tables
+pub mod Walked

@@ -1,0 +1,230 @@
+-- A way down a forest as the lists of bits of the open clauses see it. Only private contracts cite it.
+use Rattle.std.specs.Prelude.{ℕ, ◌+◌, ◌-◌, ◌*◌, ◌==◌, Bool, true, false, not, ◌&&◌, ◌||◌, List, [], ◌∷◌, ◌++◌, map, length, nat_lt, slice_set, slice_index_or, option_map, is_some, Option, Some, None, option_to_list, if◌then◌else◌}
+use Rattle.std.specs.List.{filter, flat_map, list_any, list_all, position_or_len, range_with_len}
+use Rattle.std.specs.Option.{unwrap_or}
+use Rattle.indexmap.specs.IndexSet.{insert_key}
+use Rattle.state_rules.specs.Bits.{bit_in}
+use Rattle.clause_encoder.specs.Clauses.{Clause, var_of}
+use Rattle.elimination_forests.specs.Branches.{has_true, different}
+use Rattle.forest_states.specs.declared.places.Fork.{Fork}
+use Rattle.forest_states.specs.declared.places.Spot.{Spot}
+use Rattle.forest_states.specs.declared.places.Leads.{Leads}
+use Rattle.elimination_forests.specs.declared.steps.Step.{Step}
+use Rattle.elimination_forests.specs.declared.steps.Weight.{Weight}
+use Rattle.elimination_forests.specs.declared.forks.Forks.{Forks}
+use Rattle.elimination_forests.specs.Forests.{weigh}
+use Rattle.forest_states.specs.inner.Tables.{true_at}
+use Rattle.forest_states.specs.declared.entries.Entry.{Entry}
+use Rattle.forest_states.specs.inner.BitLists.{is_same, first_bit, other_bits}
+
+-- ---- one state: a bit for each open clause, in their order
+
+abbrev pub with_bit : Bool → Option (List Bool) → Option (List Bool)
+with_bit b None = None
+with_bit b (Some bits) = Some (b ∷ bits)
+
+-- with the bit of a clause before those of the next ones, unless it ends; if it ends and is left, nothing is
+abbrev pub ended : Bool → Bool → Option (List Bool) → Option (List Bool)
+ended true true rest = None
+ended true false rest = rest
+ended false b rest = with_bit b rest
+
+-- what a bit leaves of a state, if it is not dead
+abbrev pub walked : Bool → List Entry → List Bool → Option (List Bool)
+walked bit [] state = Some []
+walked bit (e ∷ table) state =
+    ended e.ends ((e.fresh || first_bit state) && not (true_at e bit)) (walked bit table (if e.fresh then state else other_bits state))
+
+-- the bits that are flagged
+abbrev pub picked : List Bool → List Bool → List Bool
+picked [] state = []
+picked (f ∷ flags) state = if f then first_bit state ∷ picked flags (other_bits state) else picked flags (other_bits state)
+
+-- what a table picks of a state
+abbrev pub picked_by : List Entry → List Bool → List Bool
+picked_by table state = unwrap_or (walked false table state) []
+
+-- ---- the states of a place
+
+-- states with one more, if it is not there yet
+abbrev pub joined : List (List Bool) → Option (List Bool) → List (List Bool)
+joined states None = states
+joined states (Some s) = insert_key is_same states s
+
+-- the place of a state among states, if there is one
+abbrev pub lead : List (List Bool) → Option (List Bool) → Option ℕ
+lead states None = None
+lead states (Some s) = Some (position_or_len (is_same s) states)
+
+-- the states after a bit
+abbrev pub decided_states : List Entry → List (List Bool) → List (List Bool)
+decided_states table states = different (flat_map (λ s. option_to_list (walked false table s) ++ option_to_list (walked true table s)) states)
+
+abbrev pub decided_forks : List Entry → List (List Bool) → List Fork
+decided_forks table states =
+    map (λ s. record {
+      zero = lead (decided_states table states) (walked false table s);
+      one = lead (decided_states table states) (walked true table s);
+    }) states
+
+-- the parts of states
+abbrev pub parts_by : (List Bool → List Bool) → List (List Bool) → List (List Bool)
+parts_by part states = different (map part states)
+
+-- the place of each one's part among the parts
+abbrev pub column_by : (List Bool → List Bool) → List (List Bool) → List ℕ
+column_by part states = map (λ s. position_or_len (is_same (part s)) (parts_by part states)) states
+
+-- by the bits that are flagged
+abbrev pub part_states : List Bool → List (List Bool) → List (List Bool)
+part_states flags states = parts_by (picked flags) states
+
+abbrev pub column : List Bool → List (List Bool) → List ℕ
+column flags states = column_by (picked flags) states
+
+-- a state leads on
+abbrev pub any_leads : List Fork → Bool
+any_leads leads = list_any (λ f. is_some f.zero || is_some f.one) leads
+
+-- ---- where states lead to in each of the trees below
+
+-- a row of columns
+abbrev pub row_at : List (List ℕ) → ℕ → List ℕ
+row_at columns n = map (λ c. slice_index_or c n 0) columns
+
+abbrev pub ways_found : List (List ℕ) → List (Option ℕ) → List (Option (List ℕ))
+ways_found columns leads = map (option_map (row_at columns)) leads
+
+abbrev pub forks_found : ℕ → List (List ℕ) → List Fork → Forks
+forks_found trees columns leads =
+    record {
+      zero = record { trees = trees; ways = ways_found columns (map (λ f. f.zero) leads) };
+      one = record { trees = trees; ways = ways_found columns (map (λ f. f.one) leads) };
+    }
+
+abbrev pub forks_of : Leads → Forks
+forks_of l = forks_found l.trees (map (λ v. v.items) l.columns.items) l.leads.items
+
+-- ---- the open clauses of a place, by their numbers
+
+-- rising numbers and others, by their size
+abbrev pub put_in : ℕ → (List ℕ → List ℕ) → List ℕ → List ℕ
+put_in x rest [] = x ∷ rest []
+put_in x rest (y ∷ ys) = if nat_lt y x then y ∷ put_in x rest ys else x ∷ rest (y ∷ ys)
+
+abbrev pub merged : List ℕ → List ℕ → List ℕ
+merged [] = λ ys. ys
+merged (x ∷ xs) = λ ys. put_in x (merged xs) ys
+
+-- ---- variables below
+
+-- how many trees have begun at a step, if so many are left, within trees and beside them
+abbrev pub begun_at : ℕ → ℕ → ℕ → ℕ
+begun_at trees begun left = if left + begun == trees then begun + 1 else begun
+
+-- with the number of its tree at each variable of trees that begin with these steps
+abbrev pub numbered : ℕ → ℕ → ℕ → List Step → List ℕ → List ℕ
+numbered trees begun left [] numbers = numbers
+numbered trees begun left (s ∷ steps) numbers =
+    if left == 0 then numbers else numbered trees (begun_at trees begun left) (left - 1 + s.trees) steps (slice_set numbers s.var (begun_at trees begun left - 1))
+
+-- One tree alone needs no numbers.
+abbrev pub numbers_at : ℕ → List Step → List ℕ → List ℕ
+numbers_at trees steps numbers = if trees == 1 then numbers else numbered trees 0 trees steps numbers
+
+-- ---- marked variables
+
+abbrev pub clause_at : List Clause → ℕ → Clause
+clause_at clauses n = slice_index_or clauses n []
+
+-- a clause has the variable
+abbrev pub has_var : ℕ → Clause → Bool
+has_var v clause = list_any (λ l. v == var_of l) clause
+
+abbrev pub meets_marked : List Bool → Clause → Bool
+meets_marked marks clause = list_any (λ l. bit_in marks (var_of l)) clause
+
+-- all but one variable are marked
+abbrev pub within_marked : ℕ → List Bool → Clause → Bool
+within_marked v marks clause = list_all (λ l. (v == var_of l) || bit_in marks (var_of l)) clause
+
+-- a variable that is not marked is in a tree
+abbrev pub is_in_tree : ℕ → List Bool → List ℕ → ℕ → ℕ → Bool
+is_in_tree trees marks numbers tree v = not (bit_in marks v) && ((trees == 1) || (slice_index_or numbers v 0 == tree))
+
+abbrev pub goes_to : List Clause → ℕ → List Bool → List ℕ → ℕ → ℕ → Bool
+goes_to clauses trees marks numbers tree n = list_any (λ l. is_in_tree trees marks numbers tree (var_of l)) (clause_at clauses n)
+
+-- what a bit of a variable does to a clause
+abbrev pub entry_of : List Bool → ℕ → Clause → Entry
+entry_of seen v clause =
+    record {
+      fresh = not (meets_marked seen clause);
+      true_at_0 = has_true v false clause;
+      true_at_1 = has_true v true clause;
+      ends = within_marked v seen clause;
+    }
+
+abbrev pub entry_at : List Clause → List Bool → ℕ → ℕ → Entry
+entry_at clauses seen v n = entry_of seen v (clause_at clauses n)
+
+-- ---- a place: its open clauses, and its states
+
+pub record Stand : Type 0 where
+  pub opened : List ℕ
+  pub states : List (List Bool)
+
+abbrev pub stand_of : Spot → Stand
+stand_of spot = record { opened = spot.opened.items; states = spot.states.keys }
+
+-- the open clauses of a place, and those that begin with a variable, out of those that have it
+abbrev pub met_at : List Clause → List (List ℕ) → List Bool → ℕ → List ℕ → List ℕ
+met_at clauses of seen v opened = merged opened (filter (λ n. not (meets_marked seen (clause_at clauses n))) (slice_index_or of v []))
+
+abbrev pub table_at : List Clause → List (List ℕ) → List Bool → ℕ → List ℕ → List Entry
+table_at clauses of seen v opened = map (entry_at clauses seen v) (met_at clauses of seen v opened)
+
+-- what comes of a place by a bit, and the places of the trees below
+abbrev pub stand_decided : List Clause → List (List ℕ) → List Bool → ℕ → Stand → Stand
+stand_decided clauses of seen v s =
+    record {
+      opened = filter (λ n. not (within_marked v seen (clause_at clauses n))) (met_at clauses of seen v s.opened);
+      states = decided_states (table_at clauses of seen v s.opened) s.states;
+    }
+
+abbrev pub stand_part : List Clause → ℕ → List Bool → List ℕ → ℕ → Stand → Stand
+stand_part clauses trees seen numbers tree s =
+    record {
+      opened = filter (goes_to clauses trees seen numbers tree) s.opened;
+      states = part_states (map (goes_to clauses trees seen numbers tree) s.opened) s.states;
+    }
+
+abbrev pub column_at : List Clause → ℕ → List Bool → List ℕ → ℕ → Stand → List ℕ
+column_at clauses trees seen numbers tree s = column (map (goes_to clauses trees seen numbers tree) s.opened) s.states
+
+abbrev pub stands_below : List Clause → List (List ℕ) → List Bool → List ℕ → Step → List Step → Stand → List Stand
+stands_below clauses of seen numbers step rest s =
+    map (λ j. stand_part clauses step.trees (slice_set seen step.var true) (numbers_at step.trees rest numbers) j (stand_decided clauses of seen step.var s)) (range_with_len 0 step.trees)
+
+abbrev pub columns_below : List Clause → List (List ℕ) → List Bool → List ℕ → Step → List Step → Stand → List (List ℕ)
+columns_below clauses of seen numbers step rest s =
+    map (λ j. column_at clauses step.trees (slice_set seen step.var true) (numbers_at step.trees rest numbers) j (stand_decided clauses of seen step.var s)) (range_with_len 0 step.trees)
+
+abbrev pub forks_below : List Clause → List (List ℕ) → List Bool → List ℕ → Step → List Step → Stand → Forks
+forks_below clauses of seen numbers step rest s =
+    forks_found step.trees (columns_below clauses of seen numbers step rest s) (decided_forks (table_at clauses of seen step.var s.opened) s.states)
+
+abbrev pub step_at : List Step → ℕ → Step
+step_at steps i = slice_index_or steps i (record { var = 0; trees = 0 })
+
+-- that of a tree on the base of all
+abbrev pub first_stand : Stand
+first_stand = record { opened = []; states = [] ∷ [] }
+
+-- the places that are begun, or one on the base of all if none is
+abbrev pub or_first : List Stand → List Stand
+or_first [] = first_stand ∷ []
+or_first (s ∷ stands) = s ∷ stands
+
+abbrev pub weight_of : Weight → Stand → ℕ
+weight_of weight s = length s.states * weigh weight (length s.opened)

@@ -1,0 +1,164 @@
+ghost use Rattle.std.specs.Prelude.{◌≡◌, ◌+◌, ◌<◌, ◌^◌, ◌&&◌, ◌||◌, ◌++◌, [], ◌∷◌, not, length, IfOk, OnOk};
+ghost use Rattle.forest_states.specs.inner.Tables.{true_at, plain, is_plain, gone, spread};
+ghost use Rattle.forest_states.specs.inner.Walked.{walked, picked_by};
+
+use crate::bit_list::BitList;
+use std::alloc::{AllocError, Global};
+use std::marker::Model;
+
+/// What the bit of a variable does to a clause.
+#[derive(Clone, Copy, Debug)]
+pub(crate) struct Entry {
+    // none of its variables had a bit, so that it is left
+    pub(crate) fresh: bool,
+    pub(crate) true_at_0: bool,
+    pub(crate) true_at_1: bool,
+    // all of them have one now
+    pub(crate) ends: bool,
+}
+
+/// What happens to a clause, after so many that stay as they are.
+#[derive(Clone, Copy, Debug)]
+pub(crate) struct Event {
+    pub(crate) run: usize,
+    pub(crate) entry: Entry,
+}
+
+/// What the bit of a variable does to clauses one after the other. Most stay as they are.
+#[derive(Drop)]
+pub(crate) struct Table {
+    events: Vec<Event>,
+    rest: usize,
+}
+
+impl Model for Table {
+    ghost use Rattle.std.specs.Prelude.{List};
+    ghost use Rattle.forest_states.specs.declared.entries.Entry.{Entry};
+    ghost use Rattle.forest_states.specs.inner.Tables.{spread};
+
+    ghost Value = { List Entry };
+
+    ghost view = { λ t. spread t.events.items t.rest };
+}
+
+impl Entry {
+    /// That of a clause that stays as it is.
+    pub(crate) fn plain() -> Entry
+        ensures { result ≡ plain }
+    {
+        Entry {
+            fresh: false,
+            true_at_0: false,
+            true_at_1: false,
+            ends: false,
+        }
+    }
+
+    /// That of a clause that is left out without a trace.
+    pub(crate) fn gone() -> Entry
+        ensures { result ≡ gone }
+    {
+        Entry {
+            fresh: false,
+            true_at_0: true,
+            true_at_1: true,
+            ends: true,
+        }
+    }
+
+    // Whether the clause stays as it is.
+    fn is_plain(self) -> bool
+        ensures { result ≡ is_plain self }
+    {
+        !(self.fresh || self.true_at_0 || self.true_at_1 || self.ends)
+    }
+
+    // Whether the clause is left after a bit, if `was` says whether it was left before.
+    fn is_left(self, bit: bool, was: bool) -> bool
+        ensures { result ≡ ((self.fresh || was) && not (true_at self bit)) }
+    {
+        let is_true = if bit { self.true_at_1 } else { self.true_at_0 };
+        (self.fresh || was) && !is_true
+    }
+}
+
+impl Table {
+    /// No clauses.
+    pub(crate) fn new(alloc: Global) -> Table
+        ensures { result ≡ [] }
+    {
+        Table {
+            events: Vec::new(alloc),
+            rest: 0,
+        }
+    }
+
+    /// Adds what happens to one clause more.
+    pub(crate) fn push(&mut self, entry: Entry) -> Result<(), AllocError>
+        requires { length self.old < 2 ^ 63 }
+        ensures { OnOk result (self.new ≡ self.old ++ entry ∷ []) }
+    {
+        if entry.is_plain() {
+            self.rest += 1;
+            return Ok(());
+        }
+        self.events.push(Event {
+            run: self.rest,
+            entry,
+        })?;
+        self.rest = 0;
+        Ok(())
+    }
+
+    /// What a bit leaves of a state, unless that is dead.
+    pub(crate) fn walk(
+        &self,
+        alloc: Global,
+        bit: bool,
+        state: &BitList,
+    ) -> Result<Option<BitList>, AllocError>
+        requires { length self.now < 2 ^ 63 }
+        ensures { IfOk result (λ left. left ≡ walked bit self.now state.now) }
+    {
+        walk_on(alloc, self.events.as_slice(), self.rest, bit, state)
+    }
+
+    /// The bits of a state that a table of flags picks.
+    pub(crate) fn pick(&self, alloc: Global, state: &BitList) -> Result<BitList, AllocError>
+        requires { length self.now < 2 ^ 63 }
+        ensures { IfOk result (λ bits. bits ≡ picked_by self.now state.now) }
+    {
+        match self.walk(alloc, false, state)? {
+            Some(bits) => Ok(bits),
+            None => BitList::new(alloc),
+        }
+    }
+}
+
+// What a bit leaves of a state, by the events and how many clauses come after the last one.
+fn walk_on(
+    alloc: Global,
+    events: &[Event],
+    rest: usize,
+    bit: bool,
+    state: &BitList,
+) -> Result<Option<BitList>, AllocError>
+    requires { length (spread events.now rest) < 2 ^ 63 }
+    ensures { IfOk result (λ left. left ≡ walked bit (spread events.now rest) state.now) }
+{
+    let mut left = BitList::new(alloc)?;
+    let mut next = 0;
+    for event in events {
+        left.append(state, next, event.run)?;
+        next += event.run;
+        let is_left = event.entry.is_left(bit, state.at(next));
+        next += usize::from(!event.entry.fresh);
+        if !event.entry.ends {
+            left.push(is_left)?;
+        } else if is_left {
+            return Ok(None);
+        }
+    }
+    left.append(state, next, rest)?;
+    Ok(Some(left))
+}

@@ -1,0 +1,12 @@
+//! The way down a forest of variables: which lists of clauses are left at each place, where they lead to, and what they count.
+#![tactic(auto)]
+
+mod bit_list;
+mod descent;
+mod entries;
+mod marks;
+mod places;
+mod tables;
+
+pub use descent::{Descended, Measured, descend, measure_along};
+pub use std::alloc::AllocError as Memory;

@@ -1,0 +1,386 @@
+ghost use Rattle.std.specs.Prelude.{◌≡◌, ◌<◌, ◌≤◌, ◌+◌, ◌*◌, ◌^◌, ◌++◌, [], ◌∷◌, true, false, length, map, reverse, slice_set, slice_index_or, option_map, Some, IfOk, OnOk, ◌==◌, ◌&&◌};
+ghost use Rattle.std.specs.List.{list_all, range_with_len, position_or_len};
+ghost use Rattle.elimination_forests.specs.Branches.{different};
+ghost use Rattle.forest_states.specs.inner.BitLists.{is_same};
+ghost use Rattle.forest_states.specs.inner.Walked.{any_leads, picked_by, joined, lead, decided_states, decided_forks, parts_by, column_by, met_at, table_at, numbered, goes_to, forks_of, row_at, stand_decided, stand_part, column_at, stands_below, columns_below, forks_below, first_stand, or_first, stand_of};
+
+use crate::bit_list::BitList;
+use crate::entries::Table;
+use crate::marks::{mark, meets_marked, number_trees};
+use crate::tables::{find_picks, find_table, merge};
+use clause_encoder::Cnf;
+use elimination_forests::{Forks, Step, Ways};
+use indexmap::IndexSet;
+use std::alloc::{AllocError, Global};
+
+/// A place that is begun: its open clauses, by rising numbers, and its states, which have a bit for each of these.
+#[derive(Drop)]
+pub(crate) struct Spot {
+    pub(crate) opened: Vec<u32>,
+    pub(crate) states: IndexSet<BitList>,
+}
+
+/// Where a state leads to: the places of what its bits leave, among the states after them. There is none if that is dead.
+#[derive(Clone, Copy, Debug, PartialEq, Eq)]
+pub(crate) struct Fork {
+    pub(crate) zero: Option<u32>,
+    pub(crate) one: Option<u32>,
+}
+
+/// Where the states of a place lead to: by a bit to those of its base, and from there by a column into each tree on it.
+#[derive(Drop)]
+pub(crate) struct Leads {
+    pub(crate) trees: u32,
+    pub(crate) columns: Vec<Vec<u32>>,
+    pub(crate) leads: Vec<Fork>,
+}
+
+/// Where the states of a place lead to. This marks its variable, and adds the places right below to those that are begun.
+pub(crate) fn go_down(
+    alloc: Global,
+    cnf: &Cnf,
+    of: &[Vec<u32>],
+    seen: &mut Vec<bool>,
+    numbers: &mut Vec<u32>,
+    step: Step,
+    rest: &[Step],
+    spot: &Spot,
+    pending: &mut Vec<Spot>,
+) -> Result<Leads, AllocError>
+    requires { length spot.now.states.keys < 2 ^ 31 }
+    ensures whole { IfOk result (λ leads. length leads.columns.items ≡ leads.trees) }
+    ensures forks { IfOk result (λ leads. forks_of leads
+        ≡ forks_below cnf.now.clauses (map (λ v. v.items) of.now) seen.old.items numbers.old.items step rest.now (stand_of spot.now)) }
+    ensures seen { OnOk result (seen.new.items ≡ slice_set seen.old.items step.var true) }
+    ensures numbers { OnOk result (length numbers.new.items ≡ length numbers.old.items) }
+    ensures pending { OnOk result (reverse (map stand_of pending.new.items)
+        ≡ stands_below cnf.now.clauses (map (λ v. v.items) of.now) seen.old.items numbers.old.items step rest.now (stand_of spot.now)
+        ++ reverse (map stand_of pending.old.items)) }
+{
+    let (leads, base) = go_by_bit(alloc, cnf, of, seen.as_slice(), step.var, spot)?;
+    mark(seen, step.var);
+    number_trees(numbers, step.trees, rest);
+    let columns = go_below(
+        alloc,
+        cnf,
+        seen.as_slice(),
+        numbers.as_slice(),
+        step.trees,
+        base,
+        pending,
+    )?;
+    Ok(Leads {
+        trees: step.trees,
+        columns,
+        leads,
+    })
+}
+
+// Where the states of a place lead to by the bit of its variable, and the base below.
+fn go_by_bit(
+    alloc: Global,
+    cnf: &Cnf,
+    of: &[Vec<u32>],
+    seen: &[bool],
+    var: u32,
+    spot: &Spot,
+) -> Result<(Vec<Fork>, Spot), AllocError>
+    requires { length spot.now.states.keys < 2 ^ 31 }
+    ensures leads { IfOk result (λ r. r.0.items ≡ decided_forks
+        (table_at cnf.now.clauses (map (λ v. v.items) of.now) seen.now var spot.now.opened.items) spot.now.states.keys) }
+    ensures few { IfOk result (λ r. length r.1.states.keys < 2 ^ 32) }
+    ensures base { IfOk result (λ r. stand_of r.1
+        ≡ stand_decided cnf.now.clauses (map (λ v. v.items) of.now) seen.now var (stand_of spot.now)) }
+{
+    let met = find_met(alloc, cnf, of, seen, var, &spot.opened)?;
+    let (table, opened) = find_table(alloc, cnf, seen, var, met.as_slice())?;
+    let (leads, states) = decide(alloc, &table, &spot.states)?;
+    Ok((leads, Spot { opened, states }))
+}
+
+// The open clauses of a place, and those that begin with a variable.
+fn find_met(
+    alloc: Global,
+    cnf: &Cnf,
+    of: &[Vec<u32>],
+    seen: &[bool],
+    var: u32,
+    opened: &Vec<u32>,
+) -> Result<Vec<u32>, AllocError>
+    ensures { IfOk result (λ met. met.items
+        ≡ met_at cnf.now.clauses (map (λ v. v.items) of.now) seen.now var opened.now.items) }
+{
+    if var as usize >= of.len() {
+        return merge(alloc, opened.as_slice(), &[]);
+    }
+    let numbers = &of[var as usize];
+    let begun: Vec<u32> = numbers
+        .as_slice()
+        .iter()
+        .copied()
+        .filter(|number| !meets_marked(cnf, seen, *number))
+        .collect(alloc)?;
+    merge(alloc, opened.as_slice(), begun.as_slice())
+}
+
+// Where the states of a base lead to in each tree on it. A base of which all goes to one tree is the place of that tree.
+fn go_below(
+    alloc: Global,
+    cnf: &Cnf,
+    seen: &[bool],
+    numbers: &[u32],
+    trees: u32,
+    base: Spot,
+    pending: &mut Vec<Spot>,
+) -> Result<Vec<Vec<u32>>, AllocError>
+    requires few { length base.states.keys < 2 ^ 32 }
+    requires once { different base.states.keys ≡ base.states.keys }
+    requires open { trees ≡ 1 → list_all (goes_to cnf.now.clauses 1 seen.now numbers.now 0) base.opened.items ≡ true }
+    ensures columns { IfOk result (λ columns. map (λ v. v.items) columns.items
+        ≡ map (λ j. column_at cnf.now.clauses trees seen.now numbers.now j (stand_of base)) (range_with_len 0 trees)) }
+    ensures pending { OnOk result (reverse (map stand_of pending.new.items)
+        ≡ map (λ j. stand_part cnf.now.clauses trees seen.now numbers.now j (stand_of base)) (range_with_len 0 trees)
+        ++ reverse (map stand_of pending.old.items)) }
+{
+    if !is_whole(trees, &base) {
+        return go_apart(alloc, cnf, seen, numbers, trees, &base, pending);
+    }
+    let mut columns = Vec::with_capacity(alloc, 1)?;
+    columns.push(count_up(alloc, base.states.len())?)?;
+    pending.push(base)?;
+    Ok(columns)
+}
+
+// Whether there is one tree on a base, so that each open clause goes to it, and so each bit of a state.
+fn is_whole(trees: u32, base: &Spot) -> bool
+    ensures { result ≡ ((trees == 1) && list_all (λ s. length s == length base.now.opened.items) base.now.states.keys) }
+{
+    trees == 1 && have_len(base.opened.len(), &base.states)
+}
+
+fn have_len(size: usize, states: &IndexSet<BitList>) -> bool
+    ensures { result ≡ list_all (λ s. length s == size) states.now.keys }
+{
+    states.as_slice().iter().all(|state| state.len() == size)
+}
+
+fn count_up(alloc: Global, size: usize) -> Result<Vec<u32>, AllocError>
+    requires { size < 2 ^ 32 }
+    ensures { IfOk result (λ numbers. numbers.items ≡ range_with_len 0 size) }
+{
+    let mut numbers = Vec::with_capacity(alloc, size)?;
+    for number in 0..size as u32 {
+        numbers.push(number)?;
+    }
+    Ok(numbers)
+}
+
+// Where the states of a base lead to in each tree on it. The places of the trees are added, the first tree's last.
+fn go_apart(
+    alloc: Global,
+    cnf: &Cnf,
+    seen: &[bool],
+    numbers: &[u32],
+    trees: u32,
+    base: &Spot,
+    pending: &mut Vec<Spot>,
+) -> Result<Vec<Vec<u32>>, AllocError>
+    requires { length base.now.states.keys < 2 ^ 32 }
+    ensures columns { IfOk result (λ columns. map (λ v. v.items) columns.items
+        ≡ map (λ j. column_at cnf.now.clauses trees seen.now numbers.now j (stand_of base.now)) (range_with_len 0 trees)) }
+    ensures pending { OnOk result (reverse (map stand_of pending.new.items)
+        ≡ map (λ j. stand_part cnf.now.clauses trees seen.now numbers.now j (stand_of base.now)) (range_with_len 0 trees)
+        ++ reverse (map stand_of pending.old.items)) }
+{
+    let mut columns = Vec::with_capacity(alloc, trees as usize)?;
+    for behind in 0..trees {
+        let (column, spot) = go_to(alloc, cnf, trees, seen, numbers, trees - 1 - behind, base)?;
+        columns.push(column)?;
+        pending.push(spot)?;
+    }
+    columns.reverse();
+    Ok(columns)
+}
+
+// Where the states of a base lead to in a tree on it, and the place of the tree.
+fn go_to(
+    alloc: Global,
+    cnf: &Cnf,
+    trees: u32,
+    seen: &[bool],
+    numbers: &[u32],
+    tree: u32,
+    base: &Spot,
+) -> Result<(Vec<u32>, Spot), AllocError>
+    requires { length base.now.states.keys < 2 ^ 32 }
+    ensures column { IfOk result (λ r. r.0.items ≡ column_at cnf.now.clauses trees seen.now numbers.now tree (stand_of base.now)) }
+    ensures spot { IfOk result (λ r. stand_of r.1 ≡ stand_part cnf.now.clauses trees seen.now numbers.now tree (stand_of base.now)) }
+{
+    let (picks, opened) = find_picks(
+        alloc,
+        cnf,
+        trees,
+        seen,
+        numbers,
+        tree,
+        base.opened.as_slice(),
+    )?;
+    let (column, states) = part(alloc, &picks, &base.states)?;
+    Ok((column, Spot { opened, states }))
+}
+
+// The part of each state that a table of flags picks: its place among the parts, and the parts.
+fn part(
+    alloc: Global,
+    picks: &Table,
+    states: &IndexSet<BitList>,
+) -> Result<(Vec<u32>, IndexSet<BitList>), AllocError>
+    requires few { length states.now.keys < 2 ^ 32 }
+    requires short { length picks.now < 2 ^ 63 }
+    ensures column { IfOk result (λ r. r.0.items ≡ column_by (picked_by picks.now) states.now.keys) }
+    ensures states { IfOk result (λ r. r.1.keys ≡ parts_by (picked_by picks.now) states.now.keys) }
+{
+    let mut parts = IndexSet::new(alloc);
+    let mut column = Vec::with_capacity(alloc, states.len())?;
+    for state in states.as_slice() {
+        column.push(put(picks.pick(alloc, state)?, &mut parts)?)?;
+    }
+    Ok((column, parts))
+}
+
+// The place of a state among others, to which it is added if it is new.
+fn put(state: BitList, states: &mut IndexSet<BitList>) -> Result<u32, AllocError>
+    requires { length states.old.keys < 2 ^ 32 }
+    ensures few { OnOk result (length states.new.keys ≤ length states.old.keys + 1) }
+    ensures states { OnOk result (states.new.keys ≡ joined states.old.keys (Some state)) }
+    ensures place { IfOk result (λ place. place ≡ position_or_len (is_same state) states.old.keys) }
+{
+    let (place, _) = states.insert_full(state)?;
+    Ok(place as u32)
+}
+
+// Where the states of a place lead to by a bit, and the states there.
+fn decide(
+    alloc: Global,
+    table: &Table,
+    states: &IndexSet<BitList>,
+) -> Result<(Vec<Fork>, IndexSet<BitList>), AllocError>
+    requires few { length states.now.keys < 2 ^ 31 }
+    requires short { length table.now < 2 ^ 63 }
+    ensures leads { IfOk result (λ r. r.0.items ≡ decided_forks table.now states.now.keys) }
+    ensures few { IfOk result (λ r. length r.1.keys < 2 ^ 32) }
+    ensures states { IfOk result (λ r. r.1.keys ≡ decided_states table.now states.now.keys) }
+{
+    let mut next = IndexSet::new(alloc);
+    let mut leads = Vec::with_capacity(alloc, states.len())?;
+    for state in states.as_slice() {
+        let zero = add(table.walk(alloc, false, state)?, &mut next)?;
+        let one = add(table.walk(alloc, true, state)?, &mut next)?;
+        leads.push(Fork { zero, one })?;
+    }
+    Ok((leads, next))
+}
+
+// The place of a state, if there is one, among others, to which it is added if it is new.
+fn add(state: Option<BitList>, states: &mut IndexSet<BitList>) -> Result<Option<u32>, AllocError>
+    requires { length states.old.keys < 2 ^ 32 }
+    ensures few { OnOk result (length states.new.keys ≤ length states.old.keys + 1) }
+    ensures states { OnOk result (states.new.keys ≡ joined states.old.keys state) }
+    ensures place { IfOk result (λ place. place ≡ lead states.old.keys state) }
+{
+    match state {
+        Some(state) => Ok(Some(put(state, states)?)),
+        None => Ok(None),
+    }
+}
+
+impl Leads {
+    /// Whether a state leads on.
+    pub(crate) fn has_way(&self) -> bool
+        ensures { result ≡ any_leads self.now.leads.items }
+    {
+        self.leads
+            .as_slice()
+            .iter()
+            .any(|lead| lead.zero.is_some() || lead.one.is_some())
+    }
+
+    /// The forks of the place.
+    pub(crate) fn forks(&self, alloc: Global) -> Result<Forks, AllocError>
+        requires { length self.now.columns.items ≡ self.now.trees }
+        ensures { IfOk result (λ forks. forks ≡ forks_of self.now) }
+    {
+        let columns = self.columns.as_slice();
+        let mut zero = Ways::new(alloc, self.trees);
+        let mut one = Ways::new(alloc, self.trees);
+        let mut row = Vec::with_capacity(alloc, columns.len())?;
+        for lead in self.leads.as_slice() {
+            add_way(&mut zero, columns, lead.zero, &mut row)?;
+            add_way(&mut one, columns, lead.one, &mut row)?;
+        }
+        Ok(Forks { zero, one })
+    }
+}
+
+// Adds the way that goes on with a row of the columns. `row` is room for it.
+fn add_way(
+    ways: &mut Ways,
+    columns: &[Vec<u32>],
+    base: Option<u32>,
+    row: &mut Vec<u32>,
+) -> Result<(), AllocError>
+    requires { length columns.now ≡ ways.old.trees }
+    ensures { OnOk result (ways.new ≡ record ways.old {
+      ways = ways.old.ways ++ option_map (row_at (map (λ v. v.items) columns.now)) base ∷ [];
+    }) }
+{
+    match base {
+        Some(at) => {
+            fill_row(columns, at, row)?;
+            ways.push(Some(row.as_slice()))
+        }
+        None => ways.push(None),
+    }
+}
+
+fn fill_row(columns: &[Vec<u32>], at: u32, row: &mut Vec<u32>) -> Result<(), AllocError>
+    ensures { OnOk result (row.new.items ≡ row_at (map (λ v. v.items) columns.now) at) }
+{
+    row.clear();
+    for column in columns {
+        row.push(item(column, at))?;
+    }
+    Ok(())
+}
+
+fn item(column: &Vec<u32>, at: u32) -> u32
+    ensures { result ≡ slice_index_or column.now.items at 0 }
+{
+    if (at as usize) < column.len() {
+        column[at as usize]
+    } else {
+        0
+    }
+}
+
+/// The last place that was begun, or that of a tree on the base of all.
+pub(crate) fn next_spot(alloc: Global, pending: &mut Vec<Spot>) -> Result<Spot, AllocError>
+    ensures { IfOk result (λ spot. stand_of spot ∷ reverse (map stand_of pending.new.items) ≡ or_first (reverse (map stand_of pending.old.items))) }
+{
+    match pending.pop() {
+        Some(spot) => Ok(spot),
+        None => begin(alloc),
+    }
+}
+
+// The place of a tree on the base of all.
+fn begin(alloc: Global) -> Result<Spot, AllocError>
+    ensures { IfOk result (λ spot. stand_of spot ≡ first_stand) }
+{
+    let mut states = IndexSet::new(alloc);
+    states.insert(BitList::new(alloc)?)?;
+    Ok(Spot {
+        opened: Vec::new(alloc),
+        states,
+    })
+}

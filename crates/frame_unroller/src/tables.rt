@@ -1,0 +1,12 @@
+//! Tables are copied in a file of few imports: the prover is slow with it among many.
+ghost use Rattle.std.specs.Prelude.{◌≡◌, IfOk};
+
+use device_model::Table;
+use std::alloc::{AllocError, Global};
+
+/// The same tables once more.
+pub(crate) fn tables_of(alloc: Global, tables: &[Table]) -> Result<Vec<Table>, AllocError>
+    ensures { IfOk result (λ copies. copies.items ≡ tables.now) }
+{
+    Vec::from_slice(alloc, tables)
+}

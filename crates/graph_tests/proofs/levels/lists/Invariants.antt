@@ -1,4 +1,0 @@
-use Rattle.graph_tests.proofs.levels.lists.Given as goal
-
-abbrev pub ghosts-steps_through : goal.ghosts-steps_through
-ghosts-steps_through g a = record { name = a.blank.name; parts = a.blank.parts }

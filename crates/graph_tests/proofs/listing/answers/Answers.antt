@@ -1,9 +1,0 @@
-use Rattle.std.proofs.Common.{rules}
-use Rattle.graph_tests.proofs.FewCosts.{few_costs}
-use Rattle.graph_tests.proofs.listing.answers.Goals as goal
-
-pub first-least-requires-clause-total : goal.first-least-requires-clause-total
-first-least-requires-clause-total g c = few_costs c.args.row.now.1 (search rules) (search rules)
-
-pub next-step-requires-clause-total : goal.next-step-requires-clause-total
-next-step-requires-clause-total g c = few_costs c.args.row.now.1 (search rules) (search rules)

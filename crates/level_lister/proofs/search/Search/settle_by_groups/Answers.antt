@@ -1,0 +1,82 @@
+use Rattle.std.proofs.Common.{◌≡◌, ◌+◌, ◌<◌, ◌≤◌, length, get_or, set, ap, subst, ◌∙◌, arith, lit<}
+use Rattle.std.proofs.lemmas.List.Elements.{All-set}
+use Rattle.diagnosis_lister.specs.Listing.{fault_count}
+use Rattle.diagnosis_lister.specs.inner.Fixing.{fixed_bits}
+use Rattle.diagnosis_lister.proofs.Faults.{faults-kept, faults-added}
+use Rattle.diagnosis_lister.proofs.Fixing.{FixesOk}
+use Rattle.scratch_pool.proofs.Counted.{block-below}
+use Rattle.level_lister.specs.inner.Pairs.{FaultIn, OkAmong}
+use Rattle.level_lister.proofs.Exact.{Refines-start, settle_end}
+use Rattle.level_lister.proofs.Grouping.{settle_ok, settle_found}
+use Rattle.level_lister.proofs.Skips.{enough_more}
+use Rattle.level_lister.proofs.search.Search.settle_by_groups.Goals as goal
+
+pub loop-part-init : goal.loop-part-init
+loop-part-init g c = record {
+  small = c.requires.words;
+  settles = record { refines = Refines-start (length c.args.self.now.levels.now.costs) c.args.words.now; front = c.requires.front; some = c.requires.some; first = λ h is. is };
+  steps = λ search h. omega arith;
+  within = c.requires.from;
+}
+
+pub loop-part-preserved : goal.loop-part-preserved
+loop-part-preserved g c =
+    let graph = c.args.self.now.graph.now in
+    let costs = c.args.self.now.levels.now.costs in
+    let old = c.loop-part.words in
+    let mid = c.fix_ok.new.words in
+    let part = c.in-Some.part in
+    let from = c.loop-part.from in
+    let le : from ≤ part = c.in-Some.ensures.found.0 in
+    let u : FaultIn graph old costs c.args.cost part = c.in-Some.ensures.found.1.0 in
+    let ok : OkAmong graph old costs c.args.cost from part = c.in-Some.ensures.found.1.1 in
+    let open_ : get_or old part 0 ≡ 0 = u.open_ in
+    let within : part < length costs = u.within in
+    let long : length mid ≡ length old = c.fix_ok.auto.words in
+    let fixes : FixesOk old mid from part = record { long = c.fix_ok.auto.words; fixed = c.fix_ok.ensures.fixed; kept = c.fix_ok.ensures.kept; before = c.fix_ok.ensures.before; behind = c.fix_ok.ensures.behind } in
+    let room : length costs ≤ length mid = omega (arith, long, c.loop-part.auto.words, c.requires.long, c.args.self.now.for_graph.parts) in
+    let still : get_or mid part 0 ≡ 0 = c.fix_ok.ensures.behind part (omega arith) ∙ open_ in
+    let kept : fault_count (fixed_bits (length costs) old) ≤ fault_count (fixed_bits (length costs) mid) = faults-kept (length costs) old mid long (λ k two. c.fix_ok.ensures.kept k (λ e. absurd (omega arith)) ∙ two) in
+    let added = faults-added (length costs) mid part within room still in
+    record {
+      small = All-set (λ w. w < 3) mid part 2 (lit< tt) c.fix_ok.ensures.words;
+      settles = settle_found graph costs c.args.self.now.for_graph.parts c.args.cost c.args.words.now old mid from part c.requires.long (omega arith) c.loop-part.invariant.settles fixes ok le u;
+      steps = λ search h. omega (
+        arith,
+        c.in-Some.ensures.steps search h,
+        c.loop-part.invariant.steps search h,
+        block-below (fault_count (fixed_bits (length costs) old)) (fault_count (fixed_bits (length costs) (set mid part 2))) search (omega (arith, kept, added)),
+      );
+      within = omega arith;
+    }
+
+pub returns-clause-first : goal.returns-clause-first
+returns-clause-first g c =
+    let graph = c.args.self.now.graph.now in
+    let costs = c.args.self.now.levels.now.costs in
+    let old = c.loop-part.words in
+    let new = c.fix_ok-2.new.words in
+    let all : length c.costs.result.now ≡ length costs = ap length c.costs.ensures in
+    let fixes : FixesOk old new c.loop-part.from (length costs) =
+    subst (λ n. FixesOk old new c.loop-part.from n) all (record { long = c.fix_ok-2.auto.words; fixed = c.fix_ok-2.ensures.fixed; kept = c.fix_ok-2.ensures.kept; before = c.fix_ok-2.ensures.before; behind = c.fix_ok-2.ensures.behind }) in
+    settle_end graph costs c.args.self.now.for_graph.parts c.args.cost c.args.words.now new c.requires.long (λ k h. c.fix_ok-2.ensures.words k 0 h)
+    (settle_ok graph costs c.args.self.now.for_graph.parts c.args.cost c.args.words.now old new c.loop-part.from (length costs) c.requires.long (omega arith) c.loop-part.invariant.settles fixes c.in_default.ensures.found c.loop-part.invariant.within)
+
+pub returns-clause-others : goal.returns-clause-others
+returns-clause-others g c k h = c.fix_ok-2.ensures.behind k (omega (arith, ap length c.costs.ensures, h)) ∙ c.loop-part.invariant.settles.refines.others k h
+
+pub returns-clause-steps : goal.returns-clause-steps
+returns-clause-steps g c search h =
+    let costs = c.args.self.now.levels.now.costs in
+    let old = c.loop-part.words in
+    let new = c.fix_ok-2.new.words in
+    let kept : fault_count (fixed_bits (length costs) old) ≤ fault_count (fixed_bits (length costs) new) = faults-kept (length costs) old new c.fix_ok-2.auto.words (λ k two. c.fix_ok-2.ensures.kept k (λ e. absurd (omega arith)) ∙ two) in
+    omega (
+      arith,
+      c.in_default.ensures.steps search h,
+      c.loop-part.invariant.steps search h,
+      block-below (fault_count (fixed_bits (length costs) old)) (fault_count (fixed_bits (length costs) new) + 1) search (omega (arith, kept)),
+    )
+
+pub first_faulty-requires-clause-enough : goal.first_faulty-requires-clause-enough
+first_faulty-requires-clause-enough g c = enough_more c.args.self.now.graph.now c.args.self.now.skips.now c.args.self.now.levels.now.costs c.args.self.now.levels.now.top c.args.words.now c.loop-part.words c.loop-part.invariant.settles.refines.kept c.requires.enough

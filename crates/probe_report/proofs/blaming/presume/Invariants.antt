@@ -1,8 +1,0 @@
-use Rattle.std.proofs.Common.{◌≡◌, ℕ, ◌<◌, get_or, Some}
-use Rattle.std.specs.Prelude.{slice_get}
-use Rattle.probe_report.specs.inner.Presumed.{presumed}
-use Rattle.probe_report.proofs.blaming.presume.Given as goal
-
--- the parts so far
-abbrev pub invariant-loop-part : goal.invariant-loop-part
-invariant-loop-part l = (k : ℕ) → k < l.part → slice_get l.verdicts k ≡ Some (presumed (get_or l.words k 0) (get_or l.suspects k 0))

@@ -1,0 +1,54 @@
+//! The memory that answers are worked out in. It is taken in a file of few imports, since the prover goes through all that is let go
+//! when memory runs out.
+ghost use Rattle.std.specs.Prelude.{◌≡◌, replicate, IfOk};
+ghost use Rattle.session_core.specs.inner.Desks.{FitsTogether};
+
+use crate::basis::Basis;
+use fault_graph::Distiller;
+use probe_report::Blame;
+use scratch_pool::Region;
+use std::alloc::{AllocError, Global};
+
+/// What a desk works with besides what is asked over.
+#[derive(Drop)]
+pub(crate) struct DeskMemory {
+    pub(crate) known: Vec<u32>,
+    pub(crate) values: Vec<u32>,
+    pub(crate) state: Vec<u32>,
+    pub(crate) verdicts: Vec<Blame>,
+    pub(crate) numbers: Vec<u32>,
+    pub(crate) distiller: Distiller,
+    pub(crate) room: Region,
+}
+
+impl DeskMemory {
+    /// Memory for whatever is asked over a basis. Of the first case nothing is known.
+    pub(crate) fn new(alloc: Global, basis: &Basis) -> Result<DeskMemory, AllocError>
+        ensures { IfOk result (λ memory. FitsTogether (record {
+          subject = basis.now;
+          known = memory.known.items;
+          state = memory.state.items;
+          verdicts = memory.verdicts.items;
+          numbers = memory.numbers.items;
+        }) memory.values.items memory.room memory.distiller) }
+    {
+        let parts = basis.parts().len();
+        let wires = basis.wires().len();
+        Ok(DeskMemory {
+            known: zeros(alloc, basis.vars())?,
+            values: zeros(alloc, basis.nodes())?,
+            state: zeros(alloc, parts)?,
+            verdicts: vec![in alloc; Blame::Never; parts]?,
+            numbers: zeros(alloc, 2 * wires)?,
+            distiller: Distiller::new(alloc, basis.graph())?,
+            room: Region::new(alloc, basis.most_room())?,
+        })
+    }
+}
+
+// So many numbers, each 0.
+fn zeros(alloc: Global, count: usize) -> Result<Vec<u32>, AllocError>
+    ensures { IfOk result (λ zeros. zeros.items ≡ replicate count 0) }
+{
+    vec![in alloc; 0; count]
+}

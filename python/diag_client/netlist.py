@@ -1,0 +1,184 @@
+"""`diag-netlist FILE`: makes a `.bench`, or a `.dev` if types are needed, of a netlist that a tool wrote."""
+
+from __future__ import annotations
+
+import argparse
+import os
+import pathlib
+import re
+import sys
+import tempfile
+from collections.abc import Sequence
+
+from .errors import DiagError, sentence
+from .netlist_circuit import Circuit, Node, UnusableNetlist, kind_of
+from .netlist_readers import READERS, TABLES, TO_PLAIN_CELLS
+
+# A name that is longer is replaced.
+LONGEST_NAME = 32
+# A type has at most so many ports. The output is one of them.
+MOST_PORTS = 6
+# So many wires are on a line of a design.
+WIRES_ON_A_LINE = 12
+TYPE_NAMES = {(len(letters), table): name for name, (letters, table) in TABLES.items()}
+TOP = "TOP"
+
+
+def read_circuit(path: pathlib.Path) -> Circuit:
+    """The circuit in a file, by the ending of its name. Raises `UnusableNetlist` for what cannot be taken."""
+    if path.suffix not in READERS:
+        raise UnusableNetlist(f"the name of the file ends in {', '.join(READERS)}")
+    text = path.read_text(encoding="utf-8", errors="surrogateescape")
+    try:
+        circuit = READERS[path.suffix](text)
+    except (KeyError, ValueError, TypeError, AttributeError) as error:
+        raise UnusableNetlist(f"this is not written as a tool writes it ({error!r})") from error
+    circuit.settle()
+    return circuit
+
+
+def new_names(circuit: Circuit, is_design: bool) -> dict[str, str]:
+    """The name that each wire has from now on: one of its own that is legal and short, or else a number."""
+    named: dict[str, list[str]] = {}
+    for name in [*circuit.driven, *circuit.joined]:
+        named.setdefault(circuit.find(name), []).append(name)
+    legal = re.compile(r"[!-~]+")
+    barred = set("(),=#$" + ("." if is_design else ""))
+    outputs, taken, found = set(circuit.outputs), set(circuit.driven), {}
+    numbers = (f"n{number:04}" for number in range(1, len(taken) * 2 + 2))
+    free = (name for name in numbers if name not in taken)
+    for wire in [*circuit.inputs, *circuit.flip_flops, *(node.output for node in circuit.nodes)]:
+        fit = [name for name in named[wire] if len(name) <= LONGEST_NAME and legal.fullmatch(name) and not barred & set(name)]
+        best = min(fit, key=lambda name: (name != wire or wire not in circuit.inputs, name not in outputs, len(name)), default="")
+        found[wire] = best or next(free)
+    return found
+
+
+def type_of(node: Node) -> str:
+    """The name of the type that a table gets."""
+    return TYPE_NAMES.get((len(node.inputs), node.table), f"LUT{len(node.inputs)}_{node.table:X}")
+
+
+def check_types(circuit: Circuit, is_bench_wanted: bool) -> list[Node]:
+    """The gates that need a type. Raises `UnusableNetlist` if one is too large, or if no types may be used."""
+    special = [node for node in circuit.nodes if kind_of(node) is None]
+    for node in special:
+        if len(node.inputs) >= MOST_PORTS:
+            text = f"the table of {node.output} has {len(node.inputs)} inputs, and a type has at most {MOST_PORTS - 1}"
+            circuit.fault(text, TO_PLAIN_CELLS)
+    words = ", ".join(sorted(set(map(type_of, special))))
+    if special and circuit.flip_flops:
+        circuit.fault(f"the gates {words} need a design (.dev), which has no flip-flops", TO_PLAIN_CELLS)
+    elif special and is_bench_wanted:
+        circuit.fault(f"the gates {words} need types: let OUT end in .dev", TO_PLAIN_CELLS)
+    circuit.check()
+    return special
+
+
+def bench_text(circuit: Circuit, names: dict[str, str], title: str) -> str:
+    """The circuit as a netlist."""
+    lines = [f"# {title}"]
+    lines += [f"INPUT({names[name]})" for name in circuit.inputs]
+    lines += [f"OUTPUT({name})" for name in dict.fromkeys(names[circuit.find(name)] for name in circuit.outputs)]
+    lines += [f"{names[output]} = DFF({names[reads]})" for output, reads in circuit.flip_flops.items()]
+    lines += [f"{names[node.output]} = {kind_of(node)}({', '.join(names[name] for name in node.inputs)})" for node in circuit.nodes]
+    return "\n".join(lines) + "\n"
+
+
+def type_lines(node: Node) -> list[str]:
+    """A type whose rows are those of a table. If it is faulty it may put out anything."""
+    count = len(node.inputs)
+    ports = " ".join([f"i{place}" for place in range(1, count + 1)] + ["y"])
+    rows = []
+    for index in range(1 << count):
+        bits = "".join(str(index >> place & 1) for place in range(count))
+        rows.append(f"ok {bits}{node.table >> index & 1}")
+    return [f"type {type_of(node)} {ports}", *sorted(rows), "end", ""]
+
+
+def design_text(circuit: Circuit, special: Sequence[Node], names: dict[str, str], title: str) -> str:
+    """The circuit as a design of one block, whose ports are the inputs and outputs."""
+    lines = [f"# {title}"]
+    for node in {type_of(node): node for node in special}.values():
+        lines += type_lines(node)
+    ports = list(dict.fromkeys([names[name] for name in circuit.inputs] + [names[circuit.find(name)] for name in circuit.outputs]))
+    inner = [name for name in (names[node.output] for node in circuit.nodes) if name not in set(ports)]
+    lines.append(" ".join(["block", TOP, *ports]))
+    lines += [" ".join(["wire", *inner[at : at + WIRES_ON_A_LINE]]) for at in range(0, len(inner), WIRES_ON_A_LINE)]
+    for node in circuit.nodes:
+        arguments = " ".join(names[name] for name in [*node.inputs, node.output])
+        lines.append(f"part {names[node.output]} {kind_of(node) or type_of(node)} {arguments}")
+    return "\n".join([*lines, "end", "", f"top {TOP}"]) + "\n"
+
+
+def table_text(circuit: Circuit, names: dict[str, str]) -> str:
+    """What names were replaced, and what was left out."""
+    lines = ["# The name here, and the name in the file that it was made of."]
+    for name in dict.fromkeys([*circuit.driven, *circuit.joined]):
+        wire = circuit.find(name)
+        if wire in names and names[wire] != name:
+            lines.append(f"{names[wire]}\t{name}")
+    lines += [f"# left out: {text}" for text in circuit.left_out]
+    return "\n".join(lines) + "\n"
+
+
+def write_whole(path: pathlib.Path, text: str) -> None:
+    """Writes a file whole, or leaves it as it was."""
+    with tempfile.NamedTemporaryFile(
+        "w", dir=path.parent, prefix=f".{path.name}.", delete=False, encoding="utf-8", errors="surrogateescape"
+    ) as file:
+        try:
+            file.write(text)
+            file.close()
+            umask = os.umask(0)
+            os.umask(umask)
+            os.chmod(file.name, 0o666 & ~umask)
+            os.replace(file.name, path)
+        except BaseException:
+            os.unlink(file.name)
+            raise
+
+
+def convert(path: pathlib.Path, out: pathlib.Path | None = None) -> list[str]:
+    """Converts a file, and says what was written. Without `out` the new file has the old name with another ending."""
+    if out is not None and out.suffix not in (".bench", ".dev"):
+        raise UnusableNetlist(f"the name of {out} does not end in .bench or .dev")
+    circuit = read_circuit(path)
+    special = check_types(circuit, out is not None and out.suffix == ".bench")
+    is_design = bool(special) or (out is not None and out.suffix == ".dev")
+    if is_design and circuit.flip_flops:
+        raise UnusableNetlist("a design (.dev) has no flip-flops: let OUT end in .bench")
+    if out is None:
+        out = path.with_suffix(".dev" if is_design else ".bench")
+    if out.exists() and out.samefile(path):
+        out = path.with_name(f"{path.stem}-diag{out.suffix}")
+    names = new_names(circuit, is_design)
+    title = f"Made of {' '.join(path.name.split())} by diag-netlist."
+    write_whole(out, design_text(circuit, special, names, title) if is_design else bench_text(circuit, names, title))
+    said = [f"{out}: {len(circuit.nodes)} gates, {len(circuit.flip_flops)} flip-flops, {len(circuit.inputs)} inputs"]
+    table = out.with_name(out.name + ".names")
+    text = table_text(circuit, names)
+    if text.count("\n") > 1:
+        write_whole(table, text)
+        said.append(f"{table}: {sum(line[:1] != '#' for line in text.splitlines())} names that were replaced")
+    else:
+        table.unlink(missing_ok=True)
+    return said + [f"left out: {text}" for text in circuit.left_out]
+
+
+def main(words: Sequence[str] | None = None) -> int:
+    """Does what the words say, and gives the exit status."""
+    parser = argparse.ArgumentParser(prog="diag-netlist", description=__doc__.split(": ")[1].strip() if __doc__ else None)
+    parser.add_argument("file", metavar="FILE", type=pathlib.Path, help="BLIF or JSON (.blif, .json) of yosys, or a .bench of ABC")
+    parser.add_argument("-o", "--output", metavar="OUT", type=pathlib.Path, help="a .bench or .dev; else FILE with that ending")
+    given = parser.parse_args(words)
+    try:
+        print("\n".join(convert(given.file, given.output)))
+    except (DiagError, OSError) as error:
+        print(f"diag-netlist: {'' if isinstance(error, OSError) else f'{given.file}: '}{sentence(error)}", file=sys.stderr)
+        return 1
+    return 0
+
+
+if __name__ == "__main__":
+    sys.exit(main())

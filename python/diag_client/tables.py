@@ -1,0 +1,79 @@
+"""Test patterns as a table: the first row has the names of wires, and each further row what one pattern shows of them."""
+
+from __future__ import annotations
+
+import csv
+import dataclasses
+import os
+from collections.abc import Iterable, Sequence
+
+from .errors import DiagError
+from .session import BLANKS
+
+# The column that names the patterns.
+NAME = "pattern"
+Rows = Iterable[Sequence[str | int]]
+
+
+class BadTable(DiagError, ValueError):
+    """A table of patterns says what no pattern can be. The text has the row and the column; nothing is taken from the table."""
+
+
+@dataclasses.dataclass(frozen=True)
+class Row:
+    """One pattern: its name and the bits of wires, an empty cell left out."""
+
+    name: str
+    seen: dict[str, int]
+
+
+def read_table(source: str | os.PathLike[str] | Rows, wires: Iterable[str]) -> list[Row]:
+    """The patterns in a file of comma-separated values, or in rows of cells, over a device with these wires.
+
+    A cell is 0, 1 or empty. A column called `pattern` names them; without it they are p1, p2 and so on.
+    """
+    if not isinstance(source, (str, os.PathLike)):
+        return rows_of("the table", [[str(cell).strip(BLANKS) for cell in row] for row in source], set(wires))
+    # Some programs put a mark before UTF-8.
+    with open(source, encoding="utf-8-sig", errors="surrogateescape", newline="") as file:
+        try:
+            cells = [[cell.strip(BLANKS) for cell in row] for row in csv.reader(file, strict=True)]
+        except csv.Error as error:
+            raise BadTable(f"{source}: not comma-separated values: {error}") from None
+    return rows_of(os.fspath(source), cells, set(wires))
+
+
+def rows_of(table: str, cells: Sequence[Sequence[str]], wires: set[str]) -> list[Row]:
+    """The patterns in the cells of a table. A row of empty cells is passed over."""
+    numbered = [(number, row) for number, row in enumerate(cells, 1) if any(row)]
+    if len(numbered) < 2:
+        raise BadTable(f"{table}: a first row with the names of wires is needed, and a row for each pattern")
+    (first, header), *rest = numbered
+    for column, name in enumerate(header, 1):
+        if name != NAME and name not in wires:
+            near = "; are the columns not separated by commas?" if len(header) == 1 and len(name) > 64 else ""
+            raise BadTable(f"{table}: row {first}, column {column}: no wire {name!r}{near}")
+        if name in header[:column - 1]:
+            raise BadTable(f"{table}: row {first}, column {column}: a second column {name!r}")
+    found: list[Row] = []
+    for place, (number, row) in enumerate(rest, 1):
+        found.append(_row(f"{table}: row {number}", place, header, row))
+        if found[-1].name in [other.name for other in found[:-1]]:
+            raise BadTable(f"{table}: row {number}, column {header.index(NAME) + 1}: a second pattern {found[-1].name!r}")
+    return found
+
+
+def _row(where: str, place: int, header: Sequence[str], row: Sequence[str]) -> Row:
+    if len(row) != len(header):
+        raise BadTable(f"{where}, column {min(len(row), len(header)) + 1}: {len(row)} cells, and the first row has {len(header)}")
+    seen, name = {}, f"p{place}"
+    for column, (wire, cell) in enumerate(zip(header, row, strict=True), 1):
+        if wire == NAME:
+            if not cell or any(byte in cell for byte in BLANKS):
+                raise BadTable(f"{where}, column {column}: not the name of a pattern, which has no blanks: {cell!r}")
+            name = cell
+        elif cell not in ("", "0", "1"):
+            raise BadTable(f"{where}, column {column} ({wire}): not 0, 1 or empty: {cell!r}")
+        elif cell:
+            seen[wire] = int(cell)
+    return Row(name, seen)

@@ -1,0 +1,85 @@
+"""A small checkout for tests of the launcher: the launcher itself, the sources of three crates, and a program."""
+
+import pathlib
+import shutil
+
+from support import TOP, wait_until
+
+# Ends as FAKE says: with a status, or by a signal. Else it copies standard input to standard output.
+FAKE_PROGRAM = """#!/bin/sh
+case ${FAKE-} in
+  '') exec cat ;;
+  [0-9]) echo told; exit $FAKE ;;
+  *) kill -s $FAKE $$ ;;
+esac
+"""
+# Does what the kit does that the launcher looks at: headings on its way, a library with a stamp, and at last the program.
+FAKE_RT = """#!/bin/sh
+echo "$PWD: rt $*" >>"$RT_SAID"
+case $1 in
+  all)
+    mkdir -p ../low/out/rlib
+    # A file's own time is that of the last tick of the clock.
+    until [ ../low/out/rlib -nt out/build.begun ]; do sleep 0.01; touch ../low/out/rlib; done
+    until [ -e "${RT_GOES_ON-/}" ]; do sleep 0.1; done
+    printf '== low\\nfn low::f: proved\\n'
+    : >../low/out/rlib/stamp
+    printf '== diag\\n== summary\\nlow: ok\\ndiag: ok\\n2 of 2 crates ok\\n'
+    exit ${RT_FAILS-0}
+    ;;
+  run)
+    : >out/diag.o
+    printf '%s' "$RT_PROGRAM" >out/diag
+    chmod 755 out/diag
+    ;;
+esac
+"""
+
+
+def make_checkout(folder, program=None):
+    """Makes the checkout. The program, if it is given, is there as `rt ci` leaves it."""
+    top = pathlib.Path(folder)
+    shutil.copy(TOP / "diag", top)
+    # What tools leave in that folder, caches and builds, stays there.
+    shutil.copytree(TOP / "python/diag_client", top / "python/diag_client", ignore=shutil.ignore_patterns("__pycache__", "bin"))
+    for name in ("build-wheel", "pyproject.toml"):
+        shutil.copy(TOP / "python" / name, top / "python")
+    for name, text in {
+        "crates.txt": "# Lines in any order\ndiag: low std\nlow staticlib: std\ndiag_tests: diag\n", "HANDLES": "Handles allowed: none.\n",
+        "crates/diag/src/main.rt": "fn main() {}\n", "crates/low/src/lib.rt": "fn low() {}\n", "crates/low/specs/Low.antt": "low\n",
+        "crates/diag_tests/src/lib.rt": "fn test() {}\n", "crates/diag/proofs/Main.antt": "main\n",
+    }.items():
+        path = top / name
+        path.parent.mkdir(parents=True, exist_ok=True)
+        path.write_text(text)
+    if program is not None:
+        out = top / "crates/diag/out"
+        out.mkdir()
+        wait_past(out, out)
+        (out / "diag.o").touch()
+        wait_past(out, out / "diag.o")
+        put_program(top, program)
+    return top
+
+
+def wait_past(out, file):
+    """Waits until what is written now is newer than a file, by the clock of the file system, whose ticks may be long."""
+    probe = out / "clock"
+
+    def is_past():
+        probe.touch()
+        return probe.stat().st_ctime_ns > max(written.st_mtime_ns, written.st_ctime_ns)
+
+    written = file.stat()
+    wait_until(is_past)
+    probe.unlink()
+
+
+def put_program(top, program):
+    """Puts a program, a text or a path, where the kit would."""
+    path = top / "crates/diag/out/diag"
+    if isinstance(program, pathlib.Path):
+        shutil.copyfile(program, path)
+    else:
+        path.write_text(program)
+    path.chmod(0o755)

@@ -1,0 +1,318 @@
+"""What `diag-netlist` writes means what it read: both sides are simulated, and ABC compares them if it is here."""
+
+import contextlib
+import doctest
+import graphlib
+import io
+import os
+import pathlib
+import random
+import shutil
+import subprocess
+import sys
+import tempfile
+import unittest
+
+from support import EXAMPLES, PROGRAM, TOP, needs_program
+
+from diag_client import netlist, netlist_circuit, netlist_readers
+from diag_client.devices import GATES, read_device
+from diag_client.netlist_circuit import Circuit, UnusableNetlist, table_of
+from diag_client.netlist_readers import TABLES, read_blif
+
+VERILOG = EXAMPLES / "verilog"
+ABC = shutil.which("berkeley-abc") or shutil.which("yosys-abc")
+SEGMENTS = [0x3F, 0x06, 0x5B, 0x4F, 0x66, 0x6D, 0x7D, 0x07, 0x7F, 0x6F]
+SEED = 3
+
+
+def rows_of(path):
+    """The rows of each type in a design, each with all but its last bit as a key."""
+    rows, name = {}, None
+    for line in path.read_text().split("\n"):
+        match line.split():
+            case ["type", name, *_]:
+                rows[name] = {}
+            case ["ok", bits]:
+                rows[name][tuple(map(int, bits[:-1]))] = int(bits[-1])
+    return rows
+
+
+class Simulated:
+    """A device that was written, and what it does."""
+
+    def __init__(self, path):
+        self.device = read_device(path)
+        self.rows = rows_of(path) if path.suffix == ".dev" else {}
+        gates = {part.wires[-1]: part for part in self.device.parts if part.kind != "DFF"}
+        self.flip_flops = {part.wires[-1]: part.wires[0] for part in self.device.parts if part.kind == "DFF"}
+        order = graphlib.TopologicalSorter({name: [wire for wire in gate.wires[:-1] if wire in gates] for name, gate in gates.items()})
+        self.gates = [gates[name] for name in order.static_order()]
+
+    def bits(self, inputs):
+        """The bits of all wires, given those of the inputs and of what the flip-flops hold."""
+        bits = dict(inputs)
+        for gate in self.gates:
+            read = tuple(bits[wire] for wire in gate.wires[:-1])
+            bits[gate.wires[-1]] = GATES[gate.kind].output(read) if gate.kind in GATES else self.rows[gate.kind][read]
+        return bits
+
+    def held_next(self, bits):
+        """What the flip-flops hold at the next time."""
+        return {output: bits[reads] for output, reads in self.flip_flops.items()}
+
+
+class Converts(unittest.TestCase):
+    """A folder of its own for each test."""
+
+    def setUp(self):
+        folder = tempfile.TemporaryDirectory()
+        self.addCleanup(folder.cleanup)
+        self.folder = pathlib.Path(folder.name)
+
+    def convert(self, text, name="given.blif", out=None):
+        """What is written of a text: the file, and its table of names."""
+        given = self.folder / name
+        given.write_text(text)
+        said = netlist.convert(given, out and self.folder / out)
+        path = pathlib.Path(said[0].split(":")[0])
+        table = path.with_name(path.name + ".names")
+        return path, table.read_text() if table.exists() else ""
+
+    def refused(self, text, name="given.blif", out=None):
+        """Why a text is refused."""
+        before = {path.name for path in self.folder.iterdir()}
+        with self.assertRaises(UnusableNetlist) as raised:
+            self.convert(text, name, out)
+        self.assertEqual({path.name for path in self.folder.iterdir()} - before, {name} - before)
+        return str(raised.exception)
+
+
+class OfTools(Converts):
+    """The files in examples/verilog, each compared with what the Verilog says."""
+
+    def test_seven_segments(self):
+        files = sorted(VERILOG.glob("seven_segments*.[bj]*"))
+        self.assertEqual(len(files), 5)
+        for file in files:
+            path, table = self.convert(file.read_text(), file.name, None if file.suffix != ".bench" else "abc.dev")
+            simulated = Simulated(path)
+            self.assertIn("# left out: output never, which is always 0\n", table)
+            for digit in range(16):
+                bits = simulated.bits({f"digit[{place}]": digit >> place & 1 for place in range(4)})
+                lit = sum(bits[f"segments[{place}]"] << place for place in range(7))
+                self.assertEqual((lit, bits["is_digit"]), (SEGMENTS[digit] if digit < 10 else 0, int(digit < 10)), file.name)
+
+    def test_gray(self):
+        files = [file for file in sorted(VERILOG.glob("gray*.[bj]*")) if "enable" not in file.name]
+        self.assertEqual(len(files), 4)
+        for file in files:
+            path, table = self.convert(file.read_text(), file.name)
+            simulated = Simulated(path)
+            self.assertEqual(path.suffix, ".bench")
+            # What the flip-flop and the output share has one name, and the table has the other.
+            state = [name if name in simulated.flip_flops else "code[2]" for name in ("count[0]", "count[1]", "count[2]")]
+            self.assertEqual(set(state), set(simulated.flip_flops), file.name)
+            tried, count, held = random.Random(SEED), 5, {name: 5 >> place & 1 for place, name in enumerate(state)}
+            for _ in range(60):
+                enable, clear = tried.randrange(2), int(tried.random() < 0.1)
+                bits = simulated.bits({**held, "enable": enable, "clear": clear, "clock": 0})
+                code = sum(bits["code[2]" if place == 2 and "code[2]" in bits else f"code[{place}]" if place < 2 else "count[2]"] << place for place in range(3))
+                self.assertEqual((code, bits["at_end"]), (count ^ count >> 1, int(count == 7 and enable)), file.name)
+                held = simulated.held_next(bits)
+                count = 0 if clear else (count + enable) % 8
+
+    def test_enable_is_refused(self):
+        why = self.refused((VERILOG / "gray_enable.blif").read_text())
+        self.assertIn("flip-flop count[0] ($_SDFFE_PP0P_) has an enable or a reset that is no gate", why)
+        self.assertEqual(why.count("dfflegalize"), 1)
+
+    @needs_program
+    def test_page(self):
+        """What examples/verilog/README.md shows."""
+        page = (VERILOG / "README.md").read_text()
+        for file in ("seven_segments.blif", "gray.blif"):
+            said = netlist.convert(self.folder / shutil.copy(VERILOG / file, self.folder / file))
+            self.assertIn("\n".join(["", *(line.replace(f"{self.folder}/", "") for line in said), ""]), page)
+        with open(VERILOG / "two.script") as script:
+            words = [PROGRAM, "serve", self.folder / "seven_segments.dev", "--narrow"]
+            done = subprocess.run(words, stdin=script, capture_output=True, text=True, check=True)
+        self.assertIn(done.stdout[done.stdout.index("S min") :], page)
+
+    @needs_program
+    def test_is_served(self):
+        for file in sorted(VERILOG.glob("*.blif")):
+            if "enable" in file.name:
+                continue
+            path, _ = self.convert(file.read_text(), file.name)
+            words = ["--frames", "2"] if "gray" in file.name else []
+            done = subprocess.run([PROGRAM, "serve", path, "--narrow", *words], input="open S\nmin S\n", capture_output=True, text=True)
+            self.assertIn("S min 0\n", done.stdout, file.name)
+
+
+def random_blif(tried, gates, most_inputs, is_gate):
+    """A BLIF of random tables, or of gates as tables."""
+    names = [f"in{number}" for number in range(5)]
+    lines = [".model random", f".inputs {' '.join(names)}", ".outputs " + " ".join(f"w.{number}" for number in range(gates - 4, gates))]
+    for number in range(gates):
+        count = tried.randrange(1, most_inputs + 1)
+        inputs = tried.sample(names, count)
+        kinds = [kind for kind, gate in GATES.items() if count <= gate.most_inputs and (count > 1 or not gate.positive)]
+        table = table_of(tried.choice(kinds), count) if is_gate else tried.randrange(1, (1 << (1 << count)) - 1)
+        bit = tried.randrange(2)
+        lines.append(f".names {' '.join(inputs)} w.{number}")
+        for index in range(1 << count):
+            if table >> index & 1 == bit:
+                lines.append("".join(str(index >> place & 1) for place in range(count)) + f" {bit}")
+        names.append(f"w.{number}")
+    return "\n".join([*lines, ".end", ""])
+
+
+def blif_bits(text, inputs):
+    """The bits of a BLIF of tables, read in the plainest way."""
+    bits = dict(inputs)
+    for part in text.split(".names ")[1:]:
+        head, *rows = part.replace(".end", "").strip().split("\n")
+        *reads, output = head.split()
+        fits = any(all(mark in ("-", str(bits[name])) for mark, name in zip(row.split()[0], reads)) for row in rows)
+        bit = int(rows[0].split()[1])
+        bits[output] = bit if fits else 1 - bit
+    return bits
+
+
+class AtRandom(Converts):
+    """Random tables, compared with a second reading, and by ABC."""
+
+    def test_tables(self):
+        tried = random.Random(SEED)
+        for _ in range(25):
+            text = random_blif(tried, 12, 5, False)
+            path, table = self.convert(text)
+            old = {line.split("\t")[1]: line.split("\t")[0] for line in table.split("\n") if "\t" in line}
+            simulated = Simulated(path)
+            for _ in range(8):
+                inputs = {f"in{place}": tried.randrange(2) for place in range(5)}
+                wanted, bits = blif_bits(text, inputs), simulated.bits(inputs)
+                for number in range(8, 12):
+                    if f"output w.{number}," not in table:
+                        name = f"w.{number}"
+                        self.assertEqual(bits[old.get(name, name)], wanted[name], text)
+
+    # ABC reads no XNOR of more than two inputs.
+    @unittest.skipUnless(ABC, "there is no ABC")
+    def test_gates_by_abc(self):
+        tried = random.Random(SEED)
+        for _ in range(4):
+            path, _ = self.convert(random_blif(tried, 20, 2, True), out="new.bench")
+            done = subprocess.run([ABC, "-q", f"cec given.blif {path.name}"], capture_output=True, text=True, cwd=self.folder)
+            self.assertIn("Networks are equivalent", done.stdout)
+
+    def test_cells(self):
+        """Each cell of yosys by what its manual says of it."""
+        says = {
+            "ANDNOT": lambda a, b: a & ~b, "ORNOT": lambda a, b: a | ~b, "MUX": lambda a, b, s: b if s else a,
+            "NMUX": lambda a, b, s: ~(b if s else a), "AOI3": lambda a, b, c: ~(a & b | c), "OAI3": lambda a, b, c: ~((a | b) & c),
+            "AOI4": lambda a, b, c, d: ~(a & b | c & d), "OAI4": lambda a, b, c, d: ~((a | b) & (c | d)),
+        }
+        self.assertEqual(says.keys(), TABLES.keys())
+        for word, (letters, table) in TABLES.items():
+            for index in range(1 << len(letters)):
+                bits = [index >> place & 1 for place in range(len(letters))]
+                self.assertEqual(table >> index & 1, says[word](*bits) & 1, (word, bits))
+
+
+class ByHand(Converts):
+    """Names, constants and what is refused."""
+
+    def test_names(self):
+        path, table = self.convert(".model m\n.inputs a b.c $x\n.outputs y\n.names a b.c t(1)\n11 1\n.names t(1) $x y\n1- 1\n-1 1\n.end\n")
+        self.assertEqual(path.read_text().split("\n")[1:], ["INPUT(a)", "INPUT(b.c)", "INPUT(n0001)", "OUTPUT(y)", "n0002 = AND(a, b.c)", "y = OR(n0002, n0001)", ""])
+        self.assertEqual(table.split("\n")[1:], ["n0001\t$x", "n0002\tt(1)", ""])
+        # In a design a name has no dot.
+        path, table = self.convert(".model m\n.inputs a b.c\n.outputs y\n.names a b.c y\n10 1\n.end\n")
+        self.assertIn("part y ANDNOT a n0001 y\n", path.read_text())
+
+    def test_nothing_to_replace(self):
+        _, table = self.convert(".model m\n.inputs a b\n.outputs y\n.names a b y\n11 1\n.end\n")
+        self.assertEqual(table, "")
+
+    def test_constants(self):
+        text = (
+            ".model m\n.inputs a b \\\n c\n.outputs y z\n.names one\n1\n.names zero\n.gate $_NAND_ A=a B=one Y=n\n.gate $_MUX_ A=n B=c S=zero Y=m\n"
+            ".gate $_XOR_ A=m B=one Y=x\n.gate $_OR_ A=x B=b Y=y\n.gate $_AND_ A=b B=zero Y=z\n.end\n"
+        )
+        path, table = self.convert(text)
+        self.assertEqual(path.read_text().split("\n")[4:], ["OUTPUT(y)", "n = NOT(a)", "m = BUFF(n)", "x = NOT(m)", "y = OR(x, b)", ""])
+        self.assertIn("# left out: gate z, which always puts out 0\n# left out: output z, which is always 0\n", table)
+
+    def test_wide_tables(self):
+        names = " ".join(f"i{number}" for number in range(20))
+        head = f".model m\n.inputs {names}\n.outputs y\n.names {names} y\n"
+        single = "\n".join("-" * place + "1" + "-" * (19 - place) for place in range(20))
+        for rows, kind in (
+            ("1" * 20 + " 1", "AND"), ("1" * 20 + " 0", "NAND"), ("0" * 20 + " 1", "NOR"), (single.replace("\n", " 1\n") + " 1", "OR"),
+        ):
+            path, _ = self.convert(f"{head}{rows}\n.end\n")
+            self.assertIn(f"y = {kind}(i0, ", path.read_text())
+        self.assertIn("y has 20 inputs and is no gate", self.refused(f"{head}{'10' * 10} 1\n.end\n"))
+
+    def test_refusals(self):
+        head = ".model m\n.inputs a b c\n.outputs y\n"
+        for lines, why in (
+            (".gate $_DLATCH_P_ E=a D=b Q=y", "latch y ($_DLATCH_P_)"),
+            (".latch a y ah c 2", "latch y (.latch of the kind ah)"),
+            (".gate $_DFF_PP0_ C=c D=a R=b Q=y", "flip-flop y ($_DFF_PP0_) has an enable or a reset"),
+            (".gate $_AND_ A=a B=b Y=y\n.gate $_OR_ A=a B=b Y=y", "wires with several drivers: y"),
+            (".gate $_NOT_ A=a Y=b", "wires with several drivers: b"),
+            (".gate $_NOT_ A=q Y=y", "wires that nothing drives: q"),
+            (".latch a y re c 2\n.latch b z re a 2", "several clocks"),
+            (".latch a y re c 2\n.gate $_NOT_ A=c Y=z", "the clock c is read by a gate"),
+            (".latch a y re c 2\n.names a b z\n10 1", "flip-flops"),
+            (".gate NAND2X1 A=a B=b Y=y", "NAND2X1"),
+            (".names a b c d0 d1 d2 y\n110101 1", "d0 d1 d2"),
+            (".names $undef\n.gate $_AND_ A=a B=$undef Y=y", "gate y reads a value that is not defined"),
+            (".search other.blif", ".search is not known here"),
+            ("11 1", "rows without .names"),
+        ):
+            self.assertIn(why, self.refused(f"{head}{lines}\n.end\n"), lines)
+        self.assertIn("2 models", self.refused(".model a\n.end\n.model b\n.end\n"))
+        self.assertIn("no JSON", self.refused("[]", "x.json"))
+        self.assertIn("not known here", self.refused("INPUT(a)\ny = TOASTER(a)\n", "x.bench"))
+        self.assertIn("line 2", self.refused("INPUT(a)\nwhat\n", "x.bench"))
+        self.assertIn("need types", self.refused(head + ".names a b y\n10 1\n.end\n", out="x.bench"))
+
+    def test_abc_words(self):
+        path, _ = self.convert("INPUT(a)\nOUTPUT(q)\nq = DFFRSE( d, gnd, gnd, gnd, gnd )\none = vdd\nd = LUT 0x6 ( a, q )\nz = LUT 0x8 ( a, one )\n", "x.bench")
+        self.assertEqual(path.name, "x-diag.bench")
+        self.assertEqual(path.read_text().split("\n")[1:], ["INPUT(a)", "OUTPUT(q)", "q = DFF(d)", "d = XOR(a, q)", "z = BUFF(a)", ""])
+
+    def test_command(self):
+        words = [sys.executable, "-m", "diag_client.netlist", VERILOG / "gray.blif", "-o", self.folder / "gray.bench"]
+        done = subprocess.run(words, capture_output=True, text=True, env={**os.environ, "PYTHONPATH": str(TOP / "python")}, check=True)
+        self.assertIn("14 gates, 3 flip-flops, 2 inputs\n", done.stdout)
+
+    def test_docstrings(self):
+        for module in (netlist, netlist_circuit, netlist_readers):
+            self.assertEqual(doctest.testmod(module).failed, 0)
+
+    def test_odd_files(self):
+        for name in ("empty.blif", "binary.blif", "binary.bench", "binary.json", "folder.bench", "other.v", "nowhere.blif"):
+            path = self.folder / name
+            if "folder" in name:
+                path.mkdir()
+            elif "nowhere" not in name:
+                path.write_bytes(b"" if "empty" in name else b"\xff\x00\n(\n")
+            with contextlib.redirect_stderr(io.StringIO()) as said:
+                self.assertEqual(netlist.main([str(path)]), 1)
+            self.assertIn(name, said.getvalue())
+            self.assertNotIn("Errno", said.getvalue())
+
+    def test_connections_in_a_ring(self):
+        circuit = read_blif(".model m\n.inputs a\n.outputs y\n.names y z\n1 1\n.names z y\n1 1\n.end\n")
+        self.assertIsInstance(circuit, Circuit)
+        with self.assertRaisesRegex(UnusableNetlist, "nothing drives"):
+            circuit.settle()
+
+
+if __name__ == "__main__":
+    unittest.main()

@@ -1,18 +1,18 @@
 -- The least cost at which a node is true, from those of its kids.
-use Rattle.std.proofs.Common.{◌≡◌, ℕ, ◌+◌, ◌<◌, ◌≤◌, Bool, true, false, cond, ◌&&◌, ◌||◌, Option, Some, None, refl, ap, sym, ◌∙◌, subst, arith, eqb, inl, inr}
+use Rattle.std.proofs.Common.{◌≡◌, ℕ, ◌+◌, ◌<◌, ◌≤◌, min, Bool, true, false, cond, ◌&&◌, ◌||◌, Option, Some, None, refl, ap, sym, ◌∙◌, subst, arith, eqb, inl, inr, ⊎_elim}
 use Rattle.std.specs.Prelude.{◌⊎◌}
-use Rattle.std.proofs.lemmas.Bool.{and_parts, or_left, or_right, eq-eqb, false≢true}
+use Rattle.std.proofs.lemmas.Bool.{cases_lt, and_parts, or_left, or_right, eq-eqb, false≢true}
 use Rattle.state_rules.specs.Bits.{same_bit}
 use Rattle.state_rules.specs.Cases.{agrees_at}
 use Rattle.state_rules.specs.Assignments.{Assignment}
 use Rattle.state_rules.proofs.Cases.{usual_bit}
 use Rattle.state_rules.proofs.Members.{AtMost}
 use Rattle.conditioner.specs.Words.{leaf_of}
-use Rattle.node_costs.specs.Costs.{Prices, weigh, Depends, TestCost, SumOf, IsLeast}
+use Rattle.node_costs.specs.Costs.{Weights, cost_among, Depends, TestCost, SumOf, IsLeast}
 use Rattle.node_costs.specs.Costs as of
-use Rattle.node_costs.proofs.Weighing.{Free, Ends, weigh-le, join, joined-le, cost-none, cost-literal, literal-costs}
+use Rattle.node_costs.proofs.Conditions.{Free, OnlyParts, cost_among-le, cost-none, cost-literal, literal-costs}
 use Rattle.node_costs.proofs.Tests.{cost-any, any-costs, cost-all, all-costs, depends-any, depends-all}
-use Rattle.node_costs.proofs.Sets.{least-low, least-has, least-same, least-or, least-sum, least-wider}
+use Rattle.node_costs.proofs.Sets.{least-low, least-has, least-same, least-wider}
 use Rattle.minimiser.specs.Costs.{add_costs, min_costs, literal_cost}
 
 -- an open variable that is false costs what its part does
@@ -22,8 +22,8 @@ fault None cost true = 0
 fault (Some b) cost x = 0
 
 -- what is known of each variable, what it costs where it is false, and how many variables there are whose cost may not be 0
-abbrev pub opens : (ℕ → Option Bool) → (ℕ → ℕ) → ℕ → Prices
-opens known cost parts = record { known = known; price = λ v b. fault (known v) (cost v) b; parts = parts }
+abbrev pub open_weights : (ℕ → Option Bool) → (ℕ → ℕ) → ℕ → Weights
+open_weights known cost parts = record { known = known; weight = λ v b. fault (known v) (cost v) b; parts = parts }
 
 pub AtMost-min_left : (c d : Option ℕ) (n : ℕ) → AtMost c n → AtMost (min_costs c d) n
 AtMost-min_left None d n h = absurd h
@@ -58,33 +58,57 @@ from_add None d n e = absurd (cc)
 from_add (Some c) None n e = absurd (cc)
 from_add (Some c) (Some d) n e = record { left = c; right = d; left_is = refl; right_is = refl; sum_is = cc }
 
+-- ---- the least of some costs, and of others
+
+module _ (C D : ℕ → Type 0) where
+  pub least-or : (c d : Option ℕ) → IsLeast C c → IsLeast D d → IsLeast (λ n. C n ⊎ D n) (min_costs c d)
+  least-or None None h g = λ n s. ⊎_elim (h n) (g n) s
+  least-or None (Some d) h g = (inr g.0, λ n s. ⊎_elim (λ x. absurd (h n x)) (g.1 n) s)
+  least-or (Some c) None h g = (inl h.0, λ n s. ⊎_elim (h.1 n) (λ y. absurd (g n y)) s)
+  least-or (Some c) (Some d) h g = (
+    ⊎_elim
+        (λ (p : c < d). inl (let same : c ≡ min c d = omega arith in subst C same h.0))
+        (λ (p : d ≤ c). inr (let same : d ≡ min c d = omega arith in subst D same g.0)) (cases_lt c d),
+    λ n s. ⊎_elim (λ x. omega (arith, h.1 n x)) (λ y. omega (arith, g.1 n y)) s,
+  )
+
+  pub least-sum : (c d : Option ℕ) → IsLeast C c → IsLeast D d → IsLeast (SumOf C D) (add_costs c d)
+  least-sum None d h g = λ n s. h s.left s.on_left
+  least-sum (Some c) None h g = λ n s. g s.right s.on_right
+  least-sum (Some c) (Some d) h g = (
+    record { left = c; right = d; on_left = h.0; on_right = g.0; sum_is = refl },
+    λ n s. omega (arith, h.1 s.left s.on_left, g.1 s.right s.on_right, s.sum_is),
+  )
+
+-- ---- the nodes
+
 -- a literal costs what its bit does, where that is allowed
-literal_price : (positive : Bool) (k : Option Bool) (w : ℕ) → literal_cost (leaf_of positive k) w positive ≡ cond (agrees_at k positive) (Some (fault k w positive)) None
-literal_price true None w = refl
-literal_price false None w = refl
-literal_price true (Some true) w = refl
-literal_price true (Some false) w = refl
-literal_price false (Some true) w = refl
-literal_price false (Some false) w = refl
+literal_weight : (positive : Bool) (k : Option Bool) (w : ℕ) → literal_cost (leaf_of positive k) w positive ≡ cond (agrees_at k positive) (Some (fault k w positive)) None
+literal_weight true None w = refl
+literal_weight false None w = refl
+literal_weight true (Some true) w = refl
+literal_weight true (Some false) w = refl
+literal_weight false (Some true) w = refl
+literal_weight false (Some false) w = refl
 
 module _ (known : ℕ → Option Bool) (cost : ℕ → ℕ) (parts : ℕ) where
-  abbrev g : Prices
-  g = opens known cost parts
+  abbrev g : Weights
+  g = open_weights known cost parts
 
   abbrev pub Agrees : Assignment → Type 0
-  Agrees a = of.Agrees (opens known cost parts) a
+  Agrees a = of.Agrees (open_weights known cost parts) a
 
   abbrev pub faults_in : (ℕ → Bool) → Assignment → ℕ
-  faults_in m a = weigh (opens known cost parts) m a
+  faults_in m a = cost_among (open_weights known cost parts) m a
 
   abbrev pub all_faults : Assignment → ℕ
-  all_faults a = weigh (opens known cost parts) (λ v. true) a
+  all_faults a = cost_among (open_weights known cost parts) (λ v. true) a
 
   -- among more variables there are no fewer
   pub faults_in-le : (m o : ℕ → Bool) (a : Assignment) → ((v : ℕ) → m v ≡ true → o v ≡ true) → faults_in m a ≤ faults_in o a
-  faults_in-le m o a h = weigh-le g m o a h
+  faults_in-le m o a h = cost_among-le g m o a h
 
-  pub free : Free (opens known cost parts)
+  pub free : Free (open_weights known cost parts)
   free v = usual_cost (known v) where
     usual_cost : (k : Option Bool) → fault k (cost v) (usual_bit k) ≡ 0
     usual_cost None = refl
@@ -98,7 +122,7 @@ module _ (known : ℕ → Option Bool) (cost : ℕ → ℕ) (parts : ℕ) where
 
   -- The cost is the least at which the node is true: t is its truth, and m says which variables it mentions.
   pub record IsLeastCost (t : Assignment → Bool) (m : ℕ → Bool) (c : Option ℕ) : Type 0 where
-    pub least : IsLeast (TestCost (opens known cost parts) m t) c
+    pub least : IsLeast (TestCost (open_weights known cost parts) m t) c
     pub local : Depends m t
 
   -- so it is a bound, and is reached
@@ -111,7 +135,7 @@ module _ (known : ℕ → Option Bool) (cost : ℕ → ℕ) (parts : ℕ) where
   At t m n = TestCost g m t n
 
   -- over more variables it is the same
-  pub widened : (t : Assignment → Bool) (m o : ℕ → Bool) (c : Option ℕ) → ((v : ℕ) → m v ≡ true → o v ≡ true) → IsLeastCost t m c → IsLeast (TestCost (opens known cost parts) o t) c
+  pub widened : (t : Assignment → Bool) (m o : ℕ → Bool) (c : Option ℕ) → ((v : ℕ) → m v ≡ true → o v ≡ true) → IsLeastCost t m c → IsLeast (TestCost (open_weights known cost parts) o t) c
   widened t m o c within is = least-wider g free m o (λ a. t a ≡ true) within (λ a b h e. is.local a b h ∙ e) c is.least
 
   pub as_cost : (t : Assignment → Bool) (m : ℕ → Bool) (c : Option ℕ) → IsLeastCost t m c → IsCost t m c
@@ -149,8 +173,8 @@ module _ (known : ℕ → Option Bool) (cost : ℕ → ℕ) (parts : ℕ) where
 
   -- the cost of a literal, whose variable costs nothing where it is not among the parts'
   module _ (none : (v : ℕ) → ((1 ≤ v) → (v < 1 + parts) → ⊥) → cost v ≡ 0) where
-    pub ends : Ends (opens known cost parts)
-    ends v b out = no_cost (known v) b (none v out) where
+    pub only_parts : OnlyParts (open_weights known cost parts)
+    only_parts v b out = no_cost (known v) b (none v out) where
       no_cost : (k : Option Bool) (b : Bool) → cost v ≡ 0 → fault k (cost v) b ≡ 0
       no_cost None true e = refl
       no_cost None false e = e
@@ -158,32 +182,9 @@ module _ (known : ℕ → Option Bool) (cost : ℕ → ℕ) (parts : ℕ) where
 
     pub literal_is : (var : ℕ) (positive : Bool) → IsLeastCost (λ a. same_bit positive (a var)) (λ v. eqb var v) (literal_cost (leaf_of positive (known var)) (cost var) positive)
     literal_is var positive = record {
-      least = subst (IsLeast (At (λ a. same_bit positive (a var)) (λ v. eqb var v))) (sym (literal_price positive (known var) (cost var))) (by_test (agrees_at (known var) positive) refl);
+      least = subst (IsLeast (At (λ a. same_bit positive (a var)) (λ v. eqb var v))) (sym (literal_weight positive (known var) (cost var))) (by_test (agrees_at (known var) positive) refl);
       local = λ a b h. ap (same_bit positive) (h var (eq-eqb var var refl));
     } where
       by_test : (b : Bool) → agrees_at (known var) positive ≡ b → IsLeast (At (λ a. same_bit positive (a var)) (λ v. eqb var v)) (cond b (Some (fault (known var) (cost var) positive)) None)
-      by_test true e = (cost-literal g ends var positive _ (record { allowed = e; price_is = refl }), λ n x. omega (arith, (literal-costs g ends var positive n x).price_is))
-      by_test false e = λ n x. false≢true (sym e ∙ (literal-costs g ends var positive n x).allowed)
-
-  module _ (t u : Assignment → Bool) (m o : ℕ → Bool) (c d : Option ℕ) (is_t : IsCost t m c) (is_u : IsCost u o d) (apart : (v : ℕ) → (m v && o v) ≡ false) where
-    -- what one assignment makes of the one and another of the other
-    pub record Joins (a b : Assignment) : Type 0 where
-      pub by : Assignment
-      pub agrees : Agrees by
-      pub left : t by ≡ true
-      pub right : u by ≡ true
-      pub cheap : all_faults by ≤ all_faults a + all_faults b
-      pub as_left : (v : ℕ) → m v ≡ true → by v ≡ a v
-      pub as_right : (v : ℕ) → o v ≡ true → by v ≡ b v
-
-    pub joins : (a b : Assignment) → Agrees a → Agrees b → t a ≡ true → u b ≡ true → Joins a b
-    joins a b ag bg p q =
-        let x = join g m o apart a b ag bg in record {
-          by = x.by;
-          agrees = x.agrees;
-          left = is_t.local x.by a x.as_left ∙ p;
-          right = is_u.local x.by b x.as_right ∙ q;
-          cheap = joined-le g m o (λ v. true) a b x;
-          as_left = x.as_left;
-          as_right = x.as_right;
-        }
+      by_test true e = (cost-literal g only_parts var positive _ (record { allowed = e; weight_is = refl }), λ n x. omega (arith, (literal-costs g only_parts var positive n x).weight_is))
+      by_test false e = λ n x. false≢true (sym e ∙ (literal-costs g only_parts var positive n x).allowed)

@@ -2,7 +2,7 @@
 use Rattle.std.proofs.Common.{◌≡◌, ℕ, zero, suc, ◌+◌, ◌-◌, ◌<◌, ◌≤◌, Bool, true, false, eqb, ◌&&◌, ◌||◌, List, [], ◌∷◌, map, length, Option, Some, None, refl, ap, sym, ◌∙◌, subst, arith, inl, inr, ⊎_elim}
 use Rattle.std.specs.Prelude.{slice_get}
 use Rattle.std.specs.List.{list_all, list_any}
-use Rattle.std.proofs.lemmas.Bool.{and_from, cases_lt, or_cases, false≢true, eqb-true, eq-eqb}
+use Rattle.std.proofs.lemmas.Bool.{and_from, cases_lt, or_cases, false≢true, eqb-true, eq-eqb, not-true, true_from_ne_false}
 use Rattle.std.proofs.lemmas.List.{get_or_past}
 use Rattle.std.proofs.lemmas.Option.{get_or_from_slice_get, slice_get_within, same_Some}
 use Rattle.state_rules.specs.Bits.{same_bit}
@@ -19,8 +19,8 @@ use Rattle.state_rules.proofs.Kids.{at_most_one-tail, not_both}
 use Rattle.state_rules.proofs.NodesFit.{fits-get, apart-get}
 use Rattle.conditioner.specs.Words.{leaf_of}
 use Rattle.minimiser.specs.Costs.{part_cost, known_at, cost_at, sum_costs, cheapest, node_cost, cost_by, literal_cost}
-use Rattle.node_costs.proofs.Weighing.{one_apart, weigh-apart, weigh-one}
-use Rattle.minimiser.proofs.Costs.{fault, opens, ends, as_cost, IsCost, Agrees, faults_in, faults_in-le, all_faults, and_left, and_right, joins, from_add, AtMost-min_left, AtMost-min_right}
+use Rattle.node_costs.proofs.Conditions.{one_apart, cost_among-apart, cost_among-one, join, joined-le}
+use Rattle.minimiser.proofs.Costs.{fault, open_weights, only_parts, as_cost, IsCost, Agrees, faults_in, faults_in-le, all_faults, and_left, and_right, from_add, AtMost-min_left, AtMost-min_right}
 pub use Rattle.node_costs.proofs.Nodes.{all-below}
 use Rattle.minimiser.proofs.Nodes as nodes
 use Rattle.minimiser.proofs.Whole.{part_cost-none}
@@ -149,14 +149,14 @@ module _ (graph : Graph) (words costs : List ℕ) (ok : IsGraph graph) where
   kids-by (j ∷ kids) apart k (inl q) d e x a h r s =
       let sum = from_add (C j) (SA kids) (r + d) s in
       let own : d ≡ sum.left = same_Some d sum.left (sym e ∙ ap C q ∙ sum.left_is) in
-      let b = (kids-cost kids (apart-tail j kids apart)).reached sum.right sum.right_is in
-      let y = joins kn price n (λ b. T b j) (TA kids) (λ v. M v j) (MA kids) (C j) (SA kids) (is_cost j) (kids-cost kids (apart-tail j kids apart)) (apart-both j kids apart) a b.by h.agrees b.agrees
-      (subst (λ i. T a i ≡ true) q h.holds) b.holds in
+      let rest = kids-cost kids (apart-tail j kids apart) in
+      let b = rest.reached sum.right sum.right_is in
+      let y = join (open_weights kn price n) (λ v. M v j) (MA kids) (apart-both j kids apart) a b.by h.agrees b.agrees in
       record {
         by = y.by;
         agrees = y.agrees;
-        holds = and_from _ _ y.left y.right;
-        cheap = omega (arith, y.cheap, h.cheap, b.cheap, sum.sum_is, own);
+        holds = and_from (T y.by j) (TA kids y.by) ((is_cost j).local y.by a y.as_left ∙ subst (λ i. T a i ≡ true) q h.holds) (rest.local y.by b.by y.as_right ∙ b.holds);
+        cheap = omega (arith, joined-le (open_weights kn price n) (λ v. M v j) (MA kids) (λ v. true) a b.by y, h.cheap, b.cheap, sum.sum_is, own);
         same = λ v m. y.as_left v (subst (λ i. M v i ≡ true) q m);
       }
   kids-by (j ∷ kids) apart k (inr m) d e x a h r s =
@@ -165,13 +165,12 @@ module _ (graph : Graph) (words costs : List ℕ) (ok : IsGraph graph) where
       let there : own.0 ≡ d = same_Some own.0 d (sym own.1 ∙ e) in
       let more = kids-by kids (apart-tail j kids apart) k m d e x a h (sum.right - d) (sum.right_is ∙ ap Some (omega (arith, own.2, there))) in
       let b = (is_cost j).reached sum.left sum.left_is in
-      let y = joins kn price n (λ b. T b j) (TA kids) (λ v. M v j) (MA kids) (C j) (SA kids) (is_cost j) (kids-cost kids (apart-tail j kids apart)) (apart-both j kids apart) b.by more.by b.agrees more.agrees
-      b.holds more.holds in
+      let y = join (open_weights kn price n) (λ v. M v j) (MA kids) (apart-both j kids apart) b.by more.by b.agrees more.agrees in
       record {
         by = y.by;
         agrees = y.agrees;
-        holds = and_from _ _ y.left y.right;
-        cheap = omega (arith, y.cheap, b.cheap, more.cheap, sum.sum_is, own.2, there);
+        holds = and_from (T y.by j) (TA kids y.by) ((is_cost j).local y.by b.by y.as_left ∙ b.holds) ((kids-cost kids (apart-tail j kids apart)).local y.by more.by y.as_right ∙ more.holds);
+        cheap = omega (arith, joined-le (open_weights kn price n) (λ v. M v j) (MA kids) (λ v. true) b.by more.by y, b.cheap, more.cheap, sum.sum_is, own.2, there);
         same = λ v t. y.as_right v (any-kid (M v) kids k m t) ∙ more.same v t;
       }
 
@@ -224,10 +223,7 @@ module _ (graph : Graph) (words costs : List ℕ) (ok : IsGraph graph) where
       let r = (is_cost k).reached (price var) is in
       let u = useful (price var) m is f in
       let x = extends-le k (u.0 + price var) m r.by (omega (arith, u.2)) (u.1 (price var) r.by (record { agrees = r.agrees; holds = r.holds; cheap = r.cheap })) in
-      record { by = x.by; achieves = x.achieves; at = x.same var (mention-at k _ e var ∙ eq-eqb var var refl) ∙ is_false (r.by var) (sym (true-at k _ e r.by) ∙ r.holds) } where
-        is_false : (b : Bool) → same_bit false b ≡ true → b ≡ false
-        is_false true q = absurd (cc)
-        is_false false q = refl
+      record { by = x.by; achieves = x.achieves; at = x.same var (mention-at k _ e var ∙ eq-eqb var var refl) ∙ not-true (r.by var) (sym (true-at k _ e r.by) ∙ r.holds) }
 
   -- ---- what costs more than it has to
 
@@ -248,10 +244,20 @@ module _ (graph : Graph) (words costs : List ℕ) (ok : IsGraph graph) where
       let there : TA kids a ≡ true = and_right (T a i) _ h in
       let low_here = subst (λ o. AtMost o (faults_in kn price n (λ v. M v i) a)) sum.left_is ((is_cost i).bound a ag here) in
       let low_there = subst (λ o. AtMost o (faults_in kn price n (MA kids) a)) sum.right_is ((kids-cost kids rest).bound a ag there) in
-      let all = weigh-apart (opens kn price n) (λ v. M v i) (MA kids) a (apart-both i kids apart) in
+      let all = cost_among-apart (open_weights kn price n) (λ v. M v i) (MA kids) a (apart-both i kids apart) in
       ⊎_elim
       (λ (q : j ≡ i). subst (λ x. KidExcess (i ∷ kids) c x a) (sym q) (record { holds = here; cost = sum.left; is = sum.left_is; excess = omega (arith, all, low_there, sum.sum_is) }))
       (λ (r : In j kids). let x = kid-excess a ag kids rest there sum.right sum.right_is j r in record { holds = x.holds; cost = x.cost; is = x.is; excess = omega (arith, all, low_here, x.excess, sum.sum_is) }) m
+
+  -- a true kid of an or that costs no more than it has to: it costs as much
+  pub or-kid : (a : Assignment) → Agrees kn price n a → (k : ℕ) (kids : List ℕ) (c : ℕ) → slice_get graph.nodes k ≡ Some (record { what = Or; kids = kids }) → C k ≡ Some c → faults_in kn price n (λ v. M v k) a ≤ c
+      → (j : ℕ) → In j kids → T a j ≡ true → C j ≡ Some c
+  or-kid a ag k kids c e is few j m h = by_cost (C j) refl ((is_cost j).bound a ag h) where
+    by_cost : (o : Option ℕ) → C j ≡ o → AtMost o (faults_in kn price n (λ v. M v j) a) → C j ≡ Some c
+    by_cost None q low = absurd low
+    by_cost (Some d) q low =
+        let most : c ≤ d = subst (λ o. AtMost o d) (sym (costs-at k _ e) ∙ is) (cheapest-kid C kids j d m q) in
+        q ∙ ap Some (omega (arith, low, few, most, faults_in-le kn price n (λ v. M v j) (λ v. M v k) a (λ v r. mention-at k _ e v ∙ any-kid (M v) kids j m r)))
 
   -- ---- from the root to a fault
 
@@ -260,9 +266,6 @@ module _ (graph : Graph) (words costs : List ℕ) (ok : IsGraph graph) where
 
   module _ (a : Assignment) (agree : Agrees (known_at words) (part_cost costs) (length costs) a) (p : ℕ) (low : 1 ≤ p) (high : p < 1 + length costs) (false_at : a p ≡ false)
       (dear : 0 < fault (known_at words p) (part_cost costs p) (a p)) where
-    abbrev fl : ℕ → ℕ
-    fl v = fault (kn v) (price v) (a v)
-
     abbrev faults : (ℕ → Bool) → ℕ
     faults m = faults_in kn price n m a
 
@@ -272,8 +275,8 @@ module _ (graph : Graph) (words costs : List ℕ) (ok : IsGraph graph) where
     -- variables among which the faulty one is cost more than those among which it is not
     pub faults-lt : (m o : ℕ → Bool) → ((v : ℕ) → m v ≡ true → o v ≡ true) → m p ≡ false → o p ≡ true → faults m < faults o
     faults-lt m o h e f =
-        let more = weigh-apart (opens kn price n) m (λ v. eqb p v) a (one_apart m p e) in
-        let own = weigh-one (opens kn price n) (ends kn price n (part_cost-none costs)) p a in
+        let more = cost_among-apart (open_weights kn price n) m (λ v. eqb p v) a (one_apart m p e) in
+        let own = cost_among-one (open_weights kn price n) (only_parts kn price n (part_cost-none costs)) p a in
         omega (arith, more, own, faults-le (λ v. m v || eqb p v) o both) where
           both : (v : ℕ) → (m v || eqb p v) ≡ true → o v ≡ true
           both v q = ⊎_elim (λ x. h v x) (λ x. ap o (sym (eqb-true _ _ x)) ∙ f) (or_cases (m v) (eqb p v) q)
@@ -290,10 +293,13 @@ module _ (graph : Graph) (words costs : List ℕ) (ok : IsGraph graph) where
       pub tight : faults_in (known_at words) (part_cost costs) (length costs) (λ v. mentions graph.nodes v k) a ≤ cost
 
     pub on-root : (c : ℕ) → C root ≡ Some c → T a root ≡ true → all_faults kn price n a ≤ c → OnFault root
-    on-root c e h cheap = record { holds = h; has = by_test (M p root) refl; cost = c; is = e; tight = omega (arith, faults-le (λ v. M v root) (λ v. true) (λ v q. refl)) } where
-      by_test : (b : Bool) → M p root ≡ b → b ≡ true
-      by_test true q = refl
-      by_test false q = absurd (omega (arith, bound-at root c h e, faults-lt (λ v. M v root) (λ v. true) (λ v r. refl) q refl))
+    on-root c e h cheap = record {
+      holds = h;
+      has = true_from_ne_false (M p root) (λ q. absurd (omega (arith, bound-at root c h e, faults-lt (λ v. M v root) (λ v. true) (λ v r. refl) q refl)));
+      cost = c;
+      is = e;
+      tight = omega (arith, faults-le (λ v. M v root) (λ v. true) (λ v q. refl));
+    }
 
     pub record KidOnFault (kids : List ℕ) : Type 0 where
       pub kid : ℕ
@@ -317,25 +323,22 @@ module _ (graph : Graph) (words costs : List ℕ) (ok : IsGraph graph) where
       pub on : OnFault kid
 
     on-or : (k : ℕ) (kids : List ℕ) → slice_get graph.nodes k ≡ Some (record { what = Or; kids = kids }) → (on : OnFault k) → CheapKid kids on.cost
-    on-or k kids e on = let j = kid-with (T a) kids (sym (true-at k _ e a) ∙ on.holds) in
-        by_cost j.item j.is_in j.passes (C j.item) refl ((is_cost j.item).bound a agree j.passes) where
-          by_cost : (j : ℕ) → In j kids → T a j ≡ true → (o : Option ℕ) → C j ≡ o → AtMost o (faults (λ v. M v j)) → CheapKid kids on.cost
-          by_cost j m h None q b = absurd b
-          by_cost j m h (Some d) q b =
-              let inside : (v : ℕ) → M v j ≡ true → M v k ≡ true = λ v r. mention-at k _ e v ∙ any-kid (M v) kids j m r in
-              let most : on.cost ≤ d = subst (λ o. AtMost o d) (sym (costs-at k _ e) ∙ on.is) (cheapest-kid C kids j d m q) in
-              let less = faults-le (λ v. M v j) (λ v. M v k) inside in
-              let cost_is : C j ≡ Some on.cost = q ∙ ap Some (omega (arith, b, less, on.tight, most)) in
-              record { kid = j; is_in = m; same = cost_is; on = record { holds = h; has = by_test (M p j) refl; cost = on.cost; is = cost_is; tight = omega (arith, less, on.tight) } } where
-                by_test : (x : Bool) → M p j ≡ x → x ≡ true
-                by_test true r = refl
-                by_test false r = absurd (omega (
-                  arith,
-                  b,
-                  on.tight,
-                  subst (λ o. AtMost o d) (sym (costs-at k _ e) ∙ on.is) (cheapest-kid C kids j d m q),
-                  faults-lt (λ v. M v j) (λ v. M v k) (λ v s. mention-at k _ e v ∙ any-kid (M v) kids j m s) r on.has,
-                ))
+    on-or k kids e on =
+        let j = kid-with (T a) kids (sym (true-at k _ e a) ∙ on.holds) in
+        let cost_is = or-kid a agree k kids on.cost e on.is on.tight j.item j.is_in j.passes in
+        let inside : (v : ℕ) → M v j.item ≡ true → M v k ≡ true = λ v r. mention-at k _ e v ∙ any-kid (M v) kids j.item j.is_in r in
+        record {
+          kid = j.item;
+          is_in = j.is_in;
+          same = cost_is;
+          on = record {
+            holds = j.passes;
+            has = true_from_ne_false (M p j.item) (λ r. absurd (omega (arith, bound-at j.item on.cost j.passes cost_is, on.tight, faults-lt (λ v. M v j.item) (λ v. M v k) inside r on.has)));
+            cost = on.cost;
+            is = cost_is;
+            tight = omega (arith, faults-le (λ v. M v j.item) (λ v. M v k) inside, on.tight);
+          };
+        }
 
     -- Marks that go from the root to all kids of an and and to the cheap kids of an or come to a literal that says faulty.
     module _ (Marked : ℕ → Type 0)

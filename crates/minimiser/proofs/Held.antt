@@ -32,10 +32,3 @@ pub full_cost-is : (costs : List ℕ) → total (part_cost costs) 1 (length cost
 full_cost-is costs = total_is (part_cost costs) 1 costs at_part where
   at_part : (i : ℕ) → i < length costs → part_cost costs (1 + i) ≡ get_or costs i 0
   at_part i h = let e : 1 + i ≡ suc i = omega arith in rw e refl
-
--- no part costs more than all together
-pub part_cost-le : (costs : List ℕ) (v : ℕ) → part_cost costs v ≤ total_cost costs
-part_cost-le costs zero = omega arith
-part_cost-le [] (suc i) = omega arith
-part_cost-le (c ∷ costs) (suc zero) = omega (arith, sum_by-cons (λ (x : ℕ). x) c costs)
-part_cost-le (c ∷ costs) (suc (suc i)) = omega (arith, part_cost-le costs (suc i), sum_by-cons (λ (x : ℕ). x) c costs)

@@ -5,13 +5,13 @@ use Rattle.state_rules.specs.Bits.{bit_in, lists_of_bits}
 use Rattle.state_rules.specs.Cases.{agrees_at}
 use Rattle.state_rules.specs.Ranking.{cost, least, least_with, is_at_most, states}
 use Rattle.state_rules.specs.Graphs.{Graph, holds}
-use Rattle.state_rules.proofs.Members.{In, In-filter, In-filtered, bits_in, bits_length, any_from, any_in, AtMost, AtMost-le, least-below, least-from}
+use Rattle.state_rules.proofs.Members.{In, In-filter, In-filtered, bits_in, bits_length, any_from, any_in}
 use Rattle.state_rules.proofs.Bits.{bit_in-front}
 use Rattle.conditioner.specs.Words.{known_of, word_of}
 use Rattle.conditioner.specs.Models.{has_model, fits_words, models, least_under, diagnoses_under}
 use Rattle.conditioner.proofs.FittingWords.{fits_words-at, fits_words-from}
+use Rattle.node_costs.proofs.States.{least-out, least-in}
 use Rattle.minimiser.proofs.Costs.{and_left, and_right}
-use Rattle.minimiser.proofs.Whole.{from_bounds}
 use Rattle.minimiser.specs.LeastStates.{ModelWithin, LeastState}
 
 -- a bit that agrees with a word
@@ -93,22 +93,23 @@ module _ (graph : Graph) (costs : List ℕ) (within : length costs ≤ graph.var
 
   -- no state that the words allow costs less
   pub least-low : (words : List ℕ) (most : ℕ) (h : List Bool) → LeastIs graph costs words most → length h ≡ length costs → has_model graph (fits_words words) (length costs) h ≡ true → most ≤ cost costs h
-  least-low words most h e l m = subst (λ o. AtMost o (cost costs h)) e
-      (least-below (cost costs) (has_model graph (fits_words words) (length costs)) h (states (length costs)) (subst (λ n. In h (lists_of_bits n)) l (bits_in h)) m)
+  least-low words most h e l m = (least-out costs (length costs) _ (Some most) e).1 (cost costs h) (record { state = h; long = l; passes = m; cost_is = refl })
 
   pub least-some : (words : List ℕ) (most : ℕ) → LeastIs graph costs words most → HasState graph words costs most
   least-some words most e =
-      let r = least-from (cost costs) (has_model graph (fits_words words) (length costs)) most (states (length costs)) e in
-      record { state = r.item; passes = record { long = bits_length (length costs) r.item r.is_in; model = r.passes; cheap = omega (arith, r.is_size) } }
+      let s = (least-out costs (length costs) _ (Some most) e).0 in
+      record { state = s.state; passes = record { long = s.long; model = s.passes; cheap = omega (arith, s.cost_is) } }
 
   -- a state that passes under words that say more shows that their least cost is the same
   pub least-refined : (old new : List ℕ) (most : ℕ) (h : List Bool) → length old ≡ graph.vars → Refines (length costs) old new → LeastIs graph costs old most → ModelWithin graph new costs most h → LeastIs graph costs new most
-  least-refined old new most h long r e p = from_bounds _ most
-      (AtMost-le _ (cost costs h) most
-      (least-below (cost costs) (has_model graph (fits_words new) (length costs)) h (states (length costs)) (subst (λ n. In h (lists_of_bits n)) p.long (bits_in h)) p.model) p.cheap)
-      (λ k f. let s = least-from (cost costs) (has_model graph (fits_words new) (length costs)) k (states (length costs)) f in
-      let t = ModelWithin-old old new k s.item long r (record { long = bits_length (length costs) s.item s.is_in; model = s.passes; cheap = omega (arith, s.is_size) }) in
-      omega (arith, least-low old most s.item e t.long t.model, s.is_size))
+  least-refined old new most h long r e p = least-in costs (length costs) (has_model graph (fits_words new) (length costs)) (Some most) (
+    record { state = h; long = p.long; passes = p.model; cost_is = omega (arith, p.cheap, low h p.long p.model) },
+    λ n s. omega (arith, low s.state s.long s.passes, s.cost_is),
+  ) where
+    low : (k : List Bool) → length k ≡ length costs → has_model graph (fits_words new) (length costs) k ≡ true → most ≤ cost costs k
+    low k l m =
+        let t = ModelWithin-old old new (cost costs k) k long r (record { long = l; model = m; cheap = omega arith }) in
+        least-low old most k e t.long t.model
 
 -- ---- the diagnoses
 

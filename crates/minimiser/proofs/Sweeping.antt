@@ -1,7 +1,7 @@
 -- Marks spread from the root. They say of each literal whether it is part of making the root true at its least cost.
 use Rattle.std.proofs.Common.{◌≡◌, ◌≢◌, ℕ, zero, suc, ◌+◌, ◌-◌, ◌<◌, ◌≤◌, Bool, true, false, cond, eqb, ◌&&◌, ◌||◌, List, [], ◌∷◌, length, get_or, min, All, Option, Some, None, refl, ap, sym, ◌∙◌, subst, arith, inl, inr, ⊎_elim}
 use Rattle.std.specs.Prelude.{◌⊎◌, ◌==◌, slice_get, nat_le, IsSome}
-use Rattle.std.proofs.lemmas.Bool.{and_from, cases_lt, eqb-true, eq-eqb, leb-true, le-leb, ltb-true, lt-ltb, cases_eq}
+use Rattle.std.proofs.lemmas.Bool.{and_from, cases_lt, eqb-true, eq-eqb, leb-true, le-leb, ltb-true, lt-ltb, cases_eq, false_from_ne_true, true_from_ne_false}
 use Rattle.std.proofs.lemmas.Option.{slice_get-get_or, slice_get_within, get_or_from_slice_get, same_Some}
 use Rattle.std.proofs.Math.Bool.{or-true}
 use Rattle.state_rules.specs.Bits.{bit_in}
@@ -22,10 +22,8 @@ use Rattle.minimiser.proofs.Costs.{fault, and_left, and_right}
 use Rattle.minimiser.proofs.Sums.{cost_in-some}
 use Rattle.minimiser.proofs.Whole.{AddHeld, least_is, state_of, assignment_of}
 use Rattle.minimiser.proofs.OnePass.{value_small, length-least_costs, kids_below, literal_at}
-pub use Rattle.minimiser.proofs.Derivations.{sum-kid}
-pub use Rattle.minimiser.proofs.Valued.{node_least, cost_in-is}
-use Rattle.minimiser.proofs.Valued as valued
-use Rattle.minimiser.proofs.Derivations.{cheapest-kid, Useful, useful-root, useful-and, useful-or, useful-literal, on-root, descend, costs-at, below, all-below}
+use Rattle.minimiser.proofs.Valued.{node_least, cost_in-is, value-is}
+use Rattle.minimiser.proofs.Derivations.{sum-kid, cheapest-kid, Useful, useful-root, useful-and, useful-or, useful-literal, on-root, descend, costs-at, below, all-below}
 use Rattle.minimiser.proofs.Models.{LeastIs}
 
 pub some-least : (o : Option ℕ) → IsSome o → (m : ℕ) × (o ≡ Some m)
@@ -42,10 +40,7 @@ mark-out v e = (leb-true _ _ (and_left _ _ e), ltb-true _ _ (and_right (nat_le 2
 
 -- a cost has no mark, and what stands for none has none
 no-mark : (v : ℕ) → IsValue v → has_mark v ≡ false
-no-mark v h = by_test (has_mark v) refl where
-  by_test : (b : Bool) → has_mark v ≡ b → b ≡ false
-  by_test true e = absurd (⊎_elim (λ (q : v < 2147483647). omega (arith, (mark-out v e).0)) (λ (q : v ≡ 4294967295). omega (arith, (mark-out v e).1)) h)
-  by_test false e = refl
+no-mark v h = false_from_ne_true (has_mark v) (λ e. ⊎_elim (λ (q : v < 2147483647). omega (arith, (mark-out v e).0)) (λ (q : v ≡ 4294967295). omega (arith, (mark-out v e).1)) h)
 
 unmarked-same : (v : ℕ) → has_mark v ≡ false → unmarked v ≡ v
 unmarked-same v e = λ i. cond (e i) (v - 2147483648) v
@@ -198,9 +193,6 @@ module _ (graph : Graph) (words costs : List ℕ) (ok : IsGraph graph) (long : l
   room : length cs ≡ length graph.nodes
   room = length-least_costs graph words costs cs v
 
-  pub value-is : (k : ℕ) → k < length graph.nodes → cost_in (get_or cs k 0) ≡ node_least graph words costs k
-  value-is k h = valued.value-is graph words costs cs v k h
-
   -- the least cost is that of the held parts and of the root
   pub record RootCost : Type 0 where
     pub cost : ℕ
@@ -215,7 +207,7 @@ module _ (graph : Graph) (words costs : List ℕ) (ok : IsGraph graph) (long : l
 
   pub root-low : get_or cs (length graph.nodes - 1) 0 < 2147483647
   root-low = ⊎_elim (λ q. q)
-      (λ q. absurd (cc (sym (value-is (length graph.nodes - 1) (omega (arith, ok.some))) ∙ ap cost_in q, root-cost.is)))
+      (λ q. absurd (cc (sym (value-is graph words costs cs v (length graph.nodes - 1) (omega (arith, ok.some))) ∙ ap cost_in q, root-cost.is)))
       (are-values graph words costs ok total cs v (length graph.nodes - 1) 0 (omega (arith, ok.some, room)))
 
   -- ---- after the sweep
@@ -223,7 +215,7 @@ module _ (graph : Graph) (words costs : List ℕ) (ok : IsGraph graph) (long : l
   module _ (xs : List ℕ) (s : IsSwept graph.nodes cs xs 0) where
     -- the cost of a marked node
     cost-of : (k : ℕ) → k < length graph.nodes → IsMarked xs k → node_least graph words costs k ≡ Some (get_or cs k 0)
-    cost-of k h m = sym (value-is k h) ∙ cost_in-some (get_or cs k 0) (λ e. absurd (omega (arith, (own-cost (get_or xs k 0) (get_or cs k 0) (s.kept k h) m).1)))
+    cost-of k h m = sym (value-is graph words costs cs v k h) ∙ cost_in-some (get_or cs k 0) (λ e. absurd (omega (arith, (own-cost (get_or xs k 0) (get_or cs k 0) (s.kept k h) m).1)))
 
     kid-useful : (p k : ℕ) → p < length graph.nodes → k < length graph.nodes → IsMarked xs p → IsMarked xs k → is_kid (node_at graph.nodes p).kids k ≡ true → get_or cs k 0 ≤ get_or cs p 0
         → Useful graph words costs ok p → Useful graph words costs ok k
@@ -291,8 +283,8 @@ module _ (graph : Graph) (words costs : List ℕ) (ok : IsGraph graph) (long : l
         let h : k < length graph.nodes = slice_get_within graph.nodes k node e in
         let earlier : j < k = all-below k node.kids j (below graph words costs ok k node e) i in
         let at : node_at graph.nodes k ≡ node = get_or_from_slice_get graph.nodes k node true_node e in
-        let own : get_or cs k 0 ≡ c = cost_in-is (get_or cs k 0) c (value-is k h ∙ f) in
-        let his : get_or cs j 0 ≡ d = cost_in-is (get_or cs j 0) d (value-is j (omega arith) ∙ g) in
+        let own : get_or cs k 0 ≡ c = cost_in-is (get_or cs k 0) c (value-is graph words costs cs v k h ∙ f) in
+        let his : get_or cs j 0 ≡ d = cost_in-is (get_or cs j 0) d (value-is graph words costs cs v j (omega arith) ∙ g) in
         s.down k j (omega arith) h m (omega arith) (subst (λ (n : Node). is_kid n.kids j ≡ true) (sym at) (kid-in node.kids j i)) (omega arith)
 
     -- where an open part is faulty in a state of least cost, a marked literal says so
@@ -370,10 +362,8 @@ module _ (graph : Graph) (words costs cs : List ℕ) (ok : IsGraph graph) (long 
     is-found dears part lt open_ h is q = let l = some-least (least_under graph words costs) some in suspect-found graph words costs ok long within total l.0 l.1 cs v xs s dears part lt open_ h is q
 
     pub ok-before : All (λ c. 0 < c) costs → (first at : ℕ) → at ≡ length graph.nodes → IsLeastSuspect (suspect_at graph.nodes words (length costs) xs) (length costs) at first → OkBelow graph words costs first
-    ok-before dears first at e f part lt open_ h is = by_bit (bit_in h part) refl where
-      by_bit : (b : Bool) → bit_in h part ≡ b → b ≡ true
-      by_bit true q = refl
-      by_bit false q = let x = is-found dears part (omega (arith, f.within)) open_ h is q in absurd (omega (arith, f.all x.0 part (omega (arith, x.1)) x.2))
+    ok-before dears first at e f part lt open_ h is = true_from_ne_false (bit_in h part)
+        (λ q. let x = is-found dears part (omega (arith, f.within)) open_ h is q in omega (arith, f.all x.0 part (omega (arith, x.1)) x.2))
 
     pub first-suspect : (first at : ℕ) → at ≡ length graph.nodes → IsLeastSuspect (suspect_at graph.nodes words (length costs) xs) (length costs) at first → first ≢ length costs → Suspect graph words costs first
     first-suspect first at e f ne = let x = f.found (omega (arith, f.within)) in is-suspect x.0 first (omega (arith, x.1)) x.2

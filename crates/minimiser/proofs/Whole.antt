@@ -17,11 +17,11 @@ use Rattle.conditioner.specs.Models.{has_model, fits_words, models}
 use Rattle.conditioner.proofs.FittingWords.{fits_words-at, fits_words-from}
 use Rattle.minimiser.specs.Costs.{part_cost, known_at, cost_at, node_cost}
 use Rattle.minimiser.specs.inner.Held.{held_one, held_cost}
-use Rattle.node_costs.specs.Costs.{total, CostOf, StateCost}
-use Rattle.node_costs.proofs.Sets.{least-more, least-one}
+use Rattle.node_costs.specs.Costs.{total, TestCost, StateCost}
+use Rattle.node_costs.proofs.Sets.{least-more}
 use Rattle.node_costs.proofs.Totals.{total-add}
-use Rattle.node_costs.proofs.States.{cost-total, least-passing}
-use Rattle.minimiser.proofs.Costs.{fault, opens, widened, IsLeastCost, Agrees, all_faults, and_left, and_right}
+use Rattle.node_costs.proofs.States.{cost-total, least-in}
+use Rattle.minimiser.proofs.Costs.{fault, open_weights, widened, IsLeastCost, Agrees, all_faults, and_left, and_right}
 use Rattle.minimiser.proofs.Nodes.{is_cost}
 
 -- ---- the cost of a state
@@ -66,10 +66,6 @@ bit_in-bits_from a s (suc n) (suc i) h = bit_in-bits_from a (s + 1) n i (omega a
 
 abbrev pub AddHeld : ℕ → Option ℕ → Option ℕ
 AddHeld held c = option_map (λ n. held + n) c
-
-pub le_cond : (b : Bool) (n : ℕ) → cond b n 0 ≤ n
-le_cond true n = omega arith
-le_cond false n = omega arith
 
 pub from_bounds : (o : Option ℕ) (n : ℕ) → AtMost o n → ((k : ℕ) → o ≡ Some k → n ≤ k) → o ≡ Some n
 from_bounds None n h low = absurd h
@@ -162,14 +158,9 @@ module _ (graph : Graph) (words costs : List ℕ) (ok : IsGraph graph) (long : l
 
   -- The least cost of a model is that of the held parts and of the root.
   pub least_is : least costs (models graph words (length costs)) ≡ AddHeld held root_cost
-  least_is = least-one States (least costs (models graph words (length costs))) (AddHeld held root_cost) (least-passing costs (length costs) model)
-      (least-more (CostOf (opens kn price (length costs)) (λ v. true) (λ a. truth_of a ≡ true)) States held
+  least_is = least-in costs (length costs) (has_model graph (fits_words words) (length costs)) (AddHeld held root_cost)
+      (least-more (TestCost (open_weights kn price (length costs)) (λ v. true) truth_of) (StateCost costs (length costs) (has_model graph (fits_words words) (length costs))) held
       (λ n c. let s = state_of c.by c.agrees c.meets in record { state = s.state; long = s.long_state; passes = s.model; cost_is = s.cost_is ∙ ap (λ k. held + k) c.cost_is })
       (λ n s. let a = assignment_of s.state s.long s.passes in
       (all_faults kn price (length costs) a.by, record { by = a.by; agrees = a.agrees; meets = a.holds; cost_is = refl }, sym a.cost_is ∙ s.cost_is))
-      root_cost (widened kn price (length costs) truth_of (λ v. mentions graph.nodes v root) (λ v. true) root_cost (λ v p. refl) root_is)) where
-        model : List Bool → Bool
-        model = has_model graph (fits_words words) (length costs)
-
-        States : ℕ → Type 0
-        States = StateCost costs (length costs) (has_model graph (fits_words words) (length costs))
+      root_cost (widened kn price (length costs) truth_of (λ v. mentions graph.nodes v root) (λ v. true) root_cost (λ v p. refl) root_is))

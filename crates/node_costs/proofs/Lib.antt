@@ -1,5 +1,5 @@
 pub mod Totals
-pub mod Weighing
+pub mod Conditions
 pub mod Sets
 pub mod States
 pub mod Tests

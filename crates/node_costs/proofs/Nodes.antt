@@ -13,7 +13,7 @@ use Rattle.state_rules.proofs.Kids.{at_most_one-tail, not_both, each_below}
 use Rattle.state_rules.proofs.Members.{In}
 use Rattle.state_rules.proofs.NodeValues.{are_below, value_of-at}
 use Rattle.state_rules.proofs.NodesFit.{fits-at, each_apart}
-use Rattle.node_costs.proofs.Weighing.{Apart}
+use Rattle.node_costs.proofs.Conditions.{Apart}
 use Rattle.node_costs.proofs.Tests.{same_tests}
 
 pub all-below : (n : ℕ) (kids : List ℕ) (k : ℕ) → are_below n kids ≡ true → In k kids → k < n

@@ -1,12 +1,12 @@
 -- The least of some costs, and rows of bits that tell them.
-use Rattle.std.proofs.Common.{◌≡◌, ℕ, ◌+◌, ◌-◌, ◌<◌, ◌≤◌, min, Bool, true, false, ◌&&◌, ◌||◌, Option, Some, None, refl, ap, sym, ◌∙◌, subst, arith, inl, inr, ⊎_elim}
+use Rattle.std.proofs.Common.{◌≡◌, ℕ, ◌+◌, ◌-◌, ◌<◌, ◌≤◌, Bool, true, false, ◌&&◌, ◌||◌, Option, Some, None, refl, ap, sym, ◌∙◌, subst, arith, inl, inr, ⊎_elim}
 use Rattle.std.specs.Prelude.{◌⊎◌, ◌==◌, nat_le, option_map}
-use Rattle.std.proofs.lemmas.Bool.{cases_lt, and_parts, and_from, or_cases, or_left, or_right, le-leb, leb-true, eqb-true, eq-eqb, false≢true}
+use Rattle.std.proofs.lemmas.Bool.{and_parts, and_from, or_cases, or_left, or_right, le-leb, leb-true, eqb-true, eq-eqb, false≢true}
 use Rattle.state_rules.specs.Cases.{agrees_at}
 use Rattle.state_rules.proofs.Members.{AtMost}
 use Rattle.state_rules.specs.Assignments.{Assignment}
-use Rattle.node_costs.specs.Costs.{Prices, weigh, Local, CostOf, SumOf, IsLeast, IsRow, add_costs, min_costs}
-use Rattle.node_costs.proofs.Weighing.{IsBit, Free, weigh-le, cost-wider}
+use Rattle.node_costs.specs.Costs.{Weights, cost_among, Local, CostOf, SumOf, IsLeast, IsRow}
+use Rattle.node_costs.proofs.Conditions.{LiteralCost, Free, cost_among-le, cost-wider}
 
 -- ---- the least
 
@@ -34,34 +34,15 @@ pub least-same : (C D : ℕ → Type 0) → ((n : ℕ) → C n → D n) → ((n 
 least-same C D to from c h = least-as C D to (λ n y. (n, from n y, omega arith)) c h
 
 module _ (C D : ℕ → Type 0) where
-  pub least-or : (c d : Option ℕ) → IsLeast C c → IsLeast D d → IsLeast (λ n. C n ⊎ D n) (min_costs c d)
-  least-or None None h g = λ n s. ⊎_elim (h n) (g n) s
-  least-or None (Some d) h g = (inr g.0, λ n s. ⊎_elim (λ x. absurd (h n x)) (g.1 n) s)
-  least-or (Some c) None h g = (inl h.0, λ n s. ⊎_elim (h.1 n) (λ y. absurd (g n y)) s)
-  least-or (Some c) (Some d) h g = (
-    ⊎_elim
-        (λ (p : c < d). inl (let same : c ≡ min c d = omega arith in subst C same h.0))
-        (λ (p : d ≤ c). inr (let same : d ≡ min c d = omega arith in subst D same g.0)) (cases_lt c d),
-    λ n s. ⊎_elim (λ x. omega (arith, h.1 n x)) (λ y. omega (arith, g.1 n y)) s,
-  )
-
-  pub least-sum : (c d : Option ℕ) → IsLeast C c → IsLeast D d → IsLeast (SumOf C D) (add_costs c d)
-  least-sum None d h g = λ n s. h s.left s.on_left
-  least-sum (Some c) None h g = λ n s. g s.right s.on_right
-  least-sum (Some c) (Some d) h g = (
-    record { left = c; right = d; on_left = h.0; on_right = g.0; sum_is = refl },
-    λ n s. omega (arith, h.1 s.left s.on_left, g.1 s.right s.on_right, s.sum_is),
-  )
-
   -- costs that are all greater by so much
   pub least-more : (more : ℕ) → ((n : ℕ) → C n → D (more + n)) → ((n : ℕ) → D n → (k : ℕ) × C k × (more + k ≡ n)) → (c : Option ℕ) → IsLeast C c → IsLeast D (option_map (λ n. more + n) c)
   least-more more to from None h = λ n y. let x = from n y in h x.0 x.1
   least-more more to from (Some c) h = (to c h.0, λ n y. let x = from n y in omega (arith, h.1 x.0 x.1, x.2))
 
 -- over more variables it is the same
-pub least-wider : (g : Prices) → Free g → (m o : ℕ → Bool) (P : Assignment → Type 0) → ((v : ℕ) → m v ≡ true → o v ≡ true) → Local m P → (c : Option ℕ) → IsLeast (CostOf g m P) c → IsLeast (CostOf g o P) c
+pub least-wider : (g : Weights) → Free g → (m o : ℕ → Bool) (P : Assignment → Type 0) → ((v : ℕ) → m v ≡ true → o v ≡ true) → Local m P → (c : Option ℕ) → IsLeast (CostOf g m P) c → IsLeast (CostOf g o P) c
 least-wider g free m o P within on_p c h = least-as (CostOf g m P) (CostOf g o P) (cost-wider g free m o P within on_p)
-    (λ n x. (weigh g m x.by, record { by = x.by; agrees = x.agrees; meets = x.meets; cost_is = refl }, omega (arith, weigh-le g m o x.by within, x.cost_is))) c h
+    (λ n x. (cost_among g m x.by, record { by = x.by; agrees = x.agrees; meets = x.meets; cost_is = refl }, omega (arith, cost_among-le g m o x.by within, x.cost_is))) c h
 
 -- ---- rows of bits
 
@@ -84,10 +65,6 @@ module _ (limit : ℕ) where
   pub row-as : (has : ℕ → Bool) (C D : ℕ → Type 0) → ((n : ℕ) → C n → D n) → ((n : ℕ) → D n → C n) → IsRow has limit C → IsRow has limit D
   row-as has C D to from is = record { sound = λ n lt e. to n (is.sound n lt e); whole = λ n lt y. is.whole n lt (from n y) }
 
-  -- or in one with the same bits
-  pub row-same : (old has : ℕ → Bool) (C : ℕ → Type 0) → ((n : ℕ) → n < limit → has n ≡ old n) → IsRow old limit C → IsRow has limit C
-  row-same old has C same is = record { sound = λ n lt e. is.sound n lt (sym (same n lt) ∙ e); whole = λ n lt x. same n lt ∙ is.whole n lt x }
-
   pub row-or : (left right has : ℕ → Bool) (C D : ℕ → Type 0) → ((n : ℕ) → n < limit → has n ≡ (left n || right n)) → IsRow left limit C → IsRow right limit D → IsRow has limit (λ n. C n ⊎ D n)
   row-or left right has C D joined is_c is_d = record {
     sound = λ n lt e. ⊎_elim (λ p. inl (is_c.sound n lt p)) (λ p. inr (is_d.sound n lt p)) (or_cases _ _ (sym (joined n lt) ∙ e));
@@ -104,17 +81,17 @@ module _ (limit : ℕ) where
   }
 
   -- a bit of a variable more, where it is allowed
-  pub row-bit : (g : Prices) (var : ℕ) (bit : Bool) (left : ℕ → Bool) (C : ℕ → Type 0) → IsRow left limit C
-      → IsRow (λ n. agrees_at (g.known var) bit && (nat_le (g.price var bit) n && left (n - g.price var bit))) limit (SumOf C (IsBit g var bit))
+  pub row-bit : (g : Weights) (var : ℕ) (bit : Bool) (left : ℕ → Bool) (C : ℕ → Type 0) → IsRow left limit C
+      → IsRow (λ n. agrees_at (g.known var) bit && (nat_le (g.weight var bit) n && left (n - g.weight var bit))) limit (SumOf C (LiteralCost g var bit))
   row-bit g var bit left C is = record {
     sound = λ n lt e.
         let p = and_parts (agrees_at (g.known var) bit) (nat_le more n && left (n - more)) e in
         let q = and_parts (nat_le more n) (left (n - more)) p.1 in
-        record { left = n - more; right = more; on_left = is.sound (n - more) (omega arith) q.1; on_right = record { allowed = p.0; price_is = refl }; sum_is = omega (arith, leb-true more n q.0) };
+        record { left = n - more; right = more; on_left = is.sound (n - more) (omega arith) q.1; on_right = record { allowed = p.0; weight_is = refl }; sum_is = omega (arith, leb-true more n q.0) };
     whole = λ n lt s.
-        let price = s.on_right.price_is in
-        let back : s.left ≡ n - more = omega (arith, price, s.sum_is) in
-        and_from _ _ s.on_right.allowed (and_from _ _ (le-leb more n (omega (arith, price, s.sum_is))) (ap left (sym back) ∙ is.whole s.left (omega (arith, s.sum_is)) s.on_left));
+        let own = s.on_right.weight_is in
+        let back : s.left ≡ n - more = omega (arith, own, s.sum_is) in
+        and_from _ _ s.on_right.allowed (and_from _ _ (le-leb more n (omega (arith, own, s.sum_is))) (ap left (sym back) ∙ is.whole s.left (omega (arith, s.sum_is)) s.on_left));
   } where
     more : ℕ
-    more = g.price var bit
+    more = g.weight var bit

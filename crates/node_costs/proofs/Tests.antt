@@ -5,15 +5,15 @@ use Rattle.std.proofs.lemmas.Bool.{and_parts, and_from, or_cases, or_left, or_ri
 use Rattle.state_rules.specs.Assignments.{Assignment}
 use Rattle.state_rules.specs.Bits.{same_bit}
 use Rattle.state_rules.specs.Cases.{agrees_at}
-use Rattle.node_costs.specs.Costs.{Prices, Agrees, TestCost, CostOf, SumOf, IsRow, Depends}
-use Rattle.node_costs.proofs.Weighing.{Apart, Ends, literal-costs, cost-literal, cost-as, cost-to, cost-or, or-costs, cost-and, and-costs}
+use Rattle.node_costs.specs.Costs.{Weights, Agrees, TestCost, CostOf, SumOf, IsRow, Depends}
+use Rattle.node_costs.proofs.Conditions.{Apart, OnlyParts, literal-costs, cost-literal, cost-as, cost-to, cost-or, or-costs, cost-and, and-costs}
 use Rattle.node_costs.proofs.Sets.{row-as, row-one}
 
 -- what holds of a test and of variables holds of others that are the same
 pub same_tests : (Is : (Assignment → Bool) → (ℕ → Bool) → Type 0) {t u : Assignment → Bool} {m o : ℕ → Bool} → ((a : Assignment) → t a ≡ u a) → ((v : ℕ) → m v ≡ o v) → Is t m → Is u o
 same_tests Is e f is = subst (λ (p : (Assignment → Bool) × (ℕ → Bool)). Is p.0 p.1) (λ i. ((λ a. e a i), (λ v. f v i))) is
 
-module _ (g : Prices) (t u : Assignment → Bool) where
+module _ (g : Weights) (t u : Assignment → Bool) where
   -- ---- one of two
 
   pub cost-any : (m : ℕ → Bool) (n : ℕ) → TestCost g m t n ⊎ TestCost g m u n → TestCost g m (λ a. t a || u a) n
@@ -41,12 +41,12 @@ module _ (g : Prices) (t u : Assignment → Bool) where
 
 -- ---- rows
 
-module _ (g : Prices) (limit : ℕ) (has : ℕ → Bool) where
+module _ (g : Weights) (limit : ℕ) (has : ℕ → Bool) where
   -- a condition that says the same, of variables that are the same as far as they are parts'
   pub row-cost : (m o : ℕ → Bool) (P Q : Assignment → Type 0) → ((a : Assignment) → Agrees g a → P a → Q a) → ((a : Assignment) → Agrees g a → Q a → P a) → ((v : ℕ) → 1 ≤ v → v < 1 + g.parts → m v ≡ o v)
       → IsRow has limit (CostOf g m P) → IsRow has limit (CostOf g o Q)
   row-cost m o P Q to from same is = row-as limit has _ _ (cost-as g m o P Q to same) (cost-as g o m Q P from (λ v l h. sym (same v l h))) is
 
   -- a literal that is allowed
-  pub row-literal : Ends g → (var : ℕ) (bit : Bool) → agrees_at (g.known var) bit ≡ true → ((n : ℕ) → n < limit → has n ≡ (n == g.price var bit)) → IsRow has limit (TestCost g (λ v. var == v) (λ a. same_bit bit (a var)))
-  row-literal ends var bit allowed one = row-one limit has _ (g.price var bit) (cost-literal g ends var bit (g.price var bit) (record { allowed = allowed; price_is = refl })) (λ n c. sym (literal-costs g ends var bit n c).price_is) one
+  pub row-literal : OnlyParts g → (var : ℕ) (bit : Bool) → agrees_at (g.known var) bit ≡ true → ((n : ℕ) → n < limit → has n ≡ (n == g.weight var bit)) → IsRow has limit (TestCost g (λ v. var == v) (λ a. same_bit bit (a var)))
+  row-literal only_parts var bit allowed one = row-one limit has _ (g.weight var bit) (cost-literal g only_parts var bit (g.weight var bit) (record { allowed = allowed; weight_is = refl })) (λ n c. sym (literal-costs g only_parts var bit n c).weight_is) one

@@ -1,13 +1,13 @@
 -- What an assignment costs, and the costs at which a condition can be met.
-use Rattle.std.specs.Prelude.{◌≡◌, ℕ, zero, suc, ◌+◌, ◌<◌, ◌≤◌, min, Bool, true, List, length, Option, Some, None, if◌then◌else◌}
+use Rattle.std.specs.Prelude.{◌≡◌, ℕ, zero, suc, ◌+◌, ◌<◌, ◌≤◌, Bool, true, List, length, Option, Some, None, if◌then◌else◌}
 use Rattle.state_rules.specs.Assignments.{Assignment}
 use Rattle.state_rules.specs.Cases.{agrees_at}
 use Rattle.state_rules.specs.Ranking.{Test, cost}
 
--- what is known of each variable, what each bit of it costs, and how many variables cost something, from the first on
-pub record Prices : Type 0 where
+-- what is known of each variable, the weight of each literal, and how many variables have weights, from the first on
+pub record Weights : Type 0 where
   pub known : ℕ → Option Bool
-  pub price : ℕ → Bool → ℕ
+  pub weight : ℕ → Bool → ℕ
   pub parts : ℕ
 
 -- the sum over so many variables, from a first one on
@@ -15,32 +15,32 @@ abbrev pub total : (ℕ → ℕ) → ℕ → ℕ → ℕ
 total f a zero = 0
 total f a (suc n) = f a + total f (a + 1) n
 
--- what an assignment costs in some variables
-abbrev pub weigh : Prices → (ℕ → Bool) → Assignment → ℕ
-weigh g m a = total (λ v. if m v then g.price v (a v) else 0) 1 g.parts
+-- what an assignment costs among some variables: the weights of its literals of them
+abbrev pub cost_among : Weights → (ℕ → Bool) → Assignment → ℕ
+cost_among g m a = total (λ v. if m v then g.weight v (a v) else 0) 1 g.parts
 
--- it agrees with what is known
-abbrev pub Agrees : Prices → Assignment → Type 0
+-- an assignment agrees with what is known
+abbrev pub Agrees : Weights → Assignment → Type 0
 Agrees g a = (v : ℕ) → agrees_at (g.known v) (a v) ≡ true
 
--- a condition that depends on some variables alone
+-- a condition depends on some variables alone
 abbrev pub Local : (ℕ → Bool) → (Assignment → Type 0) → Type 0
 Local m P = (a b : Assignment) → ((v : ℕ) → m v ≡ true → a v ≡ b v) → P b → P a
 
--- The costs of a condition: some assignment that agrees with what is known meets it, and costs so much in some variables.
-pub record CostOf (g : Prices) (m : ℕ → Bool) (P : Assignment → Type 0) (n : ℕ) : Type 0 where
+-- and a test
+abbrev pub Depends : (ℕ → Bool) → (Assignment → Bool) → Type 0
+Depends m t = (a b : Assignment) → ((v : ℕ) → m v ≡ true → a v ≡ b v) → t a ≡ t b
+
+-- The costs of a condition: some assignment that agrees with what is known meets it, and costs so much among some variables.
+pub record CostOf (g : Weights) (m : ℕ → Bool) (P : Assignment → Type 0) (n : ℕ) : Type 0 where
   pub by : Assignment
   pub agrees : Agrees g by
   pub meets : P by
-  pub cost_is : weigh g m by ≡ n
+  pub cost_is : cost_among g m by ≡ n
 
 -- those of a test
-abbrev pub TestCost : Prices → (ℕ → Bool) → (Assignment → Bool) → ℕ → Type 0
+abbrev pub TestCost : Weights → (ℕ → Bool) → (Assignment → Bool) → ℕ → Type 0
 TestCost g m t n = CostOf g m (λ a. t a ≡ true) n
-
--- a test that depends on some variables alone
-abbrev pub Depends : (ℕ → Bool) → (Assignment → Bool) → Type 0
-Depends m t = (a b : Assignment) → ((v : ℕ) → m v ≡ true → a v ≡ b v) → t a ≡ t b
 
 -- The costs of the states that pass a test.
 pub record StateCost (costs : List ℕ) (parts : ℕ) (test : Test) (n : ℕ) : Type 0 where
@@ -59,23 +59,12 @@ pub record SumOf (C D : ℕ → Type 0) (n : ℕ) : Type 0 where
   pub on_right : D right
   pub sum_is : left + right ≡ n
 
--- the least of them, or that there is none
+-- the least of some costs, or that there are none
 abbrev pub IsLeast : (ℕ → Type 0) → Option ℕ → Type 0
 IsLeast C None = (n : ℕ) → C n → ⊥
 IsLeast C (Some c) = C c × ((n : ℕ) → C n → c ≤ n)
 
--- a row of bits has just those below a limit
+-- a row of bits has just those that are below a limit
 pub record IsRow (has : ℕ → Bool) (limit : ℕ) (C : ℕ → Type 0) : Type 0 where
   pub sound : (n : ℕ) → n < limit → has n ≡ true → C n
   pub whole : (n : ℕ) → n < limit → C n → has n ≡ true
-
--- none where one of both has none
-abbrev pub add_costs : Option ℕ → Option ℕ → Option ℕ
-add_costs None d = None
-add_costs (Some n) None = None
-add_costs (Some n) (Some m) = Some (n + m)
-
-abbrev pub min_costs : Option ℕ → Option ℕ → Option ℕ
-min_costs None d = d
-min_costs (Some n) None = Some n
-min_costs (Some n) (Some m) = Some (min n m)

@@ -8,7 +8,7 @@ use Rattle.state_rules.specs.Bits.{same_bit}
 use Rattle.state_rules.proofs.Bits.{not_left, same_bit-refl, same_bit-equal}
 use Rattle.std.proofs.Math.Bool.{and-false}
 use Rattle.state_rules.proofs.Cases.{usual_bit, usual_bit-agrees, agrees_cond}
-use Rattle.node_costs.specs.Costs.{Prices, weigh, Agrees, Local, CostOf, SumOf}
+use Rattle.node_costs.specs.Costs.{Weights, cost_among, Agrees, Local, CostOf, SumOf}
 use Rattle.node_costs.proofs.Totals.{total-same, total-le, total-add, total-none, total-one, total-off}
 
 -- no variables are of both
@@ -38,20 +38,20 @@ apart_cond true true n e = absurd (cc)
 apart_cond true false n e = omega arith
 apart_cond false q n e = omega arith
 
-module _ (g : Prices) where
+module _ (g : Weights) where
   -- ---- what an assignment costs
 
-  pub weigh-same : (m o : ℕ → Bool) (a b : Assignment) → ((v : ℕ) → 1 ≤ v → v < 1 + g.parts → cond (m v) (g.price v (a v)) 0 ≡ cond (o v) (g.price v (b v)) 0) → weigh g m a ≡ weigh g o b
-  weigh-same m o a b h = total-same (λ v. cond (m v) (g.price v (a v)) 0) (λ v. cond (o v) (g.price v (b v)) 0) 1 g.parts h
+  pub cost_among-same : (m o : ℕ → Bool) (a b : Assignment) → ((v : ℕ) → 1 ≤ v → v < 1 + g.parts → cond (m v) (g.weight v (a v)) 0 ≡ cond (o v) (g.weight v (b v)) 0) → cost_among g m a ≡ cost_among g o b
+  cost_among-same m o a b h = total-same (λ v. cond (m v) (g.weight v (a v)) 0) (λ v. cond (o v) (g.weight v (b v)) 0) 1 g.parts h
 
-  pub weigh-like : (m : ℕ → Bool) (a b : Assignment) → ((v : ℕ) → m v ≡ true → a v ≡ b v) → weigh g m a ≡ weigh g m b
-  weigh-like m a b h = weigh-same m m a b (λ v l u. like_cond (m v) (g.price v (a v)) (g.price v (b v)) (λ p. ap (g.price v) (h v p)))
+  pub cost_among-like : (m : ℕ → Bool) (a b : Assignment) → ((v : ℕ) → m v ≡ true → a v ≡ b v) → cost_among g m a ≡ cost_among g m b
+  cost_among-like m a b h = cost_among-same m m a b (λ v l u. like_cond (m v) (g.weight v (a v)) (g.weight v (b v)) (λ p. ap (g.weight v) (h v p)))
 
-  pub weigh-le : (m o : ℕ → Bool) (a : Assignment) → ((v : ℕ) → m v ≡ true → o v ≡ true) → weigh g m a ≤ weigh g o a
-  weigh-le m o a h = total-le _ _ (λ v. fewer_cond (m v) (o v) (g.price v (a v)) (h v)) 1 g.parts
+  pub cost_among-le : (m o : ℕ → Bool) (a : Assignment) → ((v : ℕ) → m v ≡ true → o v ≡ true) → cost_among g m a ≤ cost_among g o a
+  cost_among-le m o a h = total-le _ _ (λ v. fewer_cond (m v) (o v) (g.weight v (a v)) (h v)) 1 g.parts
 
-  pub weigh-apart : (m o : ℕ → Bool) (a : Assignment) → Apart m o → weigh g (λ v. m v || o v) a ≡ weigh g m a + weigh g o a
-  weigh-apart m o a apart = total-add (λ v. cond (m v) (g.price v (a v)) 0) (λ v. cond (o v) (g.price v (a v)) 0) (λ v. cond (m v || o v) (g.price v (a v)) 0) (λ v. apart_cond (m v) (o v) (g.price v (a v)) (apart v)) 1 g.parts
+  pub cost_among-apart : (m o : ℕ → Bool) (a : Assignment) → Apart m o → cost_among g (λ v. m v || o v) a ≡ cost_among g m a + cost_among g o a
+  cost_among-apart m o a apart = total-add (λ v. cond (m v) (g.weight v (a v)) 0) (λ v. cond (o v) (g.weight v (a v)) 0) (λ v. cond (m v || o v) (g.weight v (a v)) 0) (λ v. apart_cond (m v) (o v) (g.weight v (a v)) (apart v)) 1 g.parts
 
   -- ---- two assignments as one
 
@@ -72,16 +72,16 @@ module _ (g : Prices) where
   }
 
   -- it costs no more than both
-  pub joined-le : (m o n : ℕ → Bool) (a b : Assignment) (x : Joined m o a b) → weigh g n x.by ≤ weigh g n a + weigh g n b
+  pub joined-le : (m o n : ℕ → Bool) (a b : Assignment) (x : Joined m o a b) → cost_among g n x.by ≤ cost_among g n a + cost_among g n b
   joined-le m o n a b x =
-      let f : ℕ → ℕ = λ v. cond (n v) (g.price v (a v)) 0 in
-      let h : ℕ → ℕ = λ v. cond (n v) (g.price v (b v)) 0 in
-      omega (arith, total-le (λ v. cond (n v) (g.price v (x.by v)) 0) (λ v. f v + h v) (λ v. ⊎_elim (λ e. at v e) (λ e. at' v e) (x.either v)) 1 g.parts, total-add f h (λ v. f v + h v) (λ v. refl) 1 g.parts) where
-        at : (v : ℕ) → x.by v ≡ a v → cond (n v) (g.price v (x.by v)) 0 ≤ cond (n v) (g.price v (a v)) 0 + cond (n v) (g.price v (b v)) 0
-        at v e = omega (arith, ap (λ y. cond (n v) (g.price v y) 0) e)
+      let f : ℕ → ℕ = λ v. cond (n v) (g.weight v (a v)) 0 in
+      let h : ℕ → ℕ = λ v. cond (n v) (g.weight v (b v)) 0 in
+      omega (arith, total-le (λ v. cond (n v) (g.weight v (x.by v)) 0) (λ v. f v + h v) (λ v. ⊎_elim (λ e. at v e) (λ e. at' v e) (x.either v)) 1 g.parts, total-add f h (λ v. f v + h v) (λ v. refl) 1 g.parts) where
+        at : (v : ℕ) → x.by v ≡ a v → cond (n v) (g.weight v (x.by v)) 0 ≤ cond (n v) (g.weight v (a v)) 0 + cond (n v) (g.weight v (b v)) 0
+        at v e = omega (arith, ap (λ y. cond (n v) (g.weight v y) 0) e)
 
-        at' : (v : ℕ) → x.by v ≡ b v → cond (n v) (g.price v (x.by v)) 0 ≤ cond (n v) (g.price v (a v)) 0 + cond (n v) (g.price v (b v)) 0
-        at' v e = omega (arith, ap (λ y. cond (n v) (g.price v y) 0) e)
+        at' : (v : ℕ) → x.by v ≡ b v → cond (n v) (g.weight v (x.by v)) 0 ≤ cond (n v) (g.weight v (a v)) 0 + cond (n v) (g.weight v (b v)) 0
+        at' v e = omega (arith, ap (λ y. cond (n v) (g.weight v y) 0) e)
 
   -- ---- both of two conditions that share no variable
 
@@ -94,16 +94,16 @@ module _ (g : Prices) where
         by = x.by;
         agrees = x.agrees;
         meets = (on_p x.by p.by x.as_left p.meets, on_q x.by q.by x.as_right q.meets);
-        cost_is = omega (arith, weigh-apart m o x.by apart, weigh-like m x.by p.by x.as_left, weigh-like o x.by q.by x.as_right, p.cost_is, q.cost_is, s.sum_is);
+        cost_is = omega (arith, cost_among-apart m o x.by apart, cost_among-like m x.by p.by x.as_left, cost_among-like o x.by q.by x.as_right, p.cost_is, q.cost_is, s.sum_is);
       }
 
   pub and-costs : (m o : ℕ → Bool) (P Q : Assignment → Type 0) → Apart m o → (n : ℕ) → CostOf g (λ v. m v || o v) (λ a. P a × Q a) n → SumOf (CostOf g m P) (CostOf g o Q) n
   and-costs m o P Q apart n c = record {
-    left = weigh g m c.by;
-    right = weigh g o c.by;
+    left = cost_among g m c.by;
+    right = cost_among g o c.by;
     on_left = record { by = c.by; agrees = c.agrees; meets = c.meets.0; cost_is = refl };
     on_right = record { by = c.by; agrees = c.agrees; meets = c.meets.1; cost_is = refl };
-    sum_is = sym (weigh-apart m o c.by apart) ∙ c.cost_is;
+    sum_is = sym (cost_among-apart m o c.by apart) ∙ c.cost_is;
   }
 
   -- ---- the same condition, or one that follows
@@ -113,7 +113,7 @@ module _ (g : Prices) where
     by = c.by;
     agrees = c.agrees;
     meets = to c.by c.agrees c.meets;
-    cost_is = weigh-same o m c.by c.by (λ v l h. ap (λ b. cond b (g.price v (c.by v)) 0) (sym (same v l h))) ∙ c.cost_is;
+    cost_is = cost_among-same o m c.by c.by (λ v l h. ap (λ b. cond b (g.weight v (c.by v)) 0) (sym (same v l h))) ∙ c.cost_is;
   }
 
   pub cost-to : (m : ℕ → Bool) (P Q : Assignment → Type 0) → ((a : Assignment) → P a → Q a) → (n : ℕ) → CostOf g m P n → CostOf g m Q n
@@ -138,45 +138,45 @@ module _ (g : Prices) where
   usual-agrees v = usual_bit-agrees (g.known v)
 
   -- no variables at all
-  pub weigh-none : (a : Assignment) → weigh g (λ v. false) a ≡ 0
-  weigh-none a = total-none 1 g.parts
+  pub cost_among-none : (a : Assignment) → cost_among g (λ v. false) a ≡ 0
+  cost_among-none a = total-none 1 g.parts
 
   pub cost-none : (P : Assignment → Type 0) → P usual → CostOf g (λ v. false) P 0
-  cost-none P p = record { by = usual; agrees = usual-agrees; meets = p; cost_is = weigh-none usual }
+  cost-none P p = record { by = usual; agrees = usual-agrees; meets = p; cost_is = cost_among-none usual }
 
   -- ---- one variable
 
   -- variables that are not parts cost nothing
-  abbrev pub Ends : Type 0
-  Ends = (v : ℕ) (b : Bool) → (1 ≤ v → v < 1 + g.parts → ⊥) → g.price v b ≡ 0
+  abbrev pub OnlyParts : Type 0
+  OnlyParts = (v : ℕ) (b : Bool) → (1 ≤ v → v < 1 + g.parts → ⊥) → g.weight v b ≡ 0
 
-  pub weigh-one : Ends → (var : ℕ) (a : Assignment) → weigh g (λ v. eqb var v) a ≡ g.price var (a var)
-  weigh-one ends var a = ⊎_elim
+  pub cost_among-one : OnlyParts → (var : ℕ) (a : Assignment) → cost_among g (λ v. eqb var v) a ≡ g.weight var (a var)
+  cost_among-one only_parts var a = ⊎_elim
       (λ (p : var < 1). off (λ l h. omega arith))
       (λ (p : 1 ≤ var). ⊎_elim
-      (λ (q : var < 1 + g.parts). total-one (λ v. g.price v (a v)) var 1 g.parts p q)
+      (λ (q : var < 1 + g.parts). total-one (λ v. g.weight v (a v)) var 1 g.parts p q)
       (λ (q : 1 + g.parts ≤ var). off (λ l h. omega arith))
       (cases_lt var (1 + g.parts)))
       (cases_lt var 1) where
-        off : (1 ≤ var → var < 1 + g.parts → ⊥) → weigh g (λ v. eqb var v) a ≡ g.price var (a var)
-        off out = total-off (λ v. g.price v (a v)) var 1 g.parts out ∙ sym (ends var (a var) out)
+        off : (1 ≤ var → var < 1 + g.parts → ⊥) → cost_among g (λ v. eqb var v) a ≡ g.weight var (a var)
+        off out = total-off (λ v. g.weight v (a v)) var 1 g.parts out ∙ sym (only_parts var (a var) out)
 
-  pub record IsBit (var : ℕ) (bit : Bool) (n : ℕ) : Type 0 where
+  pub record LiteralCost (var : ℕ) (bit : Bool) (n : ℕ) : Type 0 where
     pub allowed : agrees_at (g.known var) bit ≡ true
-    pub price_is : g.price var bit ≡ n
+    pub weight_is : g.weight var bit ≡ n
 
-  pub bit-costs : Ends → (var : ℕ) (bit : Bool) (n : ℕ) → CostOf g (λ v. eqb var v) (λ a. a var ≡ bit) n → IsBit var bit n
-  bit-costs ends var bit n c = record {
+  pub bit-costs : OnlyParts → (var : ℕ) (bit : Bool) (n : ℕ) → CostOf g (λ v. eqb var v) (λ a. a var ≡ bit) n → LiteralCost var bit n
+  bit-costs only_parts var bit n c = record {
     allowed = subst (λ b. agrees_at (g.known var) b ≡ true) c.meets (c.agrees var);
-    price_is = ap (g.price var) (sym c.meets) ∙ sym (weigh-one ends var c.by) ∙ c.cost_is;
+    weight_is = ap (g.weight var) (sym c.meets) ∙ sym (cost_among-one only_parts var c.by) ∙ c.cost_is;
   }
 
-  pub cost-bit : Ends → (var : ℕ) (bit : Bool) (n : ℕ) → IsBit var bit n → CostOf g (λ v. eqb var v) (λ a. a var ≡ bit) n
-  cost-bit ends var bit n is = record {
+  pub cost-bit : OnlyParts → (var : ℕ) (bit : Bool) (n : ℕ) → LiteralCost var bit n → CostOf g (λ v. eqb var v) (λ a. a var ≡ bit) n
+  cost-bit only_parts var bit n is = record {
     by = set_to;
     agrees = λ v. by_test v (eqb var v) refl;
     meets = here;
-    cost_is = weigh-one ends var set_to ∙ ap (g.price var) here ∙ is.price_is;
+    cost_is = cost_among-one only_parts var set_to ∙ ap (g.weight var) here ∙ is.weight_is;
   } where
     set_to : Assignment
     set_to v = cond (eqb var v) bit (usual v)
@@ -189,35 +189,35 @@ module _ (g : Prices) where
     by_test v false e = rw e (usual-agrees v)
 
   -- a literal
-  pub literal-costs : Ends → (var : ℕ) (bit : Bool) (n : ℕ) → CostOf g (λ v. eqb var v) (λ a. same_bit bit (a var) ≡ true) n → IsBit var bit n
-  literal-costs ends var bit n c = bit-costs ends var bit n (cost-to _ _ _ (λ a e. sym (same_bit-equal bit (a var) e)) n c)
+  pub literal-costs : OnlyParts → (var : ℕ) (bit : Bool) (n : ℕ) → CostOf g (λ v. eqb var v) (λ a. same_bit bit (a var) ≡ true) n → LiteralCost var bit n
+  literal-costs only_parts var bit n c = bit-costs only_parts var bit n (cost-to _ _ _ (λ a e. sym (same_bit-equal bit (a var) e)) n c)
 
-  pub cost-literal : Ends → (var : ℕ) (bit : Bool) (n : ℕ) → IsBit var bit n → CostOf g (λ v. eqb var v) (λ a. same_bit bit (a var) ≡ true) n
-  cost-literal ends var bit n is = cost-to _ _ _ (λ a e. ap (same_bit bit) e ∙ same_bit-refl bit) n (cost-bit ends var bit n is)
+  pub cost-literal : OnlyParts → (var : ℕ) (bit : Bool) (n : ℕ) → LiteralCost var bit n → CostOf g (λ v. eqb var v) (λ a. same_bit bit (a var) ≡ true) n
+  cost-literal only_parts var bit n is = cost-to _ _ _ (λ a e. ap (same_bit bit) e ∙ same_bit-refl bit) n (cost-bit only_parts var bit n is)
 
   -- ---- one variable more
 
-  module _ (ends : Ends) (m : ℕ → Bool) (P : Assignment → Type 0) (var : ℕ) (out : m var ≡ false) (on_p : Local m P) where
+  module _ (only_parts : OnlyParts) (m : ℕ → Bool) (P : Assignment → Type 0) (var : ℕ) (out : m var ≡ false) (on_p : Local m P) where
     -- with a bit of it
-    pub cost-set : (bit : Bool) (n : ℕ) → SumOf (CostOf g m P) (IsBit var bit) n → CostOf g (λ v. m v || eqb var v) (λ a. P a × (a var ≡ bit)) n
+    pub cost-set : (bit : Bool) (n : ℕ) → SumOf (CostOf g m P) (LiteralCost var bit) n → CostOf g (λ v. m v || eqb var v) (λ a. P a × (a var ≡ bit)) n
     cost-set bit n s = cost-and m (λ v. eqb var v) P (λ a. a var ≡ bit) (one_apart m var out) on_p (λ a b h e. h var (eq-eqb var var refl) ∙ e) n
-        (record { left = s.left; right = s.right; on_left = s.on_left; on_right = cost-bit ends var bit s.right s.on_right; sum_is = s.sum_is })
+        (record { left = s.left; right = s.right; on_left = s.on_left; on_right = cost-bit only_parts var bit s.right s.on_right; sum_is = s.sum_is })
 
-    pub set-costs : (bit : Bool) (n : ℕ) → CostOf g (λ v. m v || eqb var v) (λ a. P a × (a var ≡ bit)) n → SumOf (CostOf g m P) (IsBit var bit) n
+    pub set-costs : (bit : Bool) (n : ℕ) → CostOf g (λ v. m v || eqb var v) (λ a. P a × (a var ≡ bit)) n → SumOf (CostOf g m P) (LiteralCost var bit) n
     set-costs bit n c =
         let s = and-costs m (λ v. eqb var v) P (λ a. a var ≡ bit) (one_apart m var out) n c in
-        record { left = s.left; right = s.right; on_left = s.on_left; on_right = bit-costs ends var bit s.right s.on_right; sum_is = s.sum_is }
+        record { left = s.left; right = s.right; on_left = s.on_left; on_right = bit-costs only_parts var bit s.right s.on_right; sum_is = s.sum_is }
 
     -- with either
-    pub cost-either : (n : ℕ) → SumOf (CostOf g m P) (IsBit var true) n ⊎ SumOf (CostOf g m P) (IsBit var false) n → CostOf g (λ v. m v || eqb var v) P n
+    pub cost-either : (n : ℕ) → SumOf (CostOf g m P) (LiteralCost var true) n ⊎ SumOf (CostOf g m P) (LiteralCost var false) n → CostOf g (λ v. m v || eqb var v) P n
     cost-either n s = ⊎_elim (λ x. cost-to _ _ _ (λ a p. p.0) n (cost-set true n x)) (λ x. cost-to _ _ _ (λ a p. p.0) n (cost-set false n x)) s
 
-    pub either-costs : (n : ℕ) → CostOf g (λ v. m v || eqb var v) P n → SumOf (CostOf g m P) (IsBit var true) n ⊎ SumOf (CostOf g m P) (IsBit var false) n
+    pub either-costs : (n : ℕ) → CostOf g (λ v. m v || eqb var v) P n → SumOf (CostOf g m P) (LiteralCost var true) n ⊎ SumOf (CostOf g m P) (LiteralCost var false) n
     either-costs n c = by_bit (c.by var) refl where
-      with_bit : (bit : Bool) → c.by var ≡ bit → SumOf (CostOf g m P) (IsBit var bit) n
+      with_bit : (bit : Bool) → c.by var ≡ bit → SumOf (CostOf g m P) (LiteralCost var bit) n
       with_bit bit e = set-costs bit n (record { by = c.by; agrees = c.agrees; meets = (c.meets, e); cost_is = c.cost_is })
 
-      by_bit : (bit : Bool) → c.by var ≡ bit → SumOf (CostOf g m P) (IsBit var true) n ⊎ SumOf (CostOf g m P) (IsBit var false) n
+      by_bit : (bit : Bool) → c.by var ≡ bit → SumOf (CostOf g m P) (LiteralCost var true) n ⊎ SumOf (CostOf g m P) (LiteralCost var false) n
       by_bit true e = inl (with_bit true e)
       by_bit false e = inr (with_bit false e)
 
@@ -225,31 +225,31 @@ module _ (g : Prices) where
 
   -- each variable has a bit that is allowed and costs nothing
   abbrev pub Free : Type 0
-  Free = (v : ℕ) → g.price v (usual v) ≡ 0
+  Free = (v : ℕ) → g.weight v (usual v) ≡ 0
 
   -- as an assignment has some variables, and usual elsewhere
   pub record Trimmed (m : ℕ → Bool) (a : Assignment) : Type 0 where
     pub by : Assignment
     pub agrees : Agrees g by
     pub same : (v : ℕ) → m v ≡ true → by v ≡ a v
-    pub cost_is : (o : ℕ → Bool) → ((v : ℕ) → m v ≡ true → o v ≡ true) → weigh g o by ≡ weigh g m a
-    pub fewer : (v : ℕ) → g.price v (by v) ≤ g.price v (a v)
+    pub cost_is : (o : ℕ → Bool) → ((v : ℕ) → m v ≡ true → o v ≡ true) → cost_among g o by ≡ cost_among g m a
+    pub fewer : (v : ℕ) → g.weight v (by v) ≤ g.weight v (a v)
 
   pub trim : Free → (m : ℕ → Bool) (a : Assignment) → Agrees g a → Trimmed m a
   trim free m a ag = record {
     by = λ v. cond (m v) (a v) (usual v);
     agrees = λ v. agrees_cond (g.known v) (m v) _ _ (ag v) (usual-agrees v);
     same = λ v p. ap (λ b. cond b (a v) (usual v)) p;
-    cost_is = λ o within. weigh-same o m (λ v. cond (m v) (a v) (usual v)) a (λ v l h. each v (m v) (o v) (within v));
+    cost_is = λ o within. cost_among-same o m (λ v. cond (m v) (a v) (usual v)) a (λ v l h. each v (m v) (o v) (within v));
     fewer = λ v. less v (m v);
   } where
-    each : (v : ℕ) (p q : Bool) → (p ≡ true → q ≡ true) → cond q (g.price v (cond p (a v) (usual v))) 0 ≡ cond p (g.price v (a v)) 0
+    each : (v : ℕ) (p q : Bool) → (p ≡ true → q ≡ true) → cond q (g.weight v (cond p (a v) (usual v))) 0 ≡ cond p (g.weight v (a v)) 0
     each v true true h = refl
     each v true false h = absurd (false≢true (h refl))
     each v false true h = free v
     each v false false h = refl
 
-    less : (v : ℕ) (p : Bool) → g.price v (cond p (a v) (usual v)) ≤ g.price v (a v)
+    less : (v : ℕ) (p : Bool) → g.weight v (cond p (a v) (usual v)) ≤ g.weight v (a v)
     less v true = omega arith
     less v false = omega (arith, free v)
 

@@ -7,27 +7,27 @@ use Rattle.state_rules.specs.Bits.{same_bit}
 use Rattle.state_rules.specs.Assignments.{Assignment}
 use Rattle.state_rules.specs.Cases.{agrees_at}
 use Rattle.state_rules.specs.declared.nodes.NodeKind.{NodeKind}
-use Rattle.node_costs.specs.Costs.{Prices, TestCost, Depends, SumOf, IsRow}
+use Rattle.node_costs.specs.Costs.{Weights, TestCost, Depends, SumOf, IsRow}
 use Rattle.node_costs.specs.Costs as costs
-use Rattle.node_costs.proofs.Weighing.{weigh-none, cost-none, cost-as, cost-literal, literal-costs}
+use Rattle.node_costs.proofs.Conditions.{cost_among-none, cost-none, cost-as, cost-literal, literal-costs}
 use Rattle.node_costs.proofs.Sets.{row-none, row-one, row-as, row-or, row-sum}
 use Rattle.node_costs.proofs.Tests.{cost-any, any-costs, cost-all, all-costs, depends-any, depends-all}
 use Rattle.node_costs.proofs.Nodes.{AreLaws, value_by}
 
 -- nothing costs anything
-abbrev pub free : (ℕ → Option Bool) → Prices
-free wanted = record { known = wanted; price = λ v b. 0; parts = 0 }
+abbrev pub no_weights : (ℕ → Option Bool) → Weights
+no_weights wanted = record { known = wanted; weight = λ v b. 0; parts = 0 }
 
 module _ (wanted : ℕ → Option Bool) where
-  abbrev g : Prices
-  g = free wanted
+  abbrev g : Weights
+  g = no_weights wanted
 
   abbrev pub Agrees : Assignment → Type 0
-  Agrees a = costs.Agrees (free wanted) a
+  Agrees a = costs.Agrees (no_weights wanted) a
 
   -- `can` says whether some assignment agrees and passes the test t, which depends on the variables of m alone
   pub record Meets (t : Assignment → Bool) (m : ℕ → Bool) (can : Bool) : Type 0 where
-    pub row : IsRow (λ n. can) 1 (TestCost (free wanted) m t)
+    pub row : IsRow (λ n. can) 1 (TestCost (no_weights wanted) m t)
     pub local : Depends m t
 
   -- of a literal, of all and of any of the kids
@@ -56,13 +56,13 @@ module _ (wanted : ℕ → Option Bool) where
   one n lt = sym (eq-eqb n 0 (omega arith))
 
   literal_row : (var : ℕ) (positive can : Bool) → agrees_at (wanted var) positive ≡ can → IsRow (λ n. can) 1 (TestCost g (λ v. eqb var v) (λ a. same_bit positive (a var)))
-  literal_row var positive true e = row-one 1 _ _ 0 (cost-literal g (λ v b out. refl) var positive 0 (record { allowed = e; price_is = refl })) (λ n c. sym (literal-costs g (λ v b out. refl) var positive n c).price_is) one
+  literal_row var positive true e = row-one 1 _ _ 0 (cost-literal g (λ v b out. refl) var positive 0 (record { allowed = e; weight_is = refl })) (λ n c. sym (literal-costs g (λ v b out. refl) var positive n c).weight_is) one
   literal_row var positive false e = row-none 1 _ _ (λ n lt. refl) (λ n c. false≢true (sym e ∙ (literal-costs g (λ v b out. refl) var positive n c).allowed))
 
   pub can_laws : AreLaws can_literal all_can any_can Meets
   can_laws = record {
     of_literal = λ var positive. record { row = literal_row var positive (agrees_at (wanted var) positive) refl; local = λ a b h. ap (same_bit positive) (h var (eq-eqb var var refl)) };
-    of_true = record { row = row-one 1 _ _ 0 (cost-none g (λ a. true ≡ true) refl) (λ n c. sym c.cost_is ∙ weigh-none g c.by) one; local = λ a b h. refl };
+    of_true = record { row = row-one 1 _ _ 0 (cost-none g (λ a. true ≡ true) refl) (λ n c. sym c.cost_is ∙ cost_among-none g c.by) one; local = λ a b h. refl };
     of_false = record { row = row-none 1 _ _ (λ n lt. refl) (λ n c. false≢true c.meets); local = λ a b h. refl };
     of_both = λ t u m o c cs apart is_t is_u. record {
       row = row-as 1 _ _ _ (cost-all g t u m o apart is_t.local is_u.local) (all-costs g t u m o apart is_t.local is_u.local) (row-sum 1 (λ n. c) (λ n. all_can cs) _ _ _ (both c (all_can cs)) is_t.row is_u.row);

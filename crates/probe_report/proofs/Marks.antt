@@ -37,15 +37,11 @@ module _ (values marks kids : List ℕ) (mark outer start i : ℕ) (lt : i < len
       (λ e. inr (eqb-true _ _ e))
       (or_cases (is_kid (take i kids) l.kid) (get_or kids i 0 == l.kid) (sym (is_kid-more kids i l.kid lt) ∙ l.is_kid_of))
 
-  not-false : (b : Bool) → not b ≡ true → b ≡ false
-  not-false true e = absurd (let no : false ≡ true = e in cc)
-  not-false false e = refl
-
   left-bits : (place : ℕ) → start ≤ place → place < start + 64 → is_left start mark (mark_at marks (get_or kids i 0)) place ≡ true
       → (has_bit mark (place - start) ≡ true) × (has_bit (mark_at marks (get_or kids i 0)) (place - start) ≡ false)
   left-bits place h g e =
       let p = and_parts (has_bit mark (place - start)) (not (has_bit (mark_at marks kid) (place - start))) (sym (is_left-in start mark (mark_at marks kid) place h g) ∙ e) in
-      (p.0, not-false _ p.1)
+      (p.0, not-true _ p.1)
 
   pub left-more : (a b c : List ℕ) → length b ≡ length a → LowersBlock start (λ p. LeftKid values marks (take i kids) mark outer start p) a b → get_or values (get_or kids i 0) 0 < 2147483647
       → ((p : ℕ) → p < length b → get_or c p 0 ≡ lowered (is_left start mark (mark_at marks (get_or kids i 0)) p) (outer + get_or values (get_or kids i 0) 0) (get_or b p 0))
@@ -256,8 +252,8 @@ module _ (nodes : List Node) (outers : List ℕ) (var : ℕ) (bit : Bool) (at : 
 
 pub beq-true : (a b : Bool) → beq a b ≡ true → a ≡ b
 beq-true true true e = refl
-beq-true true false e = absurd (let absurdity : false ≡ true = e in cc)
-beq-true false true e = absurd (let absurdity : false ≡ true = e in cc)
+beq-true true false e = absurd (false≢true e)
+beq-true false true e = absurd (false≢true e)
 beq-true false false e = refl
 
 pub beq-false : (a b : Bool) → beq a b ≡ false → a ≡ b → ⊥

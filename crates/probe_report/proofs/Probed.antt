@@ -1,21 +1,19 @@
 -- What the numbers of the wires say at the end.
-use Rattle.std.proofs.Common.{◌≡◌, ℕ, zero, suc, ◌+◌, ◌-◌, ◌<◌, ◌≤◌, Bool, true, false, cond, ◌&&◌, List, [], ◌∷◌, ◌++◌, length, get_or, set, Option, Some, None, refl, ap, sym, ◌∙◌, subst, arith, inl, inr}
+use Rattle.std.proofs.Common.{◌≡◌, ℕ, zero, suc, ◌+◌, ◌-◌, ◌<◌, ◌≤◌, Bool, true, false, cond, List, [], ◌∷◌, length, get_or, set, Option, Some, None, refl, ap, sym, ◌∙◌, subst, arith, inl, inr}
 use Rattle.std.specs.Prelude.{◌⊎◌, ◌==◌, nat_lt}
 use Rattle.std.proofs.Math.ListN.{length-set}
-use Rattle.std.proofs.lemmas.Bool.{and_from, ltb-true, eqb-false}
+use Rattle.std.proofs.lemmas.Bool.{ltb-true, eqb-false}
 use Rattle.std.proofs.lemmas.List.{get_or_past}
 use Rattle.std.proofs.lemmas.List.Sums.{sum_by-cons}
-use Rattle.state_rules.specs.Bits.{bit_in, same_bit, lists_of_bits}
-use Rattle.state_rules.specs.Ranking.{cost, least, states}
-use Rattle.state_rules.proofs.Members.{any_from, any_in, AtMost, bits_length, least-below, least-from}
-use Rattle.state_rules.specs.Graphs.{Node, Graph, holds, IsGraph}
+use Rattle.state_rules.specs.Ranking.{least}
+use Rattle.state_rules.specs.Graphs.{Node, Graph, IsGraph}
 use Rattle.conditioner.specs.declared.leaves.Leaf.TheVariants.{True, False}
 use Rattle.conditioner.specs.Words.{known_of, word_of, leaf_of}
 use Rattle.conditioner.specs.Models.{has_model, fits_words, least_under, least_with, total_cost}
+use Rattle.node_costs.proofs.States.{least-out, least-in}
 use Rattle.minimiser.specs.Costs.{part_cost}
 use Rattle.minimiser.specs.Stored.{cost_in, AreLeastCosts}
 use Rattle.minimiser.specs.inner.Held.{held_one, held_cost}
-use Rattle.minimiser.proofs.Costs.{and_left, and_right}
 use Rattle.minimiser.proofs.Sums.{cost_in-some}
 use Rattle.minimiser.proofs.OnePass.{is_least, value_small, length-least_costs}
 use Rattle.minimiser.proofs.Whole.{AddHeld, least_is}
@@ -23,7 +21,7 @@ use Rattle.probe_report.specs.inner.Outside.{IsLowered, AreOuter, Without, With}
 use Rattle.probe_report.specs.inner.Settled.{settled}
 use Rattle.probe_report.proofs.Lowering.{lowered-then}
 use Rattle.probe_report.proofs.Exits.{root-is}
-use Rattle.probe_report.proofs.With.{with-true, with-false, with-open}
+use Rattle.probe_report.proofs.With.{with-true, with-false, with-open, with_bit, with-model}
 
 -- ---- what is held
 
@@ -78,20 +76,9 @@ held-is graph words costs xs fewest root ok long within total v e at = by_cost (
 -- ---- where nothing agrees, nothing does with a bit too
 
 pub with-none : (graph : Graph) (words costs : List ℕ) (var : ℕ) (bit : Bool) → least_under graph words costs ≡ None → None ≡ least_with graph words costs var bit
-with-none graph words costs var bit e = by_least (least_with graph words costs var bit) refl where
-  with_bit : List Bool → Bool
-  with_bit = has_model graph (λ bits. fits_words words bits && same_bit bit (bit_in bits (var - 1))) (length costs)
-
-  by_least : (o : Option ℕ) → least_with graph words costs var bit ≡ o → None ≡ o
-  by_least None f = refl
-  by_least (Some k) f =
-      let s = least-from (cost costs) (has_model graph (λ bits. fits_words words bits && same_bit bit (bit_in bits (var - 1))) (length costs)) k (states (length costs)) f in
-      let long : length s.item ≡ length costs = bits_length (length costs) s.item s.is_in in
-      let t = any_from (λ others. (fits_words words (s.item ++ others) && same_bit bit (bit_in (s.item ++ others) (var - 1))) && holds graph (s.item ++ others)) (lists_of_bits (graph.vars - length costs)) s.passes in
-      let model : has_model graph (fits_words words) (length costs) s.item ≡ true =
-      any_in (λ others. fits_words words (s.item ++ others) && holds graph (s.item ++ others)) t.item (lists_of_bits (graph.vars - length costs)) t.is_in
-      (and_from _ _ (and_left _ _ (and_left _ _ t.passes)) (and_right (fits_words words (s.item ++ t.item) && same_bit bit (bit_in (s.item ++ t.item) (var - 1))) _ t.passes)) in
-      absurd (subst (λ o. AtMost o (cost costs s.item)) e (least-below (cost costs) (has_model graph (fits_words words) (length costs)) s.item (states (length costs)) s.is_in model))
+with-none graph words costs var bit e = sym (least-in costs (length costs) (with_bit graph words costs (var - 1) bit) None
+    (λ n s. least-out costs (length costs) (has_model graph (fits_words words) (length costs)) None e n
+    (record { state = s.state; long = s.long; passes = with-model graph words costs (var - 1) bit s.state s.passes; cost_is = s.cost_is })))
 
 -- ---- one wire
 

@@ -5,9 +5,9 @@ use Rattle.std.proofs.lemmas.Bool.{and_from, cases_eq}
 use Rattle.std.proofs.lemmas.Grind.{same_number_lists}
 use Rattle.std.proofs.lemmas.List.{get_or-set_same, get_or-set_other}
 use Rattle.state_rules.specs.Bits.{bit_in, same_bit, lists_of_bits}
-use Rattle.state_rules.specs.Ranking.{Test, cost, least, states, passing}
+use Rattle.state_rules.specs.Ranking.{Test, least, passing}
 use Rattle.state_rules.proofs.Bits.{same_bit-refl, same_bit-equal, bit_in-front}
-use Rattle.state_rules.proofs.Members.{In, bits_in, bits_length, any_from, any_in, least-below, least-from, AtMost-le}
+use Rattle.state_rules.proofs.Members.{any_from, any_in}
 use Rattle.state_rules.specs.Graphs.{Graph, holds}
 use Rattle.conditioner.specs.declared.leaves.Leaf.TheVariants.{True, False, Open}
 use Rattle.conditioner.specs.Words.{known_of, word_of, leaf_of}
@@ -15,8 +15,8 @@ use Rattle.conditioner.specs.Models.{has_model, fits_words, models, models_with}
 use Rattle.conditioner.proofs.FittingWords.{known_of-word_of, known-at}
 use Rattle.conditioner.proofs.ModelsWith.{with_bit-open, with_bit-known, with_bit-other}
 use Rattle.minimiser.specs.LeastStates.{ModelWithin}
+use Rattle.node_costs.proofs.States.{least-out, least-in}
 use Rattle.minimiser.proofs.Costs.{and_left, and_right}
-use Rattle.minimiser.proofs.Whole.{from_bounds}
 use Rattle.minimiser.proofs.Models.{LeastIs, least-low}
 
 -- ---- a literal under the words
@@ -65,44 +65,45 @@ loose-again words i word h e = same_number_lists (set (set words i word) i 0) wo
     (λ ne. get_or-set_other (set words i word) i k 0 0 ne ∙ get_or-set_other words i k word 0 ne)
     (cases_eq k i))
 
--- ---- the diagnoses that have a bit
+-- ---- the states that have a bit
 
-module _ (graph : Graph) (words costs : List ℕ) (i : ℕ) (bit : Bool) (lt : i < length costs) where
-  abbrev with_bit : Test
+module _ (graph : Graph) (words costs : List ℕ) (i : ℕ) (bit : Bool) where
+  abbrev pub with_bit : Test
   with_bit = has_model graph (λ bits. fits_words words bits && same_bit bit (bit_in bits i)) (length costs)
 
-  with-out : (h : List Bool) → length h ≡ length costs → with_bit h ≡ true → (has_model graph (fits_words words) (length costs) h ≡ true) × (bit_in h i ≡ bit)
-  with-out h l e =
+  -- they are allowed by the words
+  pub with-model : (h : List Bool) → with_bit h ≡ true → has_model graph (fits_words words) (length costs) h ≡ true
+  with-model h e =
       let s = any_from (λ others. (fits_words words (h ++ others) && same_bit bit (bit_in (h ++ others) i)) && holds graph (h ++ others)) (lists_of_bits (graph.vars - length costs)) e in
-      let a = and_left _ _ s.passes in (
-        any_in (λ others. fits_words words (h ++ others) && holds graph (h ++ others)) s.item (lists_of_bits (graph.vars - length costs)) s.is_in
-            (and_from _ _ (and_left _ _ a) (and_right (fits_words words (h ++ s.item) && same_bit bit (bit_in (h ++ s.item) i)) _ s.passes)),
-        sym (bit_in-front h s.item i (omega arith)) ∙ sym (same_bit-equal bit (bit_in (h ++ s.item) i) (and_right (fits_words words (h ++ s.item)) _ a)),
-      )
+      any_in (λ others. fits_words words (h ++ others) && holds graph (h ++ others)) s.item (lists_of_bits (graph.vars - length costs)) s.is_in
+      (and_from _ _ (and_left _ _ (and_left _ _ s.passes)) (and_right (fits_words words (h ++ s.item) && same_bit bit (bit_in (h ++ s.item) i)) _ s.passes))
 
-  with-in : (h : List Bool) → length h ≡ length costs → has_model graph (fits_words words) (length costs) h ≡ true → bit_in h i ≡ bit → with_bit h ≡ true
-  with-in h l e f =
-      let s = any_from (λ others. fits_words words (h ++ others) && holds graph (h ++ others)) (lists_of_bits (graph.vars - length costs)) e in
-      any_in (λ others. (fits_words words (h ++ others) && same_bit bit (bit_in (h ++ others) i)) && holds graph (h ++ others)) s.item (lists_of_bits (graph.vars - length costs)) s.is_in
-      (and_from _ _ (and_from _ _ (and_left _ _ s.passes) (subst (λ x. same_bit bit x ≡ true) (sym (bit_in-front h s.item i (omega arith) ∙ f)) (same_bit-refl bit)))
-      (and_right (fits_words words (h ++ s.item)) _ s.passes))
+  module _ (lt : i < length costs) where
+    with-is : (h : List Bool) → length h ≡ length costs → with_bit h ≡ true → bit_in h i ≡ bit
+    with-is h l e =
+        let s = any_from (λ others. (fits_words words (h ++ others) && same_bit bit (bit_in (h ++ others) i)) && holds graph (h ++ others)) (lists_of_bits (graph.vars - length costs)) e in
+        sym (bit_in-front h s.item i (omega arith)) ∙ sym (same_bit-equal bit (bit_in (h ++ s.item) i) (and_right (fits_words words (h ++ s.item)) _ (and_left _ _ s.passes)))
 
-  -- some diagnosis has the bit
-  pub record HasBit (most : ℕ) : Type 0 where
-    pub state : List Bool
-    pub passes : ModelWithin graph words costs most state
-    pub has : bit_in state i ≡ bit
+    with-in : (h : List Bool) → length h ≡ length costs → has_model graph (fits_words words) (length costs) h ≡ true → bit_in h i ≡ bit → with_bit h ≡ true
+    with-in h l e f =
+        let s = any_from (λ others. fits_words words (h ++ others) && holds graph (h ++ others)) (lists_of_bits (graph.vars - length costs)) e in
+        any_in (λ others. (fits_words words (h ++ others) && same_bit bit (bit_in (h ++ others) i)) && holds graph (h ++ others)) s.item (lists_of_bits (graph.vars - length costs)) s.is_in
+        (and_from _ _ (and_from _ _ (and_left _ _ s.passes) (subst (λ x. same_bit bit x ≡ true) (sym (bit_in-front h s.item i (omega arith) ∙ f)) (same_bit-refl bit)))
+        (and_right (fits_words words (h ++ s.item)) _ s.passes))
 
-  pub bit-out : (most : ℕ) → least costs (passing (length costs) with_bit) ≡ Some most → HasBit most
-  bit-out most f =
-      let s = least-from (cost costs) with_bit most (states (length costs)) f in
-      let long : length s.item ≡ length costs = bits_length (length costs) s.item s.is_in in
-      let o = with-out s.item long s.passes in
-      record { state = s.item; passes = record { long = long; model = o.0; cheap = omega (arith, s.is_size) }; has = o.1 }
+    -- some diagnosis has the bit
+    pub record HasBit (most : ℕ) : Type 0 where
+      pub state : List Bool
+      pub passes : ModelWithin graph words costs most state
+      pub has : bit_in state i ≡ bit
 
-  pub bit-in : (most : ℕ) → length costs ≤ graph.vars → LeastIs graph costs words most → (h : List Bool) → ModelWithin graph words costs most h → bit_in h i ≡ bit → least costs (passing (length costs) with_bit) ≡ Some most
-  bit-in most within e h p f = from_bounds _ most
-      (AtMost-le _ (cost costs h) most (least-below (cost costs) with_bit h (states (length costs)) (subst (λ n. In h (lists_of_bits n)) p.long (bits_in h)) (with-in h p.long p.model f)) p.cheap)
-      (λ k g. let s = least-from (cost costs) with_bit k (states (length costs)) g in
-      let long : length s.item ≡ length costs = bits_length (length costs) s.item s.is_in in
-      omega (arith, least-low graph costs within words most s.item e long (with-out s.item long s.passes).0, s.is_size))
+    pub bit-out : (most : ℕ) → least costs (passing (length costs) with_bit) ≡ Some most → HasBit most
+    bit-out most f =
+        let s = (least-out costs (length costs) with_bit (Some most) f).0 in
+        record { state = s.state; passes = record { long = s.long; model = with-model s.state s.passes; cheap = omega (arith, s.cost_is) }; has = with-is s.state s.long s.passes }
+
+    pub bit-in : (most : ℕ) → length costs ≤ graph.vars → LeastIs graph costs words most → (h : List Bool) → ModelWithin graph words costs most h → bit_in h i ≡ bit → least costs (passing (length costs) with_bit) ≡ Some most
+    bit-in most within e h p f = least-in costs (length costs) with_bit (Some most) (
+      record { state = h; long = p.long; passes = with-in h p.long p.model f; cost_is = omega (arith, p.cheap, least-low graph costs within words most h e p.long p.model) },
+      λ n s. omega (arith, least-low graph costs within words most s.state e s.long (with-model s.state s.passes), s.cost_is),
+    )

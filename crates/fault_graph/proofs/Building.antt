@@ -4,7 +4,7 @@ use Rattle.std.specs.Prelude.{◌⊎◌, slice_get, nat_lt}
 use Rattle.std.specs.List.{list_any, filter}
 use Rattle.std.proofs.Math.Bool.{and-true, or-false}
 use Rattle.std.proofs.Math.ListN.{length-map}
-use Rattle.std.proofs.lemmas.Bool.{and_from, cases_lt, leb-true, le-leb, ltb-true, lt-ltb, false≢true, cases_eq}
+use Rattle.std.proofs.lemmas.Bool.{and_from, cases_lt, leb-true, le-leb, ltb-true, lt-ltb, false≢true, cases_eq, false_from_ne_true}
 use Rattle.std.proofs.lemmas.List.Sums.{sum_by-take-le}
 use Rattle.std.proofs.lemmas.Option.{slice_get-get_or, get_or_from_slice_get, same_Some}
 use Rattle.state_rules.specs.Assignments.{Assignment}
@@ -18,20 +18,21 @@ use Rattle.state_rules.proofs.NodesFit.{fits-get, apart-get, literal, AreNodes-p
 use Rattle.node_store.proofs.Copying.{take-more, edges-push}
 use Rattle.conditioner.specs.Models.{total_cost}
 use Rattle.minimiser.specs.Costs.{part_cost, known_at, sum_costs, cheapest}
-use Rattle.minimiser.specs.Stored.{cost_in, AreLeastCosts}
+use Rattle.minimiser.specs.Stored.{AreLeastCosts}
 use Rattle.minimiser.specs.inner.Swept.{is_kid}
 use Rattle.minimiser.proofs.Costs.{IsCost, from_add, and_left, and_right}
 use Rattle.minimiser.proofs.Models.{LeastIs}
 use Rattle.minimiser.proofs.Sums.{cost_in-some}
-use Rattle.minimiser.proofs.Derivations.{is_cost, mention-at, costs-at, below, all-below, cheapest-kid}
-use Rattle.minimiser.proofs.Sweeping.{node_least, sum-kid, kid-in, kid-out, kid_before, value-is, root-low, cost_in-is}
+use Rattle.minimiser.proofs.Derivations.{is_cost, mention-at, costs-at, below, all-below, cheapest-kid, sum-kid}
+use Rattle.minimiser.proofs.Valued.{node_least, value-is, cost_in-is}
+use Rattle.minimiser.proofs.Sweeping.{kid-in, kid-out, kid_before, root-low}
 use Rattle.fault_graph.specs.Small.{HasParent, Joins}
 use Rattle.fault_graph.specs.inner.Marks.{HasMarkedParent, AreMarks}
 use Rattle.fault_graph.specs.inner.Rows.{keeps, kept_kids, Adds, root_node}
 use Rattle.fault_graph.proofs.Standing.{StandsFor, StandsFor-same}
 use Rattle.fault_graph.proofs.Kin.{KidsStand, node-stands, narrower-any, narrower-apart}
 use Rattle.fault_graph.proofs.Placing.{faults_in-all}
-use Rattle.fault_graph.proofs.Places.{IsPlace, place-more, IsFrom, AreFrom, from-none, from-push, AllJoin, joins-before, joins-push, parent-more, parent-last, Waits, IsNeeded}
+use Rattle.fault_graph.proofs.Places.{IsPlace, place-more, IsFrom, AreFrom, from-push, AllJoin, joins-before, joins-push, parent-more, parent-last, Waits, IsNeeded}
 use Rattle.fault_graph.proofs.Smallness.{small-from}
 use Rattle.fault_graph.proofs.Roots.{IsWhole, whole}
 
@@ -98,31 +99,16 @@ module _ (graph : Graph) (words costs : List ℕ) where
     pub joins : AllJoin nodes
     pub needed : (p : ℕ) → p < length nodes → IsNeeded graph values marks places nodes at p
 
-  pub built-none : (values marks : List ℕ) → IsBuilt values marks marks [] 0
-  built-none values marks = record {
-    are = record { fit = refl; apart = λ v. tt };
-    few = omega arith;
-    few_edges = omega arith;
-    ahead = λ k h. refl;
-    built = λ k c h. absurd (omega arith);
-    from = from-none graph words costs;
-    joins = λ p h. absurd (omega arith);
-    needed = λ p h. absurd (omega arith);
-  }
-
 module _ (graph : Graph) (words costs : List ℕ) (ok : IsGraph graph) (long : length words ≡ graph.vars) (within : length costs ≤ graph.vars) (total : total_cost costs < 2147483647)
     (most : ℕ) (least_most : LeastIs graph costs words most) (values : List ℕ) (v : AreLeastCosts graph words costs values) (marks : List ℕ) (m : AreMarks graph.nodes values marks 0) where
   abbrev root : ℕ
   root = length graph.nodes - 1
 
-  value-at : (k : ℕ) → k < length graph.nodes → cost_in (get_or values k 0) ≡ node_least graph words costs k
-  value-at k h = value-is graph words costs ok long within total most least_most values v k h
-
   marked-cost : (k : ℕ) → k < length graph.nodes → get_or marks k 0 ≡ 1 → node_least graph words costs k ≡ Some (get_or values k 0)
-  marked-cost k h e = sym (value-at k h) ∙ cost_in-some (get_or values k 0) (λ z. absurd (omega (arith, z, m.low k h e, root-low graph words costs ok long within total most least_most values v)))
+  marked-cost k h e = sym (value-is graph words costs values v k h) ∙ cost_in-some (get_or values k 0) (λ z. absurd (omega (arith, z, m.low k h e, root-low graph words costs ok long within total most least_most values v)))
 
   cost-value : (k c : ℕ) → k < length graph.nodes → node_least graph words costs k ≡ Some c → get_or values k 0 ≡ c
-  cost-value k c h e = cost_in-is (get_or values k 0) c (value-at k h ∙ e)
+  cost-value k c h e = cost_in-is (get_or values k 0) c (value-is graph words costs values v k h ∙ e)
 
   -- a node that is passed over
   pub built-past : (places : List ℕ) (nodes : List Node) (at : ℕ) → at < length graph.nodes → IsBuilt graph words costs values marks places nodes at → get_or places at 0 ≢ 1
@@ -280,10 +266,7 @@ module _ (graph : Graph) (words costs : List ℕ) (ok : IsGraph graph) (long : l
     joined : length row ≢ 1 → Joins what (length row)
     joined many = by_kind what refl where
       out : row ≡ [] → (j : ℕ) → In j kids → keep j ≡ false
-      out none j i = by_keep (keep j) refl where
-        by_keep : (b : Bool) → keep j ≡ b → keep j ≡ false
-        by_keep true k = absurd (subst (In (place j)) none (In-map place j (filter keep kids) (In-filtered keep j kids i k)))
-        by_keep false k = k
+      out none j i = false_from_ne_true (keep j) (λ k. subst (In (place j)) none (In-map place j (filter keep kids) (In-filtered keep j kids i k)))
 
       no-and : what ≡ And → row ≡ [] → ⊥
       no-and o none =

@@ -15,8 +15,7 @@ use Rattle.conditioner.specs.Words.{leaf_of}
 use Rattle.minimiser.specs.Costs.{part_cost, known_at, sum_costs, literal_cost}
 use Rattle.minimiser.proofs.Costs.{IsCost, as_cost, from_add, true_is}
 use Rattle.minimiser.proofs.Whole.{part_cost-none}
-use Rattle.minimiser.proofs.Derivations.{C, is_cost, true-at, mention-at, costs-at, apart-kids, kids-cost, Apart, apart-tail, apart-both, cheapest-kid}
-use Rattle.minimiser.proofs.Sweeping.{sum-kid}
+use Rattle.minimiser.proofs.Derivations.{C, is_cost, true-at, mention-at, costs-at, apart-kids, kids-cost, Apart, apart-tail, apart-both, cheapest-kid, sum-kid}
 use Rattle.fault_graph.proofs.Standing.{StandsFor, StandsFor-same, stands-free, stands-literal, stands-never, stands-or, stands-other, stands-and}
 
 -- ---- the variables of the kids that stay

@@ -1,6 +1,5 @@
 pub mod Standing
 pub mod Spreading
-pub mod Rows
 pub mod Kin
 pub mod Placing
 pub mod Law

@@ -8,7 +8,7 @@ use Rattle.state_rules.specs.declared.nodes.NodeKind.TheVariants.{Or}
 use Rattle.state_rules.specs.Graphs.{Node, Graph, true_node, node_at, truth_by, mention_by, is_true, mentions}
 use Rattle.state_rules.proofs.NodeValues.{value_of-before, node_at-last}
 use Rattle.minimiser.specs.Costs.{part_cost, known_at}
-use Rattle.minimiser.proofs.Sweeping.{node_least}
+use Rattle.minimiser.proofs.Valued.{node_least}
 use Rattle.fault_graph.specs.Small.{HasParent, Joins}
 use Rattle.fault_graph.specs.inner.Rows.{keeps}
 use Rattle.fault_graph.proofs.Standing.{StandsFor, StandsFor-same}
@@ -51,9 +51,6 @@ module _ (graph : Graph) (words costs : List ℕ) where
   pub record AreFrom (nodes : List Node) : Type 0 where
     pub each : (p : ℕ) → p < length nodes → (c : ℕ) × IsFrom nodes c p
     pub ors : (p q : ℕ) → p < length nodes → (node_at nodes p).what ≡ Or → In q (node_at nodes p).kids → (c : ℕ) × IsFrom nodes c p × IsFrom nodes c q
-
-  pub from-none : AreFrom []
-  from-none = record { each = λ p h. absurd (omega arith); ors = λ p q h. absurd (omega arith) }
 
   pub from-push : (nodes : List Node) (node : Node) (c : ℕ) → AreFrom nodes → IsFrom (nodes ++ node ∷ []) c (length nodes) → (node.what ≡ Or → (q : ℕ) → In q node.kids → IsFrom nodes c q)
       → AreFrom (nodes ++ node ∷ [])
@@ -119,7 +116,3 @@ module _ (graph : Graph) (values marks : List ℕ) where
   -- a place is that of a kid already, or of one whose parent comes
   abbrev pub IsNeeded : List ℕ → List Node → ℕ → ℕ → Type 0
   IsNeeded places nodes at p = HasParent nodes p ⊎ Waits places at p
-
-  pub needed-more : (places : List ℕ) (nodes : List Node) (node : Node) (at p : ℕ) → IsNeeded places nodes at p → IsNeeded places (nodes ++ node ∷ []) at p
-  needed-more places nodes node at p (inl h) = inl (parent-more nodes node p h)
-  needed-more places nodes node at p (inr w) = inr w

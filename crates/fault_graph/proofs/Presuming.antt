@@ -1,7 +1,7 @@
 -- What is presumed of all parts, and what the first diagnosis says of it.
-use Rattle.std.proofs.Common.{◌≡◌, ℕ, zero, suc, ◌<◌, ◌≤◌, Bool, true, false, cond, not, List, [], ◌∷◌, length, get_or, Some, refl, ap, sym, ◌∙◌, subst, inl, inr}
+use Rattle.std.proofs.Common.{◌≡◌, ℕ, zero, suc, ◌<◌, ◌≤◌, Bool, true, false, cond, List, [], ◌∷◌, length, get_or, Some, refl, ap, sym, ◌∙◌, subst, inl, inr}
 use Rattle.std.specs.Prelude.{◌↔◌, ◌==◌, slice_get}
-use Rattle.std.proofs.lemmas.Bool.{false≢true, eqb-true, eq-eqb}
+use Rattle.std.proofs.lemmas.Bool.{false≢true, eqb-true, eq-eqb, true_from_ne_false}
 use Rattle.state_rules.specs.Bits.{bit_in}
 use Rattle.state_rules.proofs.Members.{In}
 use Rattle.state_rules.specs.Graphs.{Graph}
@@ -43,10 +43,7 @@ module _ (graph : Graph) (words costs : List ℕ) (i most : ℕ) (lt : i < lengt
     by_word zero q true t = inr (is.0 (eqb-true suspect 1 t), f ∙ (λ j. Some (presumed (q j) suspect)) ∙ (λ j. Some (cond (t j) Sometimes Never)))
     by_word zero q false t = inl (f ∙ (λ j. Some (presumed (q j) suspect)) ∙ (λ j. Some (cond (t j) Sometimes Never)) ∙ ap Some (all-ok graph words costs i most lt within e ok)) where
       ok : (h : List Bool) → ModelWithin graph words costs most h → bit_in h i ≡ true
-      ok h p = by_bit (bit_in h i) refl where
-        by_bit : (b : Bool) → bit_in h i ≡ b → b ≡ true
-        by_bit true r = refl
-        by_bit false r = absurd (false≢true (sym t ∙ eq-eqb suspect 1 (is.1 (record { within = lt; open_ = q; state = h; is_least = passes-least graph words costs most h e p; faulty = r }))))
+      ok h p = true_from_ne_false (bit_in h i) (λ r. false≢true (sym t ∙ eq-eqb suspect 1 (is.1 (record { within = lt; open_ = q; state = h; is_least = passes-least graph words costs most h e p; faulty = r }))))
     by_word (suc zero) q b t = inl (f ∙ (λ j. Some (presumed (q j) suspect)) ∙ ap Some (all-ok graph words costs i most lt within e (λ h p. Agree-bit true (bit_in h i) (subst (λ w. Agree w (bit_in h i)) q (ModelWithin-agrees graph costs within words most h long p i lt)))))
     by_word (suc (suc n)) q b t = inl (f ∙ (λ j. Some (presumed (q j) suspect)) ∙ ap Some (all-faulty graph words costs i most lt within e (λ h p. Agree-bit false (bit_in h i) (subst (λ w. Agree w (bit_in h i)) q (ModelWithin-agrees graph costs within words most h long p i lt)))))
 

@@ -10,7 +10,7 @@ use Rattle.minimiser.proofs.Costs.{IsCost}
 use Rattle.minimiser.proofs.Whole.{part_cost-none}
 use Rattle.minimiser.proofs.Models.{LeastIs}
 use Rattle.minimiser.proofs.Derivations.{is_cost}
-use Rattle.minimiser.proofs.Sweeping.{node_least, value-is}
+use Rattle.minimiser.proofs.Valued.{node_least, value-is}
 use Rattle.fault_graph.specs.Distilled.{IsDistilled}
 use Rattle.fault_graph.specs.Small.{IsSmall}
 use Rattle.fault_graph.proofs.Standing.{StandsFor, StandsFor-same, stands-free}
@@ -55,7 +55,7 @@ module _ (graph : Graph) (words costs : List ℕ) (ok : IsGraph graph) (long : l
   pub free-root : total_cost costs < 2147483647 → (most : ℕ) → LeastIs graph costs words most → (values : List ℕ) → AreLeastCosts graph words costs values → All (λ c. 0 < c) costs → get_or values (length graph.nodes - 1) 0 ≡ 0
       → IsWhole (true_node ∷ [])
   free-root total most least_most values v dears z =
-      let free : node_least graph words costs root ≡ Some 0 = sym (value-is graph words costs ok long within total most least_most values v root (omega (arith, ok.some))) ∙ ap cost_in z in
+      let free : node_least graph words costs root ≡ Some 0 = sym (value-is graph words costs values v root (omega (arith, ok.some))) ∙ ap cost_in z in
       whole dears [] true_node 0 (AreNodes-push graph.vars [] true_node (record { fit = refl; apart = λ w. tt }) refl (λ w. refl)) (omega arith) (omega arith) free
       (StandsFor-same (known_at words) (part_cost costs) (length costs) (λ a. refl) (λ w. refl) refl (λ a. value_of-last (truth_by a) [] true_node)
       (stands-free (known_at words) (part_cost costs) (length costs) (part_cost-none costs) (λ a. is_true graph.nodes root a) (λ w. mentions graph.nodes w root)

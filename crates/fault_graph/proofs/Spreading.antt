@@ -1,5 +1,5 @@
 -- Marks that go down from the root.
-use Rattle.std.proofs.Common.{◌≡◌, ◌≢◌, ℕ, ◌+◌, ◌-◌, ◌<◌, ◌≤◌, Bool, true, false, cond, ◌&&◌, List, length, get_or, refl, ap, sym, ◌∙◌, subst, arith, inl, inr, ⊎_elim}
+use Rattle.std.proofs.Common.{◌≡◌, ◌≢◌, ℕ, ◌+◌, ◌-◌, ◌<◌, ◌≤◌, Bool, true, false, cond, ◌&&◌, List, length, get_or, refl, sym, ◌∙◌, subst, arith, inl, inr, ⊎_elim}
 use Rattle.std.specs.Prelude.{◌⊎◌, nat_lt}
 use Rattle.std.proofs.lemmas.Bool.{and_from, leb-true, le-leb, ltb-true, lt-ltb, cases_eq}
 use Rattle.state_rules.specs.Graphs.{Node, node_at}
@@ -29,19 +29,6 @@ mark-kid : (kids values : List ℕ) (cost j mark : ℕ) → is_kid kids j ≡ tr
 mark-kid kids values cost j mark i dear h = λ k. cond (and_from _ _ i (and_from _ _ (lt-ltb 0 (get_or values j 0) dear) (le-leb _ _ h)) k) 1 mark
 
 module _ (nodes : List Node) (values xs : List ℕ) (at : ℕ) (s : AreMarks nodes values xs (at + 1)) where
-  -- a node without a mark is passed over
-  pub marks-past : get_or xs at 0 ≢ 1 → AreMarks nodes values xs at
-  marks-past none = record {
-    root = s.root;
-    dear = s.dear;
-    low = s.low;
-    down = λ k j h g m i d c. ⊎_elim
-        (λ (e : k ≡ at). absurd (none (sym (ap (λ n. get_or xs n 0) e) ∙ m)))
-        (λ (e : k ≢ at). s.down k j (omega arith) g m i d c)
-        (cases_eq k at);
-    up = s.up;
-  }
-
   -- a marked node is met, and marks its kids that cost something and no more
   pub marks-met : (ys : List ℕ) → at < length nodes → ((k j : ℕ) → k < length nodes → is_kid (node_at nodes k).kids j ≡ true → j < k) → get_or xs at 0 ≡ 1
       → ((j : ℕ) → j < length nodes → get_or ys j 0 ≡ mark_of (node_at nodes at).kids values (get_or values at 0) j (get_or xs j 0)) → AreMarks nodes values ys at

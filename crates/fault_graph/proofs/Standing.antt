@@ -4,9 +4,9 @@ use Rattle.std.proofs.lemmas.Bool.{and_from, or_cases, or_left, or_right, eq-eqb
 use Rattle.state_rules.specs.Bits.{same_bit}
 use Rattle.state_rules.specs.Assignments.{Assignment}
 use Rattle.state_rules.proofs.Members.{AtMost}
-use Rattle.node_costs.specs.Costs.{Prices}
-use Rattle.node_costs.proofs.Weighing.{weigh-le, weigh-one, weigh-apart, join, joined-le, trim}
-use Rattle.minimiser.proofs.Costs.{fault, opens, ends, free, IsCost, Agrees, faults_in, all_faults, and_left, and_right}
+use Rattle.node_costs.specs.Costs.{Weights}
+use Rattle.node_costs.proofs.Conditions.{cost_among-le, cost_among-one, cost_among-apart, join, joined-le, trim}
+use Rattle.minimiser.proofs.Costs.{fault, open_weights, only_parts, free, IsCost, Agrees, faults_in, all_faults, and_left, and_right}
 
 fault_most : (k : Option Bool) (w : ℕ) (b : Bool) → fault k w b ≤ w
 fault_most None w true = omega arith
@@ -15,8 +15,8 @@ fault_most (Some x) w b = omega arith
 
 -- what is known of each variable, what it costs where it is false, and how many variables there are whose cost may not be 0
 module _ (known : ℕ → Option Bool) (cost : ℕ → ℕ) (parts : ℕ) where
-  abbrev g : Prices
-  g = opens known cost parts
+  abbrev g : Weights
+  g = open_weights known cost parts
 
   -- one that makes a node true at a cost, with no faults but those of another
   pub record Within (t : Assignment → Bool) (c : ℕ) (b : Assignment) : Type 0 where
@@ -35,7 +35,7 @@ module _ (known : ℕ → Option Bool) (cost : ℕ → ℕ) (parts : ℕ) where
   pub StandsFor-same : {t s u w : Assignment → Bool} {m o : ℕ → Bool} {c d : ℕ} → ((a : Assignment) → s a ≡ t a) → ((v : ℕ) → o v ≡ m v) → c ≡ d → ((a : Assignment) → w a ≡ u a)
       → StandsFor t m c u → StandsFor s o d w
   StandsFor-same {m = m} {o = o} {c = c} p q e r is = record {
-    onto = λ a ag h few. r a ∙ is.onto a ag (sym (p a) ∙ h) (omega (arith, few, e, weigh-le g m o a (λ v h. q v ∙ h)));
+    onto = λ a ag h few. r a ∙ is.onto a ag (sym (p a) ∙ h) (omega (arith, few, e, cost_among-le g m o a (λ v h. q v ∙ h)));
     back = λ b ag h. let x = is.back b ag (sym (r b) ∙ h) in record { by = x.by; agrees = x.agrees; holds = p x.by ∙ x.holds; cheap = omega (arith, x.cheap, e); fewer = x.fewer };
   }
 
@@ -46,7 +46,7 @@ module _ (known : ℕ → Option Bool) (cost : ℕ → ℕ) (parts : ℕ) where
     back = λ b ag h. let r = is.reached 0 refl in record { by = r.by; agrees = r.agrees; holds = r.holds; cheap = r.cheap; fewer = λ v. omega (arith, no_fault r.by r.cheap v) };
   } where
     no_fault : (a : Assignment) → all_faults known cost parts a ≤ 0 → (v : ℕ) → fault (known v) (cost v) (a v) ≤ 0
-    no_fault a few v = omega (arith, few, weigh-le g (λ u. eqb v u) (λ u. true) a (λ u h. refl), weigh-one g (ends known cost parts none) v a)
+    no_fault a few v = omega (arith, few, cost_among-le g (λ u. eqb v u) (λ u. true) a (λ u h. refl), cost_among-one g (only_parts known cost parts none) v a)
 
   -- an open literal that says faulty
   pub stands-literal : (none : (v : ℕ) → ((1 ≤ v) → (v < 1 + parts) → ⊥) → cost v ≡ 0) (var : ℕ) → StandsFor (λ a. same_bit false (a var)) (λ v. eqb var v) (cost var) (λ a. same_bit false (a var))
@@ -58,7 +58,7 @@ module _ (known : ℕ → Option Bool) (cost : ℕ → ℕ) (parts : ℕ) where
           by = x.by;
           agrees = x.agrees;
           holds = ap (same_bit false) (x.same var (eq-eqb var var refl)) ∙ h;
-          cheap = omega (arith, x.cost_is (λ v. true) (λ v p. refl), weigh-one g (ends known cost parts none) var b, fault_most (known var) (cost var) (b var));
+          cheap = omega (arith, x.cost_is (λ v. true) (λ v p. refl), cost_among-one g (only_parts known cost parts none) var b, fault_most (known var) (cost var) (b var));
           fewer = x.fewer;
         };
   }
@@ -69,10 +69,10 @@ module _ (known : ℕ → Option Bool) (cost : ℕ → ℕ) (parts : ℕ) where
 
   module _ (t s : Assignment → Bool) (m o : ℕ → Bool) where
     left-le : (a : Assignment) → faults_in known cost parts m a ≤ faults_in known cost parts (λ v. m v || o v) a
-    left-le a = weigh-le g m (λ v. m v || o v) a (λ v p. or_left _ _ p)
+    left-le a = cost_among-le g m (λ v. m v || o v) a (λ v p. or_left _ _ p)
 
     right-le : (a : Assignment) → faults_in known cost parts o a ≤ faults_in known cost parts (λ v. m v || o v) a
-    right-le a = weigh-le g o (λ v. m v || o v) a (λ v p. or_right _ _ p)
+    right-le a = cost_among-le g o (λ v. m v || o v) a (λ v p. or_right _ _ p)
 
     -- one of two of the same cost
     pub stands-or : (c : ℕ) (u w : Assignment → Bool) → StandsFor t m c u → StandsFor s o c w → StandsFor (λ a. t a || s a) (λ v. m v || o v) c (λ a. u a || w a)
@@ -109,7 +109,7 @@ module _ (known : ℕ → Option Bool) (cost : ℕ → ℕ) (parts : ℕ) where
           let q : s a ≡ true = and_right (t a) _ h in
           let low_t : c ≤ faults_in known cost parts m a = is_t.bound a ag p in
           let low_s : d ≤ faults_in known cost parts o a = is_s.bound a ag q in
-          let both = weigh-apart g m o a apart in
+          let both = cost_among-apart g m o a apart in
           and_from _ _ (x.onto a ag p (omega (arith, few, low_s, both))) (y.onto a ag q (omega (arith, few, low_t, both)));
       back = λ b ag h.
           let r = x.back b ag (and_left _ _ h) in

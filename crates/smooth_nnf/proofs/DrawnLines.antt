@@ -2,10 +2,11 @@
 use Rattle.std.proofs.Common.{◌≡◌, ℕ, ◌+◌, ◌-◌, ◌*◌, ◌^◌, ◌<◌, ◌≤◌, Bool, true, false, not, cond, ◌&&◌, ◌||◌, ◌==◌, All, List, [], ◌∷◌, ◌++◌, map, length, get_or, Option, Some, None, refl, ap, sym, ◌∙◌, subst, arith, ⊎_elim, inl, inr, append_assoc, append-nil, length-append}
 use Rattle.std.specs.Prelude.{slice_get, slice_index, nat_lt, nat_le}
 use Rattle.std.specs.List.{list_all, list_any, filter, flat_map, enumerate_from, range_with_len, AllByRecursion}
-use Rattle.std.proofs.lemmas.Bool.{and_from, and_parts, lt-ltb, ltb-true, le-leb, leb-true, eqb-true, cases_lt}
+use Rattle.std.proofs.lemmas.Bool.{and_from, and_parts, lt-ltb, ltb-true, le-leb, leb-true, eqb-true, cases_lt, and_left, and_right, not-true}
 use Rattle.std.proofs.lemmas.List.{length-map, get_or_at}
 use Rattle.std.proofs.lemmas.List.FromFn.{length-range_with_len}
 use Rattle.std.proofs.lemmas.Option.{slice_get-get_or, same_Some}
+use Rattle.std.proofs.Math.Bool.{and-false}
 use Rattle.state_rules.specs.Bits.{same_bit}
 use Rattle.state_rules.specs.Assignments.{Assignment}
 use Rattle.state_rules.specs.Values.{values}
@@ -165,15 +166,10 @@ module _ (graph : Graph) (words costs : List ℕ) (ok : IsGraph graph) (dear : A
       below = and_from _ _ (lt-ltb (own k) (length lines) drawn.inside) (fillers-below parts more words rest room (length lines) room);
       kind = lt-ltb (length line_over.kids) CHILD_LIMIT (omega (arith, few, small));
       apart = λ v. at_most_one-from (mentions lines v (own k)) (map (mentions lines v) filling_in)
-          (λ any. drawn.mentioned v ∙ both_off (part_of v) (o v) (M v k) (sym (fillers-mention parts more words rest room v) ∙ any))
+          (λ any. let off = and_parts (part_of v) (o v && not (M v k)) (sym (fillers-mention parts more words rest room v) ∙ any) in drawn.mentioned v ∙ and_right (part_of v) _ (not-true (M v k) (and_parts (o v) (not (M v k)) off.1).1))
           (fillers-once parts more words rest room v);
       smooth = λ v. refl;
-    } where
-      both_off : (p x m : Bool) → (p && (x && not m)) ≡ true → (p && m) ≡ false
-      both_off true true true e = absurd (let no : false ≡ true = e in cc)
-      both_off true true false e = refl
-      both_off true false m e = absurd (let no : false ≡ true = e in cc)
-      both_off false x m e = refl
+    }
 
     pub over-means : Means graph words costs ok dear (λ a. is_true graph.nodes k a) o c (λ a. list_all (λ b. b) (map (λ q. is_true (literal_pairs (length costs) ++ more) q a) line_over.kids))
     over-means = filled graph words costs ok dear k c cost_is o wider (λ a. is_true lines (own k) a) (λ a. list_all (λ b. b) (map (λ q. is_true lines q a) filling_in)) drawn.means
@@ -237,22 +233,13 @@ module _ (graph : Graph) (words costs : List ℕ) (ok : IsGraph graph) (dear : A
       part_alone v part = by_test (var == v) refl where
         by_test : (b : Bool) → (var == v) ≡ b → b ≡ (part_of v && b)
         by_test true q = sym (and_from _ _ (ap part_of (sym (eqb-true var v q)) ∙ part) refl)
-        by_test false q = none (part_of v) where
-          none : (p : Bool) → false ≡ (p && false)
-          none true = refl
-          none false = refl
+        by_test false q = sym (and-false (part_of v))
 
       other_none : (v : ℕ) → part_of var ≡ false → false ≡ (part_of v && (var == v))
       other_none v other = by_test (var == v) refl where
         by_test : (b : Bool) → (var == v) ≡ b → false ≡ (part_of v && b)
-        by_test true q = off (part_of v) (ap part_of (sym (eqb-true var v q)) ∙ other) where
-          off : (p : Bool) → p ≡ false → false ≡ (p && true)
-          off true r = sym r
-          off false r = refl
-        by_test false q = none (part_of v) where
-          none : (p : Bool) → false ≡ (p && false)
-          none true = refl
-          none false = refl
+        by_test true q = sym (and_left (part_of v) true (ap part_of (sym (eqb-true var v q)) ∙ other))
+        by_test false q = sym (and-false (part_of v))
 
       literal-adds : Adds (and_over (literal_kids parts var positive) ∷ [])
       literal-adds = by_part (nat_le var parts) refl where
@@ -267,11 +254,8 @@ module _ (graph : Graph) (words costs : List ℕ) (ok : IsGraph graph) (dear : A
             (λ c q. Means-same (λ a. all-one (is_true before (literal_line var positive) a) ∙ literal-value parts more (truth_by a) var positive low (high p) inside) (part-means graph words costs ok dear i var positive kids e c q part))
         by_part false p =
             one-adds (and_over []) (record { below = refl; kind = refl; apart = λ v. refl; smooth = λ v. refl }) at
-            (λ v c q. other_none v (off (nat_le 1 var) p) ∙ ap (λ b. part_of v && b) (sym (has-is v)))
-            (λ c q. other-means graph words costs ok dear i var positive kids e c q (off (nat_le 1 var) p)) where
-              off : (x : Bool) → nat_le var parts ≡ false → (x && nat_le var parts) ≡ false
-              off true r = r
-              off false r = refl
+            (λ v c q. other_none v (and_right (nat_le 1 var) _ p) ∙ ap (λ b. part_of v && b) (sym (has-is v)))
+            (λ c q. other-means graph words costs ok dear i var positive kids e c q (and_right (nat_le 1 var) _ p))
 
     -- an and
     and-adds : (kids : List ℕ) → slice_get graph.nodes i ≡ Some (record { what = And; kids = kids }) → (cost : ℕ) → Ck i ≡ Some cost → own i ≡ length before → Adds (and_over (map own kids) ∷ [])

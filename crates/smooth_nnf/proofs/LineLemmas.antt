@@ -1,18 +1,19 @@
 -- The texts of the lines of nodes.
 use Rattle.std.proofs.Common.{◌≡◌, ℕ, zero, suc, ◌+◌, ◌-◌, ◌*◌, ◌^◌, ◌<◌, ◌≤◌, All, Bool, true, false, cond, List, [], ◌∷◌, ◌++◌, map, length, get_or, codes, Option, Some, None, refl, sym, ap, ◌∙◌, subst, arith, append-nil}
 use Rattle.std.specs.Prelude.{decimal, slice_index}
-use Rattle.std.specs.List.{list_any, flat_map, enumerate_from, range_with_len}
-use Rattle.std.proofs.lemmas.Bool.{or_left, or_right, ltb-true}
+use Rattle.std.specs.List.{flat_map, enumerate_from, range_with_len}
+use Rattle.std.proofs.lemmas.Bool.{ltb-true}
 use Rattle.std.proofs.lemmas.List.{length-map}
 use Rattle.std.proofs.lemmas.List.Concat.{flat_map-append}
 use Rattle.std.proofs.lemmas.List.Folds.{flat_map-map}
 use Rattle.std.proofs.lemmas.List.FromFn.{get_or-enumerate_from, get_or-range_with_len}
+use Rattle.part_sets.proofs.Kids.{kid-mentions}
 use Rattle.text_rules.specs.Tokens.{spaced}
 use Rattle.state_rules.specs.declared.nodes.TheConstants.{CHILD_LIMIT}
 use Rattle.state_rules.specs.declared.nodes.NodeKind.{NodeKind}
 use Rattle.state_rules.specs.declared.nodes.NodeKind.TheVariants.{Literal, Or}
-use Rattle.state_rules.specs.Graphs.{Node, true_node, node_at, mention_by, mentions, kind_fits, IsGraph}
-use Rattle.state_rules.proofs.NodeValues.{are_below, below-each, value_of-at}
+use Rattle.state_rules.specs.Graphs.{Node, true_node, node_at, mentions, kind_fits, IsGraph}
+use Rattle.state_rules.proofs.NodeValues.{below-each}
 use Rattle.state_rules.proofs.NodesFit.{Fits, fits-at, literal}
 use Rattle.nnf_text.specs.WrittenGraphs.{node_words}
 use Rattle.nnf_text.proofs.LineTexts.{and-spaced, or-spaced}
@@ -106,15 +107,7 @@ module _ (d : Drawing) (is : IsDrawing d) (valid : IsGraph d.graph) (node : ℕ)
   few-kids-of or = ltb-true (length kids) CHILD_LIMIT (ap (λ w. kind_fits d.graph.vars w kids) (sym or) ∙ fit.kind)
 
   pub kid-wider : what ≡ Or → (i part : ℕ) → i < length kids → mentions d.graph.nodes part (get_or kids i 0) ≡ true → mentions d.graph.nodes part node ≡ true
-  kid-wider or i part h m =
-      value_of-at (mention_by part) d.graph.nodes node lt (subst (λ (n : Node). are_below node n.kids ≡ true) (sym at) fit.below)
-      ∙ ap (λ (n : Node). mention_by part n.what (map (mentions d.graph.nodes part) n.kids)) at
-      ∙ ap (λ w. mention_by part w (map (mentions d.graph.nodes part) kids)) or
-      ∙ any-place (mentions d.graph.nodes part) kids i h m where
-        any-place : (f : ℕ → Bool) (ks : List ℕ) (i : ℕ) → i < length ks → f (get_or ks i 0) ≡ true → list_any (λ b. b) (map f ks) ≡ true
-        any-place f [] i h m = absurd (omega arith)
-        any-place f (k ∷ ks) zero h m = or_left _ _ m
-        any-place f (k ∷ ks) (suc i) h m = or_right _ _ (any-place f ks i (omega arith) m)
+  kid-wider or i part h m = kid-mentions d.graph node kids valid lt (ap (λ (n : Node). n.kids) (sym at)) i (ap (λ (n : Node). n.what) at ∙ or) h part m
 
   pub line-room : what ≡ Or → (cost : ℕ) → cost_at (map cost_in d.values) node ≡ Some cost → length (cheapest_kids (map cost_in d.values) cost kids) ≤ slice_index d.lines node
   line-room or cost e =

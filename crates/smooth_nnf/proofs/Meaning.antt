@@ -2,7 +2,7 @@
 use Rattle.std.proofs.Common.{◌≡◌, ℕ, zero, suc, ◌<◌, ◌≤◌, Bool, true, false, not, ◌&&◌, All, List, [], ◌∷◌, map, length, Option, Some, None, refl, ap, sym, ◌∙◌, subst, arith, ⊎_elim, inl, inr}
 use Rattle.std.specs.Prelude.{slice_get, nat_le}
 use Rattle.std.specs.List.{list_all, list_any}
-use Rattle.std.proofs.lemmas.Bool.{and_from, and_parts, or_cases, or_left, or_right, eqb-true, eq-eqb, leb-true}
+use Rattle.std.proofs.lemmas.Bool.{and_from, and_parts, or_cases, or_left, or_right, eqb-true, eq-eqb, leb-true, not-true}
 use Rattle.state_rules.specs.Bits.{same_bit}
 use Rattle.state_rules.specs.Cases.{agrees_at}
 use Rattle.state_rules.specs.Assignments.{Assignment}
@@ -13,9 +13,9 @@ use Rattle.state_rules.specs.declared.nodes.NodeKind.TheVariants.{Literal, And, 
 use Rattle.state_rules.specs.Graphs.{at_most_one, Graph, mentions, is_true, IsGraph}
 use Rattle.state_rules.proofs.Kids.{at_most_one-tail, not_both}
 use Rattle.minimiser.specs.Costs.{part_cost, known_at, cost_at, sum_costs, node_cost}
-use Rattle.node_costs.proofs.Weighing.{weigh-apart}
-use Rattle.minimiser.proofs.Costs.{fault, opens, Agrees, faults_in, faults_in-le, all_faults, joins, from_add}
-use Rattle.minimiser.proofs.Derivations.{is_cost, kids-cost, Apart, true-at, mention-at, apart-kids, costs-at, any-kid, kid-with, cheapest-kid, faults-lt}
+use Rattle.node_costs.proofs.Conditions.{cost_among-apart, join, joined-le}
+use Rattle.minimiser.proofs.Costs.{fault, open_weights, Agrees, faults_in, faults_in-le, from_add, Reaches}
+use Rattle.minimiser.proofs.Derivations.{is_cost, kids-cost, Apart, true-at, mention-at, apart-kids, costs-at, any-kid, kid-with, faults-lt, or-kid}
 use Rattle.smooth_nnf.specs.Layouts.{filling, costs_just, cheapest_kids}
 
 -- ---- costs of kids
@@ -74,11 +74,8 @@ module _ (graph : Graph) (words costs : List ℕ) (ok : IsGraph graph) (dear : A
 
   -- an assignment that agrees and passes a test at no more than a cost, with the same bits of some parts
   pub record Gives (t : Assignment → Bool) (m : ℕ → Bool) (c : ℕ) (a : Assignment) : Type 0 where
-    pub by : Assignment
-    pub agrees : Agrees (known_at words) (part_cost costs) (length costs) by
-    pub holds : t by ≡ true
-    pub cheap : all_faults (known_at words) (part_cost costs) (length costs) by ≤ c
-    pub same : (v : ℕ) → is_part v ≡ true → m v ≡ true → a v ≡ by v
+    pub is : Reaches (known_at words) (part_cost costs) (length costs) t c
+    pub same : (v : ℕ) → is_part v ≡ true → m v ≡ true → a v ≡ is.by v
 
   -- A line is true where its test can be passed at no more than a cost, with the same bits of the parts that the test is about.
   pub record Means (t : Assignment → Bool) (m : ℕ → Bool) (c : ℕ) (line : Assignment → Bool) : Type 0 where
@@ -125,27 +122,17 @@ module _ (graph : Graph) (words costs : List ℕ) (ok : IsGraph graph) (dear : A
   filled k c e o wider line fill means fills = record {
     sound = λ a b ag h few same. and_from _ _
         (means.sound a b ag h (omega (arith, few, faults_in-le kn price n (λ v. M v k) o b wider)) (λ v p q. same v p (wider v q)))
-        (fills.sound a (λ v p q. let both = and_parts (o v) (not (M v k)) q in same v p both.0 ∙ outside k c e o wider b ag h few v p both.0 (is_off (M v k) both.1)));
+        (fills.sound a (λ v p q. let both = and_parts (o v) (not (M v k)) q in same v p both.0 ∙ outside k c e o wider b ag h few v p both.0 (not-true (M v k) both.1)));
     reached = λ a h.
         let both = and_parts (line a) (fill a) h in
         let g = means.reached a both.0 in
-        record {
-          by = g.by;
-          agrees = g.agrees;
-          holds = g.holds;
-          cheap = g.cheap;
-          same = λ v p q. by_test a both.1 g v p q (M v k) refl;
-        };
+        record { is = g.is; same = λ v p q. by_test a both.1 g v p q (M v k) refl };
   } where
-    is_off : (x : Bool) → not x ≡ true → x ≡ false
-    is_off true h = absurd (let no : false ≡ true = h in cc)
-    is_off false h = refl
-
-    by_test : (a : Assignment) → fill a ≡ true → (g : Gives (λ b. T b k) (λ v. M v k) c a) → (v : ℕ) → is_part v ≡ true → o v ≡ true → (x : Bool) → M v k ≡ x → a v ≡ g.by v
+    by_test : (a : Assignment) → fill a ≡ true → (g : Gives (λ b. T b k) (λ v. M v k) c a) → (v : ℕ) → is_part v ≡ true → o v ≡ true → (x : Bool) → M v k ≡ x → a v ≡ g.is.by v
     by_test a f g v p q true m = g.same v p m
     by_test a f g v p q false m =
         fills.reached a f v p (and_from _ _ q (ap not m))
-        ∙ sym (outside k c e (λ u. true) (λ u r. refl) g.by g.agrees g.holds g.cheap v p refl m)
+        ∙ sym (outside k c e (λ u. true) (λ u r. refl) g.is.by g.is.agrees g.is.holds g.is.cheap v p refl m)
 
   -- ---- a literal
 
@@ -165,13 +152,7 @@ module _ (graph : Graph) (words costs : List ℕ) (ok : IsGraph graph) (dear : A
       sound = λ a b ag h few same. ap (same_bit positive) (same var part has_var ∙ says b h) ∙ same_bit-refl positive;
       reached = λ a h.
           let r = (is_cost graph words costs ok k).reached c cost_is in
-          record {
-            by = r.by;
-            agrees = r.agrees;
-            holds = r.holds;
-            cheap = r.cheap;
-            same = λ v p m. subst (λ u. a u ≡ r.by u) (of_var v m) (sym (same_bit-equal positive (a var) h) ∙ sym (says r.by r.holds));
-          };
+          record { is = r; same = λ v p m. subst (λ u. a u ≡ r.by u) (of_var v m) (sym (same_bit-equal positive (a var) h) ∙ sym (says r.by r.holds)) };
     }
 
     -- of any other variable
@@ -179,14 +160,7 @@ module _ (graph : Graph) (words costs : List ℕ) (ok : IsGraph graph) (dear : A
     other-means other = record {
       sound = λ a b ag h few same. refl;
       reached = λ a h.
-          let r = (is_cost graph words costs ok k).reached c cost_is in
-          record {
-            by = r.by;
-            agrees = r.agrees;
-            holds = r.holds;
-            cheap = r.cheap;
-            same = λ v p m. absurd (let no : true ≡ false = sym p ∙ ap is_part (sym (of_var v m)) ∙ other in cc);
-          };
+          record { is = (is_cost graph words costs ok k).reached c cost_is; same = λ v p m. absurd (let no : true ≡ false = sym p ∙ ap is_part (sym (of_var v m)) ∙ other in cc) };
     }
 
   -- ---- an and
@@ -199,8 +173,7 @@ module _ (graph : Graph) (words costs : List ℕ) (ok : IsGraph graph) (dear : A
     all_lines [] apart are c s = record {
       sound = λ a b ag h few same. refl;
       reached = λ a h.
-          let r = (kids-cost graph words costs ok [] apart).reached c s in
-          record { by = r.by; agrees = r.agrees; holds = r.holds; cheap = r.cheap; same = λ v p m. absurd (let no : false ≡ true = m in cc) };
+          record { is = (kids-cost graph words costs ok [] apart).reached c s; same = λ v p m. absurd (let no : false ≡ true = m in cc) };
     }
     all_lines (j ∷ kids) apart are c s =
         let sum = from_add (Ck j) (sum_costs (map Ck kids)) c s in
@@ -216,7 +189,7 @@ module _ (graph : Graph) (words costs : List ℕ) (ok : IsGraph graph) (dear : A
               let low_here : sum.left ≤ faults_in kn price n (λ v. M v j) b = subst (λ o. AtMost o (faults_in kn price n (λ v. M v j) b)) sum.left_is (j_is.bound b ag parts.0) in
               let low_there : sum.right ≤ faults_in kn price n (λ v. list_any (λ x. x) (map (M v) kids)) b =
               subst (λ o. AtMost o (faults_in kn price n (λ v. list_any (λ x. x) (map (M v) kids)) b)) sum.right_is (kids_are.bound b ag parts.1) in
-              let all = weigh-apart (opens kn price n) (λ v. M v j) (λ v. list_any (λ x. x) (map (M v) kids)) b both in
+              let all = cost_among-apart (open_weights kn price n) (λ v. M v j) (λ v. list_any (λ x. x) (map (M v) kids)) b both in
               and_from _ _
               (first.sound a b ag parts.0 (omega (arith, all, low_there, sum.sum_is, few)) (λ v p q. same v p (or_left _ _ q)))
               (rest.sound a b ag parts.1 (omega (arith, all, low_here, sum.sum_is, few)) (λ v p q. same v p (or_right _ _ q)));
@@ -224,13 +197,16 @@ module _ (graph : Graph) (words costs : List ℕ) (ok : IsGraph graph) (dear : A
               let parts = and_parts (line j a) (list_all (λ b. b) (map (λ k. line k a) kids)) h in
               let g = first.reached a parts.0 in
               let r = rest.reached a parts.1 in
-              let x = joins kn price n (λ b. T b j) (λ b. list_all (λ y. y) (map (T b) kids)) (λ v. M v j) (λ v. list_any (λ y. y) (map (M v) kids)) (Ck j) (sum_costs (map Ck kids)) j_is kids_are both
-              g.by r.by g.agrees r.agrees g.holds r.holds in
+              let p = g.is in
+              let q = r.is in
+              let x = join (open_weights kn price n) (λ v. M v j) (λ v. list_any (λ y. y) (map (M v) kids)) both p.by q.by p.agrees q.agrees in
               record {
-                by = x.by;
-                agrees = x.agrees;
-                holds = and_from _ _ x.left x.right;
-                cheap = omega (arith, x.cheap, g.cheap, r.cheap, sum.sum_is);
+                is = record {
+                  by = x.by;
+                  agrees = x.agrees;
+                  holds = and_from _ _ (j_is.local x.by p.by x.as_left ∙ p.holds) (kids_are.local x.by q.by x.as_right ∙ q.holds);
+                  cheap = omega (arith, joined-le (open_weights kn price n) (λ v. M v j) (λ v. list_any (λ y. y) (map (M v) kids)) (λ v. true) p.by q.by x, p.cheap, q.cheap, sum.sum_is);
+                };
                 same = λ v p q. ⊎_elim
                     (λ m. g.same v p m ∙ sym (x.as_left v m))
                     (λ m. r.same v p m ∙ sym (x.as_right v m))
@@ -250,10 +226,7 @@ module _ (graph : Graph) (words costs : List ℕ) (ok : IsGraph graph) (dear : A
           reached = λ a h.
               let g = m.reached a h in
               record {
-                by = g.by;
-                agrees = g.agrees;
-                holds = true-at graph words costs ok i _ e g.by ∙ g.holds;
-                cheap = g.cheap;
+                is = record { by = g.is.by; agrees = g.is.agrees; holds = true-at graph words costs ok i _ e g.is.by ∙ g.is.holds; cheap = g.is.cheap };
                 same = λ v p q. g.same v p (sym (mention-at graph words costs ok i _ e v) ∙ q);
               };
         }
@@ -265,15 +238,6 @@ module _ (graph : Graph) (words costs : List ℕ) (ok : IsGraph graph) (dear : A
     pub kid-inside : (k : ℕ) → In k kids → (v : ℕ) → M v k ≡ true → M v i ≡ true
     kid-inside k m v h = mention-at graph words costs ok i _ e v ∙ any-kid (M v) kids k m h
 
-    -- a kid that is true at the or's cost has it
-    kid-cost : (b : Assignment) → Agrees kn price n b → faults_in kn price n (λ v. M v i) b ≤ c → (k : ℕ) → In k kids → T b k ≡ true → Ck k ≡ Some c
-    kid-cost b ag few k m h = by_cost (Ck k) refl ((is_cost graph words costs ok k).bound b ag h) where
-      by_cost : (o : Option ℕ) → Ck k ≡ o → AtMost o (faults_in kn price n (λ v. M v k) b) → Ck k ≡ Some c
-      by_cost None q low = absurd low
-      by_cost (Some d) q low =
-          let most : c ≤ d = subst (λ o. AtMost o d) (sym (costs-at graph words costs ok i _ e) ∙ is) (cheapest-kid Ck kids k d m q) in
-          q ∙ ap Some (omega (arith, low, few, most, faults_in-le kn price n (λ v. M v k) (λ v. M v i) b (kid-inside k m)))
-
     abbrev cheapest : List ℕ
     cheapest = cheapest_kids (values (node_cost kn price) graph.nodes) c kids
 
@@ -284,7 +248,7 @@ module _ (graph : Graph) (words costs : List ℕ) (ok : IsGraph graph) (dear : A
     or-means line are = record {
       sound = λ a b ag h few same.
           let j = kid-with (T b) kids (sym (true-at graph words costs ok i _ e b) ∙ h) in
-          let cost_is = kid-cost b ag few j.item j.is_in j.passes in
+          let cost_is = or-kid graph words costs ok b ag i kids c e is few j.item j.is_in j.passes in
           any-kid (λ k. line k a) cheapest j.item (cheapest-in (values (node_cost kn price) graph.nodes) c kids j.item j.is_in cost_is)
           ((are j.item j.is_in cost_is).sound a b ag j.passes few same);
       reached = λ a h.
@@ -292,10 +256,7 @@ module _ (graph : Graph) (words costs : List ℕ) (ok : IsGraph graph) (dear : A
           let m = cheapest-is (values (node_cost kn price) graph.nodes) c kids j.item j.is_in in
           let g = (are j.item m.0 m.1).reached a j.passes in
           record {
-            by = g.by;
-            agrees = g.agrees;
-            holds = true-at graph words costs ok i _ e g.by ∙ any-kid (T g.by) kids j.item m.0 g.holds;
-            cheap = g.cheap;
+            is = record { by = g.is.by; agrees = g.is.agrees; holds = true-at graph words costs ok i _ e g.is.by ∙ any-kid (T g.is.by) kids j.item m.0 g.is.holds; cheap = g.is.cheap };
             same = g.same;
           };
     }

@@ -17,10 +17,8 @@ use Rattle.state_rules.specs.Values.{values}
 use Rattle.state_rules.proofs.Bits.{pointwise-refl, pointwise-equal}
 use Rattle.state_rules.proofs.Members.{In, In-filter, any_from, any_in}
 use Rattle.state_rules.specs.declared.nodes.NodeKind.{NodeKind}
-use Rattle.state_rules.specs.declared.nodes.NodeKind.TheVariants.{Literal, And, Or}
 use Rattle.state_rules.specs.Graphs.{Node, Graph, truth_by, mention_by, mentions, is_true, holds, IsGraph, edges}
 use Rattle.state_rules.proofs.NodeValues.{value_of}
-use Rattle.state_rules.proofs.Lists.{length-filter-le}
 use Rattle.nnf_text.specs.GraphTexts.{parsed}
 use Rattle.nnf_text.proofs.ReadingBack.{IsList, edges-le, graph_text-read, graph_text-is_neat}
 use Rattle.nnf_text.specs.StateGraphs.{IsSmoothGraphOfStates}
@@ -30,9 +28,9 @@ use Rattle.minimiser.specs.inner.Held.{held_cost}
 use Rattle.minimiser.proofs.Whole.{AddHeld, least_is, state_of, assignment_of}
 use Rattle.minimiser.proofs.Models.{diagnosis-in, diagnosis-out}
 use Rattle.minimiser.specs.Stored.{cost_in, costs_to, AreLeastCosts}
-use Rattle.smooth_nnf.specs.Layouts.{Layout, own_lines, layout_of, literal_pairs, lines_before, lines_to, node_lines, last_at, last_line, all_lines, least_graph, least_text}
+use Rattle.smooth_nnf.specs.Layouts.{Layout, own_lines, layout_of, literal_pairs, lines_to, node_lines, last_at, last_line, all_lines, least_graph, least_text}
 use Rattle.smooth_nnf.specs.inner.Drawings.{lines_after}
-use Rattle.smooth_nnf.proofs.LinePlaces.{lines_after-le}
+use Rattle.smooth_nnf.proofs.LinePlaces.{lines_after-le, lines_to-le}
 use Rattle.smooth_nnf.proofs.Standing.{value_of-there, Stand, MayFollow, stand-behind}
 use Rattle.smooth_nnf.proofs.Meaning.{Means}
 use Rattle.smooth_nnf.proofs.Fillers.{length-literal_pairs}
@@ -131,12 +129,12 @@ module _ (graph : Graph) (words costs : List ℕ) (ok : IsGraph graph) (long : l
       by_cost None e = absurd (false≢true (sym (last-false e (assignment h)) ∙ t))
       by_cost (Some c) e =
           let g = (last-means c e).reached (assignment h) t in
-          let s = state_of graph words costs ok long within g.by g.agrees g.holds in
+          let s = state_of graph words costs ok long within g.is.by g.is.agrees g.is.holds in
           let same : h ≡ s.state = ext_get_or false h s.state (as_long ∙ sym s.long_state) (λ i lt.
           let place : (1 + i) - 1 ≡ i = omega arith in
           ap (bit_in h) (sym place) ∙ g.same (1 + i) (and_from _ _ (le-leb 1 (1 + i) (omega arith)) (le-leb (1 + i) parts (omega arith))) refl ∙ sym (s.bits i (omega arith))) in
           any_in (pointwise same_bit h) s.state ds
-          (diagnosis-in graph words costs (held + c) (least-under (Some c) e) s.state (record { long = s.long_state; model = s.model; cheap = omega (arith, s.cost_is, g.cheap) }))
+          (diagnosis-in graph words costs (held + c) (least-under (Some c) e) s.state (record { long = s.long_state; model = s.model; cheap = omega (arith, s.cost_is, g.is.cheap) }))
           (subst (λ k. pointwise same_bit h k ≡ true) same (pointwise-refl h))
 
     is_shown : list_any (pointwise same_bit h) ds ≡ true → is_true all (length all - 1) (assignment h) ≡ true
@@ -165,18 +163,10 @@ module _ (graph : Graph) (words costs : List ℕ) (ok : IsGraph graph) (long : l
     arith,
     length-append (node_lines L (i, node)) (flat_map (node_lines L) (enumerate_from (i + 1) nodes)),
     length-lines graph words costs ok dear few i node (Ck i),
-    to-le (Ck i),
+    lines_to-le L.least node (Ck i),
     sum_by-cons (λ (n : Node). length n.kids) node nodes,
     lines-le (i + 1) nodes,
-  ) where
-    before-le : (cost : ℕ) (what : NodeKind) (kids : List ℕ) → lines_before L.least cost what kids ≤ length kids
-    before-le cost (Literal positive var) kids = omega arith
-    before-le cost And kids = omega arith
-    before-le cost Or kids = length-filter-le _ kids
-
-    to-le : (o : Option ℕ) → lines_to L.least node o ≤ length node.kids
-    to-le None = omega arith
-    to-le (Some cost) = before-le cost node.what node.kids
+  )
 
   -- at most a line for each node and each kid, two for each part, and one more
   pub all-le : length all ≤ length graph.nodes + edges graph.nodes + 2 * length costs + 1

@@ -1,8 +1,8 @@
 -- Parts that are fixed one by one, each to faulty where that leaves a state.
-use Rattle.std.proofs.Common.{◌≡◌, ◌≢◌, ℕ, ◌+◌, ◌<◌, ◌≤◌, Bool, true, false, List, length, get_or, set, refl, ap, ◌∙◌, subst, arith, inl, inr}
+use Rattle.std.proofs.Common.{◌≡◌, ◌≢◌, ℕ, ◌+◌, ◌<◌, ◌≤◌, true, false, List, length, get_or, set, ap, ◌∙◌, subst, arith, inl, inr}
 use Rattle.std.specs.Prelude.{◌⊎◌}
 use Rattle.std.proofs.Math.ListN.{length-set}
-use Rattle.std.proofs.lemmas.Bool.{cases_lt}
+use Rattle.std.proofs.lemmas.Bool.{cases_lt, true_from_ne_false}
 use Rattle.std.proofs.lemmas.List.{get_or-set_same, get_or-set_other}
 use Rattle.state_rules.specs.Bits.{bit_in}
 use Rattle.state_rules.specs.Graphs.{Graph}
@@ -37,7 +37,5 @@ module _ (graph : Graph) (costs : List ℕ) (within : length costs ≤ graph.var
     }
 
     ok : OkAmong graph old costs c part (part + 1)
-    ok k a b few open_ h o = let same : part ≡ k = omega arith in subst (λ i. bit_in h i ≡ true) same (by (bit_in h part) refl) where
-      by : (b : Bool) → bit_in h part ≡ b → bit_in h part ≡ true
-      by true e = e
-      by false e = absurd (none (record { state = h; is = set-new graph costs within c old part false (s.refines.long ∙ long) lt free h o e }))
+    ok k a b few open_ h o = let same : part ≡ k = omega arith in subst (λ i. bit_in h i ≡ true) same
+        (true_from_ne_false (bit_in h part) (λ e. none (record { state = h; is = set-new graph costs within c old part false (s.refines.long ∙ long) lt free h o e })))

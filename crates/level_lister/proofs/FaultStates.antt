@@ -3,7 +3,7 @@ use Rattle.std.proofs.Common.{◌≡◌, ℕ, ◌+◌, ◌-◌, ◌*◌, ◌/◌
 use Rattle.state_rules.specs.Graphs.{Graph, IsGraph, is_true}
 use Rattle.node_costs.specs.Costs.{CostOf}
 use Rattle.part_sets.proofs.SetBits.{has-within}
-use Rattle.level_lister.specs.inner.CostSets.{prices}
+use Rattle.level_lister.specs.inner.CostSets.{fault_weights}
 use Rattle.minimiser.proofs.Whole.{state_of, assignment_of}
 use Rattle.part_sets.specs.Numbers.{has_number}
 use Rattle.level_lister.specs.declared.pairs.Groups.{Groups}
@@ -11,13 +11,13 @@ use Rattle.level_lister.specs.inner.Pairs.{HasFault, FaultOf, group_in}
 use Rattle.level_lister.specs.inner.FaultSets.{IsWholeFaults}
 use Rattle.level_lister.specs.inner.Skips.{IsEnough}
 use Rattle.level_lister.proofs.Living.{living-true}
-use Rattle.level_lister.proofs.Whole.{weigh-all}
+use Rattle.level_lister.proofs.Whole.{cost_among-all}
 use Rattle.level_lister.proofs.PairNodes.{IsGrouped, grouped, in_group}
 
 module _ (graph : Graph) (words costs : List ℕ) (groups : Groups) (ok : IsGraph graph) (long : length words ≡ graph.vars) (within : length costs ≤ graph.vars) where
   -- the last node is true, and a part of a group faulty
   abbrev pub HasWholeFault : ℕ → ℕ → Type 0
-  HasWholeFault g c = CostOf (prices words costs) (λ v. true) (λ a. (is_true graph.nodes (length graph.nodes - 1) a ≡ true) × HasFault (group_in words (length costs) groups g) (λ v. true) a) c
+  HasWholeFault g c = CostOf (fault_weights words costs) (λ v. true) (λ a. (is_true graph.nodes (length graph.nodes - 1) a ≡ true) × HasFault (group_in words (length costs) groups g) (λ v. true) a) c
 
   pub fault_state : (g c : ℕ) → HasWholeFault g c → FaultOf graph words costs c groups g
   fault_state g c r =
@@ -28,7 +28,7 @@ module _ (graph : Graph) (words costs : List ℕ) (groups : Groups) (ok : IsGrap
       let place : 1 + (fault.var - 1) ≡ fault.var = omega (arith, is.low) in
       record {
         state = s.state;
-        is = record { long = s.long_state; model = s.model; cost_is = weigh-all words r.by costs s.state s.long_state s.bits ∙ r.cost_is };
+        is = record { long = s.long_state; model = s.model; cost_is = cost_among-all words r.by costs s.state s.long_state s.bits ∙ r.cost_is };
         part = fault.var - 1;
         within = inside;
         open_ = is.open_;
@@ -55,7 +55,7 @@ module _ (graph : Graph) (words costs : List ℕ) (groups : Groups) (ok : IsGrap
         of_group = in_group words (length costs) groups g (f.part + 1) is;
         faulty = ap a.by (sym place) ∙ sym (a.bits f.part f.within) ∙ f.faulty;
       } in
-      record { by = a.by; agrees = a.agrees; meets = (a.holds, fault); cost_is = sym (weigh-all words a.by costs h f.is.long a.bits) ∙ f.is.cost_is }
+      record { by = a.by; agrees = a.agrees; meets = (a.holds, fault); cost_is = sym (cost_among-all words a.by costs h f.is.long a.bits) ∙ f.is.cost_is }
 
   -- the set of the whole graph with a fault
   module _ (skips : List ℕ) (top : ℕ) (enough : IsEnough graph skips words costs top) (set : List ℕ) (is : IsWholeFaults graph skips words costs groups set) where

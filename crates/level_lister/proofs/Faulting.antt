@@ -5,30 +5,30 @@ use Rattle.std.proofs.lemmas.Bool.{or_cases, or_left, or_right, eqb-true, eq-eqb
 use Rattle.state_rules.specs.Assignments.{Assignment}
 use Rattle.state_rules.specs.Bits.{same_bit}
 use Rattle.state_rules.specs.Cases.{agrees_at}
-use Rattle.node_costs.specs.Costs.{Prices}
+use Rattle.node_costs.specs.Costs.{Weights}
 use Rattle.node_costs.proofs.Sets.{row-as}
 use Rattle.node_costs.proofs.Tests.{row-cost}
 use Rattle.minimiser.specs.Costs.{known_at}
 use Rattle.part_sets.specs.Numbers.{has_number}
-use Rattle.level_lister.specs.inner.CostSets.{has_shifted, prices, AreSums, IsCostSet}
+use Rattle.level_lister.specs.inner.CostSets.{has_shifted, fault_weights, AreSums, IsCostSet}
 use Rattle.level_lister.specs.inner.Pairs.{HasFault}
 use Rattle.level_lister.specs.inner.FaultSets.{AreCostsOf, IsFaultSet, AreBothSets}
 use Rattle.level_lister.proofs.Growing.{Wider}
-use Rattle.level_lister.proofs.Reaching.{ends, part_cost-at, wider_is}
+use Rattle.level_lister.proofs.Reaching.{only_parts, part_cost-at, wider_is}
 use Rattle.level_lister.proofs.Meeting.{or-row, sum-row, of_choice, of_faulty, and_is, choice_is}
 use Rattle.level_lister.proofs.Faults.{IsFault, moved, fault_local, cost-any_fault, any_fault-costs, cost-all_fault, all_fault-costs, row-fault, row-fault_one}
 
 module _ (words costs : List ℕ) (group : ℕ → Bool) (parts : (v : ℕ) → group v ≡ true → (1 ≤ v) × (v < 1 + length costs)) where
   -- more variables, of which no others are parts'
   pub fault_wider : (t : Assignment → Bool) (some more : ℕ → Bool) (set : List ℕ) → Wider (length costs) some more → IsFaultSet words costs group t some set → IsFaultSet words costs group t more set
-  fault_wider t some more set wider is = row-fault (prices words costs) group (32 * length set) (has_number set) parts t t some more (λ a. refl) wider is
+  fault_wider t some more set wider is = row-fault (fault_weights words costs) group (32 * length set) (has_number set) parts t t some more (λ a. refl) wider is
 
   pub both_wider : (t : Assignment → Bool) (some more : ℕ → Bool) (set faults : List ℕ) → Wider (length costs) some more → AreBothSets words costs group t some set faults → AreBothSets words costs group t more set faults
   both_wider t some more set faults wider is = record { all = wider_is words costs t some more set wider is.all; faulty = fault_wider t some more faults wider is.faulty }
 
 module _ (words costs : List ℕ) (group : ℕ → Bool) where
-  abbrev g : Prices
-  g = prices words costs
+  abbrev g : Weights
+  g = fault_weights words costs
 
   -- one of two tests of the same variables
   pub fault_or : (t u : Assignment → Bool) (some : ℕ → Bool) (left right set : List ℕ) → length left ≡ length set → length right ≡ length set
@@ -103,5 +103,5 @@ module _ (words costs : List ℕ) (group : ℕ → Bool) where
   -- a part of the group that is faulty
   pub fault_one : (var : ℕ) → 1 ≤ var → (cost : ℕ) (set : List ℕ) → cost ≡ get_or costs (var - 1) 0 → agrees_at (known_at words var) false ≡ true → group var ≡ true → ((n : ℕ) → n < 32 * length set → has_number set n ≡ (n == cost))
       → IsFaultSet words costs group (λ a. same_bit false (a var)) (λ v. var == v) set
-  fault_one var low cost set cost_is allowed marked one = row-fault_one g group (32 * length set) (has_number set) (ends words costs) var allowed marked
+  fault_one var low cost set cost_is allowed marked one = row-fault_one g group (32 * length set) (has_number set) (only_parts words costs) var allowed marked
       (λ n lt. one n lt ∙ ap (λ c. n == c) (cost_is ∙ part_cost-at costs var low))

@@ -5,8 +5,8 @@ use Rattle.std.proofs.lemmas.Bool.{and_parts, and_from, or_cases, or_left, or_ri
 use Rattle.state_rules.specs.Assignments.{Assignment}
 use Rattle.state_rules.specs.Bits.{same_bit}
 use Rattle.state_rules.specs.Cases.{agrees_at}
-use Rattle.node_costs.specs.Costs.{Prices, CostOf, TestCost, Depends, Local, SumOf, IsRow}
-use Rattle.node_costs.proofs.Weighing.{Apart, Ends, cost-to, cost-or, or-costs, cost-and, and-costs}
+use Rattle.node_costs.specs.Costs.{Weights, CostOf, TestCost, Depends, Local, SumOf, IsRow}
+use Rattle.node_costs.proofs.Conditions.{Apart, OnlyParts, cost-to, cost-or, or-costs, cost-and, and-costs}
 use Rattle.node_costs.proofs.Sets.{row-as}
 use Rattle.node_costs.proofs.Tests.{row-cost, row-literal}
 use Rattle.level_lister.specs.inner.Pairs.{HasFault}
@@ -15,7 +15,7 @@ use Rattle.level_lister.proofs.Growing.{Wider}
 abbrev pub IsFault : (ℕ → Bool) → (ℕ → Bool) → (Assignment → Bool) → Assignment → Type 0
 IsFault group some t a = (t a ≡ true) × HasFault group some a
 
-abbrev pub FaultCost : Prices → (ℕ → Bool) → (ℕ → Bool) → (Assignment → Bool) → ℕ → Type 0
+abbrev pub FaultCost : Weights → (ℕ → Bool) → (ℕ → Bool) → (Assignment → Bool) → ℕ → Type 0
 FaultCost g group some t n = CostOf g some (IsFault group some t) n
 
 -- a fault among some is one among others that have its variable
@@ -25,7 +25,7 @@ moved f m e = record { var = f.var; among = m; of_group = f.of_group; faulty = e
 pub fault_local : (group some : ℕ → Bool) (t : Assignment → Bool) → Depends some t → Local some (IsFault group some t)
 fault_local group some t on_t a b h e = (on_t a b h ∙ e.0, moved e.1 e.1.among (h e.1.var e.1.among))
 
-module _ (g : Prices) (group : ℕ → Bool) where
+module _ (g : Weights) (group : ℕ → Bool) where
   -- ---- one of two tests, and both
 
   module _ (t u : Assignment → Bool) where
@@ -61,9 +61,9 @@ module _ (g : Prices) (group : ℕ → Bool) where
         (λ a ag h. let p = parts h.1.var h.1.of_group in (e a ∙ h.0, moved h.1 (wider.same h.1.var p.0 p.1 ∙ h.1.among) refl)) wider.same is
 
     -- a part of the group that is faulty
-    pub row-fault_one : Ends g → (var : ℕ) → agrees_at (g.known var) false ≡ true → group var ≡ true → ((n : ℕ) → n < limit → has n ≡ (n == g.price var false))
+    pub row-fault_one : OnlyParts g → (var : ℕ) → agrees_at (g.known var) false ≡ true → group var ≡ true → ((n : ℕ) → n < limit → has n ≡ (n == g.weight var false))
         → IsRow has limit (FaultCost g group (λ v. var == v) (λ a. same_bit false (a var)))
-    row-fault_one ends var allowed marked one = row-as limit has _ _
+    row-fault_one only_parts var allowed marked one = row-as limit has _ _
         (λ n c. cost-to g _ _ _ (λ a e. (e, record { var = var; among = eq-eqb var var refl; of_group = marked; faulty = not-true (a var) e })) n c)
         (λ n c. cost-to g _ _ _ (λ a e. e.0) n c)
-        (row-literal g limit has ends var false allowed one)
+        (row-literal g limit has only_parts var false allowed one)

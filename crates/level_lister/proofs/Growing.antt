@@ -2,7 +2,7 @@
 use Rattle.std.proofs.Common.{◌≡◌, ℕ, ◌+◌, ◌-◌, ◌<◌, ◌≤◌, Bool, true, false, not, ◌&&◌, ◌||◌, List, refl, ap, sym, ◌∙◌, subst, arith, inl, inr, ⊎_elim}
 use Rattle.std.specs.Prelude.{◌⊎◌, ◌==◌, nat_le}
 use Rattle.std.proofs.Math.Bool.{and-false, or-false}
-use Rattle.std.proofs.lemmas.Bool.{cases_lt, and_parts, and_from, or_cases, or_left, or_right, leb-true, le-leb, lt-leb, lt-ltb, eqb-true, eq-eqb, ne_eqb, not-true}
+use Rattle.std.proofs.lemmas.Bool.{cases_lt, and_parts, and_from, or_cases, or_left, or_right, leb-true, le-leb, lt-leb, lt-ltb, eqb-true, eq-eqb, ne_eqb, not-true, or_from, and_right}
 use Rattle.part_sets.specs.Numbers.{has_number}
 use Rattle.part_sets.specs.PartSets.{ArePartsOf}
 
@@ -68,11 +68,7 @@ module _ (parts : ℕ) (some more : ℕ → Bool) (within : (v : ℕ) → some v
     pub not_yet : (p : ℕ) → p < parts → is_missing outer inner p ≡ true → grown some more p (p + 1) ≡ false
     not_yet p lt miss =
         let is = and_parts (more (p + 1)) (not (some (p + 1))) (sym (missing-is p lt) ∙ miss) in
-        out (some (p + 1)) (more (p + 1)) (nat_le (p + 1) p) (not-true _ is.1) (lt-leb (p + 1) p (omega arith)) where
-          out : (x y z : Bool) → x ≡ false → z ≡ false → (x || (y && z)) ≡ false
-          out true y z e f = absurd (cc)
-          out false true z e f = f
-          out false false z e f = refl
+        or_from _ _ (not-true _ is.1) (and_right (more (p + 1)) _ (lt-leb (p + 1) p (omega arith)))
 
     -- it is added
     added : (p : ℕ) → p < parts → is_missing outer inner p ≡ true → Wider parts (λ v. grown some more p v || (p + 1 == v)) (grown some more (p + 1))

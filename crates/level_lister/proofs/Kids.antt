@@ -3,7 +3,7 @@ use Rattle.std.proofs.Common.{◌≡◌, ◌≢◌, ℕ, zero, suc, ◌+◌, ◌
 use Rattle.std.specs.Prelude.{◌⊎◌, ◌==◌}
 use Rattle.std.specs.List.{list_all, list_any}
 use Rattle.std.proofs.Math.Bool.{and_comm, or_comm}
-use Rattle.std.proofs.lemmas.Bool.{not-true}
+use Rattle.std.proofs.lemmas.Bool.{not-true, or_parts}
 use Rattle.std.proofs.lemmas.List.{map_more, take_all}
 use Rattle.state_rules.specs.Assignments.{Assignment}
 use Rattle.state_rules.specs.Bits.{same_bit}
@@ -46,14 +46,8 @@ apart_from f (k ∷ kids) zero e lt = refl
 apart_from f (k ∷ kids) (suc j) e lt = by_first (f k) refl (apart_from f kids j (at_most_one-tail (f k) (map f kids) e) (omega arith)) where
   none_at : (kids : List ℕ) (j : ℕ) → list_any (λ x. x) (map f kids) ≡ false → j < length kids → f (get_or kids j 0) ≡ false
   none_at [] j e lt = absurd (omega arith)
-  none_at (k ∷ kids) zero e lt = first (f k) (list_any (λ x. x) (map f kids)) e where
-    first : (x y : Bool) → (x || y) ≡ false → x ≡ false
-    first true y e = e
-    first false y e = refl
-  none_at (k ∷ kids) (suc j) e lt = none_at kids j (second (f k) (list_any (λ x. x) (map f kids)) e) (omega arith) where
-    second : (x y : Bool) → (x || y) ≡ false → y ≡ false
-    second true y e = absurd (cc)
-    second false y e = e
+  none_at (k ∷ kids) zero e lt = (or_parts (f k) (list_any (λ x. x) (map f kids)) e).0
+  none_at (k ∷ kids) (suc j) e lt = none_at kids j (or_parts (f k) (list_any (λ x. x) (map f kids)) e).1 (omega arith)
 
   by_first : (b : Bool) → f k ≡ b → (list_any (λ x. x) (map f (take j kids)) && f (get_or kids j 0)) ≡ false → ((f k || list_any (λ x. x) (map f (take j kids))) && f (get_or kids j 0)) ≡ false
   by_first true q more =

@@ -27,4 +27,3 @@ pub mod Faulting
 pub mod FaultNodes
 pub mod Skips
 pub mod ByParts
-pub mod Rooms

@@ -5,15 +5,15 @@ use Rattle.std.proofs.lemmas.Bool.{or_left, le-leb, ne_eqb}
 use Rattle.state_rules.specs.Assignments.{Assignment}
 use Rattle.state_rules.specs.Cases.{agrees_at}
 use Rattle.conditioner.specs.Words.{known_of}
-use Rattle.node_costs.specs.Costs.{Prices, CostOf, SumOf, Local, IsRow}
-use Rattle.node_costs.proofs.Weighing.{cost-or, or-costs, cost-set, set-costs, cost-either, either-costs}
+use Rattle.node_costs.specs.Costs.{Weights, CostOf, SumOf, Local, IsRow}
+use Rattle.node_costs.proofs.Conditions.{cost-or, or-costs, cost-set, set-costs, cost-either, either-costs}
 use Rattle.node_costs.proofs.Sets.{row-as, row-or, row-sum, row-bit}
 use Rattle.node_costs.proofs.Tests.{cost-any, any-costs, cost-all, all-costs, depends-all}
 use Rattle.minimiser.specs.Costs.{known_at, part_cost}
 use Rattle.part_sets.specs.Numbers.{has_number}
-use Rattle.level_lister.specs.inner.CostSets.{has_shifted, prices, AreSums, IsCostSet}
+use Rattle.level_lister.specs.inner.CostSets.{has_shifted, fault_weights, AreSums, IsCostSet}
 use Rattle.level_lister.specs.inner.FaultSets.{AreCostsOf}
-use Rattle.level_lister.proofs.Reaching.{ends, part_cost-at}
+use Rattle.level_lister.proofs.Reaching.{only_parts, part_cost-at}
 
 -- a set that is as long as another tells as much
 resized : (C : ℕ → Type 0) (left set : List ℕ) → length left ≡ length set → IsRow (has_number left) (32 * length left) C → IsRow (has_number left) (32 * length set) C
@@ -53,8 +53,8 @@ not_one (suc zero) = refl
 not_one (suc (suc w)) = ap not (ne_eqb (suc (suc w)) 1 (λ e. absurd (omega arith)))
 
 module _ (words costs : List ℕ) where
-  abbrev g : Prices
-  g = prices words costs
+  abbrev g : Weights
+  g = fault_weights words costs
 
   -- ---- one part more
   module _ (some : ℕ → Bool) (P : Assignment → Type 0) (p : ℕ) (out : some (p + 1) ≡ false) (local : Local some P) where
@@ -73,7 +73,7 @@ module _ (words costs : List ℕ) where
         → AreCostsOf words costs some P old → AreCostsOf words costs (λ v. some v || (p + 1 == v)) P set
     of_choice old set small long made is =
         let row = resized (CostOf g some P) old set long is in
-        row-as (32 * length set) (has_number set) _ _ (cost-either g (ends words costs) some P (p + 1) out local) (either-costs g (ends words costs) some P (p + 1) out local)
+        row-as (32 * length set) (has_number set) _ _ (cost-either g (only_parts words costs) some P (p + 1) out local) (either-costs g (only_parts words costs) some P (p + 1) out local)
         (row-or (32 * length set) _ _ (has_number set) _ _
         (λ n lt. made n lt
         ∙ (λ i. ((not_two (get_or words p 0) small ∙ word true) i && sym (unmoved old n) i) || ((not_one (get_or words p 0) ∙ word false) i && has_shifted old (price i) n)))
@@ -86,8 +86,8 @@ module _ (words costs : List ℕ) where
         → AreCostsOf words costs (λ v. some v || (p + 1 == v)) (λ a. Q a ⊎ (P a × (a (p + 1) ≡ false))) set
     of_faulty Q old left set free l m made is_p is_q =
         row-as (32 * length set) (has_number set) _ _
-        (λ n s. cost-or g _ _ _ n (⊎_elim (λ x. inl x) (λ x. inr (cost-set g (ends words costs) some P (p + 1) out local false n x)) s))
-        (λ n c. ⊎_elim (λ x. inl x) (λ x. inr (set-costs g (ends words costs) some P (p + 1) out local false n x)) (or-costs g _ _ _ n c))
+        (λ n s. cost-or g _ _ _ n (⊎_elim (λ x. inl x) (λ x. inr (cost-set g (only_parts words costs) some P (p + 1) out local false n x)) s))
+        (λ n c. ⊎_elim (λ x. inl x) (λ x. inr (set-costs g (only_parts words costs) some P (p + 1) out local false n x)) (or-costs g _ _ _ n c))
         (row-or (32 * length set) (has_number left) _ (has_number set) _ _
         (λ n lt. made n lt ∙ (λ i. has_number left n || ((ap (λ w. agrees_at (known_of w) false) (sym free) ∙ word false) i && has_shifted old (price i) n)))
         (resized _ left set m is_q) (row-bit (32 * length set) g (p + 1) false (has_number old) _ (resized _ old set l is_p)))

@@ -1,15 +1,14 @@
 -- What two words tell of a node, from what they tell of its kids.
-use Rattle.std.proofs.Common.{◌≡◌, ◌≢◌, ℕ, zero, suc, ◌+◌, ◌-◌, ◌*◌, ◌/◌, ◌<◌, ◌≤◌, Bool, true, false, ◌&&◌, List, length, get_or, set, Option, Some, None, refl, ap, sym, ◌∙◌, subst, arith, inl, inr}
+use Rattle.std.proofs.Common.{◌≡◌, ◌≢◌, ℕ, zero, suc, ◌+◌, ◌-◌, ◌*◌, ◌/◌, ◌<◌, ◌≤◌, Bool, true, false, ◌&&◌, List, length, get_or, set, refl, ap, sym, ◌∙◌, subst, arith, inl, inr}
 use Rattle.std.specs.Prelude.{◌⊎◌, ◌==◌, nat_le}
 use Rattle.std.proofs.Math.ListN.{length-set}
-use Rattle.std.proofs.lemmas.Bool.{cases_lt, cases_eq, cases_order, and_parts, and_from, leb-true, le-leb, eqb-true, eq-eqb, ne_eqb, false≢true}
+use Rattle.std.proofs.lemmas.Bool.{cases_lt, cases_eq, cases_order, and_parts, and_from, leb-true, le-leb, eqb-true, eq-eqb, ne_eqb, false≢true, false_from_ne_true, and_right}
 use Rattle.std.proofs.lemmas.List.{get_or-set_same, get_or-set_other}
+use Rattle.minimiser.proofs.Models.{Agree-bit}
 use Rattle.state_rules.specs.Assignments.{Assignment}
 use Rattle.state_rules.specs.Cases.{agrees_at}
 use Rattle.state_rules.specs.Graphs.{Graph, IsGraph}
-use Rattle.conditioner.specs.declared.leaves.Leaf.{Leaf}
-use Rattle.conditioner.specs.declared.leaves.Leaf.TheVariants.{False}
-use Rattle.conditioner.specs.Words.{known_of, word_of, leaf_of}
+use Rattle.conditioner.specs.Words.{known_of, word_of}
 use Rattle.minimiser.specs.Costs.{known_at}
 use Rattle.level_lister.specs.declared.pairs.Pair.{Pair}
 use Rattle.level_lister.specs.declared.pairs.Groups.{Groups}
@@ -40,10 +39,7 @@ module _ (words : List ℕ) (parts : ℕ) (groups : Groups) (g v : ℕ) where
   in_group is = and_from _ _ (and_from _ _ (le-leb (groups.low + 1) v is.low) (le-leb v parts is.high)) (and_from _ _ (eq-eqb _ 0 is.open_) (eq-eqb _ g is.group))
 
   pub not_grouped : (IsGrouped words parts groups g v → ⊥) → group_in words parts groups g v ≡ false
-  not_grouped none = by_test (group_in words parts groups g v) refl where
-    by_test : (b : Bool) → group_in words parts groups g v ≡ b → group_in words parts groups g v ≡ false
-    by_test true e = absurd (none (grouped e))
-    by_test false e = e
+  not_grouped none = false_from_ne_true (group_in words parts groups g v) (λ e. none (grouped e))
 
 pub on_parts : (words : List ℕ) (parts : ℕ) (groups : Groups) (g v : ℕ) → group_in words parts groups g v ≡ true → (1 ≤ v) × (v < 1 + parts)
 on_parts words parts groups g v e = let is = grouped words parts groups g v e in (omega (arith, is.low), omega (arith, is.high))
@@ -94,10 +90,7 @@ mark_is words parts groups count n g cost part group lt own within low open_ is 
 
 -- no group at all
 pub none_marked : (words : List ℕ) (parts : ℕ) (groups : Groups) (g v : ℕ) (b : Bool) → (IsGrouped words parts groups g v → ⊥) → false ≡ (b && group_in words parts groups g v)
-none_marked words parts groups g v b none = sym (ap (λ x. b && x) (not_grouped words parts groups g v none) ∙ last b) where
-  last : (b : Bool) → (b && false) ≡ false
-  last true = refl
-  last false = refl
+none_marked words parts groups g v b none = sym (and_right b _ (not_grouped words parts groups g v none))
 
 -- ---- one node after the other
 
@@ -133,16 +126,4 @@ allowed_ok words part word e lt = ap (λ k. agrees_at (known_of (get_or words k 
 
 -- what a word says
 pub said : (words : List ℕ) (part : ℕ) (b : Bool) (a : Assignment) → get_or words part 0 ≡ word_of b → Follows words a → a (part + 1) ≡ b
-said words part b a e f = by_bit b (a (part + 1)) (sym (ap (λ k. agrees_at (known_of (get_or words k 0)) (a (part + 1))) (let g : part + 1 - 1 ≡ part = omega arith in g) ∙ ap (λ w. agrees_at (known_of w) (a (part + 1))) e) ∙ f (part + 1)) where
-  by_bit : (b x : Bool) → agrees_at (known_of (word_of b)) x ≡ true → x ≡ b
-  by_bit true x h = h
-  by_bit false true h = absurd (cc)
-  by_bit false false h = refl
-
--- what a leaf says
-pub leaf_allows : (known : Option Bool) (positive : Bool) (leaf : Leaf) → leaf ≡ leaf_of positive known → (leaf ≡ False → ⊥) → agrees_at known positive ≡ true
-leaf_allows None positive leaf e ne = refl
-leaf_allows (Some true) true leaf e ne = refl
-leaf_allows (Some true) false leaf e ne = absurd (ne e)
-leaf_allows (Some false) true leaf e ne = absurd (ne e)
-leaf_allows (Some false) false leaf e ne = refl
+said words part b a e f = Agree-bit b (a (part + 1)) (sym (ap (λ k. agrees_at (known_of (get_or words k 0)) (a (part + 1))) (let g : part + 1 - 1 ≡ part = omega arith in g) ∙ ap (λ w. agrees_at (known_of w) (a (part + 1))) e) ∙ f (part + 1))

@@ -3,16 +3,16 @@ use Rattle.std.proofs.Common.{◌≡◌, ℕ, ◌+◌, ◌-◌, ◌*◌, ◌<◌
 use Rattle.state_rules.specs.Assignments.{Assignment}
 use Rattle.state_rules.specs.Graphs.{Graph, IsGraph, is_true}
 use Rattle.state_rules.specs.Bits.{has_bit}
-use Rattle.node_costs.specs.Costs.{weigh}
+use Rattle.node_costs.specs.Costs.{cost_among}
 use Rattle.minimiser.proofs.Whole.{state_of, assignment_of}
 use Rattle.level_lister.specs.declared.pairs.Pair.{Pair}
 use Rattle.level_lister.specs.declared.pairs.Groups.{Groups}
-use Rattle.level_lister.specs.inner.CostSets.{prices}
+use Rattle.level_lister.specs.inner.CostSets.{fault_weights}
 use Rattle.level_lister.specs.inner.Pairs.{TellsWhole, FaultOf, group_count}
 use Rattle.level_lister.specs.inner.Searching.{HasCost}
 use Rattle.level_lister.specs.inner.Skips.{living, IsEnough}
 use Rattle.level_lister.proofs.Living.{living-true}
-use Rattle.level_lister.proofs.Whole.{weigh-all}
+use Rattle.level_lister.proofs.Whole.{cost_among-all}
 use Rattle.level_lister.proofs.FaultStates.{fault_state, state_fault}
 
 module _ (graph : Graph) (skips words costs : List ℕ) (top : ℕ) (groups : Groups) (pair : Pair) (ok : IsGraph graph) (long : length words ≡ graph.vars) (within : length costs ≤ graph.vars) (tells : TellsWhole graph skips words costs top groups pair)
@@ -25,13 +25,13 @@ module _ (graph : Graph) (skips words costs : List ℕ) (top : ℕ) (groups : Gr
       let place : c ≡ 1 * c + 0 = omega arith in
       let r = tells.cost_bits.sound c (omega arith) (subst (λ n. has_bit pair.costs n ≡ true) place e) in
       let s = state_of graph words costs ok long within r.by r.agrees (root_true r.by r.meets) in
-      record { state = s.state; is = record { long = s.long_state; model = s.model; cost_is = weigh-all words r.by costs s.state s.long_state s.bits ∙ r.cost_is } }
+      record { state = s.state; is = record { long = s.long_state; model = s.model; cost_is = cost_among-all words r.by costs s.state s.long_state s.bits ∙ r.cost_is } }
 
   pub pair_whole : (c : ℕ) → c ≤ top → HasCost graph words costs c → has_bit pair.costs c ≡ true
   pair_whole c le has =
       let h = has.state in
       let a = assignment_of graph words costs ok long within h has.is.long has.is.model in
-      let total : weigh (prices words costs) (λ v. true) a.by ≡ c = sym (weigh-all words a.by costs h has.is.long a.bits) ∙ has.is.cost_is in
+      let total : cost_among (fault_weights words costs) (λ v. true) a.by ≡ c = sym (cost_among-all words a.by costs h has.is.long a.bits) ∙ has.is.cost_is in
       let place : 1 * c + 0 ≡ c = omega arith in
       subst (λ n. has_bit pair.costs n ≡ true) place
       (tells.cost_bits.whole c (omega arith) (record { by = a.by; agrees = a.agrees; meets = enough.left a.by a.agrees a.holds (omega (arith, total)); cost_is = total }))

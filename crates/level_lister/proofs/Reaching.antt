@@ -7,18 +7,18 @@ use Rattle.state_rules.specs.Cases.{agrees_at}
 use Rattle.state_rules.specs.Assignments.{Assignment}
 use Rattle.conditioner.specs.declared.leaves.Leaf.TheVariants.{False}
 use Rattle.conditioner.specs.Words.{leaf_of}
-use Rattle.node_costs.specs.Costs.{Prices}
-use Rattle.node_costs.proofs.Weighing.{Ends, weigh-none, cost-none, literal-costs}
+use Rattle.node_costs.specs.Costs.{Weights}
+use Rattle.node_costs.proofs.Conditions.{OnlyParts, cost_among-none, cost-none, literal-costs}
 use Rattle.node_costs.proofs.Sets.{row-none, row-one}
 use Rattle.node_costs.proofs.Tests.{row-cost, row-literal}
 use Rattle.minimiser.specs.Costs.{known_at, part_cost}
 use Rattle.minimiser.proofs.Whole.{part_cost-none}
 use Rattle.part_sets.specs.Numbers.{has_number}
-use Rattle.level_lister.specs.inner.CostSets.{prices, IsCostSet}
+use Rattle.level_lister.specs.inner.CostSets.{fault_weights, IsCostSet}
 use Rattle.level_lister.proofs.Growing.{Wider}
 
 -- a literal that its word does not rule out, and one that it does
-allowed_by : (k : Option Bool) (positive : Bool) → (leaf_of positive k ≡ False → ⊥) → agrees_at k positive ≡ true
+pub allowed_by : (k : Option Bool) (positive : Bool) → (leaf_of positive k ≡ False → ⊥) → agrees_at k positive ≡ true
 allowed_by None positive h = refl
 allowed_by (Some true) true h = refl
 allowed_by (Some true) false h = absurd (h refl)
@@ -37,19 +37,19 @@ part_cost-at costs zero h = absurd (omega arith)
 part_cost-at costs (suc i) h = ap (λ k. get_or costs k 0) (omega arith)
 
 module _ (words costs : List ℕ) where
-  abbrev g : Prices
-  g = prices words costs
+  abbrev g : Weights
+  g = fault_weights words costs
 
-  pub ends : Ends (prices words costs)
-  ends v true out = refl
-  ends v false out = part_cost-none costs v out
+  pub only_parts : OnlyParts (fault_weights words costs)
+  only_parts v true out = refl
+  only_parts v false out = part_cost-none costs v out
 
   pub empty_is : (some : ℕ → Bool) (set : List ℕ) → ((n : ℕ) → has_number set n ≡ false) → IsCostSet words costs (λ a. false) some set
   empty_is some set none = record { row = row-none _ (has_number set) _ (λ n lt. none n) (λ n c. false≢true c.meets); local = λ a b h. refl }
 
   pub zero_is : (set : List ℕ) → ((n : ℕ) → n < 32 * length set → has_number set n ≡ (n == 0)) → IsCostSet words costs (λ a. true) (λ v. false) set
   zero_is set one = record {
-    row = row-one _ (has_number set) _ 0 (cost-none g (λ a. true ≡ true) refl) (λ n c. sym c.cost_is ∙ weigh-none g c.by) one;
+    row = row-one _ (has_number set) _ 0 (cost-none g (λ a. true ≡ true) refl) (λ n c. sym c.cost_is ∙ cost_among-none g c.by) one;
     local = λ a b h. refl;
   }
 
@@ -64,7 +64,7 @@ module _ (words costs : List ℕ) where
   pub false_literal_is : (var : ℕ) (positive : Bool) (set : List ℕ) → leaf_of positive (known_at words var) ≡ False → ((n : ℕ) → has_number set n ≡ false)
       → IsCostSet words costs (λ a. same_bit positive (a var)) (λ v. var == v) set
   false_literal_is var positive set e none = record {
-    row = row-none _ (has_number set) _ (λ n lt. none n) (λ n c. ruled_out (known_at words var) positive e (literal-costs g ends var positive n c).allowed);
+    row = row-none _ (has_number set) _ (λ n lt. none n) (λ n c. ruled_out (known_at words var) positive e (literal-costs g only_parts var positive n c).allowed);
     local = λ a b h. ap (same_bit positive) (h var (eq-eqb var var refl));
   }
 
@@ -72,6 +72,6 @@ module _ (words costs : List ℕ) where
   pub literal_is : (var : ℕ) (positive : Bool) (set : List ℕ) → (leaf_of positive (known_at words var) ≡ False → ⊥) → ((n : ℕ) → n < 32 * length set → has_number set n ≡ (n == cond positive 0 (part_cost costs var)))
       → IsCostSet words costs (λ a. same_bit positive (a var)) (λ v. var == v) set
   literal_is var positive set allowed one = record {
-    row = row-literal g _ (has_number set) ends var positive (allowed_by (known_at words var) positive allowed) one;
+    row = row-literal g _ (has_number set) only_parts var positive (allowed_by (known_at words var) positive allowed) one;
     local = λ a b h. ap (same_bit positive) (h var (eq-eqb var var refl));
   }

@@ -23,7 +23,7 @@ use Rattle.part_sets.proofs.Kids.{kid-below}
 use Rattle.level_lister.specs.inner.CostSets.{Follows}
 use Rattle.level_lister.specs.inner.Skips.{living, IsEnough, others_cost, rest_below, AreRests, skip_of}
 use Rattle.level_lister.proofs.Living.{truth_more, graph-is, living-is}
-use Rattle.level_lister.proofs.Whole.{weigh-all}
+use Rattle.level_lister.proofs.Whole.{cost_among-all}
 
 -- a place of a list
 in-at : (xs : List ℕ) (j : ℕ) → j < length xs → In (get_or xs j 0) xs
@@ -112,7 +112,7 @@ module _ (graph : Graph) (words costs : List ℕ) (ok : IsGraph graph) (least : 
     left = λ a f h le.
         let s = state_of graph words costs ok long within a f h in
         let root : length graph.nodes - 1 < length graph.nodes = omega (arith, ok.some) in
-        let total = weigh-all words a costs s.state s.long_state s.bits in
+        let total = cost_among-all words a costs s.state s.long_state s.bits in
         let all = faults_in-le (known_at words) (part_cost costs) (length costs) (λ v. mentions graph.nodes v (length graph.nodes - 1)) (λ v. true) a (λ v q. refl) in
         lives a f rests skips top are marks (suc (length graph.nodes - 1)) (length graph.nodes - 1) (omega arith) root h (omega (arith, le, are.root, s.cost_is, total, all));
   }

@@ -7,17 +7,17 @@ use Rattle.state_rules.specs.Assignments.{Assignment}
 use Rattle.state_rules.specs.Cases.{agrees_at}
 use Rattle.state_rules.specs.Bits.{same_bit, has_bit}
 use Rattle.state_rules.proofs.WordBits.{has_bit-zero, one_bit, has_bit-or}
-use Rattle.node_costs.specs.Costs.{Prices, SumOf, Depends, IsRow}
-use Rattle.node_costs.proofs.Weighing.{weigh-none, cost-none}
+use Rattle.node_costs.specs.Costs.{Weights, SumOf, Depends, IsRow}
+use Rattle.node_costs.proofs.Conditions.{cost_among-none, cost-none}
 use Rattle.node_costs.proofs.Sets.{sum-flip, row-none, row-one, row-as, row-or, row-sum}
 use Rattle.node_costs.proofs.Tests.{cost-any, any-costs, cost-all, all-costs, depends-all, row-cost, row-literal}
 use Rattle.minimiser.specs.Costs.{known_at, part_cost}
 use Rattle.scratch_pool.proofs.Counted.{block-below}
 use Rattle.level_lister.specs.declared.pairs.Pair.{Pair}
-use Rattle.level_lister.specs.inner.CostSets.{prices, Follows}
+use Rattle.level_lister.specs.inner.CostSets.{fault_weights, Follows}
 use Rattle.level_lister.specs.inner.Pairs.{IsSpread, Tells}
 use Rattle.level_lister.proofs.Growing.{Wider}
-use Rattle.level_lister.proofs.Reaching.{ends, part_cost-at}
+use Rattle.level_lister.proofs.Reaching.{only_parts, part_cost-at}
 use Rattle.level_lister.proofs.Faults.{FaultCost, cost-any_fault, any_fault-costs, cost-all_fault, all_fault-costs, row-fault, row-fault_one}
 
 -- ---- one word
@@ -61,8 +61,8 @@ spread-row left right step top first word lt room spread = record {
 }
 
 module _ (words costs : List ℕ) (top step : ℕ) (group : ℕ → ℕ → Bool) where
-  abbrev g : Prices
-  g = prices words costs
+  abbrev g : Weights
+  g = fault_weights words costs
 
   or_row : (C D : ℕ → Type 0) (by first left right : ℕ) → IsRow (λ n. has_bit left (by * n + first)) (top + 1) C → IsRow (λ n. has_bit right (by * n + first)) (top + 1) D
       → IsRow (λ n. has_bit (bit_or left right) (by * n + first)) (top + 1) (λ n. C n ⊎ D n)
@@ -127,7 +127,7 @@ module _ (words costs : List ℕ) (top step : ℕ) (group : ℕ → ℕ → Bool
   -- no variable at all
   pub tells_true : Tells words costs top step group (λ a. true) (λ v. false) (record { costs = 1; faults = 0 })
   tells_true = record {
-    cost_bits = row-one (top + 1) _ _ 0 (cost-none g (λ a. true ≡ true) refl) (λ n c. sym c.cost_is ∙ weigh-none g c.by) (λ n lt. one_at n);
+    cost_bits = row-one (top + 1) _ _ 0 (cost-none g (λ a. true ≡ true) refl) (λ n c. sym c.cost_is ∙ cost_among-none g c.by) (λ n lt. one_at n);
     fault_bits = λ i lt. zero_row _ step i (λ n c. false≢true c.meets.1.among);
     local = λ a b h. refl;
   }
@@ -136,7 +136,7 @@ module _ (words costs : List ℕ) (top step : ℕ) (group : ℕ → ℕ → Bool
     -- a variable that is true
     pub tells_ok : agrees_at (known_at words var) true ≡ true → Tells words costs top step group (λ a. same_bit true (a var)) (λ v. var == v) (record { costs = 1; faults = 0 })
     tells_ok allowed = record {
-      cost_bits = row-literal g (top + 1) _ (ends words costs) var true allowed (λ n lt. one_at n);
+      cost_bits = row-literal g (top + 1) _ (only_parts words costs) var true allowed (λ n lt. one_at n);
       fault_bits = λ i lt. zero_row _ step i (λ n c. false≢true (sym c.meets.1.faulty ∙ ap c.by (sym (eqb-true var c.meets.1.var c.meets.1.among)) ∙ c.meets.0));
       local = λ a b h. h var (eq-eqb var var refl);
     }
@@ -146,7 +146,7 @@ module _ (words costs : List ℕ) (top step : ℕ) (group : ℕ → ℕ → Bool
         → ((n i : ℕ) → n ≤ top → i < step → has_bit mark (step * n + i) ≡ ((n == cost) && group i var))
         → Tells words costs top step group (λ a. same_bit false (a var)) (λ v. var == v) (record { costs = word; faults = mark })
     tells_faulty cost word mark small cost_is allowed on_word on_mark = record {
-      cost_bits = row-literal g (top + 1) _ (ends words costs) var false allowed (λ n lt. ap (has_bit word) (place n) ∙ on_word n (omega arith) ∙ ap (λ k. n == k) price);
+      cost_bits = row-literal g (top + 1) _ (only_parts words costs) var false allowed (λ n lt. ap (has_bit word) (place n) ∙ on_word n (omega arith) ∙ ap (λ k. n == k) price);
       fault_bits = λ i lt. by_group i lt (group i var) refl;
       local = λ a b h. ap not (h var (eq-eqb var var refl));
     } where
@@ -157,6 +157,6 @@ module _ (words costs : List ℕ) (top step : ℕ) (group : ℕ → ℕ → Bool
       place n = omega arith
 
       by_group : (i : ℕ) → i < step → (b : Bool) → group i var ≡ b → IsRow (λ n. has_bit mark (step * n + i)) (top + 1) (FaultCost g (group i) (λ v. var == v) (λ a. same_bit false (a var)))
-      by_group i lt true e = row-fault_one g (group i) (top + 1) _ (ends words costs) var allowed e (λ n h. on_mark n i (omega arith) lt ∙ (λ j. (n == price j) && e j) ∙ and-true (n == part_cost costs var))
+      by_group i lt true e = row-fault_one g (group i) (top + 1) _ (only_parts words costs) var allowed e (λ n h. on_mark n i (omega arith) lt ∙ (λ j. (n == price j) && e j) ∙ and-true (n == part_cost costs var))
       by_group i lt false e = row-none (top + 1) _ _ (λ n h. on_mark n i (omega arith) lt ∙ ap (λ b. (n == cost) && b) e ∙ and-false (n == cost))
           (λ n c. false≢true (sym e ∙ ap (group i) (eqb-true var c.meets.1.var c.meets.1.among) ∙ c.meets.1.of_group))

@@ -5,20 +5,20 @@ use Rattle.state_rules.specs.Bits.{bit_in}
 use Rattle.state_rules.specs.Ranking.{cost}
 use Rattle.state_rules.specs.Graphs.{Graph, IsGraph}
 use Rattle.minimiser.proofs.Whole.{state_of, assignment_of}
-use Rattle.node_costs.specs.Costs.{weigh}
+use Rattle.node_costs.specs.Costs.{cost_among}
 use Rattle.node_costs.proofs.States.{cost-total}
 use Rattle.minimiser.specs.Costs.{part_cost}
 use Rattle.part_sets.proofs.SetBits.{has-within}
 use Rattle.part_sets.specs.Numbers.{has_number}
-use Rattle.level_lister.specs.inner.CostSets.{prices}
+use Rattle.level_lister.specs.inner.CostSets.{fault_weights}
 use Rattle.level_lister.specs.inner.NodeSets.{IsWholeSet}
 use Rattle.level_lister.specs.inner.Searching.{HasCost}
 use Rattle.level_lister.specs.inner.Skips.{IsEnough}
 use Rattle.level_lister.proofs.Living.{living-true}
 
 -- what a state costs is what the faulty ones of all parts cost
-pub weigh-all : (words : List ℕ) (a : Assignment) (costs : List ℕ) (h : List Bool) → length h ≡ length costs → ((i : ℕ) → i < length costs → bit_in h i ≡ a (1 + i)) → cost costs h ≡ weigh (prices words costs) (λ v. true) a
-weigh-all words a costs h l e = cost-total (λ v. cond (a v) 0 (part_cost costs v)) 1 costs h l (λ i lt. (λ j. cond (sym (e i lt) j) 0 (part_cost costs (one_more i j)))) where
+pub cost_among-all : (words : List ℕ) (a : Assignment) (costs : List ℕ) (h : List Bool) → length h ≡ length costs → ((i : ℕ) → i < length costs → bit_in h i ≡ a (1 + i)) → cost costs h ≡ cost_among (fault_weights words costs) (λ v. true) a
+cost_among-all words a costs h l e = cost-total (λ v. cond (a v) 0 (part_cost costs v)) 1 costs h l (λ i lt. (λ j. cond (sym (e i lt) j) 0 (part_cost costs (one_more i j)))) where
   one_more : (i : ℕ) → 1 + i ≡ suc i
   one_more i = omega arith
 
@@ -28,11 +28,11 @@ module _ (graph : Graph) (skips words costs set : List ℕ) (top : ℕ) (enough 
   whole_sound c e =
       let r = is.row.sound c (has-within set c e) e in
       let s = state_of graph words costs ok long within r.by r.agrees (living-true graph skips ok (length graph.nodes - 1) (omega (arith, ok.some)) r.by r.meets) in
-      record { state = s.state; is = record { long = s.long_state; model = s.model; cost_is = weigh-all words r.by costs s.state s.long_state s.bits ∙ r.cost_is } }
+      record { state = s.state; is = record { long = s.long_state; model = s.model; cost_is = cost_among-all words r.by costs s.state s.long_state s.bits ∙ r.cost_is } }
 
   pub whole_all : (c : ℕ) → c ≤ top → c < 32 * length set → HasCost graph words costs c → has_number set c ≡ true
   whole_all c le lt has =
       let h = has.state in
       let a = assignment_of graph words costs ok long within h has.is.long has.is.model in
-      let total : weigh (prices words costs) (λ v. true) a.by ≡ c = sym (weigh-all words a.by costs h has.is.long a.bits) ∙ has.is.cost_is in
+      let total : cost_among (fault_weights words costs) (λ v. true) a.by ≡ c = sym (cost_among-all words a.by costs h has.is.long a.bits) ∙ has.is.cost_is in
       is.row.whole c lt (record { by = a.by; agrees = a.agrees; meets = enough.left a.by a.agrees a.holds (omega (arith, total)); cost_is = total })

@@ -2,7 +2,7 @@
 use Rattle.std.specs.Prelude.{◌≡◌, ℕ, zero, suc, ◌+◌, ◌-◌, ◌*◌, ◌<◌, Bool, true, ◌&&◌, List, length, slice_index, nat_le, if◌then◌else◌}
 use Rattle.state_rules.specs.Assignments.{Assignment}
 use Rattle.state_rules.specs.Cases.{agrees_at}
-use Rattle.node_costs.specs.Costs.{Prices, TestCost, Depends, SumOf, IsRow}
+use Rattle.node_costs.specs.Costs.{Weights, TestCost, Depends, SumOf, IsRow}
 use Rattle.minimiser.specs.Costs.{known_at, part_cost}
 use Rattle.part_sets.specs.Numbers.{has_number}
 
@@ -22,8 +22,8 @@ pub record AreSums (left right : List ℕ) (limit : ℕ) (set : List ℕ) : Type
       → has_number set (j + k) ≡ true
 
 -- what the words say of the variables, and what a part costs where it is faulty
-abbrev pub prices : List ℕ → List ℕ → Prices
-prices words costs = record { known = known_at words; price = λ v b. if b then 0 else part_cost costs v; parts = length costs }
+abbrev pub fault_weights : List ℕ → List ℕ → Weights
+fault_weights words costs = record { known = known_at words; weight = λ v b. if b then 0 else part_cost costs v; parts = length costs }
 
 -- an assignment agrees with the words
 abbrev pub Follows : List ℕ → Assignment → Type 0
@@ -31,5 +31,5 @@ Follows words a = (v : ℕ) → agrees_at (known_at words v) (a v) ≡ true
 
 -- The set has just the costs of a test, so far as it has room. The test depends on some variables alone.
 pub record IsCostSet (words costs : List ℕ) (test : Assignment → Bool) (some : ℕ → Bool) (set : List ℕ) : Type 0 where
-  pub row : IsRow (has_number set) (32 * length set) (TestCost (prices words costs) some test)
+  pub row : IsRow (has_number set) (32 * length set) (TestCost (fault_weights words costs) some test)
   pub local : Depends some test

@@ -5,13 +5,13 @@ use Rattle.state_rules.specs.Graphs.{Graph, is_true, mentions}
 use Rattle.node_costs.specs.Costs.{CostOf, IsRow}
 use Rattle.part_sets.specs.Numbers.{has_number, set_at}
 use Rattle.level_lister.specs.declared.pairs.Groups.{Groups}
-use Rattle.level_lister.specs.inner.CostSets.{prices, IsCostSet}
+use Rattle.level_lister.specs.inner.CostSets.{fault_weights, IsCostSet}
 use Rattle.level_lister.specs.inner.Skips.{living}
 use Rattle.level_lister.specs.inner.Pairs.{HasFault, group_in}
 
 -- the set has just the costs of a condition, so far as it has room
 abbrev pub AreCostsOf : List ℕ → List ℕ → (ℕ → Bool) → (Assignment → Type 0) → List ℕ → Type 0
-AreCostsOf words costs some P set = IsRow (has_number set) (32 * length set) (CostOf (prices words costs) some P)
+AreCostsOf words costs some P set = IsRow (has_number set) (32 * length set) (CostOf (fault_weights words costs) some P)
 
 -- the costs at which a test is true, and a part of a group is faulty
 abbrev pub IsFaultSet : List ℕ → List ℕ → (ℕ → Bool) → (Assignment → Bool) → (ℕ → Bool) → List ℕ → Type 0

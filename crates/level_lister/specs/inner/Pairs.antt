@@ -7,7 +7,7 @@ use Rattle.level_lister.specs.declared.pairs.Pair.{Pair}
 use Rattle.level_lister.specs.declared.pairs.Groups.{Groups}
 use Rattle.node_costs.specs.Costs.{CostOf, Depends, IsRow}
 pub use Rattle.level_lister.specs.Passes.{group_count}
-use Rattle.level_lister.specs.inner.CostSets.{prices}
+use Rattle.level_lister.specs.inner.CostSets.{fault_weights}
 use Rattle.level_lister.specs.inner.Skips.{living}
 use Rattle.level_lister.specs.inner.Searching.{OfCost}
 
@@ -29,7 +29,7 @@ pub record IsSpread (left right step count word : ℕ) : Type 0 where
 -- the bits of a word that are a step apart, from one on, tell the costs of a condition up to a greatest one
 abbrev pub AreCosts : List ℕ → List ℕ → ℕ → ℕ → ℕ → (ℕ → Bool) → (Assignment → Type 0) → ℕ → Type 0
 AreCosts words costs top step first some P word =
-    IsRow (λ n. has_bit word (step * n + first)) (top + 1) (CostOf (prices words costs) some P)
+    IsRow (λ n. has_bit word (step * n + first)) (top + 1) (CostOf (fault_weights words costs) some P)
 
 -- a variable of a group is faulty, and is among some
 pub record HasFault (group some : ℕ → Bool) (a : Assignment) : Type 0 where

@@ -4,8 +4,8 @@ use Rattle.state_rules.specs.Assignments.{Assignment}
 use Rattle.state_rules.specs.declared.nodes.NodeKind.{NodeKind}
 use Rattle.state_rules.specs.declared.nodes.NodeKind.TheVariants.{Literal, And, Or}
 use Rattle.state_rules.specs.Graphs.{Graph, Node, false_node, node_at, is_true}
-use Rattle.node_costs.specs.Costs.{weigh}
-use Rattle.level_lister.specs.inner.CostSets.{Follows, prices}
+use Rattle.node_costs.specs.Costs.{cost_among}
+use Rattle.level_lister.specs.inner.CostSets.{Follows, fault_weights}
 
 -- the nodes, of which those that are skipped are never true
 abbrev pub living : List Node → List ℕ → List Node
@@ -16,7 +16,7 @@ living (node ∷ nodes) (skip ∷ skips) = (if skip == 0 then node else false_no
 -- What is left is enough for the costs up to a greatest one: it is true where the graph is, under an assignment that agrees with the
 -- words.
 pub record IsEnough (graph : Graph) (skips words costs : List ℕ) (top : ℕ) : Type 0 where
-  pub left : (a : Assignment) → Follows words a → is_true graph.nodes (length graph.nodes - 1) a ≡ true → weigh (prices words costs) (λ v. true) a ≤ top
+  pub left : (a : Assignment) → Follows words a → is_true graph.nodes (length graph.nodes - 1) a ≡ true → cost_among (fault_weights words costs) (λ v. true) a ≤ top
       → is_true (living graph.nodes skips) (length graph.nodes - 1) a ≡ true
 
 -- what the other kids of an and cost at least

@@ -1,6 +1,6 @@
 use Rattle.std.proofs.Common.{◌≡◌, ◌+◌, ◌<◌, length, sym, ap, subst, arith, ◌∙◌}
 use Rattle.std.proofs.Math.Bool.{and-true}
-use Rattle.node_costs.proofs.Weighing.{one_apart}
+use Rattle.node_costs.proofs.Conditions.{one_apart}
 use Rattle.part_sets.specs.Numbers.{part_words, set_at}
 use Rattle.part_sets.specs.PartSets.{ArePartsOf}
 use Rattle.level_lister.specs.inner.Pairs.{group_count, group_in}

@@ -2,16 +2,20 @@
 use Rattle.std.proofs.Common.{◌≡◌, ◌≢◌, ℕ, zero, suc, ◌+◌, ◌-◌, ◌*◌, ◌<◌, ◌≤◌, Bool, true, false, cond, ◌&&◌, ◌||◌, List, [], ◌∷◌, ◌++◌, map, take, length, get_or, refl, ap, sym, ◌∙◌, subst, arith, inl, inr, ⊎_elim}
 use Rattle.std.specs.Prelude.{◌⊎◌, ◌==◌}
 use Rattle.std.specs.List.{list_all, list_any}
-use Rattle.std.proofs.Math.Bool.{and_comm, or_comm}
-use Rattle.std.proofs.lemmas.Bool.{not-true, or_parts}
+use Rattle.std.proofs.Math.Bool.{and_comm, or_comm, and-true}
+use Rattle.std.proofs.lemmas.Bool.{false_from_ne_true, and_parts, and_from, or_cases, false≢true}
 use Rattle.std.proofs.lemmas.List.{map_more, take_all}
+use Rattle.std.proofs.lemmas.List.Folds.{list_all-append}
+use Rattle.minimiser.proofs.Derivations.{any-kid}
+use Rattle.state_rules.proofs.Members.{In-at}
+use Rattle.state_rules.proofs.Lists.{any-push}
 use Rattle.state_rules.specs.Assignments.{Assignment}
 use Rattle.state_rules.specs.Bits.{same_bit}
 use Rattle.state_rules.specs.declared.nodes.NodeKind.{NodeKind}
 use Rattle.state_rules.specs.declared.nodes.NodeKind.TheVariants.{Literal, And, Or}
 use Rattle.state_rules.specs.Graphs.{Graph, node_at, truth_by, mention_by, is_true, mentions, at_most_one, apart_at, IsGraph}
 use Rattle.state_rules.proofs.NodesFit.{each_apart}
-use Rattle.state_rules.proofs.Kids.{at_most_one-tail}
+use Rattle.state_rules.proofs.Kids.{at_most_one-tail, not_both}
 use Rattle.conditioner.specs.declared.leaves.Leaf.{Leaf}
 use Rattle.conditioner.specs.declared.leaves.Leaf.TheVariants.{True, False, Open}
 use Rattle.conditioner.specs.Words.{leaf_of}
@@ -27,33 +31,18 @@ use Rattle.level_lister.specs.inner.Skips.{living}
 use Rattle.level_lister.proofs.Living.{living-is, skipped-is}
 use Rattle.level_lister.proofs.Reaching.{empty_is, false_literal_is, literal_is}
 
-pub all_push : (bs : List Bool) (b : Bool) → list_all (λ x. x) (bs ++ b ∷ []) ≡ (list_all (λ x. x) bs && b)
-all_push [] true = refl
-all_push [] false = refl
-all_push (true ∷ bs) b = all_push bs b
-all_push (false ∷ bs) b = refl
-
-pub any_push : (bs : List Bool) (b : Bool) → list_any (λ x. x) (bs ++ b ∷ []) ≡ (list_any (λ x. x) bs || b)
-any_push [] true = refl
-any_push [] false = refl
-any_push (true ∷ bs) b = refl
-any_push (false ∷ bs) b = any_push bs b
+all_push : (bs : List Bool) (b : Bool) → list_all (λ x. x) (bs ++ b ∷ []) ≡ (list_all (λ x. x) bs && b)
+all_push bs b = list_all-append (λ x. x) bs (b ∷ []) ∙ ap (λ c. list_all (λ x. x) bs && c) (and-true b)
 
 -- kids of which at most one is 1: not both one and one before it
 pub apart_from : (f : ℕ → Bool) (kids : List ℕ) (j : ℕ) → at_most_one (map f kids) ≡ true → j < length kids → (list_any (λ x. x) (map f (take j kids)) && f (get_or kids j 0)) ≡ false
 apart_from f [] j e lt = absurd (omega arith)
 apart_from f (k ∷ kids) zero e lt = refl
-apart_from f (k ∷ kids) (suc j) e lt = by_first (f k) refl (apart_from f kids j (at_most_one-tail (f k) (map f kids) e) (omega arith)) where
-  none_at : (kids : List ℕ) (j : ℕ) → list_any (λ x. x) (map f kids) ≡ false → j < length kids → f (get_or kids j 0) ≡ false
-  none_at [] j e lt = absurd (omega arith)
-  none_at (k ∷ kids) zero e lt = (or_parts (f k) (list_any (λ x. x) (map f kids)) e).0
-  none_at (k ∷ kids) (suc j) e lt = none_at kids j (or_parts (f k) (list_any (λ x. x) (map f kids)) e).1 (omega arith)
-
-  by_first : (b : Bool) → f k ≡ b → (list_any (λ x. x) (map f (take j kids)) && f (get_or kids j 0)) ≡ false → ((f k || list_any (λ x. x) (map f (take j kids))) && f (get_or kids j 0)) ≡ false
-  by_first true q more =
-      let rest : at_most_one (true ∷ map f kids) ≡ true = subst (λ b. at_most_one (b ∷ map f kids) ≡ true) q e in
-      ap (λ b. (b || list_any (λ x. x) (map f (take j kids))) && f (get_or kids j 0)) q ∙ none_at kids j (not-true _ rest) (omega arith)
-  by_first false q more = ap (λ b. (b || list_any (λ x. x) (map f (take j kids))) && f (get_or kids j 0)) q ∙ more
+apart_from f (k ∷ kids) (suc j) e lt = false_from_ne_true ((f k || list_any (λ x. x) (map f (take j kids))) && f (get_or kids j 0)) (λ h.
+    let p = and_parts (f k || list_any (λ x. x) (map f (take j kids))) (f (get_or kids j 0)) h in ⊎_elim
+    (λ a. false≢true (sym (not_both (f k) (map f kids) e) ∙ and_from _ _ a (any-kid f kids (get_or kids j 0) (In-at kids j 0 (omega arith)) p.1)))
+    (λ b. false≢true (sym (apart_from f kids j (at_most_one-tail (f k) (map f kids) e) (omega arith)) ∙ and_from _ _ b p.1))
+    (or_cases (f k) (list_any (λ x. x) (map f (take j kids))) p.0))
 
 module _ (graph : Graph) (at : ℕ) (kids : List ℕ) (ok : IsGraph graph) (inside : at < length graph.nodes) (are : kids ≡ (node_at graph.nodes at).kids) where
   -- one and those before it share no variable
@@ -96,7 +85,7 @@ module _ (graph : Graph) (at : ℕ) (kids : List ℕ) (ok : IsGraph graph) (insi
           → Is (λ a. list_all (λ b. b) (map (λ k. is_true (living graph.nodes skips) k a) (take (j + 1) kids))) (λ v. list_any (λ b. b) (map (mentions graph.nodes v) (take (j + 1) kids)))
       and_next j lt is = same_tests Is
           (λ a. sym (ap (list_all (λ b. b)) (map_more (λ k. T k a) kids j 0 lt) ∙ all_push (map (λ k. T k a) (take j kids)) (T (get_or kids j 0) a)))
-          (λ v. sym (ap (list_any (λ b. b)) (map_more (mentions graph.nodes v) kids j 0 lt) ∙ any_push (map (mentions graph.nodes v) (take j kids)) (M (get_or kids j 0) v))) is
+          (λ v. sym (ap (list_any (λ b. b)) (map_more (mentions graph.nodes v) kids j 0 lt) ∙ any-push (λ x. x) (map (mentions graph.nodes v) (take j kids)) (M (get_or kids j 0) v))) is
 
       -- or this one before the others
       pub and_before : (j : ℕ) → j < length kids → Is (λ a. T (get_or kids j 0) a && list_all (λ b. b) (map (λ k. T k a) (take j kids))) (λ v. M (get_or kids j 0) v || list_any (λ b. b) (map (mentions graph.nodes v) (take j kids)))
@@ -111,7 +100,7 @@ module _ (graph : Graph) (at : ℕ) (kids : List ℕ) (ok : IsGraph graph) (insi
 
       pub or_next : (j : ℕ) → j < length kids → Is (λ a. list_any (λ b. b) (map (λ k. T k a) (take j kids)) || T (get_or kids j 0) a) (λ v. mentions graph.nodes v at)
           → Is (λ a. list_any (λ b. b) (map (λ k. is_true (living graph.nodes skips) k a) (take (j + 1) kids))) (λ v. mentions graph.nodes v at)
-      or_next j lt is = same_tests Is (λ a. sym (ap (list_any (λ b. b)) (map_more (λ k. T k a) kids j 0 lt) ∙ any_push (map (λ k. T k a) (take j kids)) (T (get_or kids j 0) a))) (λ v. refl) is
+      or_next j lt is = same_tests Is (λ a. sym (ap (list_any (λ b. b)) (map_more (λ k. T k a) kids j 0 lt) ∙ any-push (λ x. x) (map (λ k. T k a) (take j kids)) (T (get_or kids j 0) a))) (λ v. refl) is
 
       pub or_end : (j : ℕ) → (node_at graph.nodes at).what ≡ Or → length kids ≤ j → Is (λ a. list_any (λ b. b) (map (λ k. T k a) (take j kids))) (λ v. mentions graph.nodes v at)
           → Is (λ a. is_true (living graph.nodes skips) at a) (λ v. mentions graph.nodes v at)

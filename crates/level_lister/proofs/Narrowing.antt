@@ -1,7 +1,7 @@
 -- The range in which the first fault is, as one pass after the other makes it smaller.
-use Rattle.std.proofs.Common.{◌≡◌, ℕ, zero, suc, ◌+◌, ◌-◌, ◌*◌, ◌/◌, ◌^◌, ◌<◌, ◌≤◌, Bool, true, false, List, length, refl, ap, sym, ◌∙◌, subst, arith, inl, inr, ⊎_elim}
+use Rattle.std.proofs.Common.{◌≡◌, ℕ, zero, suc, ◌+◌, ◌-◌, ◌*◌, ◌/◌, ◌^◌, ◌<◌, ◌≤◌, true, false, List, length, refl, ap, sym, ◌∙◌, subst, arith, inl, inr, ⊎_elim}
 use Rattle.std.specs.Prelude.{◌⊎◌}
-use Rattle.std.proofs.lemmas.Bool.{cases_lt, false≢true}
+use Rattle.std.proofs.lemmas.Bool.{cases_lt, false≢true, true_from_ne_false}
 use Rattle.std.proofs.lemmas.Nat.{div_below}
 use Rattle.std.proofs.Math.Nat.{lt-div-mul-add, div-mul-le_self, pow-zero, pow-suc}
 use Rattle.state_rules.specs.Bits.{bit_in}
@@ -69,12 +69,9 @@ module _ (graph : Graph) (words costs : List ℕ) (c from : ℕ) where
       before : OkAmong graph words costs c from (low + g * ((span + count) / (count + 1)))
       before part l h lt o state p = ⊎_elim
           (λ (q : part < low). is.ok part l q lt o state p)
-          (λ (q : low ≤ part). by_bit q (bit_in state part) refl)
-          (cases_lt part low) where
-            by_bit : low ≤ part → (b : Bool) → bit_in state part ≡ b → bit_in state part ≡ true
-            by_bit q true e = e
-            by_bit q false e = absurd (none ((part - low) / ((span + count) / (count + 1))) (div_below (part - low) ((span + count) / (count + 1)) g some_size (omega arith))
-                (record { state = state; is = p; part = part; within = lt; open_ = o; faulty = e; low = q; group = refl }))
+          (λ (q : low ≤ part). true_from_ne_false (bit_in state part) (λ e. none ((part - low) / ((span + count) / (count + 1))) (div_below (part - low) ((span + count) / (count + 1)) g some_size (omega arith))
+          (record { state = state; is = p; part = part; within = lt; open_ = o; faulty = e; low = q; group = refl })))
+          (cases_lt part low)
 
       in_group : FaultOf graph words costs c (record { low = low; size = (span + count) / (count + 1) }) g → FaultWithin (low + g * ((span + count) / (count + 1))) ((span + count) / (count + 1))
       in_group f =

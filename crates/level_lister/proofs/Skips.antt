@@ -1,12 +1,12 @@
 -- The nodes that are skipped are in no derivation that costs little.
-use Rattle.std.proofs.Common.{◌≡◌, ◌≢◌, ℕ, zero, suc, ◌+◌, ◌-◌, ◌<◌, ◌≤◌, Bool, true, cond, List, [], ◌∷◌, map, length, get_or, set, refl, ap, sym, ◌∙◌, subst, arith, inl, inr, ⊎_elim}
+use Rattle.std.proofs.Common.{◌≡◌, ◌≢◌, ℕ, zero, suc, ◌+◌, ◌-◌, ◌<◌, ◌≤◌, Bool, true, cond, List, map, length, get_or, set, refl, ap, sym, ◌∙◌, subst, arith, ⊎_elim}
 use Rattle.std.specs.List.{list_any}
 use Rattle.std.proofs.lemmas.Bool.{cases_lt, le-ltb, cases_eq}
 use Rattle.std.proofs.lemmas.Option.{same_Some}
 use Rattle.std.proofs.lemmas.List.{get_or-set_same, get_or-set_other}
 use Rattle.state_rules.specs.Assignments.{Assignment}
 use Rattle.state_rules.specs.Cases.{agrees_at}
-use Rattle.state_rules.proofs.Members.{In}
+use Rattle.state_rules.proofs.Members.{In-at}
 use Rattle.state_rules.specs.declared.nodes.NodeKind.{NodeKind}
 use Rattle.state_rules.specs.declared.nodes.NodeKind.TheVariants.{Literal, And, Or}
 use Rattle.state_rules.specs.Graphs.{Graph, node_at, is_true, mentions, kind_fits, IsGraph}
@@ -24,12 +24,6 @@ use Rattle.level_lister.specs.inner.CostSets.{Follows}
 use Rattle.level_lister.specs.inner.Skips.{living, IsEnough, others_cost, rest_below, AreRests, skip_of}
 use Rattle.level_lister.proofs.Living.{truth_more, graph-is, living-is}
 use Rattle.level_lister.proofs.Whole.{cost_among-all}
-
--- a place of a list
-in-at : (xs : List ℕ) (j : ℕ) → j < length xs → In (get_or xs j 0) xs
-in-at [] j h = absurd (omega arith)
-in-at (x ∷ xs) zero h = inl refl
-in-at (x ∷ xs) (suc j) h = inr (in-at xs j (omega arith))
 
 -- ---- the sweep
 
@@ -82,14 +76,14 @@ module _ (graph : Graph) (words costs : List ℕ) (ok : IsGraph graph) (least : 
           let there = the_node graph.nodes k And (node_at graph.nodes k).kids inside q refl in
           let own = has_least graph words costs least are_least ok a follows k inside e in
           let below = has_least graph words costs least are_least ok a follows (get_or (node_at graph.nodes k).kids j 0) within t in
-          let x = kid-excess graph words costs ok a follows (node_at graph.nodes k).kids (apart-kids graph words costs ok k (node_at graph.nodes k).kids there) (sym (true-at graph words costs ok k _ there a) ∙ e) (get_or least k 0) (sym (costs-at graph words costs ok k _ there) ∙ own.is) (get_or (node_at graph.nodes k).kids j 0) (in-at (node_at graph.nodes k).kids j lt) in
+          let x = kid-excess graph words costs ok a follows (node_at graph.nodes k).kids (apart-kids graph words costs ok k (node_at graph.nodes k).kids there) (sym (true-at graph words costs ok k _ there a) ∙ e) (get_or least k 0) (sym (costs-at graph words costs ok k _ there) ∙ own.is) (get_or (node_at graph.nodes k).kids j 0) (In-at (node_at graph.nodes k).kids j 0 lt) in
           let same : x.cost ≡ get_or least (get_or (node_at graph.nodes k).kids j 0) 0 = same_Some x.cost _ (sym x.is ∙ below.is) in
           let all = faults_in-le (known_at words) (part_cost costs) (length costs) (λ v. list_any (λ b. b) (map (mentions graph.nodes v) (node_at graph.nodes k).kids)) (λ v. mentions graph.nodes v k) a (λ v r. mention-at graph words costs ok k _ there v ∙ r) in
-          let one = faults_in-le (known_at words) (part_cost costs) (length costs) (λ v. mentions graph.nodes v (get_or (node_at graph.nodes k).kids j 0)) (λ v. mentions graph.nodes v k) a (λ v r. mention-at graph words costs ok k _ there v ∙ any-kid (mentions graph.nodes v) (node_at graph.nodes k).kids (get_or (node_at graph.nodes k).kids j 0) (in-at (node_at graph.nodes k).kids j lt) r) in
+          let one = faults_in-le (known_at words) (part_cost costs) (length costs) (λ v. mentions graph.nodes v (get_or (node_at graph.nodes k).kids j 0)) (λ v. mentions graph.nodes v k) a (λ v r. mention-at graph words costs ok k _ there v ∙ any-kid (mentions graph.nodes v) (node_at graph.nodes k).kids (get_or (node_at graph.nodes k).kids j 0) (In-at (node_at graph.nodes k).kids j 0 lt) r) in
           omega (arith, x.excess, same, all, one)
       by_kind Or q =
           let there = the_node graph.nodes k Or (node_at graph.nodes k).kids inside q refl in
-          let one = faults_in-le (known_at words) (part_cost costs) (length costs) (λ v. mentions graph.nodes v (get_or (node_at graph.nodes k).kids j 0)) (λ v. mentions graph.nodes v k) a (λ v r. mention-at graph words costs ok k _ there v ∙ any-kid (mentions graph.nodes v) (node_at graph.nodes k).kids (get_or (node_at graph.nodes k).kids j 0) (in-at (node_at graph.nodes k).kids j lt) r) in
+          let one = faults_in-le (known_at words) (part_cost costs) (length costs) (λ v. mentions graph.nodes v (get_or (node_at graph.nodes k).kids j 0)) (λ v. mentions graph.nodes v k) a (λ v r. mention-at graph words costs ok k _ there v ∙ any-kid (mentions graph.nodes v) (node_at graph.nodes k).kids (get_or (node_at graph.nodes k).kids j 0) (In-at (node_at graph.nodes k).kids j 0 lt) r) in
           omega (arith, one)
 
     module _ (rests skips : List ℕ) (top : ℕ) (are : AreRests graph.nodes least rests 0) (marks : (k : ℕ) → k < length graph.nodes → get_or skips k 0 ≡ skip_of top (get_or least k 0) (get_or rests k 0)) where

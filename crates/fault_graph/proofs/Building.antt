@@ -1,5 +1,5 @@
 -- The nodes of the smaller graph, one after the other, and the places of what stands for the nodes so far.
-use Rattle.std.proofs.Common.{◌≡◌, ◌≢◌, ℕ, ◌+◌, ◌-◌, ◌<◌, ◌≤◌, Bool, true, false, cond, List, [], ◌∷◌, ◌++◌, map, length, take, get_or, set, All, Option, Some, refl, ap, sym, ◌∙◌, subst, arith, inl, inr, ⊎_elim, length-append, get_or-set_same, get_or-set_other}
+use Rattle.std.proofs.Common.{◌≡◌, ◌≢◌, ℕ, ◌+◌, ◌-◌, ◌<◌, ◌≤◌, Bool, true, false, List, [], ◌∷◌, ◌++◌, map, length, take, get_or, set, All, Option, Some, refl, ap, sym, ◌∙◌, subst, arith, inl, inr, ⊎_elim, length-append, get_or-set_same, get_or-set_other}
 use Rattle.std.specs.Prelude.{◌⊎◌, slice_get, nat_lt}
 use Rattle.std.specs.List.{list_any, filter}
 use Rattle.std.proofs.Math.Bool.{and-true, or-false}
@@ -7,20 +7,21 @@ use Rattle.std.proofs.Math.ListN.{length-map}
 use Rattle.std.proofs.lemmas.Bool.{and_from, cases_lt, leb-true, le-leb, ltb-true, lt-ltb, false≢true, cases_eq, false_from_ne_true}
 use Rattle.std.proofs.lemmas.List.Sums.{sum_by-take-le}
 use Rattle.std.proofs.lemmas.Option.{slice_get-get_or, get_or_from_slice_get, same_Some}
+use Rattle.std.proofs.lemmas.List.{nil_from_length}
 use Rattle.state_rules.specs.Assignments.{Assignment}
-use Rattle.state_rules.proofs.Members.{In, In-map, In-filtered, AtMost}
+use Rattle.state_rules.proofs.Members.{In, In-map, In-filtered, AtMost, from_map, In-filter, In-at}
 use Rattle.state_rules.proofs.Lists.{length-filter-le}
 use Rattle.state_rules.specs.declared.nodes.NodeKind.{NodeKind}
 use Rattle.state_rules.specs.declared.nodes.NodeKind.TheVariants.{Literal, And, Or}
 use Rattle.state_rules.specs.Graphs.{Node, Graph, true_node, node_at, truth_by, mention_by, is_true, mentions, apart_at, kind_fits, node_fits, AreNodes, IsGraph, edges}
-use Rattle.state_rules.proofs.NodeValues.{are_below, value_of-last}
+use Rattle.state_rules.proofs.NodeValues.{are_below, value_of-last, are_below-from}
 use Rattle.state_rules.proofs.NodesFit.{fits-get, apart-get, literal, AreNodes-push}
 use Rattle.node_store.proofs.Copying.{take-more, edges-push}
 use Rattle.conditioner.specs.Models.{total_cost}
 use Rattle.minimiser.specs.Costs.{part_cost, known_at, sum_costs, cheapest}
 use Rattle.minimiser.specs.Stored.{AreLeastCosts}
 use Rattle.minimiser.specs.inner.Swept.{is_kid}
-use Rattle.minimiser.proofs.Costs.{IsCost, from_add, and_left, and_right}
+use Rattle.minimiser.proofs.Costs.{from_add, and_left, and_right}
 use Rattle.minimiser.proofs.Models.{LeastIs}
 use Rattle.minimiser.proofs.Sums.{cost_in-some}
 use Rattle.minimiser.proofs.Derivations.{is_cost, mention-at, costs-at, below, all-below, cheapest-kid, sum-kid}
@@ -41,10 +42,6 @@ use Rattle.fault_graph.proofs.Roots.{IsWhole, whole}
 row-le : (values places : List ℕ) (cost : ℕ) (kids : List ℕ) → length (kept_kids values places cost kids) ≤ length kids
 row-le values places cost kids = omega (arith, length-map (filter (keeps values cost) kids) (λ k. get_or places k 0), length-filter-le (keeps values cost) kids)
 
-empty : (xs : List ℕ) → length xs ≤ 0 → xs ≡ []
-empty [] h = refl
-empty (x ∷ xs) h = absurd (omega arith)
-
 -- a sum of nothing costs nothing
 free-sum : (C : ℕ → Option ℕ) (kids : List ℕ) (c : ℕ) → sum_costs (map C kids) ≡ Some c → ((j d : ℕ) → In j kids → C j ≡ Some d → d ≡ 0) → c ≡ 0
 free-sum C [] c e h = sym (same_Some 0 c e)
@@ -54,20 +51,12 @@ free-sum C (k ∷ kids) c e h =
 
 -- what is in a row is the place of a kid that stays
 row-source : (keep : ℕ → Bool) (place : ℕ → ℕ) (kids : List ℕ) (q : ℕ) → In q (map place (filter keep kids)) → (j : ℕ) × In j kids × (keep j ≡ true) × (place j ≡ q)
-row-source keep place [] q m = absurd m
-row-source keep place (k ∷ kids) q m = by_keep (λ i. row-source keep place kids q i) (keep k) refl m where
-  by_keep : (In q (map place (filter keep kids)) → (j : ℕ) × In j kids × (keep j ≡ true) × (place j ≡ q))
-      → (b : Bool) → keep k ≡ b → In q (map place (cond b (k ∷ filter keep kids) (filter keep kids))) → (j : ℕ) × In j (k ∷ kids) × (keep j ≡ true) × (place j ≡ q)
-  by_keep more true e (inl s) = (k, inl refl, e, sym s)
-  by_keep more true e (inr i) = let x = more i in (x.0, inr x.1, x.2, x.3)
-  by_keep more false e i = let x = more i in (x.0, inr x.1, x.2, x.3)
+row-source keep place kids q m = let x = from_map place q (filter keep kids) m in let r = In-filter keep x.item kids x.is_in in (x.item, r.0, r.1, sym x.gives)
 
 row-below : (keep : ℕ → Bool) (place : ℕ → ℕ) (own : ℕ) (kids : List ℕ) → ((j : ℕ) → In j kids → keep j ≡ true → place j < own) → are_below own (map place (filter keep kids)) ≡ true
-row-below keep place own [] h = refl
-row-below keep place own (j ∷ kids) h = by_first (keep j) refl (row-below keep place own kids (λ i m. h i (inr m))) where
-  by_first : (b : Bool) → keep j ≡ b → are_below own (map place (filter keep kids)) ≡ true → are_below own (map place (cond b (j ∷ filter keep kids) (filter keep kids))) ≡ true
-  by_first true k more = and_from _ _ (lt-ltb (place j) own (h j (inl refl) k)) more
-  by_first false k more = more
+row-below keep place own kids h =
+    let row : List ℕ = map place (filter keep kids) in
+    are_below-from own row (λ i d lt. let x = row-source keep place kids (get_or row i d) (In-at row i d lt) in subst (λ k. k < own) x.3 (h x.0 x.1 x.2))
 
 row-kind : (vars : ℕ) (values places : List ℕ) (cost : ℕ) (what : NodeKind) (kids : List ℕ) → kind_fits vars what kids ≡ true → kind_fits vars what (kept_kids values places cost kids) ≡ true
 row-kind vars values places cost (Literal positive var) kids fit =
@@ -279,12 +268,11 @@ module _ (graph : Graph) (words costs : List ℕ) (ok : IsGraph graph) (long : l
 
       no-or : what ≡ Or → row ≡ [] → ⊥
       no-or o none =
-          let cost = subst (λ d. IsCost (known_at words) (part_cost costs) (length costs) (λ a. is_true graph.nodes at a) (λ w. mentions graph.nodes w at) d) cost-is (is_cost graph words costs ok at) in
-          let r = cost.reached c refl in
+          let r = (is_cost graph words costs ok at).reached c cost-is in
           false≢true (subst (λ w. truth_by r.by w (map (λ p. is_true nodes p r.by) []) ≡ true) o (subst (λ ps. truth_by r.by what (map (λ p. is_true nodes p r.by) ps) ≡ true) none (stands.onto r.by r.agrees r.holds (omega (arith, r.cheap, faults_in-all (known_at words) (part_cost costs) (length costs) (λ w. mentions graph.nodes w at) r.by)))))
 
       some : (row ≡ [] → ⊥) → 1 < length row
-      some not = ⊎_elim (λ (p : 1 < length row). p) (λ (p : length row ≤ 1). absurd (not (empty row (omega (arith, p, many))))) (cases_lt 1 (length row))
+      some not = ⊎_elim (λ (p : 1 < length row). p) (λ (p : length row ≤ 1). absurd (not (nil_from_length row (omega (arith, p, many))))) (cases_lt 1 (length row))
 
       by_kind : (w : NodeKind) → what ≡ w → Joins w (length row)
       by_kind (Literal positive var) o = tt

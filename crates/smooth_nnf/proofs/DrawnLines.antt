@@ -6,23 +6,24 @@ use Rattle.std.proofs.lemmas.Bool.{and_from, and_parts, lt-ltb, ltb-true, le-leb
 use Rattle.std.proofs.lemmas.List.{length-map, get_or_at}
 use Rattle.std.proofs.lemmas.List.FromFn.{length-range_with_len}
 use Rattle.std.proofs.lemmas.Option.{slice_get-get_or, same_Some}
-use Rattle.std.proofs.Math.Bool.{and-false}
+use Rattle.std.proofs.Math.Bool.{and-false, and-true, or-false}
+use Rattle.state_rules.proofs.Bits.{same_bit-refl}
 use Rattle.state_rules.specs.Bits.{same_bit}
 use Rattle.state_rules.specs.Assignments.{Assignment}
 use Rattle.state_rules.specs.Values.{values}
-use Rattle.state_rules.proofs.Members.{In}
-use Rattle.state_rules.proofs.Lists.{length-filter-le}
+use Rattle.state_rules.proofs.Members.{In, from_map, In-at}
+use Rattle.state_rules.proofs.Lists.{length-filter-le, list_any-map, any-never}
 use Rattle.state_rules.specs.declared.nodes.TheConstants.{CHILD_LIMIT}
 use Rattle.state_rules.specs.declared.nodes.NodeKind.{NodeKind}
 use Rattle.state_rules.specs.declared.nodes.NodeKind.TheVariants.{Literal, And, Or}
 use Rattle.state_rules.specs.Graphs.{at_most_one, Node, Graph, true_node, false_node, truth_by, mention_by, mentions, is_true, IsGraph}
-use Rattle.state_rules.proofs.NodeValues.{are_below, value_of}
+use Rattle.state_rules.proofs.NodeValues.{are_below, value_of, are_below-from}
 use Rattle.state_rules.proofs.NodesFit.{Fits, fits-get, literal}
 use Rattle.state_rules.proofs.Kids.{at_most_one-from, at_most_one-less, range-below}
 use Rattle.nnf_text.specs.StateGraphs.{all_same}
-use Rattle.minimiser.specs.Costs.{part_cost, known_at, cost_at, sum_costs, cheapest, node_cost}
-use Rattle.minimiser.proofs.Costs.{from_add, from_min}
-use Rattle.minimiser.proofs.Derivations.{mention-at, apart-kids, costs-at, all-below}
+use Rattle.minimiser.specs.Costs.{part_cost, known_at, cost_at, cheapest, node_cost}
+use Rattle.minimiser.proofs.Costs.{from_min}
+use Rattle.minimiser.proofs.Derivations.{mention-at, apart-kids, costs-at, all-below, sum-kid}
 use Rattle.smooth_nnf.specs.Layouts.{Layout, layout_of, own_line, literal_pairs, literal_line, literal_kids, filling, fillers, costs_just, cheapest_kids, lines_before, lines_to, own_lines, kid_line, or_behind, or_lines, lines_by, lines_at, node_lines, and_over}
 use Rattle.smooth_nnf.proofs.Standing.{value_of-front, value_of-there, values-behind, Stand, MayFollow, stand-behind}
 use Rattle.smooth_nnf.proofs.Meaning.{is_part, Means, NodeMeans, filled, part-means, other-means, and-means, or-means, kid-inside, cheapest-in, cheapest-is}
@@ -42,33 +43,18 @@ any-part false f (k ∷ kids) = any-part false f kids
 any-const : (b : Bool) (kids : List ℕ) → (kids ≡ [] → ⊥) → list_any (λ x. x) (map (λ k. b) kids) ≡ b
 any-const b [] some = absurd (some refl)
 any-const true (k ∷ kids) some = refl
-any-const false (k ∷ kids) some = any_false kids where
-  any_false : (kids : List ℕ) → list_any (λ x. x) (map (λ k. false) kids) ≡ false
-  any_false [] = refl
-  any_false (j ∷ kids) = any_false kids
+any-const false (k ∷ kids) some = list_any-map (λ x. x) (λ k. false) kids ∙ any-never kids
 
 same-const : (b : Bool) (kids : List ℕ) → all_same (map (λ k. b) kids) ≡ true
 same-const b [] = refl
-same-const true (k ∷ kids) = all_true kids where
-  all_true : (kids : List ℕ) → list_all (same_bit true) (map (λ k. true) kids) ≡ true
-  all_true [] = refl
-  all_true (j ∷ kids) = all_true kids
-same-const false (k ∷ kids) = all_false kids where
-  all_false : (kids : List ℕ) → list_all (same_bit false) (map (λ k. false) kids) ≡ true
-  all_false [] = refl
-  all_false (j ∷ kids) = all_false kids
+same-const b (k ∷ kids) = all kids where
+  all : (kids : List ℕ) → list_all (same_bit b) (map (λ k. b) kids) ≡ true
+  all [] = refl
+  all (j ∷ kids) = and_from _ _ (same_bit-refl b) (all kids)
 
 one_alone : (b : Bool) → at_most_one (b ∷ []) ≡ true
 one_alone true = refl
 one_alone false = refl
-
-all-one : (b : Bool) → list_all (λ x. x) (b ∷ []) ≡ b
-all-one true = refl
-all-one false = refl
-
-any-one : (b : Bool) → list_any (λ x. x) (b ∷ []) ≡ b
-any-one true = refl
-any-one false = refl
 
 -- what a line has below it that is filled in
 pub below_filled : (p m o : Bool) → (m ≡ true → o ≡ true) → ((p && m) || (p && (o && not m))) ≡ (p && o)
@@ -77,12 +63,7 @@ below_filled true true o h = sym (h refl)
 below_filled true false true h = refl
 below_filled true false false h = refl
 
--- a sum is there where each cost is, and the least cost is that of some kid
-each-cost : (C : ℕ → Option ℕ) (kids : List ℕ) (c : ℕ) → sum_costs (map C kids) ≡ Some c → (k : ℕ) → In k kids → (d : ℕ) × (C k ≡ Some d)
-each-cost C [] c s k m = absurd m
-each-cost C (j ∷ kids) c s k (inl e) = let sum = from_add (C j) (sum_costs (map C kids)) c s in (sum.left, ap C e ∙ sum.left_is)
-each-cost C (j ∷ kids) c s k (inr m) = let sum = from_add (C j) (sum_costs (map C kids)) c s in each-cost C kids sum.right sum.right_is k m
-
+-- the least cost is that of some kid
 cheapest-has : (C : ℕ → Option ℕ) (kids : List ℕ) (c : ℕ) → cheapest (map C kids) ≡ Some c → (k : ℕ) × (In k kids × (C k ≡ Some c))
 cheapest-has C [] c s = absurd (let no : None ≡ Some c = s in cc)
 cheapest-has C (j ∷ kids) c s = ⊎_elim
@@ -250,8 +231,8 @@ module _ (graph : Graph) (words costs : List ℕ) (ok : IsGraph graph) (dear : A
             one-adds (and_over (literal_line var positive ∷ []))
             (record { below = and_from _ _ (lt-ltb (literal_line var positive) (length before) inside) refl; kind = refl; apart = λ v. one_alone (mentions before v (literal_line var positive)); smooth = λ v. refl })
             at
-            (λ v c q. any-one (mentions before v (literal_line var positive)) ∙ literal-value parts more (mention_by v) var positive low (high p) inside ∙ part_alone v part ∙ ap (λ b. part_of v && b) (sym (has-is v)))
-            (λ c q. Means-same (λ a. all-one (is_true before (literal_line var positive) a) ∙ literal-value parts more (truth_by a) var positive low (high p) inside) (part-means graph words costs ok dear i var positive kids e c q part))
+            (λ v c q. or-false (mentions before v (literal_line var positive)) ∙ literal-value parts more (mention_by v) var positive low (high p) inside ∙ part_alone v part ∙ ap (λ b. part_of v && b) (sym (has-is v)))
+            (λ c q. Means-same (λ a. and-true (is_true before (literal_line var positive) a) ∙ literal-value parts more (truth_by a) var positive low (high p) inside) (part-means graph words costs ok dear i var positive kids e c q part))
         by_part false p =
             one-adds (and_over []) (record { below = refl; kind = refl; apart = λ v. refl; smooth = λ v. refl }) at
             (λ v c q. other_none v (and_right (nat_le 1 var) _ p) ∙ ap (λ b. part_of v && b) (sym (has-is v)))
@@ -262,13 +243,13 @@ module _ (graph : Graph) (words costs : List ℕ) (ok : IsGraph graph) (dear : A
     and-adds kids e cost cost_is at =
         let fit = fits-get graph.vars graph.nodes i _ ok.nodes.fit e in
         let drawn_kid : (k : ℕ) → In k kids → (d : ℕ) × Drawn before k d = λ k m.
-        let d = each-cost Ck kids cost (sym (costs-at graph words costs ok i _ e) ∙ cost_is) k m in
+        let d = sum-kid Ck kids cost k (sym (costs-at graph words costs ok i _ e) ∙ cost_is) m in
         (d.0, upto.drawn k d.0 (all-below i kids k fit.below m) d.1) in
         let mention_kids : (v : ℕ) → map (mentions before v) (map own kids) ≡ map (λ k. part_of v && M v k) kids = λ v.
         map_twice (mentions before v) own kids ∙ map-in (λ k. mentions before v (own k)) (λ k. part_of v && M v k) kids (λ k m. (drawn_kid k m).1.mentioned v) in
         one-adds (and_over (map own kids))
         (record {
-          below = below_all kids (λ k m. (drawn_kid k m).1.inside);
+          below = are_below-from (length before) (map own kids) (λ j d lt. let x = from_map own (get_or (map own kids) j d) kids (In-at (map own kids) j d lt) in subst (λ q. q < length before) (sym x.gives) (drawn_kid x.item x.is_in).1.inside);
           kind = ap (λ n. nat_lt n CHILD_LIMIT) (length-map kids own) ∙ fit.kind;
           apart = λ v. ap at_most_one (mention_kids v) ∙ at_most_one-less (λ k. part_of v && M v k) (M v) i kids fit.below (λ k h q. (and_parts (part_of v) (M v k) q).1) (apart-kids graph words costs ok i kids e v);
           smooth = λ v. refl;
@@ -276,10 +257,7 @@ module _ (graph : Graph) (words costs : List ℕ) (ok : IsGraph graph) (dear : A
         at
         (λ v c q. ap (list_any (λ b. b)) (mention_kids v) ∙ any-part (part_of v) (M v) kids ∙ ap (λ b. part_of v && b) (sym (mention-at graph words costs ok i _ e v)))
         (λ c q. Means-same (λ a. ap (list_all (λ b. b)) (map_twice (λ p. is_true before p a) own kids))
-        (and-means graph words costs ok dear (λ k a. is_true before (own k) a) i kids c e q (λ k d m r. (upto.drawn k d (all-below i kids k fit.below m) r).means))) where
-          below_all : (ks : List ℕ) → ((k : ℕ) → In k ks → own k < length before) → are_below (length before) (map own ks) ≡ true
-          below_all [] each = refl
-          below_all (k ∷ ks) each = and_from _ _ (lt-ltb (own k) (length before) (each k (inl refl))) (below_all ks (λ j m. each j (inr m)))
+        (and-means graph words costs ok dear (λ k a. is_true before (own k) a) i kids c e q (λ k d m r. (upto.drawn k d (all-below i kids k fit.below m) r).means)))
 
     -- an or, behind a line for each of its cheapest kids
     module _ (kids : List ℕ) (e : slice_get graph.nodes i ≡ Some (record { what = Or; kids = kids })) (cost : ℕ) (cost_is : Ck i ≡ Some cost)

@@ -4,8 +4,8 @@ use Rattle.std.specs.Prelude.{slice_get}
 use Rattle.std.specs.List.{list_all, list_any}
 use Rattle.std.proofs.lemmas.Bool.{and_from, cases_lt, or_cases, false≢true, eqb-true, eq-eqb, not-true, true_from_ne_false}
 use Rattle.std.proofs.lemmas.List.{get_or_past}
-use Rattle.std.proofs.lemmas.Option.{get_or_from_slice_get, slice_get_within, same_Some}
-use Rattle.state_rules.specs.Bits.{same_bit}
+use Rattle.std.proofs.lemmas.Option.{get_or_from_slice_get, slice_get_within, same_Some, slice_get-get_or}
+use Rattle.state_rules.proofs.Bits.{same_bit-equal}
 use Rattle.state_rules.specs.Assignments.{Assignment}
 use Rattle.state_rules.specs.Values.{values}
 use Rattle.state_rules.proofs.Lists.{list_any-map}
@@ -13,7 +13,7 @@ use Rattle.state_rules.proofs.Members.{In, Passing, any_from, any_in, AtMost}
 use Rattle.state_rules.proofs.Values.{length-values_after}
 use Rattle.state_rules.specs.declared.nodes.NodeKind.{NodeKind}
 use Rattle.state_rules.specs.declared.nodes.NodeKind.TheVariants.{Literal, And, Or}
-use Rattle.state_rules.specs.Graphs.{at_most_one, Node, Graph, true_node, truth, truth_by, mention_by, mentions, is_true, IsGraph}
+use Rattle.state_rules.specs.Graphs.{at_most_one, Node, Graph, true_node, truth, truth_by, mention_by, mentions, is_true, IsGraph, node_at}
 use Rattle.state_rules.proofs.NodeValues.{are_below, value_of-get}
 use Rattle.state_rules.proofs.Kids.{at_most_one-tail, not_both}
 use Rattle.state_rules.proofs.NodesFit.{fits-get, apart-get}
@@ -353,21 +353,12 @@ module _ (graph : Graph) (words costs : List ℕ) (ok : IsGraph graph) where
         pub is : slice_get graph.nodes node ≡ Some (record { what = Literal false p; kids = kids })
         pub marked : Marked node
 
-      got : (nodes : List Node) (k : ℕ) → k < length nodes → (node : Node) × (slice_get nodes k ≡ Some node)
-      got [] k h = absurd (omega arith)
-      got (x ∷ nodes) zero h = (x, refl)
-      got (x ∷ nodes) (suc k) h = got nodes k (omega arith)
-
       pub descend : (fuel k : ℕ) → k < fuel → Marked k → OnFault k → MarkedLiteral
       descend zero k h mark on = absurd (omega arith)
-      descend (suc fuel) k h mark on = let x = got graph.nodes k (node-there k a on.holds) in by_kind (descend fuel) x.0.what x.0.kids x.1 where
+      descend (suc fuel) k h mark on = by_kind (descend fuel) (node_at graph.nodes k).what (node_at graph.nodes k).kids (slice_get-get_or graph.nodes k true_node (node-there k a on.holds)) where
         by_kind : ((j : ℕ) → j < fuel → Marked j → OnFault j → MarkedLiteral) → (what : NodeKind) (kids : List ℕ) → slice_get graph.nodes k ≡ Some (record { what = what; kids = kids }) → MarkedLiteral
         by_kind more (Literal positive var) kids e =
             let at : var ≡ p = eqb-true _ _ (sym (mention-at k _ e p) ∙ on.has) in
-            record { node = k; kids = kids; is = e ∙ (λ i. Some (record { what = Literal (says positive (a var) (sym (true-at k _ e a) ∙ on.holds) (ap a at ∙ false_at) i) (at i); kids = kids })); marked = mark } where
-              says : (b x : Bool) → same_bit b x ≡ true → x ≡ false → b ≡ false
-              says true true q r = absurd (cc)
-              says true false q r = absurd (cc)
-              says false x q r = refl
+            record { node = k; kids = kids; is = e ∙ (λ i. Some (record { what = Literal ((same_bit-equal positive (a var) (sym (true-at k _ e a) ∙ on.holds) ∙ ap a at ∙ false_at) i) (at i); kids = kids })); marked = mark }
         by_kind more And kids e = let x = on-and k kids e on in more x.kid (omega (arith, all-below k kids x.kid (below k _ e) x.is_in)) (ands k kids on.cost e on.is mark x.kid x.is_in) x.on
         by_kind more Or kids e = let x = on-or k kids e on in more x.kid (omega (arith, all-below k kids x.kid (below k _ e) x.is_in)) (ors k kids on.cost e on.is mark x.kid x.is_in x.same) x.on

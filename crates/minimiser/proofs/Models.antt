@@ -1,6 +1,7 @@
 -- The states that a graph allows, as words are changed.
 use Rattle.std.proofs.Common.{◌≡◌, ◌≢◌, ℕ, zero, suc, ◌-◌, ◌<◌, ◌≤◌, Bool, true, false, ◌&&◌, List, [], ◌∷◌, ◌++◌, length, get_or, Option, Some, None, refl, ap, sym, ◌∙◌, subst, arith, ⊎_elim, length-append}
 use Rattle.std.proofs.lemmas.Bool.{and_from, cases_lt, leb-true, le-leb}
+use Rattle.std.proofs.lemmas.Option.{same_Some}
 use Rattle.state_rules.specs.Bits.{bit_in, lists_of_bits}
 use Rattle.state_rules.specs.Cases.{agrees_at}
 use Rattle.state_rules.specs.Ranking.{cost, least, least_with, is_at_most, states}
@@ -147,9 +148,7 @@ module _ (graph : Graph) (words costs : List ℕ) (most : ℕ) (e : LeastIs grap
 -- ---- states of least cost
 
 pub least-passes : (graph : Graph) (words costs : List ℕ) (most : ℕ) (h : List Bool) → LeastIs graph costs words most → LeastState graph words costs h → ModelWithin graph words costs most h
-least-passes graph words costs most h e l = subst (λ n. ModelWithin graph words costs n h) (some-same l.most most (sym l.least_is ∙ e)) l.passes where
-  some-same : (m n : ℕ) → Some m ≡ Some n → m ≡ n
-  some-same m n q = cc
+least-passes graph words costs most h e l = subst (λ n. ModelWithin graph words costs n h) (same_Some l.most most (sym l.least_is ∙ e)) l.passes
 
 pub passes-least : (graph : Graph) (words costs : List ℕ) (most : ℕ) (h : List Bool) → LeastIs graph costs words most → ModelWithin graph words costs most h → LeastState graph words costs h
 passes-least graph words costs most h e p = record { most = most; least_is = e; passes = p }

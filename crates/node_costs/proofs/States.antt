@@ -7,23 +7,18 @@ use Rattle.node_costs.specs.Costs.{total, IsLeast, StateCost}
 use Rattle.node_costs.proofs.Sets.{least-one}
 
 module _ (costs : List ℕ) (parts : ℕ) (test : Test) where
-  pub least-passing : IsLeast (StateCost costs parts test) (least costs (passing parts test))
-  least-passing = by_cost (least costs (passing parts test)) refl where
-    low : (n : ℕ) → StateCost costs parts test n → AtMost (least costs (passing parts test)) n
-    low n s = subst (AtMost (least costs (passing parts test))) s.cost_is
-        (least-below (cost costs) test s.state (states parts) (subst (λ k. In s.state (lists_of_bits k)) s.long (bits_in s.state)) s.passes)
-
-    by_cost : (o : Option ℕ) → least costs (passing parts test) ≡ o → IsLeast (StateCost costs parts test) o
-    by_cost None e = λ n s. subst (λ o. AtMost o n) e (low n s)
-    by_cost (Some c) e =
-        let r = least-from (cost costs) test c (states parts) e in
-        (record { state = r.item; long = bits_length parts r.item r.is_in; passes = r.passes; cost_is = r.is_size }, λ n s. subst (λ o. AtMost o n) e (low n s))
+  low : (n : ℕ) → StateCost costs parts test n → AtMost (least costs (passing parts test)) n
+  low n s = subst (AtMost (least costs (passing parts test))) s.cost_is
+      (least-below (cost costs) test s.state (states parts) (subst (λ k. In s.state (lists_of_bits k)) s.long (bits_in s.state)) s.passes)
 
   pub least-out : (c : Option ℕ) → least costs (passing parts test) ≡ c → IsLeast (StateCost costs parts test) c
-  least-out c e = subst (IsLeast (StateCost costs parts test)) e least-passing
+  least-out None e = λ n s. subst (λ o. AtMost o n) e (low n s)
+  least-out (Some c) e =
+      let r = least-from (cost costs) test c (states parts) e in
+      (record { state = r.item; long = bits_length parts r.item r.is_in; passes = r.passes; cost_is = r.is_size }, λ n s. subst (λ o. AtMost o n) e (low n s))
 
   pub least-in : (c : Option ℕ) → IsLeast (StateCost costs parts test) c → least costs (passing parts test) ≡ c
-  least-in c is = least-one (StateCost costs parts test) (least costs (passing parts test)) c least-passing is
+  least-in c is = least-one (StateCost costs parts test) (least costs (passing parts test)) c (least-out (least costs (passing parts test)) refl) is
 
 -- a sum over the variables of the parts
 pub cost-total : (f : ℕ → ℕ) (v : ℕ) (costs : List ℕ) (h : List Bool) → length h ≡ length costs → ((i : ℕ) → i < length costs → f (v + i) ≡ cond (bit_in h i) 0 (get_or costs i 0)) → cost costs h ≡ total f v (length costs)

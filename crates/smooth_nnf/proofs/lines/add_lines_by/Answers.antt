@@ -1,6 +1,6 @@
 use Rattle.std.proofs.Common.{◌≡◌, ℕ, List, sym, ap, ◌∙◌, subst}
 use Rattle.state_rules.specs.declared.nodes.NodeKind.{NodeKind}
-use Rattle.state_rules.specs.Graphs.{Graph, Node, node_at, IsGraph}
+use Rattle.state_rules.specs.Graphs.{Graph, node_at, IsGraph}
 use Rattle.diag_edge.proofs.Added.{adds_same}
 use Rattle.smooth_nnf.specs.Layouts.{lines_by}
 use Rattle.smooth_nnf.specs.inner.Drawings.{shown}
@@ -8,54 +8,49 @@ use Rattle.smooth_nnf.specs.inner.Texts.{lines_text}
 use Rattle.smooth_nnf.proofs.LineLemmas.{kids-inside, few-kids-of, line-room, literal-low, and-text, or-lines-text}
 use Rattle.smooth_nnf.proofs.lines.add_lines_by.Goals as goal
 
--- a node is what it is, over its kids
-both : (nodes : List Node) (node : ℕ) (what : NodeKind) (kids : List ℕ) → what ≡ (node_at nodes node).what → kids ≡ (node_at nodes node).kids
-    → node_at nodes node ≡ record { what = what; kids = kids }
-both nodes node what kids same_what same_kids = λ i. record { what = sym same_what i; kids = sym same_kids i }
-
 what-of : (found graph : Graph) (node : ℕ) (what : NodeKind) → what ≡ (node_at found.nodes node).what → found ≡ graph → what ≡ (node_at graph.nodes node).what
 what-of found graph node what is same = is ∙ ap (λ (x : Graph). (node_at x.nodes node).what) same
+
+-- the graph that is found is the drawing's, and the node is what it is, over its kids
+here : (found graph : Graph) (node : ℕ) (what : NodeKind) (kids : List ℕ) → found ≡ graph → IsGraph found → what ≡ (node_at found.nodes node).what → kids ≡ (node_at graph.nodes node).kids
+    → IsGraph graph × (node_at graph.nodes node ≡ record { what = what; kids = kids })
+here found graph node what kids same valid is over = (subst IsGraph same valid, λ i. record { what = sym (what-of found graph node what is same) i; kids = sym over i })
 
 pub add_literal-requires-clause-var : goal.add_literal-requires-clause-var
 add_literal-requires-clause-var g c =
     let d = c.args.drawing.now in
-    let valid : IsGraph d.graph = subst IsGraph c.graph-graph.ensures.graph c.len-nodes.ensures.valid in
-    let is = both d.graph.nodes c.args.node c.what.result c.args.kids.now (what-of _ d.graph c.args.node c.what.result c.what.ensures c.graph-graph.ensures.graph) c.requires.kids in
-    literal-low d c.parts-parts.ensures.whole valid c.args.node c.requires.node c.what.result c.args.kids.now is c.in-Literal.var c.in-Literal.positive c.in-Literal.is
+    let is = here _ d.graph c.args.node c.what.result c.args.kids.now c.graph-graph.ensures.graph c.len-nodes.ensures.valid c.what.ensures c.requires.kids in
+    literal-low d c.parts-parts.ensures.whole is.0 c.args.node c.requires.node c.what.result c.args.kids.now is.1 c.in-Literal.var c.in-Literal.positive c.in-Literal.is
 
 pub add_and-requires : goal.add_and-requires
 add_and-requires g c =
     let d = c.args.drawing.now in
-    let valid : IsGraph d.graph = subst IsGraph c.graph-graph.ensures.graph c.len-nodes.ensures.valid in
-    let is = both d.graph.nodes c.args.node c.what.result c.args.kids.now (what-of _ d.graph c.args.node c.what.result c.what.ensures c.graph-graph.ensures.graph) c.requires.kids in
-    kids-inside d c.parts-parts.ensures.whole valid c.args.node c.requires.node c.what.result c.args.kids.now is
+    let is = here _ d.graph c.args.node c.what.result c.args.kids.now c.graph-graph.ensures.graph c.len-nodes.ensures.valid c.what.ensures c.requires.kids in
+    kids-inside d c.parts-parts.ensures.whole is.0 c.args.node c.requires.node c.what.result c.args.kids.now is.1
 
 pub add_or-requires-clause-kids : goal.add_or-requires-clause-kids
 add_or-requires-clause-kids g c =
     let d = c.args.drawing.now in
-    let valid : IsGraph d.graph = subst IsGraph c.graph-graph.ensures.graph c.len-nodes.ensures.valid in
-    let is = both d.graph.nodes c.args.node c.what.result c.args.kids.now (what-of _ d.graph c.args.node c.what.result c.what.ensures c.graph-graph.ensures.graph) c.requires.kids in
-    kids-inside d c.parts-parts.ensures.whole valid c.args.node c.requires.node c.what.result c.args.kids.now is
+    let is = here _ d.graph c.args.node c.what.result c.args.kids.now c.graph-graph.ensures.graph c.len-nodes.ensures.valid c.what.ensures c.requires.kids in
+    kids-inside d c.parts-parts.ensures.whole is.0 c.args.node c.requires.node c.what.result c.args.kids.now is.1
 
 pub add_or-requires-clause-few : goal.add_or-requires-clause-few
 add_or-requires-clause-few g c =
     let d = c.args.drawing.now in
-    let valid : IsGraph d.graph = subst IsGraph c.graph-graph.ensures.graph c.len-nodes.ensures.valid in
-    let is = both d.graph.nodes c.args.node c.what.result c.args.kids.now (what-of _ d.graph c.args.node c.what.result c.what.ensures c.graph-graph.ensures.graph) c.requires.kids in
-    few-kids-of d c.parts-parts.ensures.whole valid c.args.node c.requires.node c.what.result c.args.kids.now is c.in-Or.is
+    let is = here _ d.graph c.args.node c.what.result c.args.kids.now c.graph-graph.ensures.graph c.len-nodes.ensures.valid c.what.ensures c.requires.kids in
+    few-kids-of d c.parts-parts.ensures.whole is.0 c.args.node c.requires.node c.what.result c.args.kids.now is.1 c.in-Or.is
 
 pub add_or-requires-clause-is : goal.add_or-requires-clause-is
 add_or-requires-clause-is g c =
     let d = c.args.drawing.now in
-    both d.graph.nodes c.args.node c.what.result c.args.kids.now (what-of _ d.graph c.args.node c.what.result c.what.ensures c.graph-graph.ensures.graph) c.requires.kids
+    (here _ d.graph c.args.node c.what.result c.args.kids.now c.graph-graph.ensures.graph c.len-nodes.ensures.valid c.what.ensures c.requires.kids).1
     ∙ (λ i. record { what = c.in-Or.is i; kids = c.args.kids.now })
 
 pub add_or-requires-clause-room : goal.add_or-requires-clause-room
 add_or-requires-clause-room g c =
     let d = c.args.drawing.now in
-    let valid : IsGraph d.graph = subst IsGraph c.graph-graph.ensures.graph c.len-nodes.ensures.valid in
-    let is = both d.graph.nodes c.args.node c.what.result c.args.kids.now (what-of _ d.graph c.args.node c.what.result c.what.ensures c.graph-graph.ensures.graph) c.requires.kids in
-    line-room d c.parts-parts.ensures.whole valid c.args.node c.requires.node c.what.result c.args.kids.now is c.in-Or.is c.args.cost c.requires.known
+    let is = here _ d.graph c.args.node c.what.result c.args.kids.now c.graph-graph.ensures.graph c.len-nodes.ensures.valid c.what.ensures c.requires.kids in
+    line-room d c.parts-parts.ensures.whole is.0 c.args.node c.requires.node c.what.result c.args.kids.now is.1 c.in-Or.is c.args.cost c.requires.known
 
 pub returns-in-And-clause-bytes : goal.returns-in-And-clause-bytes
 returns-in-And-clause-bytes g c =

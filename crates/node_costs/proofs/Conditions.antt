@@ -1,12 +1,11 @@
 -- The costs of a condition, by those of its parts.
 use Rattle.std.proofs.Common.{◌≡◌, ℕ, ◌+◌, ◌<◌, ◌≤◌, Bool, true, false, cond, ◌&&◌, ◌||◌, refl, ap, sym, ◌∙◌, subst, arith, eqb, inl, inr, ⊎_elim}
 use Rattle.std.specs.Prelude.{◌⊎◌}
-use Rattle.std.proofs.lemmas.Bool.{eqb-true, eq-eqb, cases_lt, cases_cond, false≢true}
+use Rattle.std.proofs.lemmas.Bool.{eqb-true, eq-eqb, cases_lt, cases_cond, false≢true, false_from_ne_true, and_parts}
 use Rattle.state_rules.specs.Assignments.{Assignment}
 use Rattle.state_rules.specs.Cases.{agrees_at}
 use Rattle.state_rules.specs.Bits.{same_bit}
 use Rattle.state_rules.proofs.Bits.{not_left, same_bit-refl, same_bit-equal}
-use Rattle.std.proofs.Math.Bool.{and-false}
 use Rattle.state_rules.proofs.Cases.{usual_bit, usual_bit-agrees, agrees_cond}
 use Rattle.node_costs.specs.Costs.{Weights, cost_among, Agrees, Local, CostOf, SumOf}
 use Rattle.node_costs.proofs.Totals.{total-same, total-le, total-add, total-none, total-one, total-off}
@@ -17,10 +16,7 @@ Apart m o = (v : ℕ) → (m v && o v) ≡ false
 
 -- a variable is not among others
 pub one_apart : (m : ℕ → Bool) (var : ℕ) → m var ≡ false → Apart m (λ v. eqb var v)
-one_apart m var out v = by_test (eqb var v) refl where
-  by_test : (b : Bool) → eqb var v ≡ b → (m v && b) ≡ false
-  by_test true e = ap (λ u. m u && true) (sym (eqb-true _ _ e)) ∙ ap (λ b. b && true) out
-  by_test false e = and-false (m v)
+one_apart m var out v = false_from_ne_true (m v && eqb var v) (λ h. let p = and_parts (m v) (eqb var v) h in false≢true (sym out ∙ ap m (eqb-true var v p.1) ∙ p.0))
 
 -- ---- one variable
 

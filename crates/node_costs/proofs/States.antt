@@ -20,6 +20,10 @@ module _ (costs : List ℕ) (parts : ℕ) (test : Test) where
   pub least-in : (c : Option ℕ) → IsLeast (StateCost costs parts test) c → least costs (passing parts test) ≡ c
   least-in c is = least-one (StateCost costs parts test) (least costs (passing parts test)) c (least-out (least costs (passing parts test)) refl) is
 
+pub cost-cons : (c : ℕ) (costs : List ℕ) (b : Bool) (bits : List Bool) → cost (c ∷ costs) (b ∷ bits) ≡ cond b 0 c + cost costs bits
+cost-cons c costs true bits = omega arith
+cost-cons c costs false bits = refl
+
 -- a sum over the variables of the parts
 pub cost-total : (f : ℕ → ℕ) (v : ℕ) (costs : List ℕ) (h : List Bool) → length h ≡ length costs → ((i : ℕ) → i < length costs → f (v + i) ≡ cond (bit_in h i) 0 (get_or costs i 0)) → cost costs h ≡ total f v (length costs)
 cost-total f v [] h l e = refl
@@ -27,7 +31,4 @@ cost-total f v (c ∷ costs) [] l e = absurd (omega arith)
 cost-total f v (c ∷ costs) (b ∷ h) l e =
     let first : v + 0 ≡ v = omega arith in
     let here : f v ≡ cond b 0 c = ap f (sym first) ∙ e zero (omega arith) in
-    omega (arith, here, cost-front c costs b h, cost-total f (v + 1) costs h (omega arith) (λ i lt. ap f (let s : v + 1 + i ≡ v + suc i = omega arith in s) ∙ e (suc i) (omega arith))) where
-      cost-front : (c : ℕ) (costs : List ℕ) (b : Bool) (bits : List Bool) → cost (c ∷ costs) (b ∷ bits) ≡ cond b 0 c + cost costs bits
-      cost-front c costs true bits = omega arith
-      cost-front c costs false bits = refl
+    omega (arith, here, cost-cons c costs b h, cost-total f (v + 1) costs h (omega arith) (λ i lt. ap f (let s : v + 1 + i ≡ v + suc i = omega arith in s) ∙ e (suc i) (omega arith)))

@@ -1,6 +1,6 @@
 -- Sums over variables.
-use Rattle.std.proofs.Common.{◌≡◌, ℕ, zero, suc, ◌+◌, ◌<◌, ◌≤◌, Bool, true, false, cond, refl, subst, arith, eqb}
-use Rattle.std.proofs.lemmas.Bool.{eqb-true, eqb-false}
+use Rattle.std.proofs.Common.{◌≡◌, ℕ, zero, suc, ◌+◌, ◌<◌, ◌≤◌, cond, refl, arith, eqb, ap, ◌∙◌, ⊎_elim, ◌≢◌}
+use Rattle.std.proofs.lemmas.Bool.{eq-eqb, ne_eqb, cases_eq}
 use Rattle.node_costs.specs.Costs.{total}
 
 pub total-same : (f g : ℕ → ℕ) (a n : ℕ) → ((v : ℕ) → a ≤ v → v < a + n → f v ≡ g v) → total f a n ≡ total g a n
@@ -21,18 +21,12 @@ total-none a (suc n) = omega (arith, total-none (a + 1) n)
 
 -- of one variable that is not among them
 pub total-off : (f : ℕ → ℕ) (var a n : ℕ) → (a ≤ var → var < a + n → ⊥) → total (λ u. cond (eqb var u) (f u) 0) a n ≡ 0
-total-off f var a zero h = refl
-total-off f var a (suc n) h = by_test (eqb var a) refl (total-off f var (a + 1) n (λ l m. h (omega arith) (omega arith))) where
-  by_test : (b : Bool) → eqb var a ≡ b → total (λ u. cond (eqb var u) (f u) 0) (a + 1) n ≡ 0 → cond b (f a) 0 + total (λ u. cond (eqb var u) (f u) 0) (a + 1) n ≡ 0
-  by_test true e r = let same : var ≡ a = eqb-true _ _ e in absurd (h (omega arith) (omega arith))
-  by_test false e r = omega arith
+total-off f var a n h = total-same (λ u. cond (eqb var u) (f u) 0) (λ v. 0) a n (λ v l m. ap (λ b. cond b (f v) 0) (ne_eqb var v (λ e. h (omega arith) (omega arith)))) ∙ total-none a n
 
 -- and of one that is
 pub total-one : (f : ℕ → ℕ) (var a n : ℕ) → a ≤ var → var < a + n → total (λ u. cond (eqb var u) (f u) 0) a n ≡ f var
 total-one f var a zero h g = absurd (omega arith)
-total-one f var a (suc n) h g = by_test (eqb var a) refl (λ l. total-one f var (a + 1) n l (omega arith)) where
-  by_test : (b : Bool) → eqb var a ≡ b → (a + 1 ≤ var → total (λ u. cond (eqb var u) (f u) 0) (a + 1) n ≡ f var) → cond b (f a) 0 + total (λ u. cond (eqb var u) (f u) 0) (a + 1) n ≡ f var
-  by_test true e r =
-      let same : var ≡ a = eqb-true _ _ e in
-      subst (λ u. f u + total (λ w. cond (eqb var w) (f w) 0) (a + 1) n ≡ f var) same (omega (arith, total-off f var (a + 1) n (λ l m. absurd (omega arith))))
-  by_test false e r = let other : var ≡ a → ⊥ = eqb-false _ _ e in omega (arith, r (omega arith))
+total-one f var a (suc n) h g = ⊎_elim
+    (λ (e : var ≡ a). omega (arith, ap (λ b. cond b (f a) 0) (eq-eqb var a e), ap f e, total-off f var (a + 1) n (λ l m. absurd (omega arith))))
+    (λ (ne : var ≢ a). omega (arith, ap (λ b. cond b (f a) 0) (ne_eqb var a ne), total-one f var (a + 1) n (omega arith) (omega arith)))
+    (cases_eq var a)

@@ -1,7 +1,7 @@
 -- The least cost at the root where a variable has a bit, from what derivations cost outside of the nodes.
 use Rattle.std.proofs.Common.{◌≡◌, ◌≢◌, ℕ, zero, suc, ◌+◌, ◌-◌, ◌<◌, ◌≤◌, Bool, true, false, cond, eqb, List, [], ◌∷◌, map, length, get_or, set, Option, Some, None, refl, ap, sym, ◌∙◌, subst, arith, inl, inr, ⊎_elim}
 use Rattle.std.specs.Prelude.{◌⊎◌, slice_get, nat_lt}
-use Rattle.std.proofs.lemmas.Bool.{cases_Bool, cases_eq, eqb-true, eq-eqb, ltb-true, ltb-false, false≢true}
+use Rattle.std.proofs.lemmas.Bool.{cases_Bool, cases_eq, eqb-true, eq-eqb, ltb-true, ltb-false, false≢true, ne_eqb}
 use Rattle.std.proofs.lemmas.List.{get_or-set_same, get_or-set_other}
 use Rattle.std.proofs.lemmas.List.Sums.{sum_by-cons}
 use Rattle.std.proofs.lemmas.Option.{slice_get-get_or}
@@ -225,10 +225,7 @@ module _ (graph : Graph) (words costs : List ℕ) (ok : IsGraph graph) (vs os : 
 
     turned-other : (a : Assignment) (v : ℕ) → (var ≡ v → ⊥) → turned a v ≡ a v
     unfolding turned
-    turned-other a v ne = by_test (eqb var v) refl where
-      by_test : (x : Bool) → eqb var v ≡ x → cond x bit (a v) ≡ a v
-      by_test true e = absurd (ne (eqb-true _ _ e))
-      by_test false e = refl
+    turned-other a v ne = ap (λ x. cond x bit (a v)) (ne_eqb var v ne)
 
     turns : (k c : ℕ) (a : Assignment) → mentions graph.nodes var k ≡ false → Achieves graph words costs ok k c a → Achieves graph words costs ok k c (turned a)
     turns k c a lacks ach = record {

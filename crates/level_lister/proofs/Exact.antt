@@ -85,10 +85,8 @@ module _ (graph : Graph) (costs : List ℕ) (within : length costs ≤ graph.var
   front-more : (old : List ℕ) (part : ℕ) (b : Bool) → part < length old → ((k : ℕ) → k < part → get_or old k 0 ≢ 0) → (k : ℕ) → k < part + 1 → get_or (set old part (word_of b)) k 0 ≢ 0
   front-more old part b lt front k h e = ⊎_elim
       (λ q. not_open b (sym (get_or-set_same old part (word_of b) 0 lt) ∙ ap (λ j. get_or (set old part (word_of b)) j 0) (sym q) ∙ e))
-      (λ ne. front k (below ne) (sym (get_or-set_other old part k (word_of b) 0 ne) ∙ e))
-      (cases_eq k part) where
-        below : k ≢ part → k < part
-        below ne = omega arith
+      (λ (ne : k ≢ part). front k (omega arith) (sym (get_or-set_other old part k (word_of b) 0 ne) ∙ e))
+      (cases_eq k part)
 
   -- an open part is fixed that is faulty in some state
   pub settle_faulty : (start old : List ℕ) (part : ℕ) → length start ≡ graph.vars → part < length costs → Settling graph costs c start old part → get_or old part 0 ≡ 0 → HasCost graph (set old part 2) costs c

@@ -47,11 +47,9 @@ module _ (graph : Graph) (costs : List ℕ) (within : length costs ≤ graph.var
     back_next new here apart none = record {
       front = λ k h. apart k (λ q. absurd (omega arith)) ∙ back.front k (omega arith);
       kept = λ k ne. ⊎_elim (λ q. ap (λ i. get_or new i 0) q ∙ here ∙ ap (λ i. get_or old i 0) (sym q)) (λ q. apart k q ∙ back.kept k ne) (cases_eq k j);
-      behind = λ k h. ⊎_elim (λ q. ap (λ i. get_or new i 0) q ∙ here ∙ ap (λ i. get_or old i 0) (sym q)) (λ q. apart k q ∙ back.behind k (above k h q)) (cases_eq k j);
+      behind = λ k h. ⊎_elim (λ q. ap (λ i. get_or new i 0) q ∙ here ∙ ap (λ i. get_or old i 0) (sym q)) (λ (q : k ≢ j). apart k q ∙ back.behind k (omega arith)) (cases_eq k j);
       none = none;
-    } where
-      above : (k : ℕ) → j ≤ k → k ≢ j → j + 1 ≤ k
-      above k q ne = omega arith
+    }
 
     -- the part is ok or is held to be faulty
     pub none-held : (bit_in point j ≡ true) ⊎ (get_or old j 0 ≡ 2) → NoneAfter graph old costs c point j
@@ -87,11 +85,9 @@ module _ (graph : Graph) (costs : List ℕ) (within : length costs ≤ graph.var
           (λ (q : k < j). subst (λ w. Agree w (bit_in h k)) (sym (apart k (λ e. absurd (omega arith)) ∙ back.front k (omega arith) ∙ ap word_of (sym (alike k q)))) (Agree-same (bit_in h k)))
           (λ (q : j ≤ k). ⊎_elim
           (λ e. subst (λ i. Agree (get_or (set words j 1) i 0) (bit_in h i)) (sym e) (subst (λ w. Agree w (bit_in h j)) (sym here) (subst (λ b. Agree 1 b) (sym f) refl)))
-          (λ ne. subst (λ w. Agree w (bit_in h k)) (sym (apart k ne ∙ back.behind k (above k q ne))) (OfCost-agrees graph costs within c old h long p k g))
+          (λ (ne : k ≢ j). subst (λ w. Agree w (bit_in h k)) (sym (apart k ne ∙ back.behind k (omega arith))) (OfCost-agrees graph costs within c old h long p k g))
           (cases_eq k j))
-          (cases_lt k j)) where
-            above : (k : ℕ) → j ≤ k → k ≢ j → j + 1 ≤ k
-            above k q ne = omega arith
+          (cases_lt k j))
 
       pub none-tried : (HasCost graph (set words j 1) costs c → ⊥) → NoneAfter graph old costs c point j
       none-tried failed = none-before j lt back.none (λ e h p alike f. failed (record { state = h; is = tried h p alike f }))
@@ -131,18 +127,13 @@ module _ (graph : Graph) (costs : List ℕ) (within : length costs ≤ graph.var
         (alike h is.meets d.at q ∙ d.faulty) d.ok))
         (λ (q : part ≤ d.at). ⊎_elim
         (λ same_place. is.before k (OfCost-new graph costs within c old new k long refines p.0 (agrees same_place)))
-        (λ ne. absurd (l.none k p.0 (λ i lt. sym (d.alike i (far q ne i lt))) p.1))
+        (λ (ne : d.at ≢ part). absurd (l.none k p.0 (λ i lt. sym (d.alike i (omega arith))) p.1))
         (cases_eq d.at part)) (cases_lt d.at part) where
-          far : part ≤ d.at → d.at ≢ part → (i : ℕ) → i < part + 1 → i < d.at
-          far q ne i lt = omega arith
-
           agrees : d.at ≡ part → (i : ℕ) → i < length costs → Agree (get_or new i 0) (bit_in k i)
           agrees at i lt = ⊎_elim
               (λ (q : i < part). subst (λ w. Agree w (bit_in k i)) (sym (l.front i q ∙ ap word_of (d.alike i (omega arith)))) (Agree-same (bit_in k i)))
               (λ (q : part ≤ i). ⊎_elim
               (λ here. subst (λ w. Agree w (bit_in k i)) (sym (ap (λ j. get_or new j 0) here ∙ l.ok)) (subst (λ b. Agree 1 b) (sym (ap (bit_in k) (here ∙ sym at) ∙ d.ok)) refl))
-              (λ ne. subst (λ w. Agree w (bit_in k i)) (sym (l.behind i (above q ne))) (OfCost-agrees graph costs within c old k long p.0 i lt))
+              (λ (ne : i ≢ part). subst (λ w. Agree w (bit_in k i)) (sym (l.behind i (omega arith))) (OfCost-agrees graph costs within c old k long p.0 i lt))
               (cases_eq i part))
-              (cases_lt i part) where
-                above : part ≤ i → i ≢ part → part < i
-                above q ne = omega arith
+              (cases_lt i part)

@@ -59,10 +59,8 @@ module _ (costs : List ℕ) where
   some_levels-has hs from zero h m low high = absurd (omega arith)
   some_levels-has hs from (suc n) h m low high = ⊎_elim
       (λ e. In-append_left h (of_cost costs hs from) (some_levels hs (from + 1) n) (In-filtered (λ h. cost costs h == from) h hs m (eq-eqb (cost costs h) from e)))
-      (λ ne. In-append_right h (of_cost costs hs from) (some_levels hs (from + 1) n) (some_levels-has hs (from + 1) n h m (above ne) (omega arith)))
-      (cases_eq (cost costs h) from) where
-        above : cost costs h ≢ from → from + 1 ≤ cost costs h
-        above ne = omega arith
+      (λ (ne : cost costs h ≢ from). In-append_right h (of_cost costs hs from) (some_levels hs (from + 1) n) (some_levels-has hs (from + 1) n h m (omega arith) (omega arith)))
+      (cases_eq (cost costs h) from)
 
   Rising-levels : (hs : List (List Bool)) (from n : ℕ) → Sorted hs → Rising (some_levels hs from n)
   Rising-levels hs from zero s = tt

@@ -1,9 +1,10 @@
 -- What the marks of the nodes say, and the wires that are left by them.
-use Rattle.std.proofs.Common.{◌≡◌, ◌≢◌, ℕ, ◌+◌, ◌-◌, ◌<◌, ◌≤◌, Bool, true, false, not, ◌&&◌, List, [], ◌∷◌, map, length, take, get_or, refl, ap, sym, ◌∙◌, subst, arith, inl, inr, ⊎_elim}
+use Rattle.std.proofs.Common.{◌≡◌, ◌≢◌, ℕ, ◌+◌, ◌-◌, ◌<◌, ◌≤◌, Bool, true, false, not, ◌&&◌, List, map, length, take, get_or, refl, ap, sym, ◌∙◌, subst, arith, inl, inr, ⊎_elim}
 use Rattle.std.specs.Prelude.{◌⊎◌, ◌==◌}
 use Rattle.std.specs.List.{list_any}
 use Rattle.std.proofs.Math.Bool.{beq}
 use Rattle.std.proofs.lemmas.Bool.{and_from, and_parts, or_cases, or_left, or_right, eqb-true, eq-eqb, false≢true, not-true, cases_eq}
+use Rattle.state_rules.proofs.Lists.{list_any-map, any-never}
 use Rattle.state_rules.specs.declared.nodes.NodeKind.{NodeKind}
 use Rattle.state_rules.specs.declared.nodes.NodeKind.TheVariants.{Literal, And, Or}
 use Rattle.state_rules.specs.Graphs.{Node, Graph, node_at, mention_by, mentions, IsGraph}
@@ -96,8 +97,7 @@ NoneMarked nodes first at = (node b : ℕ) → node < at → b < 64 → mentions
 
 module _ (graph : Graph) (ok : IsGraph graph) (first at : ℕ) (lt : at < length graph.nodes) (before : NoneMarked graph.nodes first at) where
   any-false : (kids : List ℕ) → list_any (λ x. x) (map (λ (k : ℕ). false) kids) ≡ false
-  any-false [] = refl
-  any-false (k ∷ kids) = any-false kids
+  any-false kids = list_any-map (λ x. x) (λ (k : ℕ). false) kids ∙ any-never kids
 
   node-mentions : (b : ℕ) → b < 64 → mentions graph.nodes (first + b) at ≡ mention_by (first + b) (node_at graph.nodes at).what (map (λ (k : ℕ). false) (node_at graph.nodes at).kids)
   node-mentions b small =

@@ -27,13 +27,9 @@ use Rattle.minimiser.proofs.Derivations.{mention-at, apart-kids, costs-at, all-b
 use Rattle.smooth_nnf.specs.Layouts.{Layout, layout_of, own_line, literal_pairs, literal_line, literal_kids, filling, fillers, costs_just, cheapest_kids, lines_before, lines_to, own_lines, kid_line, or_behind, or_lines, lines_by, lines_at, node_lines, and_over}
 use Rattle.smooth_nnf.proofs.Standing.{value_of-front, value_of-there, values-behind, Stand, MayFollow, stand-behind}
 use Rattle.smooth_nnf.proofs.Meaning.{is_part, Means, NodeMeans, filled, part-means, other-means, and-means, or-means, kid-inside, cheapest-in, cheapest-is}
-use Rattle.smooth_nnf.proofs.Fillers.{map_twice, length-literal_pairs, pairs-stand, literal_line-lt, literal-value, fillers-below, fillers-mention, fillers-once, fillers-true, fillers-say}
+use Rattle.smooth_nnf.proofs.Fillers.{map_twice, length-literal_pairs, pairs-stand, literal_line-lt, literal-value, fillers-below, fillers-mention, fillers-once, fillers-true, fillers-say, map-in}
 
 -- ---- lists
-
-pub map-in : {A B : Type 0} (f g : A → B) (xs : List A) → ((x : A) → In x xs → f x ≡ g x) → map f xs ≡ map g xs
-map-in f g [] same = refl
-map-in f g (x ∷ xs) same = λ i. same x (inl refl) i ∷ map-in f g xs (λ y m. same y (inr m)) i
 
 pub any-part : (b : Bool) (f : ℕ → Bool) (kids : List ℕ) → list_any (λ x. x) (map (λ k. b && f k) kids) ≡ (b && list_any (λ x. x) (map f kids))
 any-part true f kids = refl

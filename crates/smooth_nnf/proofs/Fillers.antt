@@ -1,5 +1,5 @@
 -- The lines of the parts' literals, and those that fill parts in.
-use Rattle.std.proofs.Common.{◌≡◌, ℕ, zero, suc, ◌+◌, ◌-◌, ◌*◌, ◌<◌, ◌≤◌, Bool, true, false, cond, ◌&&◌, ◌==◌, List, [], ◌∷◌, ◌++◌, map, length, refl, ap, sym, ◌∙◌, subst, arith, ⊎_elim, inl, inr}
+use Rattle.std.proofs.Common.{◌≡◌, ℕ, zero, suc, ◌+◌, ◌-◌, ◌*◌, ◌<◌, ◌≤◌, Bool, true, false, cond, ◌&&◌, ◌==◌, List, [], ◌∷◌, ◌++◌, map, length, refl, ap, sym, ◌∙◌, subst, arith, ⊎_elim, inl, inr, get_or}
 use Rattle.std.specs.Prelude.{nat_le}
 use Rattle.std.specs.List.{list_all, list_any, filter, flat_map, range_with_len, AllByRecursion}
 use Rattle.std.specs.Cmp.{both_ways}
@@ -7,11 +7,11 @@ use Rattle.std.proofs.lemmas.Bool.{and_parts, and_from, le-leb, leb-true, eqb-tr
 use Rattle.state_rules.specs.Bits.{same_bit}
 use Rattle.state_rules.specs.Assignments.{Assignment}
 use Rattle.state_rules.proofs.Bits.{same_bit-equal, same_bit-refl}
-use Rattle.state_rules.proofs.Members.{In, In-filter, In-filtered}
+use Rattle.state_rules.proofs.Members.{In, In-filter, In-filtered, from_map, In-at}
 use Rattle.state_rules.specs.declared.nodes.NodeKind.{NodeKind}
 use Rattle.state_rules.specs.declared.nodes.NodeKind.TheVariants.{Literal}
 use Rattle.state_rules.specs.Graphs.{Node, literal_node, node_at, at_most_one, truth_by, mention_by, is_true, mentions}
-use Rattle.state_rules.proofs.NodeValues.{are_below, value_of, value_of-at}
+use Rattle.state_rules.proofs.NodeValues.{are_below, value_of, value_of-at, are_below-from}
 use Rattle.state_rules.proofs.Kids.{at_most_one-from}
 use Rattle.minimiser.specs.Costs.{known_at}
 use Rattle.minimiser.proofs.Derivations.{any-kid, kid-with}
@@ -32,6 +32,10 @@ all-from f (y ∷ xs) each = and_from _ _ (each y (inl refl)) (all-from f xs (λ
 pub map_twice : {A B C : Type 0} (f : B → C) (g : A → B) (xs : List A) → map f (map g xs) ≡ map (λ x. f (g x)) xs
 map_twice f g [] = refl
 map_twice f g (x ∷ xs) = ap (λ ys. f (g x) ∷ ys) (map_twice f g xs)
+
+pub map-in : {A B : Type 0} (f g : A → B) (xs : List A) → ((x : A) → In x xs → f x ≡ g x) → map f xs ≡ map g xs
+map-in f g [] same = refl
+map-in f g (x ∷ xs) same = λ i. same x (inl refl) i ∷ map-in f g xs (λ y m. same y (inr m)) i
 
 pub in_range : (s n p : ℕ) → In p (range_with_len s n) → (s ≤ p) × (p < s + n)
 in_range s zero p m = absurd m
@@ -127,23 +131,16 @@ module _ (parts : ℕ) (more : List Node) where
         let is = chosen-is p m in
         literal-value by p (filling (known_at words p)) is.0 is.1 (omega (arith, literal_line-lt parts p (filling (known_at words p)) is.0 is.1, room))
 
-    each-filler : (by : NodeKind → List Bool → Bool) (ps : List ℕ) → ((p : ℕ) → In p ps → In p chosen) → map (value_of by lines) (map (filler words) ps) ≡ map (λ p. by (Literal (filling (known_at words p)) p) []) ps
-    each-filler by [] are = refl
-    each-filler by (p ∷ ps) are = λ i. filler-value by p (are p (inl refl)) i ∷ each-filler by ps (λ q m. are q (inr m)) i
-
     pub fillers-values : (by : NodeKind → List Bool → Bool)
         → map (value_of by (literal_pairs parts ++ more)) (fillers words parts missing) ≡ map (λ p. by (Literal (filling (known_at words p)) p) []) (filter missing (range_with_len 1 parts))
-    fillers-values by = each-filler by chosen (λ p m. m)
+    fillers-values by = map_twice (value_of by lines) (filler words) chosen ∙ map-in (λ p. value_of by lines (filler words p)) (λ p. by (Literal (filling (known_at words p)) p) []) chosen (filler-value by)
 
     -- they stand before all that fills parts in
     pub fillers-below : (own : ℕ) → 2 * parts ≤ own → are_below own (fillers words parts missing) ≡ true
-    fillers-below own le = all_below chosen (λ p m. m) where
-      all_below : (ps : List ℕ) → ((p : ℕ) → In p ps → In p chosen) → are_below own (map (filler words) ps) ≡ true
-      all_below [] are = refl
-      all_below (p ∷ ps) are =
-          let is = chosen-is p (are p (inl refl)) in
-          let lt = literal_line-lt parts p (filling (known_at words p)) is.0 is.1 in
-          and_from _ _ (le-leb (suc (filler words p)) own (omega arith)) (all_below ps (λ q m. are q (inr m)))
+    fillers-below own le = are_below-from own (map (filler words) chosen) (λ i d h.
+        let x = from_map (filler words) (get_or (map (filler words) chosen) i d) chosen (In-at (map (filler words) chosen) i d h) in
+        let is = chosen-is x.item x.is_in in
+        omega (arith, x.gives, literal_line-lt parts x.item (filling (known_at words x.item)) is.0 is.1))
 
     -- together they mention what is missing
     pub fillers-mention : (v : ℕ) → list_any (λ b. b) (map (mentions (literal_pairs parts ++ more) v) (fillers words parts missing)) ≡ ((nat_le 1 v && nat_le v parts) && missing v)

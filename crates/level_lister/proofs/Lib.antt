@@ -13,7 +13,6 @@ pub mod Exact
 pub mod Leaving
 pub mod Finding
 pub mod Listed
-pub mod Behind
 pub mod Spreading
 pub mod Faults
 pub mod Telling
@@ -22,7 +21,6 @@ pub mod FaultStates
 pub mod PairWhole
 pub mod Narrowing
 pub mod Grouping
-pub mod Told
 pub mod Faulting
 pub mod FaultNodes
 pub mod Skips

@@ -23,18 +23,12 @@ sums_skip left right set cost are e = record {
 pub sums_add : (left right old new : List ℕ) (cost : ℕ) → length new ≡ length old → AreSums left right cost old → has_number right cost ≡ true
     → ((n : ℕ) → n < 32 * length old → has_number new n ≡ (has_number old n || has_shifted left cost n)) → AreSums left right (cost + 1) new
 sums_add left right old new cost long are e added = record {
-  sound = λ n f. ⊎_elim (λ p. are.sound n p) (λ p. by_sum n p) (or_cases _ _ (sym (added n (inside n f)) ∙ f));
+  sound = λ n f. ⊎_elim (λ p. are.sound n p) (λ p. by_sum n p) (or_cases _ _ (sym (added n (omega (arith, has-within new n f, long))) ∙ f));
   whole = λ j k f g lt h. added (j + k) (omega arith) ∙ ⊎_elim
       (λ (p : k < cost). or_left _ _ (are.whole j k f g p (omega arith)))
-      (λ (p : cost ≤ k). let same : k ≡ cost = omega arith in or_right _ _ (and_from _ _ (le-leb cost (j + k) (omega arith)) (ap (has_number left) (rest j k same) ∙ f)))
+      (λ (p : cost ≤ k). let back : j + k - cost ≡ j = omega arith in or_right _ _ (and_from _ _ (le-leb cost (j + k) (omega arith)) (ap (has_number left) back ∙ f)))
       (cases_lt k cost);
 } where
-  inside : (n : ℕ) → has_number new n ≡ true → n < 32 * length old
-  inside n f = omega (arith, has-within new n f, long)
-
-  rest : (j k : ℕ) → k ≡ cost → j + k - cost ≡ j
-  rest j k same = omega arith
-
   by_sum : (n : ℕ) → has_shifted left cost n ≡ true → SumOf (λ j. has_number left j ≡ true) (λ k. has_number right k ≡ true) n
   by_sum n p =
       let parts = and_parts (nat_le cost n) (has_number left (n - cost)) p in

@@ -1,12 +1,17 @@
-use Rattle.std.proofs.Common.{◌≡◌, ◌++◌, drop, length, get_or, sym, ◌∙◌, ap, arith}
+use Rattle.std.proofs.Common.{◌≡◌, ◌++◌, drop, length, get_or, sym, ◌∙◌, ap, arith, ℕ, List, ◌+◌, ◌≤◌, length-drop}
+use Rattle.std.proofs.lemmas.Grind.{same_number_lists}
+use Rattle.std.proofs.lemmas.List.{get_or-drop}
 use Rattle.conditioner.specs.Words.{bits_of}
 use Rattle.diagnosis_lister.specs.inner.Fixing.{fixed_bits}
 use Rattle.level_lister.specs.Listing.{point_if}
 use Rattle.level_lister.specs.Passes.{fixing_passes}
 use Rattle.level_lister.specs.declared.levels.LevelStep.TheVariants.{Found}
 use Rattle.level_lister.proofs.Listed.{next-first, next-none, none-none, step-end, step-found}
-use Rattle.level_lister.proofs.Behind.{same_behind}
 use Rattle.level_lister.proofs.levels.Levels.next_in.Goals as goal
+
+-- words after a place that are the same
+same_behind : (n : ℕ) (xs ys : List ℕ) → length xs ≡ length ys → ((k : ℕ) → n ≤ k → get_or xs k 0 ≡ get_or ys k 0) → drop n xs ≡ drop n ys
+same_behind n xs ys l e = same_number_lists (drop n xs) (drop n ys) (omega (arith, length-drop n xs, length-drop n ys)) (λ k h. get_or-drop n xs k 0 ∙ e (n + k) (omega arith) ∙ sym (get_or-drop n ys k 0))
 
 pub returns-then-not-put_skips-clause-next : goal.returns-then-not-put_skips-clause-next
 returns-then-not-put_skips-clause-next g c =

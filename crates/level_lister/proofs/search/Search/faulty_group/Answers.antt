@@ -1,6 +1,13 @@
-use Rattle.std.proofs.Common.{◌<◌, subst, arith}
-use Rattle.level_lister.proofs.Told.{told_sets}
+use Rattle.std.proofs.Common.{◌<◌, subst, arith, ◌≡◌, ℕ, ◌+◌, ◌/◌, ◌≤◌, max}
+use Rattle.std.proofs.lemmas.Nat.{div_below}
+use Rattle.level_lister.specs.Passes.{told_groups}
 use Rattle.level_lister.proofs.search.Search.faulty_group.Goals as goal
+
+-- one group is told, if costs of 32 and more are listed
+told_sets : (top : ℕ) → 32 ≤ top → told_groups top ≡ 1
+told_sets top h = by_count (32 / (top + 1)) (div_below 32 (top + 1) 1 (omega arith) (omega arith)) where
+  by_count : (q : ℕ) → q < 1 → max 1 q ≡ 1
+  by_count q e = omega arith
 
 pub returns-else-top-lt32-clause-found : goal.returns-else-top-lt32-clause-found
 returns-else-top-lt32-clause-found c lt =

@@ -1,6 +1,7 @@
 pub mod Standing
 pub mod Spreading
 pub mod Rows
+pub mod Filling
 pub mod Kin
 pub mod Placing
 pub mod Law

@@ -8,7 +8,7 @@ ghost use Rattle.diagnosis_lister.specs.inner.Fixing.{Follows, Leaves, NoneAfter
 use crate::settling::reaches;
 use conditioner::{is_false, word_of_known};
 use minimiser::{Steps, TOTAL_LIMIT};
-use node_store::Graph;
+use node_store::GraphView;
 use std::sync::ledger::Ledger;
 
 // Fixes the open parts as the state has them, up to the first part that is held otherwise; how many parts these are, with that one.
@@ -34,7 +34,7 @@ fn follow(words: &mut [u32], state: &[u32]) -> usize
 // The last part at which a later diagnosis can leave the state: the same before it, ok where the state has faulty. The words
 // are then fixed so far. It takes a pass for each part that is faulty in the state, at most.
 pub(crate) fn leave<L: Ledger>(
-    graph: &Graph,
+    graph: &GraphView<'_>,
     words: &mut [u32],
     costs: &[u32],
     values: &mut [u32],

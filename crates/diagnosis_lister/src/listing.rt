@@ -7,8 +7,8 @@ ghost use Rattle.diagnosis_lister.specs.Listing.{step_of, fault_count};
 use crate::leaving::leave;
 use crate::open_marks::{mark, unmark, write_back};
 use crate::settling::settle;
-use minimiser::{Steps, TOTAL_LIMIT, least};
-use node_store::Graph;
+use minimiser::{Steps, TOTAL_LIMIT, least_in};
+use node_store::{Graph, GraphView};
 use std::sync::ledger::Ledger;
 
 /// Whether there is a next diagnosis.
@@ -54,7 +54,38 @@ pub fn first<L: Ledger>(
     ensures steps { steps.new ≤ steps.old + 2 * length costs.now + 1 }
     ensures few_steps { steps.new ≤ steps.old + fault_count (bits_of state.new) + 1 }
 {
-    let fewest = least(graph, words, costs, values, steps)?;
+    first_in(&graph.view(), words, costs, values, state, steps)
+}
+
+/// What [`first`] does, in a graph whose nodes may lie anywhere.
+pub fn first_in<L: Ledger>(
+    graph: &GraphView<'_>,
+    words: &mut [u32],
+    costs: &[u32],
+    values: &mut [u32],
+    state: &mut [u32],
+    steps: &mut Steps<L>,
+) -> Option<u32>
+    requires long { length words.old ≡ graph.now.vars }
+    requires words { All (λ w. w < 3) words.old }
+    requires parts { length costs.now ≤ graph.now.vars }
+    requires total { total_cost costs.now < TOTAL_LIMIT }
+    requires dear { All (λ c. 0 < c) costs.now }
+    requires room { length values.old ≡ length graph.now.nodes }
+    requires state { length state.old ≡ length costs.now }
+    requires state_words { All (λ s. s < 2) state.old }
+
+    ensures least { result ≡ least_under graph.now words.old costs.now }
+    ensures first { bits_of state.new
+        ≡ slice_index_or (diagnoses_under graph.now words.old costs.now) 0 (bits_of state.old) }
+    ensures state { All (λ s. s < 2) state.new }
+    ensures words { words.new ≡ words.old }
+
+    // How many passes are made at most.
+    ensures steps { steps.new ≤ steps.old + 2 * length costs.now + 1 }
+    ensures few_steps { steps.new ≤ steps.old + fault_count (bits_of state.new) + 1 }
+{
+    let fewest = least_in(graph, words, costs, values, steps)?;
     mark(words, state);
     settle(graph, words, costs, values, 0, steps);
     write_back(words, state);
@@ -95,7 +126,41 @@ pub fn next<L: Ledger>(
     ensures few_steps { steps.new
         ≤ steps.old + fault_count (bits_of state.old) + fault_count (bits_of state.new) + 1 }
 {
-    let Some(fewest) = least(graph, words, costs, values, steps) else {
+    next_in(&graph.view(), words, costs, values, state, steps)
+}
+
+/// What [`next`] does, in a graph whose nodes may lie anywhere.
+pub fn next_in<L: Ledger>(
+    graph: &GraphView<'_>,
+    words: &mut [u32],
+    costs: &[u32],
+    values: &mut [u32],
+    state: &mut [u32],
+    steps: &mut Steps<L>,
+) -> Step
+    requires long { length words.old ≡ graph.now.vars }
+    requires words { All (λ w. w < 3) words.old }
+    requires parts { length costs.now ≤ graph.now.vars }
+    requires total { total_cost costs.now < TOTAL_LIMIT }
+    requires dear { All (λ c. 0 < c) costs.now }
+    requires room { length values.old ≡ length graph.now.nodes }
+    requires state { length state.old ≡ length costs.now }
+    requires state_words { All (λ s. s < 2) state.old }
+
+    ensures step { result ≡ step_of (models graph.now words.old (length costs.now))
+        (rest (diagnoses_under graph.now words.old costs.now) (Some (bits_of state.old))) }
+    ensures next { bits_of state.new
+        ≡ slice_index_or (rest (diagnoses_under graph.now words.old costs.now) (Some (bits_of state.old)))
+        0 (bits_of state.old) }
+    ensures state { All (λ s. s < 2) state.new }
+    ensures words { words.new ≡ words.old }
+
+    // How many passes are made at most.
+    ensures steps { steps.new ≤ steps.old + 2 * length costs.now + 1 }
+    ensures few_steps { steps.new
+        ≤ steps.old + fault_count (bits_of state.old) + fault_count (bits_of state.new) + 1 }
+{
+    let Some(fewest) = least_in(graph, words, costs, values, steps) else {
         return Step::Inconsistent;
     };
     mark(words, state);

@@ -6,13 +6,13 @@ ghost use Rattle.diagnosis_lister.specs.Listing.{fault_count};
 ghost use Rattle.diagnosis_lister.specs.inner.Fixing.{IsFirst, fixed_bits};
 
 use conditioner::fix_ok;
-use minimiser::{Steps, TOTAL_LIMIT, first_suspect, least, put_least_costs};
-use node_store::Graph;
+use minimiser::{Steps, TOTAL_LIMIT, first_suspect, least_in, put_least_costs};
+use node_store::GraphView;
 use std::sync::ledger::Ledger;
 
 // Whether some state that agrees with the words has this least cost.
 pub(crate) fn reaches<L: Ledger>(
-    graph: &Graph,
+    graph: &GraphView<'_>,
     words: &[u32],
     costs: &[u32],
     values: &mut [u32],
@@ -28,13 +28,13 @@ pub(crate) fn reaches<L: Ledger>(
     ensures values { AreLeastCosts graph.now words.now costs.now values.new }
     ensures steps { steps.new ≡ steps.old + 1 }
 {
-    least(graph, words, costs, values, steps) == Some(fewest)
+    least_in(graph, words, costs, values, steps) == Some(fewest)
 }
 
 // Fixes each open part from one on, so that only the first of the states of least cost is left: faulty where that can be.
 // The values are the costs of the nodes. It takes a pass for each part that it fixes to faulty.
 pub(crate) fn settle<L: Ledger>(
-    graph: &Graph,
+    graph: &GraphView<'_>,
     words: &mut [u32],
     costs: &[u32],
     values: &mut [u32],

@@ -88,6 +88,13 @@ module _ (graph : Graph) (words costs : List ℕ) where
     pub joins : AllJoin nodes
     pub needed : (p : ℕ) → p < length nodes → IsNeeded graph values marks places nodes at p
 
+  -- as much room as the graph has leaves room for what stands for the next node
+  pub has-room : (values marks places : List ℕ) (nodes : List Node) (at : ℕ) → at < length graph.nodes → IsBuilt values marks places nodes at
+      → (length nodes < length graph.nodes) × (edges nodes + length (node_at graph.nodes at).kids ≤ edges graph.nodes)
+  has-room values marks places nodes at lt is =
+      let e = slice_get-get_or graph.nodes at true_node lt in
+      (omega (arith, is.few), omega (arith, is.few_edges, ap edges (take-more graph.nodes at _ e), edges-push (take at graph.nodes) (node_at graph.nodes at), sum_by-take-le (λ (x : Node). length x.kids) graph.nodes (at + 1)))
+
 module _ (graph : Graph) (words costs : List ℕ) (ok : IsGraph graph) (long : length words ≡ graph.vars) (within : length costs ≤ graph.vars) (total : total_cost costs < 2147483647)
     (most : ℕ) (least_most : LeastIs graph costs words most) (values : List ℕ) (v : AreLeastCosts graph words costs values) (marks : List ℕ) (m : AreMarks graph.nodes values marks 0) where
   abbrev root : ℕ

@@ -1,11 +1,10 @@
 -- What was distilled last, and what it says of the graph.
-use Rattle.std.proofs.Common.{◌≡◌, ℕ, Bool, true, false, List, Option, Some, None, [], ◌∷◌, length, refl, sym, subst, arith}
+use Rattle.std.proofs.Common.{◌≡◌, ℕ, Bool, true, false, List, Option, Some, None, [], ◌∷◌, length, refl, sym, subst}
 use Rattle.std.specs.Prelude.{is_some, IsSome, IsSomeAnd, IfSome}
 use Rattle.state_rules.specs.Ranking.{cost, least, least_with}
 use Rattle.state_rules.specs.Graphs.{Graph}
 use Rattle.conditioner.specs.Models.{models, least_under}
 use Rattle.diagnosis_lister.specs.Listing.{step_of}
-use Rattle.fault_graph.specs.Small.{IsSmall}
 use Rattle.fault_graph.specs.Distilled.{Last, Kept, IsOf, Serves, IsDistilled}
 
 some-is : (o : Option ℕ) → IsSome o → true ≡ is_some o
@@ -19,39 +18,11 @@ known-some graph costs words kept serves same = by_last kept.last refl same wher
   by_last None e s = absurd s
   by_last (Some last) e s = some-is (least_under graph words costs) (subst (λ ws. IsSome (least_under graph ws costs)) s (serves.some last e))
 
-same-last : (a b : Last) → Some a ≡ Some b → a ≡ b
-same-last a b e = cc
-
--- what was distilled now serves
-pub serves-now : (graph : Graph) (costs words : List ℕ) (small : Graph) (nodes vars : ℕ) → nodes ≡ length graph.nodes → vars ≡ graph.vars → IsSome (least_under graph words costs) → IsDistilled graph words costs small → IsSmall words costs small
-    → Serves graph costs (record { nodes = nodes; vars = vars; last = Some (record { words = words; small = small }) })
-serves-now graph costs words small nodes vars e f some distilled is_small = record {
-  nodes = e;
-  vars = f;
-  some = λ last s. subst (λ (l : Last). IsSome (least_under graph l.words costs)) (same-last (record { words = words; small = small }) last s) some;
-  distilled = λ last s. subst (λ (l : Last). IsDistilled graph l.words costs l.small) (same-last (record { words = words; small = small }) last s) distilled;
-  small = λ last s. subst (λ (l : Last). IsSmall l.words costs l.small) (same-last (record { words = words; small = small }) last s) is_small;
-}
-
--- nothing was distilled yet
-pub serves-none : (graph : Graph) (costs : List ℕ) (nodes vars : ℕ) → nodes ≡ length graph.nodes → vars ≡ graph.vars → Serves graph costs (record { nodes = nodes; vars = vars; last = None })
-serves-none graph costs nodes vars e f = record {
-  nodes = e;
-  vars = f;
-  some = λ last s. absurd (cc);
-  distilled = λ last s. absurd (cc);
-  small = λ last s. absurd (cc);
-}
-
-itself : (graph : Graph) (words costs : List ℕ) → IsDistilled graph words costs graph
-itself graph words costs = record { vars = refl; least = refl; diagnoses = refl; few = omega arith; few_edges = omega arith }
-
--- what was distilled last, or else the graph, is of the graph
-pub known-distilled : (graph : Graph) (costs words : List ℕ) (kept : Kept) (small : Graph) → Serves graph costs kept → IfSome kept.last (λ (last : Last). last.words ≡ words) → IfSome kept.last (λ (last : Last). small ≡ last.small)
-    → (kept.last ≡ None → small ≡ graph) → IsDistilled graph words costs small
-known-distilled graph costs words kept small serves same is whole = by_last kept.last refl same is where
-  by_last : (o : Option Last) → kept.last ≡ o → IfSome o (λ (last : Last). last.words ≡ words) → IfSome o (λ (last : Last). small ≡ last.small) → IsDistilled graph words costs small
-  by_last None e s i = subst (IsDistilled graph words costs) (sym (whole e)) (itself graph words costs)
+-- what was distilled last under the words is of the graph
+pub last-distilled : (graph : Graph) (costs words : List ℕ) (kept : Kept) (small : Graph) → Serves graph costs kept → IsOf words kept → IfSome kept.last (λ (last : Last). small ≡ last.small) → IsDistilled graph words costs small
+last-distilled graph costs words kept small serves same is = by_last kept.last refl same is where
+  by_last : (o : Option Last) → kept.last ≡ o → IsSomeAnd o (λ (last : Last). last.words ≡ words) → IfSome o (λ (last : Last). small ≡ last.small) → IsDistilled graph words costs small
+  by_last None e s i = absurd s
   by_last (Some last) e s i = subst (IsDistilled graph words costs) (sym i) (subst (λ ws. IsDistilled graph ws costs last.small) s (serves.distilled last e))
 
 -- there is a state where there is a least cost

@@ -1,5 +1,6 @@
 pub mod Standing
 pub mod Spreading
+pub mod Filling
 pub mod Kin
 pub mod Placing
 pub mod Law

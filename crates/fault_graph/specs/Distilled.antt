@@ -18,9 +18,10 @@ pub record Last : Type 0 where
   pub words : List ℕ
   pub small : Graph
 
--- room for a graph of so many nodes and variables, and what was distilled last
+-- room for a graph of so many nodes, kids of all of them, and variables, and what was distilled last
 pub record Kept : Type 0 where
   pub nodes : ℕ
+  pub kids : ℕ
   pub vars : ℕ
   pub last : Option Last
 
@@ -31,6 +32,7 @@ IsOf words kept = IsSomeAnd kept.last (λ last. last.words ≡ words)
 -- There is room for the graph. What was distilled last is of it, under words that some state agrees with, and is small.
 pub record Serves (graph : Graph) (costs : List ℕ) (kept : Kept) : Type 0 where
   pub nodes : kept.nodes ≡ length graph.nodes
+  pub kids : kept.kids ≡ edges graph.nodes
   pub vars : kept.vars ≡ graph.vars
   pub some : (last : Last) → kept.last ≡ Some last → IsSome (least_under graph last.words costs)
   pub distilled : (last : Last) → kept.last ≡ Some last → IsDistilled graph last.words costs last.small

@@ -2,3 +2,4 @@
 pub mod Marks
 pub mod Rows
 pub mod Presumed
+pub mod Filled

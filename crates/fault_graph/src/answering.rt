@@ -8,7 +8,7 @@ ghost use Rattle.fault_graph.specs.Distilled.{IsOf, Serves};
 
 use crate::blaming::blame_all;
 use crate::distiller::Distiller;
-use diagnosis_lister::{Step, first, next};
+use diagnosis_lister::{Step, first_in, next_in};
 use minimiser::{Steps, TOTAL_LIMIT};
 use node_store::Graph;
 use probe_report::Blame;
@@ -51,12 +51,12 @@ impl Distiller {
         ensures steps { steps.new ≤ steps.old + 1 + (fault_count (bits_of state.new) + 1) }
         ensures again { IsOf words.old self.old → steps.new ≤ steps.old + (fault_count (bits_of state.new) + 1) }
     {
-        if let Ok(false) = self.prepare(graph, words, costs, values, steps) {
+        if !self.prepare(graph, words, costs, values, steps) {
             return None;
         }
-        let small = self.known(graph);
+        let small = self.distilled();
         let values = &mut values[..small.len() as usize];
-        first(small, words, costs, values, state, steps)
+        first_in(&small, words, costs, values, state, steps)
     }
 
     /// Whether there is a diagnosis after the state, which it then becomes, as with [`diagnosis_lister::next`].
@@ -99,12 +99,12 @@ impl Distiller {
         ensures again { IsOf words.old self.old
             → steps.new ≤ steps.old + (fault_count (bits_of state.old) + fault_count (bits_of state.new) + 1) }
     {
-        if let Ok(false) = self.prepare(graph, words, costs, values, steps) {
+        if !self.prepare(graph, words, costs, values, steps) {
             return Step::Inconsistent;
         }
-        let small = self.known(graph);
+        let small = self.distilled();
         let values = &mut values[..small.len() as usize];
-        next(small, words, costs, values, state, steps)
+        next_in(&small, words, costs, values, state, steps)
     }
 
     /// Whether each part is faulty in all diagnoses, in some or in none, as with [`blame_all`].
@@ -146,13 +146,13 @@ impl Distiller {
         ensures again { IsOf words.old self.old → steps.new ≤ steps.old
             + (2 * fault_count (slice_index_or (diagnoses_under graph.now words.old costs.now) 0 []) + 2) }
     {
-        if let Ok(false) = self.prepare(graph, words, costs, values, steps) {
+        if !self.prepare(graph, words, costs, values, steps) {
             tell_none(verdicts);
             return;
         }
-        let small = self.known(graph);
+        let small = self.distilled();
         let values = &mut values[..small.len() as usize];
-        blame_all(small, words, costs, values, state, verdicts, steps)
+        blame_all(&small, words, costs, values, state, verdicts, steps)
     }
 }
 

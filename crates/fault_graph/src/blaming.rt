@@ -7,9 +7,9 @@ ghost use Rattle.probe_report.specs.Verdicts.{blame_of};
 ghost use Rattle.fault_graph.specs.inner.Presumed.{presumed, IsPresumed};
 
 use conditioner::{is_faulty, is_open, known_of};
-use diagnosis_lister::first;
-use minimiser::{Steps, TOTAL_LIMIT, find_suspects, least};
-use node_store::Graph;
+use diagnosis_lister::first_in;
+use minimiser::{Steps, TOTAL_LIMIT, find_suspects, least_in};
+use node_store::GraphView;
 use probe_report::{Blame, blame_faulty};
 use std::sync::ledger::Ledger;
 
@@ -18,7 +18,7 @@ use std::sync::ledger::Ledger;
 /// One pass and one sweep tell which parts are faulty in no diagnosis, and only those of the first one can be faulty in all: a pass
 /// for each of them. The state is spoilt; the words are the same afterwards.
 pub fn blame_all<L: Ledger>(
-    graph: &Graph,
+    graph: &GraphView<'_>,
     words: &mut [u32],
     costs: &[u32],
     values: &mut [u32],
@@ -46,13 +46,13 @@ pub fn blame_all<L: Ledger>(
     ensures few_steps { steps.new ≤ steps.old
         + 2 * fault_count (slice_index_or (diagnoses_under graph.now words.old costs.now) 0 []) + 2 }
 {
-    let Some(fewest) = least(graph, words, costs, values, steps) else {
+    let Some(fewest) = least_in(graph, words, costs, values, steps) else {
         verdicts.fill(Blame::Inconsistent);
         return;
     };
     find_suspects(graph, words, costs, values, state);
     presume(words, state, verdicts);
-    first(graph, words, costs, values, state, steps);
+    first_in(graph, words, costs, values, state, steps);
     confirm(graph, words, costs, values, state, fewest, verdicts, steps);
 }
 
@@ -81,7 +81,7 @@ fn presumed(word: u32, suspect: u32) -> Blame
 // Asks for each open part that is faulty in one diagnosis whether it is so in all. The others, where they are faulty in some
 // diagnosis, are ok in this one.
 fn confirm<L: Ledger>(
-    graph: &Graph,
+    graph: &GraphView<'_>,
     words: &mut [u32],
     costs: &[u32],
     values: &mut [u32],

@@ -6,6 +6,7 @@ mod blaming;
 mod distiller;
 mod distilling;
 mod marking;
+mod small_nodes;
 
 pub use blaming::blame_all;
 pub use distiller::Distiller;

@@ -1,9 +1,9 @@
--- Lists one behind the other.
+-- Lists one after the other.
 use Rattle.std.proofs.Common.{◌≡◌, ℕ, zero, suc, ◌+◌, ◌-◌, ◌<◌, ◌≤◌, List, [], ◌∷◌, ◌++◌, length, take, drop, get_or, refl, ap, sym, ◌∙◌, subst, arith}
 use Rattle.std.specs.List.{sum_by}
-use Rattle.std.proofs.lemmas.List.{get_or_read, length-append, length-drop, take_all, drop_at, drop-append-le, take-append-le, length-take-le}
+use Rattle.std.proofs.lemmas.List.{length-append, length-drop, take_all, drop_at, drop-append-le, take-append-le, length-take-le}
 use Rattle.std.proofs.lemmas.List.Sums.{sum_by-cons}
-use Rattle.flat_lists.specs.inner.Flat.{pieces, EndAt, start_at}
+use Rattle.flat_lists.specs.Flat.{pieces, EndAt, start_at}
 
 pub EndAt-start : (len start : ℕ) (ends : List ℕ) → EndAt len start ends → start ≤ len
 EndAt-start len start [] e = omega arith
@@ -65,7 +65,7 @@ module _ {A : Type 0} where
   pub sum-all : (items : List A) (ends : List ℕ) → EndAt (length items) 0 ends → sum_by length (pieces items 0 ends) ≡ length items
   sum-all items ends e = omega (arith, sum-from items 0 ends e)
 
-  -- A list was written behind the others, and where it ends behind the places where they end.
+  -- A list was written after the others, and where it ends after the places where they end.
   pub pushed : (items more longer : List A) (ends moved : List ℕ) (len : ℕ) → longer ≡ items ++ more → moved ≡ ends ++ len ∷ [] → len ≡ length longer → EndAt (length items) 0 ends
       → EndAt (length longer) 0 moved × (pieces longer 0 moved ≡ pieces items 0 ends ++ more ∷ [])
   pushed items more longer ends moved len e f n h = (
@@ -79,8 +79,8 @@ module _ {A : Type 0} where
     written = subst (λ m. EndAt (length (items ++ more)) 0 (ends ++ length m ∷ [])) (sym e) (EndAt-push (length items) (length (items ++ more)) 0 ends h (omega (arith, length-append items more)))
 
   -- there are as many ends as lists
-  pub has_end : (items : List A) (ends : List ℕ) (lists : List (List A)) (at : ℕ) → pieces items 0 ends ≡ lists → at < length lists → at < length ends
-  has_end items ends lists at e h = omega (arith, length-pieces items 0 ends, ap length e)
+  pub has_end : (items : List A) (from : ℕ) (ends : List ℕ) (lists : List (List A)) (at : ℕ) → pieces items from ends ≡ lists → at < length lists → at < length ends
+  has_end items from ends lists at e h = omega (arith, length-pieces items from ends, ap length e)
 
   -- the list at a place lies from its start to its end
   pub record IsPiece (items : List A) (ends : List ℕ) (lists : List (List A)) (at start end : ℕ) : Type 0 where
@@ -88,14 +88,13 @@ module _ {A : Type 0} where
     pub within : end ≤ length items
     pub piece : take (end - start) (drop start items) ≡ get_or lists at []
 
-  pub piece_at : (items : List A) (ends : List ℕ) (lists : List (List A)) (at start end : ℕ) → EndAt (length items) 0 ends → pieces items 0 ends ≡ lists → at < length lists
-      → start ≡ start_at 0 ends at → end ≡ get_or ends at end → IsPiece items ends lists at start end
-  piece_at items ends lists at start end valid e h s f =
-      let lt = has_end items ends lists at e h in
-      let inside = EndAt-at (length items) 0 ends at valid lt in
-      let last : end ≡ get_or ends at 0 = get_or_read ends at end lt f 0 in
+  pub piece_at : (items : List A) (from : ℕ) (ends : List ℕ) (lists : List (List A)) (at start : ℕ) → EndAt (length items) from ends → pieces items from ends ≡ lists → at < length lists
+      → start ≡ start_at from ends at → IsPiece items ends lists at start (get_or ends at 0)
+  piece_at items from ends lists at start valid e h s =
+      let lt = has_end items from ends lists at e h in
+      let inside = EndAt-at (length items) from ends at valid lt in
       record {
         order = omega (arith, inside.0);
         within = omega (arith, inside.1);
-        piece = (λ i. take (last i - s i) (drop (s i) items)) ∙ sym (pieces-at items 0 ends at lt) ∙ ap (λ ls. get_or ls at []) e;
+        piece = (λ i. take (get_or ends at 0 - s i) (drop (s i) items)) ∙ sym (pieces-at items from ends at lt) ∙ ap (λ ls. get_or ls at []) e;
       }

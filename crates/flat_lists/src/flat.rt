@@ -1,6 +1,5 @@
 ghost use Rattle.std.specs.Prelude.{◌≡◌, ◌<◌, ◌++◌, [], ◌∷◌, length, slice_index_or, OnOk, OnErr};
 ghost use Rattle.std.specs.List.{sum_by};
-ghost use Rattle.flat_lists.specs.inner.Flat.{start_at};
 
 use crate::Memory;
 use crate::lists::Lists;
@@ -18,7 +17,7 @@ pub struct FlatLists<T> {
 impl<T> Model for FlatLists<T> {
     ghost use Rattle.std.specs.Prelude.{List, length};
     ghost use Rattle.std.specs.Coded.{coded_list};
-    ghost use Rattle.flat_lists.specs.inner.Flat.{pieces, EndAt};
+    ghost use Rattle.flat_lists.specs.Flat.{pieces, EndAt};
 
     ghost Value = { List (List T) };
 
@@ -59,9 +58,7 @@ impl<T> FlatLists<T> {
         requires { at < length self.now }
         ensures { result.now ≡ slice_index_or self.now at [] }
     {
-        let start = start_at(&self.ends, at);
-        let end = self.ends[at];
-        &self.items[start..end]
+        self.lists().list(at)
     }
 
     /// Walks the lists in order.
@@ -69,24 +66,6 @@ impl<T> FlatLists<T> {
         ensures { result ≡ self.now }
     {
         Lists::new(&self.ends, &self.items)
-    }
-
-    /// Takes memory for so many more lists, which have so many items in all.
-    pub fn reserve(&mut self, lists: usize, items: usize) -> Result<(), Memory>
-        ensures { self.new ≡ self.old }
-    {
-        self.ends.reserve(lists)?;
-        self.items.reserve(items)
-    }
-}
-
-impl<T: Drop> FlatLists<T> {
-    /// Lets go of all lists, and keeps their memory.
-    pub fn clear(&mut self)
-        ensures { self.new ≡ [] }
-    {
-        self.ends.clear();
-        self.items.clear();
     }
 }
 
@@ -100,16 +79,5 @@ impl<T: Copy> FlatLists<T> {
         self.items.extend_from_slice(list)?;
         self.ends.push(self.items.len())?;
         Ok(())
-    }
-}
-
-// Where the list at a place begins, by the places where the lists end.
-fn start_at(ends: &[usize], at: usize) -> usize
-    requires { at < length ends.now }
-    ensures { result ≡ start_at 0 ends.now at }
-{
-    match at.checked_sub(1) {
-        None => 0,
-        Some(before) => ends[before],
     }
 }

@@ -1,7 +1,7 @@
-ghost use Rattle.std.specs.Prelude.{◌≡◌, length};
+ghost use Rattle.std.specs.Prelude.{◌≡◌, ◌<◌, [], length, slice_index_or};
 ghost use Rattle.std.specs.Iterator.{YieldsFirstBy, item_count};
 ghost use Rattle.std.specs.Map.Iter.{deref};
-ghost use Rattle.flat_lists.specs.inner.Flat.{pieces, EndAt};
+ghost use Rattle.flat_lists.specs.Flat.{pieces, EndAt, start_at};
 
 use std::marker::Model;
 
@@ -19,7 +19,7 @@ pub struct Lists<'a, T> {
 impl<'a, T> Model for Lists<'a, T> {
     ghost use Rattle.std.specs.Prelude.{List, length};
     ghost use Rattle.std.specs.Coded.{coded_list};
-    ghost use Rattle.flat_lists.specs.inner.Flat.{pieces, EndAt};
+    ghost use Rattle.flat_lists.specs.Flat.{pieces, EndAt};
 
     ghost Value = { List (List T) };
 
@@ -31,8 +31,8 @@ impl<'a, T> Model for Lists<'a, T> {
 }
 
 impl<'a, T> Lists<'a, T> {
-    // Over these items, by the places where each list ends.
-    pub(crate) fn new(ends: &'a [usize], items: &'a [T]) -> Lists<'a, T>
+    /// The lists of these items, by the places where each list ends.
+    pub fn new(ends: &'a [usize], items: &'a [T]) -> Lists<'a, T>
         requires { EndAt (length items.now) 0 ends.now }
         ensures { result ≡ pieces items.now 0 ends.now }
     {
@@ -41,6 +41,28 @@ impl<'a, T> Lists<'a, T> {
             items,
             start: 0,
         }
+    }
+
+    /// A walk over the same lists.
+    pub fn again(&self) -> Lists<'a, T>
+        ensures { result ≡ self.now }
+    {
+        Lists {
+            ends: self.ends,
+            items: self.items,
+            start: self.start,
+        }
+    }
+
+    /// The list at a place of those that are left.
+    pub fn list(&self, at: usize) -> &'a [T]
+        requires { at < length self.now }
+        ensures { result.now ≡ slice_index_or self.now at [] }
+    {
+        let start = start_at(self.start, self.ends, at);
+        let end = self.ends[at];
+        let items = self.items;
+        &items[start..end]
     }
 }
 
@@ -58,5 +80,16 @@ impl<'a, T> Iterator for Lists<'a, T> {
         self.start = end;
         let items = self.items;
         Some(&items[start..end])
+    }
+}
+
+// Where the list at a place begins, by where the first one begins and the places where the lists end.
+fn start_at(start: usize, ends: &[usize], at: usize) -> usize
+    requires { at < length ends.now }
+    ensures { result ≡ start_at start ends.now at }
+{
+    match at.checked_sub(1) {
+        None => start,
+        Some(before) => ends[before],
     }
 }

@@ -6,6 +6,6 @@ mod pass;
 mod steps;
 mod suspects;
 
-pub use pass::{NONE, TOTAL_LIMIT, least, part_cost, put_least_costs};
+pub use pass::{NONE, TOTAL_LIMIT, least, least_in, part_cost, put_least_costs};
 pub use steps::Steps;
 pub use suspects::{find_suspects, first_suspect};

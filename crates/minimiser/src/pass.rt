@@ -7,7 +7,7 @@ ghost use Rattle.minimiser.specs.Stored.{cost_in, AreLeastCosts};
 
 use crate::steps::Steps;
 use conditioner::{Leaf, is_false, leaf};
-use node_store::{Graph, NodeRef};
+use node_store::{Graph, GraphView, NodeRef};
 use state_rules::NodeKind;
 use std::sync::ledger::Ledger;
 
@@ -40,6 +40,27 @@ pub fn least<L: Ledger>(
     ensures values { AreLeastCosts graph.now words.now costs.now values.new }
     ensures steps { steps.new ≡ steps.old + 1 }
 {
+    least_in(&graph.view(), words, costs, values, steps)
+}
+
+/// What [`least`] does, in a graph whose nodes may lie anywhere.
+pub fn least_in<L: Ledger>(
+    graph: &GraphView<'_>,
+    words: &[u32],
+    costs: &[u32],
+    values: &mut [u32],
+    steps: &mut Steps<L>,
+) -> Option<u32>
+    requires long { length words.now ≡ graph.now.vars }
+    requires words { All (λ w. w < 3) words.now }
+    requires parts { length costs.now ≤ graph.now.vars }
+    requires total { total_cost costs.now < TOTAL_LIMIT }
+    requires room { length values.old ≡ length graph.now.nodes }
+
+    ensures least { result ≡ least_under graph.now words.now costs.now }
+    ensures values { AreLeastCosts graph.now words.now costs.now values.new }
+    ensures steps { steps.new ≡ steps.old + 1 }
+{
     put_least_costs(graph, words, costs, values, steps);
     let root = values[graph.len() as usize - 1];
     if root == NONE {
@@ -51,7 +72,7 @@ pub fn least<L: Ledger>(
 
 /// The pass that [`least`] makes, for one who needs the least cost at each node alone.
 pub fn put_least_costs<L: Ledger>(
-    graph: &Graph,
+    graph: &GraphView<'_>,
     words: &[u32],
     costs: &[u32],
     values: &mut [u32],

@@ -6,7 +6,7 @@ ghost use Rattle.minimiser.specs.inner.Swept.{IsValue, has_mark, spread_value, I
 
 use crate::pass::{NONE, TOTAL_LIMIT};
 use conditioner::is_open;
-use node_store::Graph;
+use node_store::GraphView;
 use state_rules::NodeKind;
 
 /// Marks a node in its value. Costs are below it.
@@ -16,7 +16,12 @@ const MARK: u32 = TOTAL_LIMIT + 1;
 ///
 /// The values are those that [`least`](crate::least) left if some state agrees with the words. They are spoilt. One sweep over
 /// the nodes, from the root down, and one look at them.
-pub fn first_suspect(graph: &Graph, words: &[u32], costs: &[u32], values: &mut [u32]) -> Option<u32>
+pub fn first_suspect(
+    graph: &GraphView<'_>,
+    words: &[u32],
+    costs: &[u32],
+    values: &mut [u32],
+) -> Option<u32>
     requires long { length words.now ≡ graph.now.vars }
     requires parts { length costs.now ≤ graph.now.vars }
     requires total { total_cost costs.now < TOTAL_LIMIT }
@@ -44,7 +49,7 @@ pub fn first_suspect(graph: &Graph, words: &[u32], costs: &[u32], values: &mut [
 ///
 /// The values are as for [`first_suspect`]. They are spoilt.
 pub fn find_suspects(
-    graph: &Graph,
+    graph: &GraphView<'_>,
     words: &[u32],
     costs: &[u32],
     values: &mut [u32],
@@ -76,7 +81,7 @@ pub fn find_suspects(
 
 // Marks the root, and from each marked node on its kids that cost no more. All kids of an And are such, and those of an Or that
 // make it true at its cost.
-fn sweep(graph: &Graph, values: &mut [u32])
+fn sweep(graph: &GraphView<'_>, values: &mut [u32])
     requires room { length values.old ≡ length graph.now.nodes }
     requires values { All IsValue values.old }
     requires root { slice_index values.old (length graph.now.nodes - 1) < TOTAL_LIMIT }
@@ -112,7 +117,13 @@ fn spread(values: &mut [u32], kids: &[u32], cost: u32)
 }
 
 // The part of a marked open literal that says faulty.
-fn suspect_at(graph: &Graph, words: &[u32], parts: u32, values: &[u32], at: u32) -> Option<u32>
+fn suspect_at(
+    graph: &GraphView<'_>,
+    words: &[u32],
+    parts: u32,
+    values: &[u32],
+    at: u32,
+) -> Option<u32>
     requires at { at < length graph.now.nodes }
     requires parts { parts ≤ length words.now }
     requires room { length values.now ≡ length graph.now.nodes }

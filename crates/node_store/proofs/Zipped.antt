@@ -1,11 +1,11 @@
 -- Nodes of kinds and kids.
-use Rattle.std.proofs.Common.{◌≡◌, ℕ, zero, suc, ◌<◌, List, [], ◌∷◌, ◌++◌, length, get_or, refl, ap, arith}
+use Rattle.std.proofs.Common.{◌≡◌, ℕ, zero, suc, ◌<◌, false, List, [], ◌∷◌, ◌++◌, length, get_or, refl, ap, arith}
 use Rattle.std.specs.List.{sum_by}
 use Rattle.std.proofs.lemmas.List.Sums.{sum_by-cons}
 use Rattle.state_rules.specs.declared.nodes.NodeKind.{NodeKind}
-use Rattle.state_rules.specs.declared.nodes.NodeKind.TheVariants.{And}
+use Rattle.state_rules.specs.declared.nodes.NodeKind.TheVariants.{Literal}
 use Rattle.state_rules.specs.Graphs.{Node, node_at, edges}
-use Rattle.node_store.specs.inner.Flat.{nodes_of}
+use Rattle.node_store.specs.Flat.{nodes_of}
 
 pub length-nodes_of : (kinds : List NodeKind) (lists : List (List ℕ)) → length lists ≡ length kinds → length (nodes_of kinds lists) ≡ length kinds
 length-nodes_of [] lists e = refl
@@ -13,7 +13,7 @@ length-nodes_of (kind ∷ kinds) [] e = absurd (omega arith)
 length-nodes_of (kind ∷ kinds) (kids ∷ lists) e = ap suc (length-nodes_of kinds lists (omega arith))
 
 pub nodes_of-at : (kinds : List NodeKind) (lists : List (List ℕ)) (at : ℕ) → length lists ≡ length kinds → at < length kinds
-    → node_at (nodes_of kinds lists) at ≡ record { what = get_or kinds at And; kids = get_or lists at [] }
+    → node_at (nodes_of kinds lists) at ≡ record { what = get_or kinds at (Literal false 0); kids = get_or lists at [] }
 nodes_of-at [] lists at e h = absurd (omega arith)
 nodes_of-at (kind ∷ kinds) [] at e h = absurd (omega arith)
 nodes_of-at (kind ∷ kinds) (kids ∷ lists) zero e h = refl

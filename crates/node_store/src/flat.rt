@@ -19,7 +19,7 @@ pub struct Nodes {
 impl Model for Nodes {
     ghost use Rattle.std.specs.Prelude.{◌≡◌, List, length};
     ghost use Rattle.state_rules.specs.Graphs.{Node};
-    ghost use Rattle.node_store.specs.inner.Flat.{nodes_of};
+    ghost use Rattle.node_store.specs.Flat.{nodes_of};
 
     ghost Value = { List Node };
 
@@ -43,7 +43,7 @@ impl Nodes {
     pub fn len(&self) -> usize
         ensures { result ≡ length self.now }
     {
-        self.kinds.len()
+        self.walk().len()
     }
 
     /// Whether there is no node.
@@ -65,7 +65,7 @@ impl Nodes {
         requires { node < length self.now }
         ensures { result ≡ (node_at self.now node).what }
     {
-        self.kinds[node]
+        self.walk().what(node)
     }
 
     /// The children of a node.
@@ -73,7 +73,7 @@ impl Nodes {
         requires { node < length self.now }
         ensures { result.now ≡ (node_at self.now node).kids }
     {
-        self.kids.list(node)
+        self.walk().kids(node)
     }
 
     /// Walks the nodes in order.
@@ -81,22 +81,6 @@ impl Nodes {
         ensures { result ≡ self.now }
     {
         Walk::new(&self.kinds, self.kids.lists())
-    }
-
-    /// Takes memory for so many more nodes, which have so many children in all.
-    pub fn reserve(&mut self, nodes: usize, kids: usize) -> Result<(), Memory>
-        ensures { self.new ≡ self.old }
-    {
-        self.kinds.reserve(nodes)?;
-        self.kids.reserve(nodes, kids)
-    }
-
-    /// Lets go of all nodes, and keeps their memory.
-    pub fn clear(&mut self)
-        ensures { self.new ≡ [] }
-    {
-        self.kinds.clear();
-        self.kids.clear();
     }
 
     /// Adds a node after the others.

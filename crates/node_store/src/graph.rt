@@ -3,6 +3,7 @@ ghost use Rattle.state_rules.specs.Graphs.{node_at, mentions, apart_at, node_fit
 
 use crate::Memory;
 use crate::flat::Nodes;
+use crate::view::GraphView;
 use crate::walk::Walk;
 use state_rules::NodeKind;
 use std::alloc::Global;
@@ -39,11 +40,11 @@ impl Graph {
         Graph { nodes, vars }
     }
 
-    /// The nodes, to make other graphs from.
-    pub fn into_nodes(self) -> Nodes
-        ensures { result ≡ self.nodes }
+    /// The same graph, for one who takes graphs whose nodes lie anywhere.
+    pub fn view(&self) -> GraphView<'_>
+        ensures { result ≡ self.now }
     {
-        self.nodes
+        GraphView::new(self.nodes.walk(), self.vars)
     }
 
     /// The number of nodes.
@@ -126,8 +127,8 @@ impl GraphBuilder {
 
     /// Adds a node, and gives its number.
     ///
-    /// A literal has no child, and its variable is 1 to `vars`. The children of an And or an Or are nodes that are there, fewer
-    /// than `CHILD_LIMIT`, and those of an And share no variable.
+    /// A literal has no child, and its variable is 1 to `vars`. The children of an And or an Or are nodes that are there, and
+    /// those of an And share no variable.
     pub fn push(&mut self, kind: NodeKind, kids: &[u32]) -> Result<u32, Memory>
         requires fits { node_fits self.old.vars (length self.old.nodes)
             (record { what = kind; kids = kids.now }) ≡ true }

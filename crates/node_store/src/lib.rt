@@ -5,6 +5,7 @@ mod flat;
 mod graph;
 mod nearby;
 mod store;
+mod view;
 mod walk;
 
 pub use flat::Nodes;
@@ -12,4 +13,5 @@ pub use graph::{Graph, GraphBuilder, NODE_LIMIT};
 pub use state_rules::NodeKind;
 pub use std::alloc::AllocError as Memory;
 pub use store::{MADE_LIMIT, Store, VARIABLE_LIMIT};
+pub use view::GraphView;
 pub use walk::{NodeRef, Walk};

@@ -1,6 +1,7 @@
-ghost use Rattle.std.specs.Prelude.{◌≡◌, length};
+ghost use Rattle.std.specs.Prelude.{◌≡◌, ◌<◌, length};
 ghost use Rattle.std.specs.Iterator.{YieldsFirst, item_count};
-ghost use Rattle.node_store.specs.inner.Flat.{nodes_of};
+ghost use Rattle.state_rules.specs.Graphs.{node_at};
+ghost use Rattle.node_store.specs.Flat.{nodes_of};
 
 use flat_lists::Lists;
 use state_rules::NodeKind;
@@ -36,7 +37,7 @@ pub struct Walk<'a> {
 impl<'a> Model for Walk<'a> {
     ghost use Rattle.std.specs.Prelude.{◌≡◌, List, length};
     ghost use Rattle.state_rules.specs.Graphs.{Node};
-    ghost use Rattle.node_store.specs.inner.Flat.{nodes_of};
+    ghost use Rattle.node_store.specs.Flat.{nodes_of};
 
     ghost Value = { List Node };
 
@@ -46,12 +47,43 @@ impl<'a> Model for Walk<'a> {
 }
 
 impl<'a> Walk<'a> {
-    // Over nodes of these kinds, which have these children.
-    pub(crate) fn new(kinds: &'a [NodeKind], kids: Lists<'a, u32>) -> Walk<'a>
+    /// The nodes of these kinds, which have these children.
+    pub fn new(kinds: &'a [NodeKind], kids: Lists<'a, u32>) -> Walk<'a>
         requires { length kids ≡ length kinds.now }
         ensures { result ≡ nodes_of kinds.now kids.entry }
     {
         Walk { kinds, kids }
+    }
+
+    /// A walk over the same nodes.
+    pub fn again(&self) -> Walk<'a>
+        ensures { result ≡ self.now }
+    {
+        Walk::new(self.kinds, self.kids.again())
+    }
+
+    /// The number of nodes that are left.
+    pub fn len(&self) -> usize
+        ensures { result ≡ length self.now }
+    {
+        self.kinds.len()
+    }
+
+    /// What the node at a place of those that are left is.
+    pub fn what(&self, node: usize) -> NodeKind
+        requires { node < length self.now }
+        ensures { result ≡ (node_at self.now node).what }
+    {
+        let kinds = self.kinds;
+        kinds[node]
+    }
+
+    /// Its children.
+    pub fn kids(&self, node: usize) -> &'a [u32]
+        requires { node < length self.now }
+        ensures { result.now ≡ (node_at self.now node).kids }
+    {
+        self.kids.list(node)
     }
 }
 

@@ -2,8 +2,8 @@ ghost use Rattle.std.specs.Prelude.{◌≡◌, ◌+◌, ◌<◌, ◌≤◌, leng
 ghost use Rattle.conditioner.specs.Models.{least_with, total_cost};
 
 use conditioner::{Leaf, fix, leaf, loose};
-use minimiser::{Steps, TOTAL_LIMIT, least};
-use node_store::Graph;
+use minimiser::{Steps, TOTAL_LIMIT, least_in};
+use node_store::{Graph, GraphView};
 use std::sync::ledger::Ledger;
 
 /// The least cost if a wire's variable is 0, and if it is 1; none if no state is left.
@@ -29,6 +29,7 @@ pub fn probe<L: Ledger>(
     ensures words { words.new ≡ words.old }
     ensures steps { steps.new ≤ steps.old + 2 }
 {
+    let graph = &graph.view();
     let zero = least_where(graph, words, costs, wire, false, values, steps);
     let one = least_where(graph, words, costs, wire, true, values, steps);
     (zero, one)
@@ -36,7 +37,7 @@ pub fn probe<L: Ledger>(
 
 // The least cost where a variable has a bit too.
 pub(crate) fn least_where<L: Ledger>(
-    graph: &Graph,
+    graph: &GraphView<'_>,
     words: &mut [u32],
     costs: &[u32],
     var: u32,
@@ -55,11 +56,11 @@ pub(crate) fn least_where<L: Ledger>(
     ensures steps { steps.new ≤ steps.old + 1 }
 {
     match leaf(words, var, bit) {
-        Leaf::True => least(graph, words, costs, values, steps),
+        Leaf::True => least_in(graph, words, costs, values, steps),
         Leaf::False => None,
         Leaf::Open => {
             fix(words, var, bit);
-            let fewest = least(graph, words, costs, values, steps);
+            let fewest = least_in(graph, words, costs, values, steps);
             loose(words, var);
             fewest
         }

@@ -5,7 +5,7 @@ ghost use Rattle.probe_report.specs.Verdicts.{blame_of};
 use crate::asking::least_where;
 use crate::verdicts::Blame;
 use minimiser::{Steps, TOTAL_LIMIT, least};
-use node_store::Graph;
+use node_store::{Graph, GraphView};
 use std::sync::ledger::Ledger;
 
 /// Whether a part is faulty in all diagnoses, in some, or in none.
@@ -33,6 +33,7 @@ pub fn blame<L: Ledger>(
     let Some(fewest) = least(graph, words, costs, values, steps) else {
         return Blame::Inconsistent;
     };
+    let graph = &graph.view();
     if some_has(graph, words, costs, part, false, fewest, values, steps) {
         blame_faulty(graph, words, costs, part, fewest, values, steps)
     } else {
@@ -42,7 +43,7 @@ pub fn blame<L: Ledger>(
 
 /// What [`blame`] says of a part that is faulty in some diagnosis, if the least cost is known. It takes one pass at most.
 pub fn blame_faulty<L: Ledger>(
-    graph: &Graph,
+    graph: &GraphView<'_>,
     words: &mut [u32],
     costs: &[u32],
     part: u32,
@@ -72,7 +73,7 @@ pub fn blame_faulty<L: Ledger>(
 
 // Whether some diagnosis has a bit for a part, the least cost being given.
 fn some_has<L: Ledger>(
-    graph: &Graph,
+    graph: &GraphView<'_>,
     words: &mut [u32],
     costs: &[u32],
     part: u32,

@@ -144,7 +144,7 @@ impl Desk {
         ensures some { result ≡ is_some (least_asked self.old) }
         ensures same { self.new ≡ self.old }
     {
-        self.distiller.is_consistent(
+        self.distiller.prepare(
             self.basis.graph(),
             &self.known,
             self.basis.costs(),

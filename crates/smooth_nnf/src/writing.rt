@@ -180,7 +180,13 @@ fn write_in<O: Sink, L: Ledger>(
     let parts = costs.len() as u32;
     let nodes = graph.len() as usize;
     let (values, lines) = scratch.split_at_mut(nodes);
-    put_least_costs(graph, words, costs, values, &mut Steps::<L>::new(blank));
+    put_least_costs(
+        &graph.view(),
+        words,
+        costs,
+        values,
+        &mut Steps::<L>::new(blank),
+    );
     let count = place_lines(graph, parts, values, lines);
     let drawing = Drawing {
         graph,

@@ -27,21 +27,21 @@ confirm-requires-clause-diagnosis g c =
     let costs = c.args.costs.now in
     let most = c.in-Some.fewest in
     let passes = first-passes-all graph c.args.words.now costs most c.requires.parts (sym c.in-Some.ensures.least) (bits_of c.find_suspects.new.state) in
-    subst (λ (ws : List ℕ). ModelWithin graph ws costs most (bits_of c.first.new.state)) (sym c.first.ensures.words)
-    (subst (λ (h : List Bool). ModelWithin graph c.args.words.now costs most h) (sym c.first.ensures.first) passes)
+    subst (λ (ws : List ℕ). ModelWithin graph ws costs most (bits_of c.first_in.new.state)) (sym c.first_in.ensures.words)
+    (subst (λ (h : List Bool). ModelWithin graph c.args.words.now costs most h) (sym c.first_in.ensures.first) passes)
 
 pub confirm-requires-clause-presumed : goal.confirm-requires-clause-presumed
 confirm-requires-clause-presumed g c = λ part lt.
-    subst (λ (ws : List ℕ). IsPresumed c.args.graph.now ws c.args.costs.now c.presume.new.verdicts part) (sym c.first.ensures.words)
+    subst (λ (ws : List ℕ). IsPresumed c.args.graph.now ws c.args.costs.now c.presume.new.verdicts part) (sym c.first_in.ensures.words)
     (presumed-right c.args.graph.now c.args.words.now c.args.costs.now part c.in-Some.fewest lt c.requires.parts c.requires.long (sym c.in-Some.ensures.least)
     (get_or c.find_suspects.new.state part 0) (c.find_suspects.ensures.suspects part lt) c.presume.new.verdicts (c.presume.ensures part (omega (arith, c.requires.verdicts))))
 
 pub returns-clause-few_steps : goal.returns-clause-few_steps
 returns-clause-few_steps g c =
-    let same : fault_count (bits_of c.first.new.state) ≡ fault_count (get_or (diagnoses_under c.args.graph.now c.args.words.now c.args.costs.now) 0 []) =
-    ap fault_count (c.first.ensures.first ∙ first-same c.args.graph.now c.args.words.now c.args.costs.now c.in-Some.fewest c.requires.parts (sym c.in-Some.ensures.least) (bits_of c.find_suspects.new.state) []) in
-    omega (arith, same, c.confirm.ensures.steps, c.first.ensures.few_steps, c.least.ensures.steps)
+    let same : fault_count (bits_of c.first_in.new.state) ≡ fault_count (get_or (diagnoses_under c.args.graph.now c.args.words.now c.args.costs.now) 0 []) =
+    ap fault_count (c.first_in.ensures.first ∙ first-same c.args.graph.now c.args.words.now c.args.costs.now c.in-Some.fewest c.requires.parts (sym c.in-Some.ensures.least) (bits_of c.find_suspects.new.state) []) in
+    omega (arith, same, c.confirm.ensures.steps, c.first_in.ensures.few_steps, c.least_in.ensures.steps)
 
 pub returns-clause-steps : goal.returns-clause-steps
 returns-clause-steps g c =
-    omega (arith, c.confirm.ensures.steps, c.first.ensures.few_steps, c.least.ensures.steps, faults-few c.first.new.state, c.first.auto.state, c.find_suspects.auto.state, c.requires.state)
+    omega (arith, c.confirm.ensures.steps, c.first_in.ensures.few_steps, c.least_in.ensures.steps, faults-few c.first_in.new.state, c.first_in.auto.state, c.find_suspects.auto.state, c.requires.state)

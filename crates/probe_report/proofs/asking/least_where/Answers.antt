@@ -6,7 +6,7 @@ use Rattle.probe_report.proofs.With.{with-true, with-false, with-open, leaf-open
 use Rattle.probe_report.proofs.asking.least_where.Goals as goal
 
 pub returns-in-True-clause-least : goal.returns-in-True-clause-least
-returns-in-True-clause-least g c = c.least.ensures.least ∙ ap (least c.args.costs.now)
+returns-in-True-clause-least g c = c.least_in.ensures.least ∙ ap (least c.args.costs.now)
     (with-true c.args.graph.now c.args.words.now c.args.costs.now c.args.var c.args.bit c.requires.long c.requires.parts c.requires.var.0 c.requires.var.1 c.in-True.ensures)
 
 pub returns-in-False-clause-least : goal.returns-in-False-clause-least
@@ -14,7 +14,7 @@ returns-in-False-clause-least g c = ap (least c.args.costs.now)
     (sym (with-false c.args.graph.now c.args.words.now c.args.costs.now c.args.var c.args.bit c.requires.long c.requires.parts c.requires.var.0 c.requires.var.1 c.in-False.ensures))
 
 pub returns-in-Open-clause-least : goal.returns-in-Open-clause-least
-returns-in-Open-clause-least g c = c.least-fewest.ensures.least ∙ ap (λ ws. least_under c.args.graph.now ws c.args.costs.now) c.fix.ensures.fixed
+returns-in-Open-clause-least g c = c.least_in-fewest.ensures.least ∙ ap (λ ws. least_under c.args.graph.now ws c.args.costs.now) c.fix.ensures.fixed
     ∙ ap (least c.args.costs.now)
     (with-open c.args.graph.now c.args.words.now c.args.costs.now c.args.var c.args.bit c.requires.long c.requires.parts c.requires.var.0 c.requires.var.1 c.in-Open.ensures)
 

@@ -1,28 +1,28 @@
-use Rattle.std.proofs.Common.{◌∙◌, ◌+◌, ◌*◌, ◌≤◌, [], List, Bool, Some, map, get_or, ap, sym, subst, arith}
+use Rattle.std.proofs.Common.{◌∙◌, ◌+◌, ◌*◌, ◌≤◌, [], List, Bool, Some, map, get_or, refl, ap, subst, arith}
 use Rattle.std.specs.Prelude.{not}
 use Rattle.state_rules.specs.Bits.{bit_in}
 use Rattle.state_rules.specs.Ranking.{diagnoses}
 use Rattle.diagnosis_lister.specs.Listing.{fault_count}
 use Rattle.probe_report.specs.Verdicts.{verdict}
-use Rattle.fault_graph.proofs.Keeping.{known-distilled, no-models}
+use Rattle.fault_graph.proofs.Keeping.{last-distilled, no-models}
 use Rattle.fault_graph.proofs.distiller.Distiller.blame_all.Goals as goal
 
 pub returns-clause-blame : goal.returns-clause-blame
 returns-clause-blame g c = λ part lt.
-    let d = known-distilled c.args.graph.now c.args.costs.now c.args.words.now c.prepare.new.self c.known-small.result.now c.prepare.ensures.serves c.prepare.ensures.last c.known-small.ensures.small c.known-small.ensures.whole in
+    let d = last-distilled c.args.graph.now c.args.costs.now c.args.words.now c.prepare.new.self c.distilled-small.result c.prepare.ensures.serves (c.if-not-prepare.ensures.kept refl) c.distilled-small.ensures in
     c.blame_all.ensures.blame part lt ∙ ap (λ (ds : List (List Bool)). Some (verdict (map (λ state. not (bit_in state part)) ds))) d.diagnoses
 
 pub returns-clause-steps : goal.returns-clause-steps
 returns-clause-steps g c =
-    let d = known-distilled c.args.graph.now c.args.costs.now c.args.words.now c.prepare.new.self c.known-small.result.now c.prepare.ensures.serves c.prepare.ensures.last c.known-small.ensures.small c.known-small.ensures.whole in
+    let d = last-distilled c.args.graph.now c.args.costs.now c.args.words.now c.prepare.new.self c.distilled-small.result c.prepare.ensures.serves (c.if-not-prepare.ensures.kept refl) c.distilled-small.ensures in
     subst (λ (ds : List (List Bool)). c.blame_all.new.steps ≤ c.args.steps.now + 1 + (2 * fault_count (get_or ds 0 []) + 2)) d.diagnoses (omega (arith, c.prepare.ensures.steps, c.blame_all.ensures.few_steps))
 
 pub returns-clause-again : goal.returns-clause-again
 returns-clause-again g c = λ same.
-    let d = known-distilled c.args.graph.now c.args.costs.now c.args.words.now c.prepare.new.self c.known-small.result.now c.prepare.ensures.serves c.prepare.ensures.last c.known-small.ensures.small c.known-small.ensures.whole in
+    let d = last-distilled c.args.graph.now c.args.costs.now c.args.words.now c.prepare.new.self c.distilled-small.result c.prepare.ensures.serves (c.if-not-prepare.ensures.kept refl) c.distilled-small.ensures in
     subst (λ (ds : List (List Bool)). c.blame_all.new.steps ≤ c.args.steps.now + (2 * fault_count (get_or ds 0 []) + 2)) d.diagnoses (omega (arith, (c.prepare.ensures.again same).2, c.blame_all.ensures.few_steps))
 
-pub returns-in-Ok-false-clause-blame : goal.returns-in-Ok-false-clause-blame
-returns-in-Ok-false-clause-blame g c = λ part lt.
-    let none = no-models c.args.graph.now c.args.words.now c.args.costs.now (sym c.in-Ok-false.field-0-test ∙ c.in-Ok-false.ensures.some) in
+pub returns-then-not-prepare-clause-blame : goal.returns-then-not-prepare-clause-blame
+returns-then-not-prepare-clause-blame g c = λ part lt.
+    let none = no-models c.args.graph.now c.args.words.now c.args.costs.now c.if-not-prepare.ensures.some in
     c.tell_none.ensures part (omega (arith, lt, c.requires.verdicts)) ∙ (λ i. Some (verdict (map (λ state. not (bit_in state part)) (diagnoses c.args.costs.now (none i)))))

@@ -1,5 +1,5 @@
 use Rattle.std.proofs.Common.{rules, ◌≤◌, length, subst}
-use Rattle.flat_lists.specs.inner.Flat.{EndAt}
+use Rattle.flat_lists.specs.Flat.{EndAt}
 use Rattle.flat_lists.proofs.Pieces.{EndAt-start}
 use Rattle.flat_lists.proofs.lists.ListsIterator.next.Goals as goal
 

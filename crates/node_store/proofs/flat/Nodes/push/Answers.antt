@@ -1,5 +1,5 @@
 use Rattle.std.proofs.Common.{◌≡◌, ◌++◌, ◌∷◌, [], ap, ◌∙◌}
-use Rattle.node_store.specs.inner.Flat.{nodes_of}
+use Rattle.node_store.specs.Flat.{nodes_of}
 use Rattle.node_store.proofs.Zipped.{nodes_of-push}
 use Rattle.node_store.proofs.flat.Nodes.push.Goals as goal
 

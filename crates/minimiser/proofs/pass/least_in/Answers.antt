@@ -1,6 +1,6 @@
 use Rattle.std.proofs.Common.{◌-◌, ap, arith}
 use Rattle.minimiser.proofs.OnePass.{root_small, root_none, root_some}
-use Rattle.minimiser.proofs.pass.least.Goals as goal
+use Rattle.minimiser.proofs.pass.least_in.Goals as goal
 
 pub overflow_add-result : goal.overflow_add-result
 overflow_add-result g c =

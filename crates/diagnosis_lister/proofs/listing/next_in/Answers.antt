@@ -6,7 +6,7 @@ use Rattle.diagnosis_lister.proofs.Faults.{faults-few}
 use Rattle.diagnosis_lister.proofs.Fixing.{first-passes}
 use Rattle.diagnosis_lister.proofs.OpenMarks.{unmarked-state, opened-again, length-bits}
 use Rattle.diagnosis_lister.proofs.Answering.{none-next, no-next, step-end, step-found, next-diagnosis, Leaves-first}
-use Rattle.diagnosis_lister.proofs.listing.next.Goals as goal
+use Rattle.diagnosis_lister.proofs.listing.next_in.Goals as goal
 
 pub returns-in_default-clause-next : goal.returns-in_default-clause-next
 returns-in_default-clause-next g c = none-next c.args.graph.now c.args.words.now c.args.costs.now (bits_of c.args.state.now) (bits_of c.args.state.now) (sym c.in_default.ensures.least)
@@ -29,10 +29,10 @@ returns-in-None-clause-state g c =
     subst (λ (xs : List ℕ). All (λ s. s < 2) xs) (sym same) c.requires.state_words
 
 pub returns-in-None-clause-few_steps : goal.returns-in-None-clause-few_steps
-returns-in-None-clause-few_steps g c = omega (arith, ap fault_count c.mark.ensures.bits, c.leave.ensures.steps, c.least.ensures.steps)
+returns-in-None-clause-few_steps g c = omega (arith, ap fault_count c.mark.ensures.bits, c.leave.ensures.steps, c.least_in.ensures.steps)
 
 pub returns-in-None-clause-steps : goal.returns-in-None-clause-steps
-returns-in-None-clause-steps g c = omega (arith, ap fault_count c.mark.ensures.bits, c.leave.ensures.steps, c.least.ensures.steps, faults-few c.args.state.now, c.requires.state)
+returns-in-None-clause-steps g c = omega (arith, ap fault_count c.mark.ensures.bits, c.leave.ensures.steps, c.least_in.ensures.steps, faults-few c.args.state.now, c.requires.state)
 
 -- what the words say is the first diagnosis after the state
 pub returns-in-Some-leave-clause-step : goal.returns-in-Some-leave-clause-step
@@ -78,7 +78,7 @@ returns-in-Some-leave-clause-few_steps g c =
     let marks : length c.mark.new.state ≡ length c.args.costs.now = c.mark.auto.state ∙ c.requires.state in
     let same : fault_count (bits_of c.write_back.new.state) ≡ fault_count (fixed_bits (length c.args.costs.now) c.settle.new.words) =
     ap fault_count (c.write_back.ensures.bits ∙ ap (λ n. fixed_bits n c.settle.new.words) marks) in
-    omega (arith, same, ap fault_count c.mark.ensures.bits, c.settle.ensures.steps, c.leave.ensures.steps, c.least.ensures.steps)
+    omega (arith, same, ap fault_count c.mark.ensures.bits, c.settle.ensures.steps, c.leave.ensures.steps, c.least_in.ensures.steps)
 
 pub returns-in-Some-leave-clause-steps : goal.returns-in-Some-leave-clause-steps
 returns-in-Some-leave-clause-steps g c =

@@ -1,4 +1,4 @@
--- Lists one behind the other in one list of items.
+-- Lists one after the other in one list of items.
 use Rattle.std.specs.Prelude.{◌≡◌, ℕ, zero, suc, ◌-◌, ◌≤◌, List, [], ◌∷◌, take, drop, slice_index_or}
 
 -- the lists in a list of items, the first of which begins at a place, by the places where they end

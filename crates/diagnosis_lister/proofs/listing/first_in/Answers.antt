@@ -6,7 +6,7 @@ use Rattle.diagnosis_lister.proofs.Faults.{faults-few}
 use Rattle.diagnosis_lister.proofs.Fixing.{first-passes}
 use Rattle.diagnosis_lister.proofs.OpenMarks.{opened-again}
 use Rattle.diagnosis_lister.proofs.Answering.{first-diagnosis, none-first}
-use Rattle.diagnosis_lister.proofs.listing.first.Goals as goal
+use Rattle.diagnosis_lister.proofs.listing.first_in.Goals as goal
 
 pub returns-in_err-fewest-clause-first : goal.returns-in_err-fewest-clause-first
 returns-in_err-fewest-clause-first g c = none-first c.args.graph.now c.args.words.now c.args.costs.now (bits_of c.args.state.now) (sym c.in_err-fewest.ensures.least)
@@ -32,7 +32,7 @@ returns-clause-few_steps g c =
     let marks : length c.mark.new.state ≡ length c.args.costs.now = c.mark.auto.state ∙ c.requires.state in
     let same : fault_count (bits_of c.write_back.new.state) ≡ fault_count (fixed_bits (length c.args.costs.now) c.settle.new.words) =
     ap fault_count (c.write_back.ensures.bits ∙ ap (λ n. fixed_bits n c.settle.new.words) marks) in
-    omega (arith, same, c.settle.ensures.steps, c.least.ensures.steps)
+    omega (arith, same, c.settle.ensures.steps, c.least_in.ensures.steps)
 
 pub returns-clause-steps : goal.returns-clause-steps
 returns-clause-steps g c = omega (arith, returns-clause-few_steps g c, faults-few c.write_back.new.state, c.write_back.auto.state, c.mark.auto.state, c.requires.state)

@@ -1,21 +1,19 @@
 -- The way up along a forest: the last step first.
-use Rattle.std.proofs.Common.{Bool, ◌≡◌, ℕ, zero, suc, ◌+◌, ◌-◌, ◌*◌, ◌<◌, ◌≤◌, true, false, cond, not, List, [], ◌∷◌, ◌++◌, map, length, replicate, Option, Some, None, refl, ap, sym, ◌∙◌, subst, arith, length-append}
+use Rattle.std.proofs.Common.{Bool, ◌≡◌, ℕ, zero, suc, ◌+◌, ◌-◌, ◌*◌, ◌<◌, ◌≤◌, true, false, cond, not, List, [], ◌∷◌, ◌++◌, map, length, replicate, Option, Some, None, refl, ap, sym, ◌∙◌, subst, arith, inl, length-append}
 use Rattle.std.specs.Prelude.{slice_get, reverse, Vec}
 use Rattle.std.specs.declared.alloc.Global.{Global}
 use Rattle.std.specs.List.{flat_map, list_all, AllByRecursion}
-use Rattle.std.proofs.lemmas.Bool.{or_left}
 use Rattle.std.proofs.lemmas.Nat.{mul-le}
 use Rattle.std.proofs.lemmas.List.{append-nil, length-reverse, reverse-append}
 use Rattle.std.proofs.lemmas.List.Concat.{flat_map-append}
 use Rattle.state_rules.specs.Graphs.{IsGraph, is_true}
 use Rattle.state_rules.proofs.Bits.{pointwise-refl}
 use Rattle.state_rules.proofs.Lists.{AllByRecursion-append}
+use Rattle.state_rules.proofs.Members.{In}
 use Rattle.node_store.specs.Stores.{IsFrozen}
 use Rattle.node_store.specs.declared.store.TheConstants.{MADE_LIMIT}
 use Rattle.clause_encoder.specs.Clauses.{ClauseList, is_clause_list}
-use Rattle.elimination_forests.specs.Branches.{same_list}
 use Rattle.branch_states.specs.declared.measuring.TheConstants.{BUDGET_LIMIT}
-use Rattle.elimination_forests.proofs.Lists.{is_among as is_listed}
 use Rattle.elimination_forests.proofs.Ordering.{clauses-valid}
 use Rattle.elimination_forests.specs.declared.forks.Forks.{Forks}
 use Rattle.elimination_forests.specs.declared.steps.Step.{Step}
@@ -27,7 +25,7 @@ use Rattle.dnnf_compiler.specs.declared.maker.Maker.{Maker}
 use Rattle.dnnf_compiler.specs.inner.Making.{IsMaker}
 use Rattle.dnnf_compiler.specs.inner.Meeting.{AreApart, IsMeet, taken, AreHeld}
 use Rattle.dnnf_compiler.specs.inner.Placing.{Spot, spots_on, spots_below, IsSpot, AreLevels, IsReady, IsRaised}
-use Rattle.dnnf_compiler.proofs.Placing.{full_holds, down_full, each_spot, below_base, root_holds, root_down, root_base}
+use Rattle.dnnf_compiler.proofs.Placing.{down_holds, each_spot, below_base, root_holds, root_down, root_base}
 use Rattle.dnnf_compiler.proofs.Stacking.{AreBegun, begun, length-levels, length-spots, trees_few}
 use Rattle.dnnf_compiler.proofs.Taking.{length-taken}
 
@@ -303,8 +301,8 @@ module _ (cnf : ClauseList) (steps : List Step) (forks : List Forks) (forest : F
       levels : AreLevels m.store.nodes (spots_on forest (root cnf.clauses)) top
       levels = subst (AreLevels m.store.nodes (spots_on forest (root cnf.clauses))) whole climbing.stacked
 
-      there : is_listed (root cnf.clauses).lists all ≡ true
-      there = or_left (same_list all all) false (pointwise-refl all)
+      there : In all (root cnf.clauses).lists
+      there = inl refl
 
       its_begin : AreBegun m.store.nodes forest (root cnf.clauses) top all
       its_begin = begun m.store.nodes forest (root cnf.clauses) top all (root_base cnf forest is.forest_is (clauses-valid cnf valid).2).once there levels
@@ -349,7 +347,7 @@ module _ (cnf : ClauseList) (steps : List Step) (forks : List Forks) (forest : F
                       ∙ meet.truth a
                       ∙ ap (list_all (λ k. is_true m.store.nodes k a)) (sym kids_are)
                       ∙ its_begin.truth a
-                      ∙ sym (full_holds forest (root cnf.clauses) a all (down_full forest (root cnf.clauses) all (root_down cnf forest is.forest_is (clauses-valid cnf valid).2)))
+                      ∙ sym (down_holds forest (root cnf.clauses) a all (root_down cnf forest is.forest_is (clauses-valid cnf valid).2))
                       ∙ root_holds cnf.clauses a;
                   no_bare_kid = frozen.no_bare_kid meet.adds.maker.bare;
                   few_made = omega (arith, made, meet.adds.made, climbing.made, sum_along forest (root cnf.clauses));

@@ -1,17 +1,20 @@
 -- Steps from one level to the next, and lists of one state: what the laws and the sum stand on.
 use Rattle.std.proofs.Common.{inl, inr, min, ◌-◌, ◌≡◌, ℕ, zero, suc, ◌+◌, ◌*◌, ◌<◌, ◌≤◌, Bool, true, false, not, ◌&&◌, cond, List, [], ◌∷◌, ◌++◌, map, length, take, drop, get_or, refl, ap, sym, ◌∙◌, subst, arith, add-one}
-use Rattle.std.specs.List.{filter, flat_map, AllByRecursion}
+use Rattle.std.specs.Prelude.{nat_lt}
+use Rattle.std.specs.List.{filter, flat_map}
 use Rattle.std.proofs.Math.Bool.{and-true, and_assoc}
-use Rattle.std.proofs.lemmas.Bool.{false≢true, or_parts, or_cases, and_parts, and_from, or_left, or_right, not_from_false, not_from_true, not-true, not-false}
+use Rattle.std.proofs.lemmas.Bool.{or_parts, and_from, not_from_true, not-true, not-false}
 use Rattle.std.proofs.lemmas.List.Folds.{flat_map-map}
-use Rattle.std.proofs.lemmas.List.{take-append-drop, length-take, length-drop, nil_from_length}
+use Rattle.std.proofs.lemmas.List.{take-append-drop, length-take, length-drop, length-append, nil_from_length}
 use Rattle.state_rules.specs.Bits.{row_number, lists_of_bits}
-use Rattle.state_rules.proofs.Bits.{not_left}
+use Rattle.state_rules.proofs.Bits.{not_left, pointwise-equal}
 use Rattle.state_rules.proofs.Lists.{map-flat_map}
-use Rattle.clause_encoder.specs.Clauses.{Clause}
-use Rattle.elimination_forests.specs.Branches.{order, has_true, is_left, left, is_touched, is_covered, is_open, some_passes, is_dead, different, living, size, bits_of, words_of, state_of, without, branch, IsLiving}
-use Rattle.elimination_forests.proofs.Lists.{longer, lists_of_bits-more, each-long, flat_map_same, filter-flat_map, flat_map-filter, different-flat_map, each-different, each-filter, each-map}
+use Rattle.state_rules.proofs.Members.{In, In-map, In-filter, In-filtered, from_map, bits_in, bits_length}
+use Rattle.clause_encoder.specs.Clauses.{Clause, var_of}
+use Rattle.elimination_forests.specs.Branches.{order, place, has_true, is_left, left, is_touched, is_covered, is_open, some_passes, is_dead, same_list, different, living, size, bits_of, words_of, state_of, without, branch, IsLiving}
+use Rattle.elimination_forests.proofs.Lists.{longer, lists_of_bits-more, flat_map_same, filter-flat_map, flat_map-filter, none-in, In-met, met-In, different-flat_map}
 use Rattle.elimination_forests.proofs.Places.{AllOnce, first_met-once, untouched-left, covered-without, covered-more}
+use Rattle.elimination_forests.proofs.Passing.{passes_by, passes_without}
 
 -- the living lists that a list leaves, for the bit 0 and then for 1
 abbrev pub branches : List Clause → ℕ → List Bool → List (List Bool)
@@ -44,23 +47,12 @@ left-next clauses bits bit h = without-map _ (is_left (order clauses) bits) (has
 pub order-once : (clauses : List Clause) → AllOnce (order clauses)
 order-once clauses = first_met-once _
 
-some-stays : (p q test : Clause → Bool) → ((c : Clause) → p c ≡ true → (test c ≡ false) × (q c ≡ true)) → (cs : List Clause) (list : List Bool)
-    → some_passes p cs list ≡ true → some_passes q cs (without test cs list) ≡ true
-some-stays p q test h [] list e = absurd (false≢true e)
-some-stays p q test h (c ∷ cs) [] e = absurd (false≢true e)
-some-stays p q test h (c ∷ cs) (b ∷ list) e = elim (or_cases (b && p c) (some_passes p cs list) e) [
-  | inl here ↦
-      let parts = and_parts b (p c) here in
-      let stays = h c parts.1 in
-      or_left ((b && not (test c)) && q c) (some_passes q cs (without test cs list))
-      (and_from (b && not (test c)) (q c) (and_from b (not (test c)) parts.0 (not_from_false (test c) stays.0)) stays.1)
-  | inr rest ↦ or_right ((b && not (test c)) && q c) (some_passes q cs (without test cs list)) (some-stays p q test h cs list rest)
-]
-
 -- What a bit leaves of a dead list is dead.
 pub dead-next : (clauses : List Clause) (i : ℕ) (list : List Bool) (bit : Bool) → i < length (order clauses) → is_dead clauses i list ≡ true → is_dead clauses (i + 1) (branch clauses i list bit) ≡ true
-dead-next clauses i list bit h e = some-stays (is_covered (order clauses) i) (is_covered (order clauses) (i + 1)) (has_true (get_or (order clauses) i 0) bit)
-    (λ c covered. (covered-without (order clauses) i bit c (order-once clauses) h covered, covered-more (order clauses) i c covered)) clauses list e
+dead-next clauses i list bit h e = passes_without (is_covered (order clauses) (i + 1)) (has_true (get_or (order clauses) i 0) bit) clauses list
+    ∙ passes_by (is_covered (order clauses) i) (λ c. not (has_true (get_or (order clauses) i 0) bit c) && is_covered (order clauses) (i + 1) c)
+    (λ c covered. and_from (not (has_true (get_or (order clauses) i 0) bit c)) (is_covered (order clauses) (i + 1) c)
+    (ap not (covered-without (order clauses) i bit c (order-once clauses) h covered)) (covered-more (order clauses) i c covered)) clauses list e
 
 -- ---- the living lists of the next level
 
@@ -71,7 +63,7 @@ both clauses i list = branch clauses i list false ∷ branch clauses i list true
 left-lists : (clauses : List Clause) (i : ℕ) → i < length (order clauses)
     → map (left clauses) (lists_of_bits (suc i)) ≡ flat_map (both clauses i) (map (left clauses) (lists_of_bits i))
 left-lists clauses i h = ap (map (left clauses)) (lists_of_bits-more i) ∙ map-flat_map (left clauses) longer (lists_of_bits i)
-    ∙ flat_map_same (λ bits. length bits ≡ i) (λ bits. map (left clauses) (longer bits)) (λ bits. both clauses i (left clauses bits)) next (lists_of_bits i) (each-long i)
+    ∙ flat_map_same (λ bits. map (left clauses) (longer bits)) (λ bits. both clauses i (left clauses bits)) (lists_of_bits i) (λ bits m. next bits (bits_length i bits m))
     ∙ sym (flat_map-map (both clauses i) (left clauses) (lists_of_bits i)) where
       one : (bits : List Bool) (bit : Bool) → length bits ≡ i → left clauses (bits ++ bit ∷ []) ≡ branch clauses i (left clauses bits) bit
       one bits bit e = left-next clauses bits bit (omega arith) ∙ ap (λ n. branch clauses n (left clauses bits) bit) e
@@ -82,7 +74,7 @@ left-lists clauses i h = ap (map (left clauses)) (lists_of_bits-more i) ∙ map-
 none_pass : {X : Type 0} (p : X → Bool) (a b : X) → p a ≡ false → p b ≡ false → filter p (a ∷ b ∷ []) ≡ []
 none_pass p a b e f = (λ i. cond (e i) (a ∷ cond (f i) (b ∷ []) []) (cond (f i) (b ∷ []) []))
 
-abbrev is_alive : List Clause → ℕ → List Bool → Bool
+abbrev pub is_alive : List Clause → ℕ → List Bool → Bool
 is_alive clauses i list = not (is_dead clauses i list)
 
 -- The living lists of the next level are the different living lists that one further bit leaves of those of this one.
@@ -102,20 +94,30 @@ living_lists-next clauses i h =
           let d = not-false (is_dead clauses i list) e in
           none_pass (is_alive clauses (i + 1)) (branch clauses i list false) (branch clauses i list true) (gone list false d) (gone list true d)
 
--- a list that some bits leave
-pub record WasLeft (clauses : List Clause) (i : ℕ) (list : List Bool) : Type 0 where
-  pub bits : List Bool
-  pub many : length bits ≡ i
-  pub left : list ≡ left clauses bits
-
 -- What is among the living lists of a level is a living list of it.
-pub living_are_living : (clauses : List Clause) (i : ℕ) → AllByRecursion (IsLiving clauses i) (living clauses i)
-living_are_living clauses i = each-different (IsLiving clauses i) (filter (is_alive clauses i) lists)
-    (each-filter (WasLeft clauses i) (IsLiving clauses i) (is_alive clauses i)
-    (λ list was e. record { bits = was.bits; many = was.many; left = was.left; alive = not-true (is_dead clauses i list) e })
-    lists (each-map (λ bits. length bits ≡ i) (WasLeft clauses i) (left clauses) (λ bits e. record { bits = bits; many = e; left = refl }) (lists_of_bits i) (each-long i))) where
-      lists : List (List Bool)
-      lists = map (left clauses) (lists_of_bits i)
+pub living_are_living : (clauses : List Clause) (i : ℕ) (list : List Bool) → In list (living clauses i) → IsLiving clauses i list
+living_are_living clauses i list m =
+    let lists = map (left clauses) (lists_of_bits i) in
+    let found = In-filter (is_alive clauses i) list lists (met-In same_list pointwise-equal list (filter (is_alive clauses i) lists) m) in
+    let from = from_map (left clauses) list (lists_of_bits i) found.0 in
+    record { bits = from.item; many = bits_length i from.item from.is_in; left = from.gives; alive = not-true (is_dead clauses i list) found.1 }
+
+-- and so is no other
+pub living-in : (clauses : List Clause) (i : ℕ) (list : List Bool) → IsLiving clauses i list → In list (living clauses i)
+living-in clauses i list is =
+    let there = In-map (left clauses) is.bits (lists_of_bits (length is.bits)) (bits_in is.bits) in
+    In-met same_list pointwise-equal list (filter (is_alive clauses i) (map (left clauses) (lists_of_bits i))) (In-filtered (is_alive clauses i) list (map (left clauses) (lists_of_bits i))
+    (subst (λ l. In l (map (left clauses) (lists_of_bits i))) (sym is.left) (subst (λ n. In (left clauses is.bits) (map (left clauses) (lists_of_bits n))) is.many there)) (ap not is.alive))
+
+-- What a bit leaves of a living list is one if it is not dead.
+pub living-next : (clauses : List Clause) (i : ℕ) (list : List Bool) (bit : Bool) → i < length (order clauses) → IsLiving clauses i list
+    → is_dead clauses (i + 1) (branch clauses i list bit) ≡ false → IsLiving clauses (i + 1) (branch clauses i list bit)
+living-next clauses i list bit low is alive = record {
+  bits = is.bits ++ bit ∷ [];
+  many = omega (arith, is.many, length-append is.bits (bit ∷ []));
+  left = (λ j. branch clauses (sym is.many j) (is.left j) bit) ∙ sym (left-next clauses is.bits bit (omega (arith, is.many)));
+  alive = alive;
+}
 
 -- ---- lists with one state
 
@@ -131,7 +133,7 @@ known-left : (vs : List ℕ) (bits : List Bool) (cs : List Clause) → some_pass
 known-left vs bits [] e = tt
 known-left vs bits (c ∷ cs) e =
     let parts = or_parts (is_left vs bits c && is_covered vs (length bits) c) (some_passes (is_covered vs (length bits)) cs (map (is_left vs bits) cs)) e in
-    (untouched-left vs bits c, not_left (is_left vs bits c) (is_covered vs (length bits) c) parts.0, known-left vs bits cs parts.1)
+    ((λ e. untouched-left vs bits c (λ l m. none-in (λ l. nat_lt (place vs (var_of l)) (length bits)) l c e m)), not_left (is_left vs bits c) (is_covered vs (length bits) c) parts.0, known-left vs bits cs parts.1)
 
 pub known : (clauses : List Clause) (i : ℕ) (list : List Bool) → IsLiving clauses i list → Known (order clauses) i clauses list
 known clauses i list h = subst (λ n. Known (order clauses) n clauses list) h.many

@@ -74,7 +74,7 @@ pub record AreBegun (nodes : List Node) (forest : Forest) (base : Place) (levels
   pub silent : (u : ℕ) → is_among (variables forest) u ≡ false → list_any (mentions nodes u) (taken levels (begins forest base list)) ≡ false
   pub apart : (u : ℕ) → at_most_one (map (mentions nodes u) (taken levels (begins forest base list))) ≡ true
 
-pub begun : (nodes : List Node) (forest : Forest) (base : Place) (levels : List (Vec ℕ Global)) (list : List Bool) → is_once (variables forest) ≡ true → is_listed base.lists list ≡ true
+pub begun : (nodes : List Node) (forest : Forest) (base : Place) (levels : List (Vec ℕ Global)) (list : List Bool) → is_once (variables forest) ≡ true → In list base.lists
     → AreLevels nodes (spots_on forest base) levels → AreBegun nodes forest base levels list
 begun nodes none base [] list once there are = record { held = tt; many = refl; within = tt; truth = λ a. refl; silent = λ u e. refl; apart = λ u. refl }
 begun nodes none base (level ∷ levels) list once there are = absurd are

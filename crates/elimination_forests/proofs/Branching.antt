@@ -1,5 +1,5 @@
 -- Steps from one level to the next, and lists of one state: what the laws and the sum stand on.
-use Rattle.std.proofs.Common.{inl, inr, min, ◌-◌, ◌≡◌, ℕ, zero, suc, ◌+◌, ◌*◌, ◌<◌, ◌≤◌, Bool, true, false, not, ◌&&◌, cond, List, [], ◌∷◌, ◌++◌, map, length, take, drop, get_or, refl, ap, sym, ◌∙◌, subst, arith, add-one}
+use Rattle.std.proofs.Common.{min, ◌-◌, ◌≡◌, ℕ, zero, suc, ◌+◌, ◌*◌, ◌<◌, ◌≤◌, Bool, true, false, not, ◌&&◌, cond, List, [], ◌∷◌, ◌++◌, map, length, take, drop, get_or, refl, ap, sym, ◌∙◌, subst, arith, add-one}
 use Rattle.std.specs.Prelude.{nat_lt}
 use Rattle.std.specs.List.{filter, flat_map}
 use Rattle.std.proofs.Math.Bool.{and-true, and_assoc}
@@ -147,25 +147,13 @@ same-known vs i [] [] (y ∷ ls) h k e = absurd k
 same-known vs i [] (x ∷ ks) ls h k e = absurd h
 same-known vs i (c ∷ cs) [] ls h k e = absurd h
 same-known vs i (c ∷ cs) (x ∷ ks) [] h k e = absurd k
-same-known vs i (c ∷ cs) (x ∷ ks) (y ∷ ls) h k e = by_test (is_touched vs i c) (is_covered vs i c) refl refl e (same-known vs i cs ks ls h.2 k.2) where
-  by_test : (t u : Bool) → is_touched vs i c ≡ t → is_covered vs i c ≡ u
-      → cond (t && not u) (x ∷ bits_of (is_open vs i) cs ks) (bits_of (is_open vs i) cs ks) ≡ cond (t && not u) (y ∷ bits_of (is_open vs i) cs ls) (bits_of (is_open vs i) cs ls)
-      → (bits_of (is_open vs i) cs ks ≡ bits_of (is_open vs i) cs ls → ks ≡ ls) → x ∷ ks ≡ y ∷ ls
-  by_test true false t u e rest =
-      let first : x ≡ y = cc in
-      let others : bits_of (is_open vs i) cs ks ≡ bits_of (is_open vs i) cs ls = cc in
-      λ j. first j ∷ rest others j
-  by_test true true t u e rest = λ j. (h.1 u ∙ sym (k.1 u)) j ∷ rest e j
-  by_test false u t f e rest = λ j. (h.0 t ∙ sym (k.0 t)) j ∷ rest e j
+same-known vs i (c ∷ cs) (x ∷ ks) (y ∷ ls) h k e = grind (arith, h.0, h.1, k.0, k.1, same-known vs i cs ks ls h.2 k.2)
 
 number-same : (xs ys : List Bool) → length xs ≡ length ys → row_number xs ≡ row_number ys → xs ≡ ys
 number-same [] [] h e = refl
 number-same [] (y ∷ ys) h e = absurd (omega arith)
 number-same (x ∷ xs) [] h e = absurd (omega arith)
-number-same (true ∷ xs) (true ∷ ys) h e = λ i. true ∷ number-same xs ys (omega arith) (omega arith) i
-number-same (true ∷ xs) (false ∷ ys) h e = absurd (omega arith)
-number-same (false ∷ xs) (true ∷ ys) h e = absurd (omega arith)
-number-same (false ∷ xs) (false ∷ ys) h e = λ i. false ∷ number-same xs ys (omega arith) (omega arith) i
+number-same (x ∷ xs) (y ∷ ys) h e = grind (arith, number-same xs ys)
 
 pub words-same : (n : ℕ) (xs ys : List Bool) → length xs ≡ length ys → length xs ≤ 64 * n → words_of n xs ≡ words_of n ys → xs ≡ ys
 words-same zero xs ys h few e = nil_from_length xs (omega arith) ∙ sym (nil_from_length ys (omega arith))
@@ -179,10 +167,7 @@ words-same (suc n) xs ys h few e =
 pub length-bits_of : {X : Type 0} (test : X → Bool) (xs : List X) (list : List Bool) → length xs ≤ length list → length (bits_of test xs list) ≡ length (filter test xs)
 length-bits_of test [] list h = refl
 length-bits_of test (x ∷ xs) [] h = absurd (omega arith)
-length-bits_of test (x ∷ xs) (b ∷ list) h = by_test (test x) (length-bits_of test xs list (omega arith)) where
-  by_test : (t : Bool) → length (bits_of test xs list) ≡ length (filter test xs) → length (cond t (b ∷ bits_of test xs list) (bits_of test xs list)) ≡ length (cond t (x ∷ filter test xs) (filter test xs))
-  by_test true e = ap suc e
-  by_test false e = e
+length-bits_of test (x ∷ xs) (b ∷ list) h = grind (arith, length-bits_of test xs list)
 
 pub length-known : (vs : List ℕ) (i : ℕ) (cs : List Clause) (list : List Bool) → Known vs i cs list → length list ≡ length cs
 length-known vs i [] [] h = refl

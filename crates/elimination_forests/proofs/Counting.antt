@@ -28,13 +28,8 @@ first-living cnf e = (λ j. different (cond (not (alive-first cnf.vars (order cn
 
 -- ---- the sum
 
--- that of the first levels
-abbrev sum_to : List Clause → ℕ → ℕ
-sum_to clauses count = sum_by (weight clauses) (range_with_len 0 count)
+sum-next : (f : ℕ → ℕ) (n : ℕ) → sum_by f (range_with_len 0 (n + 1)) ≡ sum_by f (range_with_len 0 n) + f n
+sum-next f n = grind (arith, range_more, sum_by-append)
 
-pub sum-more : (clauses : List Clause) (n : ℕ) → sum_to clauses (suc n) ≡ sum_to clauses n + weight clauses n
-sum-more clauses n =
-    let at : 0 + n ≡ n = omega arith in
-    let one : 0 + weight clauses (0 + n) ≡ weight clauses (0 + n) = omega arith in
-    let next : suc n ≡ n + 1 = omega arith in
-    ap (sum_to clauses) next ∙ ap (sum_by (weight clauses)) (range_more 0 n) ∙ sum_by-append (weight clauses) (range_with_len 0 n) ((0 + n) ∷ []) ∙ ap (λ k. sum_to clauses n + k) (one ∙ ap (weight clauses) at)
+pub sum-more : (clauses : List Clause) (n : ℕ) → sum_by (weight clauses) (range_with_len 0 (n + 1)) ≡ sum_by (weight clauses) (range_with_len 0 n) + weight clauses n
+sum-more clauses n = sum-next (weight clauses) n

@@ -1,5 +1,5 @@
 -- Where something is found in a list.
-use Rattle.std.proofs.Common.{◌≡◌, ℕ, zero, suc, ◌+◌, ◌≤◌, Bool, true, false, not, ◌||◌, cond, List, [], ◌∷◌, ◌++◌, length, take, Some, None, refl, ap, sym, ◌∙◌, arith}
+use Rattle.std.proofs.Common.{◌≡◌, ℕ, zero, suc, ◌+◌, ◌≤◌, Bool, true, false, not, ◌||◌, cond, List, [], ◌∷◌, ◌++◌, length, take, Some, None, refl, ap, ◌∙◌, arith}
 use Rattle.std.specs.Prelude.{nat_lt, position}
 use Rattle.std.specs.List.{list_any, position_or_len}
 use Rattle.std.proofs.lemmas.Bool.{false≢true, lt-ltb, le-ltb}
@@ -9,20 +9,13 @@ use Rattle.std.proofs.lemmas.List.{take_all}
 -- what stands in a front stands in the whole where it stood
 pub place-front : {X : Type 0} (p : X → Bool) (xs ys : List X) → list_any p xs ≡ true → position_or_len p (xs ++ ys) ≡ position_or_len p xs
 place-front p [] ys e = absurd (false≢true e)
-place-front p (x ∷ xs) ys e = by_test (p x) e (place-front p xs ys) where
-  by_test : (t : Bool) → (t || list_any p xs) ≡ true → (list_any p xs ≡ true → position_or_len p (xs ++ ys) ≡ position_or_len p xs)
-      → cond (not t) (1 + position_or_len p (xs ++ ys)) 0 ≡ cond (not t) (1 + position_or_len p xs) 0
-  by_test true e rest = refl
-  by_test false e rest = ap (λ n. 1 + n) (rest e)
+place-front p (x ∷ xs) ys e = grind (arith, place-front p xs ys)
 
 -- It stands among the first so many if it is one of them.
 pub place-low : {X : Type 0} (p : X → Bool) (i : ℕ) (xs : List X) → i ≤ length xs → nat_lt (position_or_len p xs) i ≡ list_any p (take i xs)
 place-low p zero xs h = le-ltb (position_or_len p xs) 0 (omega arith)
 place-low p (suc i) [] h = absurd (omega arith)
-place-low p (suc i) (x ∷ xs) h = by (p x) (position_or_len p xs) ∙ ap (λ b. p x || b) (place-low p i xs (omega arith)) where
-  by : (t : Bool) (n : ℕ) → nat_lt (cond (not t) (1 + n) 0) (suc i) ≡ (t || nat_lt n i)
-  by true n = lt-ltb 0 (suc i) (omega arith)
-  by false n = grind (arith, nat_tests)
+place-low p (suc i) (x ∷ xs) h = grind (arith, nat_tests, place-low p i xs)
 
 -- It stands somewhere if one is there.
 pub place-there : {X : Type 0} (p : X → Bool) (xs : List X) → nat_lt (position_or_len p xs) (length xs) ≡ list_any p xs

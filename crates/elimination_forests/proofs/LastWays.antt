@@ -3,9 +3,8 @@ use Rattle.std.proofs.Common.{◌≡◌, ℕ, zero, suc, ◌+◌, ◌*◌, ◌<�
 use Rattle.std.specs.Prelude.{is_some, if◌then◌else◌}
 use Rattle.std.specs.List.{list_any, flat_map, range_with_len}
 use Rattle.std.proofs.Math.Bool.{or-true}
-use Rattle.std.proofs.lemmas.List.Folds.{list_any-append}
 use Rattle.state_rules.proofs.Bits.{pointwise-equal}
-use Rattle.clause_encoder.specs.Clauses.{Clause, ClauseList, is_clause_list}
+use Rattle.clause_encoder.specs.Clauses.{ClauseList, is_clause_list}
 use Rattle.elimination_forests.specs.Branches.{order, living, size, sum_of, same_list, same_variable}
 use Rattle.elimination_forests.specs.declared.forks.Forks.{Forks}
 use Rattle.elimination_forests.specs.declared.steps.Weight.TheVariants.{Words}

@@ -10,7 +10,7 @@ use Rattle.state_rules.proofs.Bits.{pointwise-refl, pointwise-equal}
 use Rattle.state_rules.proofs.Lists.{filter-never}
 use Rattle.state_rules.proofs.Members.{In, In-filter, any_from, any_in, empty-none}
 use Rattle.clause_encoder.specs.Clauses.{Clause, ClauseList, var_of, is_positive, is_true_clause, all_hold, is_clause_list}
-use Rattle.elimination_forests.specs.Branches.{order, is_true_by, has_true, is_left, left, is_touched, is_covered, is_open, some_passes, is_dead, same_list, different, living, size, weight, sum_of, IsLiving}
+use Rattle.elimination_forests.specs.Branches.{order, is_true_by, has_true, is_left, left, is_touched, is_covered, is_open, some_passes, same_list, different, living, size, weight, sum_of}
 use Rattle.elimination_forests.proofs.Branching.{is_alive, living_are_living, living-in}
 use Rattle.elimination_forests.proofs.Lists.{all-at, In-met, met-In}
 use Rattle.elimination_forests.specs.declared.steps.Weight.TheVariants.{Words}
@@ -28,10 +28,13 @@ none-left t (c ∷ cs) (false ∷ list) all long e = ap (λ bs. false ∷ bs) (n
 
 one-different : (z : List Bool) (xs : List (List Bool)) → ((x : List Bool) → In x xs → x ≡ z) → length (different xs) ≤ 1
 one-different z [] all = omega arith
-one-different z (x ∷ xs) all = omega (arith, ap length (empty-none (filter (λ y. not (same_list x y)) (different xs)) (λ y m.
-    let found = In-filter (λ y. not (same_list x y)) y (different xs) m in
-    both_ways (same_list x y) (not-true (same_list x y) found.1)
-    (ap (same_list x) (all y (inr (met-In same_list pointwise-equal y xs found.0)) ∙ sym (all x (inl refl))) ∙ pointwise-refl x))))
+one-different z (x ∷ xs) all = omega (
+  arith,
+  ap length (empty-none (filter (λ y. not (same_list x y)) (different xs)) (λ y m.
+      let found = In-filter (λ y. not (same_list x y)) y (different xs) m in
+      both_ways (same_list x y) (not-true (same_list x y) found.1)
+      (ap (same_list x) (all y (inr (met-In same_list pointwise-equal y xs found.0)) ∙ sym (all x (inl refl))) ∙ pointwise-refl x))),
+)
 
 module _ (clauses : List Clause) where
   abbrev its_order : List ℕ

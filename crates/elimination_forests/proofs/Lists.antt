@@ -1,5 +1,5 @@
 -- Lists of which each is kept once, where it is first met.
-use Rattle.std.proofs.Common.{◌≡◌, ℕ, zero, suc, inl, inr, Bool, true, false, not, ◌&&◌, ◌||◌, cond, List, [], ◌∷◌, ◌++◌, map, length, refl, ap, sym, ◌∙◌, subst, arith}
+use Rattle.std.proofs.Common.{◌≡◌, ℕ, zero, suc, inl, inr, Bool, true, false, not, ◌&&◌, ◌||◌, cond, List, [], ◌∷◌, ◌++◌, map, refl, ap, sym, ◌∙◌, subst, arith}
 use Rattle.std.specs.List.{list_any, list_all, filter, flat_map, AllByRecursion}
 use Rattle.std.proofs.Math.Bool.{and_comm, and_self}
 use Rattle.std.proofs.lemmas.Bool.{both_ways, cases_Bool, and_parts, and_from, not-true, not_from_false, false_from_ne_true}
@@ -61,10 +61,7 @@ filter-flat_map p f (x ∷ xs) = filter-append p (f x) (flat_map f xs) ∙ ap (�
 -- where what is left out gives nothing
 pub flat_map-filter : {X Y : Type 0} (p : X → Bool) (f : X → List Y) → ((x : X) → p x ≡ false → f x ≡ []) → (xs : List X) → flat_map f (filter p xs) ≡ flat_map f xs
 flat_map-filter p f none [] = refl
-flat_map-filter p f none (x ∷ xs) = by_test (p x) refl (flat_map-filter p f none xs) where
-  by_test : (t : Bool) → p x ≡ t → flat_map f (filter p xs) ≡ flat_map f xs → flat_map f (cond t (x ∷ filter p xs) (filter p xs)) ≡ f x ++ flat_map f xs
-  by_test true e rest = ap (λ ys. f x ++ ys) rest
-  by_test false e rest = rest ∙ ap (λ ys. ys ++ flat_map f xs) (sym (none x e))
+flat_map-filter p f none (x ∷ xs) = grind (arith, none x, flat_map-filter p f none xs)
 
 pub each-map : {X Y : Type 0} (P : X → Type 0) (Q : Y → Type 0) (f : X → Y) → ((x : X) → P x → Q (f x)) → (xs : List X) → AllByRecursion P xs → AllByRecursion Q (map f xs)
 each-map P Q f h [] all = tt
@@ -73,10 +70,7 @@ each-map P Q f h (x ∷ xs) all = (h x all.0, each-map P Q f h xs all.1)
 -- what passes a filter has what all have, and passes
 pub each-filter : {X : Type 0} (P Q : X → Type 0) (p : X → Bool) → ((x : X) → P x → p x ≡ true → Q x) → (xs : List X) → AllByRecursion P xs → AllByRecursion Q (filter p xs)
 each-filter P Q p h [] all = tt
-each-filter P Q p h (x ∷ xs) all = by_test (p x) refl (each-filter P Q p h xs all.1) where
-  by_test : (t : Bool) → p x ≡ t → AllByRecursion Q (filter p xs) → AllByRecursion Q (cond t (x ∷ filter p xs) (filter p xs))
-  by_test true e rest = (h x all.0 e, rest)
-  by_test false e rest = rest
+each-filter P Q p h (x ∷ xs) all = grind (arith, h x all.0, each-filter P Q p h xs all.1)
 
 -- ---- items of which each is kept once
 

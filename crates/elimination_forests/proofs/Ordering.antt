@@ -3,6 +3,7 @@ use Rattle.std.proofs.Common.{◌≡◌, ℕ, suc, ◌+◌, ◌<◌, ◌≤◌, 
 use Rattle.std.specs.Prelude.{◌==◌, nat_lt, nat_le}
 use Rattle.std.specs.List.{list_any, list_all, filter}
 use Rattle.std.proofs.lemmas.Bool.{and_parts, cases_eq, eq-eqb, ne_eqb, eqb-true, ltb-true, leb-true}
+use Rattle.std.proofs.lemmas.Bool.Decides.{nat_tests}
 use Rattle.std.proofs.lemmas.List.Elements.{filter-append}
 use Rattle.clause_encoder.specs.Clauses.{ClauseList, is_clause, is_clause_list}
 use Rattle.elimination_forests.specs.Branches.{first_met, same_variable}
@@ -12,10 +13,7 @@ abbrev pub among : List ℕ → ℕ → Bool
 among vs v = list_any (same_variable v) vs
 
 pub eqb-swap : (u v : ℕ) → (u == v) ≡ (v == u)
-eqb-swap u v = elim (cases_eq u v) [
-  | inl e ↦ eq-eqb u v e ∙ sym (eq-eqb v u (sym e))
-  | inr d ↦ ne_eqb u v d ∙ sym (ne_eqb v u (λ e. d (sym e)))
-]
+eqb-swap u v = grind (arith, nat_tests)
 
 -- ---- what is met first
 
@@ -26,10 +24,7 @@ pub among-first_met : (vs : List ℕ) (v : ℕ) → among (first_met same_variab
 among-first_met vs v = any-met same_variable same_exact (same_variable v) vs
 
 last : (x v : ℕ) (s t : Bool) → (v == x) ≡ s → filter (λ u. not (u == x)) (cond t [] (v ∷ [])) ≡ cond (s || t) [] (v ∷ [])
-last x v true true e = refl
-last x v false true e = refl
-last x v true false e = λ i. cond (not (e i)) (v ∷ []) []
-last x v false false e = λ i. cond (not (e i)) (v ∷ []) []
+last x v s t e = grind (arith, e)
 
 pub first_met-push : (vs : List ℕ) (v : ℕ) → first_met same_variable (vs ++ v ∷ []) ≡ first_met same_variable vs ++ cond (among vs v) [] (v ∷ [])
 first_met-push [] v = refl

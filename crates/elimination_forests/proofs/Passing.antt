@@ -55,6 +55,9 @@ none_passes p (c ∷ cs) (b ∷ list) h = or_from (b && p c) (some_passes p cs l
 pub all_fail : (p : Clause → Bool) (cs : List Clause) (list : List Bool) → list_all p cs ≡ true → some_passes (λ c. not (p c)) cs list ≡ false
 all_fail p cs list e = none_passes (λ c. not (p c)) cs list (λ c m. ap not (all-at p c cs e m))
 
+pub passes_never : (cs : List Clause) (list : List Bool) → some_passes (λ c. false) cs list ≡ false
+passes_never cs list = none_passes (λ c. false) cs list (λ c m. refl)
+
 -- ---- variables
 
 pub meets-append : (xs ys : List ℕ) (c : Clause) → meets (xs ++ ys) c ≡ (meets xs c || meets ys c)

@@ -18,16 +18,12 @@ AllOnce (v ∷ vs) = (list_any (λ u. u == v) vs ≡ false) × AllOnce vs
 
 once-filter : (q : ℕ → Bool) (vs : List ℕ) → AllOnce vs → AllOnce (filter q vs)
 once-filter q [] h = tt
-once-filter q (v ∷ vs) h = by_test (q v) (once-filter q vs h.1) where
-  by_test : (t : Bool) → AllOnce (filter q vs) → AllOnce (cond t (v ∷ filter q vs) (filter q vs))
-  by_test true rest = (any-none (λ u. u == v) (filter q vs) (λ u m. none-in (λ u. u == v) u vs h.0 (In-filter q u vs m).0), rest)
-  by_test false rest = rest
+once-filter q (v ∷ vs) h = grind (arith, once-filter q vs h.1, any-none (λ u. u == v) (filter q vs) (λ u m. none-in (λ u. u == v) u vs h.0 (In-filter q u vs m).0))
 
 pub first_met-once : (vs : List ℕ) → AllOnce (first_met same_variable vs)
 first_met-once [] = tt
 first_met-once (v ∷ vs) =
-    let others = first_met same_variable vs in
-    (
+    let others = first_met same_variable vs in (
       any-none (λ u. u == v) (filter (λ u. not (u == v)) others) (λ u m. not-true (u == v) (In-filter (λ u. not (u == v)) u others m).1),
       once-filter (λ u. not (u == v)) others (first_met-once vs),
     )

@@ -2,7 +2,7 @@
 use Rattle.std.proofs.Common.{min, ◌-◌, ◌≡◌, ℕ, zero, suc, ◌+◌, ◌*◌, ◌<◌, ◌≤◌, Bool, true, false, not, ◌&&◌, cond, List, [], ◌∷◌, ◌++◌, map, length, take, drop, get_or, refl, ap, sym, ◌∙◌, subst, arith, add-one}
 use Rattle.std.specs.Prelude.{nat_lt}
 use Rattle.std.specs.List.{filter, flat_map}
-use Rattle.std.proofs.Math.Bool.{and-true, and_assoc}
+use Rattle.std.proofs.Math.Bool.{and-true}
 use Rattle.std.proofs.lemmas.Bool.{or_parts, and_from, not_from_true, not-true, not-false}
 use Rattle.std.proofs.lemmas.List.Folds.{flat_map-map}
 use Rattle.std.proofs.lemmas.List.{take-append-drop, length-take, length-drop, length-append, nil_from_length}
@@ -32,8 +32,7 @@ pub is_left-more : (vs : List ℕ) (bits : List Bool) (bit : Bool) (c : Clause) 
     → is_left vs (bits ++ bit ∷ []) c ≡ (is_left vs bits c && not (has_true (get_or vs (length bits) 0) bit c))
 is_left-more [] bits bit c h = absurd (omega arith)
 is_left-more (v ∷ vs) [] bit c h = ap (λ t. not (has_true v bit c) && t) (no_bits vs c) ∙ and-true (not (has_true v bit c))
-is_left-more (v ∷ vs) (b ∷ bits) bit c h = ap (λ t. not (has_true v b c) && t) (is_left-more vs bits bit c (omega arith))
-    ∙ sym (and_assoc (not (has_true v b c)) (is_left vs bits c) (not (has_true (get_or vs (length bits) 0) bit c)))
+is_left-more (v ∷ vs) (b ∷ bits) bit c h = grind (arith, is_left-more vs bits bit c (omega arith))
 
 without-map : (f g test : Clause → Bool) → ((c : Clause) → f c ≡ (g c && not (test c))) → (cs : List Clause) → map f cs ≡ without test cs (map g cs)
 without-map f g test h [] = refl
@@ -136,9 +135,7 @@ known-left vs bits (c ∷ cs) e =
     ((λ e. untouched-left vs bits c (λ l m. none-in (λ l. nat_lt (place vs (var_of l)) (length bits)) l c e m)), not_left (is_left vs bits c) (is_covered vs (length bits) c) parts.0, known-left vs bits cs parts.1)
 
 pub known : (clauses : List Clause) (i : ℕ) (list : List Bool) → IsLiving clauses i list → Known (order clauses) i clauses list
-known clauses i list h = subst (λ n. Known (order clauses) n clauses list) h.many
-    (subst (Known (order clauses) (length h.bits) clauses) (sym h.left)
-    (known-left (order clauses) h.bits clauses (ap (is_dead clauses (length h.bits)) (sym h.left) ∙ ap (λ n. is_dead clauses n list) h.many ∙ h.alive)))
+known clauses i list h = grind (arith, known-left)
 
 pub same-known : (vs : List ℕ) (i : ℕ) (cs : List Clause) (ks ls : List Bool) → Known vs i cs ks → Known vs i cs ls
     → bits_of (is_open vs i) cs ks ≡ bits_of (is_open vs i) cs ls → ks ≡ ls

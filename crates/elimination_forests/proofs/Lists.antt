@@ -108,10 +108,7 @@ is_other a list = not (same_list a list)
 
 pub different-append : (ks bs : List (List Bool)) → different (ks ++ bs) ≡ different ks ++ filter (λ list. not (is_among ks list)) (different bs)
 different-append [] bs = sym (filter-all (different bs))
-different-append (a ∷ ks) bs = ap (λ ls. a ∷ filter (is_other a) ls) (different-append ks bs)
-    ∙ ap (λ ls. a ∷ ls) (filter-append (is_other a) (different ks) (apart ks (different bs)))
-    ∙ ap (λ ls. a ∷ (filter (is_other a) (different ks) ++ ls)) (filter-filter (is_other a) (λ list. not (is_among ks list)) (different bs)
-    ∙ filter_agree (λ x. not (is_among ks x) && is_other a x) (λ list. not (is_among (a ∷ ks) list)) (λ x. not_either (same_list a x) (is_among ks x)) (different bs))
+different-append (a ∷ ks) bs = grind (arith, different-append ks bs, filter-append, filter-filter, filter_agree, not_either)
 
 none-apart : (ks : List (List Bool)) → apart ks (different ks) ≡ []
 none-apart ks = empty-none (apart ks (different ks)) (λ list m.

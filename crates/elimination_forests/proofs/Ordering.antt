@@ -1,8 +1,8 @@
 -- The order of the variables, as they are first met.
-use Rattle.std.proofs.Common.{◌≡◌, ℕ, suc, ◌+◌, ◌<◌, ◌≤◌, ◌^◌, inl, inr, Bool, true, false, not, ◌&&◌, ◌||◌, cond, List, [], ◌∷◌, ◌++◌, length, refl, ap, sym, ◌∙◌, arith}
-use Rattle.std.specs.Prelude.{◌==◌, nat_lt, nat_le}
+use Rattle.std.proofs.Common.{◌≡◌, ℕ, suc, ◌+◌, ◌<◌, ◌≤◌, ◌^◌, Bool, true, not, ◌||◌, cond, List, [], ◌∷◌, ◌++◌, length, refl, sym, arith}
+use Rattle.std.specs.Prelude.{◌==◌}
 use Rattle.std.specs.List.{list_any, list_all, filter}
-use Rattle.std.proofs.lemmas.Bool.{and_parts, cases_eq, eq-eqb, ne_eqb, eqb-true, ltb-true, leb-true}
+use Rattle.std.proofs.lemmas.Bool.{eqb-true}
 use Rattle.std.proofs.lemmas.Bool.Decides.{nat_tests}
 use Rattle.std.proofs.lemmas.List.Elements.{filter-append}
 use Rattle.clause_encoder.specs.Clauses.{ClauseList, is_clause, is_clause_list}
@@ -28,9 +28,7 @@ last x v s t e = grind (arith, e)
 
 pub first_met-push : (vs : List ℕ) (v : ℕ) → first_met same_variable (vs ++ v ∷ []) ≡ first_met same_variable vs ++ cond (among vs v) [] (v ∷ [])
 first_met-push [] v = refl
-first_met-push (x ∷ vs) v = ap (λ us. x ∷ filter (λ u. not (u == x)) us) (first_met-push vs v)
-    ∙ ap (λ us. x ∷ us) (filter-append (λ u. not (u == x)) (first_met same_variable vs) (cond (among vs v) [] (v ∷ []))
-    ∙ ap (λ us. filter (λ u. not (u == x)) (first_met same_variable vs) ++ us) (last x v (x == v) (among vs v) (eqb-swap v x)))
+first_met-push (x ∷ vs) v = grind (arith, nat_tests, first_met-push vs v, filter-append, last, eqb-swap)
 
 pub one_more : (n : ℕ) → 1 + n ≡ suc n
 one_more n = omega arith
@@ -38,7 +36,4 @@ one_more n = omega arith
 -- ---- a clause list
 
 pub clauses-valid : (cnf : ClauseList) → is_clause_list cnf ≡ true → (cnf.vars < 2 ^ 29) × (length cnf.clauses ≤ 262144) × (list_all (is_clause cnf.vars) cnf.clauses ≡ true)
-clauses-valid cnf e =
-    let parts = and_parts (nat_lt cnf.vars (2 ^ 29) && nat_le (length cnf.clauses) 262144) (list_all (is_clause cnf.vars) cnf.clauses) e in
-    let bounds = and_parts (nat_lt cnf.vars (2 ^ 29)) (nat_le (length cnf.clauses) 262144) parts.0 in
-    (ltb-true cnf.vars (2 ^ 29) bounds.0, leb-true (length cnf.clauses) 262144 bounds.1, parts.1)
+clauses-valid cnf e = grind (arith, nat_tests)

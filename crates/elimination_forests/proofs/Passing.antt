@@ -2,7 +2,7 @@
 use Rattle.std.proofs.Common.{◌≡◌, ℕ, Bool, true, false, not, ◌&&◌, ◌||◌, List, [], ◌∷◌, ◌++◌, refl, ap, sym, ◌∙◌, inl, inr, arith}
 use Rattle.std.specs.Prelude.{◌==◌}
 use Rattle.std.specs.List.{list_all}
-use Rattle.std.proofs.lemmas.Bool.{false≢true, eqb-true, and_parts, and_from, and_right, or_parts, or_cases, or_from, not-true, not-false, true_from_ne_false, false_from_ne_true}
+use Rattle.std.proofs.lemmas.Bool.{false≢true, eqb-true, and_parts, and_from, and_right, or_parts, or_cases, or_from, not-false}
 use Rattle.std.proofs.lemmas.List.Folds.{list_any-append}
 use Rattle.state_rules.proofs.Members.{In}
 use Rattle.clause_encoder.specs.Clauses.{Clause, var_of}
@@ -25,8 +25,7 @@ fail_by p q h cs list e = sym (agree p p q (λ c f. f ∙ sym (h c f)) cs list e
 
 -- what one passes
 pub passes_by : (p q : Clause → Bool) → ((c : Clause) → p c ≡ true → q c ≡ true) → (cs : List Clause) (list : List Bool) → some_passes p cs list ≡ true → some_passes q cs list ≡ true
-passes_by p q h cs list e = true_from_ne_false (some_passes q cs list) (λ f.
-    false≢true (sym (fail_by q p (λ c g. false_from_ne_true (p c) (λ k. false≢true (sym g ∙ h c k))) cs list f) ∙ e))
+passes_by p q h cs list e = grind (arith, fail_by)
 
 pub passes_without : (p t : Clause → Bool) (cs : List Clause) (list : List Bool) → some_passes p cs (without t cs list) ≡ some_passes (λ c. not (t c) && p c) cs list
 passes_without p t [] list = refl
@@ -69,8 +68,7 @@ once_back [] ys e = e
 once_back (x ∷ xs) ys e = once_back xs ys (and_parts (not (is_among (xs ++ ys) x)) (is_once (xs ++ ys)) e).1
 
 first_apart : (xs ys : List ℕ) (x : ℕ) → is_once (x ∷ (xs ++ ys)) ≡ true → (is_among xs x ≡ false) × (is_among ys x ≡ false)
-first_apart xs ys x e = or_parts (is_among xs x) (is_among ys x)
-    (sym (list_any-append (λ u. u == x) xs ys) ∙ not-true (is_among (xs ++ ys) x) (and_parts (not (is_among (xs ++ ys) x)) (is_once (xs ++ ys)) e).0)
+first_apart xs ys x e = grind (arith, list_any-append)
 
 pub once_front : (xs ys : List ℕ) → is_once (xs ++ ys) ≡ true → is_once xs ≡ true
 once_front [] ys e = refl

@@ -1,5 +1,5 @@
 -- The order of the variables, and which of them have bits at a level.
-use Rattle.std.proofs.Common.{◌≡◌, ℕ, zero, suc, ◌+◌, ◌<◌, Bool, true, false, not, cond, List, [], ◌∷◌, length, get_or, ℤ, refl, ap, sym, ◌∙◌, arith}
+use Rattle.std.proofs.Common.{◌≡◌, ℕ, zero, suc, ◌+◌, ◌<◌, Bool, true, false, not, cond, List, [], ◌∷◌, length, get_or, ℤ, refl, ap, sym, arith}
 use Rattle.std.specs.Prelude.{◌==◌, nat_lt}
 use Rattle.std.specs.List.{list_any, filter}
 use Rattle.std.proofs.lemmas.Bool.{and_from, and_left, not-true, ltb-true, lt-ltb, eq-eqb, ne_eqb, eqb-false}
@@ -31,12 +31,7 @@ first_met-once (v ∷ vs) =
 pub place-at : (vs : List ℕ) (k : ℕ) → AllOnce vs → k < length vs → place vs (get_or vs k 0) ≡ k
 place-at [] k once h = absurd (omega arith)
 place-at (v ∷ vs) zero once h = ap (λ t. cond (not t) (1 + place vs v) 0) (eq-eqb v v refl)
-place-at (v ∷ vs) (suc k) once h =
-    let other = none-in (λ u. u == v) (get_or vs k 0) vs once.0 (In-at vs k 0 (omega arith)) in
-    ap (λ t. cond (not t) (1 + place vs (get_or vs k 0)) 0) (swapped (get_or vs k 0) v other)
-    ∙ ap (λ n. 1 + n) (place-at vs k once.1 (omega arith)) ∙ omega arith where
-      swapped : (u v : ℕ) → (u == v) ≡ false → (v == u) ≡ false
-      swapped u v e = ne_eqb v u (λ d. eqb-false u v e (sym d))
+place-at (v ∷ vs) (suc k) once h = grind (arith, nat_tests, place-at vs k once.1 (omega arith), none-in (λ u. u == v) (get_or vs k 0) vs once.0 (In-at vs k 0 (omega arith)))
 
 -- ---- clauses that have no bit, and clauses that have all
 
@@ -55,10 +50,7 @@ untouched-left (v ∷ vs) (bit ∷ bits) c h =
 
 -- A clause whose variables all have bits has not the next variable.
 pub covered-without : (vs : List ℕ) (i : ℕ) (bit : Bool) (c : Clause) → AllOnce vs → i < length vs → is_covered vs i c ≡ true → has_true (get_or vs i 0) bit c ≡ false
-covered-without vs i bit c once h e = any-none (is_true_by (get_or vs i 0) bit) c (λ l m.
-    let near = ltb-true (place vs (var_of l)) i (all-at (λ l. nat_lt (place vs (var_of l)) i) l c e m) in
-    and_left (var_of l == get_or vs i 0) (same_bit (is_positive l) bit) (ne_eqb (var_of l) (get_or vs i 0) (λ d. omega (arith, near, ap (place vs) d ∙ place-at vs i once h))))
+covered-without vs i bit c once h e = grind (arith, nat_tests, any-none, ltb-true, all-at, ne_eqb, place-at)
 
 pub covered-more : (vs : List ℕ) (i : ℕ) (c : Clause) → is_covered vs i c ≡ true → is_covered vs (i + 1) c ≡ true
-covered-more vs i c e = all-in (λ l. nat_lt (place vs (var_of l)) (i + 1)) c (λ l m.
-    lt-ltb (place vs (var_of l)) (i + 1) (omega (arith, ltb-true (place vs (var_of l)) i (all-at (λ l. nat_lt (place vs (var_of l)) i) l c e m))))
+covered-more vs i c e = grind (arith, nat_tests, all-in, lt-ltb, ltb-true, all-at)

@@ -17,7 +17,7 @@ use Rattle.dnnf_compiler.specs.inner.Making.{IsMaker, IsJoin}
 use Rattle.dnnf_compiler.proofs.Making.{kept_in, adds_store, get-push}
 use Rattle.dnnf_compiler.proofs.Growing.{grows_by}
 
-in_all : (P : ℕ → Type 0) (ks : List ℕ) (c : ℕ) → Contains ks c → All P ks → P c
+pub in_all : (P : ℕ → Type 0) (ks : List ℕ) (c : ℕ) → Contains ks c → All P ks → P c
 in_all P ks c (j, h, e) all = subst P e (all j c h)
 
 -- ---- what mentions a variable is none

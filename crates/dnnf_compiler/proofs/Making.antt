@@ -69,14 +69,6 @@ pub mention_grows : (old new : List Node) (v : ℕ) (o : Option ℕ) → Grows o
 mention_grows old new v None g h = refl
 mention_grows old new v (Some n) g h = g.variables n v h
 
-pub read_below : (below : List ℕ) (place : ℕ) → place < length below → slice_get below place ≡ Some (slice_index below place)
-read_below [] place h = absurd (omega arith)
-read_below (n ∷ below) zero h = refl
-read_below (n ∷ below) (suc place) h = read_below below place (omega arith)
-
-pub eqb-same : (n : ℕ) → (n == n) ≡ true
-eqb-same n = eq-eqb n n refl
-
 pub get-push : {X : Type 0} (xs : List X) (y x : X) (i : ℕ) → slice_get (xs ++ y ∷ []) i ≡ Some x → ((i ≡ length xs) × (y ≡ x)) ⊎ (slice_get xs i ≡ Some x)
 get-push [] y x zero e = let s : y ≡ x = cc in inl (refl, s)
 get-push [] y x (suc i) e = absurd (cc)

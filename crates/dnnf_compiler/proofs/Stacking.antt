@@ -6,7 +6,7 @@ use Rattle.std.specs.List.{list_any, list_all, AllByRecursion}
 use Rattle.std.proofs.lemmas.Bool.{or_parts, and_parts, leb-true, ltb-true}
 use Rattle.std.proofs.lemmas.List.{length-map, get_or-map, length-reverse, length-append}
 use Rattle.std.proofs.lemmas.List.Folds.{list_any-append}
-use Rattle.std.proofs.lemmas.Option.{slice_get-map, slice_get_within, get_or_from_slice_get}
+use Rattle.std.proofs.lemmas.Option.{slice_get-map, slice_get_within, get_or_from_slice_get, slice_get-get_or}
 use Rattle.state_rules.specs.Assignments.{Assignment}
 use Rattle.state_rules.specs.Graphs.{Node, at_most_one, is_true, mentions}
 use Rattle.state_rules.proofs.Lists.{list_any-map}
@@ -20,11 +20,10 @@ use Rattle.elimination_forests.specs.Forests.{Forest, none, tree, trees, variabl
 use Rattle.elimination_forests.proofs.Passing.{once_back, once_apart}
 use Rattle.dnnf_compiler.specs.declared.maker.Maker.{Maker}
 use Rattle.dnnf_compiler.specs.inner.Joining.{Grows}
-use Rattle.dnnf_compiler.specs.inner.Making.{IsVariable, Adds}
-use Rattle.dnnf_compiler.specs.inner.Meeting.{taken, AreHeld, IsUsable, way_true, way_mentions, bit_way, IsChoice, AreChoices}
+use Rattle.dnnf_compiler.specs.inner.Making.{Adds}
+use Rattle.dnnf_compiler.specs.inner.Meeting.{taken, AreHeld, IsUsable, way_true, way_mentions, bit_way, IsChoice, IsPlaceable, AreChoices}
 use Rattle.dnnf_compiler.specs.inner.Placing.{left_by, Spot, spots_on, spots_below, IsSpot, IsNodeAt, AreNodesAt, AreLevels, IsReady, IsRaised}
-use Rattle.dnnf_compiler.proofs.Making.{read_below}
-use Rattle.dnnf_compiler.proofs.Meeting.{first_none, others_none}
+use Rattle.dnnf_compiler.proofs.Meeting.{first_none, others_none, length-zip}
 use Rattle.dnnf_compiler.proofs.Placing.{expand_by, dead_left, trees_hold, IsDown, down_holds, each_down, spot_free, spot_once, number_at, part_in, next_in}
 
 -- ---- nodes stay
@@ -53,11 +52,8 @@ levels_split nodes (spot ∷ xs) ys (level ∷ top) under e are =
     let more = levels_split nodes xs ys top under (omega arith) are.1 in
     ((are.0, more.0), more.1)
 
-pub length-levels : (nodes : List Node) (spots : List Spot) (levels : List (Vec ℕ Global)) → AreLevels nodes spots levels → length levels ≡ length spots
-length-levels nodes [] [] are = refl
-length-levels nodes [] (level ∷ levels) are = absurd are
-length-levels nodes (spot ∷ spots) [] are = absurd are
-length-levels nodes (spot ∷ spots) (level ∷ levels) are = ap suc (length-levels nodes spots levels are.1)
+pub length-levels : (nodes : List Node) (spots : List Spot) (levels : List (Vec ℕ Global)) → AreLevels nodes spots levels → length spots ≡ length levels
+length-levels nodes = length-zip (λ (spot : Spot) (level : Vec ℕ Global). AreNodesAt spot nodes level.items)
 
 pub length-spots : (forest : Forest) (base : Place) → length (spots_on forest base) ≡ trees forest
 length-spots none base = refl
@@ -99,7 +95,7 @@ begun nodes (tree v below beside) base (level ∷ levels) list once there are = 
   n = slice_index level.items k
 
   node : IsNodeAt (record { v = v; below = below; place = part (v ∷ variables below) base }) (part_of (v ∷ variables below) base list) nodes n
-  node = are.0.right k (part_of (v ∷ variables below) base list) n at (read_below level.items k low)
+  node = are.0.right k (part_of (v ∷ variables below) base list) n at (slice_get-get_or level.items k 0 low)
 
   more : AreBegun nodes beside base levels list → AreBegun nodes (tree v below beside) base (level ∷ levels) list
   more rest = record {
@@ -217,32 +213,22 @@ module _ (m : Maker) (step : Step) (forks : Forks) (stack under : List (Vec ℕ 
     both : AreLevels m.store.nodes (spots_below spot) top × AreLevels m.store.nodes rest (reverse under)
     both = levels_split m.store.nodes (spots_below spot) rest top (reverse under) (its_many ∙ sym (length-spots spot.below (decided spot.v spot.place))) (subst (AreLevels m.store.nodes (spots_below spot ++ rest)) are ready.stacked)
 
-    ways_usable : (bit : Bool) (ways : List (Option (List ℕ))) → ways ≡ map (way_by spot.v spot.below spot.place bit) spot.place.lists → All (λ w. IfSome w (IsUsable m.store.nodes step.var top)) ways
-    ways_usable bit ways e = subst (λ v. All (λ w. IfSome w (IsUsable m.store.nodes v top)) ways) (sym (ap (λ (s : Step). s.var) ready.step_is))
-        (subst (λ ways. All (λ w. IfSome w (IsUsable m.store.nodes spot.v top)) ways) (sym e) (all_usable m.store.vars spot m.store.nodes top ready.spot_is both.0 ready.narrow bit))
-
-    pub zeros_usable : All (λ w. IfSome w (IsUsable m.store.nodes step.var top)) forks.zero.ways
-    zeros_usable = ways_usable false forks.zero.ways (ap (λ (f : Forks). f.zero.ways) ready.forks_are)
-
-    pub ones_usable : All (λ w. IfSome w (IsUsable m.store.nodes step.var top)) forks.one.ways
-    ones_usable = ways_usable true forks.one.ways (ap (λ (f : Forks). f.one.ways) ready.forks_are)
-
-    pub forks_long : (length forks.zero.ways ≡ length spot.place.lists) × (length forks.one.ways ≡ length spot.place.lists)
-    forks_long = (
-      ap (λ (f : Forks). length f.zero.ways) ready.forks_are ∙ length-map spot.place.lists (way_by spot.v spot.below spot.place false),
-      ap (λ (f : Forks). length f.one.ways) ready.forks_are ∙ length-map spot.place.lists (way_by spot.v spot.below spot.place true),
-    )
-
-    pub its_variable : IsVariable m step.var
-    its_variable = subst (λ v. IsVariable m v) (sym (ap (λ (s : Step). s.var) ready.step_is))
-        (let parts = and_parts (nat_lt 0 spot.v) (nat_le spot.v m.store.vars) (and_parts (fits m.store.vars spot.v) (list_all (fits m.store.vars) (variables spot.below)) ready.spot_is.fit).0 in
-        (let low : 0 < spot.v = ltb-true _ _ parts.0 in omega arith, leb-true _ _ parts.1))
+    pub placeable : IsPlaceable m step.var top forks
+    placeable = subst (λ v. IsPlaceable m v top forks) (sym (ap (λ (s : Step). s.var) ready.step_is)) (subst (IsPlaceable m spot.v top) (sym ready.forks_are) (record {
+      maker = ready.made;
+      variable = let parts = and_parts (nat_lt 0 spot.v) (nat_le spot.v m.store.vars) (and_parts (fits m.store.vars spot.v) (list_all (fits m.store.vars) (variables spot.below)) ready.spot_is.fit).0 in
+          (let low : 0 < spot.v = ltb-true _ _ parts.0 in omega arith, leb-true _ _ parts.1);
+      long = length-map spot.place.lists (way_by spot.v spot.below spot.place true) ∙ sym (length-map spot.place.lists (way_by spot.v spot.below spot.place false));
+      zeros = all_usable m.store.vars spot m.store.nodes top ready.spot_is both.0 ready.narrow false;
+      ones = all_usable m.store.vars spot m.store.nodes top ready.spot_is both.0 ready.narrow true;
+      few = omega (arith, length-map spot.place.lists (way_by spot.v spot.below spot.place false), ready.few);
+    }))
 
     pub raised : (new : Maker) (numbers : List ℕ) → AreChoices m new step.var top forks numbers → IsRaised m new under numbers spot rest
     raised new numbers made =
         let made_here : AreChoices m new spot.v top (forks_at spot.v spot.below spot.place) numbers =
         subst (λ v. AreChoices m new v top (forks_at spot.v spot.below spot.place) numbers) (ap (λ (s : Step). s.var) ready.step_is) (subst (λ fs. AreChoices m new step.var top fs numbers) ready.forks_are made) in
-        let long : length numbers ≡ length spot.place.lists = made.long ∙ forks_long.0 in
+        let long : length numbers ≡ length spot.place.lists = made_here.long ∙ length-map spot.place.lists (way_by spot.v spot.below spot.place false) in
         record {
           adds = subst (λ n. Adds m new (3 * n) ((4 + 2 * trees spot.below) * n)) long (subst (λ k. Adds m new (3 * length numbers) ((4 + 2 * k) * length numbers)) its_many made.adds);
           nodes = chosen_nodes m.store.vars spot m.store.nodes top ready.spot_is both.0 ready.narrow m new numbers refl made_here;

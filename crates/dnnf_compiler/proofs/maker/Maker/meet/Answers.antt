@@ -1,10 +1,11 @@
 use Rattle.std.proofs.Common.{◌≡◌, ◌+◌, ◌<◌, ◌≤◌, ◌++◌, ℕ, List, [], ◌∷◌, length, drop, get_or, refl, ap, sym, ◌∙◌, subst, arith}
 use Rattle.std.specs.List.{filter, AllByRecursion}
 use Rattle.std.proofs.lemmas.List.{drop_all, append-nil}
+use Rattle.std.proofs.lemmas.List.Elements.{All-from_recursion}
 use Rattle.state_rules.proofs.Lists.{AllByRecursion-append}
 use Rattle.dnnf_compiler.specs.inner.Joining.{IsPlain}
 use Rattle.dnnf_compiler.proofs.Bare.{other_plain}
-use Rattle.dnnf_compiler.proofs.Meeting.{keeps_of, kept_not, kept_more, kept_apart, kept_few, meet_none, meet_one, meet_more, all_from, each_more}
+use Rattle.dnnf_compiler.proofs.Meeting.{keeps_of, kept_not, kept_more, kept_apart, kept_few, meet_none, meet_one, meet_more, each_more}
 use Rattle.dnnf_compiler.proofs.maker.Maker.meet.Goals as goal
 use Rattle.dnnf_compiler.proofs.maker.Maker.meet.Goals.{After-as_slice}
 
@@ -71,7 +72,7 @@ and-requires-clause-few c =
 pub and-requires-clause-kids : goal.and-requires-clause-kids
 and-requires-clause-kids c =
     let d = (goal.at.and-requires-clause-kids c).After-as_slice in
-    all_from (λ k. k < length c.args.self.now.store.nodes) c.as_slice.result.now
+    All-from_recursion (λ k. k < length c.args.self.now.store.nodes) c.as_slice.result.now
     (each_more (λ k. (k < length c.args.self.now.store.nodes) × IsPlain c.args.self.now.store.nodes k) (λ k. k < length c.args.self.now.store.nodes) c.as_slice.result.now (λ k p. p.0) (plain d))
 
 pub returns : goal.returns

@@ -23,10 +23,7 @@ in_all P ks c (j, h, e) all = subst P e (all j c h)
 -- ---- what mentions a variable is none
 
 filled : (x : ℕ) (ks : List ℕ) → (length (x ∷ ks) == 0) ≡ false
-filled x ks = by (length (x ∷ ks) == 0) refl where
-  by : (b : Bool) → (length (x ∷ ks) == 0) ≡ b → (length (x ∷ ks) == 0) ≡ false
-  by false e = e
-  by true e = absurd (let none = eqb-true (length (x ∷ ks)) 0 e in omega (arith, none))
+filled x ks = grind arith
 
 silent : (nodes : List Node) (v : ℕ) (what : NodeKind) (ks : List ℕ) → is_bare what ks ≡ true → mention_by v what (map (mentions nodes v) ks) ≡ false
 silent nodes v (Literal positive var) ks e = absurd (let never : ⊥ = cc in never)
@@ -92,10 +89,7 @@ abbrev HaveNoKids : List Node → Type 0
 HaveNoKids nodes = (i : ℕ) (n : Node) → slice_get nodes i ≡ Some n → n.kids ≡ []
 
 one_kidless : (nodes : List Node) (node : Node) → HaveNoKids nodes → node.kids ≡ [] → HaveNoKids (nodes ++ node ∷ [])
-one_kidless nodes node none e i n there = elim (get-push nodes node n i there) [
-  | inl last ↦ ap (λ (x : Node). x.kids) (sym last.1) ∙ e
-  | inr is ↦ none i n is
-]
+one_kidless nodes node none e i n there = grind (arith, get-push)
 
 two_kidless : (nodes : List Node) (a b : Node) → HaveNoKids nodes → a.kids ≡ [] → b.kids ≡ [] → HaveNoKids (nodes ++ (a ∷ b ∷ []))
 two_kidless nodes a b none e f = subst HaveNoKids (append_assoc nodes (a ∷ []) (b ∷ [])) (one_kidless (nodes ++ a ∷ []) b (one_kidless nodes a none e) f)

@@ -59,8 +59,7 @@ steps_on (tree v below beside) base = ap (λ xs. (record { var = v; trees = tree
 
 forks_along : (forest : Forest) (base : Place) → flat_map its_forks (spots_on forest base) ≡ forks_on forest base
 forks_along none base = refl
-forks_along (tree v below beside) base =
-    ap (λ xs. forks_at v below (part (v ∷ variables below) base) ∷ (forks_on below (decided v (part (v ∷ variables below) base)) ++ xs)) (forks_along beside base)
+forks_along (tree v below beside) base = grind (arith, forks_along beside base)
 
 sum_along : (forest : Forest) (base : Place) → all_sum (spots_on forest base) ≡ sum_on Lists forest base
 sum_along none base = refl
@@ -164,10 +163,7 @@ pub record IsRoot (cnf : ClauseList) (forest : Forest) (m : Maker) (kids : List 
 
 -- the children of a place's nodes
 kids_few : (old new k most lists below all : ℕ) → new ≤ old + (4 + 2 * k) * lists → k ≤ most → old ≤ (4 + 2 * most) * below → lists + below ≡ all → new ≤ (4 + 2 * most) * all
-kids_few old new k most lists below all h low so_far e =
-    let bound : 4 + 2 * k ≤ 4 + 2 * most = omega arith in
-    let sum : (4 + 2 * most) * (lists + below) ≡ (4 + 2 * most) * lists + (4 + 2 * most) * below = omega arith in
-    omega (arith, mul-le (4 + 2 * k) lists (4 + 2 * most) lists bound (omega arith), sum, ap (λ n. (4 + 2 * most) * n) e)
+kids_few old new k most lists below all h low so_far e = grind arith
 
 module _ (cnf : ClauseList) (steps : List Step) (forks : List Forks) (forest : Forest) (is : IsWay cnf steps forks forest) where
   pub forks_long : length forks ≡ length steps

@@ -65,19 +65,11 @@ module _ (m : Maker) (is : IsMaker m) where
 
   all_kept : (a : Assignment) (kids : List ℕ) → list_all (λ k. is_true its k a) (filter keeps kids) ≡ list_all (λ k. is_true its k a) kids
   all_kept a [] = refl
-  all_kept a (k ∷ kids) = by (k == m.yes) refl (all_kept a kids) where
-    by : (b : Bool) → (k == m.yes) ≡ b → list_all (λ k. is_true its k a) (filter keeps kids) ≡ list_all (λ k. is_true its k a) kids
-        → list_all (λ k. is_true its k a) (cond (not b) (k ∷ filter keeps kids) (filter keeps kids)) ≡ (is_true its k a && list_all (λ k. is_true its k a) kids)
-    by true e rest = rest ∙ (λ j. sym (ap (λ n. is_true its n a) (eqb-true k m.yes e) ∙ is.yes.truth a) j && list_all (λ k. is_true its k a) kids)
-    by false e rest = ap (λ b. is_true its k a && b) rest
+  all_kept a (k ∷ kids) = grind (arith, nat_tests, all_kept a kids)
 
   any_kept : (v : ℕ) (kids : List ℕ) → list_any (mentions its v) (filter keeps kids) ≡ list_any (mentions its v) kids
   any_kept v [] = refl
-  any_kept v (k ∷ kids) = by (k == m.yes) refl (any_kept v kids) where
-    by : (b : Bool) → (k == m.yes) ≡ b → list_any (mentions its v) (filter keeps kids) ≡ list_any (mentions its v) kids
-        → list_any (mentions its v) (cond (not b) (k ∷ filter keeps kids) (filter keeps kids)) ≡ (mentions its v k || list_any (mentions its v) kids)
-    by true e rest = rest ∙ (λ j. sym (ap (mentions its v) (eqb-true k m.yes e) ∙ is.yes.variables v) j || list_any (mentions its v) kids)
-    by false e rest = ap (λ b. mentions its v k || b) rest
+  any_kept v (k ∷ kids) = grind (arith, nat_tests, any_kept v kids)
 
   one_kept : (v : ℕ) (kids : List ℕ) → at_most_one (map (mentions its v) (filter keeps kids)) ≡ at_most_one (map (mentions its v) kids)
   one_kept v [] = refl

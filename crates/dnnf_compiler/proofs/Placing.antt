@@ -32,9 +32,7 @@ literal-next bound v a u positive free = grind (arith, nat_tests)
 
 clause-next : (bound : List ℕ) (v : ℕ) (a : Assignment) (clause : Clause) → is_among bound v ≡ false → rest_by bound a clause ≡ (has_true v (a v) clause || rest_by (v ∷ bound) a clause)
 clause-next bound v a [] free = refl
-clause-next bound v a (l ∷ clause) free =
-    (λ j. literal-next bound v a (var_of l) (is_positive l) free j || clause-next bound v a clause free j)
-    ∙ swap (is_true_by v (a v) l) (not (is_among (v ∷ bound) (var_of l)) && same_bit (is_positive l) (a (var_of l))) (has_true v (a v) clause) (rest_by (v ∷ bound) a clause)
+clause-next bound v a (l ∷ clause) free = grind (arith, nat_tests, clause-next bound v a clause free)
 
 -- What is left holds if it does by the variable's bit.
 pub expand_by : (v : ℕ) (place : Place) (a : Assignment) (list : List Bool) → is_among place.bound v ≡ false → left_by place a list ≡ left_by (decided v place) a (next_by v place list (a v))
@@ -45,19 +43,16 @@ expand_by v place a list free = ap not ((λ j. some_passes (λ c. each c j) plac
 -- ---- a dead list does not hold
 
 within_rest : (bound : List ℕ) (a : Assignment) (clause : Clause) → is_within bound clause ≡ true → rest_by bound a clause ≡ false
-within_rest bound a clause e = any-none (λ l. not (is_among bound (var_of l)) && same_bit (is_positive l) (a (var_of l))) clause
-    (λ l m. and_left (not (is_among bound (var_of l))) (same_bit (is_positive l) (a (var_of l))) (ap not (all-at (λ l. is_among bound (var_of l)) l clause e m)))
+within_rest bound a clause e = grind (arith, nat_tests, any-none, all-at)
 
 pub dead_left : (place : Place) (a : Assignment) (list : List Bool) → is_dead_by place.bound place.clauses list ≡ true → left_by place a list ≡ false
-dead_left place a list e =
-    ap not (passes_by (is_within place.bound) (λ c. not (rest_by place.bound a c)) (λ c is. ap not (within_rest place.bound a c is)) place.clauses list e)
+dead_left place a list e = grind (arith, nat_tests, passes_by, within_rest)
 
 -- ---- variables
 
 -- what has no bit has none after another variable
 free_next : (v : ℕ) (bound vs : List ℕ) → is_among vs v ≡ false → list_all (λ u. not (is_among bound u)) vs ≡ true → list_all (λ u. not (is_among (v ∷ bound) u)) vs ≡ true
-free_next v bound vs apart e = all-in (λ u. not (is_among (v ∷ bound) u)) vs (λ u m.
-    ap not (or_from (v == u) (is_among bound u) (ne_eqb v u (λ s. eqb-false u v (none-in (λ u. u == v) u vs apart m) (sym s))) (not-true (is_among bound u) (all-at (λ u. not (is_among bound u)) u vs e m))))
+free_next v bound vs apart e = grind (arith, nat_tests, all-in, ne_eqb, eqb-false, none-in, all-at)
 
 -- ---- what is left holds if it does on all trees of a base
 
@@ -98,10 +93,7 @@ pub record IsDown (forest : Forest) (base : Place) (list : List Bool) : Type 0 w
 
 along_within : (forest : Forest) (bound : List ℕ) (c : Clause) → is_along forest bound c ≡ true → meets (variables forest) c ≡ false → is_within bound c ≡ true
 along_within none bound c e f = e
-along_within (tree v below beside) bound c e f =
-    let parts = or_parts (meets (v ∷ variables below) c) (meets (variables beside) c) (sym (meets-append (v ∷ variables below) (variables beside) c) ∙ f) in
-    along_within beside bound c
-    (sym (ap (λ b. cond b (not (meets (variables beside) c) && is_along below (v ∷ bound) c) (is_along beside bound c)) parts.0) ∙ e) parts.1
+along_within (tree v below beside) bound c e f = grind (arith, nat_tests, along_within beside bound c, or_parts (meets (v ∷ variables below) c) (meets (variables beside) c) (sym (meets-append (v ∷ variables below) (variables beside) c) ∙ f))
 
 -- All its clauses meet the trees.
 pub down_holds : (forest : Forest) (base : Place) (a : Assignment) (list : List Bool) → IsDown forest base list → left_by base a list ≡ trees_hold forest base a list
@@ -208,23 +200,16 @@ below_base vars spot is =
     (and_parts (fits vars spot.v) (list_all (fits vars) (variables spot.below)) is.fit).1 (each_down vars spot is)
 
 pub spot_free : (vars : ℕ) (spot : Spot) → IsSpot vars spot → is_among spot.place.bound spot.v ≡ false
-spot_free vars spot is =
-    not-true (is_among spot.place.bound spot.v) (and_parts (not (is_among spot.place.bound spot.v)) (list_all (λ u. not (is_among spot.place.bound u)) (variables spot.below)) is.free).0
+spot_free vars spot is = grind (arith, nat_tests)
 
 pub spot_once : (vars : ℕ) (spot : Spot) → IsSpot vars spot → (is_among (variables spot.below) spot.v ≡ false) × (is_once (variables spot.below) ≡ true)
-spot_once vars spot is =
-    let once = and_parts (not (is_among (variables spot.below) spot.v)) (is_once (variables spot.below)) is.once in
-    (not-true (is_among (variables spot.below) spot.v) once.0, once.1)
+spot_once vars spot is = grind (arith, nat_tests)
 
 -- ---- at the root all clauses are left
 
 pub root_holds : (clauses : List Clause) (a : Assignment) → left_by (root clauses) a (map (λ c. true) clauses) ≡ all_hold a clauses
 root_holds [] a = refl
-root_holds (c ∷ clauses) a =
-    flip (is_true_clause a c) (some_passes (λ c. not (rest_by [] a c)) clauses (map (λ c. true) clauses)) ∙ ap (λ b. is_true_clause a c && b) (root_holds clauses a) where
-      flip : (x y : Bool) → not (not x || y) ≡ (x && not y)
-      flip true y = refl
-      flip false y = refl
+root_holds (c ∷ clauses) a = grind (arith, nat_tests, root_holds clauses a)
 
 root_alive : (vars : ℕ) (clauses : List Clause) → list_all (is_clause vars) clauses ≡ true → is_dead_by [] clauses (map (λ c. true) clauses) ≡ false
 root_alive vars clauses e = none_passes (is_within []) clauses (map (λ c. true) clauses) (λ c m. open_first c (all-at (is_clause vars) c clauses e m)) where

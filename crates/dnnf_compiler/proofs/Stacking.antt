@@ -29,18 +29,13 @@ use Rattle.dnnf_compiler.proofs.Placing.{expand_by, dead_left, trees_hold, IsDow
 -- ---- nodes stay
 
 node_grows : (spot : Spot) (list : List Bool) (old new : List Node) (node : ℕ) → Grows old new → IsNodeAt spot list old node → IsNodeAt spot list new node
-node_grows spot list old new node g is = record {
-  within = omega (arith, is.within, g.longer);
-  truth = λ a. g.truth node a is.within ∙ is.truth a;
-  silent = λ v e. g.variables node v is.within ∙ is.silent v e;
-}
+node_grows spot list old new node g is = grind arith
 
 levels_grow : (old new : List Node) (spots : List Spot) (levels : List (Vec ℕ Global)) → Grows old new → AreLevels old spots levels → AreLevels new spots levels
 levels_grow old new [] [] g are = tt
 levels_grow old new [] (level ∷ levels) g are = are
 levels_grow old new (spot ∷ spots) [] g are = are
-levels_grow old new (spot ∷ spots) (level ∷ levels) g are =
-    (record { long = are.0.long; right = λ j list n here there. node_grows spot list old new n g (are.0.right j list n here there) }, levels_grow old new spots levels g are.1)
+levels_grow old new (spot ∷ spots) (level ∷ levels) g are = grind (arith, levels_grow old new spots levels g are.1)
 
 -- ---- the top of a stack
 
@@ -48,9 +43,7 @@ levels_split : (nodes : List Node) (xs ys : List Spot) (top under : List (Vec �
 levels_split nodes [] ys [] under e are = (tt, are)
 levels_split nodes [] ys (level ∷ top) under e are = absurd (omega arith)
 levels_split nodes (spot ∷ xs) ys [] under e are = absurd (omega arith)
-levels_split nodes (spot ∷ xs) ys (level ∷ top) under e are =
-    let more = levels_split nodes xs ys top under (omega arith) are.1 in
-    ((are.0, more.0), more.1)
+levels_split nodes (spot ∷ xs) ys (level ∷ top) under e are = grind (arith, levels_split nodes xs ys top under (omega arith) are.1)
 
 pub length-levels : (nodes : List Node) (spots : List Spot) (levels : List (Vec ℕ Global)) → AreLevels nodes spots levels → length spots ≡ length levels
 length-levels nodes = length-zip (λ (spot : Spot) (level : Vec ℕ Global). AreNodesAt spot nodes level.items)
@@ -123,9 +116,7 @@ some_there (y ∷ lists) x there = omega arith
 
 pub trees_few : (forest : Forest) (base : Place) (list : List Bool) → In list base.lists → trees forest ≤ sum_on Lists forest base
 trees_few none base list there = omega arith
-trees_few (tree v below beside) base list there =
-    let some = some_there (part (v ∷ variables below) base).lists (part_of (v ∷ variables below) base list) (part_in (v ∷ variables below) base list there) in
-    omega (arith, trees_few beside base list there, some)
+trees_few (tree v below beside) base list there = grind (arith, trees_few beside base list there, some_there (part (v ∷ variables below) base).lists (part_of (v ∷ variables below) base list) (part_in (v ∷ variables below) base list there))
 
 -- ---- the ways of a list
 

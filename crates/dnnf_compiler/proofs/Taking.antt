@@ -134,11 +134,7 @@ choice_one old mid most new var below zero one first second node zero_usable one
 -- ---- all lists
 
 choice_grows : (old new more : List Node) (var : ℕ) (below : List (Vec ℕ Global)) (zero one : Option (List ℕ)) (node : ℕ) → Grows new more → IsChoice old new var below zero one node → IsChoice old more var below zero one node
-choice_grows old new more var below zero one node g is = record {
-  within = omega (arith, is.within, g.longer);
-  truth = λ a. g.truth node a is.within ∙ is.truth a;
-  silent = λ v other no_zero no_one. g.variables node v is.within ∙ is.silent v other no_zero no_one;
-}
+choice_grows old new more var below zero one node g is = grind arith
 
 bit_usable : (P : List ℕ → Type 0) (zero one : Option (List ℕ)) (bit : Bool) → IfSome zero P → IfSome one P → IfSome (bit_way zero one bit) P
 bit_usable P zero one false h k = h
@@ -147,11 +143,7 @@ bit_usable P zero one true h k = k
 -- what a node was made of later says the same of the nodes that were there at first
 choice_before : (old mid new : List Node) (var : ℕ) (below : List (Vec ℕ Global)) (zero one : Option (List ℕ)) (node : ℕ) → Grows old mid
     → IfSome zero (IsUsable old var below) → IfSome one (IsUsable old var below) → IsChoice mid new var below zero one node → IsChoice old new var below zero one node
-choice_before old mid new var below zero one node g h k is = record {
-  within = is.within;
-  truth = λ a. is.truth a ∙ way_grows old mid var below (bit_way zero one (a var)) a g (bit_usable (IsUsable old var below) zero one (a var) h k);
-  silent = λ v other no_zero no_one. is.silent v other (names_grow old mid var below zero v g h ∙ no_zero) (names_grow old mid var below one v g k ∙ no_one);
-}
+choice_before old mid new var below zero one node g h k is = grind (arith, way_grows, names_grow)
 
 -- the nodes of the first lists
 abbrev pub AreFirstChoices : Maker → Maker → ℕ → List (Vec ℕ Global) → List (Option (List ℕ)) → List (Option (List ℕ)) → List ℕ → Type 0

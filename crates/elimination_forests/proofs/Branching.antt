@@ -27,7 +27,7 @@ pub no_bits : (vs : List ℕ) (c : Clause) → is_left vs [] c ≡ true
 no_bits [] c = refl
 no_bits (v ∷ vs) c = refl
 
--- A clause is left where it was, unless the next bit makes it true.
+-- A clause is left if it was, unless the next bit makes it true.
 pub is_left-more : (vs : List ℕ) (bits : List Bool) (bit : Bool) (c : Clause) → length bits < length vs
     → is_left vs (bits ++ bit ∷ []) c ≡ (is_left vs bits c && not (has_true (get_or vs (length bits) 0) bit c))
 is_left-more [] bits bit c h = absurd (omega arith)

@@ -1,12 +1,11 @@
 -- Lists that are counted once, the first level, and the sum of the first levels.
-use Rattle.std.proofs.Common.{◌≡◌, ℕ, ◌+◌, Bool, true, false, not, ◌&&◌, cond, List, [], ◌∷◌, ap, arith}
+use Rattle.std.proofs.Common.{◌≡◌, ℕ, ◌+◌, Bool, true, false, not, cond, List, [], ◌∷◌, arith}
 use Rattle.std.specs.List.{list_all, sum_by, range_with_len}
-use Rattle.std.proofs.lemmas.Bool.{false≢true, le-ltb}
 use Rattle.std.proofs.lemmas.List.Sums.{sum_by-append}
 use Rattle.state_rules.proofs.Bits.{pointwise-equal}
 use Rattle.state_rules.proofs.Lists.{range_more}
-use Rattle.clause_encoder.specs.Clauses.{Clause, ClauseList, var_of, is_clause, is_clause_list}
-use Rattle.elimination_forests.specs.Branches.{order, place, left, is_covered, some_passes, same_list, different, living, weight}
+use Rattle.clause_encoder.specs.Clauses.{Clause, ClauseList, is_clause, is_clause_list}
+use Rattle.elimination_forests.specs.Branches.{order, left, is_covered, some_passes, same_list, different, living, weight}
 use Rattle.elimination_forests.proofs.Lists.{is_among, all-at, any-met}
 use Rattle.elimination_forests.proofs.Ordering.{clauses-valid}
 use Rattle.elimination_forests.proofs.Passing.{none_passes}
@@ -17,8 +16,7 @@ among-different ls x = any-met same_list pointwise-equal (λ other. same_list ot
 -- ---- level 0
 
 uncovered-first : (vars : ℕ) (vs : List ℕ) (c : Clause) → is_clause vars c ≡ true → is_covered vs 0 c ≡ false
-uncovered-first vars vs [] e = absurd (false≢true e)
-uncovered-first vars vs (l ∷ c) e = ap (λ b. b && is_covered vs 0 c) (le-ltb (place vs (var_of l)) 0 (omega arith))
+uncovered-first vars vs c e = grind arith
 
 alive-first : (vars : ℕ) (vs : List ℕ) (cs : List Clause) (list : List Bool) → list_all (is_clause vars) cs ≡ true → some_passes (is_covered vs 0) cs list ≡ false
 alive-first vars vs cs list e = none_passes (is_covered vs 0) cs list (λ c m. uncovered-first vars vs c (all-at (is_clause vars) c cs e m))

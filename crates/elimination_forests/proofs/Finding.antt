@@ -1,4 +1,4 @@
--- Where something is found in a list.
+-- The place at which something is found in a list.
 use Rattle.std.proofs.Common.{◌≡◌, ℕ, zero, suc, ◌≤◌, Bool, true, false, cond, List, [], ◌∷◌, ◌++◌, length, take, Some, None, ap, ◌∙◌, arith}
 use Rattle.std.specs.Prelude.{nat_lt, position}
 use Rattle.std.specs.List.{list_any, position_or_len}
@@ -6,7 +6,7 @@ use Rattle.std.proofs.lemmas.Bool.{false≢true, le-ltb}
 use Rattle.std.proofs.lemmas.Bool.Decides.{nat_tests}
 use Rattle.std.proofs.lemmas.List.{take_all}
 
--- what stands in a front stands in the whole where it stood
+-- what stands in a front has the same place in the whole
 pub place-front : {X : Type 0} (p : X → Bool) (xs ys : List X) → list_any p xs ≡ true → position_or_len p (xs ++ ys) ≡ position_or_len p xs
 place-front p [] ys e = absurd (false≢true e)
 place-front p (x ∷ xs) ys e = grind (arith, place-front p xs ys)

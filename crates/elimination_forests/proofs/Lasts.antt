@@ -1,4 +1,4 @@
--- At the last level of an order all variables have bits: there is one living list, or none where no bits make all clauses true.
+-- At the last level of an order all variables have bits: there is one living list, or none if no bits make all clauses true.
 use Rattle.std.proofs.Common.{◌≡◌, ℕ, ◌+◌, ◌*◌, ◌/◌, ◌<◌, ◌≤◌, inl, inr, Bool, true, false, not, ◌&&◌, ◌||◌, List, [], ◌∷◌, map, length, refl, ap, sym, ◌∙◌, arith}
 use Rattle.std.specs.Prelude.{◌==◌}
 use Rattle.std.specs.List.{list_all, filter}
@@ -56,7 +56,7 @@ module _ (clauses : List Clause) where
   pub last-few : weight clauses (length its_order) ≤ 1
   last-few = omega (arith, ap (λ n. length (living clauses (length its_order)) * n) last-size, last-one)
 
--- ---- at least one, where some bits make all clauses true
+-- ---- at least one, if some bits make all clauses true
 
 module _ (a : Assignment) where
   left-gone : (vs : List ℕ) (c : Clause) (v : ℕ) → is_among vs v ≡ true → has_true v (a v) c ≡ true → is_left vs (map a vs) c ≡ false

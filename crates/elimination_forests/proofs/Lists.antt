@@ -1,4 +1,4 @@
--- Lists of which each is kept once, where it is first met.
+-- Lists of which each is kept once.
 use Rattle.std.proofs.Common.{◌≡◌, ℕ, zero, suc, inl, inr, Bool, true, false, not, ◌&&◌, ◌||◌, cond, List, [], ◌∷◌, ◌++◌, map, refl, ap, sym, ◌∙◌, subst, arith}
 use Rattle.std.specs.List.{list_any, list_all, filter, flat_map, AllByRecursion}
 use Rattle.std.proofs.Math.Bool.{and_comm, and_self}
@@ -58,7 +58,7 @@ pub filter-flat_map : {X Y : Type 0} (p : Y → Bool) (f : X → List Y) (xs : L
 filter-flat_map p f [] = refl
 filter-flat_map p f (x ∷ xs) = filter-append p (f x) (flat_map f xs) ∙ ap (λ ys. filter p (f x) ++ ys) (filter-flat_map p f xs)
 
--- where what is left out gives nothing
+-- if what is left out gives nothing
 pub flat_map-filter : {X Y : Type 0} (p : X → Bool) (f : X → List Y) → ((x : X) → p x ≡ false → f x ≡ []) → (xs : List X) → flat_map f (filter p xs) ≡ flat_map f xs
 flat_map-filter p f none [] = refl
 flat_map-filter p f none (x ∷ xs) = grind (arith, none x, flat_map-filter p f none xs)

@@ -42,7 +42,7 @@ passes_or p q (c ∷ cs) [] = refl
 passes_or p q (c ∷ cs) (true ∷ list) = ap (λ b. (p c || q c) || b) (passes_or p q cs list) ∙ swap (p c) (q c) (some_passes p cs list) (some_passes q cs list)
 passes_or p q (c ∷ cs) (false ∷ list) = passes_or p q cs list
 
--- where all clauses of a list pass a test, it may be asked for
+-- if all clauses of a list pass a test, it may be asked for
 pub passes_full : (t p : Clause → Bool) (cs : List Clause) (list : List Bool) → some_passes (λ c. not (t c)) cs list ≡ false → some_passes (λ c. t c && p c) cs list ≡ some_passes p cs list
 passes_full t p = agree (λ c. not (t c)) (λ c. t c && p c) p (λ c f. ap (λ b. b && p c) (not-false (t c) f))
 

@@ -36,8 +36,7 @@ place-at (v ∷ vs) (suc k) once h = grind (arith, nat_tests, place-at vs k once
 -- ---- clauses that have no bit, and clauses that have all
 
 further : (t : Bool) (k i : ℕ) → nat_lt (cond (not t) (1 + k) 0) (suc i) ≡ false → (t ≡ false) × (nat_lt k i ≡ false)
-further true k i e = absurd (grind (arith, nat_tests))
-further false k i e = (refl, grind (arith, nat_tests))
+further t k i e = grind arith
 
 -- A clause that no variable of has a bit is left.
 pub untouched-left : (vs : List ℕ) (bits : List Bool) (c : Clause) → ((l : ℤ) → In l c → nat_lt (place vs (var_of l)) (length bits) ≡ false) → is_left vs bits c ≡ true

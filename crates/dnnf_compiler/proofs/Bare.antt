@@ -46,8 +46,7 @@ named_all vars nodes v None are named = tt
 named_all vars nodes v (Some n) are named = named_plain vars nodes n v are named
 
 pub names_grow : (old new : List Node) (v : ℕ) (o : Option ℕ) → Grows old new → IfSome o (λ n. n < length old) → IfSome o (λ n. mentions old v n ≡ true) → IfSome o (λ n. mentions new v n ≡ true)
-names_grow old new v None g h named = tt
-names_grow old new v (Some n) g h named = g.variables n v h ∙ named
+names_grow old new v o g h named = grind arith
 
 -- any node but the two that are kept is none
 pub other_plain : (m : Maker) → IsMaker m → (k : ℕ) → k ≢ m.yes → k ≢ m.no → IsPlain m.store.nodes k
@@ -79,9 +78,7 @@ bare_push vars old new node are (inr e) none plain = subst HasNoBareKid (sym e) 
       none parent child n kid there has (earlier child kid (omega (arith, low, slice_get_within old parent n there)) kid_there)
 
 pub two_plain : (P : ℕ → Type 0) (a b : ℕ) → P a → P b → (k : ℕ) → Contains (a ∷ b ∷ []) k → P k
-two_plain P a b p q k (zero, h, e) = subst P e p
-two_plain P a b p q k (suc zero, h, e) = subst P e q
-two_plain P a b p q k (suc (suc i), h, e) = absurd (omega (arith, h))
+two_plain P a b p q k has = grind arith
 
 -- ---- at the beginning no node has a child
 

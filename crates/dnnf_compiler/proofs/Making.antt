@@ -33,12 +33,10 @@ pub adds_store : (m : Maker) (s : Stored) (kids : ℕ) → IsMaker m → IsStore
 adds_store m s kids is store kept bare g vars made handed = grind arith
 
 pub may_grow : (old new : List Node) (a : Assignment) (o : Option ℕ) → Grows old new → IfSome o (λ n. n < length old) → may_be_true new a o ≡ may_be_true old a o
-may_grow old new a None g h = refl
-may_grow old new a (Some n) g h = g.truth n a h
+may_grow old new a o g h = grind arith
 
 pub mention_grows : (old new : List Node) (v : ℕ) (o : Option ℕ) → Grows old new → IfSome o (λ n. n < length old) → may_mention new v o ≡ may_mention old v o
-mention_grows old new v None g h = refl
-mention_grows old new v (Some n) g h = g.variables n v h
+mention_grows old new v o g h = grind arith
 
 pub get-push : {X : Type 0} (xs : List X) (y x : X) (i : ℕ) → slice_get (xs ++ y ∷ []) i ≡ Some x → ((i ≡ length xs) × (y ≡ x)) ⊎ (slice_get xs i ≡ Some x)
 get-push [] y x zero e = let s : y ≡ x = cc in inl (refl, s)

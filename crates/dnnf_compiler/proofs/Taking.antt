@@ -110,8 +110,7 @@ module _ (m : Maker) (var : ℕ) (bit : Bool) (below : List (Vec ℕ Global)) (n
 
 bit_true : (nodes : List Node) (a : Assignment) (below : List (Vec ℕ Global)) (zero one : Option (List ℕ)) (x : Bool)
     → ((same_bit false x && way_true nodes a below zero) || (same_bit true x && way_true nodes a below one)) ≡ way_true nodes a below (bit_way zero one x)
-bit_true nodes a below zero one true = refl
-bit_true nodes a below zero one false = or-false (way_true nodes a below zero)
+bit_true nodes a below zero one x = grind arith
 
 pub choice_one : (old mid most new : Maker) (var : ℕ) (below : List (Vec ℕ Global)) (zero one : Option (List ℕ)) (first second : Option ℕ) (node : ℕ)
     → IfSome zero (IsUsable old.store.nodes var below) → IfSome one (IsUsable old.store.nodes var below)
@@ -137,8 +136,7 @@ choice_grows : (old new more : List Node) (var : ℕ) (below : List (Vec ℕ Glo
 choice_grows old new more var below zero one node g is = grind arith
 
 bit_usable : (P : List ℕ → Type 0) (zero one : Option (List ℕ)) (bit : Bool) → IfSome zero P → IfSome one P → IfSome (bit_way zero one bit) P
-bit_usable P zero one false h k = h
-bit_usable P zero one true h k = k
+bit_usable P zero one bit h k = grind arith
 
 -- what a node was made of later says the same of the nodes that were there at first
 choice_before : (old mid new : List Node) (var : ℕ) (below : List (Vec ℕ Global)) (zero one : Option (List ℕ)) (node : ℕ) → Grows old mid

@@ -115,25 +115,18 @@ none-apart ks = empty-none (apart ks (different ks)) (λ list m.
     let found = In-filter (λ l. not (is_among ks l)) list (different ks) m in
     both_ways (is_among ks list) (not-true (is_among ks list) found.1) (any_in (λ l. same_list l list) list ks (met-In same_list pointwise-equal list ks found.0) (pointwise-refl list)))
 
+-- what is not among some, of first ones and then others
+seen_first : (ks xs zs : List (List Bool)) → apart ks (different (xs ++ zs)) ≡ apart ks (different xs) ++ apart xs (apart ks (different zs))
+seen_first ks xs zs = grind (arith, different-append, filter-append, filter-swap)
+
+seen_again : (ks zs : List (List Bool)) → apart ks (different (ks ++ zs)) ≡ apart ks (different zs)
+seen_again ks zs = grind (arith, different-append, filter-append, none-apart, filter-twice)
+
 -- Once what a list gives is there, the list itself may be left out.
 absorbed : (f : List Bool → List (List Bool)) (x : List Bool) (ds : List (List Bool))
     → apart (f x) (different (flat_map f (filter (λ list. not (same_list x list)) ds))) ≡ apart (f x) (different (flat_map f ds))
 absorbed f x [] = refl
-absorbed f x (y ∷ ds) = by_test (same_list x y) refl (absorbed f x ds) where
-  -- what y gives, and then what others give
-  first : (zs : List (List Bool)) → apart (f x) (different (f y ++ zs)) ≡ apart (f x) (different (f y)) ++ apart (f y) (apart (f x) (different zs))
-  first zs = ap (apart (f x)) (different-append (f y) zs) ∙ filter-append (λ list. not (is_among (f x) list)) (different (f y)) (apart (f y) (different zs))
-      ∙ ap (λ ls. apart (f x) (different (f y)) ++ ls) (filter-swap (λ list. not (is_among (f x) list)) (λ list. not (is_among (f y) list)) (different zs))
-
-  again : (zs : List (List Bool)) → x ≡ y → apart (f x) (different (f y ++ zs)) ≡ apart (f x) (different zs)
-  again zs e = subst (λ w. apart (f x) (different (f w ++ zs)) ≡ apart (f x) (different zs)) e
-      (ap (apart (f x)) (different-append (f x) zs) ∙ filter-append (λ list. not (is_among (f x) list)) (different (f x)) (apart (f x) (different zs))
-      ∙ (λ i. none-apart (f x) i ++ filter-twice (λ list. not (is_among (f x) list)) (different zs) i))
-
-  by_test : (t : Bool) → same_list x y ≡ t → apart (f x) (different (flat_map f (filter (is_other x) ds))) ≡ apart (f x) (different (flat_map f ds))
-      → apart (f x) (different (flat_map f (cond (not t) (y ∷ filter (is_other x) ds) (filter (is_other x) ds)))) ≡ apart (f x) (different (f y ++ flat_map f ds))
-  by_test true e rest = rest ∙ sym (again (flat_map f ds) (pointwise-equal x y e))
-  by_test false e rest = first (flat_map f (filter (is_other x) ds)) ∙ ap (λ ls. apart (f x) (different (f y)) ++ apart (f y) ls) rest ∙ sym (first (flat_map f ds))
+absorbed f x (y ∷ ds) = grind (arith, absorbed f x ds, seen_first, seen_again, pointwise-equal)
 
 -- What the different lists give is what all give.
 pub different-flat_map : (f : List Bool → List (List Bool)) (xs : List (List Bool)) → different (flat_map f (different xs)) ≡ different (flat_map f xs)

@@ -3,6 +3,7 @@ use Rattle.std.proofs.Common.{◌≡◌, ℕ, Bool, true, false, not, ◌&&◌, 
 use Rattle.std.specs.Prelude.{◌==◌}
 use Rattle.std.specs.List.{list_all}
 use Rattle.std.proofs.lemmas.Bool.{false≢true, eqb-true, and_parts, and_from, and_right, or_parts, or_cases, or_from, not-false}
+use Rattle.std.proofs.lemmas.Bool.Decides.{nat_tests}
 use Rattle.std.proofs.lemmas.List.Folds.{list_any-append}
 use Rattle.state_rules.proofs.Members.{In}
 use Rattle.clause_encoder.specs.Clauses.{Clause, var_of}
@@ -16,8 +17,7 @@ use Rattle.elimination_forests.proofs.Lists.{all-at}
 pub agree : (r p q : Clause → Bool) → ((c : Clause) → r c ≡ false → p c ≡ q c) → (cs : List Clause) (list : List Bool) → some_passes r cs list ≡ false → some_passes p cs list ≡ some_passes q cs list
 agree r p q h [] list e = refl
 agree r p q h (c ∷ cs) [] e = refl
-agree r p q h (c ∷ cs) (true ∷ list) e = let parts = or_parts (r c) (some_passes r cs list) e in λ j. h c parts.0 j || agree r p q h cs list parts.1 j
-agree r p q h (c ∷ cs) (false ∷ list) e = agree r p q h cs list e
+agree r p q h (c ∷ cs) (b ∷ list) e = grind (arith, h c, agree r p q h cs list)
 
 -- what fails for all of a list
 pub fail_by : (p q : Clause → Bool) → ((c : Clause) → p c ≡ false → q c ≡ false) → (cs : List Clause) (list : List Bool) → some_passes p cs list ≡ false → some_passes q cs list ≡ false
@@ -30,8 +30,7 @@ passes_by p q h cs list e = grind (arith, fail_by)
 pub passes_without : (p t : Clause → Bool) (cs : List Clause) (list : List Bool) → some_passes p cs (without t cs list) ≡ some_passes (λ c. not (t c) && p c) cs list
 passes_without p t [] list = refl
 passes_without p t (c ∷ cs) [] = refl
-passes_without p t (c ∷ cs) (true ∷ list) = ap (λ b. (not (t c) && p c) || b) (passes_without p t cs list)
-passes_without p t (c ∷ cs) (false ∷ list) = passes_without p t cs list
+passes_without p t (c ∷ cs) (b ∷ list) = grind (arith, passes_without p t cs list)
 
 pub swap : (a b m n : Bool) → ((a || b) || (m || n)) ≡ ((a || m) || (b || n))
 swap a b m n = grind arith
@@ -39,8 +38,7 @@ swap a b m n = grind arith
 pub passes_or : (p q : Clause → Bool) (cs : List Clause) (list : List Bool) → some_passes (λ c. p c || q c) cs list ≡ (some_passes p cs list || some_passes q cs list)
 passes_or p q [] list = refl
 passes_or p q (c ∷ cs) [] = refl
-passes_or p q (c ∷ cs) (true ∷ list) = ap (λ b. (p c || q c) || b) (passes_or p q cs list) ∙ swap (p c) (q c) (some_passes p cs list) (some_passes q cs list)
-passes_or p q (c ∷ cs) (false ∷ list) = passes_or p q cs list
+passes_or p q (c ∷ cs) (b ∷ list) = grind (arith, passes_or p q cs list)
 
 -- if all clauses of a list pass a test, it may be asked for
 pub passes_full : (t p : Clause → Bool) (cs : List Clause) (list : List Bool) → some_passes (λ c. not (t c)) cs list ≡ false → some_passes (λ c. t c && p c) cs list ≡ some_passes p cs list
@@ -77,7 +75,4 @@ once_front (x ∷ xs) ys e = and_from (not (is_among xs x)) (is_once xs) (ap not
 -- a variable of the first ones is not among the others
 pub once_apart : (xs ys : List ℕ) (u : ℕ) → is_once (xs ++ ys) ≡ true → is_among xs u ≡ true → is_among ys u ≡ false
 once_apart [] ys u e f = absurd (false≢true f)
-once_apart (x ∷ xs) ys u e f = elim (or_cases (x == u) (is_among xs u) f) [
-  | inl same ↦ ap (is_among ys) (sym (eqb-true x u same)) ∙ (first_apart xs ys x e).1
-  | inr later ↦ once_apart xs ys u (and_parts (not (is_among (xs ++ ys) x)) (is_once (xs ++ ys)) e).1 later
-]
+once_apart (x ∷ xs) ys u e f = grind (arith, nat_tests, first_apart xs ys x, once_apart xs ys u)

@@ -71,7 +71,7 @@ left-lists clauses i h = ap (map (left clauses)) (lists_of_bits-more i) ∙ map-
       next bits e = λ j. one bits false e j ∷ one bits true e j ∷ []
 
 none_pass : {X : Type 0} (p : X → Bool) (a b : X) → p a ≡ false → p b ≡ false → filter p (a ∷ b ∷ []) ≡ []
-none_pass p a b e f = (λ i. cond (e i) (a ∷ cond (f i) (b ∷ []) []) (cond (f i) (b ∷ []) []))
+none_pass p a b e f = grind arith
 
 abbrev pub is_alive : List Clause → ℕ → List Bool → Bool
 is_alive clauses i list = not (is_dead clauses i list)
@@ -130,17 +130,14 @@ Known vs i (c ∷ cs) (b ∷ list) = (is_touched vs i c ≡ false → b ≡ true
 known-left : (vs : List ℕ) (bits : List Bool) (cs : List Clause) → some_passes (is_covered vs (length bits)) cs (map (is_left vs bits) cs) ≡ false
     → Known vs (length bits) cs (map (is_left vs bits) cs)
 known-left vs bits [] e = tt
-known-left vs bits (c ∷ cs) e =
-    let parts = or_parts (is_left vs bits c && is_covered vs (length bits) c) (some_passes (is_covered vs (length bits)) cs (map (is_left vs bits) cs)) e in
-    ((λ e. untouched-left vs bits c (λ l m. none-in (λ l. nat_lt (place vs (var_of l)) (length bits)) l c e m)), not_left (is_left vs bits c) (is_covered vs (length bits) c) parts.0, known-left vs bits cs parts.1)
+known-left vs bits (c ∷ cs) e = grind (arith, known-left vs bits cs, untouched-left vs bits c, none-in)
 
 pub known : (clauses : List Clause) (i : ℕ) (list : List Bool) → IsLiving clauses i list → Known (order clauses) i clauses list
 known clauses i list h = grind (arith, known-left)
 
 pub same-known : (vs : List ℕ) (i : ℕ) (cs : List Clause) (ks ls : List Bool) → Known vs i cs ks → Known vs i cs ls
     → bits_of (is_open vs i) cs ks ≡ bits_of (is_open vs i) cs ls → ks ≡ ls
-same-known vs i [] [] [] h k e = refl
-same-known vs i [] [] (y ∷ ls) h k e = absurd k
+same-known vs i [] [] ls h k e = grind arith
 same-known vs i [] (x ∷ ks) ls h k e = absurd h
 same-known vs i (c ∷ cs) [] ls h k e = absurd h
 same-known vs i (c ∷ cs) (x ∷ ks) [] h k e = absurd k

@@ -18,7 +18,7 @@ use Rattle.elimination_forests.proofs.Lasts.{last-size, last-one}
 -- the last of several places
 leads-last : (f : ℕ → Forks) (a n : ℕ) → leads_on (map f (range_with_len a (suc n))) ≡ has_way (f (a + n))
 leads-last f a zero = let e : a ≡ a + 0 = omega arith in ap (λ k. has_way (f k)) e
-leads-last f a (suc n) = let e : a + 1 + n ≡ a + suc n = omega arith in leads-last f (a + 1) n ∙ ap (λ k. has_way (f k)) e
+leads-last f a (suc n) = grind (arith, leads-last f (a + 1) n)
 
 abbrev is_filled : List (List Bool) → Bool
 is_filled lists = list_any (λ list. true) lists

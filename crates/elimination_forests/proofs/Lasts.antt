@@ -3,6 +3,7 @@ use Rattle.std.proofs.Common.{◌≡◌, ℕ, ◌+◌, ◌*◌, ◌/◌, ◌<◌
 use Rattle.std.specs.Prelude.{◌==◌}
 use Rattle.std.specs.List.{list_all, filter}
 use Rattle.std.proofs.lemmas.Bool.{both_ways, false≢true, and_parts, and_from, and_left, and_right, or_parts, or_cases, eqb-true, eq-eqb, not-true}
+use Rattle.std.proofs.lemmas.Bool.Decides.{nat_tests}
 use Rattle.std.proofs.lemmas.List.{length-map}
 use Rattle.state_rules.specs.Bits.{same_bit, lists_of_bits}
 use Rattle.state_rules.specs.Assignments.{Assignment}
@@ -23,8 +24,7 @@ none-left : (t : Clause → Bool) (cs : List Clause) (list : List Bool) → ((c 
 none-left t [] [] all long e = refl
 none-left t [] (b ∷ list) all long e = absurd (omega arith)
 none-left t (c ∷ cs) [] all long e = absurd (omega arith)
-none-left t (c ∷ cs) (true ∷ list) all long e = absurd (both_ways (t c) (or_parts (t c) (some_passes t cs list) e).0 (all c (inl refl)))
-none-left t (c ∷ cs) (false ∷ list) all long e = ap (λ bs. false ∷ bs) (none-left t cs list (λ d m. all d (inr m)) (omega arith) e)
+none-left t (c ∷ cs) (b ∷ list) all long e = grind (arith, all c (inl refl), none-left t cs list (λ d m. all d (inr m)))
 
 one-different : (z : List Bool) (xs : List (List Bool)) → ((x : List Bool) → In x xs → x ≡ z) → length (different xs) ≤ 1
 one-different z [] all = omega arith
@@ -61,10 +61,7 @@ module _ (clauses : List Clause) where
 module _ (a : Assignment) where
   left-gone : (vs : List ℕ) (c : Clause) (v : ℕ) → is_among vs v ≡ true → has_true v (a v) c ≡ true → is_left vs (map a vs) c ≡ false
   left-gone [] c v e f = absurd (false≢true e)
-  left-gone (u ∷ vs) c v e f = elim (or_cases (u == v) (is_among vs v) e) [
-    | inl same ↦ and_left (not (has_true u (a u) c)) (is_left vs (map a vs) c) (ap not (ap (λ w. has_true w (a w) c) (eqb-true u v same) ∙ f))
-    | inr later ↦ and_right (not (has_true u (a u) c)) (is_left vs (map a vs) c) (left-gone vs c v later f)
-  ]
+  left-gone (u ∷ vs) c v e f = grind (arith, nat_tests, left-gone vs c v)
 
   -- one of its literals is true, by its variable's bit
   gone : (vs : List ℕ) (c : Clause) → is_within vs c ≡ true → is_true_clause a c ≡ true → is_left vs (map a vs) c ≡ false
@@ -76,10 +73,7 @@ module _ (a : Assignment) where
 
   alive : (vs : List ℕ) (t : Clause → Bool) (cs : List Clause) → list_all (is_within vs) cs ≡ true → list_all (is_true_clause a) cs ≡ true → some_passes t cs (map (is_left vs (map a vs)) cs) ≡ false
   alive vs t [] e f = refl
-  alive vs t (c ∷ cs) e f =
-      let within = and_parts (is_within vs c) (list_all (is_within vs) cs) e in
-      let holds = and_parts (is_true_clause a c) (list_all (is_true_clause a) cs) f in
-      ap (λ b. (b && t c) || some_passes t cs (map (is_left vs (map a vs)) cs)) (gone vs c within.0 holds.0) ∙ alive vs t cs within.1 holds.1
+  alive vs t (c ∷ cs) e f = grind (arith, gone vs c, alive vs t cs)
 
 some-there : (x : List Bool) (xs : List (List Bool)) → In x xs → 0 < length xs
 some-there x [] m = absurd m

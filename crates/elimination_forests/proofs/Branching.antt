@@ -1,17 +1,15 @@
 -- Steps from one level to the next, and lists of one state: what the laws and the sum stand on.
-use Rattle.std.proofs.Common.{min, ◌-◌, ◌≡◌, ℕ, zero, suc, ◌+◌, ◌*◌, ◌<◌, ◌≤◌, Bool, true, false, not, ◌&&◌, cond, List, [], ◌∷◌, ◌++◌, map, length, take, drop, get_or, refl, ap, sym, ◌∙◌, subst, arith, add-one}
-use Rattle.std.specs.Prelude.{nat_lt}
+use Rattle.std.proofs.Common.{min, ◌-◌, ◌≡◌, ℕ, zero, suc, ◌+◌, ◌*◌, ◌<◌, ◌≤◌, Bool, true, false, not, ◌&&◌, List, [], ◌∷◌, ◌++◌, map, length, take, drop, get_or, refl, ap, sym, ◌∙◌, subst, arith, add-one}
 use Rattle.std.specs.List.{filter, flat_map}
-use Rattle.std.proofs.Math.Bool.{and-true}
-use Rattle.std.proofs.lemmas.Bool.{or_parts, and_from, not_from_true, not-true, not-false}
+use Rattle.std.proofs.lemmas.Bool.{not-true}
 use Rattle.std.proofs.lemmas.List.Folds.{flat_map-map}
 use Rattle.std.proofs.lemmas.List.{take-append-drop, length-take, length-drop, length-append, nil_from_length}
 use Rattle.state_rules.specs.Bits.{row_number, lists_of_bits}
-use Rattle.state_rules.proofs.Bits.{not_left, pointwise-equal}
+use Rattle.state_rules.proofs.Bits.{pointwise-equal}
 use Rattle.state_rules.proofs.Lists.{map-flat_map}
 use Rattle.state_rules.proofs.Members.{In, In-map, In-filter, In-filtered, from_map, bits_in, bits_length}
-use Rattle.clause_encoder.specs.Clauses.{Clause, var_of}
-use Rattle.elimination_forests.specs.Branches.{order, place, has_true, is_left, left, is_touched, is_covered, is_open, some_passes, is_dead, same_list, different, living, size, bits_of, words_of, state_of, without, branch, IsLiving}
+use Rattle.clause_encoder.specs.Clauses.{Clause}
+use Rattle.elimination_forests.specs.Branches.{order, has_true, is_left, left, is_touched, is_covered, is_open, some_passes, is_dead, same_list, different, living, size, bits_of, words_of, state_of, without, branch, IsLiving}
 use Rattle.elimination_forests.proofs.Lists.{longer, lists_of_bits-more, flat_map_same, filter-flat_map, flat_map-filter, none-in, In-met, met-In, different-flat_map}
 use Rattle.elimination_forests.proofs.Places.{AllOnce, first_met-once, untouched-left, covered-without, covered-more}
 use Rattle.elimination_forests.proofs.Passing.{passes_by, passes_without}
@@ -31,7 +29,7 @@ no_bits (v ∷ vs) c = refl
 pub is_left-more : (vs : List ℕ) (bits : List Bool) (bit : Bool) (c : Clause) → length bits < length vs
     → is_left vs (bits ++ bit ∷ []) c ≡ (is_left vs bits c && not (has_true (get_or vs (length bits) 0) bit c))
 is_left-more [] bits bit c h = absurd (omega arith)
-is_left-more (v ∷ vs) [] bit c h = ap (λ t. not (has_true v bit c) && t) (no_bits vs c) ∙ and-true (not (has_true v bit c))
+is_left-more (v ∷ vs) [] bit c h = grind (arith, no_bits vs c)
 is_left-more (v ∷ vs) (b ∷ bits) bit c h = grind (arith, is_left-more vs bits bit c (omega arith))
 
 without-map : (f g test : Clause → Bool) → ((c : Clause) → f c ≡ (g c && not (test c))) → (cs : List Clause) → map f cs ≡ without test cs (map g cs)
@@ -48,10 +46,7 @@ order-once clauses = first_met-once _
 
 -- What a bit leaves of a dead list is dead.
 pub dead-next : (clauses : List Clause) (i : ℕ) (list : List Bool) (bit : Bool) → i < length (order clauses) → is_dead clauses i list ≡ true → is_dead clauses (i + 1) (branch clauses i list bit) ≡ true
-dead-next clauses i list bit h e = passes_without (is_covered (order clauses) (i + 1)) (has_true (get_or (order clauses) i 0) bit) clauses list
-    ∙ passes_by (is_covered (order clauses) i) (λ c. not (has_true (get_or (order clauses) i 0) bit c) && is_covered (order clauses) (i + 1) c)
-    (λ c covered. and_from (not (has_true (get_or (order clauses) i 0) bit c)) (is_covered (order clauses) (i + 1) c)
-    (ap not (covered-without (order clauses) i bit c (order-once clauses) h covered)) (covered-more (order clauses) i c covered)) clauses list e
+dead-next clauses i list bit h e = grind (arith, passes_without, passes_by (is_covered (order clauses) i), covered-without (order clauses) i bit, covered-more (order clauses) i, order-once clauses)
 
 -- ---- the living lists of the next level
 
@@ -64,11 +59,8 @@ left-lists : (clauses : List Clause) (i : ℕ) → i < length (order clauses)
 left-lists clauses i h = ap (map (left clauses)) (lists_of_bits-more i) ∙ map-flat_map (left clauses) longer (lists_of_bits i)
     ∙ flat_map_same (λ bits. map (left clauses) (longer bits)) (λ bits. both clauses i (left clauses bits)) (lists_of_bits i) (λ bits m. next bits (bits_length i bits m))
     ∙ sym (flat_map-map (both clauses i) (left clauses) (lists_of_bits i)) where
-      one : (bits : List Bool) (bit : Bool) → length bits ≡ i → left clauses (bits ++ bit ∷ []) ≡ branch clauses i (left clauses bits) bit
-      one bits bit e = left-next clauses bits bit (omega arith) ∙ ap (λ n. branch clauses n (left clauses bits) bit) e
-
       next : (bits : List Bool) → length bits ≡ i → map (left clauses) (longer bits) ≡ both clauses i (left clauses bits)
-      next bits e = λ j. one bits false e j ∷ one bits true e j ∷ []
+      next bits e = grind (arith, left-next clauses bits)
 
 none_pass : {X : Type 0} (p : X → Bool) (a b : X) → p a ≡ false → p b ≡ false → filter p (a ∷ b ∷ []) ≡ []
 none_pass p a b e f = grind arith
@@ -85,13 +77,8 @@ living_lists-next clauses i h =
     ∙ ap different (filter-flat_map (is_alive clauses (i + 1)) (both clauses i) lists
     ∙ sym (flat_map-filter (is_alive clauses i) (branches clauses i) dead lists))
     ∙ sym (different-flat_map (branches clauses i) (filter (is_alive clauses i) lists)) where
-      gone : (list : List Bool) (bit : Bool) → is_dead clauses i list ≡ true → is_alive clauses (i + 1) (branch clauses i list bit) ≡ false
-      gone list bit e = not_from_true (is_dead clauses (i + 1) (branch clauses i list bit)) (dead-next clauses i list bit h e)
-
       dead : (list : List Bool) → is_alive clauses i list ≡ false → branches clauses i list ≡ []
-      dead list e =
-          let d = not-false (is_dead clauses i list) e in
-          none_pass (is_alive clauses (i + 1)) (branch clauses i list false) (branch clauses i list true) (gone list false d) (gone list true d)
+      dead list e = grind (arith, dead-next clauses i list)
 
 -- What is among the living lists of a level is a living list of it.
 pub living_are_living : (clauses : List Clause) (i : ℕ) (list : List Bool) → In list (living clauses i) → IsLiving clauses i list

@@ -1,8 +1,8 @@
 -- Lists of which each is kept once.
-use Rattle.std.proofs.Common.{◌≡◌, ℕ, zero, suc, inl, inr, Bool, true, false, not, ◌&&◌, ◌||◌, cond, List, [], ◌∷◌, ◌++◌, map, refl, ap, sym, ◌∙◌, subst, arith}
+use Rattle.std.proofs.Common.{◌≡◌, ℕ, zero, suc, inl, inr, Bool, true, false, not, ◌&&◌, ◌||◌, List, [], ◌∷◌, ◌++◌, map, refl, ap, sym, ◌∙◌, subst, arith}
 use Rattle.std.specs.List.{list_any, list_all, filter, flat_map, AllByRecursion}
 use Rattle.std.proofs.Math.Bool.{and_comm, and_self}
-use Rattle.std.proofs.lemmas.Bool.{both_ways, cases_Bool, and_parts, and_from, not-true, not_from_false, false_from_ne_true}
+use Rattle.std.proofs.lemmas.Bool.{both_ways, and_parts, and_from, not-true, false_from_ne_true}
 use Rattle.std.proofs.lemmas.Bool.Decides.{same_from_decides}
 use Rattle.std.proofs.lemmas.List.Concat.{flat_map-append}
 use Rattle.std.proofs.lemmas.List.Folds.{flat_map-map}
@@ -78,10 +78,7 @@ module _ {X : Type 0} (same : X → X → Bool) (exact : (x y : X) → same x y 
   pub In-met : (x : X) (xs : List X) → In x xs → In x (first_met same xs)
   In-met x [] m = absurd m
   In-met x (y ∷ xs) (inl e) = inl e
-  In-met x (y ∷ xs) (inr m) = elim (cases_Bool (same y x)) [
-    | inl e ↦ inl (sym (exact y x e))
-    | inr e ↦ inr (In-filtered (λ z. not (same y z)) x (first_met same xs) (In-met x xs m) (not_from_false (same y x) e))
-  ]
+  In-met x (y ∷ xs) (inr m) = grind (arith, exact y x, In-filtered (λ z. not (same y z)) x (first_met same xs), In-met x xs m)
 
   pub met-In : (x : X) (xs : List X) → In x (first_met same xs) → In x xs
   met-In x [] m = m
@@ -131,9 +128,7 @@ absorbed f x (y ∷ ds) = grind (arith, absorbed f x ds, seen_first, seen_again,
 -- What the different lists give is what all give.
 pub different-flat_map : (f : List Bool → List (List Bool)) (xs : List (List Bool)) → different (flat_map f (different xs)) ≡ different (flat_map f xs)
 different-flat_map f [] = refl
-different-flat_map f (x ∷ xs) = different-append (f x) (flat_map f (filter (λ list. not (same_list x list)) (different xs)))
-    ∙ ap (λ ls. different (f x) ++ ls) (absorbed f x (different xs) ∙ ap (apart (f x)) (different-flat_map f xs))
-    ∙ sym (different-append (f x) (flat_map f xs))
+different-flat_map f (x ∷ xs) = grind (arith, different-append, absorbed f x, different-flat_map f xs)
 
 pub each-different : (P : List Bool → Type 0) (lists : List (List Bool)) → AllByRecursion P lists → AllByRecursion P (different lists)
 each-different P [] all = tt

@@ -17,16 +17,13 @@ use Rattle.dnnf_compiler.specs.inner.Making.{IsMaker, IsJoin}
 use Rattle.dnnf_compiler.proofs.Making.{kept_in, adds_store, get-push}
 use Rattle.dnnf_compiler.proofs.Growing.{grows_by}
 
-in_all : (P : ℕ → Type 0) (ks : List ℕ) (c : ℕ) → Contains ks c → All P ks → P c
+pub in_all : (P : ℕ → Type 0) (ks : List ℕ) (c : ℕ) → Contains ks c → All P ks → P c
 in_all P ks c (j, h, e) all = subst P e (all j c h)
 
 -- ---- what mentions a variable is none
 
 filled : (x : ℕ) (ks : List ℕ) → (length (x ∷ ks) == 0) ≡ false
-filled x ks = by (length (x ∷ ks) == 0) refl where
-  by : (b : Bool) → (length (x ∷ ks) == 0) ≡ b → (length (x ∷ ks) == 0) ≡ false
-  by false e = e
-  by true e = absurd (let none = eqb-true (length (x ∷ ks)) 0 e in omega (arith, none))
+filled x ks = grind arith
 
 silent : (nodes : List Node) (v : ℕ) (what : NodeKind) (ks : List ℕ) → is_bare what ks ≡ true → mention_by v what (map (mentions nodes v) ks) ≡ false
 silent nodes v (Literal positive var) ks e = absurd (let never : ⊥ = cc in never)
@@ -49,8 +46,7 @@ named_all vars nodes v None are named = tt
 named_all vars nodes v (Some n) are named = named_plain vars nodes n v are named
 
 pub names_grow : (old new : List Node) (v : ℕ) (o : Option ℕ) → Grows old new → IfSome o (λ n. n < length old) → IfSome o (λ n. mentions old v n ≡ true) → IfSome o (λ n. mentions new v n ≡ true)
-names_grow old new v None g h named = tt
-names_grow old new v (Some n) g h named = g.variables n v h ∙ named
+names_grow old new v o g h named = grind arith
 
 -- any node but the two that are kept is none
 pub other_plain : (m : Maker) → IsMaker m → (k : ℕ) → k ≢ m.yes → k ≢ m.no → IsPlain m.store.nodes k
@@ -82,9 +78,7 @@ bare_push vars old new node are (inr e) none plain = subst HasNoBareKid (sym e) 
       none parent child n kid there has (earlier child kid (omega (arith, low, slice_get_within old parent n there)) kid_there)
 
 pub two_plain : (P : ℕ → Type 0) (a b : ℕ) → P a → P b → (k : ℕ) → Contains (a ∷ b ∷ []) k → P k
-two_plain P a b p q k (zero, h, e) = subst P e p
-two_plain P a b p q k (suc zero, h, e) = subst P e q
-two_plain P a b p q k (suc (suc i), h, e) = absurd (omega (arith, h))
+two_plain P a b p q k has = grind arith
 
 -- ---- at the beginning no node has a child
 
@@ -92,10 +86,7 @@ abbrev HaveNoKids : List Node → Type 0
 HaveNoKids nodes = (i : ℕ) (n : Node) → slice_get nodes i ≡ Some n → n.kids ≡ []
 
 one_kidless : (nodes : List Node) (node : Node) → HaveNoKids nodes → node.kids ≡ [] → HaveNoKids (nodes ++ node ∷ [])
-one_kidless nodes node none e i n there = elim (get-push nodes node n i there) [
-  | inl last ↦ ap (λ (x : Node). x.kids) (sym last.1) ∙ e
-  | inr is ↦ none i n is
-]
+one_kidless nodes node none e i n there = grind (arith, get-push)
 
 two_kidless : (nodes : List Node) (a b : Node) → HaveNoKids nodes → a.kids ≡ [] → b.kids ≡ [] → HaveNoKids (nodes ++ (a ∷ b ∷ []))
 two_kidless nodes a b none e f = subst HaveNoKids (append_assoc nodes (a ∷ []) (b ∷ [])) (one_kidless (nodes ++ a ∷ []) b (one_kidless nodes a none e) f)

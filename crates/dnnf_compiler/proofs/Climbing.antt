@@ -1,21 +1,20 @@
 -- The way up along a forest: the last step first.
-use Rattle.std.proofs.Common.{Bool, ◌≡◌, ℕ, zero, suc, ◌+◌, ◌-◌, ◌*◌, ◌<◌, ◌≤◌, true, false, cond, not, List, [], ◌∷◌, ◌++◌, map, length, replicate, Option, Some, None, refl, ap, sym, ◌∙◌, subst, arith, length-append}
+use Rattle.std.proofs.Common.{Bool, ◌≡◌, ℕ, zero, suc, ◌+◌, ◌-◌, ◌*◌, ◌<◌, ◌≤◌, true, false, cond, not, List, [], ◌∷◌, ◌++◌, map, length, drop, get_or, replicate, Option, Some, None, refl, ap, sym, ◌∙◌, subst, arith, add-one, inl, length-append}
 use Rattle.std.specs.Prelude.{slice_get, reverse, Vec}
 use Rattle.std.specs.declared.alloc.Global.{Global}
 use Rattle.std.specs.List.{flat_map, list_all, AllByRecursion}
-use Rattle.std.proofs.lemmas.Bool.{or_left}
 use Rattle.std.proofs.lemmas.Nat.{mul-le}
-use Rattle.std.proofs.lemmas.List.{append-nil, length-reverse, reverse-append}
+use Rattle.std.proofs.lemmas.List.{append-nil, drop_more, drop-drop, length-drop, length-reverse, reverse-append}
+use Rattle.std.proofs.lemmas.List.Elements.{All-from_recursion}
+use Rattle.std.proofs.lemmas.Option.{slice_get-get_or}
 use Rattle.std.proofs.lemmas.List.Concat.{flat_map-append}
 use Rattle.state_rules.specs.Graphs.{IsGraph, is_true}
 use Rattle.state_rules.proofs.Bits.{pointwise-refl}
 use Rattle.state_rules.proofs.Lists.{AllByRecursion-append}
+use Rattle.state_rules.proofs.Members.{In}
 use Rattle.node_store.specs.Stores.{IsFrozen}
-use Rattle.node_store.specs.declared.store.TheConstants.{MADE_LIMIT}
 use Rattle.clause_encoder.specs.Clauses.{ClauseList, is_clause_list}
-use Rattle.elimination_forests.specs.Branches.{same_list}
 use Rattle.branch_states.specs.declared.measuring.TheConstants.{BUDGET_LIMIT}
-use Rattle.elimination_forests.proofs.Lists.{is_among as is_listed}
 use Rattle.elimination_forests.proofs.Ordering.{clauses-valid}
 use Rattle.elimination_forests.specs.declared.forks.Forks.{Forks}
 use Rattle.elimination_forests.specs.declared.steps.Step.{Step}
@@ -25,47 +24,11 @@ use Rattle.dnnf_compiler.specs.Along.{IsWay, IsCompiledAlong}
 use Rattle.dnnf_compiler.specs.declared.compiling.Compiled.{Compiled}
 use Rattle.dnnf_compiler.specs.declared.maker.Maker.{Maker}
 use Rattle.dnnf_compiler.specs.inner.Making.{IsMaker}
-use Rattle.dnnf_compiler.specs.inner.Meeting.{AreApart, IsMeet, taken, AreHeld}
+use Rattle.dnnf_compiler.specs.inner.Meeting.{AreApart, AreMeetable, IsMeet, taken, AreHeld}
 use Rattle.dnnf_compiler.specs.inner.Placing.{Spot, spots_on, spots_below, IsSpot, AreLevels, IsReady, IsRaised}
-use Rattle.dnnf_compiler.proofs.Placing.{full_holds, down_full, each_spot, below_base, root_holds, root_down, root_base}
+use Rattle.dnnf_compiler.proofs.Placing.{down_holds, each_spot, below_base, root_holds, root_down, root_base}
 use Rattle.dnnf_compiler.proofs.Stacking.{AreBegun, begun, length-levels, length-spots, trees_few}
 use Rattle.dnnf_compiler.proofs.Taking.{length-taken}
-
--- ---- the items of a list from one on
-
-abbrev pub tail : {X : Type 0} → List X → List X
-tail [] = []
-tail (x ∷ xs) = xs
-
-abbrev pub first : {X : Type 0} → List X → Option X
-first [] = None
-first (x ∷ xs) = Some x
-
-abbrev pub after : {X : Type 0} → ℕ → List X → List X
-after zero xs = xs
-after (suc i) xs = tail (after i xs)
-
-after-nil : {X : Type 0} (i : ℕ) → ◌≡◌ {A = List X} (after i []) []
-after-nil zero = refl
-after-nil (suc i) = ap tail (after-nil i)
-
-tail-after : {X : Type 0} (i : ℕ) (x : X) (xs : List X) → tail (after i (x ∷ xs)) ≡ after i xs
-tail-after zero x xs = refl
-tail-after (suc i) x xs = ap tail (tail-after i x xs)
-
-pub after-get : {X : Type 0} (i : ℕ) (xs : List X) → slice_get xs i ≡ first (after i xs)
-after-get zero [] = refl
-after-get zero (x ∷ xs) = refl
-after-get (suc i) [] = sym (ap (λ ys. first (tail ys)) (after-nil i))
-after-get (suc i) (x ∷ xs) = after-get i xs ∙ ap first (sym (tail-after i x xs))
-
-length-tail : {X : Type 0} (xs : List X) → length (tail xs) ≡ length xs - 1
-length-tail [] = omega arith
-length-tail (x ∷ xs) = omega arith
-
-pub length-after : {X : Type 0} (i : ℕ) (xs : List X) → length (after i xs) ≡ length xs - i
-length-after zero xs = omega arith
-length-after (suc i) xs = omega (arith, length-tail (after i xs), length-after i xs)
 
 -- ---- the places whose nodes are made when the steps from one on are done
 
@@ -96,18 +59,17 @@ steps_on (tree v below beside) base = ap (λ xs. (record { var = v; trees = tree
 
 forks_along : (forest : Forest) (base : Place) → flat_map its_forks (spots_on forest base) ≡ forks_on forest base
 forks_along none base = refl
-forks_along (tree v below beside) base =
-    ap (λ xs. forks_at v below (part (v ∷ variables below) base) ∷ (forks_on below (decided v (part (v ∷ variables below) base)) ++ xs)) (forks_along beside base)
+forks_along (tree v below beside) base = grind (arith, forks_along beside base)
 
 sum_along : (forest : Forest) (base : Place) → all_sum (spots_on forest base) ≡ sum_on Lists forest base
 sum_along none base = refl
 sum_along (tree v below beside) base = omega (arith, sum_along beside base)
 
-steps_advance : (spots : List Spot) → flat_map its_steps (advance spots) ≡ tail (flat_map its_steps spots)
+steps_advance : (spots : List Spot) → flat_map its_steps (advance spots) ≡ drop 1 (flat_map its_steps spots)
 steps_advance [] = refl
 steps_advance (s ∷ spots) = flat_map-append its_steps (spots_below s) spots ∙ ap (λ xs. xs ++ flat_map its_steps spots) (steps_on s.below (decided s.v s.place))
 
-forks_advance : (spots : List Spot) → flat_map its_forks (advance spots) ≡ tail (flat_map its_forks spots)
+forks_advance : (spots : List Spot) → flat_map its_forks (advance spots) ≡ drop 1 (flat_map its_forks spots)
 forks_advance [] = refl
 forks_advance (s ∷ spots) = flat_map-append its_forks (spots_below s) spots ∙ ap (λ xs. xs ++ flat_map its_forks spots) (forks_along s.below (decided s.v s.place))
 
@@ -122,29 +84,6 @@ sum_advance : (spots : List Spot) → all_sum (advance spots) ≤ all_sum spots
 sum_advance [] = omega arith
 sum_advance (s ∷ rest) = omega (arith, sum_next s rest)
 
-module _ (first_spots : List Spot) where
-  steps_after : (i : ℕ) → flat_map its_steps (spots_at first_spots i) ≡ after i (flat_map its_steps first_spots)
-  steps_after zero = refl
-  steps_after (suc i) = steps_advance (spots_at first_spots i) ∙ ap tail (steps_after i)
-
-  forks_after : (i : ℕ) → flat_map its_forks (spots_at first_spots i) ≡ after i (flat_map its_forks first_spots)
-  forks_after zero = refl
-  forks_after (suc i) = forks_advance (spots_at first_spots i) ∙ ap tail (forks_after i)
-
-  sum_within : (i : ℕ) → all_sum (spots_at first_spots i) ≤ all_sum first_spots
-  sum_within zero = omega arith
-  sum_within (suc i) = omega (arith, sum_advance (spots_at first_spots i), sum_within i)
-
-each_advance : (vars : ℕ) (spots : List Spot) → AllByRecursion (IsSpot vars) spots → AllByRecursion (IsSpot vars) (advance spots)
-each_advance vars [] are = tt
-each_advance vars (s ∷ spots) are = AllByRecursion-append (IsSpot vars) (spots_below s) spots (each_spot vars s.below (decided s.v s.place) (below_base vars s are.0)) are.1
-
-each_at : (vars : ℕ) (spots : List Spot) (i : ℕ) → AllByRecursion (IsSpot vars) spots → AllByRecursion (IsSpot vars) (spots_at spots i)
-each_at vars spots zero are = are
-each_at vars spots (suc i) are = each_advance vars (spots_at spots i) (each_at vars spots i are)
-
--- ---- how wide it is
-
 trees_within : (forest : Forest) → trees forest ≤ width forest
 trees_within none = omega arith
 trees_within (tree v below beside) = omega arith
@@ -153,12 +92,32 @@ narrow_on : (k : ℕ) (forest : Forest) (base : Place) → width forest ≤ k �
 narrow_on k none base h = tt
 narrow_on k (tree v below beside) base h = (omega arith, narrow_on k beside base (omega arith))
 
-narrow_at : (k : ℕ) (spots : List Spot) (i : ℕ) → AllByRecursion (λ (s : Spot). width s.below ≤ k) spots → AllByRecursion (λ (s : Spot). width s.below ≤ k) (spots_at spots i)
-narrow_at k spots zero are = are
-narrow_at k spots (suc i) are = by (spots_at spots i) (narrow_at k spots i are) where
-  by : (spots : List Spot) → AllByRecursion (λ (s : Spot). width s.below ≤ k) spots → AllByRecursion (λ (s : Spot). width s.below ≤ k) (advance spots)
-  by [] are = tt
-  by (s ∷ spots) are = AllByRecursion-append (λ (s : Spot). width s.below ≤ k) (spots_below s) spots (narrow_on k s.below (decided s.v s.place) are.0) are.1
+each_advance : (P : Spot → Type 0) → ((s : Spot) → P s → AllByRecursion P (spots_below s)) → (spots : List Spot) → AllByRecursion P spots → AllByRecursion P (advance spots)
+each_advance P h [] are = tt
+each_advance P h (s ∷ spots) are = AllByRecursion-append P (spots_below s) spots (h s are.0) are.1
+
+-- what is known of the places when so many steps are left out
+record IsAfter (vars most sum i : ℕ) (steps : List Step) (forks : List Forks) (spots : List Spot) : Type 0 where
+  steps_are : flat_map its_steps spots ≡ drop i steps
+  forks_are : flat_map its_forks spots ≡ drop i forks
+  few : all_sum spots ≤ sum
+  each : AllByRecursion (IsSpot vars) spots
+  narrow : AllByRecursion (λ (s : Spot). width s.below ≤ most) spots
+
+drop_next : {X : Type 0} (i : ℕ) (xs : List X) → drop 1 (drop i xs) ≡ drop (suc i) xs
+drop_next i xs = drop-drop 1 i xs ∙ ap (λ n. drop n xs) (add-one i)
+
+all_after : (vars most sum i : ℕ) (steps : List Step) (forks : List Forks) (spots : List Spot) → IsAfter vars most sum 0 steps forks spots → IsAfter vars most sum i steps forks (spots_at spots i)
+all_after vars most sum zero steps forks spots is = is
+all_after vars most sum (suc i) steps forks spots is =
+    let so_far = all_after vars most sum i steps forks spots is in
+    record {
+      steps_are = steps_advance (spots_at spots i) ∙ ap (drop 1) so_far.steps_are ∙ drop_next i steps;
+      forks_are = forks_advance (spots_at spots i) ∙ ap (drop 1) so_far.forks_are ∙ drop_next i forks;
+      few = omega (arith, sum_advance (spots_at spots i), so_far.few);
+      each = each_advance (IsSpot vars) (λ s one. each_spot vars s.below (decided s.v s.place) (below_base vars s one)) (spots_at spots i) so_far.each;
+      narrow = each_advance (λ s. width s.below ≤ most) (λ s low. narrow_on most s.below (decided s.v s.place) low) (spots_at spots i) so_far.narrow;
+    }
 
 -- ---- the place of a step, and those that are after it
 
@@ -167,23 +126,11 @@ pub record IsNext (first_spots : List Spot) (i : ℕ) : Type 0 where
   pub rest : List Spot
   pub are : spots_at first_spots i ≡ spot ∷ rest
 
-next_at : (first_spots : List Spot) (i : ℕ) → i < length (flat_map its_steps first_spots) → IsNext first_spots i
-next_at first_spots i h = by (spots_at first_spots i) refl where
-  by : (spots : List Spot) → spots_at first_spots i ≡ spots → IsNext first_spots i
-  by [] e = absurd (omega (arith, h, ap length (sym (ap (flat_map its_steps) e) ∙ steps_after first_spots i), length-after i (flat_map its_steps first_spots)))
-  by (spot ∷ rest) e = record { spot = spot; rest = rest; are = e }
-
-none_at : (first_spots : List Spot) (i : ℕ) → i ≡ length (flat_map its_steps first_spots) → spots_at first_spots i ≡ []
-none_at first_spots i h = by (spots_at first_spots i) refl where
-  by : (spots : List Spot) → spots_at first_spots i ≡ spots → spots_at first_spots i ≡ []
-  by [] e = e
-  by (spot ∷ rest) e = absurd (omega (arith, h, ap length (sym (ap (flat_map its_steps) e) ∙ steps_after first_spots i), length-after i (flat_map its_steps first_spots)))
-
-step_here : (first_spots : List Spot) (i : ℕ) (next : IsNext first_spots i) → slice_get (flat_map its_steps first_spots) i ≡ Some (its_step next.spot)
-step_here first_spots i next = after-get i (flat_map its_steps first_spots) ∙ ap first (sym (steps_after first_spots i) ∙ ap (flat_map its_steps) next.are)
-
-forks_here : (first_spots : List Spot) (i : ℕ) (next : IsNext first_spots i) → slice_get (flat_map its_forks first_spots) i ≡ Some (forks_at next.spot.v next.spot.below next.spot.place)
-forks_here first_spots i next = after-get i (flat_map its_forks first_spots) ∙ ap first (sym (forks_after first_spots i) ∙ ap (flat_map its_forks) next.are)
+head_at : {X : Type 0} (i : ℕ) (x : X) (xs ys : List X) → x ∷ ys ≡ drop i xs → slice_get xs i ≡ Some x
+head_at i x xs ys e =
+    let low : i < length xs = omega (arith, ap length e, length-drop i xs) in
+    let more = drop_more xs i x low in
+    slice_get-get_or xs i x low ∙ ap Some (let same : get_or xs i x ≡ x = cc in same)
 
 forks_many : (forest : Forest) (base : Place) → length (forks_on forest base) ≡ length (steps_of forest)
 forks_many none base = refl
@@ -210,67 +157,69 @@ pub record IsClimbing (cnf : ClauseList) (most : ℕ) (m : Maker) (stack : List 
 
 -- The nodes at the base of all may be met, and the graph of what they meet in is right.
 pub record IsRoot (cnf : ClauseList) (forest : Forest) (m : Maker) (kids : List ℕ) : Type 0 where
-  pub within : AllByRecursion (λ k. k < length m.store.nodes) kids
-  pub apart : AreApart m.store.nodes kids
-  pub few : length kids ≤ BUDGET_LIMIT + 1
-  pub room : m.store.made < MADE_LIMIT
+  pub meetable : AreMeetable m kids
   pub right : (new : Maker) (node : ℕ) (compiled : Compiled) → IsMeet m new kids node → IsGraph compiled.graph → IsFrozen new.store node compiled.graph → compiled.made ≡ new.store.made
       → IsCompiledAlong forest cnf compiled
 
 -- the children of a place's nodes
 kids_few : (old new k most lists below all : ℕ) → new ≤ old + (4 + 2 * k) * lists → k ≤ most → old ≤ (4 + 2 * most) * below → lists + below ≡ all → new ≤ (4 + 2 * most) * all
-kids_few old new k most lists below all h low so_far e =
-    let bound : 4 + 2 * k ≤ 4 + 2 * most = omega arith in
-    let sum : (4 + 2 * most) * (lists + below) ≡ (4 + 2 * most) * lists + (4 + 2 * most) * below = omega arith in
-    omega (arith, mul-le (4 + 2 * k) lists (4 + 2 * most) lists bound (omega arith), sum, ap (λ n. (4 + 2 * most) * n) e)
+kids_few old new k most lists below all h low so_far e = grind arith
 
 module _ (cnf : ClauseList) (steps : List Step) (forks : List Forks) (forest : Forest) (is : IsWay cnf steps forks forest) where
   pub forks_long : length forks ≡ length steps
   forks_long = ap length is.forks_are ∙ forks_many forest (root cnf.clauses) ∙ sym (ap length is.steps_are)
 
-  steps_here : steps ≡ flat_map its_steps (spots_on forest (root cnf.clauses))
-  steps_here = is.steps_are ∙ sym (steps_on forest (root cnf.clauses))
-
-  pub next_way : (i : ℕ) → i < length steps → IsNext (start cnf forest) i
-  next_way i h = next_at (start cnf forest) i (omega (arith, ap length steps_here))
-
-  pub climb_first : (i : ℕ) (m : Maker) (stack : List (Vec ℕ Global)) → i ≡ length steps → IsMaker m → m.store.vars ≡ cnf.vars → m.store.made ≡ 2 → m.store.handed ≡ 0 → stack ≡ []
-      → IsClimbing cnf (width forest) m stack (spots_at (start cnf forest) i)
-  climb_first i m stack e made vars two no_kid empty = subst (IsClimbing cnf (width forest) m stack) (sym (none_at (start cnf forest) i (e ∙ ap length steps_here))) (record {
-    maker = made;
-    vars = vars;
-    stacked = subst (λ s. AreLevels m.store.nodes [] (reverse s)) (sym empty) tt;
-    made = omega (arith, two);
-    handed = omega (arith, no_kid);
-  })
-
   bounded : sum_on Lists forest (root cnf.clauses) ≤ BUDGET_LIMIT
   bounded = is.few
 
+  its_after : is_clause_list cnf ≡ true → (i : ℕ) → IsAfter cnf.vars (width forest) BUDGET_LIMIT i steps forks (spots_at (start cnf forest) i)
+  its_after valid i = all_after cnf.vars (width forest) BUDGET_LIMIT i steps forks (start cnf forest) (record {
+    steps_are = steps_on forest (root cnf.clauses) ∙ sym is.steps_are;
+    forks_are = forks_along forest (root cnf.clauses) ∙ sym is.forks_are;
+    few = omega (arith, sum_along forest (root cnf.clauses), bounded);
+    each = each_spot cnf.vars forest (root cnf.clauses) (root_base cnf forest is.forest_is (clauses-valid cnf valid).2);
+    narrow = narrow_on (width forest) forest (root cnf.clauses) (omega arith);
+  })
+
+  pub next_way : is_clause_list cnf ≡ true → (i : ℕ) → i < length steps → IsNext (start cnf forest) i
+  next_way valid i h = by (spots_at (start cnf forest) i) refl where
+    by : (spots : List Spot) → spots_at (start cnf forest) i ≡ spots → IsNext (start cnf forest) i
+    by [] e = absurd (omega (arith, h, ap length (sym (ap (flat_map its_steps) e) ∙ (its_after valid i).steps_are), length-drop i steps))
+    by (spot ∷ rest) e = record { spot = spot; rest = rest; are = e }
+
+  pub climb_first : is_clause_list cnf ≡ true → (i : ℕ) (m : Maker) (stack : List (Vec ℕ Global)) → i ≡ length steps → IsMaker m → m.store.vars ≡ cnf.vars → m.store.made ≡ 2 → m.store.handed ≡ 0 → stack ≡ []
+      → IsClimbing cnf (width forest) m stack (spots_at (start cnf forest) i)
+  climb_first valid i m stack e made vars two no_kid empty = by (spots_at (start cnf forest) i) (ap length (its_after valid i).steps_are) where
+    by : (spots : List Spot) → length (flat_map its_steps spots) ≡ length (drop i steps) → IsClimbing cnf (width forest) m stack spots
+    by [] same = record {
+      maker = made;
+      vars = vars;
+      stacked = subst (λ s. AreLevels m.store.nodes [] (reverse s)) (sym empty) tt;
+      made = omega (arith, two);
+      handed = omega (arith, no_kid);
+    }
+    by (spot ∷ rest) same = absurd (omega (arith, e, same, length-drop i steps))
+
   module _ (valid : is_clause_list cnf ≡ true) (i : ℕ) (m : Maker) (stack : List (Vec ℕ Global)) (next : IsNext (start cnf forest) i) (climbing : IsClimbing cnf (width forest) m stack (spots_at (start cnf forest) (suc i))) where
-    its_spot : IsSpot m.store.vars next.spot
-    its_spot = subst (λ n. IsSpot n next.spot) (sym climbing.vars) (subst (AllByRecursion (IsSpot cnf.vars)) next.are
-        (each_at cnf.vars (start cnf forest) i (each_spot cnf.vars forest (root cnf.clauses) (root_base cnf forest is.forest_is (clauses-valid cnf valid).2)))).0
+    known : IsAfter cnf.vars (width forest) BUDGET_LIMIT i steps forks (next.spot ∷ next.rest)
+    known = subst (IsAfter cnf.vars (width forest) BUDGET_LIMIT i steps forks) next.are (its_after valid i)
 
     climbed : IsClimbing cnf (width forest) m stack (spots_below next.spot ++ next.rest)
     climbed = subst (λ spots. IsClimbing cnf (width forest) m stack (advance spots)) next.are climbing
 
-    here : all_sum (next.spot ∷ next.rest) ≤ BUDGET_LIMIT
-    here = omega (arith, ap all_sum next.are, sum_within (start cnf forest) i, sum_along forest (root cnf.clauses), bounded)
-
     pub climb_ready : (step : Step) (fork : Forks) → slice_get steps i ≡ Some step → slice_get forks i ≡ Some fork → IsReady m step fork stack next.spot next.rest
     climb_ready step fork step_there forks_there =
-        let same_step : Some step ≡ Some (its_step next.spot) = sym step_there ∙ ap (λ ss. slice_get ss i) steps_here ∙ step_here (start cnf forest) i next in
+        let same_step : Some step ≡ Some (its_step next.spot) = sym step_there ∙ head_at i (its_step next.spot) steps _ known.steps_are in
         let same_fork : Some fork ≡ Some (forks_at next.spot.v next.spot.below next.spot.place) =
-        sym forks_there ∙ ap (λ fs. slice_get fs i) (is.forks_are ∙ sym (forks_along forest (root cnf.clauses))) ∙ forks_here (start cnf forest) i next in
+        sym forks_there ∙ head_at i (forks_at next.spot.v next.spot.below next.spot.place) forks _ known.forks_are in
         record {
           made = climbing.maker;
           step_is = cc;
           forks_are = cc;
-          spot_is = its_spot;
+          spot_is = subst (λ n. IsSpot n next.spot) (sym climbing.vars) known.each.0;
           stacked = climbed.stacked;
-          few = omega (arith, climbed.made, sum_next next.spot next.rest, here);
-          narrow = omega (arith, here);
+          few = omega (arith, climbed.made, sum_next next.spot next.rest, known.few);
+          narrow = omega (arith, known.few);
         }
 
     pub climb_more : (new : Maker) (under : List (Vec ℕ Global)) (numbers : Vec ℕ Global) → IsRaised m new under numbers.items next.spot next.rest
@@ -281,10 +230,8 @@ module _ (cnf : ClauseList) (steps : List Step) (forks : List Forks) (forest : F
       stacked = subst (AreLevels new.store.nodes (next.spot ∷ next.rest)) (sym (reverse-append under (numbers ∷ []))) (raised.nodes, raised.stacked);
       made = omega (arith, raised.adds.made, climbed.made, sum_next next.spot next.rest);
       handed = kids_few m.store.handed new.store.handed (trees next.spot.below) (width forest) (length next.spot.place.lists) (all_sum (spots_below next.spot ++ next.rest)) (all_sum (next.spot ∷ next.rest))
-          raised.adds.handed (omega (arith, trees_within next.spot.below, narrow)) climbed.handed (sum_next next.spot next.rest);
-    }) where
-      narrow : width next.spot.below ≤ width forest
-      narrow = (subst (AllByRecursion (λ (s : Spot). width s.below ≤ width forest)) next.are (narrow_at (width forest) (start cnf forest) i (narrow_on (width forest) forest (root cnf.clauses) (omega arith)))).0
+          raised.adds.handed (omega (arith, trees_within next.spot.below, known.narrow.0)) climbed.handed (sum_next next.spot next.rest);
+    })
 
   -- ---- the base of all
 
@@ -303,14 +250,14 @@ module _ (cnf : ClauseList) (steps : List Step) (forks : List Forks) (forest : F
       levels : AreLevels m.store.nodes (spots_on forest (root cnf.clauses)) top
       levels = subst (AreLevels m.store.nodes (spots_on forest (root cnf.clauses))) whole climbing.stacked
 
-      there : is_listed (root cnf.clauses).lists all ≡ true
-      there = or_left (same_list all all) false (pointwise-refl all)
+      there : In all (root cnf.clauses).lists
+      there = inl refl
 
       its_begin : AreBegun m.store.nodes forest (root cnf.clauses) top all
       its_begin = begun m.store.nodes forest (root cnf.clauses) top all (root_base cnf forest is.forest_is (clauses-valid cnf valid).2).once there levels
 
       pub top_many : length top ≡ trees forest
-      top_many = length-levels m.store.nodes (spots_on forest (root cnf.clauses)) top levels ∙ length-spots forest (root cnf.clauses)
+      top_many = sym (length-levels m.store.nodes (spots_on forest (root cnf.clauses)) top levels) ∙ length-spots forest (root cnf.clauses)
 
       number_one : (x : List Bool) → number_in (x ∷ []) x ≡ 0
       number_one x = ap (λ b. cond (not b) (1 + 0) 0) (pointwise-refl x)
@@ -335,10 +282,13 @@ module _ (cnf : ClauseList) (steps : List Step) (forks : List Forks) (forest : F
 
           pub root_is : IsRoot cnf forest m kids
           root_is = record {
-            within = subst (AllByRecursion (λ k. k < length m.store.nodes)) kids_are its_begin.within;
-            apart = subst (AreApart m.store.nodes) kids_are its_begin.apart;
-            few = omega (arith, kids_many, trees_few forest (root cnf.clauses) all there, bounded);
-            room = omega (arith, climbing.made, sum_along forest (root cnf.clauses), bounded);
+            meetable = record {
+              maker = climbing.maker;
+              within = All-from_recursion (λ k. k < length m.store.nodes) kids (subst (AllByRecursion (λ k. k < length m.store.nodes)) kids_are its_begin.within);
+              apart = subst (AreApart m.store.nodes) kids_are its_begin.apart;
+              few_kids = omega (arith, kids_many, trees_few forest (root cnf.clauses) all there, bounded);
+              few = omega (arith, climbing.made, sum_along forest (root cnf.clauses), bounded);
+            };
             right = λ new node compiled meet valid_graph frozen made.
                 let vars : new.store.vars ≡ cnf.vars = meet.adds.vars ∙ climbing.vars in
                 record {
@@ -349,7 +299,7 @@ module _ (cnf : ClauseList) (steps : List Step) (forks : List Forks) (forest : F
                       ∙ meet.truth a
                       ∙ ap (list_all (λ k. is_true m.store.nodes k a)) (sym kids_are)
                       ∙ its_begin.truth a
-                      ∙ sym (full_holds forest (root cnf.clauses) a all (down_full forest (root cnf.clauses) all (root_down cnf forest is.forest_is (clauses-valid cnf valid).2)))
+                      ∙ sym (down_holds forest (root cnf.clauses) a all (root_down cnf forest is.forest_is (clauses-valid cnf valid).2))
                       ∙ root_holds cnf.clauses a;
                   no_bare_kid = frozen.no_bare_kid meet.adds.maker.bare;
                   few_made = omega (arith, made, meet.adds.made, climbing.made, sum_along forest (root cnf.clauses));

@@ -9,18 +9,10 @@ pub grows_not : (nodes : List Node) → Grows nodes nodes
 grows_not nodes = record { longer = omega arith; truth = λ k a h. refl; variables = λ k v h. refl }
 
 pub grows_then : (old mid new : List Node) → Grows old mid → Grows mid new → Grows old new
-grows_then old mid new g h = record {
-  longer = omega (arith, g.longer, h.longer);
-  truth = λ k a lt. h.truth k a (omega (arith, g.longer)) ∙ g.truth k a lt;
-  variables = λ k v lt. h.variables k v (omega (arith, g.longer)) ∙ g.variables k v lt;
-}
+grows_then old mid new g h = grind arith
 
 pub constant_grows : (old new : List Node) (value : Bool) (node : ℕ) → Grows old new → IsConstant old value node → IsConstant new value node
-constant_grows old new value node g is = record {
-  within = omega (arith, is.within, g.longer);
-  truth = λ a. g.truth node a is.within ∙ is.truth a;
-  variables = λ v. g.variables node v is.within ∙ is.variables v;
-}
+constant_grows old new value node g is = grind arith
 
 pub grows_by : (old new : List Node) (kind : NodeKind) (kids : List ℕ) (number : ℕ) → AddsAtMost old (record { what = kind; kids = kids }) new → Means old new kind kids number → Grows old new
 grows_by old new kind kids number (inl e) means = record { longer = omega (arith, ap length e); truth = λ k a h. means.true_before k a h; variables = λ k v h. means.variables_before k v h }

@@ -19,22 +19,7 @@ kept_in old new node (inr e) k n there = ap (λ ns. slice_get ns k) e ∙ slice_
 
 pub new_maker : (s s' : Stored) (s0 : Stored) (top bottom : ℕ) → Makes s0 s And [] top → Means s0.nodes s.nodes And [] top → Makes s s' Or [] bottom → Means s.nodes s'.nodes Or [] bottom → IsStore s' → HasNoBareKid s'.nodes
     → IsMaker (record { store = s'; yes = top; no = bottom })
-new_maker s s' s0 top bottom make_yes mean_yes make_no mean_no store bare = record {
-  store = store;
-  yes = constant_grows s.nodes s'.nodes true top (grows_by s.nodes s'.nodes Or [] bottom make_no.nodes mean_no) (record {
-    within = slice_get_within s.nodes top true_node make_yes.there;
-    truth = λ a. mean_yes.truth a;
-    variables = λ v. mean_yes.variables v;
-  });
-  no = record {
-    within = slice_get_within s'.nodes bottom false_node make_no.there;
-    truth = λ a. mean_no.truth a;
-    variables = λ v. mean_no.variables v;
-  };
-  yes_node = kept_in s.nodes s'.nodes false_node make_no.nodes top true_node make_yes.there;
-  no_node = make_no.there;
-  bare = bare;
-}
+new_maker s s' s0 top bottom make_yes mean_yes make_no mean_no store bare = grind (arith, constant_grows, grows_by, slice_get_within, kept_in)
 
 -- ---- nodes come
 
@@ -42,46 +27,19 @@ pub adds_not : (m : Maker) (more kids : ℕ) → IsMaker m → Adds m m more kid
 adds_not m more kids is = record { maker = is; grows = grows_not m.store.nodes; vars = refl; yes = refl; made = omega arith; handed = omega arith }
 
 pub adds_then : (old mid new : Maker) (more kids more' kids' all all_kids : ℕ) → Adds old mid more kids → Adds mid new more' kids' → all ≡ more + more' → all_kids ≡ kids + kids' → Adds old new all all_kids
-adds_then old mid new more kids more' kids' all all_kids a b e f = record {
-  maker = b.maker;
-  grows = grows_then old.store.nodes mid.store.nodes new.store.nodes a.grows b.grows;
-  vars = b.vars ∙ a.vars;
-  yes = b.yes ∙ a.yes;
-  made = omega (arith, a.made, b.made, e);
-  handed = omega (arith, a.handed, b.handed, f);
-}
+adds_then old mid new more kids more' kids' all all_kids a b e f = grind arith
 
 pub adds_store : (m : Maker) (s : Stored) (kids : ℕ) → IsMaker m → IsStore s → ((k : ℕ) (n : Node) → slice_get m.store.nodes k ≡ Some n → slice_get s.nodes k ≡ Some n) → HasNoBareKid s.nodes → Grows m.store.nodes s.nodes → s.vars ≡ m.store.vars → s.made ≤ m.store.made + 1 → s.handed ≤ m.store.handed + kids → Adds m (record m { store = s }) 1 kids
-adds_store m s kids is store kept bare g vars made handed = record {
-  maker = record { store = store; yes = constant_grows m.store.nodes s.nodes true m.yes g is.yes; no = constant_grows m.store.nodes s.nodes false m.no g is.no; yes_node = kept m.yes true_node is.yes_node; no_node = kept m.no false_node is.no_node; bare = bare };
-  grows = g;
-  vars = vars;
-  yes = refl;
-  made = made;
-  handed = handed;
-}
+adds_store m s kids is store kept bare g vars made handed = grind arith
 
 pub may_grow : (old new : List Node) (a : Assignment) (o : Option ℕ) → Grows old new → IfSome o (λ n. n < length old) → may_be_true new a o ≡ may_be_true old a o
-may_grow old new a None g h = refl
-may_grow old new a (Some n) g h = g.truth n a h
+may_grow old new a o g h = grind arith
 
 pub mention_grows : (old new : List Node) (v : ℕ) (o : Option ℕ) → Grows old new → IfSome o (λ n. n < length old) → may_mention new v o ≡ may_mention old v o
-mention_grows old new v None g h = refl
-mention_grows old new v (Some n) g h = g.variables n v h
-
-pub read_below : (below : List ℕ) (place : ℕ) → place < length below → slice_get below place ≡ Some (slice_index below place)
-read_below [] place h = absurd (omega arith)
-read_below (n ∷ below) zero h = refl
-read_below (n ∷ below) (suc place) h = read_below below place (omega arith)
-
-pub eqb-same : (n : ℕ) → (n == n) ≡ true
-eqb-same n = eq-eqb n n refl
+mention_grows old new v o g h = grind arith
 
 pub get-push : {X : Type 0} (xs : List X) (y x : X) (i : ℕ) → slice_get (xs ++ y ∷ []) i ≡ Some x → ((i ≡ length xs) × (y ≡ x)) ⊎ (slice_get xs i ≡ Some x)
 get-push [] y x zero e = let s : y ≡ x = cc in inl (refl, s)
 get-push [] y x (suc i) e = absurd (cc)
 get-push (z ∷ xs) y x zero e = inr e
-get-push (z ∷ xs) y x (suc i) e = by (get-push xs y x i e) where
-  by : ((i ≡ length xs) × (y ≡ x)) ⊎ (slice_get xs i ≡ Some x) → ((suc i ≡ suc (length xs)) × (y ≡ x)) ⊎ (slice_get xs i ≡ Some x)
-  by (inl p) = inl (ap suc p.0, p.1)
-  by (inr p) = inr p
+get-push (z ∷ xs) y x (suc i) e = grind (arith, get-push xs y x i e)

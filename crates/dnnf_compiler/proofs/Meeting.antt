@@ -1,16 +1,19 @@
 -- What is made of nodes that are all to be true.
-use Rattle.std.proofs.Common.{◌≡◌, ◌≢◌, ℕ, zero, suc, ◌+◌, ◌<◌, ◌≤◌, Bool, true, false, not, ◌&&◌, ◌||◌, cond, List, [], ◌∷◌, ◌++◌, map, length, drop, get_or, All, refl, ap, sym, ◌∙◌, subst, arith}
-use Rattle.std.specs.Prelude.{◌==◌, Contains}
-use Rattle.std.specs.List.{list_any, list_all, filter, AllByRecursion}
+use Rattle.std.proofs.Common.{◌≡◌, ◌≢◌, ℕ, zero, suc, ◌+◌, ◌<◌, ◌≤◌, Bool, true, false, not, ◌&&◌, ◌||◌, cond, List, [], ◌∷◌, ◌++◌, map, length, drop, get_or, refl, ap, sym, ◌∙◌, arith, inl, inr}
+use Rattle.std.specs.Prelude.{◌==◌}
+use Rattle.std.specs.List.{list_any, list_all, filter, AllByRecursion, AllZip}
 use Rattle.std.proofs.Math.Bool.{and-true, or-false}
 use Rattle.std.proofs.lemmas.Bool.{eqb-true}
 use Rattle.std.proofs.lemmas.List.{drop_more, append_assoc}
+use Rattle.std.proofs.lemmas.Bool.Decides.{nat_tests}
+use Rattle.std.proofs.lemmas.List.Elements.{All-from_recursion}
 use Rattle.std.proofs.lemmas.List.Folds.{list_all-map}
 use Rattle.std.proofs.lemmas.Option.{slice_get_within}
 use Rattle.state_rules.specs.Assignments.{Assignment}
 use Rattle.state_rules.specs.declared.nodes.NodeKind.TheVariants.{And}
 use Rattle.state_rules.specs.Graphs.{Node, at_most_one, is_true, mentions}
 use Rattle.state_rules.proofs.Lists.{list_any-map, length-filter-le}
+use Rattle.state_rules.proofs.Members.{In}
 use Rattle.node_store.specs.Stores.{Stored, IsStore, Makes, Means}
 use Rattle.dnnf_compiler.specs.declared.maker.Maker.{Maker}
 use Rattle.dnnf_compiler.specs.inner.Joining.{Grows, IsPlain}
@@ -18,31 +21,23 @@ use Rattle.dnnf_compiler.specs.inner.Making.{IsMaker, Adds}
 use Rattle.dnnf_compiler.specs.inner.Meeting.{AreApart, IsMeet}
 use Rattle.dnnf_compiler.proofs.Growing.{grows_by}
 use Rattle.dnnf_compiler.proofs.Making.{kept_in, adds_not, adds_store}
-use Rattle.dnnf_compiler.proofs.Bare.{bare_push}
+use Rattle.dnnf_compiler.proofs.Bare.{in_all, bare_push}
 
 -- ---- lists of nodes
-
-pub all_from : {X : Type 0} (P : X → Type 0) (xs : List X) → AllByRecursion P xs → All P xs
-all_from P [] each k d h = absurd (omega arith)
-all_from P (x ∷ xs) each zero d h = each.0
-all_from P (x ∷ xs) each (suc k) d h = all_from P xs each.1 k d (omega arith)
-
-pub each_in : (P : ℕ → Type 0) (xs : List ℕ) (k : ℕ) → AllByRecursion P xs → Contains xs k → P k
-each_in P xs k each (j, h, e) = subst P e (all_from P xs each j k h)
 
 pub each_more : {X : Type 0} (P Q : X → Type 0) (xs : List X) → ((x : X) → P x → Q x) → AllByRecursion P xs → AllByRecursion Q xs
 each_more P Q [] h each = tt
 each_more P Q (x ∷ xs) h each = (h x each.0, each_more P Q xs h each.1)
 
-pub map_same : {X Y : Type 0} (P : X → Type 0) (f g : X → Y) (xs : List X) → ((x : X) → P x → f x ≡ g x) → AllByRecursion P xs → map f xs ≡ map g xs
-map_same P f g [] h each = refl
-map_same P f g (x ∷ xs) h each = λ j. h x each.0 j ∷ map_same P f g xs h each.1 j
+pub all_same : {X : Type 0} (f g : X → Bool) (xs : List X) → ((x : X) → In x xs → f x ≡ g x) → list_all f xs ≡ list_all g xs
+all_same f g [] h = refl
+all_same f g (x ∷ xs) h = λ j. h x (inl refl) j && all_same f g xs (λ y m. h y (inr m)) j
 
-pub all_same : (P : ℕ → Type 0) (f g : ℕ → Bool) (xs : List ℕ) → ((x : ℕ) → P x → f x ≡ g x) → AllByRecursion P xs → list_all f xs ≡ list_all g xs
-all_same P f g xs h each = sym (list_all-map (λ b. b) f xs) ∙ ap (list_all (λ b. b)) (map_same P f g xs h each) ∙ list_all-map (λ b. b) g xs
-
-pub any_same : (P : ℕ → Type 0) (f g : ℕ → Bool) (xs : List ℕ) → ((x : ℕ) → P x → f x ≡ g x) → AllByRecursion P xs → list_any f xs ≡ list_any g xs
-any_same P f g xs h each = sym (list_any-map (λ b. b) f xs) ∙ ap (list_any (λ b. b)) (map_same P f g xs h each) ∙ list_any-map (λ b. b) g xs
+pub length-zip : {A B : Type 0} (R : A → B → Type 0) (xs : List A) (ys : List B) → AllZip R xs ys → length xs ≡ length ys
+length-zip R [] [] all = refl
+length-zip R [] (y ∷ ys) all = absurd all
+length-zip R (x ∷ xs) [] all = absurd all
+length-zip R (x ∷ xs) (y ∷ ys) all = ap suc (length-zip R xs ys all.1)
 
 -- at most one, if the first is none, or no other is one
 pub first_none : (b : Bool) (bs : List Bool) → b ≡ false → at_most_one bs ≡ true → at_most_one (b ∷ bs) ≡ true
@@ -70,19 +65,11 @@ module _ (m : Maker) (is : IsMaker m) where
 
   all_kept : (a : Assignment) (kids : List ℕ) → list_all (λ k. is_true its k a) (filter keeps kids) ≡ list_all (λ k. is_true its k a) kids
   all_kept a [] = refl
-  all_kept a (k ∷ kids) = by (k == m.yes) refl (all_kept a kids) where
-    by : (b : Bool) → (k == m.yes) ≡ b → list_all (λ k. is_true its k a) (filter keeps kids) ≡ list_all (λ k. is_true its k a) kids
-        → list_all (λ k. is_true its k a) (cond (not b) (k ∷ filter keeps kids) (filter keeps kids)) ≡ (is_true its k a && list_all (λ k. is_true its k a) kids)
-    by true e rest = rest ∙ (λ j. sym (ap (λ n. is_true its n a) (eqb-true k m.yes e) ∙ is.yes.truth a) j && list_all (λ k. is_true its k a) kids)
-    by false e rest = ap (λ b. is_true its k a && b) rest
+  all_kept a (k ∷ kids) = grind (arith, nat_tests, all_kept a kids)
 
   any_kept : (v : ℕ) (kids : List ℕ) → list_any (mentions its v) (filter keeps kids) ≡ list_any (mentions its v) kids
   any_kept v [] = refl
-  any_kept v (k ∷ kids) = by (k == m.yes) refl (any_kept v kids) where
-    by : (b : Bool) → (k == m.yes) ≡ b → list_any (mentions its v) (filter keeps kids) ≡ list_any (mentions its v) kids
-        → list_any (mentions its v) (cond (not b) (k ∷ filter keeps kids) (filter keeps kids)) ≡ (mentions its v k || list_any (mentions its v) kids)
-    by true e rest = rest ∙ (λ j. sym (ap (mentions its v) (eqb-true k m.yes e) ∙ is.yes.variables v) j || list_any (mentions its v) kids)
-    by false e rest = ap (λ b. mentions its v k || b) rest
+  any_kept v (k ∷ kids) = grind (arith, nat_tests, any_kept v kids)
 
   one_kept : (v : ℕ) (kids : List ℕ) → at_most_one (map (mentions its v) (filter keeps kids)) ≡ at_most_one (map (mentions its v) kids)
   one_kept v [] = refl
@@ -172,5 +159,5 @@ module _ (m : Maker) (is : IsMaker m) where
 
       adds : Adds m (record m { store = s }) 1 (length kids)
       adds = adds_store m s (length kids) is store (kept_in its s.nodes (record { what = And; kids = kept }) makes.nodes)
-          (bare_push m.store.vars its s.nodes (record { what = And; kids = kept }) is.store.nodes makes.nodes is.bare (λ k. each_in (λ k. (k < length its) × IsPlain its k) kept k plain))
+          (bare_push m.store.vars its s.nodes (record { what = And; kids = kept }) is.store.nodes makes.nodes is.bare (λ k has. in_all (λ k. (k < length its) × IsPlain its k) kept k has (All-from_recursion (λ k. (k < length its) × IsPlain its k) kept plain)))
           grows makes.vars (omega (arith, makes.made)) (omega (arith, makes.handed, kept_few))

@@ -1,104 +1,58 @@
 -- What is left of clauses at a place of a forest.
-use Rattle.std.proofs.Common.{◌≡◌, ℕ, zero, suc, Bool, true, false, not, ◌&&◌, ◌||◌, cond, List, [], ◌∷◌, ◌++◌, map, get_or, Some, refl, ap, sym, ◌∙◌, inl, inr}
+use Rattle.std.proofs.Common.{◌≡◌, ℕ, suc, Bool, true, false, not, ◌&&◌, ◌||◌, cond, List, [], ◌∷◌, ◌++◌, map, get_or, Some, refl, ap, sym, ◌∙◌, subst, arith, inl, inr}
 use Rattle.std.specs.Prelude.{◌==◌, slice_get}
 use Rattle.std.specs.List.{list_all, flat_map, AllByRecursion}
-use Rattle.std.proofs.Math.Bool.{or-false, or-true}
-use Rattle.std.proofs.lemmas.Bool.{false≢true, eqb-true, eqb-false, eq-eqb, ne_eqb, and_parts, and_from, or_parts, or_cases, or_left, or_right, or_from, not-true}
-use Rattle.std.proofs.lemmas.List.Folds.{list_any-append, list_all-append}
+use Rattle.std.proofs.lemmas.Bool.{false≢true, eqb-false, ne_eqb, and_parts, and_left, and_right, or_parts, or_from, not-true, not-false, true_from_ne_false}
+use Rattle.std.proofs.lemmas.Bool.Decides.{nat_tests}
+use Rattle.std.proofs.lemmas.List.Folds.{list_all-append}
 use Rattle.std.proofs.lemmas.List.Quantifiers.{position-Some}
 use Rattle.std.proofs.lemmas.Option.{slice_get-get_or}
 use Rattle.state_rules.specs.Bits.{same_bit}
 use Rattle.state_rules.specs.Assignments.{Assignment}
 use Rattle.state_rules.proofs.Bits.{pointwise-refl, pointwise-equal}
-use Rattle.state_rules.proofs.Lists.{AllByRecursion-append}
+use Rattle.state_rules.proofs.Lists.{AllByRecursion-append, any-never}
+use Rattle.state_rules.proofs.Members.{In, In-map, In-append_left, In-append_right, In-filtered, any_in}
 use Rattle.clause_encoder.specs.Clauses.{Clause, ClauseList, var_of, is_positive, is_true_clause, all_hold, is_clause}
-use Rattle.elimination_forests.specs.Branches.{is_true_by, has_true, some_passes, same_list, without}
+use Rattle.elimination_forests.specs.Branches.{is_true_by, has_true, some_passes, same_list}
 use Rattle.elimination_forests.proofs.Finding.{found-at}
-use Rattle.elimination_forests.proofs.Lists.{is_among as is_listed, each-map, each-filter, each-different}
-use Rattle.elimination_forests.proofs.Counting.{among-different}
+use Rattle.elimination_forests.proofs.Lists.{all-in, all-at, none-in, any-none, each-map, each-filter, each-different, In-met}
 use Rattle.elimination_forests.specs.Forests.{Forest, none, tree, variables, is_among, meets, is_within, is_once, fits, is_along, is_forest_of, Place, is_dead_by, next_by, followed_by, decided, part_of, part, root, number_in}
-use Rattle.elimination_forests.proofs.Passing.{fail_by, passes_without, passes_or, passes_never, passes_full, all_fail, meets-append, meets-nil, once_back, once_front}
+use Rattle.elimination_forests.proofs.Passing.{swap, fail_by, passes_by, passes_without, passes_or, passes_never, passes_full, none_passes, all_fail, meets-append, once_back, once_front}
 use Rattle.dnnf_compiler.proofs.Meeting.{each_more}
 use Rattle.dnnf_compiler.specs.inner.Placing.{rest_by, left_by, Spot, spots_on, IsSpot}
 
 -- ---- a variable gets a bit
 
+both_fail : (x y : Bool) → (not x && not y) ≡ not (x || y)
+both_fail x y = grind arith
+
 literal-next : (bound : List ℕ) (v : ℕ) (a : Assignment) (u : ℕ) (positive : Bool) → is_among bound v ≡ false
     → (not (is_among bound u) && same_bit positive (a u)) ≡ (((u == v) && same_bit positive (a v)) || (not ((v == u) || is_among bound u) && same_bit positive (a u)))
-literal-next bound v a u positive free = by (u == v) refl where
-  by : (b : Bool) → (u == v) ≡ b → (not (is_among bound u) && same_bit positive (a u)) ≡ ((b && same_bit positive (a v)) || (not ((v == u) || is_among bound u) && same_bit positive (a u)))
-  by true e =
-      let s : u ≡ v = eqb-true u v e in
-      (λ j. not ((ap (is_among bound) s ∙ free) j) && same_bit positive (a (s j)))
-      ∙ sym (or-false (same_bit positive (a v)))
-      ∙ (λ j. same_bit positive (a v) || (not (sym (eq-eqb v u (sym s)) j || is_among bound u) && same_bit positive (a u)))
-  by false e = λ j. not (sym (ne_eqb v u (λ s. eqb-false u v e (sym s))) j || is_among bound u) && same_bit positive (a u)
-
-join_or : (l t n h r : Bool) → l ≡ (t || n) → h ≡ (h || false) → (l || (h || r)) ≡ ((t || h) || (n || r))
-join_or l true n h r e f = ap (λ b. b || (h || r)) e
-join_or l false n true r e f = ap (λ b. b || true) e ∙ or-true n
-join_or l false n false r e f = ap (λ b. b || r) e
+literal-next bound v a u positive free = grind (arith, nat_tests)
 
 clause-next : (bound : List ℕ) (v : ℕ) (a : Assignment) (clause : Clause) → is_among bound v ≡ false → rest_by bound a clause ≡ (has_true v (a v) clause || rest_by (v ∷ bound) a clause)
 clause-next bound v a [] free = refl
-clause-next bound v a (l ∷ clause) free =
-    ap (λ b. (not (is_among bound (var_of l)) && same_bit (is_positive l) (a (var_of l))) || b) (clause-next bound v a clause free)
-    ∙ join_or (not (is_among bound (var_of l)) && same_bit (is_positive l) (a (var_of l))) (is_true_by v (a v) l) (not (is_among (v ∷ bound) (var_of l)) && same_bit (is_positive l) (a (var_of l)))
-    (has_true v (a v) clause) (rest_by (v ∷ bound) a clause) (literal-next bound v a (var_of l) (is_positive l) free) (sym (or-false (has_true v (a v) clause)))
-
-one_clause : (b t r r' : Bool) → r ≡ (t || r') → (b && not r) ≡ ((b && not t) && not r')
-one_clause true true r r' e = ap not e
-one_clause true false r r' e = ap not e
-one_clause false t r r' e = refl
-
-clauses-next : (bound : List ℕ) (v : ℕ) (a : Assignment) (clauses : List Clause) (list : List Bool) → is_among bound v ≡ false
-    → some_passes (λ c. not (rest_by bound a c)) clauses list ≡ some_passes (λ c. not (rest_by (v ∷ bound) a c)) clauses (without (has_true v (a v)) clauses list)
-clauses-next bound v a [] list free = refl
-clauses-next bound v a (c ∷ clauses) [] free = refl
-clauses-next bound v a (c ∷ clauses) (b ∷ list) free =
-    let e = one_clause b (has_true v (a v) c) (rest_by bound a c) (rest_by (v ∷ bound) a c) (clause-next bound v a c free) in
-    λ j. e j || clauses-next bound v a clauses list free j
+clause-next bound v a (l ∷ clause) free = grind (arith, nat_tests, clause-next bound v a clause free)
 
 -- What is left holds if it does by the variable's bit.
 pub expand_by : (v : ℕ) (place : Place) (a : Assignment) (list : List Bool) → is_among place.bound v ≡ false → left_by place a list ≡ left_by (decided v place) a (next_by v place list (a v))
-expand_by v place a list free = ap not (clauses-next place.bound v a place.clauses list free)
+expand_by v place a list free = ap not ((λ j. some_passes (λ c. each c j) place.clauses list) ∙ sym (passes_without (λ c. not (rest_by (v ∷ place.bound) a c)) (has_true v (a v)) place.clauses list)) where
+  each : (c : Clause) → not (rest_by place.bound a c) ≡ (not (has_true v (a v) c) && not (rest_by (v ∷ place.bound) a c))
+  each c = ap not (clause-next place.bound v a c free) ∙ sym (both_fail (has_true v (a v) c) (rest_by (v ∷ place.bound) a c))
 
 -- ---- a dead list does not hold
 
 within_rest : (bound : List ℕ) (a : Assignment) (clause : Clause) → is_within bound clause ≡ true → rest_by bound a clause ≡ false
-within_rest bound a [] e = refl
-within_rest bound a (l ∷ clause) e = by (is_among bound (var_of l)) e (within_rest bound a clause) where
-  by : (b : Bool) → (b && is_within bound clause) ≡ true → (is_within bound clause ≡ true → rest_by bound a clause ≡ false) → ((not b && same_bit (is_positive l) (a (var_of l))) || rest_by bound a clause) ≡ false
-  by true f rest = rest f
-  by false f rest = absurd (cc)
-
-passes_by : (p q : Clause → Bool) → ((c : Clause) → p c ≡ true → q c ≡ true) → (cs : List Clause) (list : List Bool) → some_passes p cs list ≡ true → some_passes q cs list ≡ true
-passes_by p q h [] list e = e
-passes_by p q h (c ∷ cs) [] e = e
-passes_by p q h (c ∷ cs) (b ∷ list) e = elim (or_cases (b && p c) (some_passes p cs list) e) [
-  | inl here ↦ let parts = and_parts b (p c) here in or_left (b && q c) (some_passes q cs list) (and_from b (q c) parts.0 (h c parts.1))
-  | inr rest ↦ or_right (b && q c) (some_passes q cs list) (passes_by p q h cs list rest)
-]
+within_rest bound a clause e = grind (arith, nat_tests, any-none, all-at)
 
 pub dead_left : (place : Place) (a : Assignment) (list : List Bool) → is_dead_by place.bound place.clauses list ≡ true → left_by place a list ≡ false
-dead_left place a list e =
-    ap not (passes_by (is_within place.bound) (λ c. not (rest_by place.bound a c)) (λ c is. ap not (within_rest place.bound a c is)) place.clauses list e)
+dead_left place a list e = grind (arith, nat_tests, passes_by, within_rest)
 
 -- ---- variables
 
 -- what has no bit has none after another variable
 free_next : (v : ℕ) (bound vs : List ℕ) → is_among vs v ≡ false → list_all (λ u. not (is_among bound u)) vs ≡ true → list_all (λ u. not (is_among (v ∷ bound) u)) vs ≡ true
-free_next v bound [] apart e = refl
-free_next v bound (u ∷ vs) apart e =
-    let parts = and_parts (not (is_among bound u)) (list_all (λ u. not (is_among bound u)) vs) e in
-    let others = or_parts (u == v) (is_among vs v) apart in
-    and_from (not (is_among (v ∷ bound) u)) (list_all (λ u. not (is_among (v ∷ bound) u)) vs)
-    (ap not (or_from (v == u) (is_among bound u) (ne_eqb v u (λ s. eqb-false u v others.0 (sym s))) (not-true (is_among bound u) parts.0)))
-    (free_next v bound vs others.1 parts.1)
-
-free_first : (vs : List ℕ) → list_all (λ u. not (is_among [] u)) vs ≡ true
-free_first [] = refl
-free_first (v ∷ vs) = free_first vs
+free_next v bound vs apart e = grind (arith, nat_tests, all-in, ne_eqb, eqb-false, none-in, all-at)
 
 -- ---- what is left holds if it does on all trees of a base
 
@@ -107,18 +61,11 @@ abbrev pub trees_hold : Forest → Place → Assignment → List Bool → Bool
 trees_hold none base a list = true
 trees_hold (tree v below beside) base a list = left_by (part (v ∷ variables below) base) a (part_of (v ∷ variables below) base list) && trees_hold beside base a list
 
-both_fail : (x y : Bool) → (not x && not y) ≡ not (x || y)
-both_fail true y = refl
-both_fail false y = refl
-
 under_both : (x y f : Bool) → ((not (not x) && f) || (y && f)) ≡ ((x || y) && f)
-under_both true true true = refl
-under_both true true false = refl
-under_both true false f = or-false f
-under_both false y f = refl
+under_both x y f = grind arith
 
 trees_say : (forest : Forest) (base : Place) (a : Assignment) (list : List Bool) → trees_hold forest base a list ≡ not (some_passes (λ c. meets (variables forest) c && not (rest_by base.bound a c)) base.clauses list)
-trees_say none base a list = sym (ap not ((λ j. some_passes (λ c. meets-nil c j && not (rest_by base.bound a c)) base.clauses list) ∙ passes_never base.clauses list))
+trees_say none base a list = sym (ap not ((λ j. some_passes (λ c. any-never c j && not (rest_by base.bound a c)) base.clauses list) ∙ passes_never base.clauses list))
 trees_say (tree v below beside) base a list =
     (λ j. not (passes_without (fails) (λ c. not (meets own c)) base.clauses list j) && trees_say beside base a list j)
     ∙ both_fail (some_passes here base.clauses list) (some_passes there base.clauses list)
@@ -138,14 +85,6 @@ trees_say (tree v below beside) base a list =
       each : (c : Clause) → (here c || there c) ≡ (meets (variables (tree v below beside)) c && fails c)
       each c = under_both (meets own c) (meets (variables beside) c) (fails c) ∙ ap (λ m. m && fails c) (sym (meets-append own (variables beside) c))
 
--- all clauses of a list meet the trees
-abbrev pub IsFull : Forest → Place → List Bool → Type 0
-IsFull forest base list = some_passes (λ c. not (meets (variables forest) c)) base.clauses list ≡ false
-
-pub full_holds : (forest : Forest) (base : Place) (a : Assignment) (list : List Bool) → IsFull forest base list → left_by base a list ≡ trees_hold forest base a list
-full_holds forest base a list full =
-    sym (trees_say forest base a list ∙ ap not (passes_full (meets (variables forest)) (λ c. not (rest_by base.bound a c)) base.clauses list full))
-
 -- ---- living lists of clauses that go down along a forest
 
 pub record IsDown (forest : Forest) (base : Place) (list : List Bool) : Type 0 where
@@ -154,23 +93,16 @@ pub record IsDown (forest : Forest) (base : Place) (list : List Bool) : Type 0 w
 
 along_within : (forest : Forest) (bound : List ℕ) (c : Clause) → is_along forest bound c ≡ true → meets (variables forest) c ≡ false → is_within bound c ≡ true
 along_within none bound c e f = e
-along_within (tree v below beside) bound c e f =
-    let parts = or_parts (meets (v ∷ variables below) c) (meets (variables beside) c) (sym (meets-append (v ∷ variables below) (variables beside) c) ∙ f) in
-    along_within beside bound c
-    (sym (ap (λ b. cond b (not (meets (variables beside) c) && is_along below (v ∷ bound) c) (is_along beside bound c)) parts.0) ∙ e) parts.1
+along_within (tree v below beside) bound c e f = grind (arith, nat_tests, along_within beside bound c, or_parts (meets (v ∷ variables below) c) (meets (variables beside) c) (sym (meets-append (v ∷ variables below) (variables beside) c) ∙ f))
 
-pub down_full : (forest : Forest) (base : Place) (list : List Bool) → IsDown forest base list → IsFull forest base list
-down_full forest base list is =
-    fail_by (λ c. is_within base.bound c || not (is_along forest base.bound c)) (λ c. not (meets (variables forest) c)) each base.clauses list
-    (passes_or (is_within base.bound) (λ c. not (is_along forest base.bound c)) base.clauses list ∙ (λ j. is.alive j || is.along j)) where
-      each : (c : Clause) → (is_within base.bound c || not (is_along forest base.bound c)) ≡ false → not (meets (variables forest) c) ≡ false
-      each c e = by (meets (variables forest) c) refl (or_parts (is_within base.bound c) (not (is_along forest base.bound c)) e) where
-        by : (m : Bool) → meets (variables forest) c ≡ m → (is_within base.bound c ≡ false) × (not (is_along forest base.bound c) ≡ false) → not m ≡ false
-        by true f p = refl
-        by false f p = absurd (false≢true (sym p.0 ∙ along_within forest base.bound c (is_true_of (is_along forest base.bound c) p.1) f)) where
-          is_true_of : (b : Bool) → not b ≡ false → b ≡ true
-          is_true_of true e = refl
-          is_true_of false e = absurd (cc)
+-- All its clauses meet the trees.
+pub down_holds : (forest : Forest) (base : Place) (a : Assignment) (list : List Bool) → IsDown forest base list → left_by base a list ≡ trees_hold forest base a list
+down_holds forest base a list is = sym (trees_say forest base a list ∙ ap not (passes_full (meets (variables forest)) (λ c. not (rest_by base.bound a c)) base.clauses list full)) where
+  full : some_passes (λ c. not (meets (variables forest) c)) base.clauses list ≡ false
+  full = fail_by (λ c. is_within base.bound c || not (is_along forest base.bound c)) (λ c. not (meets (variables forest) c)) (λ c e.
+      let parts = or_parts (is_within base.bound c) (not (is_along forest base.bound c)) e in
+      ap not (true_from_ne_false (meets (variables forest) c) (λ f. false≢true (sym parts.0 ∙ along_within forest base.bound c (not-false (is_along forest base.bound c) parts.1) f)))) base.clauses list
+      (passes_or (is_within base.bound) (λ c. not (is_along forest base.bound c)) base.clauses list ∙ (λ j. is.alive j || is.along j))
 
 -- the trees of a base, or the last of them
 pub record IsBase (vars : ℕ) (forest : Forest) (base : Place) : Type 0 where
@@ -180,22 +112,18 @@ pub record IsBase (vars : ℕ) (forest : Forest) (base : Place) : Type 0 where
   pub along : AllByRecursion (λ list. some_passes (λ c. meets (variables forest) c && not (is_along forest base.bound c)) base.clauses list ≡ false) base.lists
 
 own_along : (own met later below beside : Bool) → met ≡ (own || later) → (met && not (cond own (not later && below) beside)) ≡ false → (not (not own) && not below) ≡ false
-own_along true met true below beside e f = absurd (false≢true (sym f ∙ ap (λ m. m && true) e))
-own_along true met false below beside e f = sym (ap (λ m. m && not below) e) ∙ f
-own_along false met later below beside e f = refl
+own_along own met later below beside e f = grind arith
 
 later_along : (own met later below beside : Bool) → met ≡ (own || later) → (met && not (cond own (not later && below) beside)) ≡ false → (later && not beside) ≡ false
-later_along true met true below beside e f = absurd (false≢true (sym f ∙ ap (λ m. m && true) e))
-later_along true met false below beside e f = refl
-later_along false met later below beside e f = sym (ap (λ m. m && not beside) e) ∙ f
+later_along own met later below beside e f = grind arith
 
 pub each_spot : (vars : ℕ) (forest : Forest) (base : Place) → IsBase vars forest base → AllByRecursion (IsSpot vars) (spots_on forest base)
 each_spot vars none base is = tt
 each_spot vars (tree v below beside) base is = (
   record {
     once = once_front own (variables beside) is.once;
-    free = (and_parts (list_all (λ u. not (is_among base.bound u)) own) (list_all (λ u. not (is_among base.bound u)) (variables beside)) (sym (list_all-append (λ u. not (is_among base.bound u)) own (variables beside)) ∙ is.free)).0;
-    fit = (and_parts (list_all (fits vars) own) (list_all (fits vars) (variables beside)) (sym (list_all-append (fits vars) own (variables beside)) ∙ is.fit)).0;
+    free = (parts (λ u. not (is_among base.bound u)) is.free).0;
+    fit = (parts (fits vars) is.fit).0;
     along = each-different GoesDown (map (part_of own base) base.lists) (each-map Along GoesDown (part_of own base)
         (λ list e. passes_without (λ c. not (is_along below (v ∷ base.bound) c)) (λ c. not (meets own c)) base.clauses list
         ∙ fail_by (λ c. meets (variables (tree v below beside)) c && not (is_along (tree v below beside) base.bound c)) (λ c. not (not (meets own c)) && not (is_along below (v ∷ base.bound) c))
@@ -203,8 +131,8 @@ each_spot vars (tree v below beside) base is = (
   },
   each_spot vars beside base (record {
     once = once_back own (variables beside) is.once;
-    free = (and_parts (list_all (λ u. not (is_among base.bound u)) own) (list_all (λ u. not (is_among base.bound u)) (variables beside)) (sym (list_all-append (λ u. not (is_among base.bound u)) own (variables beside)) ∙ is.free)).1;
-    fit = (and_parts (list_all (fits vars) own) (list_all (fits vars) (variables beside)) (sym (list_all-append (fits vars) own (variables beside)) ∙ is.fit)).1;
+    free = (parts (λ u. not (is_among base.bound u)) is.free).1;
+    fit = (parts (fits vars) is.fit).1;
     along = each_more Along Later base.lists (λ list e.
         fail_by (λ c. meets (variables (tree v below beside)) c && not (is_along (tree v below beside) base.bound c)) (λ c. meets (variables beside) c && not (is_along beside base.bound c))
         (λ c. later_along (meets own c) (meets (variables (tree v below beside)) c) (meets (variables beside) c) (is_along below (v ∷ base.bound) c) (is_along beside base.bound c) (meets-append own (variables beside) c)) base.clauses list e) is.along;
@@ -212,6 +140,9 @@ each_spot vars (tree v below beside) base is = (
 ) where
   own : List ℕ
   own = v ∷ variables below
+
+  parts : (p : ℕ → Bool) → list_all p (v ∷ (variables below ++ variables beside)) ≡ true → (list_all p (v ∷ variables below) ≡ true) × (list_all p (variables beside) ≡ true)
+  parts p e = and_parts (list_all p (v ∷ variables below)) (list_all p (variables beside)) (sym (list_all-append p (v ∷ variables below) (variables beside)) ∙ e)
 
   Along : List Bool → Type 0
   Along list = some_passes (λ c. meets (variables (tree v below beside)) c && not (is_along (tree v below beside) base.bound c)) base.clauses list ≡ false
@@ -230,11 +161,8 @@ down_base vars forest base once free fit down = record {
   fit = fit;
   along = each_more (IsDown forest base) (λ list. some_passes (λ c. meets (variables forest) c && not (is_along forest base.bound c)) base.clauses list ≡ false) base.lists
       (λ list is. fail_by (λ c. not (is_along forest base.bound c)) (λ c. meets (variables forest) c && not (is_along forest base.bound c))
-      (λ c. by (meets (variables forest) c) (not (is_along forest base.bound c))) base.clauses list is.along) down;
-} where
-  by : (m n : Bool) → n ≡ false → (m && n) ≡ false
-  by true n e = e
-  by false n e = refl
+      (λ c. and_right (meets (variables forest) c) (not (is_along forest base.bound c))) base.clauses list is.along) down;
+}
 
 -- ---- after a variable's bit
 
@@ -260,11 +188,8 @@ each_down vars spot is =
       alive = alive;
       along = passes_without (λ c. not (is_along spot.below (spot.v ∷ spot.place.bound) c)) (has_true spot.v bit) spot.place.clauses list
           ∙ fail_by (λ c. not (is_along spot.below (spot.v ∷ spot.place.bound) c)) (λ c. not (has_true spot.v bit c) && not (is_along spot.below (spot.v ∷ spot.place.bound) c))
-          (λ c. by (not (has_true spot.v bit c)) (not (is_along spot.below (spot.v ∷ spot.place.bound) c))) spot.place.clauses list e;
-    }) is.along where
-      by : (m n : Bool) → n ≡ false → (m && n) ≡ false
-      by true n e = e
-      by false n e = refl
+          (λ c. and_right (not (has_true spot.v bit c)) (not (is_along spot.below (spot.v ∷ spot.place.bound) c))) spot.place.clauses list e;
+    }) is.along
 
 pub below_base : (vars : ℕ) (spot : Spot) → IsSpot vars spot → IsBase vars spot.below (decided spot.v spot.place)
 below_base vars spot is =
@@ -275,35 +200,22 @@ below_base vars spot is =
     (and_parts (fits vars spot.v) (list_all (fits vars) (variables spot.below)) is.fit).1 (each_down vars spot is)
 
 pub spot_free : (vars : ℕ) (spot : Spot) → IsSpot vars spot → is_among spot.place.bound spot.v ≡ false
-spot_free vars spot is =
-    not-true (is_among spot.place.bound spot.v) (and_parts (not (is_among spot.place.bound spot.v)) (list_all (λ u. not (is_among spot.place.bound u)) (variables spot.below)) is.free).0
+spot_free vars spot is = grind (arith, nat_tests)
 
 pub spot_once : (vars : ℕ) (spot : Spot) → IsSpot vars spot → (is_among (variables spot.below) spot.v ≡ false) × (is_once (variables spot.below) ≡ true)
-spot_once vars spot is =
-    let once = and_parts (not (is_among (variables spot.below) spot.v)) (is_once (variables spot.below)) is.once in
-    (not-true (is_among (variables spot.below) spot.v) once.0, once.1)
+spot_once vars spot is = grind (arith, nat_tests)
 
 -- ---- at the root all clauses are left
 
-root_fails : (a : Assignment) (clauses : List Clause) → not (some_passes (λ c. not (rest_by [] a c)) clauses (map (λ c. true) clauses)) ≡ all_hold a clauses
-root_fails a [] = refl
-root_fails a (c ∷ clauses) =
-    flip (is_true_clause a c) (some_passes (λ c. not (rest_by [] a c)) clauses (map (λ c. true) clauses)) ∙ ap (λ b. is_true_clause a c && b) (root_fails a clauses) where
-      flip : (x y : Bool) → not (not x || y) ≡ (x && not y)
-      flip true y = refl
-      flip false y = refl
-
 pub root_holds : (clauses : List Clause) (a : Assignment) → left_by (root clauses) a (map (λ c. true) clauses) ≡ all_hold a clauses
-root_holds clauses a = root_fails a clauses
+root_holds [] a = refl
+root_holds (c ∷ clauses) a = grind (arith, nat_tests, root_holds clauses a)
 
-pub root_alive : (vars : ℕ) (clauses : List Clause) → list_all (is_clause vars) clauses ≡ true → is_dead_by [] clauses (map (λ c. true) clauses) ≡ false
-root_alive vars [] e = refl
-root_alive vars (c ∷ clauses) e =
-    let parts = and_parts (is_clause vars c) (list_all (is_clause vars) clauses) e in
-    or_from (is_within [] c) (is_dead_by [] clauses (map (λ c. true) clauses)) (open_first c parts.0) (root_alive vars clauses parts.1) where
-      open_first : (c : Clause) → is_clause vars c ≡ true → is_within [] c ≡ false
-      open_first [] e = absurd (false≢true e)
-      open_first (l ∷ c) e = refl
+root_alive : (vars : ℕ) (clauses : List Clause) → list_all (is_clause vars) clauses ≡ true → is_dead_by [] clauses (map (λ c. true) clauses) ≡ false
+root_alive vars clauses e = none_passes (is_within []) clauses (map (λ c. true) clauses) (λ c m. open_first c (all-at (is_clause vars) c clauses e m)) where
+  open_first : (c : Clause) → is_clause vars c ≡ true → is_within [] c ≡ false
+  open_first [] e = absurd (false≢true e)
+  open_first (l ∷ c) e = refl
 
 pub root_down : (cnf : ClauseList) (forest : Forest) → is_forest_of forest cnf ≡ true → list_all (is_clause cnf.vars) cnf.clauses ≡ true → IsDown forest (root cnf.clauses) (map (λ c. true) cnf.clauses)
 root_down cnf forest e valid = record {
@@ -316,53 +228,38 @@ pub root_base : (cnf : ClauseList) (forest : Forest) → is_forest_of forest cnf
 root_base cnf forest e valid =
     let own = and_parts (is_once (variables forest)) (list_all (fits cnf.vars) (variables forest))
     (and_parts (is_once (variables forest) && list_all (fits cnf.vars) (variables forest)) (list_all (is_along forest []) cnf.clauses) e).0 in
-    down_base cnf.vars forest (root cnf.clauses) own.0 (free_first (variables forest)) own.1 (root_down cnf forest e valid, tt)
+    down_base cnf.vars forest (root cnf.clauses) own.0 (all-in (λ u. not (is_among [] u)) (variables forest) (λ u m. refl)) own.1 (root_down cnf forest e valid, tt)
 
 -- ---- the number of a list
 
 -- a list is at its number
-pub number_at : (lists : List (List Bool)) (x : List Bool) → is_listed lists x ≡ true → slice_get lists (number_in lists x) ≡ Some x
+pub number_at : (lists : List (List Bool)) (x : List Bool) → In x lists → slice_get lists (number_in lists x) ≡ Some x
 number_at lists x there =
-    let at = position-Some (λ other. same_list other x) lists (number_in lists x) [] (found-at (λ other. same_list other x) lists there) in
+    let at = position-Some (λ other. same_list other x) lists (number_in lists x) [] (found-at (λ other. same_list other x) lists (any_in (λ other. same_list other x) x lists there (pointwise-refl x))) in
     slice_get-get_or lists (number_in lists x) [] at.0 ∙ ap Some (pointwise-equal (get_or lists (number_in lists x) []) x at.1)
 
-map_listed : (f : List Bool → List Bool) (ls : List (List Bool)) (l : List Bool) → is_listed ls l ≡ true → is_listed (map f ls) (f l) ≡ true
-map_listed f [] l e = absurd (false≢true e)
-map_listed f (k ∷ ls) l e = elim (or_cases (same_list k l) (is_listed ls l) e) [
-  | inl same ↦ or_left (same_list (f k) (f l)) (is_listed (map f ls) (f l)) (ap (λ m. same_list (f m) (f l)) (pointwise-equal k l same) ∙ pointwise-refl (f l))
-  | inr later ↦ or_right (same_list (f k) (f l)) (is_listed (map f ls) (f l)) (map_listed f ls l later)
-]
-
 -- the part of a list is at a tree
-pub part_listed : (vs : List ℕ) (base : Place) (list : List Bool) → is_listed base.lists list ≡ true → is_listed (part vs base).lists (part_of vs base list) ≡ true
-part_listed vs base list there = among-different (map (part_of vs base) base.lists) (part_of vs base list) ∙ map_listed (part_of vs base) base.lists list there
+pub part_in : (vs : List ℕ) (base : Place) (list : List Bool) → In list base.lists → In (part_of vs base list) (part vs base).lists
+part_in vs base list there = In-met same_list pointwise-equal (part_of vs base list) (map (part_of vs base) base.lists) (In-map (part_of vs base) list base.lists there)
 
-given_listed : (f : List Bool → List (List Bool)) (ls : List (List Bool)) (l x : List Bool) (j : ℕ) → slice_get ls j ≡ Some l → is_listed (f l) x ≡ true → is_listed (flat_map f ls) x ≡ true
-given_listed f [] l x j e given = absurd (cc)
-given_listed f (k ∷ ls) l x zero e given =
-    let same : k ≡ l = cc in
-    list_any-append (λ other. same_list other x) (f k) (flat_map f ls) ∙ or_left (is_listed (f k) x) (is_listed (flat_map f ls) x) (ap (λ m. is_listed (f m) x) same ∙ given)
-given_listed f (k ∷ ls) l x (suc j) e given =
-    list_any-append (λ other. same_list other x) (f k) (flat_map f ls) ∙ or_right (is_listed (f k) x) (is_listed (flat_map f ls) x) (given_listed f ls l x j e given)
+In-flat : (f : List Bool → List (List Bool)) (x y : List Bool) (xs : List (List Bool)) → In x xs → In y (f x) → In y (flat_map f xs)
+In-flat f x y [] there given = absurd there
+In-flat f x y (z ∷ xs) (inl e) given = In-append_left y (f z) (flat_map f xs) (subst (λ w. In y (f w)) e given)
+In-flat f x y (z ∷ xs) (inr later) given = In-append_right y (f z) (flat_map f xs) (In-flat f x y xs later given)
 
-module _ (v : ℕ) (place : Place) (list : List Bool) where
-  abbrev follow : List Bool → List (List Bool)
+-- what a bit leaves is on the base after it
+pub next_in : (v : ℕ) (place : Place) (list : List Bool) (bit : Bool) → In list place.lists → is_dead_by (v ∷ place.bound) place.clauses (next_by v place list bit) ≡ false
+    → In (next_by v place list bit) (decided v place).lists
+next_in v place list bit there alive = In-met same_list pointwise-equal next (flat_map follow place.lists) (In-flat follow list next place.lists there (by bit followed)) where
+  next : List Bool
+  next = next_by v place list bit
+
+  follow : List Bool → List (List Bool)
   follow l = followed_by v place l false ++ followed_by v place l true
 
-  followed_listed : (bit : Bool) → is_dead_by (v ∷ place.bound) place.clauses (next_by v place list bit) ≡ false → is_listed (followed_by v place list bit) (next_by v place list bit) ≡ true
-  followed_listed bit alive =
-      ap (λ d. is_listed (cond (not d) (next_by v place list bit ∷ []) []) (next_by v place list bit)) alive
-      ∙ or_left (same_list (next_by v place list bit) (next_by v place list bit)) false (pointwise-refl (next_by v place list bit))
+  followed : In next (followed_by v place list bit)
+  followed = In-filtered (λ l. not (is_dead_by (v ∷ place.bound) place.clauses l)) next (next ∷ []) (inl refl) (ap not alive)
 
-  both_listed : (bit : Bool) → is_dead_by (v ∷ place.bound) place.clauses (next_by v place list bit) ≡ false → is_listed (follow list) (next_by v place list bit) ≡ true
-  both_listed false alive =
-      list_any-append (λ other. same_list other (next_by v place list false)) (followed_by v place list false) (followed_by v place list true)
-      ∙ or_left (is_listed (followed_by v place list false) (next_by v place list false)) (is_listed (followed_by v place list true) (next_by v place list false)) (followed_listed false alive)
-  both_listed true alive =
-      list_any-append (λ other. same_list other (next_by v place list true)) (followed_by v place list false) (followed_by v place list true)
-      ∙ or_right (is_listed (followed_by v place list false) (next_by v place list true)) (is_listed (followed_by v place list true) (next_by v place list true)) (followed_listed true alive)
-
-  -- what a bit leaves is on the base after it
-  pub next_listed : (bit : Bool) (j : ℕ) → slice_get place.lists j ≡ Some list → is_dead_by (v ∷ place.bound) place.clauses (next_by v place list bit) ≡ false
-      → is_listed (decided v place).lists (next_by v place list bit) ≡ true
-  next_listed bit j at alive = among-different (flat_map follow place.lists) (next_by v place list bit) ∙ given_listed follow place.lists list (next_by v place list bit) j at (both_listed bit alive)
+  by : (b : Bool) → In next (followed_by v place list b) → In next (follow list)
+  by false m = In-append_left next (followed_by v place list false) (followed_by v place list true) m
+  by true m = In-append_right next (followed_by v place list false) (followed_by v place list true) m

@@ -3,17 +3,16 @@ use Rattle.std.proofs.Common.{◌≡◌, ℕ, suc, ◌+◌, ◌*◌, ◌<◌, �
 use Rattle.std.specs.Prelude.{◌==◌, nat_lt, nat_le, slice_get, slice_index, option_map, reverse, IfSome, Vec}
 use Rattle.std.specs.declared.alloc.Global.{Global}
 use Rattle.std.specs.List.{list_any, list_all, AllByRecursion}
-use Rattle.std.proofs.lemmas.Bool.{or_parts, or_cases, and_parts, leb-true, ltb-true}
+use Rattle.std.proofs.lemmas.Bool.{or_parts, and_parts, leb-true, ltb-true}
 use Rattle.std.proofs.lemmas.List.{length-map, get_or-map, length-reverse, length-append}
 use Rattle.std.proofs.lemmas.List.Folds.{list_any-append}
-use Rattle.std.proofs.lemmas.Option.{slice_get-map, slice_get_within, slice_get-get_or}
+use Rattle.std.proofs.lemmas.Option.{slice_get-map, slice_get_within, get_or_from_slice_get, slice_get-get_or}
 use Rattle.state_rules.specs.Assignments.{Assignment}
 use Rattle.state_rules.specs.Graphs.{Node, at_most_one, is_true, mentions}
-use Rattle.state_rules.proofs.Bits.{pointwise-equal}
 use Rattle.state_rules.proofs.Lists.{list_any-map}
-use Rattle.elimination_forests.specs.Branches.{same_list}
+use Rattle.state_rules.proofs.Members.{In, In-at}
 use Rattle.branch_states.specs.declared.measuring.TheConstants.{BUDGET_LIMIT}
-use Rattle.elimination_forests.proofs.Lists.{is_among as is_listed}
+use Rattle.elimination_forests.proofs.Lists.{each-at}
 use Rattle.elimination_forests.specs.declared.forks.Forks.{Forks}
 use Rattle.elimination_forests.specs.declared.steps.Step.{Step}
 use Rattle.elimination_forests.specs.declared.steps.Weight.TheVariants.{Lists}
@@ -21,28 +20,22 @@ use Rattle.elimination_forests.specs.Forests.{Forest, none, tree, trees, variabl
 use Rattle.elimination_forests.proofs.Passing.{once_back, once_apart}
 use Rattle.dnnf_compiler.specs.declared.maker.Maker.{Maker}
 use Rattle.dnnf_compiler.specs.inner.Joining.{Grows}
-use Rattle.dnnf_compiler.specs.inner.Making.{IsVariable, Adds}
-use Rattle.dnnf_compiler.specs.inner.Meeting.{taken, AreHeld, IsUsable, way_true, way_mentions, bit_way, IsChoice, AreChoices}
+use Rattle.dnnf_compiler.specs.inner.Making.{Adds}
+use Rattle.dnnf_compiler.specs.inner.Meeting.{taken, AreHeld, IsUsable, way_true, way_mentions, bit_way, IsChoice, IsPlaceable, AreChoices}
 use Rattle.dnnf_compiler.specs.inner.Placing.{left_by, Spot, spots_on, spots_below, IsSpot, IsNodeAt, AreNodesAt, AreLevels, IsReady, IsRaised}
-use Rattle.dnnf_compiler.proofs.Making.{read_below}
-use Rattle.dnnf_compiler.proofs.Meeting.{first_none, others_none}
-use Rattle.dnnf_compiler.proofs.Placing.{expand_by, dead_left, trees_hold, full_holds, IsDown, down_full, each_down, spot_free, spot_once, number_at, part_listed, next_listed}
+use Rattle.dnnf_compiler.proofs.Meeting.{first_none, others_none, length-zip}
+use Rattle.dnnf_compiler.proofs.Placing.{expand_by, dead_left, trees_hold, IsDown, down_holds, each_down, spot_free, spot_once, number_at, part_in, next_in}
 
 -- ---- nodes stay
 
 node_grows : (spot : Spot) (list : List Bool) (old new : List Node) (node : ℕ) → Grows old new → IsNodeAt spot list old node → IsNodeAt spot list new node
-node_grows spot list old new node g is = record {
-  within = omega (arith, is.within, g.longer);
-  truth = λ a. g.truth node a is.within ∙ is.truth a;
-  silent = λ v e. g.variables node v is.within ∙ is.silent v e;
-}
+node_grows spot list old new node g is = grind arith
 
 levels_grow : (old new : List Node) (spots : List Spot) (levels : List (Vec ℕ Global)) → Grows old new → AreLevels old spots levels → AreLevels new spots levels
 levels_grow old new [] [] g are = tt
 levels_grow old new [] (level ∷ levels) g are = are
 levels_grow old new (spot ∷ spots) [] g are = are
-levels_grow old new (spot ∷ spots) (level ∷ levels) g are =
-    (record { long = are.0.long; right = λ j list n here there. node_grows spot list old new n g (are.0.right j list n here there) }, levels_grow old new spots levels g are.1)
+levels_grow old new (spot ∷ spots) (level ∷ levels) g are = grind (arith, levels_grow old new spots levels g are.1)
 
 -- ---- the top of a stack
 
@@ -50,15 +43,10 @@ levels_split : (nodes : List Node) (xs ys : List Spot) (top under : List (Vec �
 levels_split nodes [] ys [] under e are = (tt, are)
 levels_split nodes [] ys (level ∷ top) under e are = absurd (omega arith)
 levels_split nodes (spot ∷ xs) ys [] under e are = absurd (omega arith)
-levels_split nodes (spot ∷ xs) ys (level ∷ top) under e are =
-    let more = levels_split nodes xs ys top under (omega arith) are.1 in
-    ((are.0, more.0), more.1)
+levels_split nodes (spot ∷ xs) ys (level ∷ top) under e are = grind (arith, levels_split nodes xs ys top under (omega arith) are.1)
 
-pub length-levels : (nodes : List Node) (spots : List Spot) (levels : List (Vec ℕ Global)) → AreLevels nodes spots levels → length levels ≡ length spots
-length-levels nodes [] [] are = refl
-length-levels nodes [] (level ∷ levels) are = absurd are
-length-levels nodes (spot ∷ spots) [] are = absurd are
-length-levels nodes (spot ∷ spots) (level ∷ levels) are = ap suc (length-levels nodes spots levels are.1)
+pub length-levels : (nodes : List Node) (spots : List Spot) (levels : List (Vec ℕ Global)) → AreLevels nodes spots levels → length spots ≡ length levels
+length-levels nodes = length-zip (λ (spot : Spot) (level : Vec ℕ Global). AreNodesAt spot nodes level.items)
 
 pub length-spots : (forest : Forest) (base : Place) → length (spots_on forest base) ≡ trees forest
 length-spots none base = refl
@@ -75,7 +63,7 @@ pub record AreBegun (nodes : List Node) (forest : Forest) (base : Place) (levels
   pub silent : (u : ℕ) → is_among (variables forest) u ≡ false → list_any (mentions nodes u) (taken levels (begins forest base list)) ≡ false
   pub apart : (u : ℕ) → at_most_one (map (mentions nodes u) (taken levels (begins forest base list))) ≡ true
 
-pub begun : (nodes : List Node) (forest : Forest) (base : Place) (levels : List (Vec ℕ Global)) (list : List Bool) → is_once (variables forest) ≡ true → is_listed base.lists list ≡ true
+pub begun : (nodes : List Node) (forest : Forest) (base : Place) (levels : List (Vec ℕ Global)) (list : List Bool) → is_once (variables forest) ≡ true → In list base.lists
     → AreLevels nodes (spots_on forest base) levels → AreBegun nodes forest base levels list
 begun nodes none base [] list once there are = record { held = tt; many = refl; within = tt; truth = λ a. refl; silent = λ u e. refl; apart = λ u. refl }
 begun nodes none base (level ∷ levels) list once there are = absurd are
@@ -91,7 +79,7 @@ begun nodes (tree v below beside) base (level ∷ levels) list once there are = 
   k = number_in (part (v ∷ variables below) base).lists (part_of (v ∷ variables below) base list)
 
   at : slice_get (part (v ∷ variables below) base).lists k ≡ Some (part_of (v ∷ variables below) base list)
-  at = number_at (part (v ∷ variables below) base).lists (part_of (v ∷ variables below) base list) (part_listed (v ∷ variables below) base list there)
+  at = number_at (part (v ∷ variables below) base).lists (part_of (v ∷ variables below) base list) (part_in (v ∷ variables below) base list there)
 
   low : k < length level.items
   low = omega (arith, slice_get_within (part (v ∷ variables below) base).lists k (part_of (v ∷ variables below) base list) at, are.0.long)
@@ -100,7 +88,7 @@ begun nodes (tree v below beside) base (level ∷ levels) list once there are = 
   n = slice_index level.items k
 
   node : IsNodeAt (record { v = v; below = below; place = part (v ∷ variables below) base }) (part_of (v ∷ variables below) base list) nodes n
-  node = are.0.right k (part_of (v ∷ variables below) base list) n at (read_below level.items k low)
+  node = are.0.right k (part_of (v ∷ variables below) base list) n at (slice_get-get_or level.items k 0 low)
 
   more : AreBegun nodes beside base levels list → AreBegun nodes (tree v below beside) base (level ∷ levels) list
   more rest = record {
@@ -122,24 +110,15 @@ begun nodes (tree v below beside) base (level ∷ levels) list once there are = 
 
 -- ---- if a list is there, there are no more trees than lists
 
-some_different : (lists : List (List Bool)) (x : List Bool) → is_listed lists x ≡ true → 0 < length lists
-some_different [] x e = absurd (cc)
-some_different (y ∷ lists) x e = omega arith
+some_there : (lists : List (List Bool)) (x : List Bool) → In x lists → 0 < length lists
+some_there [] x there = absurd there
+some_there (y ∷ lists) x there = omega arith
 
-pub trees_few : (forest : Forest) (base : Place) (list : List Bool) → is_listed base.lists list ≡ true → trees forest ≤ sum_on Lists forest base
+pub trees_few : (forest : Forest) (base : Place) (list : List Bool) → In list base.lists → trees forest ≤ sum_on Lists forest base
 trees_few none base list there = omega arith
-trees_few (tree v below beside) base list there =
-    let some = some_different (part (v ∷ variables below) base).lists (part_of (v ∷ variables below) base list) (part_listed (v ∷ variables below) base list there) in
-    omega (arith, trees_few beside base list there, some)
+trees_few (tree v below beside) base list there = grind (arith, trees_few beside base list there, some_there (part (v ∷ variables below) base).lists (part_of (v ∷ variables below) base list) (part_in (v ∷ variables below) base list there))
 
 -- ---- the ways of a list
-
-each_listed : (P : List Bool → Type 0) (lists : List (List Bool)) (x : List Bool) → AllByRecursion P lists → is_listed lists x ≡ true → P x
-each_listed P [] x each e = absurd (cc)
-each_listed P (y ∷ lists) x each e = elim (or_cases (same_list y x) (is_listed lists x) e) [
-  | inl same ↦ subst P (pointwise-equal y x same) each.0
-  | inr later ↦ each_listed P lists x each.1 later
-]
 
 module _ (vars : ℕ) (spot : Spot) (nodes : List Node) (levels : List (Vec ℕ Global)) (is : IsSpot vars spot) (are : AreLevels nodes (spots_below spot) levels) (narrow : sum_on Lists spot.below (decided spot.v spot.place) ≤ BUDGET_LIMIT) where
   abbrev base : Place
@@ -151,15 +130,15 @@ module _ (vars : ℕ) (spot : Spot) (nodes : List Node) (levels : List (Vec ℕ 
   abbrev way : Bool → List Bool → Option (List ℕ)
   way bit list = way_by spot.v spot.below spot.place bit list
 
-  its_begin : (list : List Bool) (bit : Bool) → is_listed (decided spot.v spot.place).lists (next list bit) ≡ true → AreBegun nodes spot.below (decided spot.v spot.place) levels (next list bit)
+  its_begin : (list : List Bool) (bit : Bool) → In (next list bit) (decided spot.v spot.place).lists → AreBegun nodes spot.below (decided spot.v spot.place) levels (next list bit)
   its_begin list bit there = begun nodes spot.below (decided spot.v spot.place) levels (next list bit) (spot_once vars spot is).1 there are
 
-  pub way_usable : (list : List Bool) (bit : Bool) (j : ℕ) → slice_get spot.place.lists j ≡ Some list → IfSome (way bit list) (IsUsable nodes spot.v levels)
-  way_usable list bit j at = by (is_dead_by (spot.v ∷ spot.place.bound) spot.place.clauses (next list bit)) refl where
+  way_usable : (list : List Bool) (bit : Bool) → In list spot.place.lists → IfSome (way bit list) (IsUsable nodes spot.v levels)
+  way_usable list bit at = by (is_dead_by (spot.v ∷ spot.place.bound) spot.place.clauses (next list bit)) refl where
     by : (b : Bool) → is_dead_by (spot.v ∷ spot.place.bound) spot.place.clauses (next list bit) ≡ b → IfSome (cond b None (Some (begins spot.below base (next list bit)))) (IsUsable nodes spot.v levels)
     by true e = tt
     by false e =
-        let there = next_listed spot.v spot.place list bit j at e in
+        let there = next_in spot.v spot.place list bit at e in
         let first = its_begin list bit there in
         record {
           held = first.held;
@@ -169,14 +148,14 @@ module _ (vars : ℕ) (spot : Spot) (nodes : List Node) (levels : List (Vec ℕ 
           free = first.silent spot.v (spot_once vars spot is).0;
         }
 
-  way_silent : (list : List Bool) (bit : Bool) (j u : ℕ) → slice_get spot.place.lists j ≡ Some list → is_among (variables spot.below) u ≡ false → way_mentions nodes u levels (way bit list) ≡ false
-  way_silent list bit j u at apart = by (is_dead_by (spot.v ∷ spot.place.bound) spot.place.clauses (next list bit)) refl where
+  way_silent : (list : List Bool) (bit : Bool) (u : ℕ) → In list spot.place.lists → is_among (variables spot.below) u ≡ false → way_mentions nodes u levels (way bit list) ≡ false
+  way_silent list bit u at apart = by (is_dead_by (spot.v ∷ spot.place.bound) spot.place.clauses (next list bit)) refl where
     by : (b : Bool) → is_dead_by (spot.v ∷ spot.place.bound) spot.place.clauses (next list bit) ≡ b → way_mentions nodes u levels (cond b None (Some (begins spot.below base (next list bit)))) ≡ false
     by true e = refl
-    by false e = (its_begin list bit (next_listed spot.v spot.place list bit j at e)).silent u apart
+    by false e = (its_begin list bit (next_in spot.v spot.place list bit at e)).silent u apart
 
-  way_says : (list : List Bool) (bit : Bool) (j : ℕ) (a : Assignment) → slice_get spot.place.lists j ≡ Some list → a spot.v ≡ bit → way_true nodes a levels (way bit list) ≡ left_by spot.place a list
-  way_says list bit j a at e = by (is_dead_by (spot.v ∷ spot.place.bound) spot.place.clauses (next list bit)) refl ∙ sym expanded where
+  way_says : (list : List Bool) (bit : Bool) (a : Assignment) → In list spot.place.lists → a spot.v ≡ bit → way_true nodes a levels (way bit list) ≡ left_by spot.place a list
+  way_says list bit a at e = by (is_dead_by (spot.v ∷ spot.place.bound) spot.place.clauses (next list bit)) refl ∙ sym expanded where
     expanded : left_by spot.place a list ≡ left_by (decided spot.v spot.place) a (next list bit)
     expanded = expand_by spot.v spot.place a list (spot_free vars spot is) ∙ (λ k. left_by (decided spot.v spot.place) a (next list (e k)))
 
@@ -184,31 +163,30 @@ module _ (vars : ℕ) (spot : Spot) (nodes : List Node) (levels : List (Vec ℕ 
         → way_true nodes a levels (cond b None (Some (begins spot.below base (next list bit)))) ≡ left_by (decided spot.v spot.place) a (next list bit)
     by true f = sym (dead_left (decided spot.v spot.place) a (next list bit) f)
     by false f =
-        let there = next_listed spot.v spot.place list bit j at f in
+        let there = next_in spot.v spot.place list bit at f in
         (its_begin list bit there).truth a
-        ∙ sym (full_holds spot.below (decided spot.v spot.place) a (next list bit)
-        (down_full spot.below (decided spot.v spot.place) (next list bit) (each_listed (IsDown spot.below (decided spot.v spot.place)) (decided spot.v spot.place).lists (next list bit) (each_down vars spot is) there)))
+        ∙ sym (down_holds spot.below (decided spot.v spot.place) a (next list bit) (each-at (IsDown spot.below (decided spot.v spot.place)) (next list bit) (decided spot.v spot.place).lists (each_down vars spot is) there))
 
-  chosen_node : (new : List Node) (list : List Bool) (j n : ℕ) → slice_get spot.place.lists j ≡ Some list → IsChoice nodes new spot.v levels (way false list) (way true list) n → IsNodeAt spot list new n
-  chosen_node new list j n at node = record {
+  chosen_node : (new : List Node) (list : List Bool) (n : ℕ) → In list spot.place.lists → IsChoice nodes new spot.v levels (way false list) (way true list) n → IsNodeAt spot list new n
+  chosen_node new list n at node = record {
     within = node.within;
     truth = λ a. node.truth a ∙ by_bit a (a spot.v) refl;
-    silent = λ u e. let parts = or_parts (spot.v == u) (is_among (variables spot.below) u) e in node.silent u parts.0 (way_silent list false j u at parts.1) (way_silent list true j u at parts.1);
+    silent = λ u e. let parts = or_parts (spot.v == u) (is_among (variables spot.below) u) e in node.silent u parts.0 (way_silent list false u at parts.1) (way_silent list true u at parts.1);
   } where
     by_bit : (a : Assignment) (bit : Bool) → a spot.v ≡ bit → way_true nodes a levels (bit_way (way false list) (way true list) bit) ≡ left_by spot.place a list
-    by_bit a false e = way_says list false j a at e
-    by_bit a true e = way_says list true j a at e
+    by_bit a false e = way_says list false a at e
+    by_bit a true e = way_says list true a at e
 
   pub all_usable : (bit : Bool) → All (λ w. IfSome w (IsUsable nodes spot.v levels)) (map (way bit) spot.place.lists)
   all_usable bit k d h =
       let low : k < length spot.place.lists = omega (arith, h, length-map spot.place.lists (way bit)) in
       subst (λ w. IfSome w (IsUsable nodes spot.v levels)) (sym (get_or-map (way bit) spot.place.lists k [] d low))
-      (way_usable (get_or spot.place.lists k []) bit k (slice_get-get_or spot.place.lists k [] low))
+      (way_usable (get_or spot.place.lists k []) bit (In-at spot.place.lists k [] low))
 
   chosen_nodes : (old new : Maker) (numbers : List ℕ) → nodes ≡ old.store.nodes → AreChoices old new spot.v levels (forks_at spot.v spot.below spot.place) numbers → AreNodesAt spot new.store.nodes numbers
   chosen_nodes old new numbers same made = record {
     long = made.long ∙ length-map spot.place.lists (way false);
-    right = λ j list n here there. chosen_node new.store.nodes list j n here
+    right = λ j list n here there. chosen_node new.store.nodes list n (subst (λ l. In l spot.place.lists) (get_or_from_slice_get spot.place.lists j list [] here) (In-at spot.place.lists j [] (slice_get_within spot.place.lists j list here)))
         (subst (λ (ns : List Node). IsChoice ns new.store.nodes spot.v levels (way false list) (way true list) n) (sym same)
         (made.right j (way false list) (way true list) n (slice_get-map (way false) spot.place.lists j ∙ ap (option_map (way false)) here) (slice_get-map (way true) spot.place.lists j ∙ ap (option_map (way true)) here) there));
   }
@@ -226,32 +204,22 @@ module _ (m : Maker) (step : Step) (forks : Forks) (stack under : List (Vec ℕ 
     both : AreLevels m.store.nodes (spots_below spot) top × AreLevels m.store.nodes rest (reverse under)
     both = levels_split m.store.nodes (spots_below spot) rest top (reverse under) (its_many ∙ sym (length-spots spot.below (decided spot.v spot.place))) (subst (AreLevels m.store.nodes (spots_below spot ++ rest)) are ready.stacked)
 
-    ways_usable : (bit : Bool) (ways : List (Option (List ℕ))) → ways ≡ map (way_by spot.v spot.below spot.place bit) spot.place.lists → All (λ w. IfSome w (IsUsable m.store.nodes step.var top)) ways
-    ways_usable bit ways e = subst (λ v. All (λ w. IfSome w (IsUsable m.store.nodes v top)) ways) (sym (ap (λ (s : Step). s.var) ready.step_is))
-        (subst (λ ways. All (λ w. IfSome w (IsUsable m.store.nodes spot.v top)) ways) (sym e) (all_usable m.store.vars spot m.store.nodes top ready.spot_is both.0 ready.narrow bit))
-
-    pub zeros_usable : All (λ w. IfSome w (IsUsable m.store.nodes step.var top)) forks.zero.ways
-    zeros_usable = ways_usable false forks.zero.ways (ap (λ (f : Forks). f.zero.ways) ready.forks_are)
-
-    pub ones_usable : All (λ w. IfSome w (IsUsable m.store.nodes step.var top)) forks.one.ways
-    ones_usable = ways_usable true forks.one.ways (ap (λ (f : Forks). f.one.ways) ready.forks_are)
-
-    pub forks_long : (length forks.zero.ways ≡ length spot.place.lists) × (length forks.one.ways ≡ length spot.place.lists)
-    forks_long = (
-      ap (λ (f : Forks). length f.zero.ways) ready.forks_are ∙ length-map spot.place.lists (way_by spot.v spot.below spot.place false),
-      ap (λ (f : Forks). length f.one.ways) ready.forks_are ∙ length-map spot.place.lists (way_by spot.v spot.below spot.place true),
-    )
-
-    pub its_variable : IsVariable m step.var
-    its_variable = subst (λ v. IsVariable m v) (sym (ap (λ (s : Step). s.var) ready.step_is))
-        (let parts = and_parts (nat_lt 0 spot.v) (nat_le spot.v m.store.vars) (and_parts (fits m.store.vars spot.v) (list_all (fits m.store.vars) (variables spot.below)) ready.spot_is.fit).0 in
-        (let low : 0 < spot.v = ltb-true _ _ parts.0 in omega arith, leb-true _ _ parts.1))
+    pub placeable : IsPlaceable m step.var top forks
+    placeable = subst (λ v. IsPlaceable m v top forks) (sym (ap (λ (s : Step). s.var) ready.step_is)) (subst (IsPlaceable m spot.v top) (sym ready.forks_are) (record {
+      maker = ready.made;
+      variable = let parts = and_parts (nat_lt 0 spot.v) (nat_le spot.v m.store.vars) (and_parts (fits m.store.vars spot.v) (list_all (fits m.store.vars) (variables spot.below)) ready.spot_is.fit).0 in
+          (let low : 0 < spot.v = ltb-true _ _ parts.0 in omega arith, leb-true _ _ parts.1);
+      long = length-map spot.place.lists (way_by spot.v spot.below spot.place true) ∙ sym (length-map spot.place.lists (way_by spot.v spot.below spot.place false));
+      zeros = all_usable m.store.vars spot m.store.nodes top ready.spot_is both.0 ready.narrow false;
+      ones = all_usable m.store.vars spot m.store.nodes top ready.spot_is both.0 ready.narrow true;
+      few = omega (arith, length-map spot.place.lists (way_by spot.v spot.below spot.place false), ready.few);
+    }))
 
     pub raised : (new : Maker) (numbers : List ℕ) → AreChoices m new step.var top forks numbers → IsRaised m new under numbers spot rest
     raised new numbers made =
         let made_here : AreChoices m new spot.v top (forks_at spot.v spot.below spot.place) numbers =
         subst (λ v. AreChoices m new v top (forks_at spot.v spot.below spot.place) numbers) (ap (λ (s : Step). s.var) ready.step_is) (subst (λ fs. AreChoices m new step.var top fs numbers) ready.forks_are made) in
-        let long : length numbers ≡ length spot.place.lists = made.long ∙ forks_long.0 in
+        let long : length numbers ≡ length spot.place.lists = made_here.long ∙ length-map spot.place.lists (way_by spot.v spot.below spot.place false) in
         record {
           adds = subst (λ n. Adds m new (3 * n) ((4 + 2 * trees spot.below) * n)) long (subst (λ k. Adds m new (3 * length numbers) ((4 + 2 * k) * length numbers)) its_many made.adds);
           nodes = chosen_nodes m.store.vars spot m.store.nodes top ready.spot_is both.0 ready.narrow m new numbers refl made_here;

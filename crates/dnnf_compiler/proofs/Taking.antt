@@ -4,18 +4,21 @@ use Rattle.std.specs.Prelude.{◌==◌, ◌⊎◌, slice_get, IfSome, Vec}
 use Rattle.std.specs.declared.alloc.Global.{Global}
 use Rattle.std.specs.List.{list_any, list_all, AllByRecursion}
 use Rattle.std.proofs.Math.Bool.{or-false}
-use Rattle.std.proofs.lemmas.Bool.{eqb-true, or_left}
+use Rattle.std.proofs.lemmas.Bool.{eqb-true, eq-eqb, or_left}
+use Rattle.std.proofs.lemmas.List.Elements.{All-from_recursion}
 use Rattle.state_rules.specs.Bits.{same_bit}
 use Rattle.state_rules.specs.Assignments.{Assignment}
 use Rattle.state_rules.specs.Graphs.{Node, at_most_one, is_true, mentions}
 use Rattle.state_rules.proofs.Lists.{list_any-map}
-use Rattle.branch_states.specs.declared.measuring.TheConstants.{BUDGET_LIMIT}
+use Rattle.state_rules.proofs.Members.{any_same}
+use Rattle.elimination_forests.proofs.Lists.{each-at, map_same}
+use Rattle.node_store.specs.declared.store.TheConstants.{MADE_LIMIT}
 use Rattle.dnnf_compiler.specs.declared.maker.Maker.{Maker}
 use Rattle.dnnf_compiler.specs.inner.Joining.{Grows}
-use Rattle.dnnf_compiler.specs.inner.Making.{Adds, IsJoin}
-use Rattle.dnnf_compiler.specs.inner.Meeting.{AreApart, IsMeet, taken, AreHeld, IsUsable, way_true, way_mentions, bit_way, IsChoice, IsTaken, IsChosen}
-use Rattle.dnnf_compiler.proofs.Making.{adds_then, may_grow, mention_grows, get-push, eqb-same}
-use Rattle.dnnf_compiler.proofs.Meeting.{each_more, map_same, all_same, any_same, first_none, others_none}
+use Rattle.dnnf_compiler.specs.inner.Making.{IsMaker, Adds, IsJoin}
+use Rattle.dnnf_compiler.specs.inner.Meeting.{AreApart, AreMeetable, IsMeet, taken, AreHeld, IsUsable, way_true, way_mentions, bit_way, IsChoice, IsTaken, IsChosen}
+use Rattle.dnnf_compiler.proofs.Making.{adds_then, may_grow, mention_grows, get-push}
+use Rattle.dnnf_compiler.proofs.Meeting.{each_more, all_same, first_none, others_none, length-zip}
 
 -- ---- the nodes to which numbers lead
 
@@ -24,24 +27,21 @@ length-taken [] numbers held = refl
 length-taken (level ∷ below) [] held = absurd held
 length-taken (level ∷ below) (n ∷ numbers) held = ap suc (length-taken below numbers held.1)
 
-pub length-held : (below : List (Vec ℕ Global)) (numbers : List ℕ) → AreHeld below numbers → length numbers ≡ length below
-length-held [] [] held = refl
-length-held [] (n ∷ numbers) held = absurd held
-length-held (level ∷ below) [] held = absurd held
-length-held (level ∷ below) (n ∷ numbers) held = ap suc (length-held below numbers held.1)
+pub length-held : (below : List (Vec ℕ Global)) (numbers : List ℕ) → AreHeld below numbers → length below ≡ length numbers
+length-held = length-zip (λ (level : Vec ℕ Global) (n : ℕ). n < length level.items)
 
 module _ (old new : List Node) (g : Grows old new) (ks : List ℕ) (within : AllByRecursion (λ k. k < length old) ks) where
   pub within_grow : AllByRecursion (λ k. k < length new) ks
   within_grow = each_more (λ k. k < length old) (λ k. k < length new) ks (λ k h. let l = g.longer in omega arith) within
 
   pub truths_grow : (a : Assignment) → list_all (λ k. is_true new k a) ks ≡ list_all (λ k. is_true old k a) ks
-  truths_grow a = all_same (λ k. k < length old) (λ k. is_true new k a) (λ k. is_true old k a) ks (λ k h. g.truth k a h) within
+  truths_grow a = all_same (λ k. is_true new k a) (λ k. is_true old k a) ks (λ k m. g.truth k a (each-at (λ k. k < length old) k ks within m))
 
   pub mentions_grow : (v : ℕ) → list_any (mentions new v) ks ≡ list_any (mentions old v) ks
-  mentions_grow v = any_same (λ k. k < length old) (mentions new v) (mentions old v) ks (λ k h. g.variables k v h) within
+  mentions_grow v = any_same (mentions new v) (mentions old v) ks (λ k m. g.variables k v (each-at (λ k. k < length old) k ks within m))
 
   pub apart_grow : AreApart old ks → AreApart new ks
-  apart_grow apart v = ap at_most_one (map_same (λ k. k < length old) (mentions new v) (mentions old v) ks (λ k h. g.variables k v h) within) ∙ apart v
+  apart_grow apart v = ap at_most_one (map_same (mentions new v) (mentions old v) ks (λ k m. g.variables k v (each-at (λ k. k < length old) k ks within m))) ∙ apart v
 
 pub usable_grows : (old new : List Node) (var : ℕ) (below : List (Vec ℕ Global)) (way : Option (List ℕ)) → Grows old new → IfSome way (IsUsable old var below) → IfSome way (IsUsable new var below)
 usable_grows old new var below None g h = tt
@@ -68,15 +68,18 @@ module _ (m : Maker) (var : ℕ) (bit : Bool) (below : List (Vec ℕ Global)) (n
   abbrev kids : List ℕ
   kids = literal ∷ taken below numbers
 
-  pub kids_few : length kids ≤ BUDGET_LIMIT + 1
-  kids_few = omega (arith, is.few, length-taken below numbers is.held, length-held below numbers is.held)
-
-  pub kids_apart : AreApart m.store.nodes kids
-  kids_apart v = by (var == v) refl where
-    by : (b : Bool) → (var == v) ≡ b → at_most_one (map (mentions m.store.nodes v) kids) ≡ true
-    by true e = others_none (mentions m.store.nodes v literal) (map (mentions m.store.nodes v) (taken below numbers))
+  pub kids_meetable : IsMaker m → m.store.made < MADE_LIMIT → AreMeetable m kids
+  kids_meetable maker few = record {
+    maker = maker;
+    within = All-from_recursion (λ k. k < length m.store.nodes) kids (literal_in, is.within);
+    apart = λ v. by v (var == v) refl;
+    few_kids = omega (arith, is.few, length-taken below numbers is.held, length-held below numbers is.held);
+    few = few;
+  } where
+    by : (v : ℕ) (b : Bool) → (var == v) ≡ b → at_most_one (map (mentions m.store.nodes v) kids) ≡ true
+    by v true e = others_none (mentions m.store.nodes v literal) (map (mentions m.store.nodes v) (taken below numbers))
         (list_any-map (λ b. b) (mentions m.store.nodes v) (taken below numbers) ∙ ap (λ u. list_any (mentions m.store.nodes u) (taken below numbers)) (sym (eqb-true var v e)) ∙ is.free)
-    by false e = first_none (mentions m.store.nodes v literal) (map (mentions m.store.nodes v) (taken below numbers)) (variables v ∙ e) (is.apart v)
+    by v false e = first_none (mentions m.store.nodes v literal) (map (mentions m.store.nodes v) (taken below numbers)) (variables v ∙ e) (is.apart v)
 
   module _ (new : Maker) (node : ℕ) (meet : IsMeet m new kids node) where
     adds : Adds m new 1 (1 + length below)
@@ -98,7 +101,7 @@ module _ (m : Maker) (var : ℕ) (bit : Bool) (below : List (Vec ℕ Global)) (n
     take_some other = record {
       adds = adds;
       within = meet.within;
-      names = meet.names other var (or_left (mentions m.store.nodes var literal) (list_any (mentions m.store.nodes var) (taken below numbers)) (variables var ∙ eqb-same var));
+      names = meet.names other var (or_left (mentions m.store.nodes var literal) (list_any (mentions m.store.nodes var) (taken below numbers)) (variables var ∙ eq-eqb var var refl));
       truth = says;
       silent = λ v e h. meet.silent v (λ j. (variables v ∙ e) j || h j);
     }
@@ -107,8 +110,7 @@ module _ (m : Maker) (var : ℕ) (bit : Bool) (below : List (Vec ℕ Global)) (n
 
 bit_true : (nodes : List Node) (a : Assignment) (below : List (Vec ℕ Global)) (zero one : Option (List ℕ)) (x : Bool)
     → ((same_bit false x && way_true nodes a below zero) || (same_bit true x && way_true nodes a below one)) ≡ way_true nodes a below (bit_way zero one x)
-bit_true nodes a below zero one true = refl
-bit_true nodes a below zero one false = or-false (way_true nodes a below zero)
+bit_true nodes a below zero one x = grind arith
 
 pub choice_one : (old mid most new : Maker) (var : ℕ) (below : List (Vec ℕ Global)) (zero one : Option (List ℕ)) (first second : Option ℕ) (node : ℕ)
     → IfSome zero (IsUsable old.store.nodes var below) → IfSome one (IsUsable old.store.nodes var below)
@@ -131,24 +133,15 @@ choice_one old mid most new var below zero one first second node zero_usable one
 -- ---- all lists
 
 choice_grows : (old new more : List Node) (var : ℕ) (below : List (Vec ℕ Global)) (zero one : Option (List ℕ)) (node : ℕ) → Grows new more → IsChoice old new var below zero one node → IsChoice old more var below zero one node
-choice_grows old new more var below zero one node g is = record {
-  within = omega (arith, is.within, g.longer);
-  truth = λ a. g.truth node a is.within ∙ is.truth a;
-  silent = λ v other no_zero no_one. g.variables node v is.within ∙ is.silent v other no_zero no_one;
-}
+choice_grows old new more var below zero one node g is = grind arith
 
 bit_usable : (P : List ℕ → Type 0) (zero one : Option (List ℕ)) (bit : Bool) → IfSome zero P → IfSome one P → IfSome (bit_way zero one bit) P
-bit_usable P zero one false h k = h
-bit_usable P zero one true h k = k
+bit_usable P zero one bit h k = grind arith
 
 -- what a node was made of later says the same of the nodes that were there at first
 choice_before : (old mid new : List Node) (var : ℕ) (below : List (Vec ℕ Global)) (zero one : Option (List ℕ)) (node : ℕ) → Grows old mid
     → IfSome zero (IsUsable old var below) → IfSome one (IsUsable old var below) → IsChoice mid new var below zero one node → IsChoice old new var below zero one node
-choice_before old mid new var below zero one node g h k is = record {
-  within = is.within;
-  truth = λ a. is.truth a ∙ way_grows old mid var below (bit_way zero one (a var)) a g (bit_usable (IsUsable old var below) zero one (a var) h k);
-  silent = λ v other no_zero no_one. is.silent v other (names_grow old mid var below zero v g h ∙ no_zero) (names_grow old mid var below one v g k ∙ no_one);
-}
+choice_before old mid new var below zero one node g h k is = grind (arith, way_grows, names_grow)
 
 -- the nodes of the first lists
 abbrev pub AreFirstChoices : Maker → Maker → ℕ → List (Vec ℕ Global) → List (Option (List ℕ)) → List (Option (List ℕ)) → List ℕ → Type 0

@@ -15,7 +15,7 @@ SaysAll clauses graph = (a : Assignment) → is_true graph.nodes (length graph.n
 abbrev pub most_nodes : (sum vars : ℕ) → ℕ
 most_nodes sum vars = 3 * sum + 2 * vars + 2
 
--- What clauses are compiled to: a decomposable graph over their variables that is true exactly where all of them are, whose size
+-- What clauses are compiled to: a decomposable graph over their variables that is true exactly if all of them are, whose size
 -- their sum bounds.
 pub record IsCompiled (list : ClauseList) (compiled : Compiled) : Type 0 where
   pub decomposable : IsGraph compiled.graph

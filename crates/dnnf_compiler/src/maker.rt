@@ -1,9 +1,8 @@
-ghost use Rattle.std.specs.Prelude.{◌≡◌, ◌+◌, ◌*◌, ◌<◌, ◌≤◌, ◌++◌, All, length, option_map, IfOk, IfSome};
+ghost use Rattle.std.specs.Prelude.{◌≡◌, ◌+◌, ◌*◌, ◌<◌, ◌≤◌, ◌++◌, length, option_map, IfOk, IfSome};
 ghost use Rattle.node_store.specs.declared.store.TheConstants.{MADE_LIMIT, VARIABLE_LIMIT};
-ghost use Rattle.branch_states.specs.declared.measuring.TheConstants.{BUDGET_LIMIT};
 ghost use Rattle.dnnf_compiler.specs.inner.Joining.{IsPlain};
 ghost use Rattle.dnnf_compiler.specs.inner.Making.{IsMaker, IsVariable, IsJoin};
-ghost use Rattle.dnnf_compiler.specs.inner.Meeting.{AreApart, IsMeet, taken, AreHeld, IsUsable, IsTaken, IsChosen, AreChoices};
+ghost use Rattle.dnnf_compiler.specs.inner.Meeting.{AreMeetable, IsMeet, IsPlaceable, taken, AreHeld, IsUsable, IsTaken, IsChosen, AreChoices};
 
 use elimination_forests::Forks;
 use node_store::Store;
@@ -44,12 +43,7 @@ impl Maker {
         forks: &Forks,
         below: &[Vec<u32>],
     ) -> Result<Vec<u32>, AllocError>
-        requires maker { IsMaker self.old }
-        requires var { IsVariable self.old var }
-        requires long { length forks.now.one.ways ≡ length forks.now.zero.ways }
-        requires zeros { All (λ way. IfSome way (IsUsable self.old.store.nodes var below.now)) forks.now.zero.ways }
-        requires ones { All (λ way. IfSome way (IsUsable self.old.store.nodes var below.now)) forks.now.one.ways }
-        requires few { self.old.store.made + 3 * length forks.now.zero.ways ≤ MADE_LIMIT }
+        requires { IsPlaceable self.old var below.now forks.now }
         ensures { IfOk result (λ nodes. AreChoices self.old self.new var below.now forks.now nodes.items) }
     {
         let mut nodes = Vec::with_capacity(alloc, forks.zero.len())?;
@@ -113,11 +107,7 @@ impl Maker {
     /// The node that is true if all of these are. It leaves out those that are always true, and makes none if one is never true, or
     /// if one alone is left.
     pub(crate) fn meet(&mut self, alloc: Global, kids: &[u32]) -> Result<u32, AllocError>
-        requires maker { IsMaker self.old }
-        requires within { All (λ k. k < length self.old.store.nodes) kids.now }
-        requires apart { AreApart self.old.store.nodes kids.now }
-        requires few_kids { length kids.now ≤ BUDGET_LIMIT + 1 }
-        requires few { self.old.store.made < MADE_LIMIT }
+        requires { AreMeetable self.old kids.now }
         ensures { IfOk result (IsMeet self.old self.new kids.now) }
     {
         let mut kept = Kids::new(alloc);

@@ -1,17 +1,18 @@
 -- Steps from one level to the next, and lists of one state: what the laws and the sum stand on.
-use Rattle.std.proofs.Common.{inl, inr, min, ◌-◌, ◌≡◌, ℕ, zero, suc, ◌+◌, ◌*◌, ◌<◌, ◌≤◌, Bool, true, false, not, ◌&&◌, cond, List, [], ◌∷◌, ◌++◌, map, length, take, drop, get_or, refl, ap, sym, ◌∙◌, subst, arith, add-one}
-use Rattle.std.specs.List.{filter, flat_map, AllByRecursion}
-use Rattle.std.proofs.Math.Bool.{and-true, and_assoc}
-use Rattle.std.proofs.lemmas.Bool.{false≢true, or_parts, or_cases, and_parts, and_from, or_left, or_right, not_from_false, not_from_true, not-true, not-false}
+use Rattle.std.proofs.Common.{min, ◌-◌, ◌≡◌, ℕ, zero, suc, ◌+◌, ◌*◌, ◌<◌, ◌≤◌, Bool, true, false, not, ◌&&◌, List, [], ◌∷◌, ◌++◌, map, length, take, drop, get_or, refl, ap, sym, ◌∙◌, subst, arith, add-one}
+use Rattle.std.specs.List.{filter, flat_map}
+use Rattle.std.proofs.lemmas.Bool.{not-true}
 use Rattle.std.proofs.lemmas.List.Folds.{flat_map-map}
-use Rattle.std.proofs.lemmas.List.{take-append-drop, length-take, length-drop, nil_from_length}
+use Rattle.std.proofs.lemmas.List.{take-append-drop, length-take, length-drop, length-append, nil_from_length}
 use Rattle.state_rules.specs.Bits.{row_number, lists_of_bits}
-use Rattle.state_rules.proofs.Bits.{not_left}
+use Rattle.state_rules.proofs.Bits.{pointwise-equal}
 use Rattle.state_rules.proofs.Lists.{map-flat_map}
+use Rattle.state_rules.proofs.Members.{In, In-map, In-filter, In-filtered, from_map, bits_in, bits_length}
 use Rattle.clause_encoder.specs.Clauses.{Clause}
-use Rattle.elimination_forests.specs.Branches.{order, has_true, is_left, left, is_touched, is_covered, is_open, some_passes, is_dead, different, living, size, bits_of, words_of, state_of, without, branch, IsLiving}
-use Rattle.elimination_forests.proofs.Lists.{longer, lists_of_bits-more, each-long, flat_map_same, filter-flat_map, flat_map-filter, different-flat_map, each-different, each-filter, each-map}
+use Rattle.elimination_forests.specs.Branches.{order, has_true, is_left, left, is_touched, is_covered, is_open, some_passes, is_dead, same_list, different, living, size, bits_of, words_of, state_of, without, branch, IsLiving}
+use Rattle.elimination_forests.proofs.Lists.{longer, lists_of_bits-more, flat_map_same, filter-flat_map, flat_map-filter, none-in, In-met, met-In, different-flat_map}
 use Rattle.elimination_forests.proofs.Places.{AllOnce, first_met-once, untouched-left, covered-without, covered-more}
+use Rattle.elimination_forests.proofs.Passing.{passes_by, passes_without}
 
 -- the living lists that a list leaves, for the bit 0 and then for 1
 abbrev pub branches : List Clause → ℕ → List Bool → List (List Bool)
@@ -24,13 +25,12 @@ pub no_bits : (vs : List ℕ) (c : Clause) → is_left vs [] c ≡ true
 no_bits [] c = refl
 no_bits (v ∷ vs) c = refl
 
--- A clause is left where it was, unless the next bit makes it true.
+-- A clause is left if it was, unless the next bit makes it true.
 pub is_left-more : (vs : List ℕ) (bits : List Bool) (bit : Bool) (c : Clause) → length bits < length vs
     → is_left vs (bits ++ bit ∷ []) c ≡ (is_left vs bits c && not (has_true (get_or vs (length bits) 0) bit c))
 is_left-more [] bits bit c h = absurd (omega arith)
-is_left-more (v ∷ vs) [] bit c h = ap (λ t. not (has_true v bit c) && t) (no_bits vs c) ∙ and-true (not (has_true v bit c))
-is_left-more (v ∷ vs) (b ∷ bits) bit c h = ap (λ t. not (has_true v b c) && t) (is_left-more vs bits bit c (omega arith))
-    ∙ sym (and_assoc (not (has_true v b c)) (is_left vs bits c) (not (has_true (get_or vs (length bits) 0) bit c)))
+is_left-more (v ∷ vs) [] bit c h = grind (arith, no_bits vs c)
+is_left-more (v ∷ vs) (b ∷ bits) bit c h = grind (arith, is_left-more vs bits bit c (omega arith))
 
 without-map : (f g test : Clause → Bool) → ((c : Clause) → f c ≡ (g c && not (test c))) → (cs : List Clause) → map f cs ≡ without test cs (map g cs)
 without-map f g test h [] = refl
@@ -44,23 +44,9 @@ left-next clauses bits bit h = without-map _ (is_left (order clauses) bits) (has
 pub order-once : (clauses : List Clause) → AllOnce (order clauses)
 order-once clauses = first_met-once _
 
-some-stays : (p q test : Clause → Bool) → ((c : Clause) → p c ≡ true → (test c ≡ false) × (q c ≡ true)) → (cs : List Clause) (list : List Bool)
-    → some_passes p cs list ≡ true → some_passes q cs (without test cs list) ≡ true
-some-stays p q test h [] list e = absurd (false≢true e)
-some-stays p q test h (c ∷ cs) [] e = absurd (false≢true e)
-some-stays p q test h (c ∷ cs) (b ∷ list) e = elim (or_cases (b && p c) (some_passes p cs list) e) [
-  | inl here ↦
-      let parts = and_parts b (p c) here in
-      let stays = h c parts.1 in
-      or_left ((b && not (test c)) && q c) (some_passes q cs (without test cs list))
-      (and_from (b && not (test c)) (q c) (and_from b (not (test c)) parts.0 (not_from_false (test c) stays.0)) stays.1)
-  | inr rest ↦ or_right ((b && not (test c)) && q c) (some_passes q cs (without test cs list)) (some-stays p q test h cs list rest)
-]
-
 -- What a bit leaves of a dead list is dead.
 pub dead-next : (clauses : List Clause) (i : ℕ) (list : List Bool) (bit : Bool) → i < length (order clauses) → is_dead clauses i list ≡ true → is_dead clauses (i + 1) (branch clauses i list bit) ≡ true
-dead-next clauses i list bit h e = some-stays (is_covered (order clauses) i) (is_covered (order clauses) (i + 1)) (has_true (get_or (order clauses) i 0) bit)
-    (λ c covered. (covered-without (order clauses) i bit c (order-once clauses) h covered, covered-more (order clauses) i c covered)) clauses list e
+dead-next clauses i list bit h e = grind (arith, passes_without, passes_by (is_covered (order clauses) i), covered-without (order clauses) i bit, covered-more (order clauses) i, order-once clauses)
 
 -- ---- the living lists of the next level
 
@@ -71,18 +57,15 @@ both clauses i list = branch clauses i list false ∷ branch clauses i list true
 left-lists : (clauses : List Clause) (i : ℕ) → i < length (order clauses)
     → map (left clauses) (lists_of_bits (suc i)) ≡ flat_map (both clauses i) (map (left clauses) (lists_of_bits i))
 left-lists clauses i h = ap (map (left clauses)) (lists_of_bits-more i) ∙ map-flat_map (left clauses) longer (lists_of_bits i)
-    ∙ flat_map_same (λ bits. length bits ≡ i) (λ bits. map (left clauses) (longer bits)) (λ bits. both clauses i (left clauses bits)) next (lists_of_bits i) (each-long i)
+    ∙ flat_map_same (λ bits. map (left clauses) (longer bits)) (λ bits. both clauses i (left clauses bits)) (lists_of_bits i) (λ bits m. next bits (bits_length i bits m))
     ∙ sym (flat_map-map (both clauses i) (left clauses) (lists_of_bits i)) where
-      one : (bits : List Bool) (bit : Bool) → length bits ≡ i → left clauses (bits ++ bit ∷ []) ≡ branch clauses i (left clauses bits) bit
-      one bits bit e = left-next clauses bits bit (omega arith) ∙ ap (λ n. branch clauses n (left clauses bits) bit) e
-
       next : (bits : List Bool) → length bits ≡ i → map (left clauses) (longer bits) ≡ both clauses i (left clauses bits)
-      next bits e = λ j. one bits false e j ∷ one bits true e j ∷ []
+      next bits e = grind (arith, left-next clauses bits)
 
 none_pass : {X : Type 0} (p : X → Bool) (a b : X) → p a ≡ false → p b ≡ false → filter p (a ∷ b ∷ []) ≡ []
-none_pass p a b e f = (λ i. cond (e i) (a ∷ cond (f i) (b ∷ []) []) (cond (f i) (b ∷ []) []))
+none_pass p a b e f = grind arith
 
-abbrev is_alive : List Clause → ℕ → List Bool → Bool
+abbrev pub is_alive : List Clause → ℕ → List Bool → Bool
 is_alive clauses i list = not (is_dead clauses i list)
 
 -- The living lists of the next level are the different living lists that one further bit leaves of those of this one.
@@ -94,28 +77,33 @@ living_lists-next clauses i h =
     ∙ ap different (filter-flat_map (is_alive clauses (i + 1)) (both clauses i) lists
     ∙ sym (flat_map-filter (is_alive clauses i) (branches clauses i) dead lists))
     ∙ sym (different-flat_map (branches clauses i) (filter (is_alive clauses i) lists)) where
-      gone : (list : List Bool) (bit : Bool) → is_dead clauses i list ≡ true → is_alive clauses (i + 1) (branch clauses i list bit) ≡ false
-      gone list bit e = not_from_true (is_dead clauses (i + 1) (branch clauses i list bit)) (dead-next clauses i list bit h e)
-
       dead : (list : List Bool) → is_alive clauses i list ≡ false → branches clauses i list ≡ []
-      dead list e =
-          let d = not-false (is_dead clauses i list) e in
-          none_pass (is_alive clauses (i + 1)) (branch clauses i list false) (branch clauses i list true) (gone list false d) (gone list true d)
-
--- a list that some bits leave
-pub record WasLeft (clauses : List Clause) (i : ℕ) (list : List Bool) : Type 0 where
-  pub bits : List Bool
-  pub many : length bits ≡ i
-  pub left : list ≡ left clauses bits
+      dead list e = grind (arith, dead-next clauses i list)
 
 -- What is among the living lists of a level is a living list of it.
-pub living_are_living : (clauses : List Clause) (i : ℕ) → AllByRecursion (IsLiving clauses i) (living clauses i)
-living_are_living clauses i = each-different (IsLiving clauses i) (filter (is_alive clauses i) lists)
-    (each-filter (WasLeft clauses i) (IsLiving clauses i) (is_alive clauses i)
-    (λ list was e. record { bits = was.bits; many = was.many; left = was.left; alive = not-true (is_dead clauses i list) e })
-    lists (each-map (λ bits. length bits ≡ i) (WasLeft clauses i) (left clauses) (λ bits e. record { bits = bits; many = e; left = refl }) (lists_of_bits i) (each-long i))) where
-      lists : List (List Bool)
-      lists = map (left clauses) (lists_of_bits i)
+pub living_are_living : (clauses : List Clause) (i : ℕ) (list : List Bool) → In list (living clauses i) → IsLiving clauses i list
+living_are_living clauses i list m =
+    let lists = map (left clauses) (lists_of_bits i) in
+    let found = In-filter (is_alive clauses i) list lists (met-In same_list pointwise-equal list (filter (is_alive clauses i) lists) m) in
+    let from = from_map (left clauses) list (lists_of_bits i) found.0 in
+    record { bits = from.item; many = bits_length i from.item from.is_in; left = from.gives; alive = not-true (is_dead clauses i list) found.1 }
+
+-- and so is no other
+pub living-in : (clauses : List Clause) (i : ℕ) (list : List Bool) → IsLiving clauses i list → In list (living clauses i)
+living-in clauses i list is =
+    let there = In-map (left clauses) is.bits (lists_of_bits (length is.bits)) (bits_in is.bits) in
+    In-met same_list pointwise-equal list (filter (is_alive clauses i) (map (left clauses) (lists_of_bits i))) (In-filtered (is_alive clauses i) list (map (left clauses) (lists_of_bits i))
+    (subst (λ l. In l (map (left clauses) (lists_of_bits i))) (sym is.left) (subst (λ n. In (left clauses is.bits) (map (left clauses) (lists_of_bits n))) is.many there)) (ap not is.alive))
+
+-- What a bit leaves of a living list is one if it is not dead.
+pub living-next : (clauses : List Clause) (i : ℕ) (list : List Bool) (bit : Bool) → i < length (order clauses) → IsLiving clauses i list
+    → is_dead clauses (i + 1) (branch clauses i list bit) ≡ false → IsLiving clauses (i + 1) (branch clauses i list bit)
+living-next clauses i list bit low is alive = record {
+  bits = is.bits ++ bit ∷ [];
+  many = omega (arith, is.many, length-append is.bits (bit ∷ []));
+  left = (λ j. branch clauses (sym is.many j) (is.left j) bit) ∙ sym (left-next clauses is.bits bit (omega (arith, is.many)));
+  alive = alive;
+}
 
 -- ---- lists with one state
 
@@ -129,41 +117,24 @@ Known vs i (c ∷ cs) (b ∷ list) = (is_touched vs i c ≡ false → b ≡ true
 known-left : (vs : List ℕ) (bits : List Bool) (cs : List Clause) → some_passes (is_covered vs (length bits)) cs (map (is_left vs bits) cs) ≡ false
     → Known vs (length bits) cs (map (is_left vs bits) cs)
 known-left vs bits [] e = tt
-known-left vs bits (c ∷ cs) e =
-    let parts = or_parts (is_left vs bits c && is_covered vs (length bits) c) (some_passes (is_covered vs (length bits)) cs (map (is_left vs bits) cs)) e in
-    (untouched-left vs bits c, not_left (is_left vs bits c) (is_covered vs (length bits) c) parts.0, known-left vs bits cs parts.1)
+known-left vs bits (c ∷ cs) e = grind (arith, known-left vs bits cs, untouched-left vs bits c, none-in)
 
 pub known : (clauses : List Clause) (i : ℕ) (list : List Bool) → IsLiving clauses i list → Known (order clauses) i clauses list
-known clauses i list h = subst (λ n. Known (order clauses) n clauses list) h.many
-    (subst (Known (order clauses) (length h.bits) clauses) (sym h.left)
-    (known-left (order clauses) h.bits clauses (ap (is_dead clauses (length h.bits)) (sym h.left) ∙ ap (λ n. is_dead clauses n list) h.many ∙ h.alive)))
+known clauses i list h = grind (arith, known-left)
 
 pub same-known : (vs : List ℕ) (i : ℕ) (cs : List Clause) (ks ls : List Bool) → Known vs i cs ks → Known vs i cs ls
     → bits_of (is_open vs i) cs ks ≡ bits_of (is_open vs i) cs ls → ks ≡ ls
-same-known vs i [] [] [] h k e = refl
-same-known vs i [] [] (y ∷ ls) h k e = absurd k
+same-known vs i [] [] ls h k e = grind arith
 same-known vs i [] (x ∷ ks) ls h k e = absurd h
 same-known vs i (c ∷ cs) [] ls h k e = absurd h
 same-known vs i (c ∷ cs) (x ∷ ks) [] h k e = absurd k
-same-known vs i (c ∷ cs) (x ∷ ks) (y ∷ ls) h k e = by_test (is_touched vs i c) (is_covered vs i c) refl refl e (same-known vs i cs ks ls h.2 k.2) where
-  by_test : (t u : Bool) → is_touched vs i c ≡ t → is_covered vs i c ≡ u
-      → cond (t && not u) (x ∷ bits_of (is_open vs i) cs ks) (bits_of (is_open vs i) cs ks) ≡ cond (t && not u) (y ∷ bits_of (is_open vs i) cs ls) (bits_of (is_open vs i) cs ls)
-      → (bits_of (is_open vs i) cs ks ≡ bits_of (is_open vs i) cs ls → ks ≡ ls) → x ∷ ks ≡ y ∷ ls
-  by_test true false t u e rest =
-      let first : x ≡ y = cc in
-      let others : bits_of (is_open vs i) cs ks ≡ bits_of (is_open vs i) cs ls = cc in
-      λ j. first j ∷ rest others j
-  by_test true true t u e rest = λ j. (h.1 u ∙ sym (k.1 u)) j ∷ rest e j
-  by_test false u t f e rest = λ j. (h.0 t ∙ sym (k.0 t)) j ∷ rest e j
+same-known vs i (c ∷ cs) (x ∷ ks) (y ∷ ls) h k e = grind (arith, h.0, h.1, k.0, k.1, same-known vs i cs ks ls h.2 k.2)
 
 number-same : (xs ys : List Bool) → length xs ≡ length ys → row_number xs ≡ row_number ys → xs ≡ ys
 number-same [] [] h e = refl
 number-same [] (y ∷ ys) h e = absurd (omega arith)
 number-same (x ∷ xs) [] h e = absurd (omega arith)
-number-same (true ∷ xs) (true ∷ ys) h e = λ i. true ∷ number-same xs ys (omega arith) (omega arith) i
-number-same (true ∷ xs) (false ∷ ys) h e = absurd (omega arith)
-number-same (false ∷ xs) (true ∷ ys) h e = absurd (omega arith)
-number-same (false ∷ xs) (false ∷ ys) h e = λ i. false ∷ number-same xs ys (omega arith) (omega arith) i
+number-same (x ∷ xs) (y ∷ ys) h e = grind (arith, number-same xs ys)
 
 pub words-same : (n : ℕ) (xs ys : List Bool) → length xs ≡ length ys → length xs ≤ 64 * n → words_of n xs ≡ words_of n ys → xs ≡ ys
 words-same zero xs ys h few e = nil_from_length xs (omega arith) ∙ sym (nil_from_length ys (omega arith))
@@ -177,10 +148,7 @@ words-same (suc n) xs ys h few e =
 pub length-bits_of : {X : Type 0} (test : X → Bool) (xs : List X) (list : List Bool) → length xs ≤ length list → length (bits_of test xs list) ≡ length (filter test xs)
 length-bits_of test [] list h = refl
 length-bits_of test (x ∷ xs) [] h = absurd (omega arith)
-length-bits_of test (x ∷ xs) (b ∷ list) h = by_test (test x) (length-bits_of test xs list (omega arith)) where
-  by_test : (t : Bool) → length (bits_of test xs list) ≡ length (filter test xs) → length (cond t (b ∷ bits_of test xs list) (bits_of test xs list)) ≡ length (cond t (x ∷ filter test xs) (filter test xs))
-  by_test true e = ap suc e
-  by_test false e = e
+length-bits_of test (x ∷ xs) (b ∷ list) h = grind (arith, length-bits_of test xs list)
 
 pub length-known : (vs : List ℕ) (i : ℕ) (cs : List Clause) (list : List Bool) → Known vs i cs list → length list ≡ length cs
 length-known vs i [] [] h = refl

@@ -16,7 +16,5 @@ pub use Rattle.elimination_forests.proofs.Branching.{dead-next}
 pub use Rattle.elimination_forests.proofs.Branching.{living_lists-next}
 -- ---- forks
 
--- What a bit leaves of a living list stands where its fork leads to.
-pub use Rattle.elimination_forests.proofs.Leading.{leads-some}
--- Where the fork leads nowhere, what the bit leaves is dead.
-pub use Rattle.elimination_forests.proofs.Leading.{leads-none}
+-- What a bit leaves of a living list is at a place of the next level, unless it is dead.
+pub use Rattle.elimination_forests.proofs.Leading.{leads}

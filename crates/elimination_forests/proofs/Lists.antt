@@ -1,30 +1,52 @@
--- Lists of which each is kept once, where it is first met.
-use Rattle.std.proofs.Common.{◌≡◌, ℕ, zero, suc, Bool, true, false, not, ◌&&◌, ◌||◌, cond, List, [], ◌∷◌, ◌++◌, map, length, refl, ap, sym, ◌∙◌, subst}
-use Rattle.std.specs.List.{list_any, filter, flat_map, AllByRecursion}
+-- Lists of which each is kept once.
+use Rattle.std.proofs.Common.{◌≡◌, ℕ, zero, suc, inl, inr, Bool, true, false, not, ◌&&◌, ◌||◌, List, [], ◌∷◌, ◌++◌, map, refl, ap, sym, ◌∙◌, subst, arith}
+use Rattle.std.specs.List.{list_any, list_all, filter, flat_map, AllByRecursion}
 use Rattle.std.proofs.Math.Bool.{and_comm, and_self}
-use Rattle.std.proofs.lemmas.Bool.{false≢true}
+use Rattle.std.proofs.lemmas.Bool.{both_ways, and_parts, and_from, not-true, false_from_ne_true}
+use Rattle.std.proofs.lemmas.Bool.Decides.{same_from_decides}
 use Rattle.std.proofs.lemmas.List.Concat.{flat_map-append}
 use Rattle.std.proofs.lemmas.List.Folds.{flat_map-map}
 use Rattle.std.proofs.lemmas.List.Elements.{filter-append, filter_agree}
 use Rattle.state_rules.specs.Bits.{lists_of_bits}
 use Rattle.state_rules.proofs.Bits.{pointwise-refl, pointwise-equal}
-use Rattle.state_rules.proofs.Lists.{filter-filter, AllByRecursion-append, map-flat_map, filter-all}
-use Rattle.elimination_forests.specs.Branches.{same_list, different}
+use Rattle.state_rules.proofs.Lists.{filter-filter, map-flat_map, filter-all}
+use Rattle.state_rules.proofs.Members.{In, In-filter, In-filtered, any_from, any_in, empty-none}
+use Rattle.elimination_forests.specs.Branches.{first_met, same_list, different}
+
+-- ---- what holds of each item
+
+pub all-in : {X : Type 0} (p : X → Bool) (xs : List X) → ((x : X) → In x xs → p x ≡ true) → list_all p xs ≡ true
+all-in p [] h = refl
+all-in p (x ∷ xs) h = and_from (p x) (list_all p xs) (h x (inl refl)) (all-in p xs (λ y m. h y (inr m)))
+
+pub all-at : {X : Type 0} (p : X → Bool) (x : X) (xs : List X) → list_all p xs ≡ true → In x xs → p x ≡ true
+all-at p x [] e m = absurd m
+all-at p x (y ∷ xs) e (inl s) = ap p s ∙ (and_parts (p y) (list_all p xs) e).0
+all-at p x (y ∷ xs) e (inr m) = all-at p x xs (and_parts (p y) (list_all p xs) e).1 m
+
+pub none-in : {X : Type 0} (p : X → Bool) (x : X) (xs : List X) → list_any p xs ≡ false → In x xs → p x ≡ false
+none-in p x xs e m = false_from_ne_true (p x) (λ t. both_ways (list_any p xs) e (any_in p x xs m t))
+
+pub any-none : {X : Type 0} (p : X → Bool) (xs : List X) → ((x : X) → In x xs → p x ≡ false) → list_any p xs ≡ false
+any-none p xs h = false_from_ne_true (list_any p xs) (λ f. let found = any_from p xs f in both_ways (p found.item) (h found.item found.is_in) found.passes)
+
+pub each-at : {X : Type 0} (P : X → Type 0) (x : X) (xs : List X) → AllByRecursion P xs → In x xs → P x
+each-at P x [] all m = absurd m
+each-at P x (y ∷ xs) all (inl s) = subst P (sym s) all.0
+each-at P x (y ∷ xs) all (inr m) = each-at P x xs all.1 m
+
+pub flat_map_same : {X Y : Type 0} (f g : X → List Y) (xs : List X) → ((x : X) → In x xs → f x ≡ g x) → flat_map f xs ≡ flat_map g xs
+flat_map_same f g [] same = refl
+flat_map_same f g (x ∷ xs) same = λ i. same x (inl refl) i ++ flat_map_same f g xs (λ y m. same y (inr m)) i
+
+pub map_same : {X Y : Type 0} (f g : X → Y) (xs : List X) → ((x : X) → In x xs → f x ≡ g x) → map f xs ≡ map g xs
+map_same f g [] same = refl
+map_same f g (x ∷ xs) same = λ i. same x (inl refl) i ∷ map_same f g xs (λ y m. same y (inr m)) i
 
 -- ---- filters
 
 not_either : (x y : Bool) → (not y && not x) ≡ not (x || y)
-not_either true true = refl
-not_either true false = refl
-not_either false true = refl
-not_either false false = refl
-
--- what is not a and not among the others: once a is out, only the others count
-past_first : (x y : Bool) → (not x && not (x || y)) ≡ (not y && not x)
-past_first true true = refl
-past_first true false = refl
-past_first false true = refl
-past_first false false = refl
+not_either x y = grind arith
 
 filter-swap : {X : Type 0} (p q : X → Bool) (xs : List X) → filter p (filter q xs) ≡ filter q (filter p xs)
 filter-swap p q xs = filter-filter p q xs ∙ filter_agree (λ x. q x && p x) (λ x. p x && q x) (λ x. and_comm (q x) (p x)) xs ∙ sym (filter-filter q p xs)
@@ -36,17 +58,10 @@ pub filter-flat_map : {X Y : Type 0} (p : Y → Bool) (f : X → List Y) (xs : L
 filter-flat_map p f [] = refl
 filter-flat_map p f (x ∷ xs) = filter-append p (f x) (flat_map f xs) ∙ ap (λ ys. filter p (f x) ++ ys) (filter-flat_map p f xs)
 
--- where what is left out gives nothing
+-- if what is left out gives nothing
 pub flat_map-filter : {X Y : Type 0} (p : X → Bool) (f : X → List Y) → ((x : X) → p x ≡ false → f x ≡ []) → (xs : List X) → flat_map f (filter p xs) ≡ flat_map f xs
 flat_map-filter p f none [] = refl
-flat_map-filter p f none (x ∷ xs) = by_test (p x) refl (flat_map-filter p f none xs) where
-  by_test : (t : Bool) → p x ≡ t → flat_map f (filter p xs) ≡ flat_map f xs → flat_map f (cond t (x ∷ filter p xs) (filter p xs)) ≡ f x ++ flat_map f xs
-  by_test true e rest = ap (λ ys. f x ++ ys) rest
-  by_test false e rest = rest ∙ ap (λ ys. ys ++ flat_map f xs) (sym (none x e))
-
-pub flat_map_same : {X Y : Type 0} (P : X → Type 0) (f g : X → List Y) → ((x : X) → P x → f x ≡ g x) → (xs : List X) → AllByRecursion P xs → flat_map f xs ≡ flat_map g xs
-flat_map_same P f g same [] all = refl
-flat_map_same P f g same (x ∷ xs) all = λ i. same x all.0 i ++ flat_map_same P f g same xs all.1 i
+flat_map-filter p f none (x ∷ xs) = grind (arith, none x, flat_map-filter p f none xs)
 
 pub each-map : {X Y : Type 0} (P : X → Type 0) (Q : Y → Type 0) (f : X → Y) → ((x : X) → P x → Q (f x)) → (xs : List X) → AllByRecursion P xs → AllByRecursion Q (map f xs)
 each-map P Q f h [] all = tt
@@ -55,10 +70,25 @@ each-map P Q f h (x ∷ xs) all = (h x all.0, each-map P Q f h xs all.1)
 -- what passes a filter has what all have, and passes
 pub each-filter : {X : Type 0} (P Q : X → Type 0) (p : X → Bool) → ((x : X) → P x → p x ≡ true → Q x) → (xs : List X) → AllByRecursion P xs → AllByRecursion Q (filter p xs)
 each-filter P Q p h [] all = tt
-each-filter P Q p h (x ∷ xs) all = by_test (p x) refl (each-filter P Q p h xs all.1) where
-  by_test : (t : Bool) → p x ≡ t → AllByRecursion Q (filter p xs) → AllByRecursion Q (cond t (x ∷ filter p xs) (filter p xs))
-  by_test true e rest = (h x all.0 e, rest)
-  by_test false e rest = rest
+each-filter P Q p h (x ∷ xs) all = grind (arith, h x all.0, each-filter P Q p h xs all.1)
+
+-- ---- items of which each is kept once
+
+module _ {X : Type 0} (same : X → X → Bool) (exact : (x y : X) → same x y ≡ true → x ≡ y) where
+  pub In-met : (x : X) (xs : List X) → In x xs → In x (first_met same xs)
+  In-met x [] m = absurd m
+  In-met x (y ∷ xs) (inl e) = inl e
+  In-met x (y ∷ xs) (inr m) = grind (arith, exact y x, In-filtered (λ z. not (same y z)) x (first_met same xs), In-met x xs m)
+
+  pub met-In : (x : X) (xs : List X) → In x (first_met same xs) → In x xs
+  met-In x [] m = m
+  met-In x (y ∷ xs) (inl e) = inl e
+  met-In x (y ∷ xs) (inr m) = inr (met-In x xs (In-filter (λ z. not (same y z)) x (first_met same xs) m).0)
+
+  pub any-met : (q : X → Bool) (xs : List X) → list_any q (first_met same xs) ≡ list_any q xs
+  any-met q xs = same_from_decides (list_any q (first_met same xs)) (list_any q xs) (passed (first_met same xs) xs (λ x. met-In x xs), passed xs (first_met same xs) (λ x. In-met x xs)) ((λ e. e), (λ e. e)) where
+    passed : (xs ys : List X) → ((x : X) → In x xs → In x ys) → list_any q xs ≡ true → list_any q ys ≡ true
+    passed xs ys h e = let found = any_from q xs e in any_in q found.item ys (h found.item found.is_in) found.passes
 
 -- ---- different lists
 
@@ -75,50 +105,30 @@ is_other a list = not (same_list a list)
 
 pub different-append : (ks bs : List (List Bool)) → different (ks ++ bs) ≡ different ks ++ filter (λ list. not (is_among ks list)) (different bs)
 different-append [] bs = sym (filter-all (different bs))
-different-append (a ∷ ks) bs = ap (λ ls. a ∷ filter (is_other a) ls) (different-append ks bs)
-    ∙ ap (λ ls. a ∷ ls) (filter-append (is_other a) (different ks) (apart ks (different bs)))
-    ∙ ap (λ ls. a ∷ (filter (is_other a) (different ks) ++ ls)) (filter-filter (is_other a) (λ list. not (is_among ks list)) (different bs)
-    ∙ filter_agree (λ x. not (is_among ks x) && is_other a x) (λ list. not (is_among (a ∷ ks) list)) (λ x. not_either (same_list a x) (is_among ks x)) (different bs))
+different-append (a ∷ ks) bs = grind (arith, different-append ks bs, filter-append, filter-filter, filter_agree, not_either)
 
 none-apart : (ks : List (List Bool)) → apart ks (different ks) ≡ []
-none-apart [] = refl
-none-apart (a ∷ ks) = by_test (same_list a a) (pointwise-refl a) (rest (none-apart ks)) where
-  rest : apart ks (different ks) ≡ [] → apart (a ∷ ks) (filter (is_other a) (different ks)) ≡ []
-  rest none = filter-filter (λ list. not (is_among (a ∷ ks) list)) (is_other a) (different ks)
-      ∙ filter_agree (λ x. is_other a x && not (same_list a x || is_among ks x)) (λ x. not (is_among ks x) && is_other a x) (λ x. past_first (same_list a x) (is_among ks x)) (different ks)
-      ∙ sym (filter-filter (is_other a) (λ list. not (is_among ks list)) (different ks))
-      ∙ ap (filter (is_other a)) none
+none-apart ks = empty-none (apart ks (different ks)) (λ list m.
+    let found = In-filter (λ l. not (is_among ks l)) list (different ks) m in
+    both_ways (is_among ks list) (not-true (is_among ks list) found.1) (any_in (λ l. same_list l list) list ks (met-In same_list pointwise-equal list ks found.0) (pointwise-refl list)))
 
-  by_test : (t : Bool) → t ≡ true → apart (a ∷ ks) (filter (is_other a) (different ks)) ≡ [] → cond (not (t || is_among ks a)) (a ∷ apart (a ∷ ks) (filter (is_other a) (different ks))) (apart (a ∷ ks) (filter (is_other a) (different ks))) ≡ []
-  by_test true e rest = rest
-  by_test false e rest = absurd (false≢true e)
+-- what is not among some, of first ones and then others
+seen_first : (ks xs zs : List (List Bool)) → apart ks (different (xs ++ zs)) ≡ apart ks (different xs) ++ apart xs (apart ks (different zs))
+seen_first ks xs zs = grind (arith, different-append, filter-append, filter-swap)
+
+seen_again : (ks zs : List (List Bool)) → apart ks (different (ks ++ zs)) ≡ apart ks (different zs)
+seen_again ks zs = grind (arith, different-append, filter-append, none-apart, filter-twice)
 
 -- Once what a list gives is there, the list itself may be left out.
 absorbed : (f : List Bool → List (List Bool)) (x : List Bool) (ds : List (List Bool))
     → apart (f x) (different (flat_map f (filter (λ list. not (same_list x list)) ds))) ≡ apart (f x) (different (flat_map f ds))
 absorbed f x [] = refl
-absorbed f x (y ∷ ds) = by_test (same_list x y) refl (absorbed f x ds) where
-  -- what y gives, and then what others give
-  first : (zs : List (List Bool)) → apart (f x) (different (f y ++ zs)) ≡ apart (f x) (different (f y)) ++ apart (f y) (apart (f x) (different zs))
-  first zs = ap (apart (f x)) (different-append (f y) zs) ∙ filter-append (λ list. not (is_among (f x) list)) (different (f y)) (apart (f y) (different zs))
-      ∙ ap (λ ls. apart (f x) (different (f y)) ++ ls) (filter-swap (λ list. not (is_among (f x) list)) (λ list. not (is_among (f y) list)) (different zs))
-
-  again : (zs : List (List Bool)) → x ≡ y → apart (f x) (different (f y ++ zs)) ≡ apart (f x) (different zs)
-  again zs e = subst (λ w. apart (f x) (different (f w ++ zs)) ≡ apart (f x) (different zs)) e
-      (ap (apart (f x)) (different-append (f x) zs) ∙ filter-append (λ list. not (is_among (f x) list)) (different (f x)) (apart (f x) (different zs))
-      ∙ (λ i. none-apart (f x) i ++ filter-twice (λ list. not (is_among (f x) list)) (different zs) i))
-
-  by_test : (t : Bool) → same_list x y ≡ t → apart (f x) (different (flat_map f (filter (is_other x) ds))) ≡ apart (f x) (different (flat_map f ds))
-      → apart (f x) (different (flat_map f (cond (not t) (y ∷ filter (is_other x) ds) (filter (is_other x) ds)))) ≡ apart (f x) (different (f y ++ flat_map f ds))
-  by_test true e rest = rest ∙ sym (again (flat_map f ds) (pointwise-equal x y e))
-  by_test false e rest = first (flat_map f (filter (is_other x) ds)) ∙ ap (λ ls. apart (f x) (different (f y)) ++ apart (f y) ls) rest ∙ sym (first (flat_map f ds))
+absorbed f x (y ∷ ds) = grind (arith, absorbed f x ds, seen_first, seen_again, pointwise-equal)
 
 -- What the different lists give is what all give.
 pub different-flat_map : (f : List Bool → List (List Bool)) (xs : List (List Bool)) → different (flat_map f (different xs)) ≡ different (flat_map f xs)
 different-flat_map f [] = refl
-different-flat_map f (x ∷ xs) = different-append (f x) (flat_map f (filter (λ list. not (same_list x list)) (different xs)))
-    ∙ ap (λ ls. different (f x) ++ ls) (absorbed f x (different xs) ∙ ap (apart (f x)) (different-flat_map f xs))
-    ∙ sym (different-append (f x) (flat_map f xs))
+different-flat_map f (x ∷ xs) = grind (arith, different-append, absorbed f x, different-flat_map f xs)
 
 pub each-different : (P : List Bool → Type 0) (lists : List (List Bool)) → AllByRecursion P lists → AllByRecursion P (different lists)
 each-different P [] all = tt
@@ -139,9 +149,3 @@ lists_of_bits-more (suc n) =
     (λ i. map (λ bits. false ∷ bits) (lists_of_bits-more n i) ++ map (λ bits. true ∷ bits) (lists_of_bits-more n i))
     ∙ (λ i. longer-cons false (lists_of_bits n) i ++ longer-cons true (lists_of_bits n) i)
     ∙ sym (flat_map-append longer (map (λ bits. false ∷ bits) (lists_of_bits n)) (map (λ bits. true ∷ bits) (lists_of_bits n)))
-
-pub each-long : (n : ℕ) → AllByRecursion (λ bits. length bits ≡ n) (lists_of_bits n)
-each-long zero = (refl, tt)
-each-long (suc n) = AllByRecursion-append _ (map (λ bits. false ∷ bits) (lists_of_bits n)) (map (λ bits. true ∷ bits) (lists_of_bits n))
-    (each-map (λ bits. length bits ≡ n) (λ bits. length bits ≡ suc n) (λ bits. false ∷ bits) (λ _ e. ap suc e) (lists_of_bits n) (each-long n))
-    (each-map (λ bits. length bits ≡ n) (λ bits. length bits ≡ suc n) (λ bits. true ∷ bits) (λ _ e. ap suc e) (lists_of_bits n) (each-long n))

@@ -1,18 +1,27 @@
 -- Nodes that are made of a literal and of several nodes below, all of which are to be true.
-use Rattle.std.specs.Prelude.{◌≡◌, ◌≢◌, ℕ, ◌+◌, ◌*◌, ◌<◌, ◌≤◌, Bool, true, false, ◌&&◌, List, [], ◌∷◌, map, length, Option, Some, None, IfSome, slice_get, slice_index, Vec, ◌==◌}
+use Rattle.std.specs.Prelude.{◌≡◌, ◌≢◌, ℕ, ◌+◌, ◌*◌, ◌<◌, ◌≤◌, Bool, true, false, ◌&&◌, All, List, [], ◌∷◌, map, length, Option, Some, None, IfSome, slice_get, slice_index, Vec, ◌==◌}
 use Rattle.std.specs.declared.alloc.Global.{Global}
-use Rattle.std.specs.List.{list_any, list_all, AllByRecursion}
+use Rattle.std.specs.List.{list_any, list_all, AllByRecursion, AllZip}
 use Rattle.state_rules.specs.Bits.{same_bit}
 use Rattle.state_rules.specs.Assignments.{Assignment}
 use Rattle.state_rules.specs.Graphs.{Node, at_most_one, is_true, mentions}
+use Rattle.node_store.specs.declared.store.TheConstants.{MADE_LIMIT}
 use Rattle.branch_states.specs.declared.measuring.TheConstants.{BUDGET_LIMIT}
 use Rattle.elimination_forests.specs.declared.forks.Forks.{Forks}
 use Rattle.dnnf_compiler.specs.declared.maker.Maker.{Maker}
-use Rattle.dnnf_compiler.specs.inner.Making.{Adds, may_be_true, may_mention}
+use Rattle.dnnf_compiler.specs.inner.Making.{IsMaker, IsVariable, Adds, may_be_true, may_mention}
 
 -- at most one of these nodes mentions a variable
 abbrev pub AreApart : List Node → List ℕ → Type 0
 AreApart nodes kids = (v : ℕ) → at_most_one (map (mentions nodes v) kids) ≡ true
+
+-- These may all be to be true.
+pub record AreMeetable (m : Maker) (kids : List ℕ) : Type 0 where
+  pub maker : IsMaker m
+  pub within : All (λ k. k < length m.store.nodes) kids
+  pub apart : AreApart m.store.nodes kids
+  pub few_kids : length kids ≤ BUDGET_LIMIT + 1
+  pub few : m.store.made < MADE_LIMIT
 
 -- The node is true if all of these are, and mentions no more than they do. It is the one that is never true, or mentions all.
 pub record IsMeet (old new : Maker) (kids : List ℕ) (node : ℕ) : Type 0 where
@@ -33,10 +42,7 @@ taken (level ∷ levels) (n ∷ numbers) = slice_index level.items n ∷ taken l
 
 -- for each level a number of it
 abbrev pub AreHeld : List (Vec ℕ Global) → List ℕ → Type 0
-AreHeld [] [] = Unit {0}
-AreHeld [] (n ∷ numbers) = ⊥
-AreHeld (level ∷ levels) [] = ⊥
-AreHeld (level ∷ levels) (n ∷ numbers) = (n < length level.items) × AreHeld levels numbers
+AreHeld levels numbers = AllZip (λ level n. n < length level.items) levels numbers
 
 -- The nodes to which they lead are there, share no variable, and do not mention this one.
 pub record IsUsable (nodes : List Node) (var : ℕ) (below : List (Vec ℕ Global)) (numbers : List ℕ) : Type 0 where
@@ -70,6 +76,15 @@ pub record IsChoice (old new : List Node) (var : ℕ) (below : List (Vec ℕ Glo
 pub record IsChosen (old new : Maker) (var : ℕ) (below : List (Vec ℕ Global)) (zero one : Option (List ℕ)) (node : ℕ) : Type 0 where
   pub adds : Adds old new 3 (4 + 2 * length below)
   pub right : IsChoice old.store.nodes new.store.nodes var below zero one node
+
+-- Both ways of each list of a place may be made.
+pub record IsPlaceable (m : Maker) (var : ℕ) (below : List (Vec ℕ Global)) (forks : Forks) : Type 0 where
+  pub maker : IsMaker m
+  pub variable : IsVariable m var
+  pub long : length forks.one.ways ≡ length forks.zero.ways
+  pub zeros : All (λ way. IfSome way (IsUsable m.store.nodes var below)) forks.zero.ways
+  pub ones : All (λ way. IfSome way (IsUsable m.store.nodes var below)) forks.one.ways
+  pub few : m.store.made + 3 * length forks.zero.ways ≤ MADE_LIMIT
 
 -- for each list a node
 pub record AreChoices (old new : Maker) (var : ℕ) (below : List (Vec ℕ Global)) (forks : Forks) (nodes : List ℕ) : Type 0 where

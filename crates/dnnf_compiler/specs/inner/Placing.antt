@@ -1,7 +1,7 @@
 -- The nodes of the lists at a place of a forest.
 use Rattle.std.specs.Prelude.{◌≡◌, ℕ, ◌+◌, ◌*◌, ◌<◌, ◌≤◌, Bool, true, false, not, ◌&&◌, List, [], ◌∷◌, ◌++◌, length, slice_get, Some, Vec, reverse}
 use Rattle.std.specs.declared.alloc.Global.{Global}
-use Rattle.std.specs.List.{list_any, list_all, AllByRecursion}
+use Rattle.std.specs.List.{list_any, list_all, AllByRecursion, AllZip}
 use Rattle.state_rules.specs.Bits.{same_bit}
 use Rattle.state_rules.specs.Assignments.{Assignment}
 use Rattle.state_rules.specs.Graphs.{Node, is_true, mentions}
@@ -64,10 +64,7 @@ pub record AreNodesAt (spot : Spot) (nodes : List Node) (numbers : List ℕ) : T
 
 -- the levels of nodes of several places
 abbrev pub AreLevels : List Node → List Spot → List (Vec ℕ Global) → Type 0
-AreLevels nodes [] [] = Unit {0}
-AreLevels nodes [] (level ∷ levels) = ⊥
-AreLevels nodes (spot ∷ spots) [] = ⊥
-AreLevels nodes (spot ∷ spots) (level ∷ levels) = AreNodesAt spot nodes level.items × AreLevels nodes spots levels
+AreLevels nodes spots levels = AllZip (λ spot level. AreNodesAt spot nodes level.items) spots levels
 
 -- The nodes below a place are made. On the stack the first place is on top.
 pub record IsReady (m : Maker) (step : Step) (forks : Forks) (stack : List (Vec ℕ Global)) (spot : Spot) (rest : List Spot) : Type 0 where

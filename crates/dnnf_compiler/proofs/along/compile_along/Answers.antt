@@ -6,13 +6,12 @@ use Rattle.dnnf_compiler.specs.Along.{IsWay}
 use Rattle.dnnf_compiler.specs.inner.Placing.{IsReady}
 use Rattle.dnnf_compiler.proofs.Climbing.{spots_at, start, IsNext, IsClimbing, forks_long, next_way, climb_first, climb_ready, climb_more, root_held, IsRoot, root_is}
 use Rattle.dnnf_compiler.specs.inner.Meeting.{taken, AreHeld}
-use Rattle.dnnf_compiler.proofs.Meeting.{all_from}
 use Rattle.dnnf_compiler.proofs.along.compile_along.Goals as goal
 use Rattle.dnnf_compiler.proofs.along.compile_along.Goals.{After-index-forks-place, After-deref-2, After-as_slice}
 
 pub loop-place-init : goal.loop-place-init
 loop-place-init c = λ forest way.
-    climb_first c.args.cnf.now c.args.steps.now c.args.forks.now forest way (length c.args.steps.now) c.in_ok-maker.maker c.new-stack.result.items refl
+    climb_first c.args.cnf.now c.args.steps.now c.args.forks.now forest way c.vars.ensures.valid (length c.args.steps.now) c.in_ok-maker.maker c.new-stack.result.items refl
     c.in_ok-maker.ensures.maker (c.in_ok-maker.ensures.vars ∙ c.vars.ensures.vars) c.in_ok-maker.ensures.counts.0 c.in_ok-maker.ensures.counts.1 c.new-stack.ensures.items
 
 -- ---- a step
@@ -30,7 +29,7 @@ low : (c : After-index-forks-place) → c.loop-place.place - 1 < length c.args.s
 low c = omega (arith, c.loop-place-test.true, c.loop-place.auto.place)
 
 next : (c : After-index-forks-place) (forest : Forest) → IsWay c.args.cnf.now c.args.steps.now c.args.forks.now forest → IsNext (start c.args.cnf.now forest) (c.loop-place.place - 1)
-next c forest way = next_way c.args.cnf.now c.args.steps.now c.args.forks.now forest way (c.loop-place.place - 1) (low c)
+next c forest way = next_way c.args.cnf.now c.args.steps.now c.args.forks.now forest way c.vars.ensures.valid (c.loop-place.place - 1) (low c)
 
 climbing : (c : After-index-forks-place) (forest : Forest) → IsWay c.args.cnf.now c.args.steps.now c.args.forks.now forest
     → IsClimbing c.args.cnf.now (width forest) c.loop-place.maker c.loop-place.stack.items (spots_at (start c.args.cnf.now forest) (suc (c.loop-place.place - 1)))
@@ -100,25 +99,10 @@ its_root c forest way =
     root_is c.args.cnf.now c.args.steps.now c.args.forks.now forest way c.vars.ensures.valid c.loop-place.maker c.loop-place.stack.items (at_root c forest way)
     c.in_ok-trees.trees.items c.take_top.new.stack.items c.in_ok-trees.ensures.taken (many c) c.in_ok-first.first.items c.len-count.result (long c) (zeros c)
 
-pub meet-requires-clause-within : goal.meet-requires-clause-within
-meet-requires-clause-within c =
-    let at = goal.at.meet-requires-clause-within c in
-    all_from (λ k. k < length c.loop-place.maker.store.nodes) c.as_slice.result.now (its_root at.After-deref-2 c.requires.0 c.requires.1 c.as_slice.result.now (its_kids at.After-as_slice)).within
-
-pub meet-requires-clause-apart : goal.meet-requires-clause-apart
-meet-requires-clause-apart c =
-    let at = goal.at.meet-requires-clause-apart c in
-    (its_root at.After-deref-2 c.requires.0 c.requires.1 c.as_slice.result.now (its_kids at.After-as_slice)).apart
-
-pub meet-requires-clause-few_kids : goal.meet-requires-clause-few_kids
-meet-requires-clause-few_kids c =
-    let at = goal.at.meet-requires-clause-few_kids c in
-    (its_root at.After-deref-2 c.requires.0 c.requires.1 c.as_slice.result.now (its_kids at.After-as_slice)).few
-
-pub meet-requires-clause-few : goal.meet-requires-clause-few
-meet-requires-clause-few c =
-    let at = goal.at.meet-requires-clause-few c in
-    (its_root at.After-deref-2 c.requires.0 c.requires.1 c.as_slice.result.now (its_kids at.After-as_slice)).room
+pub meet-requires : goal.meet-requires
+meet-requires c =
+    let at = goal.at.meet-requires c in
+    (its_root at.After-deref-2 c.requires.0 c.requires.1 c.as_slice.result.now (its_kids at.After-as_slice)).meetable
 
 pub returns : goal.returns
 returns c = λ forest way.

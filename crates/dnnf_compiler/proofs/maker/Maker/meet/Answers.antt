@@ -1,18 +1,13 @@
 use Rattle.std.proofs.Common.{◌≡◌, ◌+◌, ◌<◌, ◌≤◌, ◌++◌, ℕ, List, [], ◌∷◌, length, drop, get_or, refl, ap, sym, ◌∙◌, subst, arith}
 use Rattle.std.specs.List.{filter, AllByRecursion}
 use Rattle.std.proofs.lemmas.List.{drop_all, append-nil}
+use Rattle.std.proofs.lemmas.List.Elements.{All-from_recursion}
 use Rattle.state_rules.proofs.Lists.{AllByRecursion-append}
 use Rattle.dnnf_compiler.specs.inner.Joining.{IsPlain}
 use Rattle.dnnf_compiler.proofs.Bare.{other_plain}
-use Rattle.dnnf_compiler.proofs.Meeting.{keeps_of, kept_not, kept_more, kept_apart, kept_few, meet_none, meet_one, meet_more, all_from, each_more}
+use Rattle.dnnf_compiler.proofs.Meeting.{keeps_of, kept_not, kept_more, kept_apart, kept_few, meet_none, meet_one, meet_more, each_more}
 use Rattle.dnnf_compiler.proofs.maker.Maker.meet.Goals as goal
 use Rattle.dnnf_compiler.proofs.maker.Maker.meet.Goals.{After-as_slice}
-
-pub loop-i-preserved-then-kid-self-2 : goal.loop-i-preserved-then-kid-self-2
-loop-i-preserved-then-kid-self-2 c = record {
-  so_far = kept_not c.args.self.now c.requires.maker c.args.kids.now c.loop-i.kept.items c.loop-i.i (get_or c.args.kids.now c.loop-i.i 0) c.loop-i-test.true refl c.if-kid-self-2.true c.loop-i.invariant.so_far;
-  plain = c.loop-i.invariant.plain;
-}
 
 pub loop-i-preserved : goal.loop-i-preserved
 loop-i-preserved c =
@@ -67,12 +62,6 @@ pub and-requires-clause-few : goal.and-requires-clause-few
 and-requires-clause-few c =
     let d = (goal.at.and-requires-clause-few c).After-as_slice in
     omega (arith, kept_few c.args.self.now c.requires.maker c.args.kids.now c.as_slice.result.now (whole d), c.requires.few_kids)
-
-pub and-requires-clause-kids : goal.and-requires-clause-kids
-and-requires-clause-kids c =
-    let d = (goal.at.and-requires-clause-kids c).After-as_slice in
-    all_from (λ k. k < length c.args.self.now.store.nodes) c.as_slice.result.now
-    (each_more (λ k. (k < length c.args.self.now.store.nodes) × IsPlain c.args.self.now.store.nodes k) (λ k. k < length c.args.self.now.store.nodes) c.as_slice.result.now (λ k p. p.0) (plain d))
 
 pub returns : goal.returns
 returns c =

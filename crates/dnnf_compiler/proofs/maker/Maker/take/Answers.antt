@@ -1,8 +1,8 @@
 use Rattle.std.proofs.Common.{◌≡◌, ◌<◌, ◌++◌, ◌∷◌, Some, None, length, ap, sym, ◌∙◌, subst, arith}
 use Rattle.std.specs.Prelude.{option_map, IfSome}
 use Rattle.std.proofs.lemmas.Option.{slice_get_within}
-use Rattle.dnnf_compiler.specs.inner.Meeting.{taken, AreApart, IsMeet, IsUsable, IsTaken}
-use Rattle.dnnf_compiler.proofs.Taking.{kids_few, kids_apart, take_false, take_some}
+use Rattle.dnnf_compiler.specs.inner.Meeting.{taken, AreMeetable, IsMeet, IsUsable, IsTaken}
+use Rattle.dnnf_compiler.proofs.Taking.{kids_meetable, take_false, take_some}
 use Rattle.dnnf_compiler.proofs.maker.Maker.take.Goals as goal
 use Rattle.dnnf_compiler.proofs.maker.Maker.take.Goals.{After-as_slice}
 
@@ -15,16 +15,12 @@ usable c = subst (λ way. IfSome (option_map (λ numbers. numbers.now) way) (IsU
 literal_in : (c : After-as_slice) → c.literal-literal.result < length c.args.self.now.store.nodes
 literal_in c = slice_get_within c.args.self.now.store.nodes c.literal-literal.result _ c.literal-literal.ensures.there
 
-pub meet-requires-clause-apart : goal.meet-requires-clause-apart
-meet-requires-clause-apart c =
-    let d = (goal.at.meet-requires-clause-apart c).After-as_slice in
-    subst (AreApart c.args.self.now.store.nodes) (sym (its_kids d))
-    (kids_apart c.args.self.now c.args.var c.args.bit c.args.below.now c.in-Some.numbers.now c.literal-literal.result (usable d) (literal_in d) c.literal-literal.ensures.truth c.literal-literal.ensures.variables)
-
-pub meet-requires-clause-few_kids : goal.meet-requires-clause-few_kids
-meet-requires-clause-few_kids c =
-    let d = (goal.at.meet-requires-clause-few_kids c).After-as_slice in
-    omega (arith, ap length (its_kids d), kids_few c.args.self.now c.args.var c.args.bit c.args.below.now c.in-Some.numbers.now c.literal-literal.result (usable d) (literal_in d) c.literal-literal.ensures.truth c.literal-literal.ensures.variables)
+pub meet-requires : goal.meet-requires
+meet-requires c =
+    let d = (goal.at.meet-requires c).After-as_slice in
+    subst (AreMeetable c.args.self.now) (sym (its_kids d))
+    (kids_meetable c.args.self.now c.args.var c.args.bit c.args.below.now c.in-Some.numbers.now c.literal-literal.result (usable d) (literal_in d) c.literal-literal.ensures.truth c.literal-literal.ensures.variables
+    c.requires.maker c.requires.few)
 
 pub returns-then-node-self : goal.returns-then-node-self
 returns-then-node-self c =

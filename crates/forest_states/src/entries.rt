@@ -1,4 +1,4 @@
-ghost use Rattle.std.specs.Prelude.{◌≡◌, ◌+◌, ◌<◌, ◌^◌, ◌&&◌, ◌||◌, ◌++◌, [], ◌∷◌, not, length, IfOk, OnOk};
+ghost use Rattle.std.specs.Prelude.{◌≡◌, ◌+◌, ◌<◌, ◌^◌, ◌&&◌, ◌||◌, ◌++◌, [], ◌∷◌, not, length, replicate, IfOk, OnOk};
 ghost use Rattle.forest_states.specs.inner.Tables.{true_at, plain, is_plain, gone, spread};
 ghost use Rattle.forest_states.specs.inner.Walked.{walked, picked_by};
 
@@ -108,6 +108,14 @@ impl Table {
         })?;
         self.rest = 0;
         Ok(())
+    }
+
+    /// Adds so many clauses that stay as they are.
+    pub(crate) fn skip(&mut self, count: usize)
+        requires { length self.old + count < 2 ^ 64 }
+        ensures { self.new ≡ self.old ++ replicate count plain }
+    {
+        self.rest += count;
     }
 
     /// What a bit leaves of a state, unless that is dead.

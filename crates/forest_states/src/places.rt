@@ -1,13 +1,13 @@
-ghost use Rattle.std.specs.Prelude.{◌≡◌, ◌<◌, ◌≤◌, ◌+◌, ◌*◌, ◌^◌, ◌++◌, [], ◌∷◌, true, false, length, map, reverse, slice_set, slice_index_or, option_map, Some, IfOk, OnOk, ◌==◌, ◌&&◌};
+ghost use Rattle.std.specs.Prelude.{◌≡◌, ◌<◌, ◌≤◌, ◌+◌, ◌^◌, ◌++◌, [], ◌∷◌, true, false, length, map, reverse, slice_set, slice_index_or, option_map, Some, IfOk, OnOk, ◌==◌, ◌&&◌};
 ghost use Rattle.std.specs.List.{list_all, range_with_len, position_or_len};
 ghost use Rattle.elimination_forests.specs.Branches.{different};
 ghost use Rattle.forest_states.specs.inner.BitLists.{is_same};
-ghost use Rattle.forest_states.specs.inner.Walked.{any_leads, picked_by, joined, lead, decided_states, decided_forks, parts_by, column_by, met_at, table_at, numbered, goes_to, forks_of, row_at, stand_decided, stand_part, column_at, stands_below, columns_below, forks_below, first_stand, or_first, stand_of};
+ghost use Rattle.forest_states.specs.inner.Walked.{any_leads, picked_by, joined, lead, decided_states, decided_forks, parts_by, column_by, table_at, forks_of, row_at, stand_decided, stand_part, column_at, stands_below, forks_below, first_stand, or_first, stand_of};
 
 use crate::bit_list::BitList;
 use crate::entries::Table;
-use crate::marks::{mark, meets_marked, number_trees};
-use crate::tables::{find_picks, find_table, merge};
+use crate::marks::{clauses_with, mark, number_trees};
+use crate::tables::{find_picks, find_table};
 use clause_encoder::Cnf;
 use elimination_forests::{Forks, Step, Ways};
 use indexmap::IndexSet;
@@ -92,35 +92,10 @@ fn go_by_bit(
     ensures base { IfOk result (λ r. stand_of r.1
         ≡ stand_decided cnf.now.clauses (map (λ v. v.items) of.now) seen.now var (stand_of spot.now)) }
 {
-    let met = find_met(alloc, cnf, of, seen, var, &spot.opened)?;
-    let (table, opened) = find_table(alloc, cnf, seen, var, met.as_slice())?;
+    let touched = clauses_with(of, var);
+    let (table, opened) = find_table(alloc, cnf, seen, var, touched, &spot.opened)?;
     let (leads, states) = decide(alloc, &table, &spot.states)?;
     Ok((leads, Spot { opened, states }))
-}
-
-// The open clauses of a place, and those that begin with a variable.
-fn find_met(
-    alloc: Global,
-    cnf: &Cnf,
-    of: &[Vec<u32>],
-    seen: &[bool],
-    var: u32,
-    opened: &Vec<u32>,
-) -> Result<Vec<u32>, AllocError>
-    ensures { IfOk result (λ met. met.items
-        ≡ met_at cnf.now.clauses (map (λ v. v.items) of.now) seen.now var opened.now.items) }
-{
-    if var as usize >= of.len() {
-        return merge(alloc, opened.as_slice(), &[]);
-    }
-    let numbers = &of[var as usize];
-    let begun: Vec<u32> = numbers
-        .as_slice()
-        .iter()
-        .copied()
-        .filter(|number| !meets_marked(cnf, seen, *number))
-        .collect(alloc)?;
-    merge(alloc, opened.as_slice(), begun.as_slice())
 }
 
 // Where the states of a base lead to in each tree on it. A base of which all goes to one tree is the place of that tree.
@@ -135,7 +110,6 @@ fn go_below(
 ) -> Result<Vec<Vec<u32>>, AllocError>
     requires few { length base.states.keys < 2 ^ 32 }
     requires once { different base.states.keys ≡ base.states.keys }
-    requires open { trees ≡ 1 → list_all (goes_to cnf.now.clauses 1 seen.now numbers.now 0) base.opened.items ≡ true }
     ensures columns { IfOk result (λ columns. map (λ v. v.items) columns.items
         ≡ map (λ j. column_at cnf.now.clauses trees seen.now numbers.now j (stand_of base)) (range_with_len 0 trees)) }
     ensures pending { OnOk result (reverse (map stand_of pending.new.items)

@@ -138,7 +138,7 @@ impl Table {
     {
         match self.walk(alloc, false, state)? {
             Some(bits) => Ok(bits),
-            None => BitList::new(alloc),
+            None => BitList::new(alloc, 0),
         }
     }
 }
@@ -154,7 +154,7 @@ fn walk_on(
     requires { length (spread events.now rest) < 2 ^ 63 }
     ensures { IfOk result (λ left. left ≡ walked bit (spread events.now rest) state.now) }
 {
-    let mut left = BitList::new(alloc)?;
+    let mut left = BitList::new(alloc, state.len())?;
     let mut next = 0;
     for event in events {
         left.append(state, next, event.run)?;

@@ -34,8 +34,10 @@ impl BitList {
     pub(crate) fn new(alloc: Global, room: usize) -> Result<BitList, AllocError>
         ensures { IfOk result (λ bits. bits ≡ []) }
     {
-        let mut words = SmallVec::with_capacity(alloc, room / 64 + 1)?;
-        words.push(0)?;
+        let mut words = SmallVec::from_slice(alloc, &[0])?;
+        if room >= 128 {
+            words.reserve_exact(room / 64)?;
+        }
         Ok(BitList { words, len: 0 })
     }
 

@@ -214,7 +214,7 @@ fn part(
     ensures column { IfOk result (λ r. r.0.items ≡ column_by (picked_by picks.now) states.now.keys) }
     ensures states { IfOk result (λ r. r.1.keys ≡ parts_by (picked_by picks.now) states.now.keys) }
 {
-    let mut parts = IndexSet::with_capacity(alloc, states.len())?;
+    let mut parts = IndexSet::new(alloc);
     let mut column = Vec::with_capacity(alloc, states.len())?;
     for state in states.as_slice() {
         column.push(put(picks.pick(alloc, state)?, &mut parts)?)?;
@@ -245,7 +245,7 @@ fn decide(
     ensures few { IfOk result (λ r. length r.1.keys < 2 ^ 32) }
     ensures states { IfOk result (λ r. r.1.keys ≡ decided_states table.now states.now.keys) }
 {
-    let mut next = IndexSet::with_capacity(alloc, states.len())?;
+    let mut next = IndexSet::new(alloc);
     let mut leads = Vec::with_capacity(alloc, states.len())?;
     for state in states.as_slice() {
         let zero = add(table.walk(alloc, false, state)?, &mut next)?;

@@ -12,7 +12,7 @@ use Rattle.clause_encoder.specs.Clauses.{Clause, var_of}
 use Rattle.elimination_forests.specs.Branches.{has_true}
 use Rattle.elimination_forests.specs.declared.steps.Weight.{Weight}
 use Rattle.elimination_forests.specs.Forests.{Forest, none, tree, trees, variables, is_among, meets, is_within, is_once, is_along, Place, decided, part, weigh, weight_at, forks_at}
-use Rattle.forest_states.specs.inner.Walked.{has_var, meets_marked, within_marked, is_in_tree, goes_to, entry_at, met, entries_of, kept_of, Stand, met_at, table_at, decided_states, decided_forks, part_states, column, forks_found, stand_decided, stand_part, column_at, weight_of}
+use Rattle.forest_states.specs.inner.Walked.{has_var, meets_marked, within_marked, is_in_tree, goes_to, entry_at, met, entries_of, kept_of, Stand, met_at, table_at, decided_states, decided_forks, part_states, column, row_at, forks_found, stand_decided, stand_part, column_at, weight_of}
 use Rattle.forest_states.specs.declared.entries.Entry.{Entry}
 use Rattle.forest_states.specs.inner.Tables.{plain}
 use Rattle.forest_states.proofs.Turned.{is_open, is_walked, meets-more, true-apart}
@@ -342,9 +342,9 @@ module _ (clauses : List Clause) (of : List (List ℕ)) (seen : List Bool) (foun
         ∷ columns-are beside (j + 1) (base-beside clauses (variables below) (v ∷ bound) (decided v (at bound clauses lists)).lists (stand_decided clauses of seen v s) x down beside h) sides.1 i
 
     pub forks-are : AreSides (trees below == 1) (variables below) nums (length seen) 0 below
-        → forks_found (trees below) (map (λ i. column_at clauses (trees below) (set seen v true) nums i (stand_decided clauses of seen v s)) (range_with_len 0 (trees below))) (decided_forks (table_at clauses of seen v s.opened) s.states)
+        → forks_found (trees below) (row_at (map (λ i. column_at clauses (trees below) (set seen v true) nums i (stand_decided clauses of seen v s)) (range_with_len 0 (trees below)))) (decided_forks (table_at clauses of seen v s.opened) s.states)
         ≡ forks_at v below (at bound clauses lists)
     forks-are sides =
-        (λ j. forks_found (trees below) (columns-are below 0 base-is sides j) (decided_forks (table-is j) (h.states j)))
-        ∙ forks-mapped v below bound clauses ends-all lists h.known (columns_of (variables below) (v ∷ bound) clauses (decided v (at bound clauses lists)).lists base-is.known below)
+        (λ j. forks_found (trees below) (row_at (columns-are below 0 base-is sides j)) (decided_forks (table-is j) (h.states j)))
+        ∙ forks-mapped v below bound clauses ends-all lists h.known (row_at (columns_of (variables below) (v ∷ bound) clauses (decided v (at bound clauses lists)).lists base-is.known below))
         (λ x there it. rows-mapped (variables below) (v ∷ bound) clauses (decided v (at bound clauses lists)).lists base-is.known below (λ u e. e) x there it)

@@ -1,5 +1,5 @@
 -- A base of which all goes to one tree.
-use Rattle.std.proofs.Common.{◌≡◌, ℕ, zero, suc, ◌+◌, Bool, true, false, not, ◌&&◌, cond, List, [], ◌∷◌, map, length, refl, ap, sym, ◌∙◌, subst, arith}
+use Rattle.std.proofs.Common.{◌≡◌, ℕ, zero, suc, ◌+◌, Bool, true, false, not, ◌&&◌, cond, List, [], ◌∷◌, map, length, get_or, refl, ap, sym, ◌∙◌, subst, arith}
 use Rattle.std.specs.Prelude.{◌==◌, if◌then◌else◌}
 use Rattle.std.specs.List.{filter, list_any, list_all, position_or_len, range_with_len, AllByRecursion}
 use Rattle.std.proofs.lemmas.Bool.{and_parts, or_left, eqb-true}
@@ -8,7 +8,7 @@ use Rattle.clause_encoder.specs.Clauses.{Clause, var_of}
 use Rattle.elimination_forests.specs.Branches.{same_list, different}
 use Rattle.elimination_forests.proofs.Lists.{each-filter}
 use Rattle.forest_states.specs.inner.BitLists.{is_same}
-use Rattle.forest_states.specs.inner.Walked.{picked, part_states, is_in_tree, goes_to, clause_at, Stand, column_at, stand_part}
+use Rattle.forest_states.specs.inner.Walked.{picked, part_states, is_in_tree, goes_to, clause_at, Stand, row_at, column_at, stand_part}
 use Rattle.forest_states.proofs.Mapped.{mapped-agree, mapped-twice}
 
 -- ---- different lists
@@ -40,6 +40,14 @@ distinct-different (l ∷ ls) = (others-differ l (different ls), distinct-filter
 next-range : (a n : ℕ) → map (λ k. 1 + k) (range_with_len a n) ≡ range_with_len (a + 1) n
 next-range a zero = refl
 next-range a (suc n) = let more : 1 + a ≡ a + 1 = omega arith in λ j. more j ∷ next-range (a + 1) n j
+
+item-range : (k a n d : ℕ) → d ≡ a + n → get_or (range_with_len a k) n d ≡ d
+item-range zero a n d e = refl
+item-range (suc k) a zero d e = omega (arith, e)
+item-range (suc k) a (suc n) d e = item-range k (a + 1) n d (omega (arith, e))
+
+own-item : (k n : ℕ) → get_or (range_with_len 0 k) n n ≡ n
+own-item k n = item-range k 0 n n (omega arith)
 
 own-places : (ls : List (List Bool)) → AreDistinct ls → map (λ s. position_or_len (is_same s) ls) ls ≡ range_with_len 0 (length ls)
 own-places [] distinct = refl
@@ -96,10 +104,13 @@ module _ (clauses : List Clause) (trees : ℕ) (seen : List Bool) (numbers : Lis
       ap (λ n. map (λ j. stand_part clauses trees seen numbers j s) (range_with_len 0 n)) one
       ∙ (λ i. (record { opened = all-kept goes all s.opened i; states = states-same i }) ∷ [])
 
-  pub whole-columns : map (λ j. column_at clauses trees seen numbers j s) (range_with_len 0 trees) ≡ range_with_len 0 (length s.states) ∷ []
+  whole-columns : map (λ j. column_at clauses trees seen numbers j s) (range_with_len 0 trees) ≡ range_with_len 0 (length s.states) ∷ []
   whole-columns =
       ap (λ n. map (λ j. column_at clauses trees seen numbers j s) (range_with_len 0 n)) one
       ∙ ap (λ ns. ns ∷ []) ((λ i. map (λ x. position_or_len (is_same (picked (map goes s.opened) x)) (states-same i)) s.states)
       ∙ sym (mapped-twice (λ x. position_or_len (is_same x) s.states) (picked (map goes s.opened)) s.states)
       ∙ ap (map (λ x. position_or_len (is_same x) s.states)) picks
       ∙ own-places s.states (subst AreDistinct once (distinct-different s.states)))
+
+  pub whole-row : row_at (map (λ j. column_at clauses trees seen numbers j s) (range_with_len 0 trees)) ≡ (λ n. n ∷ [])
+  whole-row = ap row_at whole-columns ∙ (λ j n. own-item (length s.states) n j ∷ [])

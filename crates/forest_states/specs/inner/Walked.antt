@@ -90,20 +90,28 @@ any_leads leads = list_any (λ f. is_some f.zero || is_some f.one) leads
 
 -- a row of columns
 abbrev pub row_at : List (List ℕ) → ℕ → List ℕ
-row_at columns n = map (λ c. slice_index_or c n 0) columns
+row_at columns n = map (λ c. slice_index_or c n n) columns
 
-abbrev pub ways_found : List (List ℕ) → List (Option ℕ) → List (Option (List ℕ))
-ways_found columns leads = map (option_map (row_at columns)) leads
+-- if there are none, the base is the place of the one tree on it
+abbrev pub row_of : Option (List (List ℕ)) → ℕ → List ℕ
+row_of None n = n ∷ []
+row_of (Some columns) n = row_at columns n
 
-abbrev pub forks_found : ℕ → List (List ℕ) → List Fork → Forks
-forks_found trees columns leads =
+abbrev pub ways_found : (ℕ → List ℕ) → List (Option ℕ) → List (Option (List ℕ))
+ways_found row leads = map (option_map row) leads
+
+abbrev pub forks_found : ℕ → (ℕ → List ℕ) → List Fork → Forks
+forks_found trees row leads =
     record {
-      zero = record { trees = trees; ways = ways_found columns (map (λ f. f.zero) leads) };
-      one = record { trees = trees; ways = ways_found columns (map (λ f. f.one) leads) };
+      zero = record { trees = trees; ways = ways_found row (map (λ f. f.zero) leads) };
+      one = record { trees = trees; ways = ways_found row (map (λ f. f.one) leads) };
     }
 
+abbrev pub row_in : Leads → ℕ → List ℕ
+row_in l = row_of (option_map (λ cs. map (λ v. v.items) cs.items) l.columns)
+
 abbrev pub forks_of : Leads → Forks
-forks_of l = forks_found l.trees (map (λ v. v.items) l.columns.items) l.leads.items
+forks_of l = forks_found l.trees (row_in l) l.leads.items
 
 -- ---- variables below
 
@@ -228,7 +236,7 @@ columns_below clauses of seen numbers step rest s =
 
 abbrev pub forks_below : List Clause → List (List ℕ) → List Bool → List ℕ → Step → List Step → Stand → Forks
 forks_below clauses of seen numbers step rest s =
-    forks_found step.trees (columns_below clauses of seen numbers step rest s) (decided_forks (table_at clauses of seen step.var s.opened) s.states)
+    forks_found step.trees (row_at (columns_below clauses of seen numbers step rest s)) (decided_forks (table_at clauses of seen step.var s.opened) s.states)
 
 abbrev pub step_at : List Step → ℕ → Step
 step_at steps i = slice_index_or steps i (record { var = 0; trees = 0 })

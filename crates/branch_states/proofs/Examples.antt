@@ -1,5 +1,5 @@
 -- The worked examples of orders, living lists, states, forks and sums.
-use Rattle.std.proofs.Common.{◌≡◌, ℕ, ◌∷◌, [], List, Some, None, map, length, refl, true, false, pos, negsuc}
+use Rattle.std.proofs.Common.{◌≡◌, ◌∷◌, [], List, Some, None, map, length, refl, true, false, pos, negsuc}
 use Rattle.clause_encoder.specs.Clauses.{Clause}
 use Rattle.elimination_forests.specs.Branches.{order, living, state_of, sum_of, is_dead, left}
 use Rattle.elimination_forests.specs.Levels.{leads_to}

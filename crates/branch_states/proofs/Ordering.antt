@@ -1,5 +1,5 @@
 -- The order of the variables, as it is found.
-use Rattle.std.proofs.Common.{◌≡◌, ℕ, suc, ◌+◌, ◌<◌, ◌≤◌, inl, inr, Bool, true, false, not, ◌&&◌, ◌||◌, cond, List, [], ◌∷◌, ◌++◌, map, length, refl, ap, sym, ◌∙◌, arith}
+use Rattle.std.proofs.Common.{◌≡◌, ℕ, suc, ◌+◌, ◌<◌, ◌≤◌, inl, inr, Bool, true, false, not, ◌||◌, cond, List, [], ◌∷◌, ◌++◌, map, length, refl, ap, sym, ◌∙◌, arith}
 use Rattle.std.specs.Prelude.{◌==◌, nat_eq, nat_lt, nat_le, position, if◌then◌else◌}
 use Rattle.std.specs.List.{list_any, list_all, flat_map, IsDistinct, AllByRecursion}
 use Rattle.std.specs.Option.{unwrap_or}

@@ -6,7 +6,7 @@ ghost use Rattle.elimination_forests.specs.Branches.{place, words_of, is_true_by
 use crate::bits::bit_at;
 use indexmap::IndexSet;
 
-// Where a variable stands in an order.
+// The place of a variable in an order, and the length if it has none.
 fn place(variables: &IndexSet<u32>, variable: u32) -> usize
     ensures { result ≡ place variables.now.keys variable }
 {
@@ -65,7 +65,7 @@ pub(crate) fn has_true(clause: &[i32], variable: u32, bit: bool) -> bool
         .any(|literal| is_true_by(*literal, variable, bit))
 }
 
-// Whether the clause is in the list of a state of a level. Where it is open, its own bit is at this place.
+// Whether the clause is in the list of a state of a level. If it is open, its own bit is at this place.
 pub(crate) fn is_in(
     variables: &IndexSet<u32>,
     level: u32,

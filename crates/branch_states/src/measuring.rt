@@ -35,7 +35,7 @@ pub fn measure(alloc: Global, cnf: &Cnf, top: u32) -> Result<u32, MeasureError>
     requires { top ≤ BUDGET_LIMIT }
     ensures sum { IfOk result (λ sum. sum ≡ sum_of cnf.now.clauses) }
 
-    // Where the sum is above the limit the answer is an error, and the error says so only there.
+    // If the sum is above the limit, the answer is an error, and only then the error says so.
     ensures within { IfOk result (λ sum. sum ≤ top) }
     ensures above { result ≡ Err Above → top < sum_of cnf.now.clauses }
 {

@@ -64,21 +64,21 @@ module _ (ws bound : List ℕ) (cs : List Clause) (lists : List (List Bool)) (kn
         (known-part ws bound own inside cs list it) (part own (at bound cs lists)).lists known-apart
 
     -- at the number of a list
-    read-mapped : (f : List Bool → ℕ) (ls : List (List Bool)) (x : List Bool) → is_listed ls x ≡ true → get_or (map f ls) (number_in ls x) 0 ≡ f x
-    read-mapped f [] x there = absurd (false≢true there)
-    read-mapped f (l ∷ ls) x there = by (same_list l x) refl there (read-mapped f ls x) where
-      by : (b : Bool) → same_list l x ≡ b → (b || is_listed ls x) ≡ true → (is_listed ls x ≡ true → get_or (map f ls) (number_in ls x) 0 ≡ f x)
-          → get_or (f l ∷ map f ls) (cond (not b) (1 + number_in ls x) 0) 0 ≡ f x
+    read-mapped : (f : List Bool → ℕ) (ls : List (List Bool)) (x : List Bool) (d : ℕ) → is_listed ls x ≡ true → get_or (map f ls) (number_in ls x) d ≡ f x
+    read-mapped f [] x d there = absurd (false≢true there)
+    read-mapped f (l ∷ ls) x d there = by (same_list l x) refl there (read-mapped f ls x d) where
+      by : (b : Bool) → same_list l x ≡ b → (b || is_listed ls x) ≡ true → (is_listed ls x ≡ true → get_or (map f ls) (number_in ls x) d ≡ f x)
+          → get_or (f l ∷ map f ls) (cond (not b) (1 + number_in ls x) 0) d ≡ f x
       by true e h rest = ap f (pointwise-equal l x e)
-      by false e h rest = ap (λ k. get_or (f l ∷ map f ls) k 0) (next (number_in ls x)) ∙ rest h where
+      by false e h rest = ap (λ k. get_or (f l ∷ map f ls) k d) (next (number_in ls x)) ∙ rest h where
         next : (k : ℕ) → 1 + k ≡ suc k
         next k = omega arith
 
     pub row-mapped : (list : List Bool) → is_listed lists list ≡ true → IsKnown ws bound cs list
-        → get_or (column (flags_of own) states) (number_in lists list) 0 ≡ number_in (part own (at bound cs lists)).lists (own_part list)
+        → get_or (column (flags_of own) states) (number_in lists list) (number_in lists list) ≡ number_in (part own (at bound cs lists)).lists (own_part list)
     row-mapped list there it =
-        ap (λ xs. get_or xs (number_in lists list) 0) (mapped-twice _ (state_of ws bound cs) lists)
-        ∙ read-mapped (λ l. position_or_len (is_same (picked (flags_of own) (state_of ws bound cs l))) (part_states (flags_of own) states)) lists list there
+        ap (λ xs. get_or xs (number_in lists list) (number_in lists list)) (mapped-twice _ (state_of ws bound cs) lists)
+        ∙ read-mapped (λ l. position_or_len (is_same (picked (flags_of own) (state_of ws bound cs l))) (part_states (flags_of own) states)) lists list (number_in lists list) there
         ∙ column-mapped list it
 
   -- the columns of the trees side by side
@@ -163,10 +163,10 @@ module _ (v : ℕ) (below : Forest) (bound : List ℕ) (cs : List Clause) (ends 
     abbrev ds : List (List Bool)
     ds = (decided v (at bound cs lists)).lists
 
-    module _ (columns : List (List ℕ)) (rows : (x : List Bool) → is_listed ds x ≡ true → IsKnown ws (v ∷ bound) cs x → row_at columns (number_in ds x) ≡ begins below (decided v (at bound cs lists)) x) where
+    module _ (row : ℕ → List ℕ) (rows : (x : List Bool) → is_listed ds x ≡ true → IsKnown ws (v ∷ bound) cs x → row (number_in ds x) ≡ begins below (decided v (at bound cs lists)) x) where
       way-mapped : (bit : Bool) (list : List Bool) → is_listed lists list ≡ true → IsKnown (v ∷ ws) bound cs list
-          → option_map (row_at columns) (lead (decided_states (table_of v ws bound cs) (map own_state lists)) (walked bit (table_of v ws bound cs) (own_state list))) ≡ way_by v below (at bound cs lists) bit list
-      way-mapped bit list there it = (λ i. option_map (row_at columns) (lead (decided-mapped i) (walked-same v ws bound bit cs list ends it i))) ∙ by (is_dead next) refl where
+          → option_map row (lead (decided_states (table_of v ws bound cs) (map own_state lists)) (walked bit (table_of v ws bound cs) (own_state list))) ≡ way_by v below (at bound cs lists) bit list
+      way-mapped bit list there it = (λ i. option_map row (lead (decided-mapped i) (walked-same v ws bound bit cs list ends it i))) ∙ by (is_dead next) refl where
         next : List Bool
         next = left_by bit list
 
@@ -177,21 +177,21 @@ module _ (v : ℕ) (below : Forest) (bound : List ℕ) (cs : List Clause) (ends 
         given false e = list_any-append (λ o. same_list o next) (alive_by false list) (alive_by true list) ∙ or_left (is_listed (alive_by false list) next) (is_listed (alive_by true list) next) e
         given true e = list_any-append (λ o. same_list o next) (alive_by false list) (alive_by true list) ∙ or_right (is_listed (alive_by false list) next) (is_listed (alive_by true list) next) e
 
-        by : (d : Bool) → is_dead next ≡ d → option_map (row_at columns) (lead (map base_state ds) (unless d (base_state next))) ≡ (if d then None else Some (begins below (decided v (at bound cs lists)) next))
+        by : (d : Bool) → is_dead next ≡ d → option_map row (lead (map base_state ds) (unless d (base_state next))) ≡ (if d then None else Some (begins below (decided v (at bound cs lists)) next))
         by true d = refl
         by false d =
             let known_next = known-next v ws bound bit cs list ends it d in
-            ap (λ n. Some (row_at columns n)) (place-mapped (IsKnown ws (v ∷ bound) cs) base_state (λ x y p q e. bits-lists ws (v ∷ bound) cs x y p q e) next known_next ds known-decided)
+            ap (λ n. Some (row n)) (place-mapped (IsKnown ws (v ∷ bound) cs) base_state (λ x y p q e. bits-lists ws (v ∷ bound) cs x y p q e) next known_next ds known-decided)
             ∙ ap Some (rows next (among-different (flat_map either lists) next ∙ among-given either lists list next there (given bit (own d))) known_next)
 
-      ways-mapped : (bit : Bool) → map (λ s. option_map (row_at columns) (lead (decided_states (table_of v ws bound cs) (map own_state lists)) (walked bit (table_of v ws bound cs) s))) (map own_state lists)
+      ways-mapped : (bit : Bool) → map (λ s. option_map row (lead (decided_states (table_of v ws bound cs) (map own_state lists)) (walked bit (table_of v ws bound cs) s))) (map own_state lists)
           ≡ map (way_by v below (at bound cs lists) bit) lists
       ways-mapped bit =
           mapped-twice _ own_state lists
           ∙ mapped-agree (λ x. (is_listed lists x ≡ true) × IsKnown (v ∷ ws) bound cs x) _ _ (λ x p. way-mapped bit x p.0 p.1) lists (each-among (IsKnown (v ∷ ws) bound cs) lists known)
 
-      pub forks-mapped : forks_found (trees below) columns (decided_forks (table_of v ws bound cs) (map own_state lists)) ≡ forks_at v below (at bound cs lists)
+      pub forks-mapped : forks_found (trees below) row (decided_forks (table_of v ws bound cs) (map own_state lists)) ≡ forks_at v below (at bound cs lists)
       forks-mapped =
-          let zero = ap (map (option_map (row_at columns))) (mapped-twice _ _ (map own_state lists)) ∙ mapped-twice _ _ (map own_state lists) ∙ ways-mapped false in
-          let one = ap (map (option_map (row_at columns))) (mapped-twice _ _ (map own_state lists)) ∙ mapped-twice _ _ (map own_state lists) ∙ ways-mapped true in
+          let zero = ap (map (option_map row)) (mapped-twice _ _ (map own_state lists)) ∙ mapped-twice _ _ (map own_state lists) ∙ ways-mapped false in
+          let one = ap (map (option_map row)) (mapped-twice _ _ (map own_state lists)) ∙ mapped-twice _ _ (map own_state lists) ∙ ways-mapped true in
           λ j. record { zero = record { trees = trees below; ways = zero j }; one = record { trees = trees below; ways = one j } }

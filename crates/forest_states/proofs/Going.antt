@@ -1,7 +1,7 @@
 -- A way down a forest: what was found, and the places that are begun.
-use Rattle.std.proofs.Common.{◌≡◌, ℕ, ◌+◌, ◌≤◌, ◌<◌, set, replicate, Bool, true, false, not, ◌&&◌, List, [], ◌∷◌, ◌++◌, map, length, drop, Ok, Err, get_or, get_or-set_other, refl, ap, sym, ◌∙◌, subst, arith}
+use Rattle.std.proofs.Common.{◌≡◌, ℕ, ◌+◌, ◌≤◌, ◌<◌, set, replicate, Bool, true, false, not, ◌&&◌, List, [], ◌∷◌, ◌++◌, map, length, drop, get_or, get_or-set_other, refl, ap, sym, ◌∙◌, subst, arith}
 use mathlib.Core.Path.{transport}
-use Rattle.std.specs.Prelude.{◌==◌, if◌then◌else◌, Result}
+use Rattle.std.specs.Prelude.{◌==◌, if◌then◌else◌}
 use Rattle.std.specs.List.{flat_map, list_all, range_with_len}
 use Rattle.std.proofs.lemmas.Bool.{false≢true, and_parts, or_parts, or_left, or_right, not-true}
 use Rattle.std.proofs.lemmas.List.{append_assoc, append-nil, get_or-drop, drop-drop, drop_all, length-drop, length-set}

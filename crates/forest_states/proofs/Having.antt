@@ -3,6 +3,7 @@ use Rattle.std.proofs.Common.{◌≡◌, ℕ, zero, suc, ◌+◌, ◌<◌, ◌�
 use lib.IntN.{nat_abs}
 use Rattle.std.specs.Prelude.{◌==◌, nat_lt, nat_le, if◌then◌else◌}
 use Rattle.std.specs.List.{filter, list_all, range_with_len}
+use Rattle.std.proofs.Math.Bool.{or-false}
 use Rattle.std.proofs.lemmas.Bool.{false≢true, and_parts, or_from, ltb-true, leb-true, leb-false, lt-ltb, ne_eqb, eq-eqb, eqb-true}
 use Rattle.std.proofs.lemmas.List.{take_more, append-nil, get_or_past}
 use Rattle.std.proofs.lemmas.List.Elements.{filter-append}
@@ -36,13 +37,9 @@ module _ (of : List (List ℕ)) (u v number : ℕ) (base : List ℕ) (c : Clause
   abbrev Goal : List (List ℕ) → Type 0
   Goal next = get_or next v [] ≡ base ++ (if has_var v (take (k + 1) c) then number ∷ [] else [])
 
-  or_none : (b : Bool) → (b || false) ≡ b
-  or_none true = refl
-  or_none false = refl
-
   pub had : (u ≡ v → ⊥) → Goal of
   had other = was ∙ ap (λ b. base ++ (if b then number ∷ [] else [])) (sym (has-more v c k d low
-      ∙ ap (λ b. has_var v (take k c) || b) (ne_eqb v (var_of (get_or c k d)) (λ same. other (is ∙ sym same))) ∙ or_none (has_var v (take k c))))
+      ∙ ap (λ b. has_var v (take k c) || b) (ne_eqb v (var_of (get_or c k d)) (λ same. other (is ∙ sym same))) ∙ or-false (has_var v (take k c))))
 
   pub has : vars_rise 0 c ≡ true → v < length of → Goal (set of u (get_or of u [] ++ number ∷ []))
   has rise within = by (u == v) refl where

@@ -2,7 +2,8 @@
 use Rattle.std.proofs.Common.{◌≡◌, ℕ, Bool, true, false, not, ◌&&◌, ◌||◌, cond, List, [], ◌∷◌, map, Some, None, refl, ap, sym, ◌∙◌}
 use Rattle.std.specs.Prelude.{Option, if◌then◌else◌}
 use Rattle.std.specs.List.{filter, AllByRecursion}
-use Rattle.std.proofs.lemmas.Bool.{false≢true, and_right, and_left, or_parts, or_from, or_left, or_right, and_from}
+use Rattle.std.proofs.Math.Bool.{and-true, not-not}
+use Rattle.std.proofs.lemmas.Bool.{false≢true, and_parts, and_right, and_left, or_parts, or_from, or_left, or_right, and_from}
 use Rattle.clause_encoder.specs.Clauses.{Clause}
 use Rattle.elimination_forests.specs.Branches.{has_true, without, some_passes, bits_of}
 use Rattle.elimination_forests.specs.Forests.{meets, is_within}
@@ -57,10 +58,6 @@ ended-unless false false false rest = refl
 passed-unless : (x y dead : Bool) (more rest : List Bool) → x ≡ false → y ≡ false → unless dead rest ≡ unless (x || dead) (if y then more else rest)
 passed-unless x y dead more rest l o = λ j. unless (sym l j || dead) (if sym o j then more else rest)
 
-pub twice : (x : Bool) → not (not x) ≡ x
-twice true = refl
-twice false = refl
-
 module _ (v : ℕ) (ws bound : List ℕ) (bit : Bool) where
   -- Either a clause is walked, or it is as before.
   data Turn (m n h e b : Bool) : Type 0 where
@@ -100,7 +97,7 @@ module _ (v : ℕ) (ws bound : List ℕ) (bit : Bool) where
         ∙ same ∙ passed-unless (next && is_within (v ∷ bound) c) (is_open ws (v ∷ bound) c) dead (next ∷ rest) rest l n
 
     open-then : (has_var v c || meets bound c) ≡ true → is_within (v ∷ bound) c ≡ not (meets ws c) → not (is_within (v ∷ bound) c) ≡ is_open ws (v ∷ bound) c
-    open-then m e = ap not e ∙ twice (meets ws c) ∙ ap (λ x. x && meets ws c) (sym (meets-more v bound c ∙ m))
+    open-then m e = ap not e ∙ not-not (meets ws c) ∙ ap (λ x. x && meets ws c) (sym (meets-more v bound c ∙ m))
 
     one-walked : Turn (meets bound c) (meets ws c) (has_var v c) (is_within (v ∷ bound) c) b → Goal
     one-walked (opened m hn e) =
@@ -158,13 +155,9 @@ module _ (v : ℕ) (ws bound : List ℕ) (bit : Bool) where
             and_from b (not (has_true v bit c)) (known.1 parts.1 (meets-more v ws c ∙ or_right (has_var v c) (meets ws c) n)) (ap not (true-apart v bit c parts.0))),
         known-next cs list ends.1 known.2 lives.1,
       ) where
-        and-whole : (x : Bool) → (x && true) ≡ x
-        and-whole true = refl
-        and-whole false = refl
-
         by : (o : Bool) → meets (v ∷ ws) c ≡ o → meets ws c ≡ false → ((b && not (has_true v bit c)) && is_within (v ∷ bound) c) ≡ false → (b && not (has_true v bit c)) ≡ false
         by false o n l = and_left b (not (has_true v bit c)) (known.0 o)
-        by true o n l = sym (and-whole (b && not (has_true v bit c))) ∙ ap (λ x. (b && not (has_true v bit c)) && x) (sym (ends.0 o ∙ ap not n)) ∙ l
+        by true o n l = sym (and-true (b && not (has_true v bit c))) ∙ ap (λ x. (b && not (has_true v bit c)) && x) (sym (ends.0 o ∙ ap not n)) ∙ l
 
 -- ---- lists and their bits at open clauses
 
@@ -202,22 +195,15 @@ module _ (vs bound : List ℕ) where
       more : List Bool
       more = bits_of (is_open own bound) cs (part_at cs list)
 
-      kept : (x : Bool) → x ≡ (x && true)
-      kept true = refl
-      kept false = refl
-
       by : (p : Bool) → meets own c ≡ p → (o : Bool) → is_open vs bound c ≡ o
           → picked (map (meets own) (filter (is_open vs bound) cs)) (bits_of (is_open vs bound) cs list) ≡ bits_of (is_open own bound) cs (part_at cs list)
           → picked (map (meets own) (cond o (c ∷ filter (is_open vs bound) cs) (filter (is_open vs bound) cs))) (if o then b ∷ bits_of (is_open vs bound) cs list else bits_of (is_open vs bound) cs list)
           ≡ (if meets bound c && meets own c then (b && not (not (meets own c))) ∷ more else more)
       by true p true o rest =
-          let m = and_from (meets bound c) (meets own c) (and_one (meets bound c) (meets vs c) o) p in
+          let m = and_from (meets bound c) (meets own c) (and_parts (meets bound c) (meets vs c) o).0 p in
           (λ i. if p i then b ∷ rest i else rest i)
-          ∙ ap (λ x. x ∷ more) (kept b ∙ ap (λ x. b && not (not x)) (sym p))
-          ∙ (λ i. if sym m i then (b && not (not (meets own c))) ∷ more else more) where
-            and_one : (x y : Bool) → (x && y) ≡ true → x ≡ true
-            and_one true y e = refl
-            and_one false y e = absurd (false≢true e)
+          ∙ ap (λ x. x ∷ more) (sym (and-true b) ∙ ap (λ x. b && not (not x)) (sym p))
+          ∙ (λ i. if sym m i then (b && not (not (meets own c))) ∷ more else more)
       by true p false o rest =
           rest ∙ (λ i. if sym (off (meets bound c) (meets vs c) o (inside c p)) i && meets own c then (b && not (not (meets own c))) ∷ more else more) where
             off : (x y : Bool) → (x && y) ≡ false → y ≡ true → x ≡ false

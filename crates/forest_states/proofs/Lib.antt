@@ -4,6 +4,7 @@ pub mod Having
 pub mod Leaving
 pub mod Mapped
 pub mod Marking
+pub mod Meeting
 pub mod Numbers
 pub mod Sets
 pub mod Spread

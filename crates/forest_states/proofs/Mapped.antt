@@ -8,7 +8,7 @@ use Rattle.state_rules.proofs.Bits.{pointwise-refl, pointwise-equal}
 use Rattle.elimination_forests.specs.Branches.{same_list, different}
 use Rattle.elimination_forests.proofs.Lists.{is_among, each-different}
 use Rattle.forest_states.specs.inner.BitLists.{is_same}
-use Rattle.forest_states.specs.inner.Walked.{any_leads, row_at, ways_found}
+use Rattle.forest_states.specs.inner.Walked.{any_leads, ways_found}
 use Rattle.forest_states.specs.declared.places.Fork.{Fork}
 use Rattle.elimination_forests.specs.declared.forks.Forks.{Forks}
 use Rattle.elimination_forests.specs.Forests.{has_way, leads_on}
@@ -68,12 +68,12 @@ module _ (P : List Bool → Type 0) (e : List Bool → List Bool) (same : (x y :
 
 -- ---- whether a state leads on
 
-pub ways-some : (columns : List (List ℕ)) (leads : List Fork) → any_leads leads
-    ≡ (list_any is_some (ways_found columns (map (λ f. f.zero) leads)) || list_any is_some (ways_found columns (map (λ f. f.one) leads)))
-ways-some columns [] = refl
-ways-some columns (f ∷ leads) = by f.zero f.one (list_any is_some (ways_found columns (map (λ f. f.zero) leads))) (list_any is_some (ways_found columns (map (λ f. f.one) leads))) (ways-some columns leads) where
+pub ways-some : (row : ℕ → List ℕ) (leads : List Fork) → any_leads leads
+    ≡ (list_any is_some (ways_found row (map (λ f. f.zero) leads)) || list_any is_some (ways_found row (map (λ f. f.one) leads)))
+ways-some row [] = refl
+ways-some row (f ∷ leads) = by f.zero f.one (list_any is_some (ways_found row (map (λ f. f.zero) leads))) (list_any is_some (ways_found row (map (λ f. f.one) leads))) (ways-some row leads) where
   by : (a b : Option ℕ) (x y : Bool) → any_leads leads ≡ (x || y)
-      → ((is_some a || is_some b) || any_leads leads) ≡ ((is_some (option_map (row_at columns) a) || x) || (is_some (option_map (row_at columns) b) || y))
+      → ((is_some a || is_some b) || any_leads leads) ≡ ((is_some (option_map row a) || x) || (is_some (option_map row b) || y))
   by (Some n) b x y rest = refl
   by None (Some m) true y rest = refl
   by None (Some m) false y rest = refl

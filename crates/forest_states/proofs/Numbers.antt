@@ -1,42 +1,11 @@
 -- Clauses by their numbers.
-use Rattle.std.proofs.Common.{◌≡◌, ℕ, zero, suc, ◌+◌, ◌<◌, ◌≤◌, ◌-◌, Bool, true, false, ◌&&◌, ◌||◌, cond, List, [], ◌∷◌, ◌++◌, map, length, reverse, get_or, add-one, refl, ap, sym, ◌∙◌, arith}
-use Rattle.std.specs.Prelude.{if◌then◌else◌, nat_lt}
+use Rattle.std.proofs.Common.{◌≡◌, ℕ, zero, suc, ◌+◌, ◌<◌, ◌≤◌, ◌-◌, Bool, true, false, cond, List, [], ◌∷◌, ◌++◌, map, length, reverse, get_or, add-one, refl, ap, sym, ◌∙◌, arith}
+use Rattle.std.specs.Prelude.{nat_lt}
 use Rattle.std.specs.List.{filter, list_all, range_with_len, AllByRecursion}
-use Rattle.std.proofs.lemmas.Bool.{false≢true, le-ltb, lt-ltb}
 use Rattle.std.proofs.lemmas.List.{append_assoc, length-append, map-append, reverse-append}
 use Rattle.state_rules.proofs.Lists.{range_more}
-use Rattle.elimination_forests.proofs.Lists.{each-filter}
 use Rattle.clause_encoder.specs.Clauses.{Clause, var_of}
-use Rattle.forest_states.specs.inner.Walked.{put_in, merged, has_var}
-
--- ---- two lists of numbers as one
-
-put-first : (x : ℕ) (rest : List ℕ → List ℕ) (ys : List ℕ) → AllByRecursion (λ y. x < y) ys → put_in x rest ys ≡ x ∷ rest ys
-put-first x rest [] above = refl
-put-first x rest (y ∷ ys) above = ap (λ b. if b then y ∷ put_in x rest ys else x ∷ rest (y ∷ ys)) (le-ltb y x (omega (arith, above.0)))
-
-merged-first : (xs ys : List ℕ) (y : ℕ) → AllByRecursion (λ x. y < x) xs → merged xs (y ∷ ys) ≡ y ∷ merged xs ys
-merged-first [] ys y above = refl
-merged-first (x ∷ xs) ys y above = ap (λ b. if b then y ∷ put_in x (merged xs) ys else x ∷ merged xs (y ∷ ys)) (lt-ltb y x above.0)
-
-above-range : (a b n : ℕ) → a < b → AllByRecursion (λ x. a < x) (range_with_len b n)
-above-range a b zero low = tt
-above-range a b (suc n) low = (low, above-range a (b + 1) n (omega arith))
-
-above-filter : (p : ℕ → Bool) (a n : ℕ) → AllByRecursion (λ x. a < x) (filter p (range_with_len (a + 1) n))
-above-filter p a n = each-filter (λ x. a < x) (λ x. a < x) p (λ x h _. h) (range_with_len (a + 1) n) (above-range a (a + 1) n (omega arith))
-
--- those that pass one test with those that pass another
-pub merged-either : (p q : ℕ → Bool) (a n : ℕ) → ((k : ℕ) → k < a + n → (p k && q k) ≡ false) → merged (filter p (range_with_len a n)) (filter q (range_with_len a n)) ≡ filter (λ k. p k || q k) (range_with_len a n)
-merged-either p q a zero apart = refl
-merged-either p q a (suc n) apart = by (p a) refl (q a) refl (merged-either p q (a + 1) n (λ k h. apart k (omega arith))) where
-  by : (x : Bool) → p a ≡ x → (y : Bool) → q a ≡ y → merged (filter p (range_with_len (a + 1) n)) (filter q (range_with_len (a + 1) n)) ≡ filter (λ k. p k || q k) (range_with_len (a + 1) n)
-      → merged (cond x (a ∷ filter p (range_with_len (a + 1) n)) (filter p (range_with_len (a + 1) n))) (cond y (a ∷ filter q (range_with_len (a + 1) n)) (filter q (range_with_len (a + 1) n)))
-      ≡ cond (x || y) (a ∷ filter (λ k. p k || q k) (range_with_len (a + 1) n)) (filter (λ k. p k || q k) (range_with_len (a + 1) n))
-  by true x true y rest = absurd (false≢true (sym (apart a (omega arith)) ∙ (λ i. x i && y i)))
-  by true x false y rest = put-first a (merged (filter p (range_with_len (a + 1) n))) (filter q (range_with_len (a + 1) n)) (above-filter q a n) ∙ ap (λ ks. a ∷ ks) rest
-  by false x true y rest = merged-first (filter p (range_with_len (a + 1) n)) (filter q (range_with_len (a + 1) n)) a (above-filter p a n) ∙ ap (λ ks. a ∷ ks) rest
-  by false x false y rest = rest
+use Rattle.forest_states.specs.inner.Walked.{has_var}
 
 -- ---- what is kept
 

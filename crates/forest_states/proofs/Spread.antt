@@ -5,7 +5,7 @@ use Rattle.std.specs.Prelude.{Option}
 use Rattle.std.specs.Option.{unwrap_or}
 use Rattle.std.proofs.Math.Bool.{and-true}
 use Rattle.std.proofs.lemmas.Bool.{false≢true}
-use Rattle.std.proofs.lemmas.List.{length-append, length-replicate, append_assoc, take_all, drop-drop}
+use Rattle.std.proofs.lemmas.List.{length-append, length-replicate, replicate-append-replicate, append_assoc, take_all, drop-drop}
 use Rattle.state_rules.specs.Bits.{bit_in}
 use Rattle.forest_states.specs.declared.entries.Entry.{Entry}
 use Rattle.forest_states.specs.declared.entries.Event.{Event}
@@ -24,15 +24,11 @@ plain-is e is = by e.fresh e.true_at_0 e.true_at_1 e.ends is where
   by false false true d is = absurd (false≢true is)
   by false false false true is = absurd (false≢true is)
 
--- ---- one clause more
+-- ---- clauses more
 
-replicate-more : {X : Type 0} (n : ℕ) (x : X) → replicate (suc n) x ≡ replicate n x ++ x ∷ []
-replicate-more zero x = refl
-replicate-more (suc n) x = ap (λ xs. x ∷ xs) (replicate-more n x)
-
-pub spread-plain : (es : List Event) (n : ℕ) → spread es (suc n) ≡ spread es n ++ plain ∷ []
-spread-plain [] n = replicate-more n plain
-spread-plain (e ∷ es) n = ap (λ xs. replicate e.run plain ++ (e.entry ∷ xs)) (spread-plain es n) ∙ sym (append_assoc (replicate e.run plain) (e.entry ∷ spread es n) (plain ∷ []))
+pub spread-run : (es : List Event) (n count : ℕ) → spread es (n + count) ≡ spread es n ++ replicate count plain
+spread-run [] n count = sym (replicate-append-replicate n count plain)
+spread-run (e ∷ es) n count = ap (λ xs. replicate e.run plain ++ (e.entry ∷ xs)) (spread-run es n count) ∙ sym (append_assoc (replicate e.run plain) (e.entry ∷ spread es n) (replicate count plain))
 
 pub spread-event : (es : List Event) (n : ℕ) (x : Entry) → spread (es ++ (record { run = n; entry = x }) ∷ []) 0 ≡ spread es n ++ x ∷ []
 spread-event [] n x = refl

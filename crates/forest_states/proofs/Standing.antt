@@ -1,22 +1,27 @@
 -- A place of a forest as its open clauses and its states show it, and what becomes of these at the places right below.
 use Rattle.std.proofs.Common.{◌≡◌, ℕ, ◌+◌, ◌*◌, ◌<◌, Bool, true, false, not, ◌&&◌, ◌||◌, List, [], ◌∷◌, ◌++◌, map, length, set, get_or, refl, ap, sym, ◌∙◌, arith, ◌⊎◌, inl, inr}
 use Rattle.std.specs.Prelude.{◌==◌, if◌then◌else◌}
-use Rattle.std.specs.List.{filter, range_with_len, AllByRecursion}
-use Rattle.std.proofs.lemmas.Bool.{false≢true, and_parts, and_left, and_right, or_from, or_left, or_right, or_cases, not-true, false_from_ne_true, eqb-true}
+use Rattle.std.specs.List.{filter, list_any, range_with_len, AllByRecursion}
+use Rattle.std.proofs.Math.Bool.{and-true, or-false, not-not}
+use Rattle.std.proofs.lemmas.Bool.{false≢true, and_parts, or_parts, and_left, and_right, or_from, or_left, or_right, or_cases, not-true, false_from_ne_true, eqb-true}
 use Rattle.std.proofs.lemmas.List.{length-map, length-set}
 use Rattle.std.proofs.lemmas.List.Folds.{list_any-append}
 use Rattle.state_rules.specs.Bits.{bit_in}
 use Rattle.state_rules.proofs.Lists.{filter-filter}
-use Rattle.clause_encoder.specs.Clauses.{Clause}
+use Rattle.clause_encoder.specs.Clauses.{Clause, var_of}
+use Rattle.elimination_forests.specs.Branches.{has_true}
 use Rattle.elimination_forests.specs.declared.steps.Weight.{Weight}
 use Rattle.elimination_forests.specs.Forests.{Forest, none, tree, trees, variables, is_among, meets, is_within, is_once, is_along, Place, decided, part, weigh, weight_at, forks_at}
-use Rattle.forest_states.specs.inner.Walked.{has_var, merged, meets_marked, within_marked, is_in_tree, goes_to, entry_at, Stand, met_at, table_at, decided_states, decided_forks, part_states, column, forks_found, stand_decided, stand_part, column_at, weight_of}
-use Rattle.forest_states.proofs.Turned.{is_open, is_walked, meets-more}
-use Rattle.forest_states.proofs.Leaving.{IsKnown, Ends, entry_of, table_of, twice}
+use Rattle.forest_states.specs.inner.Walked.{has_var, meets_marked, within_marked, is_in_tree, goes_to, entry_at, met, entries_of, kept_of, Stand, met_at, table_at, decided_states, decided_forks, part_states, column, row_at, forks_found, stand_decided, stand_part, column_at, weight_of}
+use Rattle.forest_states.specs.declared.entries.Entry.{Entry}
+use Rattle.forest_states.specs.inner.Tables.{plain}
+use Rattle.forest_states.proofs.Turned.{is_open, is_walked, meets-more, true-apart}
+use Rattle.forest_states.proofs.Leaving.{IsKnown, Ends, entry_of, table_of}
 use Rattle.forest_states.proofs.Mapped.{mapped-twice}
 use Rattle.forest_states.proofs.Along.{at, state_of, flags_of, columns_of, known-apart, part-mapped, rows-mapped, meets_wider, known-decided, decided-mapped, forks-mapped}
 use Rattle.forest_states.proofs.Marking.{along-closed, ends-there, any-same, within-same, mark-bit, AreSides}
-use Rattle.forest_states.proofs.Numbers.{IsIndex, merged-either, filter-within, map-within, passing, each-at}
+use Rattle.forest_states.proofs.Numbers.{IsIndex, filter-within, map-within, passing, each-at}
+use Rattle.forest_states.proofs.Meeting.{met_if, met-either, kept-met}
 
 -- a place of a forest
 pub record Item : Type 0 where
@@ -57,22 +62,12 @@ AreItems clauses seen [] (s ∷ stands) = ⊥
 AreItems clauses seen (it ∷ items) [] = ⊥
 AreItems clauses seen (it ∷ items) (s ∷ stands) = IsItem clauses it s × IsBefore seen it.bound × AreItems clauses seen items stands
 
-either-way : (h m w o mm : Bool) → o ≡ (h || w) → (h ≡ true → mm ≡ m) → ((m && o) || (h && not mm)) ≡ ((h || m) && (h || w))
-either-way true true w o mm e k = ap (λ x. x || not mm) e
-either-way true false w o mm e k = ap not (k refl)
-either-way false true w o mm e k = or_none o ∙ e where
-  or_none : (x : Bool) → (x || false) ≡ x
-  or_none true = refl
-  or_none false = refl
-either-way false false w o mm e k = refl
-
-one-way : (h m o mm : Bool) → (h ≡ true → mm ≡ m) → ((m && o) && (h && not mm)) ≡ false
-one-way false m o mm k = and_right (m && o) false refl
-one-way true true o mm k = and_right o (not mm) (ap not (k refl))
-one-way true false o mm k = refl
+either-way : (h m w o : Bool) → o ≡ (h || w) → ((m && o) || h) ≡ ((h || m) && (h || w))
+either-way true m w o e = or_right (m && o) true refl
+either-way false m w o e = or-false (m && o) ∙ ap (λ x. m && x) e
 
 next-way : (h m w wm mb : Bool) → mb ≡ (h || m) → ((h || w) ≡ true → wm ≡ not w) → (((h || m) && (h || w)) && not wm) ≡ (mb && w)
-next-way true m w wm mb e k = ap not (k refl) ∙ twice w ∙ ap (λ x. x && w) (sym e)
+next-way true m w wm mb e k = ap not (k refl) ∙ not-not w ∙ ap (λ x. x && w) (sym e)
 next-way false true true wm mb e k = ap not (k refl) ∙ ap (λ x. x && true) (sym e)
 next-way false false true wm mb e k = ap (λ x. x && true) (sym e)
 next-way false m false wm mb e k = and_left (m && false) (not wm) (and_right m false refl) ∙ sym (and_right mb false refl)
@@ -202,48 +197,65 @@ module _ (clauses : List Clause) (of : List (List ℕ)) (seen : List Bool) (foun
   ends-is : (n : ℕ) → n < length clauses → meets (v ∷ variables below) (clause n) ≡ true → within_marked v seen (clause n) ≡ is_within (v ∷ bound) (clause n)
   ends-is n low there = within-same (variables below ++ (v ∷ bound)) bound seen (length seen) marked-at v (clause n) (found.small n low) (closed n low there)
 
-  abbrev is_first : ℕ → Bool
-  is_first n = has_var v (clause n) && not (meets_marked seen (clause n))
+  abbrev has : ℕ → Bool
+  has n = has_var v (clause n)
+
+  abbrev entry : ℕ → Entry
+  entry n = (met_if (entry_at clauses seen v) has n).entry
 
   own-has : (n : ℕ) → has_var v (clause n) ≡ true → meets (v ∷ variables below) (clause n) ≡ true
   own-has n e = meets-more v (variables below) (clause n) ∙ or_left (has_var v (clause n)) (meets (variables below) (clause n)) e
 
-  own-walked : (n : ℕ) → is_walked v (variables below) bound (clause n) ≡ true → meets (v ∷ variables below) (clause n) ≡ true
-  own-walked n e = meets-more v (variables below) (clause n)
-      ∙ (and_parts (has_var v (clause n) || meets bound (clause n)) (has_var v (clause n) || meets (variables below) (clause n)) e).1
+  fresh-is : (n : ℕ) → n < length clauses → has_var v (clause n) ≡ true → not (meets_marked seen (clause n)) ≡ not (is_open (v ∷ variables below) bound (clause n))
+  fresh-is n low e = ap not (meets-is n low (own-has n e) ∙ sym (and-true (meets bound (clause n))) ∙ ap (λ x. meets bound (clause n) && x) (sym (own-has n e)))
 
-  met-is : met_at clauses of seen v s.opened ≡ filter (λ n. is_walked v (variables below) bound (clause n)) numbers_of
+  met-is : met_at clauses of seen v s.opened ≡ map (met_if (entry_at clauses seen v) has) (filter (λ n. is_walked v (variables below) bound (clause n)) numbers_of)
   met-is =
-      (λ j. merged (h.opened j) (begun_here j))
-      ∙ merged-either (λ n. is_open (v ∷ variables below) bound (clause n)) is_first 0 (length clauses)
-      (λ n k. one-way (has_var v (clause n)) (meets bound (clause n)) (meets (v ∷ variables below) (clause n)) (meets_marked seen (clause n)) (λ e. meets-is n (omega arith) (own-has n e)))
-      ∙ filter-within _ (λ n. is_walked v (variables below) bound (clause n)) 0 (length clauses)
-      (λ n k. either-way (has_var v (clause n)) (meets bound (clause n)) (meets (variables below) (clause n)) (meets (v ∷ variables below) (clause n)) (meets_marked seen (clause n))
-      (meets-more v (variables below) (clause n)) (λ e. meets-is n (omega arith) (own-has n e))) where
-        begun_here : filter (λ n. not (meets_marked seen (clause n))) (get_or of v []) ≡ filter is_first numbers_of
-        begun_here = ap (filter (λ n. not (meets_marked seen (clause n)))) (found.each v) ∙ filter-filter (λ n. not (meets_marked seen (clause n))) (λ n. has_var v (clause n)) numbers_of
+      (λ j. met (entry_at clauses seen v) (found.each v j) (h.opened j))
+      ∙ met-either (entry_at clauses seen v) (λ n. is_open (v ∷ variables below) bound (clause n)) has 0 (length clauses) (λ n k e. fresh-is n (omega arith) e)
+      ∙ ap (map (met_if (entry_at clauses seen v) has)) (filter-within _ (λ n. is_walked v (variables below) bound (clause n)) 0 (length clauses)
+      (λ n k. either-way (has_var v (clause n)) (meets bound (clause n)) (meets (variables below) (clause n)) (meets (v ∷ variables below) (clause n)) (meets-more v (variables below) (clause n))))
+
+  -- A clause that does not have the variable does not end.
+  ends-if : (n : ℕ) → n < length clauses → (has_var v (clause n) || meets (variables below) (clause n)) ≡ true → (entry n).ends ≡ not (meets (variables below) (clause n))
+  ends-if n low e = by (has_var v (clause n)) refl e where
+    by : (b : Bool) → has_var v (clause n) ≡ b → (b || meets (variables below) (clause n)) ≡ true → (if b then entry_at clauses seen v n else plain).ends ≡ not (meets (variables below) (clause n))
+    by true b e = ends-is n low (own-has n b) ∙ ends n low (own-has n b)
+    by false b e = sym (ap not e)
 
   table-is : table_at clauses of seen v s.opened ≡ table_of v (variables below) bound clauses
   table-is =
-      ap (map (entry_at clauses seen v)) met-is
-      ∙ map-within (entry_at clauses seen v) (λ n. entry_of v bound (clause n)) (λ n. is_walked v (variables below) bound (clause n)) 0 (length clauses) (λ n k e. entry n (omega arith) (own-walked n e))
+      ap entries_of met-is
+      ∙ mapped-twice (λ m. m.entry) (met_if (entry_at clauses seen v) has) (filter (λ n. is_walked v (variables below) bound (clause n)) numbers_of)
+      ∙ map-within entry (λ n. entry_of v bound (clause n)) (λ n. is_walked v (variables below) bound (clause n)) 0 (length clauses) (λ n k e. same n (omega arith) (and_parts (has_var v (clause n) || meets bound (clause n)) (has_var v (clause n) || meets (variables below) (clause n)) e))
       ∙ sym (mapped-twice (entry_of v bound) clause (filter (λ n. is_walked v (variables below) bound (clause n)) numbers_of))
       ∙ ap (map (entry_of v bound)) (sym (passing clauses (is_walked v (variables below) bound))) where
-        entry : (n : ℕ) → n < length clauses → meets (v ∷ variables below) (clause n) ≡ true → entry_at clauses seen v n ≡ entry_of v bound (clause n)
-        entry n k there = λ j. record {
-          fresh = not (meets-is n k there j);
-          true_at_0 = (entry_of v bound (clause n)).true_at_0;
-          true_at_1 = (entry_of v bound (clause n)).true_at_1;
-          ends = ends-is n k there j;
-        }
+        same : (n : ℕ) → n < length clauses → ((has_var v (clause n) || meets bound (clause n)) ≡ true) × ((has_var v (clause n) || meets (variables below) (clause n)) ≡ true) → entry n ≡ entry_of v bound (clause n)
+        same n low walked = by (has_var v (clause n)) refl walked.0 where
+          there : meets (v ∷ variables below) (clause n) ≡ true
+          there = meets-more v (variables below) (clause n) ∙ walked.1
 
-  next-opened : filter (λ n. not (within_marked v seen (clause n))) (met_at clauses of seen v s.opened) ≡ filter (λ n. is_open (variables below) (v ∷ bound) (clause n)) numbers_of
+          by : (b : Bool) → has_var v (clause n) ≡ b → (b || meets bound (clause n)) ≡ true → (if b then entry_at clauses seen v n else plain) ≡ entry_of v bound (clause n)
+          by true b e = λ j. record {
+            fresh = not (meets-is n low there j);
+            true_at_0 = has_true v false (clause n);
+            true_at_1 = has_true v true (clause n);
+            ends = ends-is n low there j;
+          }
+          by false b e = λ j. record {
+            fresh = not (sym e j);
+            true_at_0 = sym (true-apart v false (clause n) b) j;
+            true_at_1 = sym (true-apart v true (clause n) b) j;
+            ends = sym (ends n low there ∙ ap not (ap (λ x. x || meets (variables below) (clause n)) (sym b) ∙ walked.1)) j;
+          }
+
+  next-opened : kept_of (met_at clauses of seen v s.opened) ≡ filter (λ n. is_open (variables below) (v ∷ bound) (clause n)) numbers_of
   next-opened =
-      ap (filter (λ n. not (within_marked v seen (clause n)))) met-is
-      ∙ filter-filter (λ n. not (within_marked v seen (clause n))) (λ n. is_walked v (variables below) bound (clause n)) numbers_of
+      ap kept_of met-is
+      ∙ kept-met (entry_at clauses seen v) has (filter (λ n. is_walked v (variables below) bound (clause n)) numbers_of)
+      ∙ filter-filter (λ n. not (entry n).ends) (λ n. is_walked v (variables below) bound (clause n)) numbers_of
       ∙ filter-within _ (λ n. is_open (variables below) (v ∷ bound) (clause n)) 0 (length clauses)
-      (λ n k. next-way (has_var v (clause n)) (meets bound (clause n)) (meets (variables below) (clause n)) (within_marked v seen (clause n)) (meets (v ∷ bound) (clause n)) (meets-more v bound (clause n))
-      (λ e. let there = meets-more v (variables below) (clause n) ∙ e in ends-is n (omega arith) there ∙ ends n (omega arith) there))
+      (λ n k. next-way (has_var v (clause n)) (meets bound (clause n)) (meets (variables below) (clause n)) (entry n).ends (meets (v ∷ bound) (clause n)) (meets-more v bound (clause n)) (ends-if n (omega arith)))
 
   pub base-is : IsBase clauses (variables below) below (v ∷ bound) (decided v (at bound clauses lists)).lists (stand_decided clauses of seen v s)
   base-is = record {
@@ -263,19 +275,16 @@ module _ (clauses : List Clause) (of : List (List ℕ)) (seen : List Bool) (foun
 
     -- a variable of a clause that goes on
     in-tree : (j : ℕ) (own : List ℕ) → ((u : ℕ) → is_among own u ≡ true → is_among (variables below) u ≡ true)
-        → ((u : ℕ) → u < length seen → is_among (variables below) u ≡ true → ((trees below == 1) || (get_or nums u 0 == j)) ≡ is_among own u)
-        → (u : ℕ) → u < length seen → is_among (variables below ++ (v ∷ bound)) u ≡ true → is_in_tree (trees below) (set seen v true) nums j u ≡ is_among own u
+        → ((u : ℕ) → u < length seen → is_among (variables below) u ≡ true → (get_or nums u 0 == j) ≡ is_among own u)
+        → (u : ℕ) → u < length seen → is_among (variables below ++ (v ∷ bound)) u ≡ true → is_in_tree (set seen v true) nums j u ≡ is_among own u
     in-tree j own inside sides u low e = by (is_among (variables below) u) refl (sym (list_any-append (λ x. x == u) (variables below) (v ∷ bound)) ∙ e) where
-      by : (b : Bool) → is_among (variables below) u ≡ b → (b || is_among (v ∷ bound) u) ≡ true → is_in_tree (trees below) (set seen v true) nums j u ≡ is_among own u
+      by : (b : Bool) → is_among (variables below) u ≡ b → (b || is_among (v ∷ bound) u) ≡ true → is_in_tree (set seen v true) nums j u ≡ is_among own u
       by true there k =
-          let off = mark-bit seen v u low ∙ or_from (v == u) (bit_in seen u) (two (v == u) (is_among bound u) (apart u there)) (new u (or_right (v == u) (is_among (variables below) u) there)) in
-          ap (λ b. not b && ((trees below == 1) || (get_or nums u 0 == j))) off ∙ sides u low there where
-            two : (x y : Bool) → (x || y) ≡ false → x ≡ false
-            two false y e = refl
-            two true y e = absurd (false≢true (sym e))
+          let off = mark-bit seen v u low ∙ or_from (v == u) (bit_in seen u) (or_parts (v == u) (is_among bound u) (apart u there)).0 (new u (or_right (v == u) (is_among (variables below) u) there)) in
+          ap (λ b. not b && (get_or nums u 0 == j)) off ∙ sides u low there
       by false off k =
           let on = mark-bit seen v u low ∙ seen-one (v == u) (is_among bound u) k (λ there. before u low there) in
-          ap (λ b. not b && ((trees below == 1) || (get_or nums u 0 == j))) on ∙ sym (false_from_ne_true (is_among own u) (λ there. false≢true (sym off ∙ inside u there))) where
+          ap (λ b. not b && (get_or nums u 0 == j)) on ∙ sym (false_from_ne_true (is_among own u) (λ there. false≢true (sym off ∙ inside u there))) where
             seen-one : (x y : Bool) → (x || y) ≡ true → (y ≡ true → bit_in seen u ≡ true) → (x || bit_in seen u) ≡ true
             seen-one true y e f = refl
             seen-one false y e f = f e
@@ -283,9 +292,21 @@ module _ (clauses : List Clause) (of : List (List ℕ)) (seen : List Bool) (foun
     goes-is : (j : ℕ) (own : List ℕ) → ((u : ℕ) → is_among own u ≡ true → is_among (variables below) u ≡ true)
         → ((u : ℕ) → u < length seen → is_among (variables below) u ≡ true → ((trees below == 1) || (get_or nums u 0 == j)) ≡ is_among own u)
         → (n : ℕ) → n < length clauses → is_open (variables below) (v ∷ bound) (clause n) ≡ true → goes_to clauses (trees below) (set seen v true) nums j n ≡ meets own (clause n)
-    goes-is j own inside sides n low open_there =
-        any-same (variables below ++ (v ∷ bound)) (length seen) (is_in_tree (trees below) (set seen v true) nums j) (is_among own) (in-tree j own inside sides) (clause n) (found.small n low)
-        (closed n low (meets-more v (variables below) (clause n) ∙ or_right (has_var v (clause n)) (meets (variables below) (clause n)) (and_parts (meets (v ∷ bound) (clause n)) (meets (variables below) (clause n)) open_there).1))
+    goes-is j own inside sides n low open_there = by (trees below == 1) refl where
+      goes_on : meets (variables below) (clause n) ≡ true
+      goes_on = (and_parts (meets (v ∷ bound) (clause n)) (meets (variables below) (clause n)) open_there).1
+
+      within : is_within (variables below ++ (v ∷ bound)) (clause n) ≡ true
+      within = closed n low (meets-more v (variables below) (clause n) ∙ or_right (has_var v (clause n)) (meets (variables below) (clause n)) goes_on)
+
+      alone : (trees below == 1) ≡ true → (u : ℕ) → u < length seen → (b : Bool) → is_among (variables below) u ≡ b → is_among own u ≡ b
+      alone e u k true there = sym (sides u k there) ∙ ap (λ x. x || (get_or nums u 0 == j)) e
+      alone e u k false off = false_from_ne_true (is_among own u) (λ there. false≢true (sym off ∙ inside u there))
+
+      by : (b : Bool) → (trees below == 1) ≡ b → (b || list_any (λ l. is_in_tree (set seen v true) nums j (var_of l)) (clause n)) ≡ meets own (clause n)
+      by true e = sym (any-same (variables below ++ (v ∷ bound)) (length seen) (is_among own) (is_among (variables below)) (λ u k _. alone e u k (is_among (variables below) u) refl) (clause n) (found.small n low) within ∙ goes_on)
+      by false e = any-same (variables below ++ (v ∷ bound)) (length seen) (is_in_tree (set seen v true) nums j) (is_among own)
+          (in-tree j own inside (λ u k there. ap (λ x. x || (get_or nums u 0 == j)) (sym e) ∙ sides u k there)) (clause n) (found.small n low) within
 
     abbrev base : Stand
     base = stand_decided clauses of seen v s
@@ -321,9 +342,9 @@ module _ (clauses : List Clause) (of : List (List ℕ)) (seen : List Bool) (foun
         ∷ columns-are beside (j + 1) (base-beside clauses (variables below) (v ∷ bound) (decided v (at bound clauses lists)).lists (stand_decided clauses of seen v s) x down beside h) sides.1 i
 
     pub forks-are : AreSides (trees below == 1) (variables below) nums (length seen) 0 below
-        → forks_found (trees below) (map (λ i. column_at clauses (trees below) (set seen v true) nums i (stand_decided clauses of seen v s)) (range_with_len 0 (trees below))) (decided_forks (table_at clauses of seen v s.opened) s.states)
+        → forks_found (trees below) (row_at (map (λ i. column_at clauses (trees below) (set seen v true) nums i (stand_decided clauses of seen v s)) (range_with_len 0 (trees below)))) (decided_forks (table_at clauses of seen v s.opened) s.states)
         ≡ forks_at v below (at bound clauses lists)
     forks-are sides =
-        (λ j. forks_found (trees below) (columns-are below 0 base-is sides j) (decided_forks (table-is j) (h.states j)))
-        ∙ forks-mapped v below bound clauses ends-all lists h.known (columns_of (variables below) (v ∷ bound) clauses (decided v (at bound clauses lists)).lists base-is.known below)
+        (λ j. forks_found (trees below) (row_at (columns-are below 0 base-is sides j)) (decided_forks (table-is j) (h.states j)))
+        ∙ forks-mapped v below bound clauses ends-all lists h.known (row_at (columns_of (variables below) (v ∷ bound) clauses (decided v (at bound clauses lists)).lists base-is.known below))
         (λ x there it. rows-mapped (variables below) (v ∷ bound) clauses (decided v (at bound clauses lists)).lists base-is.known below (λ u e. e) x there it)

@@ -1,16 +1,14 @@
 -- A base of which all goes to one tree.
-use Rattle.std.proofs.Common.{◌≡◌, ℕ, ℤ, zero, suc, ◌+◌, Bool, true, false, not, ◌&&◌, ◌||◌, cond, List, [], ◌∷◌, map, length, refl, ap, sym, ◌∙◌, subst, arith}
-use Rattle.std.specs.Prelude.{◌==◌, if◌then◌else◌, slice_set}
+use Rattle.std.proofs.Common.{◌≡◌, ℕ, zero, suc, ◌+◌, Bool, true, false, not, ◌&&◌, cond, List, [], ◌∷◌, map, length, get_or, refl, ap, sym, ◌∙◌, subst, arith}
+use Rattle.std.specs.Prelude.{◌==◌, if◌then◌else◌}
 use Rattle.std.specs.List.{filter, list_any, list_all, position_or_len, range_with_len, AllByRecursion}
-use Rattle.std.proofs.lemmas.Bool.{and_parts, or_right, eqb-true, eq-eqb, false≢true}
-use Rattle.std.proofs.lemmas.List.{get_or-set_other}
-use Rattle.state_rules.specs.Bits.{bit_in}
+use Rattle.std.proofs.lemmas.Bool.{and_parts, or_left, eqb-true}
 use Rattle.state_rules.proofs.Bits.{pointwise-refl}
 use Rattle.clause_encoder.specs.Clauses.{Clause, var_of}
 use Rattle.elimination_forests.specs.Branches.{same_list, different}
 use Rattle.elimination_forests.proofs.Lists.{each-filter}
 use Rattle.forest_states.specs.inner.BitLists.{is_same}
-use Rattle.forest_states.specs.inner.Walked.{picked, part_states, is_in_tree, goes_to, within_marked, clause_at, Stand, column_at, stand_part}
+use Rattle.forest_states.specs.inner.Walked.{picked, part_states, is_in_tree, goes_to, clause_at, Stand, row_at, column_at, stand_part}
 use Rattle.forest_states.proofs.Mapped.{mapped-agree, mapped-twice}
 
 -- ---- different lists
@@ -43,6 +41,14 @@ next-range : (a n : ℕ) → map (λ k. 1 + k) (range_with_len a n) ≡ range_wi
 next-range a zero = refl
 next-range a (suc n) = let more : 1 + a ≡ a + 1 = omega arith in λ j. more j ∷ next-range (a + 1) n j
 
+item-range : (k a n d : ℕ) → d ≡ a + n → get_or (range_with_len a k) n d ≡ d
+item-range zero a n d e = refl
+item-range (suc k) a zero d e = omega (arith, e)
+item-range (suc k) a (suc n) d e = item-range k (a + 1) n d (omega (arith, e))
+
+own-item : (k n : ℕ) → get_or (range_with_len 0 k) n n ≡ n
+own-item k n = item-range k 0 n n (omega arith)
+
 own-places : (ls : List (List Bool)) → AreDistinct ls → map (λ s. position_or_len (is_same s) ls) ls ≡ range_with_len 0 (length ls)
 own-places [] distinct = refl
 own-places (l ∷ ls) distinct = let rest = own-places ls distinct.1 in λ j. cond (not (pointwise-refl l j)) (1 + position_or_len (is_same l) ls) 0 ∷ later rest j where
@@ -54,58 +60,26 @@ own-places (l ∷ ls) distinct = let rest = own-places ls distinct.1 in λ j. co
 
 -- ---- all of each list is picked
 
-kept : (p : ℕ → Bool) (ns : List ℕ) → list_all p ns ≡ true → filter p ns ≡ ns
-kept p [] all = refl
-kept p (n ∷ ns) all =
-    let parts = and_parts (p n) (list_all p ns) all in
-    λ j. cond (parts.0 j) (n ∷ kept p ns parts.1 j) (kept p ns parts.1 j)
+all-kept : (p : ℕ → Bool) → ((n : ℕ) → p n ≡ true) → (ns : List ℕ) → filter p ns ≡ ns
+all-kept p all [] = refl
+all-kept p all (n ∷ ns) = λ j. cond (all n j) (n ∷ all-kept p all ns j) (all-kept p all ns j)
 
-picked-whole : (p : ℕ → Bool) (ns : List ℕ) → list_all p ns ≡ true → (state : List Bool) → length state ≡ length ns → picked (map p ns) state ≡ state
-picked-whole p [] all [] long = refl
-picked-whole p [] all (b ∷ state) long = absurd (omega (arith, long))
-picked-whole p (n ∷ ns) all [] long = absurd (omega (arith, long))
-picked-whole p (n ∷ ns) all (b ∷ state) long =
-    let parts = and_parts (p n) (list_all p ns) all in
-    (λ j. if parts.0 j then b ∷ picked (map p ns) state else picked (map p ns) state) ∙ ap (λ bits. b ∷ bits) (picked-whole p ns parts.1 state (omega (arith, long)))
+picked-whole : (p : ℕ → Bool) → ((n : ℕ) → p n ≡ true) → (ns : List ℕ) (state : List Bool) → length state ≡ length ns → picked (map p ns) state ≡ state
+picked-whole p all [] [] long = refl
+picked-whole p all [] (b ∷ state) long = absurd (omega (arith, long))
+picked-whole p all (n ∷ ns) [] long = absurd (omega (arith, long))
+picked-whole p all (n ∷ ns) (b ∷ state) long =
+    (λ j. if all n j then b ∷ picked (map p ns) state else picked (map p ns) state) ∙ ap (λ bits. b ∷ bits) (picked-whole p all ns state (omega (arith, long)))
 
-all-picked : (p : ℕ → Bool) (ns : List ℕ) → list_all p ns ≡ true → (states : List (List Bool)) → list_all (λ s. length s == length ns) states ≡ true → map (picked (map p ns)) states ≡ states
-all-picked p ns all [] long = refl
-all-picked p ns all (s ∷ states) long =
+all-picked : (p : ℕ → Bool) → ((n : ℕ) → p n ≡ true) → (ns : List ℕ) (states : List (List Bool)) → list_all (λ s. length s == length ns) states ≡ true → map (picked (map p ns)) states ≡ states
+all-picked p all ns [] long = refl
+all-picked p all ns (s ∷ states) long =
     let parts = and_parts (length s == length ns) (list_all (λ t. length t == length ns) states) long in
-    λ j. picked-whole p ns all s (eqb-true (length s) (length ns) parts.0) j ∷ all-picked p ns all states parts.1 j
+    λ j. picked-whole p all ns s (eqb-true (length s) (length ns) parts.0) j ∷ all-picked p all ns states parts.1 j
 
 -- ---- the place of the tree
 
--- a clause that does not end with a variable has another one without a bit
-stays-open : (v : ℕ) (seen : List Bool) (numbers : List ℕ) (clause : Clause) → within_marked v seen clause ≡ false
-    → list_any (λ l. is_in_tree 1 (slice_set seen v true) numbers 0 (var_of l)) clause ≡ true
-stays-open v seen numbers [] ends = absurd (false≢true (sym ends))
-stays-open v seen numbers (l ∷ clause) ends = by (v == var_of l) refl (bit_in seen (var_of l)) refl (stays-open v seen numbers clause) ends where
-  goes : ℤ → Bool
-  goes k = is_in_tree 1 (slice_set seen v true) numbers 0 (var_of k)
-
-  by : (same : Bool) → (v == var_of l) ≡ same → (bit : Bool) → bit_in seen (var_of l) ≡ bit → (within_marked v seen clause ≡ false → list_any goes clause ≡ true)
-      → ((same || bit) && within_marked v seen clause) ≡ false → (goes l || list_any goes clause) ≡ true
-  by true e bit f next ends = or_right (goes l) (list_any goes clause) (next ends)
-  by false e true f next ends = or_right (goes l) (list_any goes clause) (next ends)
-  by false e false f next ends = ap (λ b. (not b && true) || list_any goes clause) (get_or-set_other seen v (var_of l) true false (λ same. false≢true (sym e ∙ eq-eqb v (var_of l) (sym same))) ∙ f)
-
-pub stay-open : (clauses : List Clause) (v : ℕ) (seen : List Bool) (numbers ns : List ℕ)
-    → list_all (goes_to clauses 1 (slice_set seen v true) numbers 0) (filter (λ n. not (within_marked v seen (clause_at clauses n))) ns) ≡ true
-stay-open clauses v seen numbers [] = refl
-stay-open clauses v seen numbers (n ∷ ns) = by (within_marked v seen (clause_at clauses n)) refl (stay-open clauses v seen numbers ns) where
-  goes : ℕ → Bool
-  goes = goes_to clauses 1 (slice_set seen v true) numbers 0
-
-  rest : List ℕ
-  rest = filter (λ n. not (within_marked v seen (clause_at clauses n))) ns
-
-  by : (b : Bool) → within_marked v seen (clause_at clauses n) ≡ b → list_all goes rest ≡ true → list_all goes (cond (not b) (n ∷ rest) rest) ≡ true
-  by true e all = all
-  by false e all = λ j. stays-open v seen numbers (clause_at clauses n) e j && all j
-
 module _ (clauses : List Clause) (trees : ℕ) (seen : List Bool) (numbers : List ℕ) (s : Stand) (once : different s.states ≡ s.states)
-    (given : trees ≡ 1 → list_all (goes_to clauses 1 seen numbers 0) s.opened ≡ true)
     (whole : ((trees == 1) && list_all (λ x. length x == length s.opened) s.states) ≡ true) where
   abbrev goes : ℕ → Bool
   goes = goes_to clauses trees seen numbers 0
@@ -116,11 +90,11 @@ module _ (clauses : List Clause) (trees : ℕ) (seen : List Bool) (numbers : Lis
   one : trees ≡ 1
   one = eqb-true trees 1 parts.0
 
-  both : (list_all goes s.opened ≡ true) × (list_all (λ x. length x == length s.opened) s.states ≡ true)
-  both = (ap (λ n. list_all (goes_to clauses n seen numbers 0) s.opened) one ∙ given one, parts.1)
+  all : (n : ℕ) → goes n ≡ true
+  all n = or_left (trees == 1) (list_any (λ l. is_in_tree seen numbers 0 (var_of l)) (clause_at clauses n)) parts.0
 
   picks : map (picked (map goes s.opened)) s.states ≡ s.states
-  picks = all-picked goes s.opened both.0 s.states both.1
+  picks = all-picked goes all s.opened s.states parts.1
 
   states-same : part_states (map goes s.opened) s.states ≡ s.states
   states-same = ap different picks ∙ once
@@ -128,12 +102,15 @@ module _ (clauses : List Clause) (trees : ℕ) (seen : List Bool) (numbers : Lis
   pub whole-stands : map (λ j. stand_part clauses trees seen numbers j s) (range_with_len 0 trees) ≡ s ∷ []
   whole-stands =
       ap (λ n. map (λ j. stand_part clauses trees seen numbers j s) (range_with_len 0 n)) one
-      ∙ (λ i. (record { opened = kept goes s.opened both.0 i; states = states-same i }) ∷ [])
+      ∙ (λ i. (record { opened = all-kept goes all s.opened i; states = states-same i }) ∷ [])
 
-  pub whole-columns : map (λ j. column_at clauses trees seen numbers j s) (range_with_len 0 trees) ≡ range_with_len 0 (length s.states) ∷ []
+  whole-columns : map (λ j. column_at clauses trees seen numbers j s) (range_with_len 0 trees) ≡ range_with_len 0 (length s.states) ∷ []
   whole-columns =
       ap (λ n. map (λ j. column_at clauses trees seen numbers j s) (range_with_len 0 n)) one
       ∙ ap (λ ns. ns ∷ []) ((λ i. map (λ x. position_or_len (is_same (picked (map goes s.opened) x)) (states-same i)) s.states)
       ∙ sym (mapped-twice (λ x. position_or_len (is_same x) s.states) (picked (map goes s.opened)) s.states)
       ∙ ap (map (λ x. position_or_len (is_same x) s.states)) picks
       ∙ own-places s.states (subst AreDistinct once (distinct-different s.states)))
+
+  pub whole-row : row_at (map (λ j. column_at clauses trees seen numbers j s) (range_with_len 0 trees)) ≡ (λ n. n ∷ [])
+  whole-row = ap row_at whole-columns ∙ (λ j n. own-item (length s.states) n j ∷ [])

@@ -1,17 +1,16 @@
 -- The bits in words of 64.
-use Rattle.std.proofs.Common.{inl, inr, ◌≡◌, ℕ, zero, suc, ◌+◌, ◌-◌, ◌*◌, ◌/◌, ◌%◌, ◌^◌, ◌<◌, ◌≤◌, min, Bool, true, false, List, [], ◌∷◌, ◌++◌, length, take, drop, get_or, set, replicate, refl, ap, sym, ◌∙◌, arith, bit_and, bit_or, append_assoc, take-add}
+use Rattle.std.proofs.Common.{inl, inr, ◌≡◌, ℕ, zero, suc, ◌+◌, ◌-◌, ◌*◌, ◌/◌, ◌%◌, ◌^◌, ◌<◌, ◌≤◌, Bool, true, false, List, [], ◌∷◌, ◌++◌, length, take, drop, get_or, set, replicate, refl, ap, sym, ◌∙◌, arith, bit_and, bit_or}
 use Rattle.std.specs.Prelude.{◌==◌}
 use mir.Val.{bool_byte}
 use Rattle.std.specs.Int.{bit_at}
-use Rattle.std.proofs.lemmas.Nat.{or_disjoint, or_comm, or_shifted, pow_pos, shl-shr, shr-shr, mod-pow-add, field_of, shr_high, mod_low, shl_whole}
-use Rattle.std.specs.Int.Bits.{or_zero_r}
-use Rattle.std.proofs.lemmas.Nat.Bits.{bit_at_lowest, bit_at-suc, bit_at-zero, shr_and_one, and_pow, bit_at_above}
+use Rattle.std.proofs.lemmas.Nat.{or_comm, or_shifted, pow_pos, shl-shr, shr-shr, mod-pow-add, field_of, shr_high, mod_low, shl_whole}
+use Rattle.std.proofs.lemmas.Nat.Bits.{bit_at_lowest, bit_at-suc, bit_at-zero, shr_and_one}
 use Rattle.std.proofs.Math.Pow.{pow_mono}
 use Rattle.std.proofs.lemmas.Bool.{cases_lt}
 use Rattle.std.proofs.lemmas.Bool.Decides.{nat_tests}
-use Rattle.std.proofs.lemmas.List.{take_all, drop_all, take-append-le, drop-append-le, drop-drop, get_or-take, get_or-drop, length-append, length-drop, length-take, length-take-le, take-append-drop, take-take, drop-take, take_all}
+use Rattle.std.proofs.lemmas.List.{take_all, drop_all, take-append-le, drop-append-le, drop-drop, get_or-take, get_or-drop, length-append, length-drop, length-take-le, take-append-drop, take-take, drop-take}
 use Rattle.state_rules.specs.Bits.{row_number, number_of_bit, bit_in}
-use Rattle.state_rules.proofs.Bits.{row_number-half, row_number-push}
+use Rattle.state_rules.proofs.Bits.{row_number-half}
 use Rattle.clause_encoder.proofs.RowBits.{row_number-below}
 use Rattle.elimination_forests.specs.Branches.{words_of}
 

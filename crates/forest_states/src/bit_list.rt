@@ -30,14 +30,15 @@ impl Model for BitList {
 }
 
 impl BitList {
-    /// No bits.
-    pub(crate) fn new(alloc: Global) -> Result<BitList, AllocError>
+    /// No bits, and room for so many.
+    pub(crate) fn new(alloc: Global, room: usize) -> Result<BitList, AllocError>
         ensures { IfOk result (λ bits. bits ≡ []) }
     {
-        Ok(BitList {
-            words: SmallVec::from_slice(alloc, &[0])?,
-            len: 0,
-        })
+        let mut words = SmallVec::from_slice(alloc, &[0])?;
+        if room >= 128 {
+            words.reserve_exact(room / 64)?;
+        }
+        Ok(BitList { words, len: 0 })
     }
 
     /// How many bits there are.

@@ -1,6 +1,6 @@
-ghost use Rattle.std.specs.Prelude.{◌≡◌, ◌<◌, ◌≤◌, ◌+◌, ◌^◌, ◌++◌, List, [], ◌∷◌, true, false, length, map, drop, reverse, replicate, slice_set, Some, None, IfOk, OnOk, IfSome};
+ghost use Rattle.std.specs.Prelude.{◌≡◌, ◌<◌, ◌≤◌, ◌+◌, ◌^◌, ◌++◌, ℕ, List, [], ◌∷◌, true, false, length, map, drop, reverse, replicate, slice_set, Some, None, IfOk, OnOk, IfSome};
 ghost use Rattle.elimination_forests.specs.Forests.{Forest, steps_of, is_forest_of, root, weigh, forest_sum, forks_on, has_way, leads_on};
-ghost use Rattle.forest_states.specs.inner.Walked.{Stand, step_at, forks_of, forks_below, stands_below, or_first, stand_of, weight_of};
+ghost use Rattle.forest_states.specs.inner.Walked.{Stand, step_at, forks_of, row_in, forks_below, stands_below, or_first, stand_of, weight_of};
 
 use crate::Memory;
 use crate::marks::find_clauses;
@@ -121,7 +121,7 @@ fn go_along(
 }
 
 fn add_forks(alloc: Global, found: &Leads, forks: &mut Vec<Forks>) -> Result<(), Memory>
-    requires { length found.now.columns.items ≡ found.now.trees }
+    requires { (n : ℕ) → length (row_in found.now n) ≡ found.now.trees }
     ensures { OnOk result (forks.new.items ≡ forks.old.items ++ forks_of found.now ∷ []) }
 {
     forks.push(found.forks(alloc)?)?;
@@ -170,7 +170,7 @@ impl Front {
         ensures within { IfOk result (λ found. IfSome found (λ _. self.new.sum ≤ top)) }
         ensures seen { IfOk result (λ found. IfSome found (λ _. self.new.seen.items ≡ slice_set self.old.seen.items (step_at steps.now at).var true)) }
         ensures numbers { IfOk result (λ found. IfSome found (λ _. length self.new.numbers.items ≡ length self.old.numbers.items)) }
-        ensures whole { IfOk result (λ found. IfSome found (λ leads. length leads.columns.items ≡ leads.trees)) }
+        ensures whole { IfOk result (λ found. IfSome found (λ leads. (n : ℕ) → length (row_in leads n) ≡ leads.trees)) }
         ensures forks { IfOk result (λ found. IfSome found (λ leads. (s : Stand) (stands : List Stand) → s ∷ stands ≡ or_first (reverse (map stand_of self.old.pending.items))
             → forks_of leads ≡ forks_below cnf.now.clauses (map (λ v. v.items) of.now) self.old.seen.items self.old.numbers.items (step_at steps.now at) (drop (at + 1) steps.now) s)) }
         ensures sum { IfOk result (λ found. IfSome found (λ _. (s : Stand) (stands : List Stand) → s ∷ stands ≡ or_first (reverse (map stand_of self.old.pending.items))

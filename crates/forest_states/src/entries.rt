@@ -1,4 +1,4 @@
-ghost use Rattle.std.specs.Prelude.{◌≡◌, ◌+◌, ◌<◌, ◌^◌, ◌&&◌, ◌||◌, ◌++◌, [], ◌∷◌, not, length, IfOk, OnOk};
+ghost use Rattle.std.specs.Prelude.{◌≡◌, ◌+◌, ◌<◌, ◌^◌, ◌&&◌, ◌||◌, ◌++◌, [], ◌∷◌, not, length, replicate, IfOk, OnOk};
 ghost use Rattle.forest_states.specs.inner.Tables.{true_at, plain, is_plain, gone, spread};
 ghost use Rattle.forest_states.specs.inner.Walked.{walked, picked_by};
 
@@ -110,6 +110,14 @@ impl Table {
         Ok(())
     }
 
+    /// Adds so many clauses that stay as they are.
+    pub(crate) fn skip(&mut self, count: usize)
+        requires { length self.old + count < 2 ^ 64 }
+        ensures { self.new ≡ self.old ++ replicate count plain }
+    {
+        self.rest += count;
+    }
+
     /// What a bit leaves of a state, unless that is dead.
     pub(crate) fn walk(
         &self,
@@ -130,7 +138,7 @@ impl Table {
     {
         match self.walk(alloc, false, state)? {
             Some(bits) => Ok(bits),
-            None => BitList::new(alloc),
+            None => BitList::new(alloc, 0),
         }
     }
 }
@@ -146,7 +154,7 @@ fn walk_on(
     requires { length (spread events.now rest) < 2 ^ 63 }
     ensures { IfOk result (λ left. left ≡ walked bit (spread events.now rest) state.now) }
 {
-    let mut left = BitList::new(alloc)?;
+    let mut left = BitList::new(alloc, state.len())?;
     let mut next = 0;
     for event in events {
         left.append(state, next, event.run)?;

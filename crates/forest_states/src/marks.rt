@@ -1,8 +1,8 @@
-ghost use Rattle.std.specs.Prelude.{◌≡◌, ℕ, ◌<◌, ◌≤◌, ◌+◌, ◌-◌, ◌^◌, ◌++◌, [], ◌∷◌, true, false, map, length, slice_index_or, slice_set, IfOk, OnOk, if◌then◌else◌};
-ghost use Rattle.std.specs.List.{filter, range_with_len};
+ghost use Rattle.std.specs.Prelude.{◌≡◌, ℕ, ◌<◌, ◌≤◌, ◌+◌, ◌-◌, ◌^◌, ◌++◌, [], ◌∷◌, true, map, length, slice_index_or, slice_set, IfOk, OnOk, if◌then◌else◌};
+ghost use Rattle.std.specs.List.{filter, list_any, range_with_len};
 ghost use Rattle.clause_encoder.specs.Clauses.{vars_rise, is_clause_list, var_of};
 ghost use Rattle.state_rules.specs.Bits.{bit_in};
-ghost use Rattle.forest_states.specs.inner.Walked.{numbered, numbers_at, begun_at, goes_to, is_in_tree, has_var, meets_marked, clause_at};
+ghost use Rattle.forest_states.specs.inner.Walked.{numbered, numbers_at, begun_at, goes_to, is_in_tree, has_var, clause_at};
 
 use clause_encoder::Cnf;
 use elimination_forests::Step;
@@ -85,7 +85,7 @@ pub(crate) fn clause_of(cnf: &Cnf, number: u32) -> &[i32]
     }
 }
 
-/// Whether a clause has a variable that is not marked and is in a tree.
+/// Whether an open clause goes to a tree out of so many: to one alone, or it has a variable there that is not marked.
 pub(crate) fn goes_to(
     cnf: &Cnf,
     trees: u32,
@@ -96,13 +96,21 @@ pub(crate) fn goes_to(
 ) -> bool
     ensures { result ≡ goes_to cnf.now.clauses trees marks.now numbers.now tree number }
 {
-    clause_of(cnf, number).iter().any(|literal| is_in_tree(trees, marks, numbers, tree, *literal))
+    trees == 1 || meets_tree(clause_of(cnf, number), marks, numbers, tree)
 }
 
-fn is_in_tree(trees: u32, marks: &[bool], numbers: &[u32], tree: u32, literal: i32) -> bool
-    ensures { result ≡ is_in_tree trees marks.now numbers.now tree (var_of literal) }
+fn meets_tree(clause: &[i32], marks: &[bool], numbers: &[u32], tree: u32) -> bool
+    ensures { result ≡ list_any (λ l. is_in_tree marks.now numbers.now tree (var_of l)) clause.now }
 {
-    !is_marked(marks, literal) && (trees == 1 || number_of(numbers, literal) == tree)
+    clause
+        .iter()
+        .any(|literal| is_in_tree(marks, numbers, tree, *literal))
+}
+
+fn is_in_tree(marks: &[bool], numbers: &[u32], tree: u32, literal: i32) -> bool
+    ensures { result ≡ is_in_tree marks.now numbers.now tree (var_of literal) }
+{
+    !is_marked(marks, literal) && number_of(numbers, literal) == tree
 }
 
 fn number_of(numbers: &[u32], literal: i32) -> u32
@@ -112,21 +120,23 @@ fn number_of(numbers: &[u32], literal: i32) -> u32
     if var < numbers.len() { numbers[var] } else { 0 }
 }
 
-/// Whether a variable of a clause is marked.
-pub(crate) fn meets_marked(cnf: &Cnf, marks: &[bool], number: u32) -> bool
-    ensures { result ≡ meets_marked marks.now (clause_at cnf.now.clauses number) }
-{
-    clause_of(cnf, number)
-        .iter()
-        .any(|literal| is_marked(marks, *literal))
-}
-
 /// Whether the variable of a literal is marked.
 pub(crate) fn is_marked(marks: &[bool], literal: i32) -> bool
     ensures { result ≡ bit_in marks.now (var_of literal) }
 {
     let var = literal.unsigned_abs() as usize;
     var < marks.len() && marks[var]
+}
+
+/// The clauses that have a variable.
+pub(crate) fn clauses_with(of: &[Vec<u32>], var: u32) -> &[u32]
+    ensures { result.now ≡ slice_index_or (map (λ v. v.items) of.now) var [] }
+{
+    if (var as usize) < of.len() {
+        of[var as usize].as_slice()
+    } else {
+        &[]
+    }
 }
 
 /// For each variable the numbers of the clauses that have it.

@@ -1,13 +1,13 @@
-ghost use Rattle.std.specs.Prelude.{◌≡◌, ◌<◌, ◌≤◌, ◌+◌, ◌*◌, ◌^◌, ◌++◌, [], ◌∷◌, true, false, length, map, reverse, slice_set, slice_index_or, option_map, Some, IfOk, OnOk, ◌==◌, ◌&&◌};
+ghost use Rattle.std.specs.Prelude.{◌≡◌, ◌<◌, ◌≤◌, ◌+◌, ◌^◌, ◌++◌, ℕ, [], ◌∷◌, true, false, length, map, reverse, slice_set, slice_index_or, option_map, Some, IfOk, OnOk, ◌==◌, ◌&&◌};
 ghost use Rattle.std.specs.List.{list_all, range_with_len, position_or_len};
 ghost use Rattle.elimination_forests.specs.Branches.{different};
 ghost use Rattle.forest_states.specs.inner.BitLists.{is_same};
-ghost use Rattle.forest_states.specs.inner.Walked.{any_leads, picked_by, joined, lead, decided_states, decided_forks, parts_by, column_by, met_at, table_at, numbered, goes_to, forks_of, row_at, stand_decided, stand_part, column_at, stands_below, columns_below, forks_below, first_stand, or_first, stand_of};
+ghost use Rattle.forest_states.specs.inner.Walked.{any_leads, picked_by, joined, lead, decided_states, decided_forks, parts_by, column_by, table_at, forks_of, row_at, row_of, row_in, stand_decided, stand_part, column_at, stands_below, forks_below, first_stand, or_first, stand_of};
 
 use crate::bit_list::BitList;
 use crate::entries::Table;
-use crate::marks::{mark, meets_marked, number_trees};
-use crate::tables::{find_picks, find_table, merge};
+use crate::marks::{clauses_with, mark, number_trees};
+use crate::tables::{find_picks, find_table};
 use clause_encoder::Cnf;
 use elimination_forests::{Forks, Step, Ways};
 use indexmap::IndexSet;
@@ -28,10 +28,12 @@ pub(crate) struct Fork {
 }
 
 /// Where the states of a place lead to: by a bit to those of its base, and from there by a column into each tree on it.
+///
+/// There are no columns if the base is the place of its one tree.
 #[derive(Drop)]
 pub(crate) struct Leads {
     pub(crate) trees: u32,
-    pub(crate) columns: Vec<Vec<u32>>,
+    pub(crate) columns: Option<Vec<Vec<u32>>>,
     pub(crate) leads: Vec<Fork>,
 }
 
@@ -48,7 +50,7 @@ pub(crate) fn go_down(
     pending: &mut Vec<Spot>,
 ) -> Result<Leads, AllocError>
     requires { length spot.now.states.keys < 2 ^ 31 }
-    ensures whole { IfOk result (λ leads. length leads.columns.items ≡ leads.trees) }
+    ensures whole { IfOk result (λ leads. (n : ℕ) → length (row_in leads n) ≡ leads.trees) }
     ensures forks { IfOk result (λ leads. forks_of leads
         ≡ forks_below cnf.now.clauses (map (λ v. v.items) of.now) seen.old.items numbers.old.items step rest.now (stand_of spot.now)) }
     ensures seen { OnOk result (seen.new.items ≡ slice_set seen.old.items step.var true) }
@@ -92,35 +94,10 @@ fn go_by_bit(
     ensures base { IfOk result (λ r. stand_of r.1
         ≡ stand_decided cnf.now.clauses (map (λ v. v.items) of.now) seen.now var (stand_of spot.now)) }
 {
-    let met = find_met(alloc, cnf, of, seen, var, &spot.opened)?;
-    let (table, opened) = find_table(alloc, cnf, seen, var, met.as_slice())?;
+    let touched = clauses_with(of, var);
+    let (table, opened) = find_table(alloc, cnf, seen, var, touched, &spot.opened)?;
     let (leads, states) = decide(alloc, &table, &spot.states)?;
     Ok((leads, Spot { opened, states }))
-}
-
-// The open clauses of a place, and those that begin with a variable.
-fn find_met(
-    alloc: Global,
-    cnf: &Cnf,
-    of: &[Vec<u32>],
-    seen: &[bool],
-    var: u32,
-    opened: &Vec<u32>,
-) -> Result<Vec<u32>, AllocError>
-    ensures { IfOk result (λ met. met.items
-        ≡ met_at cnf.now.clauses (map (λ v. v.items) of.now) seen.now var opened.now.items) }
-{
-    if var as usize >= of.len() {
-        return merge(alloc, opened.as_slice(), &[]);
-    }
-    let numbers = &of[var as usize];
-    let begun: Vec<u32> = numbers
-        .as_slice()
-        .iter()
-        .copied()
-        .filter(|number| !meets_marked(cnf, seen, *number))
-        .collect(alloc)?;
-    merge(alloc, opened.as_slice(), begun.as_slice())
 }
 
 // Where the states of a base lead to in each tree on it. A base of which all goes to one tree is the place of that tree.
@@ -132,23 +109,21 @@ fn go_below(
     trees: u32,
     base: Spot,
     pending: &mut Vec<Spot>,
-) -> Result<Vec<Vec<u32>>, AllocError>
+) -> Result<Option<Vec<Vec<u32>>>, AllocError>
     requires few { length base.states.keys < 2 ^ 32 }
     requires once { different base.states.keys ≡ base.states.keys }
-    requires open { trees ≡ 1 → list_all (goes_to cnf.now.clauses 1 seen.now numbers.now 0) base.opened.items ≡ true }
-    ensures columns { IfOk result (λ columns. map (λ v. v.items) columns.items
-        ≡ map (λ j. column_at cnf.now.clauses trees seen.now numbers.now j (stand_of base)) (range_with_len 0 trees)) }
+    ensures columns { IfOk result (λ columns. row_of (option_map (λ cs. map (λ v. v.items) cs.items) columns)
+        ≡ row_at (map (λ j. column_at cnf.now.clauses trees seen.now numbers.now j (stand_of base)) (range_with_len 0 trees))) }
     ensures pending { OnOk result (reverse (map stand_of pending.new.items)
         ≡ map (λ j. stand_part cnf.now.clauses trees seen.now numbers.now j (stand_of base)) (range_with_len 0 trees)
         ++ reverse (map stand_of pending.old.items)) }
 {
-    if !is_whole(trees, &base) {
-        return go_apart(alloc, cnf, seen, numbers, trees, &base, pending);
+    if is_whole(trees, &base) {
+        pending.push(base)?;
+        return Ok(None);
     }
-    let mut columns = Vec::with_capacity(alloc, 1)?;
-    columns.push(count_up(alloc, base.states.len())?)?;
-    pending.push(base)?;
-    Ok(columns)
+    let columns = go_apart(alloc, cnf, seen, numbers, trees, &base, pending)?;
+    Ok(Some(columns))
 }
 
 // Whether there is one tree on a base, so that each open clause goes to it, and so each bit of a state.
@@ -162,17 +137,6 @@ fn have_len(size: usize, states: &IndexSet<BitList>) -> bool
     ensures { result ≡ list_all (λ s. length s == size) states.now.keys }
 {
     states.as_slice().iter().all(|state| state.len() == size)
-}
-
-fn count_up(alloc: Global, size: usize) -> Result<Vec<u32>, AllocError>
-    requires { size < 2 ^ 32 }
-    ensures { IfOk result (λ numbers. numbers.items ≡ range_with_len 0 size) }
-{
-    let mut numbers = Vec::with_capacity(alloc, size)?;
-    for number in 0..size as u32 {
-        numbers.push(number)?;
-    }
-    Ok(numbers)
 }
 
 // Where the states of a base lead to in each tree on it. The places of the trees are added, the first tree's last.
@@ -307,16 +271,15 @@ impl Leads {
 
     /// The forks of the place.
     pub(crate) fn forks(&self, alloc: Global) -> Result<Forks, AllocError>
-        requires { length self.now.columns.items ≡ self.now.trees }
+        requires { (n : ℕ) → length (row_in self.now n) ≡ self.now.trees }
         ensures { IfOk result (λ forks. forks ≡ forks_of self.now) }
     {
-        let columns = self.columns.as_slice();
         let mut zero = Ways::new(alloc, self.trees);
         let mut one = Ways::new(alloc, self.trees);
-        let mut row = Vec::with_capacity(alloc, columns.len())?;
+        let mut row = Vec::with_capacity(alloc, self.trees as usize)?;
         for lead in self.leads.as_slice() {
-            add_way(&mut zero, columns, lead.zero, &mut row)?;
-            add_way(&mut one, columns, lead.one, &mut row)?;
+            add_way(&mut zero, &self.columns, lead.zero, &mut row)?;
+            add_way(&mut one, &self.columns, lead.one, &mut row)?;
         }
         Ok(Forks { zero, one })
     }
@@ -325,13 +288,13 @@ impl Leads {
 // Adds the way that goes on with a row of the columns. `row` is room for it.
 fn add_way(
     ways: &mut Ways,
-    columns: &[Vec<u32>],
+    columns: &Option<Vec<Vec<u32>>>,
     base: Option<u32>,
     row: &mut Vec<u32>,
 ) -> Result<(), AllocError>
-    requires { length columns.now ≡ ways.old.trees }
+    requires { (n : ℕ) → length (row_of (option_map (λ cs. map (λ v. v.items) cs.items) columns.now) n) ≡ ways.old.trees }
     ensures { OnOk result (ways.new ≡ record ways.old {
-      ways = ways.old.ways ++ option_map (row_at (map (λ v. v.items) columns.now)) base ∷ [];
+      ways = ways.old.ways ++ option_map (row_of (option_map (λ cs. map (λ v. v.items) cs.items) columns.now)) base ∷ [];
     }) }
 {
     match base {
@@ -343,10 +306,22 @@ fn add_way(
     }
 }
 
-fn fill_row(columns: &[Vec<u32>], at: u32, row: &mut Vec<u32>) -> Result<(), AllocError>
-    ensures { OnOk result (row.new.items ≡ row_at (map (λ v. v.items) columns.now) at) }
+fn fill_row(columns: &Option<Vec<Vec<u32>>>, at: u32, row: &mut Vec<u32>) -> Result<(), AllocError>
+    ensures { OnOk result (row.new.items ≡ row_of (option_map (λ cs. map (λ v. v.items) cs.items) columns.now) at) }
 {
     row.clear();
+    match columns {
+        Some(columns) => add_items(columns.as_slice(), at, row),
+        None => {
+            row.push(at)?;
+            Ok(())
+        }
+    }
+}
+
+fn add_items(columns: &[Vec<u32>], at: u32, row: &mut Vec<u32>) -> Result<(), AllocError>
+    ensures { OnOk result (row.new.items ≡ row.old.items ++ row_at (map (λ v. v.items) columns.now) at) }
+{
     for column in columns {
         row.push(item(column, at))?;
     }
@@ -354,12 +329,12 @@ fn fill_row(columns: &[Vec<u32>], at: u32, row: &mut Vec<u32>) -> Result<(), All
 }
 
 fn item(column: &Vec<u32>, at: u32) -> u32
-    ensures { result ≡ slice_index_or column.now.items at 0 }
+    ensures { result ≡ slice_index_or column.now.items at at }
 {
     if (at as usize) < column.len() {
         column[at as usize]
     } else {
-        0
+        at
     }
 }
 
@@ -378,7 +353,7 @@ fn begin(alloc: Global) -> Result<Spot, AllocError>
     ensures { IfOk result (λ spot. stand_of spot ≡ first_stand) }
 {
     let mut states = IndexSet::new(alloc);
-    states.insert(BitList::new(alloc)?)?;
+    states.insert(BitList::new(alloc, 0)?)?;
     Ok(Spot {
         opened: Vec::new(alloc),
         states,

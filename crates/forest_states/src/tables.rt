@@ -1,37 +1,77 @@
-ghost use Rattle.std.specs.Prelude.{◌≡◌, ◌<◌, [], ◌&&◌, ◌||◌, ◌==◌, true, false, not, map, IfOk};
-ghost use Rattle.std.specs.List.{filter};
+ghost use Rattle.std.specs.Prelude.{◌≡◌, ◌≤◌, ◌+◌, ◌++◌, [], ◌∷◌, ◌&&◌, ◌||◌, ◌==◌, true, false, not, map, length, nat_lt, IfOk, OnOk, if◌then◌else◌};
+ghost use Rattle.std.specs.List.{filter, prefix_len};
 ghost use Rattle.clause_encoder.specs.Clauses.{var_of};
 ghost use Rattle.state_rules.specs.Bits.{bit_in};
 ghost use Rattle.elimination_forests.specs.Branches.{is_true_by};
 ghost use Rattle.forest_states.specs.inner.Tables.{pick_entry};
-ghost use Rattle.forest_states.specs.inner.Walked.{merged, within_marked, clause_at, entry_of, entry_at, goes_to};
+ghost use Rattle.forest_states.specs.inner.Walked.{entry_of, entry_at, after, met, entries_of, kept_of, goes_to};
 
 use crate::entries::{Entry, Table};
 use crate::marks::{clause_of, goes_to, is_marked};
 use clause_encoder::Cnf;
 use std::alloc::{AllocError, Global};
 
-/// What the bit of a variable does to clauses, and the numbers of those that do not end.
+/// What the bit of a variable does to the open clauses of a place and to those that begin with it, and the numbers of those that do not end.
+///
+/// `touched` are the clauses that have the variable. The others stay as they are, and are not read.
 pub(crate) fn find_table(
     alloc: Global,
     cnf: &Cnf,
     seen: &[bool],
     var: u32,
-    numbers: &[u32],
+    touched: &[u32],
+    opened: &[u32],
 ) -> Result<(Table, Vec<u32>), AllocError>
-    ensures table { IfOk result (λ r. r.0 ≡ map (entry_at cnf.now.clauses seen.now var) numbers.now) }
-    ensures kept { IfOk result (λ r. r.1.items ≡ filter (λ n. not (within_marked var seen.now (clause_at cnf.now.clauses n))) numbers.now) }
+    ensures table { IfOk result (λ r. r.0 ≡ entries_of (met (entry_at cnf.now.clauses seen.now var) touched.now opened.now)) }
+    ensures short { IfOk result (λ r. length r.0 ≤ length opened.now + length touched.now) }
+    ensures kept { IfOk result (λ r. r.1.items ≡ kept_of (met (entry_at cnf.now.clauses seen.now var) touched.now opened.now)) }
 {
     let mut table = Table::new(alloc);
-    let mut kept = Vec::with_capacity(alloc, numbers.len())?;
-    for number in numbers {
+    let mut kept = Vec::with_capacity(alloc, opened.len())?;
+    let mut rest = opened;
+    for number in touched {
+        let below = count_below(rest, *number);
+        kept.extend_from_slice(&rest[..below])?;
+        table.skip(below);
         let entry = entry_of(seen, var, clause_of(cnf, *number));
-        if !entry.ends {
-            kept.push(*number)?;
-        }
+        add(&mut kept, *number, !entry.ends)?;
         table.push(entry)?;
+        rest = after(entry, &rest[below..]);
     }
+    kept.extend_from_slice(rest)?;
+    table.skip(rest.len());
     Ok((table, kept))
+}
+
+// How many of rising numbers are below another one.
+fn count_below(numbers: &[u32], number: u32) -> usize
+    ensures { result ≡ prefix_len (λ n. nat_lt n number) numbers.now }
+{
+    let mut count = 0;
+    'below: while count < numbers.len() && numbers[count] < number {
+        count += 1;
+    }
+    count
+}
+
+fn add(numbers: &mut Vec<u32>, number: u32, is_kept: bool) -> Result<(), AllocError>
+    ensures { OnOk result (numbers.new.items ≡ numbers.old.items ++ (if is_kept then number ∷ [] else [])) }
+{
+    if is_kept {
+        numbers.push(number)?;
+    }
+    Ok(())
+}
+
+// Of open clauses those after the first one, if that is the one of an entry.
+fn after(entry: Entry, opened: &[u32]) -> &[u32]
+    ensures { result.now ≡ after entry opened.now }
+{
+    if entry.fresh || opened.is_empty() {
+        opened
+    } else {
+        &opened[1..]
+    }
 }
 
 // What the bit of a variable does to a clause.
@@ -70,23 +110,6 @@ fn is_true_by(literal: i32, var: u32, bit: bool) -> bool
     ensures { result ≡ is_true_by var bit literal }
 {
     literal.unsigned_abs() == var && (literal >= 0) == bit
-}
-
-/// Rising numbers and others, by their size.
-pub(crate) fn merge(alloc: Global, numbers: &[u32], others: &[u32]) -> Result<Vec<u32>, AllocError>
-    ensures { IfOk result (λ both. both.items ≡ merged numbers.now others.now) }
-{
-    let mut both = Vec::with_capacity(alloc, numbers.len())?;
-    let mut next = 0;
-    for number in numbers {
-        'lower: while next < others.len() && others[next] < *number {
-            both.push(others[next])?;
-            next += 1;
-        }
-        both.push(*number)?;
-    }
-    both.extend_from_slice(&others[next..])?;
-    Ok(both)
 }
 
 /// What picks the clauses that go to a tree, and their numbers.

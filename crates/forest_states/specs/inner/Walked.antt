@@ -1,6 +1,6 @@
 -- A way down a forest as the lists of bits of the open clauses see it. Only private contracts cite it.
-use Rattle.std.specs.Prelude.{ℕ, ◌+◌, ◌-◌, ◌*◌, ◌==◌, Bool, true, false, not, ◌&&◌, ◌||◌, List, [], ◌∷◌, ◌++◌, map, length, nat_lt, slice_set, slice_index_or, option_map, is_some, Option, Some, None, option_to_list, if◌then◌else◌}
-use Rattle.std.specs.List.{filter, flat_map, list_any, list_all, position_or_len, range_with_len}
+use Rattle.std.specs.Prelude.{ℕ, ◌+◌, ◌-◌, ◌*◌, ◌==◌, Bool, true, false, not, ◌&&◌, ◌||◌, List, [], ◌∷◌, ◌++◌, map, length, nat_lt, slice_set, slice_index_or, drop, option_map, is_some, Option, Some, None, option_to_list, if◌then◌else◌}
+use Rattle.std.specs.List.{filter, flat_map, list_any, list_all, position_or_len, prefix_len, take_while, range_with_len}
 use Rattle.std.specs.Option.{unwrap_or}
 use Rattle.indexmap.specs.IndexSet.{insert_key}
 use Rattle.state_rules.specs.Bits.{bit_in}
@@ -13,7 +13,7 @@ use Rattle.elimination_forests.specs.declared.steps.Step.{Step}
 use Rattle.elimination_forests.specs.declared.steps.Weight.{Weight}
 use Rattle.elimination_forests.specs.declared.forks.Forks.{Forks}
 use Rattle.elimination_forests.specs.Forests.{weigh}
-use Rattle.forest_states.specs.inner.Tables.{true_at}
+use Rattle.forest_states.specs.inner.Tables.{true_at, plain}
 use Rattle.forest_states.specs.declared.entries.Entry.{Entry}
 use Rattle.forest_states.specs.inner.BitLists.{is_same, first_bit, other_bits}
 
@@ -90,31 +90,28 @@ any_leads leads = list_any (λ f. is_some f.zero || is_some f.one) leads
 
 -- a row of columns
 abbrev pub row_at : List (List ℕ) → ℕ → List ℕ
-row_at columns n = map (λ c. slice_index_or c n 0) columns
+row_at columns n = map (λ c. slice_index_or c n n) columns
 
-abbrev pub ways_found : List (List ℕ) → List (Option ℕ) → List (Option (List ℕ))
-ways_found columns leads = map (option_map (row_at columns)) leads
+-- if there are none, the base is the place of the one tree on it
+abbrev pub row_of : Option (List (List ℕ)) → ℕ → List ℕ
+row_of None n = n ∷ []
+row_of (Some columns) n = row_at columns n
 
-abbrev pub forks_found : ℕ → List (List ℕ) → List Fork → Forks
-forks_found trees columns leads =
+abbrev pub ways_found : (ℕ → List ℕ) → List (Option ℕ) → List (Option (List ℕ))
+ways_found row leads = map (option_map row) leads
+
+abbrev pub forks_found : ℕ → (ℕ → List ℕ) → List Fork → Forks
+forks_found trees row leads =
     record {
-      zero = record { trees = trees; ways = ways_found columns (map (λ f. f.zero) leads) };
-      one = record { trees = trees; ways = ways_found columns (map (λ f. f.one) leads) };
+      zero = record { trees = trees; ways = ways_found row (map (λ f. f.zero) leads) };
+      one = record { trees = trees; ways = ways_found row (map (λ f. f.one) leads) };
     }
 
+abbrev pub row_in : Leads → ℕ → List ℕ
+row_in l = row_of (option_map (λ cs. map (λ v. v.items) cs.items) l.columns)
+
 abbrev pub forks_of : Leads → Forks
-forks_of l = forks_found l.trees (map (λ v. v.items) l.columns.items) l.leads.items
-
--- ---- the open clauses of a place, by their numbers
-
--- rising numbers and others, by their size
-abbrev pub put_in : ℕ → (List ℕ → List ℕ) → List ℕ → List ℕ
-put_in x rest [] = x ∷ rest []
-put_in x rest (y ∷ ys) = if nat_lt y x then y ∷ put_in x rest ys else x ∷ rest (y ∷ ys)
-
-abbrev pub merged : List ℕ → List ℕ → List ℕ
-merged [] = λ ys. ys
-merged (x ∷ xs) = λ ys. put_in x (merged xs) ys
+forks_of l = forks_found l.trees (row_in l) l.leads.items
 
 -- ---- variables below
 
@@ -149,11 +146,12 @@ abbrev pub within_marked : ℕ → List Bool → Clause → Bool
 within_marked v marks clause = list_all (λ l. (v == var_of l) || bit_in marks (var_of l)) clause
 
 -- a variable that is not marked is in a tree
-abbrev pub is_in_tree : ℕ → List Bool → List ℕ → ℕ → ℕ → Bool
-is_in_tree trees marks numbers tree v = not (bit_in marks v) && ((trees == 1) || (slice_index_or numbers v 0 == tree))
+abbrev pub is_in_tree : List Bool → List ℕ → ℕ → ℕ → Bool
+is_in_tree marks numbers tree v = not (bit_in marks v) && (slice_index_or numbers v 0 == tree)
 
+-- an open clause goes to a tree out of so many
 abbrev pub goes_to : List Clause → ℕ → List Bool → List ℕ → ℕ → ℕ → Bool
-goes_to clauses trees marks numbers tree n = list_any (λ l. is_in_tree trees marks numbers tree (var_of l)) (clause_at clauses n)
+goes_to clauses trees marks numbers tree n = (trees == 1) || list_any (λ l. is_in_tree marks numbers tree (var_of l)) (clause_at clauses n)
 
 -- what a bit of a variable does to a clause
 abbrev pub entry_of : List Bool → ℕ → Clause → Entry
@@ -168,6 +166,32 @@ entry_of seen v clause =
 abbrev pub entry_at : List Clause → List Bool → ℕ → ℕ → Entry
 entry_at clauses seen v n = entry_of seen v (clause_at clauses n)
 
+-- a clause that is met by a bit, by its number, and what this does to it
+pub record Met : Type 0 where
+  pub number : ℕ
+  pub entry : Entry
+
+abbrev pub as_before : ℕ → Met
+as_before n = record { number = n; entry = plain }
+
+-- of open clauses those after the first one, if that is the one of an entry
+abbrev pub after : Entry → List ℕ → List ℕ
+after e opened = if e.fresh then opened else drop 1 opened
+
+-- the clauses that have the variable, by rising numbers, and the open ones, which stay as they are
+abbrev pub met : (ℕ → Entry) → List ℕ → List ℕ → List Met
+met entry [] opened = map as_before opened
+met entry (n ∷ numbers) opened =
+    map as_before (take_while (λ o. nat_lt o n) opened)
+    ++ ((record { number = n; entry = entry n }) ∷ met entry numbers (after (entry n) (drop (prefix_len (λ o. nat_lt o n) opened) opened)))
+
+abbrev pub entries_of : List Met → List Entry
+entries_of ms = map (λ m. m.entry) ms
+
+-- the numbers of those that do not end
+abbrev pub kept_of : List Met → List ℕ
+kept_of ms = map (λ m. m.number) (filter (λ m. not m.entry.ends) ms)
+
 -- ---- a place: its open clauses, and its states
 
 pub record Stand : Type 0 where
@@ -177,18 +201,18 @@ pub record Stand : Type 0 where
 abbrev pub stand_of : Spot → Stand
 stand_of spot = record { opened = spot.opened.items; states = spot.states.keys }
 
--- the open clauses of a place, and those that begin with a variable, out of those that have it
-abbrev pub met_at : List Clause → List (List ℕ) → List Bool → ℕ → List ℕ → List ℕ
-met_at clauses of seen v opened = merged opened (filter (λ n. not (meets_marked seen (clause_at clauses n))) (slice_index_or of v []))
+-- what a bit of a variable does to the open clauses of a place, and to those that begin with it
+abbrev pub met_at : List Clause → List (List ℕ) → List Bool → ℕ → List ℕ → List Met
+met_at clauses of seen v opened = met (entry_at clauses seen v) (slice_index_or of v []) opened
 
 abbrev pub table_at : List Clause → List (List ℕ) → List Bool → ℕ → List ℕ → List Entry
-table_at clauses of seen v opened = map (entry_at clauses seen v) (met_at clauses of seen v opened)
+table_at clauses of seen v opened = entries_of (met_at clauses of seen v opened)
 
 -- what comes of a place by a bit, and the places of the trees below
 abbrev pub stand_decided : List Clause → List (List ℕ) → List Bool → ℕ → Stand → Stand
 stand_decided clauses of seen v s =
     record {
-      opened = filter (λ n. not (within_marked v seen (clause_at clauses n))) (met_at clauses of seen v s.opened);
+      opened = kept_of (met_at clauses of seen v s.opened);
       states = decided_states (table_at clauses of seen v s.opened) s.states;
     }
 
@@ -212,7 +236,7 @@ columns_below clauses of seen numbers step rest s =
 
 abbrev pub forks_below : List Clause → List (List ℕ) → List Bool → List ℕ → Step → List Step → Stand → Forks
 forks_below clauses of seen numbers step rest s =
-    forks_found step.trees (columns_below clauses of seen numbers step rest s) (decided_forks (table_at clauses of seen step.var s.opened) s.states)
+    forks_found step.trees (row_at (columns_below clauses of seen numbers step rest s)) (decided_forks (table_at clauses of seen step.var s.opened) s.states)
 
 abbrev pub step_at : List Step → ℕ → Step
 step_at steps i = slice_index_or steps i (record { var = 0; trees = 0 })

@@ -1,4 +1,4 @@
-use Rattle.std.proofs.Common.{◌≡◌, ◌+◌, Ok, ap, ◌∙◌, arith}
+use Rattle.std.proofs.Common.{Ok, ap, ◌∙◌, arith}
 use Rattle.elimination_forests.specs.Branches.{order}
 use Rattle.elimination_forests.specs.Forests.{chain}
 use Rattle.elimination_forests.proofs.Chains.{chain-forest}

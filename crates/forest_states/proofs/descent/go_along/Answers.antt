@@ -1,7 +1,7 @@
 use Rattle.std.proofs.Common.{◌≡◌, ◌+◌, ◌++◌, [], ◌∷◌, true, false, map, length, drop, reverse, replicate, refl, Ok, ap, sym, ◌∙◌, arith}
 use Rattle.std.proofs.lemmas.Bool.{false≢true}
 use Rattle.std.proofs.lemmas.List.{length-map, length-set, length-replicate}
-use Rattle.forest_states.specs.inner.Walked.{stand_of, step_at, forks_of, forks_below, stands_below}
+use Rattle.forest_states.specs.inner.Walked.{stand_of, step_at, row_in, forks_of, forks_below, stands_below}
 use Rattle.forest_states.proofs.Numbers.{IsIndex}
 use Rattle.forest_states.proofs.Having.{index-is}
 use Rattle.elimination_forests.specs.Forests.{leads_on}
@@ -48,7 +48,7 @@ loop-at-preserved c =
               | then-keep+in_ok-add_forks w ↦ ap (λ fs. fs.items) w.forks-is ∙ w.in_ok-add_forks.ensures ∙ ap (λ fs. fs ++ forks_of c.in-Some.found ∷ []) (before.1 keep)
               | else-keep w ↦ absurd (false≢true (sym w.if-keep.false ∙ keep))
             ]),
-            (c.has_way-leads_on.ensures ∙ ways-some (map (λ v. v.items) c.in-Some.found.columns.items) c.in-Some.found.leads.items ∙ sym (leads-push before.0 (forks_of c.in-Some.found))),
+            (c.has_way-leads_on.ensures ∙ ways-some (row_in c.in-Some.found) c.in-Some.found.leads.items ∙ sym (leads-push before.0 (forks_of c.in-Some.found))),
             (way-next c.args.weight steps clauses of seen known numbers sizes forest c.loop-at.at before.0 c.loop-at.front.sum _ c.loop-at-test.true before.3 _ (forks_of c.in-Some.found) _ _ (if-some _ _ _ c.in-Some.is c.in_ok-found.ensures.seen)
                 (λ s stands h. if-some _ _ _ c.in-Some.is c.in_ok-found.ensures.forks s stands h ∙ (λ j. forks_below clauses (of_is j) seen numbers (step_at steps c.loop-at.at) (drop (c.loop-at.at + 1) steps) s))
                 (if-some _ _ _ c.in-Some.is c.in_ok-found.ensures.sum)

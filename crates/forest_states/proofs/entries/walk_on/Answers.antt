@@ -1,11 +1,10 @@
-use Rattle.std.proofs.Common.{◌≡◌, ◌≤◌, ◌<◌, ◌+◌, ◌++◌, [], ◌∷◌, Bool, true, false, not, Some, length, drop, get_or, ap, sym, ◌∙◌, ◌&&◌, ◌||◌, arith}
+use Rattle.std.proofs.Common.{◌≡◌, ◌≤◌, ◌+◌, ◌++◌, [], ◌∷◌, Bool, true, false, not, Some, length, drop, get_or, ap, sym, ◌∙◌, ◌&&◌, ◌||◌, arith}
 use mir.Val.{bool_byte}
-use Rattle.std.proofs.lemmas.List.{length-append, drop-drop, drop_all}
-use Rattle.state_rules.specs.Bits.{bit_in}
+use Rattle.std.proofs.lemmas.List.{length-append, drop_all}
 use Rattle.forest_states.specs.declared.entries.Event.{Event}
 use Rattle.forest_states.specs.inner.BitLists.{copied}
 use Rattle.forest_states.specs.inner.Tables.{plain, true_at, spread}
-use Rattle.forest_states.specs.inner.Walked.{ended, walked}
+use Rattle.forest_states.specs.inner.Walked.{walked}
 use Rattle.forest_states.proofs.Sets.{behind}
 use Rattle.forest_states.proofs.Words.{length-copied}
 use Rattle.forest_states.proofs.Walks.{behind-kept, ended-passed, ended-dead}

@@ -1,11 +1,10 @@
-use Rattle.std.proofs.Common.{◌++◌, map, length, reverse, ap, sym, ◌∙◌}
-use Rattle.std.specs.List.{list_all, range_with_len}
+use Rattle.std.proofs.Common.{◌++◌, map, length, reverse, get_or, ap, sym, ◌∙◌}
+use Rattle.std.specs.List.{range_with_len}
 use Rattle.std.proofs.lemmas.List.{length-map}
 use Rattle.std.proofs.lemmas.List.FromFn.{length-range_with_len}
-use Rattle.forest_states.specs.inner.Walked.{decided_forks, table_at, forks_found, column_at, stand_decided, stand_part, goes_to, stand_of}
+use Rattle.forest_states.specs.inner.Walked.{decided_forks, table_at, row_at, forks_found, column_at, stand_decided, stand_part, stand_of}
 use Rattle.elimination_forests.specs.Branches.{different}
 use Rattle.elimination_forests.proofs.Chains.{different-different}
-use Rattle.forest_states.proofs.Whole.{stay-open}
 use Rattle.forest_states.proofs.places.go_down.Goals as goal
 
 pub go_below-requires-clause-once : goal.go_below-requires-clause-once
@@ -13,18 +12,9 @@ go_below-requires-clause-once c =
     let base = c.in_ok-leads.ensures.base in
     ap (λ s. different s.states) base ∙ different-different _ ∙ sym (ap (λ s. s.states) base)
 
-pub go_below-requires-clause-open : goal.go_below-requires-clause-open
-go_below-requires-clause-open c _ =
-    let clauses = c.args.cnf.now.clauses in
-    let v = c.args.step.var in
-    let seen = c.args.seen.now.items in
-    let kept = ap (λ s. s.opened) (c.in_ok-leads.ensures.base ∙ (λ j. stand_decided clauses (map (λ v. v.items) c.args.of.now) (c.as_slice.ensures.value j) v (stand_of c.args.spot.now))) in
-    let marked = c.as_slice-2.ensures.value ∙ c.mark.ensures in
-    (λ j. list_all (goes_to clauses 1 (marked j) c.as_slice-3.result.now 0) (kept j)) ∙ stay-open clauses v seen c.as_slice-3.result.now _
-
 pub returns-clause-whole : goal.returns-clause-whole
-returns-clause-whole c =
-    sym (length-map c.in_ok-columns.columns.items (λ v. v.items)) ∙ ap length c.in_ok-columns.ensures.columns
+returns-clause-whole c n =
+    ap (λ row. length (row n)) c.in_ok-columns.ensures.columns ∙ length-map _ (λ column. get_or column n n)
     ∙ length-map (range_with_len 0 c.args.step.trees) _ ∙ length-range_with_len 0 c.args.step.trees
 
 pub returns-clause-forks : goal.returns-clause-forks
@@ -37,7 +27,7 @@ returns-clause-forks c =
     let marked = c.as_slice-2.ensures.value ∙ c.mark.ensures in
     let numbers = c.as_slice-3.ensures.value ∙ c.number_trees.ensures.numbers in
     let base = c.in_ok-leads.ensures.base ∙ (λ j. stand_decided clauses of (seen j) v s) in
-    let columns = c.in_ok-columns.ensures.columns ∙ (λ j. map (λ i. column_at clauses c.args.step.trees (marked j) (numbers j) i (base j)) (range_with_len 0 c.args.step.trees)) in
+    let columns = c.in_ok-columns.ensures.columns ∙ (λ j. row_at (map (λ i. column_at clauses c.args.step.trees (marked j) (numbers j) i (base j)) (range_with_len 0 c.args.step.trees))) in
     let leads = c.in_ok-leads.ensures.leads ∙ (λ j. decided_forks (table_at clauses of (seen j) v s.opened) s.states) in
     λ j. forks_found c.args.step.trees (columns j) (leads j)
 

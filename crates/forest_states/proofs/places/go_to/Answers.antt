@@ -1,6 +1,6 @@
 use Rattle.std.proofs.Common.{map, ap, ◌∙◌}
 use Rattle.std.specs.List.{filter}
-use Rattle.forest_states.specs.inner.Walked.{picked, picked_by, column_by, parts_by, goes_to}
+use Rattle.forest_states.specs.inner.Walked.{picked_by, column_by, parts_by, goes_to}
 use Rattle.forest_states.specs.inner.Tables.{pick_entry}
 use Rattle.forest_states.proofs.Spread.{picked-by}
 use Rattle.forest_states.proofs.places.go_to.Goals as goal

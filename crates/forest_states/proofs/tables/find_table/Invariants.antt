@@ -1,10 +1,10 @@
-use Rattle.std.proofs.Common.{◌≡◌, take, map, not}
-use Rattle.std.specs.List.{filter}
-use Rattle.forest_states.specs.inner.Walked.{entry_at, within_marked, clause_at}
+use Rattle.std.proofs.Common.{◌≡◌, ◌≤◌, ◌+◌, ◌++◌, drop, length}
+use Rattle.forest_states.specs.inner.Walked.{entry_at, met, entries_of, kept_of}
 use Rattle.forest_states.proofs.tables.find_table.Given as goal
 
 abbrev pub invariant-loop-number : goal.invariant-loop-number
 invariant-loop-number l = record {
-  table : l.table ≡ map (entry_at l.cnf.clauses l.seen l.var) (take l.number-index l.numbers);
-  kept : l.kept.items ≡ filter (λ n. not (within_marked l.var l.seen (clause_at l.cnf.clauses n))) (take l.number-index l.numbers);
+  short : length l.table + length l.rest ≤ length l.opened + l.number-index;
+  table : l.table ++ entries_of (met (entry_at l.cnf.clauses l.seen l.var) (drop l.number-index l.touched) l.rest) ≡ entries_of (met (entry_at l.cnf.clauses l.seen l.var) l.touched l.opened);
+  kept : l.kept.items ++ kept_of (met (entry_at l.cnf.clauses l.seen l.var) (drop l.number-index l.touched) l.rest) ≡ kept_of (met (entry_at l.cnf.clauses l.seen l.var) l.touched l.opened);
 }

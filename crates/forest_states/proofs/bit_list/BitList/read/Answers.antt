@@ -1,4 +1,4 @@
-use Rattle.std.proofs.Common.{◌≡◌, ◌<◌, ◌*◌, ◌-◌, ◌/◌, ◌%◌, ◌^◌, length, drop, get_or, ap, sym, ◌∙◌, arith}
+use Rattle.std.proofs.Common.{◌*◌, ◌-◌, ◌/◌, ◌%◌, ◌^◌, length, drop, get_or, ap, sym, ◌∙◌, arith}
 use Rattle.state_rules.specs.Bits.{row_number}
 use Rattle.elimination_forests.specs.Branches.{words_of}
 use Rattle.forest_states.specs.inner.BitLists.{bits_in, copied}

@@ -1,6 +1,6 @@
-use Rattle.std.proofs.Common.{◌≡◌, ◌+◌, ◌++◌, [], ◌∷◌, suc, length, ap, sym, ◌∙◌, arith}
+use Rattle.std.proofs.Common.{◌++◌, [], ◌∷◌, length, ap, sym, ◌∙◌, arith}
 use Rattle.forest_states.specs.inner.Tables.{spread}
-use Rattle.forest_states.proofs.Spread.{spread-plain, spread-event, length-spread, plain-is}
+use Rattle.forest_states.proofs.Spread.{spread-run, spread-event, length-spread, plain-is}
 use Rattle.forest_states.proofs.entries.Table.push.Goals as goal
 
 pub overflow_add-self : goal.overflow_add-self
@@ -10,8 +10,7 @@ pub returns-then-is_plain : goal.returns-then-is_plain
 returns-then-is_plain c =
     let es = c.self.inside.events.items in
     let n = c.self.inside.rest in
-    let next : c.self.inside.rest + 1 ≡ suc c.self.inside.rest = omega arith in
-    ap (spread es) next ∙ spread-plain es n ∙ (λ j. c.self.view_is j ++ sym (plain-is c.args.entry (sym c.is_plain.ensures ∙ c.if-is_plain.true)) j ∷ [])
+    spread-run es n 1 ∙ (λ j. c.self.view_is j ++ sym (plain-is c.args.entry (sym c.is_plain.ensures ∙ c.if-is_plain.true)) j ∷ [])
 
 pub returns : goal.returns
 returns c =

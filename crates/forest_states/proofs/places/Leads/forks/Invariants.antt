@@ -1,9 +1,9 @@
 use Rattle.std.proofs.Common.{◌≡◌, map, take}
-use Rattle.forest_states.specs.inner.Walked.{ways_found}
+use Rattle.forest_states.specs.inner.Walked.{ways_found, row_in}
 use Rattle.forest_states.proofs.places.Leads.forks.Given as goal
 
 abbrev pub invariant-loop-lead : goal.invariant-loop-lead
 invariant-loop-lead l = record {
-  zero : l.zero ≡ record { trees = l.self.trees; ways = ways_found (map (λ v. v.items) l.columns) (map (λ f. f.zero) (take l.lead-index l.self.leads.items)) };
-  one : l.one ≡ record { trees = l.self.trees; ways = ways_found (map (λ v. v.items) l.columns) (map (λ f. f.one) (take l.lead-index l.self.leads.items)) };
+  zero : l.zero ≡ record { trees = l.self.trees; ways = ways_found (row_in l.self) (map (λ f. f.zero) (take l.lead-index l.self.leads.items)) };
+  one : l.one ≡ record { trees = l.self.trees; ways = ways_found (row_in l.self) (map (λ f. f.one) (take l.lead-index l.self.leads.items)) };
 }

@@ -25,7 +25,6 @@ use std::marker::Model;
 
 /// What sessions ask over, which no line changes: the names of parts and wires, what the failure of each part costs, a graph whose
 /// variables are the parts, the wires, and inner ones, and what is told besides.
-#[derive(Drop)]
 pub(crate) struct Basis {
     parts: Vec<Name>,
     wires: Vec<Name>,
@@ -36,6 +35,21 @@ pub(crate) struct Basis {
     // what the graph of the diagnoses is drawn with, where it is told and nothing else keeps it
     sets: Option<PartSets>,
     least: bool,
+}
+
+// One call, so that the prover does not go through the basis at each place that lets one go.
+impl Drop for Basis {
+    fn drop(self) {
+        let Basis {
+            parts: _,
+            wires: _,
+            costs: _,
+            graph: _,
+            levels: _,
+            sets: _,
+            least: _,
+        } = self;
+    }
 }
 
 impl Model for Basis {

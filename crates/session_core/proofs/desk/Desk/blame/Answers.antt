@@ -4,7 +4,7 @@ use Rattle.state_rules.specs.Bits.{bit_in}
 use Rattle.probe_report.specs.declared.verdicts.Blame.{Blame}
 use Rattle.probe_report.specs.Verdicts.{verdict}
 use Rattle.session_core.specs.inner.Desks.{OnDesk, blame_asked}
-use Rattle.session_core.proofs.Desks.{diagnoses-asked, fits_after}
+use Rattle.session_core.proofs.Desks.{diagnoses-asked, fits_after, judged_after}
 use Rattle.session_core.proofs.Holding.{written_back}
 use Rattle.session_core.proofs.desk.Desk.blame.Goals as goal
 
@@ -31,3 +31,8 @@ invariant_of-self g c =
     (subst (λ (xs : List ℕ). All (λ s. s < 2) xs) (sym state) c.blame_all.ensures.state)
     (ap length verdicts ∙ (c.blame_all.auto.verdicts ∙ (ap length c.deref_mut-4.ensures.value ∙ c.self.invariant.verdict_a_part)))
     (ap length values ∙ (c.blame_all.auto.values ∙ ap length c.deref_mut-2.ensures.value)) c.graph.ensures.graph c.costs.ensures c.blame_all.ensures.serves
+
+pub returns-clause-stays : goal.returns-clause-stays
+returns-clause-stays g c =
+    let known = written_back c.self.inside.known.len c.blame_all.new.words c.self.inside.known.items (sym (c.blame_all.auto.words ∙ c.deref_mut.ensures.len)) in
+    judged_after _ _ _ _ _ c.self.view_is (known ∙ (c.blame_all.ensures.words ∙ c.deref_mut.ensures.value))

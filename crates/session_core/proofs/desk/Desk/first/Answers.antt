@@ -1,7 +1,7 @@
 use Rattle.std.proofs.Common.{◌∙◌, ◌<◌, ℕ, List, Bool, All, get_or, length, ap, sym, subst, arith}
 use Rattle.conditioner.specs.Words.{bits_of}
 use Rattle.session_core.specs.inner.Desks.{OnDesk, agreeing, least_asked, diagnoses_asked}
-use Rattle.session_core.proofs.Desks.{least-asked, diagnoses-asked, fits_after}
+use Rattle.session_core.proofs.Desks.{least-asked, diagnoses-asked, fits_after, stays_after}
 use Rattle.session_core.proofs.Holding.{written_back}
 use Rattle.session_core.proofs.Stepping.{first_some}
 use Rattle.session_core.proofs.desk.Desk.first.Goals as goal
@@ -31,3 +31,8 @@ invariant_of-self g c =
     (ap length state ∙ (c.first.auto.state ∙ (c.deref_mut-3.ensures.len ∙ (c.fill.ensures.len ∙ (c.self.inside.state.ok.0 ∙ c.self.invariant.one_a_part)))))
     (subst (λ (xs : List ℕ). All (λ s. s < 2) xs) (sym state) c.first.ensures.state) c.self.invariant.verdict_a_part
     (ap length values ∙ (c.first.auto.values ∙ ap length c.deref_mut-2.ensures.value)) c.graph.ensures.graph c.costs.ensures c.first.ensures.serves
+
+pub returns-clause-stays : goal.returns-clause-stays
+returns-clause-stays g c =
+    let known = written_back c.self.inside.known.len c.first.new.words c.self.inside.known.items (sym (c.first.auto.words ∙ c.deref_mut.ensures.len)) in
+    stays_after _ _ _ _ c.self.view_is (known ∙ (c.first.ensures.words ∙ c.deref_mut.ensures.value))

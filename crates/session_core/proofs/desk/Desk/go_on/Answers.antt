@@ -3,7 +3,7 @@ use Rattle.state_rules.specs.Ranking.{rest}
 use Rattle.conditioner.specs.Words.{bits_of}
 use Rattle.diagnosis_lister.specs.Listing.{step_of}
 use Rattle.session_core.specs.inner.Desks.{OnDesk, agreeing, diagnoses_asked}
-use Rattle.session_core.proofs.Desks.{states-asked, diagnoses-asked, fits_after}
+use Rattle.session_core.proofs.Desks.{states-asked, diagnoses-asked, fits_after, stays_after}
 use Rattle.session_core.proofs.Holding.{written_back}
 use Rattle.session_core.proofs.Stepping.{found_some, first_any}
 use Rattle.session_core.proofs.desk.Desk.go_on.Goals as goal
@@ -40,3 +40,8 @@ invariant_of-self g c =
     (ap length state ∙ (c.next.auto.state ∙ (c.deref_mut-3.ensures.len ∙ (c.copy_from_slice.ensures.len ∙ (c.self.inside.state.ok.0 ∙ c.self.invariant.one_a_part)))))
     (subst (λ (xs : List ℕ). All (λ s. s < 2) xs) (sym state) c.next.ensures.state) c.self.invariant.verdict_a_part
     (ap length values ∙ (c.next.auto.values ∙ ap length c.deref_mut-2.ensures.value)) c.graph.ensures.graph c.costs.ensures c.next.ensures.serves
+
+pub returns-clause-stays : goal.returns-clause-stays
+returns-clause-stays g c =
+    let known = written_back c.self.inside.known.len c.next.new.words c.self.inside.known.items (sym (c.next.auto.words ∙ c.deref_mut.ensures.len)) in
+    stays_after _ _ _ _ c.self.view_is (known ∙ (c.next.ensures.words ∙ c.deref_mut.ensures.value))

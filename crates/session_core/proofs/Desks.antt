@@ -55,7 +55,7 @@ fits_after desk values room kept fits known state verdicts after graph costs now
   serves = subst (λ (h : Graph). Serves h desk.subject.costs now) g (subst (λ (cs : List ℕ). Serves graph cs now) p serves);
 }
 
--- and but for its state, or for its verdicts too, the desk is as before
+-- and except for its state, or for its verdicts too, the desk is as before
 pub stays_after : (desk old : OnDesk) (known state : List ℕ) → desk ≡ old → known ≡ desk.known → record desk { known = known; state = state } ≡ record old { state = state }
 stays_after desk old known state is same =
     ap (λ (words : List ℕ). record desk { known = words; state = state }) same ∙ ap (λ (d : OnDesk). record d { state = state }) is

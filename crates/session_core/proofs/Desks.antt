@@ -1,13 +1,17 @@
 -- What the graph answers under the words on a desk.
-use Rattle.std.proofs.Common.{◌≡◌, ◌∙◌, ◌+◌, ◌<◌, ℕ, Bool, List, length, refl, ap}
+use Rattle.std.proofs.Common.{◌≡◌, ◌∙◌, ◌+◌, ◌<◌, ℕ, Bool, List, All, length, refl, ap, sym, subst}
 use Rattle.state_rules.specs.Graphs.{Graph}
 use Rattle.state_rules.specs.Systems.{least_cost, all_diagnoses}
+use Rattle.probe_report.specs.declared.verdicts.Blame.{Blame}
+use Rattle.fault_graph.specs.Distilled.{Kept, Serves}
+use Rattle.scratch_pool.specs.Regions.{Carved}
 use Rattle.conditioner.specs.Models.{models, least_under, least_with, diagnoses_under}
 use Rattle.session_rules.specs.GraphSystems.{Subject, system_of}
 use Rattle.session_rules.specs.Replies.{least_at, seen_at}
 use Rattle.session_rules.proofs.CaseWords.{models-by_words, least-by_words, diagnoses-by_words}
 use Rattle.session_rules.proofs.ProbeWords.{least_with-by_words}
 use Rattle.session_core.specs.inner.Bases.{IsBasis, AreKnown, case_in}
+use Rattle.session_core.specs.inner.Desks.{OnDesk, FitsTogether}
 
 module _ (subject : Subject) (known : List ℕ) (basis : IsBasis subject) (are : AreKnown subject known) (graph : Graph) (words costs : List ℕ) (g : graph ≡ subject.graph) (w : words ≡ known) (p : costs ≡ subject.costs) where
   pub states-asked : models graph words (length costs) ≡ (system_of subject).consistent (case_in subject known)
@@ -32,3 +36,31 @@ module _ (subject : Subject) (known : List ℕ) (basis : IsBasis subject) (are :
   seen-asked wire var bit within v =
       (λ i. least_with (g i) (w i) (p i) (v i) bit)
       ∙ least_with-by_words subject.parts subject.wires subject.costs subject.graph subject.graph.vars known basis.costs refl are wire within bit
+
+-- what fits together also does after a pass that puts the words back
+pub fits_after : (desk : OnDesk) (values : List ℕ) (room : Carved) (kept : Kept) → FitsTogether desk values room kept
+    → (known state : List ℕ) (verdicts : List Blame) (after : List ℕ) (graph : Graph) (costs : List ℕ) (now : Kept)
+    → known ≡ desk.known → length state ≡ length desk.subject.parts → All (λ s. s < 2) state → length verdicts ≡ length desk.subject.parts
+    → length after ≡ length values → graph ≡ desk.subject.graph → costs ≡ desk.subject.costs → Serves graph costs now
+    → FitsTogether (record desk { known = known; state = state; verdicts = verdicts }) after room now
+fits_after desk values room kept fits known state verdicts after graph costs now same one_a_part bits verdict_a_part long g p serves = record {
+  known = subst (AreKnown desk.subject) (sym same) fits.known;
+  one_a_part = one_a_part;
+  bits = bits;
+  verdict_a_part = verdict_a_part;
+  two_a_wire = fits.two_a_wire;
+  one_a_node = long ∙ fits.one_a_node;
+  enough = fits.enough;
+  unused = fits.unused;
+  serves = subst (λ (h : Graph). Serves h desk.subject.costs now) g (subst (λ (cs : List ℕ). Serves graph cs now) p serves);
+}
+
+-- and except for its state, or for its verdicts too, the desk is as before
+pub stays_after : (desk old : OnDesk) (known state : List ℕ) → desk ≡ old → known ≡ desk.known → record desk { known = known; state = state } ≡ record old { state = state }
+stays_after desk old known state is same =
+    ap (λ (words : List ℕ). record desk { known = words; state = state }) same ∙ ap (λ (d : OnDesk). record d { state = state }) is
+
+pub judged_after : (desk old : OnDesk) (known state : List ℕ) (verdicts : List Blame) → desk ≡ old → known ≡ desk.known
+    → record desk { known = known; state = state; verdicts = verdicts } ≡ record old { state = state; verdicts = verdicts }
+judged_after desk old known state verdicts is same =
+    ap (λ (d : OnDesk). record d { verdicts = verdicts }) (stays_after desk old known state is same)

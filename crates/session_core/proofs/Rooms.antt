@@ -1,10 +1,10 @@
 -- Room that is carved whole, and released.
 use Rattle.std.proofs.Common.{◌≡◌, ◌∙◌, ◌∷◌, ◌++◌, [], ℕ, List, Option, Some, length, replicate, ap, sym, subst, arith, length-append}
 use Rattle.std.specs.Prelude.{Contains, IfSome}
-use Rattle.std.proofs.lemmas.List.{nil_from_length}
+use Rattle.std.proofs.lemmas.List.{nil_from_length, length-replicate}
 use Rattle.scratch_pool.specs.declared.region.Span.{Span}
 use Rattle.scratch_pool.specs.Words.{written}
-use Rattle.scratch_pool.specs.Regions.{Carved, IsLast, carved, words_used}
+use Rattle.scratch_pool.specs.Regions.{Carved, carved, words_used, run_words}
 use Rattle.scratch_pool.proofs.Laws.{carved-held}
 use Rattle.scratch_pool.proofs.Written.{length-written}
 
@@ -15,12 +15,15 @@ pub carved_so : (old new : Carved) (n : ℕ) (found : Option Span) (run : Span) 
 carved_so old new n found run is =
     subst (λ (o : Option Span). IfSome o (λ (run : Span). (run ≡ record { start = words_used old.runs; len = n }) × (new ≡ carved old run))) is
 
+-- it has as many words as were wanted
+pub run_long : (new : Carved) (n : ℕ) (found : Option Span) (run : Span) → found ≡ Some run
+    → IfSome found (λ (run : Span). run_words new run ≡ replicate n 0) → length (run_words new run) ≡ n
+run_long new n found run is zeros =
+    ap length (subst (λ (o : Option Span). IfSome o (λ (run : Span). run_words new run ≡ replicate n 0)) is zeros) ∙ length-replicate n 0
+
 module _ (old new : Carved) (run : Span) (empty : old.runs ≡ []) (is : new ≡ carved old run) where
   one_run : new.runs ≡ run ∷ []
   one_run = ap (λ (r : Carved). r.runs) is ∙ ap (λ (rs : List Span). rs ++ run ∷ []) empty
-
-  pub is_last : IsLast new.runs run
-  is_last = ([], one_run)
 
   pub is_held : Contains new.runs run
   is_held = subst (λ (r : Carved). Contains r.runs run) (sym is) (carved-held old run)

@@ -13,8 +13,7 @@ ghost use Rattle.session_rules.specs.Sessions.{names_of};
 ghost use Rattle.session_core.specs.Services.{CanList, CanDraw};
 
 use crate::limits::{SERVED_NODES, SERVED_VARIABLES};
-use crate::name_table::NameTable;
-use device_model::Name;
+use device_model::{Name, place_of};
 use level_lister::Levels;
 use node_store::Graph;
 use part_sets::PartSets;
@@ -26,10 +25,9 @@ use std::marker::Model;
 
 /// What sessions ask over, which no line changes: the names of parts and wires, what the failure of each part costs, a graph whose
 /// variables are the parts, the wires, and inner ones, and what is told besides.
-#[derive(Drop)]
 pub(crate) struct Basis {
-    parts: NameTable,
-    wires: NameTable,
+    parts: Vec<Name>,
+    wires: Vec<Name>,
     costs: Vec<u32>,
     graph: Graph,
     // what lists states by rising cost, where these are told
@@ -39,15 +37,30 @@ pub(crate) struct Basis {
     least: bool,
 }
 
+// One call, so that the prover does not go through the basis at each place that lets one go.
+impl Drop for Basis {
+    fn drop(self) {
+        let Basis {
+            parts: _,
+            wires: _,
+            costs: _,
+            graph: _,
+            levels: _,
+            sets: _,
+            least: _,
+        } = self;
+    }
+}
+
 impl Model for Basis {
     ghost use Rattle.session_rules.specs.GraphSystems.{Subject};
     ghost use Rattle.session_core.specs.inner.Bases.{IsBasis, ListsLevels, HasSets, basis_of};
 
     ghost Value = { Subject };
 
-    ghost view = { λ g. basis_of g.parts g.wires g.costs.items g.graph g.levels g.least };
+    ghost view = { λ g. basis_of g.parts.items g.wires.items g.costs.items g.graph g.levels g.least };
 
-    ghost invariant = { λ g. let subject = basis_of g.parts g.wires g.costs.items g.graph g.levels g.least in
+    ghost invariant = { λ g. let subject = basis_of g.parts.items g.wires.items g.costs.items g.graph g.levels g.least in
         IsBasis subject × (ListsLevels subject g.levels × HasSets subject g.levels g.sets) };
 }
 
@@ -83,8 +96,8 @@ impl Basis {
         let levels = levels_of(alloc, &graph, &costs, extras.levels)?;
         let sets = sets_of(alloc, &graph, costs.len(), extras)?;
         Ok(Basis {
-            parts: NameTable::of(alloc, parts)?,
-            wires: NameTable::of(alloc, wires)?,
+            parts,
+            wires,
             costs,
             graph,
             levels,
@@ -98,7 +111,7 @@ impl Basis {
         ensures names { result.now ≡ self.now.parts }
         ensures basis { IsBasis self.now }
     {
-        self.parts.as_slice()
+        &self.parts
     }
 
     /// The names of the wires.
@@ -106,7 +119,7 @@ impl Basis {
         ensures names { result.now ≡ self.now.wires }
         ensures basis { IsBasis self.now }
     {
-        self.wires.as_slice()
+        &self.wires
     }
 
     /// The name of a wire.
@@ -114,7 +127,7 @@ impl Basis {
         requires { wire < length self.now.wires }
         ensures { result.now ≡ slice_index_or self.now.wires wire [] }
     {
-        self.wires.as_slice()[wire as usize].as_slice()
+        self.wires[wire as usize].as_slice()
     }
 
     /// What the failure of each part costs.
@@ -137,8 +150,8 @@ impl Basis {
         ensures { result ≡ place_of name.now (names_of (system_of self.now) what) }
     {
         match what {
-            Noted::Wire => self.wires.find(name),
-            Noted::Part => self.parts.find(name),
+            Noted::Wire => place_of(&self.wires, name),
+            Noted::Part => place_of(&self.parts, name),
         }
     }
 

@@ -34,7 +34,6 @@ use std::sync::ledger::Ledger;
 
 /// What is asked over, the words of the case that is asked, and the memory that answers are worked out in. All of it is taken when
 /// a desk is made.
-#[derive(Drop)]
 pub(crate) struct Desk {
     basis: Basis,
     // a word for each variable, which passes change and put back
@@ -49,6 +48,22 @@ pub(crate) struct Desk {
     distiller: Distiller,
     // room that an answer takes whole for its while: the probes of all wires, and what is told besides
     room: Region,
+}
+
+// One call, so that the prover does not go through the desk at each place that lets one go.
+impl Drop for Desk {
+    fn drop(self) {
+        let Desk {
+            basis: _,
+            known: _,
+            values: _,
+            state: _,
+            verdicts: _,
+            numbers: _,
+            distiller: _,
+            room: _,
+        } = self;
+    }
 }
 
 impl Model for Desk {

@@ -17,8 +17,8 @@ pub(crate) struct DeskMemory {
     pub(crate) state: Vec<u32>,
     pub(crate) verdicts: Vec<Blame>,
     pub(crate) numbers: Vec<u32>,
-    pub(crate) distiller: Distiller,
     pub(crate) room: Region,
+    pub(crate) distiller: Distiller,
 }
 
 impl DeskMemory {
@@ -40,8 +40,8 @@ impl DeskMemory {
             state: zeros(alloc, parts)?,
             verdicts: vec![in alloc; Blame::Never; parts]?,
             numbers: zeros(alloc, 2 * wires)?,
-            distiller: Distiller::new(alloc, basis.graph())?,
             room: Region::new(alloc, basis.most_room())?,
+            distiller: Distiller::new(alloc, basis.graph())?,
         })
     }
 }

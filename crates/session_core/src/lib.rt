@@ -10,7 +10,6 @@ mod levelling;
 mod limits;
 mod line_buffer;
 mod listing;
-mod name_table;
 mod probing;
 mod replies;
 mod service;

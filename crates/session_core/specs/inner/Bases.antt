@@ -26,6 +26,7 @@ pub record IsBasis (subject : Subject) : Type 0 where
   pub few_nodes : length subject.graph.nodes < SERVED_NODES
   pub valid : IsGraph subject.graph
   pub parts_rise : names_rise subject.parts ≡ true
+  pub wires_rise : names_rise subject.wires ≡ true
   pub levels : IfSome subject.extras.levels (CanList subject.graph (length subject.parts))
   pub least : subject.extras.least ≡ true → CanDraw subject.graph (length subject.parts)
 

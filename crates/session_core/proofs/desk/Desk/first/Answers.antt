@@ -1,7 +1,7 @@
-use Rattle.std.proofs.Common.{◌∙◌, List, Bool, get_or, ap, sym}
+use Rattle.std.proofs.Common.{◌∙◌, ◌<◌, ℕ, List, Bool, All, get_or, length, ap, sym, subst, arith}
 use Rattle.conditioner.specs.Words.{bits_of}
 use Rattle.session_core.specs.inner.Desks.{OnDesk, agreeing, least_asked, diagnoses_asked}
-use Rattle.session_core.proofs.Desks.{least-asked, diagnoses-asked}
+use Rattle.session_core.proofs.Desks.{least-asked, diagnoses-asked, fits_after, stays_after}
 use Rattle.session_core.proofs.Holding.{written_back}
 use Rattle.session_core.proofs.Stepping.{first_some}
 use Rattle.session_core.proofs.desk.Desk.first.Goals as goal
@@ -21,3 +21,18 @@ returns-clause-first g c =
     let back = written_back c.fill.new.self.len c.first.new.state c.fill.new.self.items (sym (c.first.auto.state ∙ c.deref_mut-3.ensures.len)) in
     first_some desk.subject.costs (agreeing desk) c.first.result _ old (returns-clause-least g c)
     (ap bits_of back ∙ (c.first.ensures.first ∙ ap (λ (xs : List (List Bool)). get_or xs 0 old) ds))
+
+pub invariant_of-self : goal.invariant_of-self
+invariant_of-self g c =
+    let known = written_back c.self.inside.known.len c.first.new.words c.self.inside.known.items (sym (c.first.auto.words ∙ c.deref_mut.ensures.len)) in
+    let values = written_back c.self.inside.values.len c.first.new.values c.self.inside.values.items (sym (c.first.auto.values ∙ c.deref_mut-2.ensures.len)) in
+    let state = written_back c.fill.new.self.len c.first.new.state c.fill.new.self.items (sym (c.first.auto.state ∙ c.deref_mut-3.ensures.len)) in
+    fits_after _ _ _ _ c.self.invariant _ _ _ _ _ _ _ (known ∙ (c.first.ensures.words ∙ c.deref_mut.ensures.value))
+    (ap length state ∙ (c.first.auto.state ∙ (c.deref_mut-3.ensures.len ∙ (c.fill.ensures.len ∙ (c.self.inside.state.ok.0 ∙ c.self.invariant.one_a_part)))))
+    (subst (λ (xs : List ℕ). All (λ s. s < 2) xs) (sym state) c.first.ensures.state) c.self.invariant.verdict_a_part
+    (ap length values ∙ (c.first.auto.values ∙ ap length c.deref_mut-2.ensures.value)) c.graph.ensures.graph c.costs.ensures c.first.ensures.serves
+
+pub returns-clause-stays : goal.returns-clause-stays
+returns-clause-stays g c =
+    let known = written_back c.self.inside.known.len c.first.new.words c.self.inside.known.items (sym (c.first.auto.words ∙ c.deref_mut.ensures.len)) in
+    stays_after _ _ _ _ c.self.view_is (known ∙ (c.first.ensures.words ∙ c.deref_mut.ensures.value))

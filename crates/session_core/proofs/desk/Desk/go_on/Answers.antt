@@ -1,9 +1,9 @@
-use Rattle.std.proofs.Common.{◌∙◌, [], Some, get_or, ap, sym}
+use Rattle.std.proofs.Common.{◌∙◌, ◌<◌, [], ℕ, List, Some, All, get_or, length, ap, sym, subst}
 use Rattle.state_rules.specs.Ranking.{rest}
 use Rattle.conditioner.specs.Words.{bits_of}
 use Rattle.diagnosis_lister.specs.Listing.{step_of}
 use Rattle.session_core.specs.inner.Desks.{OnDesk, agreeing, diagnoses_asked}
-use Rattle.session_core.proofs.Desks.{states-asked, diagnoses-asked}
+use Rattle.session_core.proofs.Desks.{states-asked, diagnoses-asked, fits_after, stays_after}
 use Rattle.session_core.proofs.Holding.{written_back}
 use Rattle.session_core.proofs.Stepping.{found_some, first_any}
 use Rattle.session_core.proofs.desk.Desk.go_on.Goals as goal
@@ -30,3 +30,18 @@ returns-clause-state g c = λ found.
     ∙ ((λ i. get_or (rest (list i) (Some (bits_of (at i)))) 0 (bits_of (at i)))
     ∙ (ap (λ (d : OnDesk). get_or (rest (diagnoses_asked d) (Some old)) 0 old) c.self.view_is
     ∙ first_any later old [] (found_some (agreeing desk) later c.next.result (returns-clause-step g c) found))))
+
+pub invariant_of-self : goal.invariant_of-self
+invariant_of-self g c =
+    let known = written_back c.self.inside.known.len c.next.new.words c.self.inside.known.items (sym (c.next.auto.words ∙ c.deref_mut.ensures.len)) in
+    let values = written_back c.self.inside.values.len c.next.new.values c.self.inside.values.items (sym (c.next.auto.values ∙ c.deref_mut-2.ensures.len)) in
+    let state = written_back c.copy_from_slice.new.self.len c.next.new.state c.copy_from_slice.new.self.items (sym (c.next.auto.state ∙ c.deref_mut-3.ensures.len)) in
+    fits_after _ _ _ _ c.self.invariant _ _ _ _ _ _ _ (known ∙ (c.next.ensures.words ∙ c.deref_mut.ensures.value))
+    (ap length state ∙ (c.next.auto.state ∙ (c.deref_mut-3.ensures.len ∙ (c.copy_from_slice.ensures.len ∙ (c.self.inside.state.ok.0 ∙ c.self.invariant.one_a_part)))))
+    (subst (λ (xs : List ℕ). All (λ s. s < 2) xs) (sym state) c.next.ensures.state) c.self.invariant.verdict_a_part
+    (ap length values ∙ (c.next.auto.values ∙ ap length c.deref_mut-2.ensures.value)) c.graph.ensures.graph c.costs.ensures c.next.ensures.serves
+
+pub returns-clause-stays : goal.returns-clause-stays
+returns-clause-stays g c =
+    let known = written_back c.self.inside.known.len c.next.new.words c.self.inside.known.items (sym (c.next.auto.words ∙ c.deref_mut.ensures.len)) in
+    stays_after _ _ _ _ c.self.view_is (known ∙ (c.next.ensures.words ∙ c.deref_mut.ensures.value))

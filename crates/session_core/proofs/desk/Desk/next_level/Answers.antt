@@ -1,17 +1,20 @@
-use Rattle.std.proofs.Common.{◌≡◌, ◌∙◌, ◌<◌, ℕ, List, Bool, Bor, Option, Some, [], All, get_or, length, refl, sym, ap, subst}
+use Rattle.std.proofs.Common.{◌≡◌, ◌∙◌, ◌+◌, ◌*◌, ◌<◌, ◌≤◌, ℕ, List, Bool, Bor, Option, Some, [], All, get_or, length, refl, sym, ap, subst}
 use Rattle.std.specs.Prelude.{IfSome}
 use Rattle.std.specs.Option.{option_map}
+use Rattle.state_rules.specs.Graphs.{Graph}
 use Rattle.state_rules.specs.Levels.{levels, levels_rest}
 use Rattle.conditioner.specs.Models.{models}
 use Rattle.conditioner.specs.Words.{bits_of}
-use Rattle.level_lister.specs.Listing.{Kept, IsFor, level_step, later_levels, point_if}
+use Rattle.level_lister.specs.Listing.{Kept, IsFor, level_step, later_levels, point_if, cost_words, step_words}
+use Rattle.level_lister.proofs.Rooms.{step-fast}
 use Rattle.session_rules.specs.GraphSystems.{Subject, system_of}
 use Rattle.session_rules.proofs.CaseWords.{models-by_words}
 use Rattle.session_core.specs.inner.Bases.{IsBasis, AreEnough, AreKnown, case_in}
 use Rattle.session_core.specs.inner.Desks.{OnDesk, agreeing, top_of, later_by_cost, later_asked}
 use Rattle.session_core.proofs.ByCost.{found_later}
+use Rattle.session_core.proofs.Desks.{stays_after}
 use Rattle.session_core.proofs.Holding.{written_back}
-use Rattle.session_core.proofs.Rooms.{carved_so, is_held, released_runs, released_words}
+use Rattle.session_core.proofs.Rooms.{carved_so, run_long, is_held, released_runs, released_words}
 use Rattle.session_core.proofs.Stepping.{first_any}
 use Rattle.session_core.proofs.desk.Desk.next_level.Goals as goal
 
@@ -97,7 +100,26 @@ run_mut-requires g c =
     let at = carved_so c.self.inside.room c.carve.new.self c.level_room.result c.carve.result c.unwrap-run.result c.unwrap-run.ensures c.carve.ensures.run in
     is_held c.self.inside.room c.carve.new.self c.unwrap-run.result c.self.invariant.unused at.1
 
-pub next_in-step-requires-clause-state_words : goal.next_in-step-requires-clause-state_words
-next_in-step-requires-clause-state_words g c =
+pub next_in-step-requires : goal.next_in-step-requires
+next_in-step-requires g c =
+    let basis = c.self.inside.basis in
+    let kept = c.unwrap-levels.result.now in
+    let so = kept_so basis c.levels.result c.unwrap-levels.result c.unwrap-levels.ensures c.levels.ensures.some in
     let start = written_back c.self.inside.state.len c.start_at-pointed.new.state c.self.inside.state.items (sym (c.start_at-pointed.auto.state ∙ c.deref_mut.ensures.len)) in
-    subst (λ (xs : List ℕ). All (λ s. s < 2) xs) (sym (c.deref_mut-3.ensures.value ∙ start)) c.start_at-pointed.ensures.bits
+    let at = c.deref_mut-3.ensures.value ∙ start in
+    let room = ap length c.run_mut.ensures.value
+    ∙ (run_long c.carve.new.self c.level_room.result c.carve.result c.unwrap-run.result c.unwrap-run.ensures c.carve.ensures.zeros ∙ (c.level_room.ensures.room
+    ∙ (λ i. let nodes = length (sym c.graph.ensures.graph i).nodes in length (sym so.2 i) + nodes + (nodes + 2) * (2 * cost_words kept.top)))) in
+    record {
+      graph = subst (λ (h : Graph). IsFor h kept) (sym c.graph.ensures.graph) so.1;
+      long = ap length c.deref_mut-2.ensures.value ∙ (c.self.invariant.known.long ∙ ap (λ (h : Graph). h.vars) (sym c.graph.ensures.graph));
+      words = subst (λ (xs : List ℕ). All (λ w. w < 3) xs) (sym c.deref_mut-2.ensures.value) c.self.invariant.known.small;
+      state = ap length at ∙ (c.start_at-pointed.auto.state ∙ (ap length c.deref_mut.ensures.value ∙ (c.self.invariant.one_a_part ∙ (sym c.levels.ensures.basis.costs ∙ ap length (sym so.2)))));
+      state_words = subst (λ (xs : List ℕ). All (λ s. s < 2) xs) (sym at) c.start_at-pointed.ensures.bits;
+      room = subst (λ (n : ℕ). step_words c.graph.result.now kept ≤ n) (sym room) (step-fast c.graph.result.now kept);
+    }
+
+pub returns-clause-stays : goal.returns-clause-stays
+returns-clause-stays g c =
+    let known = written_back c.self.inside.known.len c.next_in-step.new.words c.self.inside.known.items (sym (c.next_in-step.auto.words ∙ c.deref_mut-2.ensures.len)) in
+    stays_after _ _ _ _ c.self.view_is (known ∙ (c.next_in-step.ensures.words ∙ c.deref_mut-2.ensures.value))

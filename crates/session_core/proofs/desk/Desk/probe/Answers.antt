@@ -1,7 +1,8 @@
-use Rattle.std.proofs.Common.{◌∙◌, ◌+◌, ◌<◌, List, false, true, length, ap, sym, subst}
+use Rattle.std.proofs.Common.{◌∙◌, ◌+◌, ◌<◌, List, false, true, length, refl, ap, sym, subst}
 use Rattle.text_rules.specs.Names.{Name}
 use Rattle.session_core.specs.inner.Desks.{OnDesk, least_seen}
-use Rattle.session_core.proofs.Desks.{seen-asked}
+use Rattle.session_core.proofs.Desks.{seen-asked, fits_after}
+use Rattle.session_core.proofs.Holding.{written_back}
 use Rattle.session_core.proofs.desk.Desk.probe.Goals as goal
 
 pub returns-clause-zero : goal.returns-clause-zero
@@ -19,3 +20,11 @@ returns-clause-one g c =
     ∙ seen-asked c.self.inside.basis c.self.inside.known.items c.graph.ensures.basis c.self.invariant.known _ _ _ c.graph.ensures.graph c.deref_mut.ensures.value c.costs.ensures
     c.args.wire _ true within (ap (λ (names : List Name). length names + c.args.wire + 1) c.parts.ensures.names)
     ∙ ap (λ (desk : OnDesk). least_seen desk c.args.wire true) c.self.view_is
+
+pub invariant_of-self : goal.invariant_of-self
+invariant_of-self g c =
+    let known = written_back c.self.inside.known.len c.probe.new.words c.self.inside.known.items (sym (c.probe.auto.words ∙ c.deref_mut.ensures.len)) in
+    let values = written_back c.self.inside.values.len c.probe.new.values c.self.inside.values.items (sym (c.probe.auto.values ∙ c.deref_mut-2.ensures.len)) in
+    fits_after _ _ _ _ c.self.invariant _ _ _ _ _ _ _ (known ∙ (c.probe.ensures.words ∙ c.deref_mut.ensures.value))
+    c.self.invariant.one_a_part c.self.invariant.bits c.self.invariant.verdict_a_part
+    (ap length values ∙ (c.probe.auto.values ∙ ap length c.deref_mut-2.ensures.value)) refl refl c.self.invariant.serves

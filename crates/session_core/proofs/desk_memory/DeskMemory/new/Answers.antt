@@ -21,7 +21,7 @@ returns c =
       verdict_a_part = omega (arith, c.in_ok-vec.field-0.ok.0, c.in_ok-vec.ensures.len, ap length c.parts-parts.ensures.names);
       two_a_wire = omega (arith, ap length c.in_ok-zeros-4.ensures ∙ length-replicate _ 0, ap length c.wires-wires.ensures.names);
       one_a_node = omega (arith, ap length c.in_ok-zeros-2.ensures ∙ length-replicate _ 0, c.nodes.ensures.nodes);
-      enough = subst (AreEnough basis) (sym (ap (λ (r : Carved). length r.words) c.in_ok-new-2.ensures ∙ length-replicate c.most_room.result 0)) c.most_room.ensures.enough;
-      unused = ap (λ (r : Carved). r.runs) c.in_ok-new-2.ensures;
-      serves = subst (λ (graph : Graph). Serves graph basis.costs c.in_ok-new.field-0) c.graph.ensures.graph (c.in_ok-new.ensures.serves basis.costs);
+      enough = subst (AreEnough basis) (sym (ap (λ (r : Carved). length r.words) c.in_ok-new.ensures ∙ length-replicate c.most_room.result 0)) c.most_room.ensures.enough;
+      unused = ap (λ (r : Carved). r.runs) c.in_ok-new.ensures;
+      serves = subst (λ (graph : Graph). Serves graph basis.costs c.in_ok-new-2.field-0) c.graph.ensures.graph (c.in_ok-new-2.ensures.serves basis.costs);
     }

@@ -12,7 +12,7 @@ use Rattle.diagnosis_lister.specs.declared.listing.Step.{Step}
 use Rattle.diagnosis_lister.specs.declared.listing.Step.TheVariants.{Found, End, Inconsistent}
 use Rattle.diagnosis_lister.specs.Listing.{step_of}
 
--- ---- what is behind an item of a sorted list
+-- ---- what is after an item of a sorted list
 
 not_before_itself : (h : List Bool) → is_before h h ≡ false
 not_before_itself [] = refl
@@ -41,7 +41,7 @@ drop_first n [] d e below = absurd (omega (arith, below))
 drop_first zero (x ∷ xs) d e below = refl
 drop_first (suc n) (x ∷ xs) d e below = drop_first n xs d e (omega (arith, below))
 
--- there is a first, whatever stands for it where there is none
+-- there is a first, whatever stands for it if there is none
 pub same_first : {A : Type 0} (xs : List A) (d e : A) → 0 < length xs → get_or xs 0 d ≡ get_or xs 0 e
 same_first [] d e some = absurd (omega (arith, some))
 same_first (x ∷ xs) d e some = refl
@@ -62,7 +62,7 @@ module _ (graph : Graph) (words costs : List ℕ) where
   sorted : Sorted (diagnoses_under graph words costs)
   sorted = Sorted-filter (λ h. is_at_most (cost costs h) (least_under graph words costs)) ms (Sorted-filter (has_model graph (fits_words words) (length costs)) (states (length costs)) (Sorted-states (length costs)))
 
-  -- where there is a least cost, there is one
+  -- if there is a least cost, there is one
   pub some_diagnosis : (fewest : ℕ) → Some fewest ≡ least_under graph words costs → 0 < length (diagnoses_under graph words costs)
   some_diagnosis fewest is =
       let all = keeps_all (λ _. true) ms (λ y m. refl) in

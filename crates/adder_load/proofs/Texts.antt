@@ -4,7 +4,7 @@ use Rattle.std.specs.Prelude.{Result, Ok, Err, OnOk, is_ok}
 use Rattle.std.specs.List.{flat_map, range_with_len}
 use Rattle.adder_load.specs.Adders.{place_lines, adder_text}
 
--- what is behind one piece is behind the text that the piece was added to
+-- what is after one piece is after the text that the piece was added to
 pub behind : (before between after piece more : List ℕ) → between ≡ before ++ piece → after ≡ between ++ more → after ≡ before ++ (piece ++ more)
 behind before between after piece more one rest = rest ∙ ap (λ text. text ++ more) one ∙ append_assoc before piece more
 

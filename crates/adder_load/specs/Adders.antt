@@ -19,7 +19,7 @@ abbrev pub gate_line : Name → List ℕ → Name → Name → List ℕ
 gate_line output kind first second =
     output ++ (codes " = " ++ (kind ++ (codes "(" ++ (first ++ (codes ", " ++ (second ++ codes ")\n"))))))
 
--- At a place the bits a and b and the carry c are added: s is the sum, and the carry into the next place is there where g or
+-- At a place the bits a and b and the carry c are added: s is the sum, and the carry into the next place is there if g or
 -- p is.
 abbrev pub place_lines : ℕ → List ℕ
 place_lines place =

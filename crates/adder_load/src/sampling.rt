@@ -19,7 +19,7 @@ pub struct Found {
     pub listed: u32,
 }
 
-// Lists the diagnoses behind the first one, up to so many in all, and tells how many there are then. The last one is in the state.
+// Lists the diagnoses after the first one, up to so many in all, and gives how many there are then. The last one is in the state.
 fn list_on<L: Ledger>(
     distiller: &mut Distiller,
     graph: &Graph,

@@ -1,4 +1,4 @@
--- What was given, where all of it was put or a write failed.
+-- What was given, if all of it was put or a write failed.
 use Rattle.std.proofs.Common.{◌≡◌, ◌≢◌, ◌≤◌, ◌-◌, ℕ, List, [], ◌∷◌, ◌++◌, map, length, take, drop, get_or, take_all, inl, inr, Option, Result, Ok, Err, IsErr, refl, sym, ap, ◌∙◌, subst, arith}
 use Rattle.std.specs.Prelude.{MatchResult}
 use Rattle.std.specs.Io.KnownBytes.{Appends}
@@ -43,7 +43,7 @@ line_begun text status s a b five (part, rest, all, grown) =
 
 pub ruleset gives_line = (line_given, line_begun)
 
--- a line behind other items
+-- a line after other items
 pub gives_after : (items : List Item) (text : List ℕ) (status s : Status) (a b c : Option (List ℕ)) → Writes a b items → Gives (says text status) s b c
     → Gives (record { items = items ++ Plain text ∷ []; status = status }) s a c
 gives_after items text status s a b c first said = record {
@@ -98,7 +98,7 @@ counts-have : (counts : List Count) → HaveSpellings (map line_of counts)
 counts-have [] = tt
 counts-have (count ∷ counts) = ((_, refl), counts-have counts)
 
--- what stands first, and what stands behind it
+-- what stands first, and what stands after it
 first_and_rest : {A B : Type 0} (f : A → B) (xs : List A) (x : A) → 1 ≤ length xs → f (get_or xs 0 x) ∷ map f (take (length xs - 1) (drop 1 xs)) ≡ map f xs
 first_and_rest f [] x some = absurd (omega (arith, some))
 first_and_rest f (y ∷ xs) x some = ap (λ ys. f y ∷ map f ys) (take_all (length (y ∷ xs) - 1) xs (omega arith))

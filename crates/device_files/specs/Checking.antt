@@ -12,11 +12,11 @@ use Rattle.device_files.specs.declared.graph_fault.GraphFault.TheVariants as fau
 use Rattle.device_files.specs.GraphFaults.{graph_fault_row, fault_of_line}
 use Rattle.device_files.specs.Describing.{or_line}
 
--- the line that tells a fault of a whole text, and what is told of it besides
+-- the line of a fault of a whole text, and what is printed of it besides
 abbrev pub text_fault_line : GraphFault → List (List ℕ) → List ℕ
 text_fault_line fault more = spaced (codes "error:" ∷ codes "fault" ∷ decimal (graph_fault_row fault).0 ∷ (graph_fault_row fault).1 ∷ more)
 
--- the line that tells why a text gives no decomposable graph
+-- the line that says why a text gives no decomposable graph
 abbrev pub graph_fault_line : Refusal → List ℕ
 graph_fault_line NoHeader = text_fault_line faults.Header []
 graph_fault_line (AtLine line fault) = fault_line line (graph_fault_row (fault_of_line fault)).0 (graph_fault_row (fault_of_line fault)).1

@@ -1,4 +1,4 @@
--- What is told of a file alone, with no script: how large a device is, and that a text is a decomposable graph.
+-- What is printed of a file alone, with no script: how large a device is, and that a text is a decomposable graph.
 use Rattle.std.specs.Prelude.{ℕ, Bool, List, [], ◌∷◌, length, Option, None, Result, codes, if◌then◌else◌}
 use Rattle.std.specs.Bool.{then_some}
 use Rattle.std.specs.Result.{result_map_both}
@@ -57,7 +57,7 @@ planned sizes = record { items = size_lines sizes; status = Done }
 
 -- ---- a graph is checked
 
--- the line that tells a decomposable graph: how many nodes, children and variables it has
+-- the line of a decomposable graph: how many nodes, children and variables it has
 abbrev pub decomposable_line : Graph → List ℕ
 decomposable_line graph = spaced (codes "decomposable" ∷ decimal (length graph.nodes) ∷ decimal (edges graph.nodes) ∷ decimal graph.vars ∷ [])
 

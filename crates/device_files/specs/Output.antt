@@ -15,7 +15,7 @@ pub record Output : Type 0 where
 abbrev pub says : List ℕ → Status → Output
 says text status = record { items = Plain text ∷ []; status = status }
 
--- the line that tells that something has more bytes than may be
+-- the line that something has more bytes than may be
 abbrev pub too_long_line : List ℕ → ℕ → List ℕ
 too_long_line what limit = spaced (codes "error:" ∷ what ∷ codes "above" ∷ decimal limit ∷ codes "bytes" ∷ [])
 
@@ -33,15 +33,15 @@ abbrev pub result_and_then : {A B E : Type 0} → (A → Result B E) → Result 
 result_and_then next (Ok found) = next found
 result_and_then next (Err error) = Err error
 
--- the output that tells what was found, or the one that refuses it
+-- the output of what was found, or the one that refuses it
 abbrev pub told_or_refused : {A : Type 0} → (A → Output) → Result A Output → Output
 told_or_refused told (Ok found) = told found
 told_or_refused told (Err output) = output
 
 -- ---- what a run gives
 
--- A run that is to give an output ends with its status, and what it writes, where the sink tells, spells the items of the
--- output. Where a write failed, what it wrote begins such a text.
+-- A run that is to give an output ends with its status, and what it writes, if the sink shows it, spells the items of the
+-- output. If a write failed, what it wrote begins such a text.
 pub record Gives (output : Output) (status : Status) (before after : Option (List ℕ)) : Type 0 where
   pub whole : status ≢ WriteFailed → (status ≡ output.status) × Writes before after output.items
   pub broken : status ≡ WriteFailed → WritesPart before after output.items

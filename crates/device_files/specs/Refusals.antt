@@ -1,4 +1,4 @@
--- Why a file gives nothing of what the words ask for, and what is told of it.
+-- Why a file gives nothing of what the words ask for, and what is printed of it.
 use Rattle.std.specs.Prelude.{ℕ, List, Option, Some, None, Result, unwrap_or}
 use Rattle.text_rules.specs.Expected.{Fulfils}
 use Rattle.diag_edge.specs.ErrorLines.{fault_line, above_line}
@@ -11,7 +11,7 @@ use Rattle.device_files.specs.Output.{Output, says, no_memory, no_memory_line}
 use Rattle.device_files.specs.Checking.{graph_fault_line}
 use Rattle.device_files.specs.Weighing.{sum_line}
 
--- the line that tells a refusal
+-- the line of a refusal
 abbrev pub refusal_line : Refusal → List ℕ
 refusal_line (Fault line number name) = fault_line line number name.now
 refusal_line Header = graph_fault_line graphs.NoHeader
@@ -28,7 +28,7 @@ refusal_status (Sum budget) = AboveBudget
 refusal_status Memory = NoMemory
 refusal_status refusal = Refused
 
--- the output that tells a refusal; want of memory is no refusal of the file
+-- the output of a refusal; want of memory is no refusal of the file
 abbrev pub told_by : Refusal → Option Output
 told_by Memory = None
 told_by refusal = Some (says (refusal_line refusal) (refusal_status refusal))
@@ -36,6 +36,6 @@ told_by refusal = Some (says (refusal_line refusal) (refusal_status refusal))
 abbrev pub or_memory : Option Output → Output
 or_memory told = unwrap_or told no_memory
 
--- An `Ok` is what is expected, or a refusal tells the output that is.
+-- An `Ok` is what is expected, or a refusal has the output that is.
 abbrev pub Finds : {A : Type 0} → Result A Output → Result A Refusal → Type 0
 Finds expected result = Fulfils (λ found. found) told_by expected result

@@ -10,7 +10,7 @@ use Rattle.device_files.specs.declared.status.Status.TheVariants.{Refused, Above
 use Rattle.device_files.specs.Output.{Output, says, no_memory}
 use Rattle.diag_edge.specs.ErrorLines.{above_line}
 
--- the line that tells a sum above the budget
+-- the line of a sum above the budget
 abbrev pub sum_line : ℕ → List ℕ
 sum_line budget = spaced (codes "error:" ∷ codes "sum" ∷ codes "above" ∷ decimal budget ∷ [])
 

@@ -15,7 +15,7 @@ use node_store::Graph;
 use std::alloc::Global;
 use text_rules::TEXT_LIMIT;
 
-// The refusal that tells a fault of a line.
+// The refusal of a fault of a line.
 fn at_line(line: u32, fault: GraphFault) -> Refusal
     ensures { told_by result ≡ Some (says (fault_line line (graph_fault_row fault).0 (graph_fault_row fault).1) Status.Refused) }
 {
@@ -26,7 +26,7 @@ fn at_line(line: u32, fault: GraphFault) -> Refusal
     }
 }
 
-// The refusal that tells why a text gives no decomposable graph.
+// The refusal that says why a text gives no decomposable graph.
 fn refused(error: NnfError) -> Refusal
     ensures { told_by result ≡ option_map (λ refusal. says (graph_fault_line refusal) Status.Refused) (told error) }
 {

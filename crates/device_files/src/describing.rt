@@ -1,18 +1,36 @@
-ghost use Rattle.std.specs.Prelude.{◌≤◌, length};
+ghost use Rattle.std.specs.Prelude.{◌≡◌, ◌≤◌, length};
+ghost use Rattle.std.specs.Option.{option_map};
 ghost use Rattle.bench_reader.specs.Netlists.{netlist};
+ghost use Rattle.bench_reader.specs.Faults.{told};
 ghost use Rattle.component_lang.specs.Reading.{design};
 ghost use Rattle.flattener.specs.Flat.{flattened};
 ghost use Rattle.device_files.specs.Describing.{netlist_line, flatten_line, or_line, design_device, described};
-ghost use Rattle.device_files.specs.Refusals.{Finds};
+ghost use Rattle.device_files.specs.Output.{says};
+ghost use Rattle.device_files.specs.Refusals.{Finds, told_by};
 
 use crate::paths::is_design_path;
 use crate::refusal::{Refusal, above};
+use crate::status::Status;
 use bench_reader::{BenchError, read_bench};
 use component_lang::{Design, LangError, read_lang};
 use device_model::{Device, NAME_LIMIT, PART_LIMIT, WIRE_LIMIT};
 use flattener::{FlattenError, INSTANCE_LIMIT, flatten};
 use std::alloc::Global;
 use text_rules::TEXT_LIMIT;
+
+/// The refusal of a netlist that has a fault, or for which there was no memory.
+pub fn netlist_refusal(error: BenchError) -> Refusal
+    ensures { told_by result ≡ option_map (λ fault. says (netlist_line fault) Status.Refused) (told error) }
+{
+    match error {
+        BenchError::Bad { line, what } => Refusal::Fault {
+            line,
+            number: what.number(),
+            name: what.name(),
+        },
+        BenchError::Memory => Refusal::Memory,
+    }
+}
 
 /// The device that the text of a netlist describes. An error says why there is none.
 pub fn netlist_device(alloc: Global, text: &[u8]) -> Result<Device, Refusal>
@@ -21,12 +39,7 @@ pub fn netlist_device(alloc: Global, text: &[u8]) -> Result<Device, Refusal>
 {
     match read_bench(alloc, text) {
         Ok(device) => Ok(device),
-        Err(BenchError::Bad { line, what }) => Err(Refusal::Fault {
-            line,
-            number: what.number(),
-            name: what.name(),
-        }),
-        Err(BenchError::Memory) => Err(Refusal::Memory),
+        Err(error) => Err(netlist_refusal(error)),
     }
 }
 

@@ -136,7 +136,7 @@ fn put_sizes<O: Sink>(out: &mut O, sizes: Sizes) -> Result<(), WriteFailed>
     )
 }
 
-// Tells the sizes of a device and answers `Done`, or `WriteFailed`.
+// Prints the sizes of a device and answers `Done`, or `WriteFailed`.
 #[tactic(auto, using(crate::proofs::Failing::gives_items))]
 fn tell_sizes<O: Sink>(out: &mut O, sizes: Sizes) -> Status
     requires faults { O.faults out.old < 2 ^ 64 - 1 }
@@ -150,7 +150,7 @@ fn tell_sizes<O: Sink>(out: &mut O, sizes: Sizes) -> Status
     }
 }
 
-// Tells the sizes of a decomposable graph and answers `Done`, or `WriteFailed`.
+// Prints the sizes of a decomposable graph and answers `Done`, or `WriteFailed`.
 #[tactic(auto, using(crate::proofs::Failing::gives_line))]
 fn tell_graph<O: Sink>(out: &mut O, graph: &Graph) -> Status
     requires faults { O.faults out.old < 2 ^ 64 - 1 }
@@ -172,7 +172,7 @@ fn tell_graph<O: Sink>(out: &mut O, graph: &Graph) -> Status
     }
 }
 
-// Tells how large the device of a file is, or why it cannot be told, and answers the status.
+// Prints how large the device of a file is, or why that cannot be found, and answers the status.
 fn plan_file<O: Sink>(alloc: Global, path: &str, file: &[u8], narrow: bool, out: &mut O) -> Status
     requires short { length file.now ≤ TEXT_LIMIT }
     requires faults { O.faults out.old < 2 ^ 64 - 1 }
@@ -189,7 +189,7 @@ fn plan_file<O: Sink>(alloc: Global, path: &str, file: &[u8], narrow: bool, out:
     }
 }
 
-// Tells whether the text of a file is a decomposable graph, and answers the status.
+// Prints whether the text of a file is a decomposable graph, and answers the status.
 fn check_file<O: Sink>(alloc: Global, path: &str, file: &[u8], out: &mut O) -> Status
     requires short { length file.now ≤ TEXT_LIMIT }
     requires faults { O.faults out.old < 2 ^ 64 - 1 }

@@ -86,7 +86,7 @@ pub fn above(what: &'static str, count: u64, limit: usize) -> Refusal
     }
 }
 
-// The line that tells that there is no header.
+// The line that there is no header.
 fn put_no_header<O: Sink>(out: &mut O) -> Result<(), WriteFailed>
     ensures text { Puts (O.got out.old) (O.got out.new) result (graph_fault_line NoHeader) }
     ensures cause { HasCause (O.faults out.old) (O.faults out.new) result }
@@ -102,7 +102,7 @@ fn put_no_header<O: Sink>(out: &mut O) -> Result<(), WriteFailed>
     )
 }
 
-// The line that tells numbers that are not those said.
+// The line of numbers that are not those said.
 fn put_counts<O: Sink>(out: &mut O, said: u64, found: u64) -> Result<(), WriteFailed>
     ensures text { Puts (O.got out.old) (O.got out.new) result (graph_fault_line (Counts said found)) }
     ensures cause { HasCause (O.faults out.old) (O.faults out.new) result }
@@ -120,7 +120,7 @@ fn put_counts<O: Sink>(out: &mut O, said: u64, found: u64) -> Result<(), WriteFa
     )
 }
 
-// The line that tells a graph that is too large.
+// The line of a graph that is too large.
 fn put_bits<O: Sink>(out: &mut O, bits: u64) -> Result<(), WriteFailed>
     ensures text { Puts (O.got out.old) (O.got out.new) result (graph_fault_line (TooLarge bits)) }
     ensures cause { HasCause (O.faults out.old) (O.faults out.new) result }
@@ -139,7 +139,7 @@ fn put_bits<O: Sink>(out: &mut O, bits: u64) -> Result<(), WriteFailed>
     )
 }
 
-// The line that tells a shared variable.
+// The line of a shared variable.
 fn put_shared<O: Sink>(out: &mut O, node: u32, variable: u32) -> Result<(), WriteFailed>
     ensures text { Puts (O.got out.old) (O.got out.new) result (graph_fault_line (Shared node variable)) }
     ensures cause { HasCause (O.faults out.old) (O.faults out.new) result }
@@ -159,7 +159,7 @@ fn put_shared<O: Sink>(out: &mut O, node: u32, variable: u32) -> Result<(), Writ
     )
 }
 
-// The line that tells a sum above the budget.
+// The line of a sum above the budget.
 fn put_sum<O: Sink>(out: &mut O, budget: u32) -> Result<(), WriteFailed>
     ensures text { Puts (O.got out.old) (O.got out.new) result (sum_line budget) }
     ensures cause { HasCause (O.faults out.old) (O.faults out.new) result }
@@ -175,7 +175,7 @@ fn put_sum<O: Sink>(out: &mut O, budget: u32) -> Result<(), WriteFailed>
     )
 }
 
-// The line that tells a refusal.
+// The line of a refusal.
 fn put_refusal<O: Sink>(out: &mut O, refusal: Refusal) -> Result<(), WriteFailed>
     ensures text { Puts (O.got out.old) (O.got out.new) result (refusal_line refusal) }
     ensures cause { HasCause (O.faults out.old) (O.faults out.new) result }

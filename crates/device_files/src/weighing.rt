@@ -1,7 +1,6 @@
 ghost use Rattle.std.specs.Prelude.{◌≡◌, ◌<◌, ◌≤◌, ℕ, Bool, Option, Ok, IfOk, IfErr};
 ghost use Rattle.text_rules.specs.Expected.{IsExpectedFault, Fulfils};
 ghost use Rattle.clause_encoder.specs.Clauses.{ClauseList};
-ghost use Rattle.clause_encoder.specs.Encoding.{encoded, Describes};
 ghost use Rattle.branch_states.specs.Branches.{sum_of};
 ghost use Rattle.elimination_forests.specs.Forests.{Forest};
 ghost use Rattle.device_files.specs.Choices.{clauses_by, ByClauses, IsChosen, HasSum, IsListOf};
@@ -41,6 +40,23 @@ pub fn forest_of(alloc: Global, cnf: &Cnf, is_narrow: bool) -> Result<Option<Nar
     narrow(alloc, cnf)
 }
 
+/// The clauses of a device, and the forest along which they are compiled, if one is asked for and found. An error says that there
+/// are too many clauses, whatever the budget, or that memory ran out.
+pub fn clauses_along(
+    alloc: Global,
+    device: &Device,
+    is_narrow: bool,
+) -> Result<(Cnf, Option<Narrowed>), Refusal>
+    ensures list { IfOk result (λ found. IsListOf device.now found.0) }
+    ensures forest { IfOk result (λ found. IsChosen is_narrow found.0 found.1) }
+    ensures fault { IfErr result (λ refusal. (choose : ClauseList → Option Forest) (budget : ℕ)
+        → IsExpectedFault (told_by refusal) (within budget (clauses_by is_narrow choose device.now))) }
+{
+    let cnf = clauses_of(alloc, device)?;
+    let forest = forest_of(alloc, &cnf, is_narrow)?;
+    Ok((cnf, forest))
+}
+
 /// The clauses of a device and their sum, if it is within a budget.
 pub(crate) fn clauses_within(
     alloc: Global,
@@ -52,8 +68,7 @@ pub(crate) fn clauses_within(
     ensures { ByClauses is_narrow (λ clauses.
         Fulfils (λ found. record { list = found.0; sum = found.1 }) told_by (within budget (clauses device.now)) result) }
 {
-    let cnf = clauses_of(alloc, device)?;
-    let forest = forest_of(alloc, &cnf, is_narrow)?;
+    let (cnf, forest) = clauses_along(alloc, device, is_narrow)?;
     let sum = sum_within(alloc, &cnf, &forest, budget)?;
     Ok((cnf, sum))
 }

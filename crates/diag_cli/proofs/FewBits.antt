@@ -1,4 +1,4 @@
--- What is told besides, where it takes few bits.
+-- What is printed besides, if it takes few bits.
 use Rattle.std.proofs.Common.{◌≡◌, ◌∙◌, ◌+◌, ◌*◌, ◌/◌, ◌^◌, ◌<◌, ◌≤◌, ℕ, Bool, true, false, length, Option, Some, None, IfSome, inl, inr, refl, ap, sym, arith, nat_lt, if◌then◌else◌}
 use Rattle.std.specs.Prelude.{Result, Ok, Err, IfOk}
 use Rattle.std.proofs.Math.Nat.{mul-le-mul_right, le_trans}
@@ -54,7 +54,7 @@ few_pass bits other few = by (nat_lt SERVED_BITS bits) refl
     by false is = refl
     by true is = absurd (let less = ltb-true SERVED_BITS bits is in omega (arith, less, few))
 
--- where they are not refused they are few
+-- if they are not refused they are few
 passed : (bits : ℕ) (other : Result Weighed Output) (weighed : Weighed) → if_few bits other ≡ Ok weighed → (bits ≤ SERVED_BITS) × (other ≡ Ok weighed)
 passed bits other weighed is = by (nat_lt SERVED_BITS bits) refl is
   where
@@ -71,7 +71,7 @@ few_of_all extras parts weighed fits =
 
 -- ---- what the calls answer
 
--- what is told besides can be told over a graph that was compiled, if that fits and lines can be numbered
+-- what is printed besides can be printed over a graph that was compiled, if that fits and lines can be numbered
 pub tells_in_few : (extras : Extras) (parts : ℕ) (weighed : Weighed) (graph : Graph)
     → in_few_bits extras parts (Ok weighed) ≡ Ok weighed → IsGraphBy weighed graph → (extras.least ≡ true → length graph.nodes + edges graph.nodes + 2 * parts + 1 < 2 ^ 32) → CanTell extras graph parts
 tells_in_few extras parts weighed graph fits by lines =

@@ -1,4 +1,4 @@
--- A device of gates of which no part is held is never at odds with what was seen: where all gates are faulty, they allow anything.
+-- A device of gates of which no part is held is never at odds with what was seen: if all gates are faulty, they allow anything.
 use Rattle.std.proofs.Common.{◌≡◌, ℕ, zero, suc, Bool, true, false, List, [], ◌∷◌, ◌++◌, map, length, replicate, Option, Some, None, refl, sym, ◌∙◌, subst, ap}
 use Rattle.std.specs.Prelude.{Ok, ◌&&◌, IsSome, option_map, unwrap_or}
 use Rattle.std.specs.List.{filter_map, flat_map, list_all}
@@ -102,7 +102,7 @@ faulty_fit tables (part ∷ parts) wires h =
     let two = and_parts (gate_part part) (list_all gate_part parts) h in
     and_from _ _ (faulty_allows tables (rule part.kind) (map (bit_in wires) part.ports) two.0) (faulty_fit tables parts wires two.1)
 
--- any state agrees where nothing is held
+-- any state agrees if nothing is held
 none_held : (parts : ℕ) (state : List Bool) → agrees (replicate parts None) state ≡ true
 none_held zero state = refl
 none_held (suc n) [] = refl
@@ -122,7 +122,7 @@ is_there : (o : Option ℕ) (n : ℕ) → AtMost o n → IsSome o
 is_there None n h = absurd h
 is_there (Some c) n h = refl
 
--- the case of these readings, where nothing is held
+-- the case of these readings, if nothing is held
 abbrev pub seen_case : Device → List (Option Bool) → Case
 seen_case device seen = record { seen = seen; held = replicate (length device.parts) None }
 

@@ -41,7 +41,7 @@ named_each list forest e Holds given sum has =
     let named = subst (λ f. HasSum list f sum) e has in
     subst Holds (sym named) given
 
--- there is a forest, if one is told of
+-- there is a forest, if one was found
 pub is_found : (list : ClauseList) (forest : Option Narrowed) (found : Narrowed) → forest ≡ Some found → (sum : ℕ) × HasSum list forest sum → IsFound list found
 is_found list forest found e some =
     let chosen = subst (λ f. HasSum list f some.0) e some.1 in

@@ -1,13 +1,10 @@
 -- From what was done by a course to what holds of a run.
 use Rattle.std.proofs.Common.{◌≡◌, ◌≢◌, ◌⊎◌, ◌<◌, ◌≤◌, ◌+◌, ℕ, true, false, List, [], length, replicate, Option, Some, None, IfSome, inl, inr, refl, ◌∙◌, ap, subst, sym, arith, nat_le, append-nil}
-use Rattle.std.specs.Prelude.{Result, Ok, Err}
 use Rattle.std.specs.Io.KnownBytes.{Consumes, IsAtEnd}
 use Rattle.std.specs.Option.{IsSome}
 use Rattle.std.proofs.lemmas.List.{length-replicate}
 use Rattle.text_rules.specs.declared.text_lines.TheConstants.{TEXT_LIMIT}
 use Rattle.text_rules.specs.TextLines.{whole_lines}
-use Rattle.text_rules.specs.Expected.{IsExpectedFault}
-use Rattle.state_rules.specs.Systems.{System}
 use Rattle.diag_edge.specs.Edge.{Reading, Writing, RoseExactly, Holding, absent, told_bytes}
 use Rattle.diag_edge.specs.declared.loading.LoadError.{LoadError}
 use Rattle.diag_edge.specs.declared.loading.LoadError.TheVariants.{Failed as LoadFailed, Long, Memory}
@@ -25,14 +22,14 @@ use Rattle.diag_cli.specs.declared.serving.TheConstants.{SCRIPT_LIMIT}
 use Rattle.diag_cli.specs.declared.words.Command.{Command}
 use Rattle.diag_cli.specs.declared.words.Command.TheVariants.{Serve, ServeFrames, Ask, Inspect, Compile}
 use Rattle.diag_cli.specs.Words.{Form, Load, Over, asks_script}
-use Rattle.diag_cli.specs.Courses.{End, Ended, Failed, Cut, Course, Tells, Serves, usage_line, read_error, long_file_line, not_loaded, served, wholly_served, whole_output, served_or_refused, course_by, course_of}
+use Rattle.diag_cli.specs.Courses.{End, Ended, Failed, Cut, Course, Tells, Serves, usage_line, read_error, long_file_line, not_loaded, served, wholly_served, whole_output, course_by, course_of}
 use Rattle.diag_cli.specs.Loads.{loaded}
 use Rattle.diag_cli.specs.Runs.{GivesUnlessShort, IsDone, IsRun}
 use Rattle.diag_cli.specs.Following.{IsIdle, EndsAs, AreTaken, CameTo, IsServed, WritesFirst, IsStopped, Follows}
 use Rattle.diag_cli.proofs.Unread.{IsUnread}
 use Rattle.diag_cli.proofs.Scripts.{taken_all, broken_begins_all}
 
--- the file that is told, under another name
+-- the file that is shown, under another name
 pub same_file : (file bytes : List ℕ) (told : Option (List ℕ)) → file ≡ bytes → IfSome told (λ all. bytes ≡ all) → IfSome told (λ all. file ≡ all)
 same_file file bytes None same is = tt
 same_file file bytes (Some all) same is = same ∙ is
@@ -60,7 +57,7 @@ pub some_all : {A : Type 0} {P : A → Type 0} (o : Option A) → ((a : A) → P
 some_all None f = tt
 some_all (Some a) f = f a
 
--- ---- an output that was given is complete where nothing failed
+-- ---- an output that was given is complete if nothing failed
 
 module _ (form : Option Form) (shelf new_shelf input new_input : Reading) (out new_out : Writing) (status : Status) where
   abbrev IsGiven : Output → Type 0
@@ -90,16 +87,17 @@ module _ (input new_input : Reading) (out new_out : Writing) (status : Status) w
   done_is_not_no_memory : Gives no_memory status out.got new_out.got → status ≡ Done → IsAtEnd new_input.left
   done_is_not_no_memory said zero = let six = (said.whole (λ five. let never : ⊥ = cc in never)).0 in absurd (let never : ⊥ = cc in never)
 
-  by_memory : {A : Type 0} (system : A → System) (sessions : ℕ) (expected : Result A Output) → IsIdle input new_input → Gives no_memory status out.got new_out.got
-      → Follows (served_or_refused system sessions expected) input new_input out new_out status
-  by_memory system sessions (Ok found) idle said = record { answer = inl (idle, said); all_read = done_is_not_no_memory said }
-  by_memory system sessions (Err output) idle said = (idle, inl said)
+  by_memory : (course : Course) → IsIdle input new_input → Gives no_memory status out.got new_out.got → Follows course input new_input out new_out status
+  by_memory (Serves answers) idle said = record { answer = inl (idle, said); all_read = done_is_not_no_memory said }
+  by_memory (Tells output) idle said = (idle, inl said)
 
-  pub follows_refusal : {A : Type 0} (system : A → System) (sessions : ℕ) (expected : Result A Output) (fault : Option Output) → IsExpectedFault fault expected → IsIdle input new_input
-      → Gives (or_memory fault) status out.got new_out.got → Follows (served_or_refused system sessions expected) input new_input out new_out status
-  follows_refusal system sessions expected None is idle said = by_memory system sessions expected idle said
-  follows_refusal system sessions expected (Some output) is idle said =
-      subst (λ e. Follows (served_or_refused system sessions e) input new_input out new_out status) (sym is) (idle, inr said)
+  pub follows_refusal : (course : Course) (fault : Option Output) → IfSome fault (λ output. course ≡ Tells output) → IsIdle input new_input
+      → Gives (or_memory fault) status out.got new_out.got → Follows course input new_input out new_out status
+  follows_refusal course None is idle said = by_memory course idle said
+  follows_refusal course (Some output) is idle said = subst (λ c. Follows c input new_input out new_out status) (sym is) (idle, inr said)
+
+  pub follows_serves : (course : Course) (answers : List (List ℕ) → List Item) → course ≡ Serves answers → IsServed answers input new_input out new_out status → Follows course input new_input out new_out status
+  follows_serves course answers is done = subst (λ c. Follows c input new_input out new_out status) (sym is) done
 
   -- ---- clauses of a run over the file
 
@@ -266,13 +264,13 @@ module _ (input new_input : Reading) (out new_out : Writing) (status : Status) w
             subst (λ text. IfSome (whole_output (course text) input.left) (IsGiven (Some (Over path command)) shelf new_shelf input new_input out new_out status)) same
             (some_map (whole_output (course file) input.left) (λ output gives read taken. with_form (Over path command) (gives taken)) (output_of (course file) input.left refl done))) is
 
--- ---- what may be told without a look at the script
+-- ---- what may be printed without a look at the script
 
--- an output that tells that memory ran out, or the one that the file comes to
+-- an output that says that memory ran out, or the one that the file comes to
 abbrev pub IsRight : (ClauseList → Option Forest) → List ℕ → Command → Output → List ℕ → Type 0
 IsRight choose path command output file = (output ≡ no_memory) ⊎ (course_of choose (Some (Over path command)) file ≡ Tells output)
 
--- some bytes are too many, those that are told where any are
+-- some bytes are too many, those that are shown if any are
 too_many : (limit : ℕ) → (file : List ℕ) × (limit < length file)
 too_many limit = (replicate (limit + 1) 0, omega (arith, length-replicate {A = ℕ} (limit + 1) 0))
 
@@ -280,7 +278,7 @@ long_file : (limit : ℕ) (told : Option (List ℕ)) → IfSome told (λ bytes. 
 long_file limit None long = let some = too_many limit in (some.0, tt, some.1)
 long_file limit (Some file) long = (file, refl, long)
 
--- and so it is right to tell that
+-- and so it is right to print that
 long_is_right : (choose : ClauseList → Option Forest) (path : List ℕ) (command : Command) (told : Option (List ℕ)) → IfSome told (λ file. TEXT_LIMIT < length file) → IfSome told (IsRight choose path command (says long_file_line Refused))
 long_is_right choose path command None long = tt
 long_is_right choose path command (Some file) long = inr (long_course choose path command file long)

@@ -1,13 +1,12 @@
 mod Examples
 mod Limits
 pub mod WordLemmas
-pub mod OptionOrder
 pub mod GraphsBy
 pub mod FewBits
 pub mod Running
 pub mod Shown
 pub mod ServedDevices
-pub mod AskedGraphs
+pub mod Services
 pub mod ServedFrames
 pub mod Unread
 pub mod Scripts

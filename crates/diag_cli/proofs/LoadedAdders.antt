@@ -1,4 +1,4 @@
--- What is found of an adder's graph is what is told of its device.
+-- What is found of an adder's graph is what is printed of its device.
 use Rattle.std.proofs.Common.{◌≡◌, ℕ, ◌-◌, ◌<◌, Bool, List, [], ◌∷◌, length, get_or, take, Option, Some, None, IfSome, refl, ap, ap₂, sym, ◌∙◌, subst, arith, inl, inr, codes}
 use Rattle.std.specs.Option.{option_map}
 use Rattle.std.proofs.Math.Seq.{get_or-take}
@@ -27,7 +27,7 @@ use Rattle.device_files.specs.Output.{Output, Gives, GivesUnlessMemory, told_or_
 use Rattle.device_files.specs.Inspecting.{count_line}
 use Rattle.device_files.specs.Refusals.{or_memory}
 use Rattle.diag_cli.specs.declared.loading.TheConstants.{LISTED_LIMIT}
-use Rattle.diag_cli.specs.declared.loading.Summary.{Summary}
+use Rattle.diag_cli.specs.declared.summing.Summary.{Summary}
 use Rattle.diag_cli.specs.Loads.{names_line, listed_lines}
 use Rattle.diag_cli.specs.inner.Loading.{if_found, IsSummaryOf}
 use Rattle.diag_cli.specs.inner.Serving.{IsServable}
@@ -82,19 +82,19 @@ module _ (device : Device) (graph : Graph) (places : ℕ) (words costs : List �
       (λ i. count_line (codes "parts") (length (part_names device.parts)) ∷ count_line (codes "wires") (all_wires i) ∷ count_line (codes "clauses") (sym said i) ∷ lines i)
       ∙ (λ i. count_line (codes "parts") (length (sym parts i)) ∷ count_line (codes "wires") summary.wires ∷ count_line (codes "clauses") summary.clauses ∷ if_found (sym parts i) summary.found summary.first.items summary.last.items)
 
--- each line behind the sizes has a text
+-- each line after the sizes has a text
 pub have_found : (parts : List Name) (found : Option Found) (first last : List ℕ) → HaveSpellings (if_found parts found first last)
 have_found parts None first last = ((_, refl), tt)
 have_found parts (Some f) first last = ((_, refl), ((_, refl), ((_, refl), ((_, refl), tt))))
 
--- ---- what is told of a device, or of none
+-- ---- what is printed of a device, or of none
 
--- what refuses a device is told of it
+-- what refuses a device is printed of it
 pub refusal_told : {A : Type 0} (told : A → Output) (fault : Option Output) (found : Result A Output) → IsExpectedFault fault found → IfSome fault (λ said. told_or_refused told found ≡ said)
 refusal_told told None found is = tt
 refusal_told told (Some output) found is = ap (told_or_refused told) is
 
--- a refusal of an output that is told
+-- a refusal of an output that is printed
 pub gives_told : (fault : Option Output) (output : Output) (status : Status) (a b : Option (List ℕ)) → IfSome fault (λ said. output ≡ said) → Gives (or_memory fault) status a b → GivesUnlessMemory output status a b
 gives_told None output status a b is said = inl said
 gives_told (Some other) output status a b is said = inr (subst (λ (o : Output). Gives o status a b) (sym is) said)

@@ -1,4 +1,4 @@
--- What was written where a script was answered.
+-- What was written if a script was answered.
 use Rattle.std.proofs.Common.{◌≡◌, ◌≤◌, ℕ, List, [], ◌∷◌, ◌++◌, length, Option, Some, None, refl, ap, sym, ◌∙◌, subst, codes, append_assoc, append-nil, arith}
 use Rattle.std.specs.Prelude.{decimal}
 use Rattle.std.specs.Io.KnownBytes.{Appends, append_known}
@@ -38,7 +38,7 @@ first_given items output status a b c written said =
     let grown = given_grows output status b c said in
     record { middle = b; written = written; text = grown.0; more = grown.1 }
 
--- where two texts were put, one was, and then the other
+-- if two texts were put, one was, and then the other
 first_put : (a c : Option (List ℕ)) (xs ys : List ℕ) → Appends a c (xs ++ ys) → Appends a (append_known a xs) xs × Appends (append_known a xs) c ys
 first_put None c xs ys put = (tt, tt)
 first_put (Some olds) None xs ys put = absurd put
@@ -58,13 +58,13 @@ first_of_all one old new lines more a c made =
       (parts.1, put.1),
     )
 
--- where moves broke off, some text was put
+-- if moves broke off, some text was put
 broken_grows : (new : Table) (moves : List Step) (a b : Option (List ℕ)) → BreaksOff new moves a b → (text : List ℕ) × Appends a b text
 broken_grows new moves a b broke =
     (broke.written.text ++ broke.begun.text, grows_more a broke.middle b broke.written.text broke.begun.text broke.written.grown broke.begun.grown)
 
 module _ (one : Table → List ℕ → List Step) (old new : Table) (a b : Option (List ℕ)) where
-  -- lines were answered, and those behind them broke off
+  -- lines were answered, and those after them broke off
   pub breaks_behind : (answered lines : List (List ℕ)) → FailsBehind one old new answered lines a b → BreaksOff new (script_moves one old (answered ++ lines)) a b
   breaks_behind answered lines failed =
       subst (λ (moves : List Step). BreaksOff new moves a b)
@@ -101,7 +101,7 @@ module _ (shown : Shown) (sound : IsSound shown) where
       writes_more a b c (ready_line system ∷ []) (replies system shown.limit [] lines) (ready_put system parts wires a b p w ready)
       (subst (λ (t : Table). Writes b c (replies system shown.limit t lines)) none (subst (Writes b c) (said-replies system shown.limit old lines) over.written))
 
-  -- where more lines were answered behind some, these were answered first
+  -- if more lines were answered after some, these were answered first
   pub answered_first : (old new : Table) (lines more : List (List ℕ)) (parts wires : ℕ) (a b c : Option (List ℕ)) → old ≡ [] → parts ≡ length shown.subject.parts → wires ≡ length shown.subject.wires
       → Appends a b (spaced (codes "ready" ∷ decimal parts ∷ decimal wires ∷ []))
       → Makes old new (script_moves (moves_of shown) old (lines ++ more)) b c → WritesFirst a c (answers_of (system_of shown.subject) shown.limit lines)
@@ -138,7 +138,7 @@ module _ (shown : Shown) (sound : IsSound shown) where
       (broken_begins_more shown.subject sound.valid sound.room sound.few sound.least shown.limit [] new lines more b c (HasCases-empty system)
       (subst (λ (t : Table). BreaksOff new (script_moves (line_moves system shown.limit) t lines) b c) none over))
 
-  -- of bytes that are a front and a piece the front was answered, and a write failed in the lines behind
+  -- of bytes that are a front and a piece the front was answered, and a write failed in the lines after it
   stopped_in : (old new : Table) (bytes fed piece : List ℕ) (lines : List (List ℕ)) (parts wires : ℕ) (a b c : Option (List ℕ)) → old ≡ [] → parts ≡ length shown.subject.parts → wires ≡ length shown.subject.wires
       → Appends a b (spaced (codes "ready" ∷ decimal parts ∷ decimal wires ∷ []))
       → bytes ≡ fed ++ piece → length piece ≤ READ_LIMIT → FailsBehind (moves_of shown) old new (whole_lines fed) lines b c → IsStopped (answers_of (system_of shown.subject) shown.limit) bytes a c

@@ -1,36 +1,30 @@
 -- A service over a device's graph answers as the device's system does.
-use Rattle.std.proofs.Common.{◌≡◌, ◌≤◌, ◌+◌, ◌*◌, ℕ, List, [], ◌∷◌, length, sym, subst, arith}
+use Rattle.std.proofs.Common.{◌≡◌, ◌≤◌, ◌+◌, ◌*◌, ℕ, [], ◌∷◌, length, ap, ◌∙◌, arith}
 use Rattle.std.specs.Prelude.{Result, Ok, Err, IfOk}
 use Rattle.text_rules.specs.Expected.{Fulfils}
 use Rattle.state_rules.specs.declared.extras.Extras.{Extras}
 use Rattle.state_rules.specs.Systems.{with_extras}
 use Rattle.state_rules.specs.Graphs.{Graph}
-use Rattle.diag_edge.specs.Edge.{Reading, Writing}
-use Rattle.device_model.specs.Devices.{Device, IsDevice}
+use Rattle.device_model.specs.Devices.{Device, IsDevice, part_names, part_costs}
 use Rattle.device_model.specs.Diagnosis.{device_system}
 use Rattle.clause_encoder.specs.Clauses.{ClauseList}
 use Rattle.clause_encoder.specs.Encoding.{most_variables, encoded, Describes}
 use Rattle.clause_encoder.proofs.Sizes.{encoded-few_vars}
-use Rattle.clause_encoder.specs.declared.encoding.EncodeError.{EncodeError}
 use Rattle.branch_states.specs.declared.measuring.TheConstants.{BUDGET_LIMIT}
 use Rattle.dnnf_compiler.proofs.Laws.{graph_of_device}
 use Rattle.session_rules.specs.Spelling.{IsGraphOf}
-use Rattle.session_rules.specs.Items.{Item}
 use Rattle.session_rules.specs.GraphSystems.{compiled_system, system_of}
 use Rattle.session_rules.proofs.GraphReplies.{graph_replies}
 use Rattle.session_rules.proofs.Keeping.{HasCases-empty}
 use Rattle.session_core.specs.Services.{Shown}
-use Rattle.device_files.specs.declared.status.Status.{Status}
-use Rattle.device_files.specs.Output.{Output}
 use Rattle.device_files.specs.declared.refusal.Refusal.{Refusal}
 use Rattle.device_files.specs.Refusals.{told_by}
-use Rattle.device_files.specs.Choices.{Weighed, IsListOf}
+use Rattle.device_files.specs.Choices.{IsListOf}
 use Rattle.device_files.specs.Weighing.{within}
 use Rattle.diag_cli.specs.declared.words.ServeOptions.{ServeOptions}
-use Rattle.diag_cli.specs.Courses.{ready_line, answers_of, if_within, served_device, served_or_refused}
-use Rattle.diag_cli.specs.Following.{IsServed, Follows}
+use Rattle.diag_cli.specs.Courses.{ready_line, answers_of, served_device}
 use Rattle.diag_cli.specs.inner.Compiling.{IsGraphBy, FindsGraph}
-use Rattle.diag_cli.specs.inner.Serving.{IsServable, IsServiceOf}
+use Rattle.diag_cli.specs.inner.Serving.{IsServable, Answers}
 
 -- ---- the graph of a device is such as a service takes
 
@@ -65,12 +59,14 @@ same_answers : (device : Device) (graph : Graph) → IsGraphOf device graph → 
     → answers_of (with_extras extras (compiled_system device graph)) sessions ≡ answers_of (with_extras extras (device_system device)) sessions
 same_answers device graph is extras sessions = λ k lines. ready_line (device_system device) ∷ graph_replies device graph is extras sessions [] (HasCases-empty (device_system device)) lines k
 
--- What the service of a device answers is what the device's system does. So it follows the course of the device, where it may be
--- served.
-pub device_served : (options : ServeOptions) (clauses : Device → Result Weighed EncodeError) (device : Device) (service : Shown) (input new_input : Reading) (out new_out : Writing) (status : Status) → IsServiceOf device options service
-    → if_within options clauses (Ok device) ≡ Ok device → IsServed (answers_of (system_of service.subject) service.limit) input new_input out new_out status
-    → Follows (served_or_refused (served_device options) options.sessions (if_within options clauses (Ok device))) input new_input out new_out status
-device_served options clauses device service input new_input out new_out status of within_it done =
-    subst (λ (expected : Result Device Output). Follows (served_or_refused (served_device options) options.sessions expected) input new_input out new_out status) (sym within_it)
-    (subst (λ (answers : List (List ℕ) → List Item). IsServed answers input new_input out new_out status) (same_answers device of.graph of.servable.meaning options.extras options.sessions)
-    (subst (λ (s : Shown). IsServed (answers_of (system_of s.subject) s.limit) input new_input out new_out status) of.shown done))
+-- so the service of a device answers as the device's system does
+pub device_answers : (options : ServeOptions) (device : Device) (graph : Graph) → IsServable device graph → (service : Shown)
+    → service ≡ record {
+      subject = record { parts = part_names device.parts; wires = device.wires; costs = part_costs device; graph = graph; extras = options.extras };
+      limit = options.sessions;
+      table = [];
+    } → Answers (served_device options device) options.sessions service
+device_answers options device graph is service shown = record {
+  none_open = ap (λ (s : Shown). s.table) shown;
+  same = ap (λ (s : Shown). answers_of (system_of s.subject) s.limit) shown ∙ same_answers device graph is.meaning options.extras options.sessions;
+}

@@ -7,7 +7,6 @@ use Rattle.text_rules.specs.Expected.{IsExpectedFault}
 use Rattle.state_rules.specs.Ranking.{plain_costs}
 use Rattle.state_rules.specs.Graphs.{Graph}
 use Rattle.state_rules.specs.GraphsOver.{IsGraphOver}
-use Rattle.diag_edge.specs.Edge.{Reading, Writing}
 use Rattle.device_model.specs.Devices.{part_names}
 use Rattle.device_model.specs.declared.component.Component.{Component}
 use Rattle.bench_reader.specs.declared.sequential.Sequential.{Sequential}
@@ -19,49 +18,22 @@ use Rattle.frame_unroller.specs.declared.unrolling.UnrollError.TheVariants.{TooM
 use Rattle.frame_unroller.specs.Unrolling.{unrolled, reason, IsUnrolled}
 use Rattle.frame_unroller.proofs.Refusing.{unrolled-names}
 use Rattle.frame_unroller.specs.Diagnosis.{frame_wires, fits_over, frame_system}
-use Rattle.branch_states.specs.declared.measuring.TheConstants.{BUDGET_LIMIT}
 use Rattle.tree_finder.specs.declared.narrowing.Narrowed.{Narrowed}
 use Rattle.dnnf_compiler.proofs.Laws.{graph_over}
-use Rattle.session_rules.specs.Items.{Item}
 use Rattle.session_rules.specs.GraphSystems.{system_of}
 use Rattle.session_rules.proofs.GraphReplies.{fitting_replies}
 use Rattle.session_rules.proofs.Keeping.{HasCases-empty}
 use Rattle.session_core.specs.Services.{Shown}
-use Rattle.device_files.specs.declared.status.Status.{Status}
-use Rattle.device_files.specs.declared.status.Status.TheVariants.{NoMemory}
 use Rattle.device_files.specs.Weighing.{within}
 use Rattle.device_files.specs.Choices.{Weighed, weighed_by, ByForest, IsChosen, HasSum}
 use Rattle.device_files.specs.Output.{Output}
 use Rattle.device_files.proofs.Choosing.{by_same, chosen_gives}
 use Rattle.diag_cli.specs.declared.words.ServeOptions.{ServeOptions}
 use Rattle.diag_cli.specs.Besides.{in_few_bits}
-use Rattle.diag_cli.specs.Courses.{ready_line, answers_of, served_frames, served_or_refused}
+use Rattle.diag_cli.specs.Courses.{ready_line, answers_of, served_frames}
 use Rattle.diag_cli.specs.Frames.{unrolled_within, if_unrolled}
-use Rattle.diag_cli.specs.Following.{IsServed, Follows}
 use Rattle.diag_cli.specs.inner.Compiling.{IsGraphBy}
-use Rattle.diag_cli.specs.inner.Serving.{IsFrameService, frames_told}
-
-module _ (seq : Sequential) (frames : ℕ) (options : ServeOptions) where
-  named : length (part_names seq.device.parts) ≡ length seq.device.parts
-  named = length-map seq.device.parts (λ (part : Component). part.name)
-
-  module _ (service : Shown) (of : IsFrameService seq frames options service) where
-    over_names : IsGraphOver (length (part_names seq.device.parts)) (length (frame_wires seq frames)) (fits_over seq frames) of.graph
-    over_names = subst (λ n. IsGraphOver n (length (frame_wires seq frames)) (fits_over seq frames) of.graph) (sym named) of.meaning
-
-    same_answers : answers_of (system_of service.subject) service.limit ≡ answers_of (served_frames frames options seq) options.sessions
-    same_answers =
-        ap (λ (s : Shown). answers_of (system_of s.subject) s.limit) of.shown
-        ∙ (λ k lines. ready_line (frame_system seq frames)
-        ∷ fitting_replies (part_names seq.device.parts) (frame_wires seq frames) (plain_costs (length seq.device.parts)) (fits_over seq frames) of.graph over_names options.extras options.sessions [] (HasCases-empty (frame_system seq frames)) lines k)
-
-    -- so it follows the course of the netlist, where it may be served
-    pub frames_served : (weigh : ClauseList → Weighed) (input new_input : Reading) (out new_out : Writing) (status : Status) → if_unrolled frames options weigh (Ok seq) ≡ Ok seq
-        → IsServed (answers_of (system_of service.subject) service.limit) input new_input out new_out status
-        → Follows (served_or_refused (served_frames frames options) options.sessions (if_unrolled frames options weigh (Ok seq))) input new_input out new_out status
-    frames_served weigh input new_input out new_out status within_it done =
-        subst (λ (expected : Result Sequential Output). Follows (served_or_refused (served_frames frames options) options.sessions expected) input new_input out new_out status) (sym within_it)
-        (subst (λ (answers : List (List ℕ) → List Item). IsServed answers input new_input out new_out status) same_answers done)
+use Rattle.diag_cli.specs.inner.Serving.{Answers, frames_told}
 
 -- ---- a netlist that is not unrolled, or not served
 
@@ -101,18 +73,30 @@ module _ (seq : Sequential) (frames : ℕ) (made : Unrolled) (is : unrolled seq 
   many_costs costs are = omega (arith, ap length are, length-replicate {A = ℕ} (length seq.device.parts) 1, many_parts)
 
   module _ (describes : DescribesBy made.cnf (length seq.device.parts) (length (frame_wires seq frames)) (fits_over seq frames))
-      (graph : Graph) (sum : ℕ) (small : sum ≤ BUDGET_LIMIT) (by : IsGraphBy (record { list = made.cnf; sum = sum }) graph) where
+      (graph : Graph) (sum : ℕ) (by : IsGraphBy (record { list = made.cnf; sum = sum }) graph) where
     room : length seq.device.parts + length (frame_wires seq frames) ≤ made.cnf.vars
     room = omega (arith, valid.room, many_parts, ap length wires_are)
 
-    pub frame_service : (options : ServeOptions) (costs : List ℕ) (service : Shown) → costs ≡ plain_costs (length seq.device.parts)
+    named : length seq.device.parts ≡ length (part_names seq.device.parts)
+    named = sym (length-map seq.device.parts (λ (part : Component). part.name))
+
+    over_names : IsGraphOver (length (part_names seq.device.parts)) (length (frame_wires seq frames)) (fits_over seq frames) graph
+    over_names =
+        subst (λ n. IsGraphOver n (length (frame_wires seq frames)) (fits_over seq frames) graph) named
+        (graph_over (length seq.device.parts) (length (frame_wires seq frames)) (fits_over seq frames) made.cnf graph room describes by.vars by.truth)
+
+    same_answers : (options : ServeOptions)
+        → answers_of (system_of (record { parts = part_names seq.device.parts; wires = frame_wires seq frames; costs = plain_costs (length seq.device.parts); graph = graph; extras = options.extras })) options.sessions
+        ≡ answers_of (served_frames frames options seq) options.sessions
+    same_answers options = λ k lines. ready_line (frame_system seq frames)
+        ∷ fitting_replies (part_names seq.device.parts) (frame_wires seq frames) (plain_costs (length seq.device.parts)) (fits_over seq frames) graph over_names options.extras options.sessions [] (HasCases-empty (frame_system seq frames)) lines k
+
+    pub frames_answer : (options : ServeOptions) (costs : List ℕ) (service : Shown) → costs ≡ plain_costs (length seq.device.parts)
         → service ≡ record { subject = record { parts = made.parts; wires = made.wires; costs = costs; graph = graph; extras = options.extras }; limit = options.sessions; table = [] }
-        → IsFrameService seq frames options service
-    frame_service options costs service are shown = record {
-      graph = graph;
-      valid = by.decomposable;
-      meaning = graph_over (length seq.device.parts) (length (frame_wires seq frames)) (fits_over seq frames) made.cnf graph room describes by.vars by.truth;
-      few_vars = omega (arith, by.vars, valid.few_vars);
-      few_nodes = omega (arith, valid.few_vars, by.few_nodes, small);
-      shown = shown ∙ (λ i. record { subject = record { parts = parts_are i; wires = wires_are i; costs = are i; graph = graph; extras = options.extras }; limit = options.sessions; table = [] });
+        → Answers (served_frames frames options seq) options.sessions service
+    frames_answer options costs service are shown = record {
+      none_open = ap (λ (s : Shown). s.table) shown;
+      same = ap (λ (s : Shown). answers_of (system_of s.subject) s.limit) shown
+          ∙ (λ i. answers_of (system_of (record { parts = parts_are i; wires = wires_are i; costs = are i; graph = graph; extras = options.extras })) options.sessions)
+          ∙ same_answers options;
     }

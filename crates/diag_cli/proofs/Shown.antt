@@ -17,7 +17,7 @@ pub at_ends : (Holds : Reading → Reading → Writing → Writing → Type 0) {
 at_ends Holds {input_shown = x} {new_input_shown = y} {out = u} {new_out = v} a b c d holds =
     subst₂ (λ u v. Holds x y u v) (sym c) (sym d) (subst₂ (λ x y. Holds x y u v) (sym a) (sym b) holds)
 
--- where only what was written counts
+-- if only what was written counts
 pub at_sink : (Holds : Option (List ℕ) → Option (List ℕ) → Type 0) {before after : Option (List ℕ)} {faults new_faults : ℕ} {out new_out : Writing}
     → out ≡ record { got = before; faults = faults } → new_out ≡ record { got = after; faults = new_faults } → Holds before after → Holds out.got new_out.got
 at_sink Holds a b holds = subst₂ Holds (sym (ap (λ (w : Writing). w.got) a)) (sym (ap (λ (w : Writing). w.got) b)) holds

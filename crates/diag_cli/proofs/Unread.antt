@@ -1,4 +1,4 @@
--- What is known where a file was not read.
+-- What is known if a file was not read.
 use Rattle.std.proofs.Common.{◌≡◌, ◌≢◌, ◌<◌, ◌-◌, ◌^◌, ℕ, length, IfSome, ap, arith, refl}
 use Rattle.std.specs.Prelude.{Err, IsErrOf}
 use Rattle.text_rules.specs.declared.text_lines.TheConstants.{TEXT_LIMIT}

@@ -1,4 +1,4 @@
--- What is given where a device is compiled.
+-- What is given if a device is compiled.
 use Rattle.std.proofs.Common.{◌≡◌, ℕ, ◌≤◌, true, List, [], ◌∷◌, length, Option, Result, Ok, refl, sym, ◌∙◌, ap, subst, inr}
 use Rattle.std.specs.Prelude.{MatchResult}
 use Rattle.text_rules.specs.Expected.{IsExpectedFault}

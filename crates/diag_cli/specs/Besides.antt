@@ -1,4 +1,4 @@
--- What is told besides, and how many bits it may take.
+-- What is printed besides, and how many bits it may take.
 use Rattle.std.specs.Prelude.{ℕ, Bool, List, Option, Result, Ok, Err, codes, nat_lt, if◌then◌else◌}
 use Rattle.std.specs.Option.{option_map_or}
 use Rattle.state_rules.specs.declared.extras.Extras.{Extras}
@@ -11,7 +11,7 @@ use Rattle.device_files.specs.declared.status.Status.TheVariants.{Refused}
 use Rattle.device_files.specs.Choices.{Weighed}
 use Rattle.device_files.specs.Output.{Output, says, result_and_then}
 
--- the bits of states by rising cost, where these are told, over the greatest graph that is compiled from clauses of this sum
+-- the bits of states by rising cost, if these are printed, over the greatest graph that is compiled from clauses of this sum
 abbrev pub levels_bits : (sum vars parts : ℕ) → Option ℕ → ℕ
 levels_bits sum vars parts levels = option_map_or (level_bits sum vars parts) levels 0
 
@@ -26,7 +26,7 @@ bits_line bits = above_line (codes "bits") bits SERVED_BITS
 abbrev pub if_few : ℕ → Result Weighed Output → Result Weighed Output
 if_few bits other = if nat_lt SERVED_BITS bits then Err (says (bits_line bits) Refused) else other
 
--- clauses over so many parts, where what is told besides takes few bits: first states by rising cost, then the graph
+-- clauses over so many parts, if what is printed besides takes few bits: first states by rising cost, then the graph
 abbrev pub in_few_bits : Extras → ℕ → Result Weighed Output → Result Weighed Output
 in_few_bits extras parts found = result_and_then (λ weighed.
     if_few (levels_bits weighed.sum weighed.list.vars parts extras.levels)

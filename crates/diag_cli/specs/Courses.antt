@@ -72,7 +72,7 @@ ready_line system = line (codes "ready" ∷ decimal (length system.parts) ∷ de
 abbrev pub answers_of : System → ℕ → List (List ℕ) → List Item
 answers_of system sessions lines = ready_line system ∷ replies system sessions [] lines
 
--- the output where lines are answered so, by how the script ends
+-- the output if lines are answered so, by how the script ends
 abbrev pub served : (List (List ℕ) → List Item) → List ℕ → End → Output
 served answers script Ended = record { items = answers (all_lines script); status = Done }
 served answers script Failed = record { items = answers (whole_lines script) ++ Plain read_error ∷ []; status = ReadFailed }
@@ -82,7 +82,7 @@ served answers script Cut = record { items = answers (whole_lines script) ++ Pla
 abbrev pub end_of : List ℕ → End
 end_of script = if nat_lt (length script) SCRIPT_LIMIT then Ended else Cut
 
--- the output where no read of the script fails
+-- the output if no read of the script fails
 abbrev pub wholly_served : (List (List ℕ) → List Item) → List ℕ → Output
 wholly_served answers script = served answers (take SCRIPT_LIMIT script) (end_of script)
 
@@ -102,12 +102,12 @@ pub data Course : Type 0 where
   Tells : (output : Output) → Course
   Serves : (answers : List (List ℕ) → List Item) → Course
 
--- the sum of a device is within the budget, and what is told besides takes few bits
+-- the sum of a device is within the budget, and what is printed besides takes few bits
 abbrev pub if_within : ServeOptions → (Device → Result Weighed EncodeError) → Result Device Output → Result Device Output
 if_within options clauses found = result_and_then (λ device.
     result_and (in_few_bits options.extras (length device.parts) (within options.budget (clauses device))) (Ok device)) found
 
--- the systems of a device, and of a netlist over so many times, with what is told besides
+-- the systems of a device, and of a netlist over so many times, with what is printed besides
 abbrev pub served_device : ServeOptions → Device → System
 served_device options device = with_extras options.extras (device_system device)
 
@@ -119,7 +119,7 @@ abbrev pub served_or_refused : {A : Type 0} → (A → System) → ℕ → Resul
 served_or_refused system sessions (Ok found) = Serves (answers_of (system found) sessions)
 served_or_refused system sessions (Err output) = Tells output
 
--- the output of a course, where the script that it may need is told
+-- the output of a course, if the script that it may need is shown
 abbrev pub whole_output : Course → Option (List ℕ) → Option Output
 whole_output (Tells output) left = Some output
 whole_output (Serves answers) left = option_map (wholly_served answers) left
@@ -134,7 +134,7 @@ course_by choose path (Ask health sessions) file = served_or_refused system_of s
 course_by choose path (Inspect inspection) file = Tells (inspected choose path inspection file)
 course_by choose path (Compile budget narrow) file = Tells (compiled budget (clauses_by narrow choose) (described path file))
 
--- by the form; of a file that is too long, that is told
+-- by the form; of a file that is too long, that is printed
 abbrev pub course_of : (ClauseList → Option Forest) → Option Form → List ℕ → Course
 course_of choose None file = Tells (says usage_line Usage)
 course_of choose (Some (Load places)) file = Tells (loaded places)

@@ -39,8 +39,8 @@ pub record IsStopped (answers : List (List ℕ) → List Item) (bytes : List ℕ
   pub one_read : length piece ≤ READ_LIMIT
   pub answered : WritesFirst before after (answers (whole_lines fed))
 
--- Bytes of a script were taken, and the lines that a line feed ended were answered. If a write failed, it was behind these, with a
--- last line, or with the line that tells why the script ended.
+-- Bytes of a script were taken, and the lines that a line feed ended were answered. If a write failed, it was after these, with a
+-- last line, or with the line that says why the script ended.
 pub record IsAnswered (answers : List (List ℕ) → List Item) (input new_input : Reading) (out new_out : Writing) (status : Status) : Type 0 where
   pub bytes : List ℕ
   pub counted : new_input.taken ≡ input.taken + length bytes
@@ -50,12 +50,12 @@ pub record IsAnswered (answers : List (List ℕ) → List Item) (input new_input
   pub answered : WritesFirst out.got new_out.got (answers (whole_lines bytes))
   pub gives : Gives (served answers bytes end) status out.got new_out.got
 
--- The whole lines of bytes, at most the limit; or all lines, where the end was met before it.
+-- The whole lines of bytes, at most the limit; or all lines, if the end was met before it.
 abbrev pub AreTaken : List (List ℕ) → List ℕ → Type 0 → Type 0
 AreTaken lines bytes at_end =
     ((length bytes ≤ SCRIPT_LIMIT) × (lines ≡ whole_lines bytes)) ⊎ (at_end × (length bytes < SCRIPT_LIMIT) × (lines ≡ all_lines bytes))
 
--- A write failed before that. What was written begins the answers to lines that were taken, whatever lines come behind them.
+-- A write failed before that. What was written begins the answers to lines that were taken, whatever lines come after them.
 pub record IsBroken (answers : List (List ℕ) → List Item) (input new_input : Reading) (out new_out : Writing) : Type 0 where
   pub bytes : List ℕ
   pub counted : new_input.taken ≡ input.taken + length bytes

@@ -35,7 +35,7 @@ abbrev pub unrolled_within : ℕ → (ClauseList → Weighed) → Result Unrolle
 unrolled_within budget weigh (Ok made) = within budget (Ok (weigh made.cnf))
 unrolled_within budget weigh (Err error) = Err (not_unrolled error)
 
--- the netlist, where it is unrolled within the budget, and what is told besides takes few bits
+-- the netlist, if it is unrolled within the budget, and what is printed besides takes few bits
 abbrev pub if_unrolled : ℕ → ServeOptions → (ClauseList → Weighed) → Result Sequential Output → Result Sequential Output
 if_unrolled frames options weigh found = result_and_then (λ seq.
     result_and (in_few_bits options.extras (length seq.device.parts) (unrolled_within options.budget weigh (unrolled seq frames))) (Ok seq)) found

@@ -1,4 +1,4 @@
--- What is told of an adder whose readings disagree with its design.
+-- What is printed of an adder whose readings disagree with its design.
 use Rattle.std.specs.Prelude.{ℕ, ◌-◌, Bool, List, [], ◌∷◌, length, take, Option, Some, None, Result, codes, slice_index_or}
 use Rattle.text_rules.specs.Names.{Name}
 use Rattle.state_rules.specs.Cases.{Case}
@@ -25,7 +25,7 @@ use Rattle.diag_cli.specs.declared.loading.TheConstants.{LISTED_LIMIT}
 abbrev pub names_line : List ℕ → List Name → List Bool → Item
 names_line what parts state = line (what ∷ faulty_names parts state)
 
--- Of some first diagnoses: their cost, the first, how many they are, and the last. Where nothing agrees, that is told.
+-- Of some first diagnoses: their cost, the first, how many they are, and the last. If nothing agrees, that is printed.
 abbrev pub listed_lines : List Name → Option ℕ → List (List Bool) → List Item
 listed_lines parts None listed = line (codes "inconsistent" ∷ []) ∷ []
 listed_lines parts (Some fewest) listed =

@@ -1,4 +1,4 @@
-//! What is told besides, and whether it takes few bits over the graph of clauses.
+//! What is printed besides, and whether it takes few bits over the graph of clauses.
 ghost use Rattle.std.specs.Prelude.{◌≡◌, ◌^◌, ◌+◌, ◌*◌, ◌<◌, ◌≤◌, ℕ, true, Ok, Some, not, ◌&&◌, is_none, length, IfOk, IfErr, IfSome};
 ghost use Rattle.text_rules.specs.Expected.{IsExpectedFault, Fulfils};
 ghost use Rattle.state_rules.specs.Graphs.{edges};
@@ -15,7 +15,7 @@ ghost use Rattle.diag_cli.specs.inner.Serving.{IsServable, CanTell};
 use crate::graphs::compiled_within;
 use crate::words::ServeOptions;
 use clause_encoder::Cnf;
-use device_files::{Refusal, Status, above, clauses_of, forest_of, sum_within};
+use device_files::{Refusal, Status, above, clauses_along, sum_within};
 use device_model::{Device, PART_LIMIT};
 use dnnf_compiler::most_nodes;
 use level_lister::{TOP_LIMIT, level_bits};
@@ -28,7 +28,7 @@ use tree_finder::Narrowed;
 // Lines are numbered in 32 bits.
 const LINE_LIMIT: u64 = 1 << 32;
 
-/// The graph of a device, if the sum of its clauses is within the budget and what is told besides takes few bits.
+/// The graph of a device, if the sum of its clauses is within the budget and what is printed besides takes few bits.
 pub(crate) fn graph_in_few_bits(
     alloc: Global,
     device: &Device,
@@ -42,12 +42,11 @@ pub(crate) fn graph_in_few_bits(
 {
     // Its contract says that a device has few parts.
     let parts = device.parts().len() as u32;
-    let cnf = clauses_of(alloc, device)?;
-    let forest = forest_of(alloc, &cnf, options.narrow)?;
+    let (cnf, forest) = clauses_along(alloc, device, options.narrow)?;
     compile_in_few_bits(alloc, &cnf, &forest, parts, options)
 }
 
-/// The graph of clauses over so many parts, if their sum is within the budget and what is told besides takes few bits.
+/// The graph of clauses over so many parts, if their sum is within the budget and what is printed besides takes few bits.
 pub(crate) fn compile_in_few_bits(
     alloc: Global,
     cnf: &Cnf,
@@ -72,7 +71,7 @@ pub(crate) fn compile_in_few_bits(
     Ok(graph)
 }
 
-// Whether what is told besides takes few bits over clauses whose sum is within the budget.
+// Whether what is printed besides takes few bits over clauses whose sum is within the budget.
 fn check_bits(
     alloc: Global,
     cnf: &Cnf,
@@ -97,7 +96,7 @@ fn check_bits(
     few_bits(least_bits(sum, cnf.vars(), parts, extras.least))
 }
 
-// Whether the lines of the graph of the diagnoses can be numbered, if that is told. If not, they do not fit into memory either.
+// Whether the lines of the graph of the diagnoses can be numbered, if that is printed. If not, they do not fit into memory either.
 fn check_lines(graph: &Graph, parts: u32, is_told: bool) -> Result<(), Refusal>
     requires { parts ≤ PART_LIMIT }
     ensures few { IfOk result (λ _. is_told ≡ true → length graph.now.nodes + edges graph.now.nodes + 2 * parts + 1 < 2 ^ 32) }
@@ -110,7 +109,7 @@ fn check_lines(graph: &Graph, parts: u32, is_told: bool) -> Result<(), Refusal>
     Ok(())
 }
 
-// Whether nothing is told besides, so that no sum has to be found.
+// Whether nothing is printed besides, so that no sum has to be found.
 fn tells_nothing(extras: Extras) -> bool
     ensures { result ≡ (is_none extras.levels && not extras.least) }
 {

@@ -1,27 +1,23 @@
-//! Serves a netlist with flip-flops over several times.
-ghost use Rattle.std.specs.Prelude.{◌≡◌, ◌≢◌, ◌+◌, ◌-◌, ◌^◌, ◌<◌, ◌≤◌, length, All, Ok, IfOk};
+//! The services of netlists with flip-flops over several times.
+ghost use Rattle.std.specs.Prelude.{◌≡◌, ◌<◌, ◌≤◌, [], length, All, Ok, IfOk};
 ghost use Rattle.std.specs.List.{sum};
 ghost use Rattle.text_rules.specs.Expected.{Fulfils};
 ghost use Rattle.state_rules.specs.Ranking.{plain_costs};
-ghost use Rattle.diag_edge.specs.Edge.{RoseExactly};
 ghost use Rattle.bench_reader.specs.SequentialNetlists.{sequential_netlist, HasShortNames};
 ghost use Rattle.device_files.specs.Choices.{weighed_by, ByForest};
 ghost use Rattle.device_files.specs.Describing.{netlist_line, or_line};
 ghost use Rattle.device_files.specs.Refusals.{Finds, told_by};
 ghost use Rattle.diag_cli.specs.Courses.{served_frames, served_or_refused};
 ghost use Rattle.diag_cli.specs.Frames.{sequential_in, if_unrolled};
-ghost use Rattle.diag_cli.specs.Following.{Follows};
 ghost use Rattle.diag_cli.specs.inner.Forms.{AreWithinLimits};
-ghost use Rattle.diag_cli.specs.inner.Serving.{IsFrameService};
+ghost use Rattle.diag_cli.specs.inner.Serving.{Answers, IsFor};
 
 use crate::besides::compile_in_few_bits;
 use crate::refusing::not_unrolled;
-use crate::serving::{SCRIPT_LIMIT, answer};
 use crate::words::ServeOptions;
-use bench_reader::{BenchError, Sequential, read_sequential};
-use device_files::{Refusal, Status, forest_of, tell};
+use bench_reader::{Sequential, read_sequential};
+use device_files::{Refusal, forest_of, netlist_refusal};
 use device_model::PART_LIMIT;
-use diag_edge::{Sink, Source};
 use frame_unroller::{FRAME_LIMIT, Unrolled, unroll};
 use session_core::Service;
 use std::alloc::{AllocError, Global};
@@ -35,12 +31,7 @@ fn sequential(alloc: Global, text: &[u8]) -> Result<Sequential, Refusal>
 {
     match read_sequential(alloc, text) {
         Ok(seq) => Ok(seq),
-        Err(BenchError::Bad { line, what }) => Err(Refusal::Fault {
-            line,
-            number: what.number(),
-            name: what.name(),
-        }),
-        Err(BenchError::Memory) => Err(Refusal::Memory),
+        Err(error) => Err(netlist_refusal(error)),
     }
 }
 
@@ -54,8 +45,8 @@ fn plain_costs(alloc: Global, parts: usize) -> Result<Vec<u32>, AllocError>
     vec![in alloc; 1u32; parts]
 }
 
-// The service of a netlist over so many times, if the sum of its clauses is within the budget and what is told besides takes few
-// bits.
+// The service of a netlist over so many times, if the sum of its clauses is within the budget and what is printed besides takes
+// few bits.
 fn service_within(
     alloc: Global,
     seq: &Sequential,
@@ -66,7 +57,7 @@ fn service_within(
     requires few_frames { frames ≤ FRAME_LIMIT }
     requires short { HasShortNames seq.now.device }
     requires options { AreWithinLimits options }
-    ensures service { IfOk result (IsFrameService seq.now frames options) }
+    ensures service { IfOk result (Answers (served_frames frames options seq.now) options.sessions) }
     ensures within { ByForest (λ choose.
         Fulfils (λ _. seq.now) told_by (if_unrolled frames options (weighed_by options.narrow choose) (Ok seq.now)) result) }
 {
@@ -93,68 +84,21 @@ fn service_within(
     }
 }
 
-// Answers the script over a netlist, if it may be served so.
-fn serve_sequential<I: Source, O: Sink>(
-    alloc: Global,
-    seq: Sequential,
-    frames: u32,
-    options: ServeOptions,
-    input: &mut I,
-    out: &mut O,
-) -> Status
-    requires some_frames { 1 ≤ frames }
-    requires few_frames { frames ≤ FRAME_LIMIT }
-    requires short { HasShortNames seq.device }
-    requires options { AreWithinLimits options }
-    requires taken { I.taken input.old < 2 ^ 62 }
-    requires reads { I.faults input.old < 2 ^ 64 - 1 }
-    requires writes { O.faults out.old < 2 ^ 64 - 1 }
-    ensures write_fault { RoseExactly (O.faults out.old) (O.faults out.new) (result ≡ Status.WriteFailed) }
-    ensures read_fault { result ≢ Status.WriteFailed → RoseExactly (I.faults input.old) (I.faults input.new) (result ≡ Status.ReadFailed) }
-    ensures not_usage { result ≢ Status.Usage }
-    ensures follows { ByForest (λ choose.
-        Follows (served_or_refused (served_frames frames options) options.sessions (if_unrolled frames options (weighed_by options.narrow choose) (Ok seq)))
-        (I.shown input.old) (I.shown input.new) (O.shown out.old) (O.shown out.new) result) }
-    ensures cut { result ≡ Status.CutShort → I.taken input.new ≡ I.taken input.old + SCRIPT_LIMIT }
-    ensures short { result ≢ Status.WriteFailed → result ≢ Status.CutShort → I.taken input.new < I.taken input.old + SCRIPT_LIMIT }
-{
-    match service_within(alloc, &seq, frames, options) {
-        Ok(mut service) => {
-            let status = answer(&mut service, input, out);
-            service.finish();
-            status
-        }
-        Err(refusal) => tell(out, refusal),
-    }
-}
-
-/// Answers the script over the netlist of a file and so many times, or tells why it cannot be, and answers the status.
-pub(crate) fn serve_frames<I: Source, O: Sink>(
+/// The service of the netlist of a file over so many times, or the refusal of one.
+pub(crate) fn frame_service(
     alloc: Global,
     file: &[u8],
     frames: u32,
     options: ServeOptions,
-    input: &mut I,
-    out: &mut O,
-) -> Status
+) -> Result<Service, Refusal>
     requires some_frames { 1 ≤ frames }
     requires few_frames { frames ≤ FRAME_LIMIT }
     requires options { AreWithinLimits options }
     requires short { length file.now ≤ TEXT_LIMIT }
-    requires taken { I.taken input.old < 2 ^ 62 }
-    requires reads { I.faults input.old < 2 ^ 64 - 1 }
-    requires writes { O.faults out.old < 2 ^ 64 - 1 }
-    ensures write_fault { RoseExactly (O.faults out.old) (O.faults out.new) (result ≡ Status.WriteFailed) }
-    ensures read_fault { result ≢ Status.WriteFailed → RoseExactly (I.faults input.old) (I.faults input.new) (result ≡ Status.ReadFailed) }
-    ensures not_usage { result ≢ Status.Usage }
-    ensures follows { ByForest (λ choose.
-        Follows (served_or_refused (served_frames frames options) options.sessions (if_unrolled frames options (weighed_by options.narrow choose) (sequential_in file.now)))
-        (I.shown input.old) (I.shown input.new) (O.shown out.old) (O.shown out.new) result) }
-    ensures cut { result ≡ Status.CutShort → I.taken input.new ≡ I.taken input.old + SCRIPT_LIMIT }
-    ensures short { result ≢ Status.WriteFailed → result ≢ Status.CutShort → I.taken input.new < I.taken input.old + SCRIPT_LIMIT }
+    ensures none_open { IfOk result (λ service. service.table ≡ []) }
+    ensures course { ByForest (λ choose. IsFor (served_or_refused (served_frames frames options) options.sessions
+        (if_unrolled frames options (weighed_by options.narrow choose) (sequential_in file.now))) result) }
 {
-    match sequential(alloc, file) {
-        Ok(seq) => serve_sequential(alloc, seq, frames, options, input, out),
-        Err(refusal) => tell(out, refusal),
-    }
+    let seq = sequential(alloc, file)?;
+    service_within(alloc, &seq, frames, options)
 }

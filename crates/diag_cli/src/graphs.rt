@@ -1,5 +1,5 @@
 //! The graph that a device is asked by.
-ghost use Rattle.std.specs.Prelude.{◌≡◌, ◌≤◌, ℕ, Ok, IfOk, IfErr};
+ghost use Rattle.std.specs.Prelude.{◌≤◌, ℕ, Ok, IfOk, IfErr};
 ghost use Rattle.text_rules.specs.Expected.{IsExpectedFault, Fulfils};
 ghost use Rattle.branch_states.specs.Branches.{sum_of};
 ghost use Rattle.elimination_forests.specs.declared.steps.Weight.TheVariants.{Lists};
@@ -12,7 +12,7 @@ ghost use Rattle.diag_cli.specs.inner.Compiling.{IsGraphBy, FindsGraph};
 
 use branch_states::{BUDGET_LIMIT, MeasureError};
 use clause_encoder::Cnf;
-use device_files::{Refusal, clauses_of, forest_of, found_within};
+use device_files::{Refusal, clauses_along, found_within};
 use device_model::Device;
 use dnnf_compiler::{compile_forest, compile_within};
 use node_store::Graph;
@@ -31,8 +31,7 @@ pub(crate) fn graph_within(
 {
     // Its contract says that a device has few parts and wires.
     let _parts = device.parts();
-    let cnf = clauses_of(alloc, device)?;
-    let forest = forest_of(alloc, &cnf, is_narrow)?;
+    let (cnf, forest) = clauses_along(alloc, device, is_narrow)?;
     compiled_within(alloc, &cnf, &forest, budget)
 }
 

@@ -1,4 +1,4 @@
-//! Laws about what is told of netlists. Each is the contract of a function that does nothing.
+//! Laws about what is printed of netlists. Each is the contract of a function that does nothing.
 ghost use Rattle.std.specs.Prelude.{◌≡◌, ℕ, Bool, List, Option, None, Ok, IsSome, length, replicate};
 ghost use Rattle.state_rules.specs.Systems.{least_cost};
 ghost use Rattle.device_model.specs.Devices.{Device};
@@ -13,7 +13,7 @@ pub fn netlists_agree()
         → IsSome (least_cost (device_system device) (record { seen = seen; held = replicate (length device.parts) None })) }
 {}
 
-/// So a load never tells `inconsistent`: where the adder of so many places gives a device, some state agrees with its readings.
+/// So a load never prints `inconsistent`: if the adder of so many places gives a device, some state agrees with its readings.
 pub fn loads_agree()
     ensures { (places : ℕ) (device : Device) → netlist (adder_text places) ≡ Ok device
         → IsSome (least_cost (device_system device) (adder_case device places)) }

@@ -5,6 +5,7 @@ mod asking;
 mod besides;
 mod compiling;
 mod costs;
+mod devices;
 mod framing;
 mod graphs;
 mod laws;
@@ -15,6 +16,7 @@ mod refusing;
 mod run;
 mod saying;
 mod serving;
+mod summing;
 mod words;
 
 pub use laws::{loads_agree, netlists_agree};

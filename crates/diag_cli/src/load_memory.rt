@@ -20,11 +20,11 @@ use std::sync::ledger::Ledger;
 /// What is known of each variable, what a pass finds at each node, two states, and room for a smaller graph.
 #[derive(Drop)]
 pub(crate) struct LoadMemory {
-    pub(crate) words: Vec<u32>,
-    pub(crate) values: Vec<u32>,
-    pub(crate) first: Vec<u32>,
-    pub(crate) last: Vec<u32>,
-    pub(crate) distiller: Distiller,
+    words: Vec<u32>,
+    values: Vec<u32>,
+    first: Vec<u32>,
+    last: Vec<u32>,
+    distiller: Distiller,
 }
 
 impl LoadMemory {
@@ -98,6 +98,21 @@ impl LoadMemory {
             LISTED_LIMIT,
             steps,
         )
+    }
+
+    /// The first state and the last one.
+    pub(crate) fn states(self) -> (Vec<u32>, Vec<u32>)
+        ensures first { result.0 ≡ self.first }
+        ensures last { result.1 ≡ self.last }
+    {
+        let LoadMemory {
+            words: _,
+            values: _,
+            first,
+            last,
+            distiller: _,
+        } = self;
+        (first, last)
     }
 }
 

@@ -9,12 +9,10 @@ ghost use Rattle.device_files.specs.Describing.{or_line, netlist_line};
 ghost use Rattle.diag_cli.specs.Loads.{names_line, summary_of, loaded};
 ghost use Rattle.device_files.specs.Output.{Gives, GivesUnlessMemory};
 ghost use Rattle.device_files.specs.Refusals.{Finds};
-ghost use Rattle.diag_cli.specs.inner.Loading.{IsSummaryOf, IsInStep, Loads, listed_items, inconsistent_items, found_items, summary_items, summary_output};
-ghost use Rattle.diag_cli.specs.inner.Serving.{IsServable};
+ghost use Rattle.diag_cli.specs.inner.Loading.{IsInStep, Loads, listed_items, inconsistent_items, found_items, summary_items, summary_output};
 
-use crate::costs::costs_of;
 use crate::graphs::compiled_by_names;
-use crate::load_memory::LoadMemory;
+use crate::summing::{Summary, summary_by};
 use crate::words::DEFAULT_BUDGET;
 use adder_load::{Found, PLACE_LIMIT, adder_text};
 use device_files::{
@@ -22,26 +20,13 @@ use device_files::{
 };
 use device_model::{Device, Name};
 use diag_edge::{Sink, WriteFailed, put_line};
-use minimiser::Steps;
-use node_store::Graph;
 use session_core::put_faulty;
-use std::alloc::{AllocError, Global};
+use std::alloc::Global;
 use std::marker::Brand;
-use std::sync::ledger::{Blank, Ledger};
+use std::sync::ledger::Blank;
 
 /// So many diagnoses are listed at most.
 pub const LISTED_LIMIT: u32 = 20;
-
-// What is told of an adder: its sizes, and the first and the last diagnosis of those that were listed, if there are any.
-#[derive(Drop)]
-struct Summary {
-    parts: Vec<Name>,
-    wires: u64,
-    clauses: u64,
-    found: Option<Found>,
-    first: Vec<u32>,
-    last: Vec<u32>,
-}
 
 // The device of an adder.
 fn adder_device(alloc: Global, places: u32) -> Result<Device, Refusal>
@@ -50,38 +35,6 @@ fn adder_device(alloc: Global, places: u32) -> Result<Device, Refusal>
 {
     let text = adder_text(alloc, places)?;
     netlist_device(alloc, &text)
-}
-
-// The summary of an adder by its graph. All memory that it needs is taken here.
-fn summary_by<L: Ledger>(
-    alloc: Global,
-    blank: Blank,
-    device: Device,
-    graph: &Graph,
-    clauses: u64,
-    places: u32,
-) -> Result<Summary, AllocError>
-    requires name { blank.name ≡ L.name }
-    requires shares { blank.parts ≡ L.parts }
-    requires some { 0 < blank.parts }
-    requires graph { IsServable device graph.now }
-    requires places { places ≤ PLACE_LIMIT }
-    ensures summary { IfOk result (IsSummaryOf device clauses places) }
-    ensures in_step { IfOk result IsInStep }
-{
-    let costs = costs_of(alloc, &device)?;
-    let mut memory = LoadMemory::new(alloc, graph, costs.len())?;
-    memory.note(&device, places);
-    let (parts, wires) = device.take_names(alloc)?;
-    let found = memory.sample(graph, &costs, &mut Steps::<L>::new(blank));
-    Ok(Summary {
-        parts,
-        wires: wires.len() as u64,
-        clauses,
-        found,
-        first: memory.first,
-        last: memory.last,
-    })
 }
 
 // The summary of an adder, if the sum of its device is within the budget.
@@ -123,7 +76,7 @@ fn put_names<O: Sink>(
     put_faulty(out, what, &[], parts, state)
 }
 
-// The lines that tell of some diagnoses.
+// The lines of some diagnoses.
 fn put_listed<O: Sink>(
     out: &mut O,
     parts: &[Name],
@@ -151,7 +104,7 @@ fn put_inconsistent<O: Sink>(out: &mut O) -> Result<(), WriteFailed>
     put_line(out, &[b"inconsistent"])
 }
 
-// The lines behind those of the sizes.
+// The lines after those of the sizes.
 fn put_found<O: Sink>(out: &mut O, summary: &Summary) -> Result<(), WriteFailed>
     requires { IsInStep summary.now }
     ensures text { Replies (O.got out.old) (O.got out.new) result (found_items summary.now) }
@@ -163,7 +116,7 @@ fn put_found<O: Sink>(out: &mut O, summary: &Summary) -> Result<(), WriteFailed>
     }
 }
 
-// The lines that tell a summary.
+// The lines of a summary.
 fn put_summary<O: Sink>(out: &mut O, summary: &Summary) -> Result<(), WriteFailed>
     requires { IsInStep summary.now }
     ensures text { Replies (O.got out.old) (O.got out.new) result (summary_items summary.now) }
@@ -189,7 +142,7 @@ fn put_summary<O: Sink>(out: &mut O, summary: &Summary) -> Result<(), WriteFaile
     put_found(out, summary)
 }
 
-// Tells a summary and answers `Done`, or `WriteFailed`.
+// Prints a summary and answers `Done`, or `WriteFailed`.
 #[tactic(auto, using(device_files::proofs::Failing::gives_items))]
 fn tell_summary<O: Sink>(out: &mut O, summary: &Summary) -> Status
     requires in_step { IsInStep summary.now }
@@ -204,7 +157,7 @@ fn tell_summary<O: Sink>(out: &mut O, summary: &Summary) -> Status
     }
 }
 
-/// Tells what the adder of so many places comes to, or why that cannot be told, and answers the status.
+/// Prints what the adder of so many places comes to, or why that cannot be found, and answers the status.
 pub(crate) fn load_adder<O: Sink>(alloc: Global, places: u32, out: &mut O) -> Status
     requires places { places ≤ PLACE_LIMIT }
     requires faults { O.faults out.old < 2 ^ 64 - 1 }

@@ -5,10 +5,11 @@ ghost use Rattle.diag_cli.specs.Courses.{course_by};
 ghost use Rattle.diag_cli.specs.Following.{Follows};
 ghost use Rattle.diag_cli.specs.inner.Forms.{IsCommandWithin};
 
-use crate::asking::ask_file;
+use crate::asking::graph_service;
 use crate::compiling::compile_file;
-use crate::framing::serve_frames;
-use crate::serving::{SCRIPT_LIMIT, serve_file};
+use crate::devices::device_service;
+use crate::framing::frame_service;
+use crate::serving::{SCRIPT_LIMIT, answer_by};
 use crate::words::Command;
 use device_files::{Status, inspect_file};
 use diag_edge::{Sink, Source};
@@ -38,11 +39,15 @@ pub(crate) fn run_file<I: Source, O: Sink>(
     ensures short { result ≢ Status.WriteFailed → result ≢ Status.CutShort → I.taken input.new < I.taken input.old + SCRIPT_LIMIT }
 {
     match command {
-        Command::Serve { options } => serve_file(alloc, path, file, options, input, out),
-        Command::ServeFrames { frames, options } => {
-            serve_frames(alloc, file, frames, options, input, out)
+        Command::Serve { options } => {
+            answer_by(device_service(alloc, path, file, options), input, out)
         }
-        Command::Ask { health, sessions } => ask_file(alloc, file, health, sessions, input, out),
+        Command::ServeFrames { frames, options } => {
+            answer_by(frame_service(alloc, file, frames, options), input, out)
+        }
+        Command::Ask { health, sessions } => {
+            answer_by(graph_service(alloc, file, health, sessions), input, out)
+        }
         Command::Inspect { inspection } => inspect_file(alloc, path, file, inspection, out),
         Command::Compile { budget, narrow } => {
             compile_file(alloc, path, file, budget, narrow, out)

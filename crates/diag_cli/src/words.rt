@@ -1,8 +1,7 @@
-ghost use Rattle.std.specs.Prelude.{◌≡◌, map, string_bytes, IfSome, unwrap_or};
+ghost use Rattle.std.specs.Prelude.{◌≡◌, None, Some, map, string_bytes, IfSome};
 ghost use Rattle.std.specs.Option.{option_map};
-ghost use Rattle.text_rules.specs.Names.{is_among};
 ghost use Rattle.text_rules.specs.Numbers.{plain_number_in};
-ghost use Rattle.diag_cli.specs.Words.{form_of, form_by_words, form_load, form_ask, form_by, form_serve, serve_options, row_of, option_named, option_for, with_option, no_options, and_options};
+ghost use Rattle.diag_cli.specs.Words.{form_of, form_by_words, form_load, form_ask, form_by, form_serve, serve_options, option_of, number_among, words_after, is_given, are_options, number_given};
 ghost use Rattle.diag_cli.specs.inner.Forms.{meant, IsWithinLimits};
 
 use adder_load::PLACE_LIMIT;
@@ -14,10 +13,10 @@ use level_lister::TOP_LIMIT;
 use session_core::{Extras, SESSION_LIMIT};
 use text_rules::plain_number;
 
-/// The budget where the words give none.
+/// The budget if the words give none.
 pub const DEFAULT_BUDGET: u32 = 2_097_152;
 
-/// How many sessions may be open at a time where the words give no number.
+/// How many sessions may be open at a time if the words give no number.
 pub const DEFAULT_SESSIONS: u32 = 16;
 
 /// How `serve` answers a script.
@@ -29,7 +28,7 @@ pub struct ServeOptions {
     pub sessions: u32,
     /// Clauses are put into a better order.
     pub narrow: bool,
-    /// What sessions are told besides: states up to a cost of at most `TOP_LIMIT`, and the graph of the diagnoses.
+    /// What sessions print besides: states up to a cost of at most `TOP_LIMIT`, and the graph of the diagnoses.
     pub extras: Extras,
 }
 
@@ -43,7 +42,7 @@ pub enum Command {
     /// `ask`: answers the script on the input over the graph of the file, whose first variables are so many parts, with at most
     /// so many sessions open at a time.
     Ask { health: u32, sessions: u32 },
-    /// What is told of the file alone, as by `plan` and `check`.
+    /// What is printed about the file alone, as by `plan` and `check`.
     Inspect { inspection: Inspection },
     /// `compile`: writes the graph of a device whose sum is within a budget.
     Compile { budget: u32, narrow: bool },
@@ -52,44 +51,10 @@ pub enum Command {
 /// What the words of the command line ask for.
 #[derive(Clone, Copy, Debug)]
 pub enum Form<'a> {
-    /// `load N`: makes an adder of so many places, and tells what its readings come to.
+    /// `load N`: makes an adder of so many places, and prints what its readings come to.
     Load { places: u32 },
     /// A command, and the file that it is done over.
     Over { path: &'a str, command: Command },
-}
-
-/// The options behind a path, each where it is given.
-#[derive(Clone, Copy, Debug)]
-pub struct Options {
-    /// `--budget N`, from 1 to `BUDGET_LIMIT`.
-    pub budget: Option<u32>,
-    /// `--sessions N`, from 1 to `SESSION_LIMIT`.
-    pub sessions: Option<u32>,
-    /// `--frames N`, from 1 to `FRAME_LIMIT`.
-    pub frames: Option<u32>,
-    /// `--levels N`, from 0 to `TOP_LIMIT`.
-    pub levels: Option<u32>,
-    /// `--narrow`: clauses are put into a better order.
-    pub narrow: bool,
-    /// `--least`: the graph of the diagnoses is told.
-    pub least: bool,
-}
-
-/// An option of the command line. Its methods are the table: its word, its numbers and the commands that take it.
-#[derive(Clone, Copy, Debug)]
-pub enum OptionKind {
-    /// `--budget N`: the greatest sum.
-    Budget,
-    /// `--sessions N`: how many sessions may be open at a time.
-    Sessions,
-    /// `--frames N`: over how many times a netlist is served.
-    Frames,
-    /// `--levels C`: up to which cost states are listed.
-    Levels,
-    /// `--narrow`: another order of the clauses is looked for.
-    Narrow,
-    /// `--least`: the graph of the diagnoses may be asked for.
-    Least,
 }
 
 /// The numbers that an option takes, in decimal digits.
@@ -103,33 +68,11 @@ pub struct Numbers {
     pub most: u32,
 }
 
-impl OptionKind {
-    // The option that a word names.
-    fn named(word: &str) -> Option<OptionKind>
-        ensures { result ≡ option_named word.now }
+impl Numbers {
+    // Numbers of so many digits at most, from one to another.
+    fn within(digits: usize, least: u32, most: u32) -> Option<Numbers>
+        ensures { result ≡ Some (record { digits = digits; least = least; most = most }) }
     {
-        match word {
-            "--budget" => Some(OptionKind::Budget),
-            "--sessions" => Some(OptionKind::Sessions),
-            "--frames" => Some(OptionKind::Frames),
-            "--levels" => Some(OptionKind::Levels),
-            "--narrow" => Some(OptionKind::Narrow),
-            "--least" => Some(OptionKind::Least),
-            _ => None,
-        }
-    }
-
-    // The numbers that it takes, if it takes one.
-    fn numbers(self) -> Option<Numbers>
-        ensures { result ≡ (row_of self).numbers }
-    {
-        let (digits, least, most) = match self {
-            OptionKind::Budget => (7, 1, BUDGET_LIMIT),
-            OptionKind::Sessions => (4, 1, SESSION_LIMIT),
-            OptionKind::Frames => (2, 1, FRAME_LIMIT),
-            OptionKind::Levels => (7, 0, TOP_LIMIT),
-            OptionKind::Narrow | OptionKind::Least => return None,
-        };
         Some(Numbers {
             digits,
             least,
@@ -137,77 +80,30 @@ impl OptionKind {
         })
     }
 
-    // Whether a command takes it.
-    fn is_for(self, command: &str) -> bool
-        ensures { result ≡ is_among (row_of self).commands command.now }
+    // The one of them that a word spells.
+    fn among(self, word: &str) -> Option<u32>
+        ensures { result ≡ number_among self word.now }
     {
-        match self {
-            OptionKind::Budget => command == "serve" || command == "compile",
-            OptionKind::Sessions => command == "serve" || command == "ask",
-            OptionKind::Frames | OptionKind::Levels | OptionKind::Least => command == "serve",
-            OptionKind::Narrow => command == "serve" || command == "compile" || command == "plan",
-        }
+        number_in(self.digits, self.least, self.most, word)
     }
 }
 
-impl Options {
-    // No option is given.
-    fn none() -> Options
-        ensures { result ≡ no_options }
-    {
-        Options {
-            budget: None,
-            sessions: None,
-            frames: None,
-            levels: None,
-            narrow: false,
-            least: false,
+// The table of the options: for each the commands that take it, and the numbers that it takes, if it takes one.
+fn option_of(command: &str, word: &str) -> Option<Option<Numbers>>
+    ensures { result ≡ option_of command.now word.now }
+{
+    let is_serve = command == "serve";
+    let is_compile = command == "compile";
+    match word {
+        "--budget" => (is_serve || is_compile).then_some(Numbers::within(7, 1, BUDGET_LIMIT)),
+        "--sessions" => {
+            (is_serve || command == "ask").then_some(Numbers::within(4, 1, SESSION_LIMIT))
         }
-    }
-
-    // These options and one more, with its number, if it takes one. None is given twice.
-    fn with(mut self, kind: OptionKind, number: Option<u32>) -> Option<Options>
-        ensures { result ≡ with_option self kind number }
-    {
-        match kind {
-            OptionKind::Budget if self.budget.is_none() => self.budget = number,
-            OptionKind::Sessions if self.sessions.is_none() => self.sessions = number,
-            OptionKind::Frames if self.frames.is_none() => self.frames = number,
-            OptionKind::Levels if self.levels.is_none() => self.levels = number,
-            OptionKind::Narrow if !self.narrow => self.narrow = true,
-            OptionKind::Least if !self.least => self.least = true,
-            _ => return None,
-        }
-        Some(self)
-    }
-
-    // The budget that is given, or the default.
-    fn budget(self) -> u32
-        ensures { result ≡ unwrap_or self.budget DEFAULT_BUDGET }
-    {
-        self.budget.unwrap_or(DEFAULT_BUDGET)
-    }
-
-    // The number of sessions that is given, or the default.
-    fn sessions(self) -> u32
-        ensures { result ≡ unwrap_or self.sessions DEFAULT_SESSIONS }
-    {
-        self.sessions.unwrap_or(DEFAULT_SESSIONS)
-    }
-
-    // How `serve` answers a script by these options.
-    fn of_serve(self) -> ServeOptions
-        ensures { result ≡ serve_options self }
-    {
-        ServeOptions {
-            budget: self.budget(),
-            sessions: self.sessions(),
-            narrow: self.narrow,
-            extras: Extras {
-                levels: self.levels,
-                least: self.least,
-            },
-        }
+        "--frames" => is_serve.then_some(Numbers::within(2, 1, FRAME_LIMIT)),
+        "--levels" => is_serve.then_some(Numbers::within(7, 0, TOP_LIMIT)),
+        "--narrow" => (is_serve || is_compile || command == "plan").then_some(None),
+        "--least" => is_serve.then_some(None),
+        _ => None,
     }
 }
 
@@ -221,40 +117,77 @@ fn number_in(digits: usize, least: u32, most: u32, word: &str) -> Option<u32>
     }
 }
 
-// The option that a word names, if a command takes it.
-fn option_for(command: &str, word: &str) -> Option<OptionKind>
-    ensures { result ≡ option_for command.now word.now }
+// The words after an option, if it is given.
+fn words_after<'a>(option: &str, words: &'a [String]) -> Option<&'a [String]>
+    ensures { option_map (λ rest. map string_bytes rest.now) result ≡ words_after option.now (map string_bytes words.now) }
 {
-    let kind = OptionKind::named(word)?;
-    if kind.is_for(command) {
-        Some(kind)
-    } else {
-        None
+    let mut rest = words;
+    while let Some((word, others)) = rest.split_first() {
+        if word.as_str() == option {
+            return Some(others);
+        }
+        rest = others;
+    }
+    None
+}
+
+// Whether an option is given.
+fn is_given(option: &str, words: &[String]) -> bool
+    ensures { result ≡ is_given option.now (map string_bytes words.now) }
+{
+    words_after(option, words).is_some()
+}
+
+// Whether words are options of a command: each is one, its number follows, if it takes one, and none is given twice. So it calls
+// itself at most once for each.
+fn are_options(command: &str, words: &[String]) -> bool
+    ensures { result ≡ are_options command.now None (map string_bytes words.now) }
+{
+    let [word, rest @ ..] = words else {
+        return true;
+    };
+    let Some(numbers) = option_of(command, word.as_str()) else {
+        return false;
+    };
+    if is_given(word.as_str(), rest) {
+        return false;
+    }
+    let Some(numbers) = numbers else {
+        return are_options(command, rest);
+    };
+    let [number, rest @ ..] = rest else {
+        return false;
+    };
+    numbers.among(number.as_str()).is_some() && are_options(command, rest)
+}
+
+// The number that is given for an option of a command.
+fn number_given(command: &str, option: &str, words: &[String]) -> Option<u32>
+    ensures { result ≡ number_given command.now option.now (map string_bytes words.now) }
+{
+    let numbers = option_of(command, option)?;
+    let [number, ..] = words_after(option, words)? else {
+        return None;
+    };
+    numbers?.among(number.as_str())
+}
+
+// How `serve` answers a script by its options.
+fn serve_options(words: &[String]) -> ServeOptions
+    ensures { result ≡ serve_options (map string_bytes words.now) }
+{
+    ServeOptions {
+        budget: number_given("serve", "--budget", words).unwrap_or(DEFAULT_BUDGET),
+        sessions: number_given("serve", "--sessions", words).unwrap_or(DEFAULT_SESSIONS),
+        narrow: is_given("--narrow", words),
+        extras: Extras {
+            levels: number_given("serve", "--levels", words),
+            least: is_given("--least", words),
+        },
     }
 }
 
-// The options that were given, and those of further words: each a word, and its number behind it, if it takes one. No option is
-// taken twice, so it calls itself at most once for each.
-fn and_options(command: &str, given: Options, words: &[String]) -> Option<Options>
-    ensures { result ≡ and_options command.now given None (map string_bytes words.now) }
-{
-    let [word, rest @ ..] = words else {
-        return Some(given);
-    };
-    let kind = option_for(command, word.as_str())?;
-    let Some(numbers) = kind.numbers() else {
-        let more = given.with(kind, None)?;
-        return and_options(command, more, rest);
-    };
-    let [word, rest @ ..] = rest else {
-        return None;
-    };
-    let number = number_in(numbers.digits, numbers.least, numbers.most, word.as_str())?;
-    let more = given.with(kind, Some(number))?;
-    and_options(command, more, rest)
-}
-
-// What `serve` is, over a netlist where there are frames.
+// What `serve` is, over a netlist if there are frames.
 fn form_serve<'a>(path: &'a str, options: ServeOptions, frames: Option<u32>) -> Option<Form<'a>>
     ensures { option_map meant result ≡ form_serve path.now options frames }
 {
@@ -267,14 +200,19 @@ fn form_serve<'a>(path: &'a str, options: ServeOptions, frames: Option<u32>) -> 
 }
 
 // The form of a command over a file, with options.
-fn form_by<'a>(command: &str, path: &'a str, options: Options) -> Option<Form<'a>>
-    ensures { option_map meant result ≡ form_by command.now path.now options }
+fn form_by<'a>(command: &str, path: &'a str, words: &[String]) -> Option<Form<'a>>
+    ensures { option_map meant result ≡ form_by command.now path.now (map string_bytes words.now) }
 {
-    let budget = options.budget();
-    let narrow = options.narrow;
+    let narrow = is_given("--narrow", words);
     let command = match command {
-        "serve" => return form_serve(path, options.of_serve(), options.frames),
-        "compile" if is_device_path(path) => Command::Compile { budget, narrow },
+        "serve" => {
+            let frames = number_given("serve", "--frames", words);
+            return form_serve(path, serve_options(words), frames);
+        }
+        "compile" if is_device_path(path) => {
+            let budget = number_given("compile", "--budget", words).unwrap_or(DEFAULT_BUDGET);
+            Command::Compile { budget, narrow }
+        }
         _ => {
             let inspection = Inspection::named(command, path, narrow)?;
             Command::Inspect { inspection }
@@ -283,7 +221,7 @@ fn form_by<'a>(command: &str, path: &'a str, options: Options) -> Option<Form<'a
     Some(Form::Over { path, command })
 }
 
-// The form of questions to a graph, with the words behind the file.
+// The form of questions to a graph, with the words after the file.
 fn form_ask<'a>(path: &'a str, words: &[String]) -> Option<Form<'a>>
     ensures { option_map meant result ≡ form_ask path.now (map string_bytes words.now) }
 {
@@ -291,11 +229,10 @@ fn form_ask<'a>(path: &'a str, words: &[String]) -> Option<Form<'a>>
         return None;
     };
     let health = number_in(4, 0, PART_LIMIT as u32, health.as_str())?;
-    let options = and_options("ask", Options::none(), rest)?;
-    if !is_graph_path(path) {
+    if !are_options("ask", rest) || !is_graph_path(path) {
         return None;
     }
-    let sessions = options.sessions();
+    let sessions = number_given("ask", "--sessions", rest).unwrap_or(DEFAULT_SESSIONS);
     let command = Command::Ask { health, sessions };
     Some(Form::Over { path, command })
 }
@@ -311,17 +248,15 @@ fn form_load<'a>(places: &str, words: &[String]) -> Option<Form<'a>>
     Some(Form::Load { places })
 }
 
-// The form of words behind the first two.
+// The form of the words after the first two.
 fn form_by_words<'a>(command: &str, next: &'a str, words: &[String]) -> Option<Form<'a>>
     ensures { option_map meant result ≡ form_by_words command.now next.now (map string_bytes words.now) }
 {
     match command {
         "load" => form_load(next, words),
         "ask" => form_ask(next, words),
-        _ => {
-            let options = and_options(command, Options::none(), words)?;
-            form_by(command, next, options)
-        }
+        _ if are_options(command, words) => form_by(command, next, words),
+        _ => None,
     }
 }
 

@@ -1,4 +1,4 @@
--- What becomes of words where readings are noted in them.
+-- What becomes of words if readings are noted in them.
 use Rattle.std.specs.Prelude.{◌≡◌, ℕ, List, length}
 use Rattle.state_rules.specs.Cases.{Case}
 use Rattle.device_model.specs.Devices.{Device}

@@ -1,9 +1,8 @@
 -- The graphs that clauses are compiled to.
-use Rattle.std.specs.Prelude.{◌≡◌, ◌≤◌, ℕ, length, Result, Ok, Err}
+use Rattle.std.specs.Prelude.{◌≡◌, ◌≤◌, length, Result, Ok, Err}
 use Rattle.text_rules.specs.Expected.{IsExpectedFault}
 use Rattle.state_rules.specs.Graphs.{Graph, IsGraph}
 use Rattle.device_model.specs.Devices.{Device}
-use Rattle.clause_encoder.specs.Clauses.{ClauseList}
 use Rattle.dnnf_compiler.specs.Compiled.{SaysAll, most_nodes}
 use Rattle.device_files.specs.declared.refusal.Refusal.{Refusal}
 use Rattle.device_files.specs.Choices.{Weighed}
@@ -11,7 +10,7 @@ use Rattle.device_files.specs.Output.{Output}
 use Rattle.device_files.specs.Refusals.{told_by}
 use Rattle.diag_cli.specs.inner.Serving.{IsServable}
 
--- It is true exactly where all clauses are, and their sum bounds its size.
+-- It is true exactly if all clauses are, and their sum bounds its size.
 pub record IsGraphBy (weighed : Weighed) (graph : Graph) : Type 0 where
   pub decomposable : IsGraph graph
   pub vars : graph.vars ≡ weighed.list.vars

@@ -1,4 +1,4 @@
--- What is told of an adder, by what was found of it.
+-- What is printed of an adder, by what was found of it.
 use Rattle.std.specs.Prelude.{◌≡◌, ℕ, List, [], ◌∷◌, length, Option, Some, None, Result, Ok, Err, codes, IfSome}
 use Rattle.text_rules.specs.Names.{Name}
 use Rattle.device_model.specs.Devices.{Device}
@@ -7,7 +7,7 @@ use Rattle.conditioner.specs.Words.{bits_of}
 use Rattle.adder_load.specs.declared.sampling.Found.{Found}
 use Rattle.adder_load.specs.Readings.{adder_case}
 use Rattle.session_rules.specs.Items.{Item, line}
-use Rattle.diag_cli.specs.declared.loading.Summary.{Summary}
+use Rattle.diag_cli.specs.declared.summing.Summary.{Summary}
 use Rattle.device_files.specs.declared.status.Status.TheVariants.{Done}
 use Rattle.device_files.specs.declared.refusal.Refusal.{Refusal}
 use Rattle.device_files.specs.Output.{Output}
@@ -43,12 +43,12 @@ pub record IsInStep (summary : Summary) : Type 0 where
   pub first : length summary.first.items ≡ length summary.parts.items
   pub last : length summary.last.items ≡ length summary.parts.items
 
--- it tells what is told of a device with so many clauses, of which this was seen
+-- it has what is printed of a device with so many clauses, of which this was seen
 abbrev pub IsSummaryOf : Device → ℕ → ℕ → Summary → Type 0
 IsSummaryOf device clauses places summary =
     summary_lines (device_system device) clauses (adder_case device places) ≡ summary_items summary
 
--- a summary tells an output, and so does a refusal, if it is not want of memory
+-- a summary gives an output, and so does a refusal, if it is not want of memory
 abbrev pub Loads : Output → Result Summary Refusal → Type 0
 Loads output (Ok summary) = output ≡ summary_output summary
 Loads output (Err refusal) = IfSome (told_by refusal) (λ said. output ≡ said)

@@ -9,21 +9,16 @@ use Rattle.device_files.proofs.weighing.clauses_within.Goals as goal
 pub returns-in_err-cnf : goal.returns-in_err-cnf
 returns-in_err-cnf c =
     let p = err_from_is_err_and c.from_residual.result c.from_residual.ensures.1 in
-    rw (p.1, p.2) (by_any (λ choose. c.in_err-cnf.ensures.fault c.args.is_narrow choose c.args.budget))
-
-pub returns-in_err-forest : goal.returns-in_err-forest
-returns-in_err-forest c =
-    let p = err_from_is_err_and c.from_residual-in_err-forest.result c.from_residual-in_err-forest.ensures.1 in
-    rw (p.1, p.2) (by_any (λ choose. tt))
+    rw (p.1, p.2) (by_any (λ choose. c.in_err-cnf.ensures.fault choose c.args.budget))
 
 pub returns-in_err-sum : goal.returns-in_err-sum
 returns-in_err-sum c =
     let p = err_from_is_err_and c.from_residual-in_err-sum.result c.from_residual-in_err-sum.ensures.1 in
-    rw (p.1, p.2) (list_gives c.args.is_narrow c.args.device.now c.in_ok-cnf.cnf c.in_ok-forest.forest c.in_ok-cnf.ensures.list c.in_ok-forest.ensures
+    rw (p.1, p.2) (list_gives c.args.is_narrow c.args.device.now c.in_ok-cnf.cnf c.in_ok-cnf.forest c.in_ok-cnf.ensures.list c.in_ok-cnf.ensures.forest
     (λ clauses. IsExpectedFault (told_by c.in_err-sum.field-0.0) (within c.args.budget clauses)) c.in_err-sum.ensures.list)
 
 pub returns : goal.returns
 returns c =
-    list_gives c.args.is_narrow c.args.device.now c.in_ok-cnf.cnf c.in_ok-forest.forest c.in_ok-cnf.ensures.list c.in_ok-forest.ensures
+    list_gives c.args.is_narrow c.args.device.now c.in_ok-cnf.cnf c.in_ok-cnf.forest c.in_ok-cnf.ensures.list c.in_ok-cnf.ensures.forest
     (λ clauses. within c.args.budget clauses ≡ Ok (record { list = c.in_ok-cnf.cnf; sum = c.in_ok-sum.sum }))
     (λ sum has. c.in_ok-sum.ensures.list sum has ∙ ap (λ n. Ok (record { list = c.in_ok-cnf.cnf; sum = n })) (sym (c.in_ok-sum.ensures.sum sum has)))

@@ -1,4 +1,4 @@
-use Rattle.std.proofs.Common.{◌≡◌, ℕ, Ok, ap, refl, sym, subst, ◌∙◌, length, arith}
+use Rattle.std.proofs.Common.{ℕ, Ok, ap, refl, subst, length, arith}
 use Rattle.std.specs.Result.{result_and}
 use Rattle.std.proofs.lemmas.Result.{err_from_is_err_and}
 use Rattle.text_rules.specs.Expected.{Fulfils}
@@ -19,15 +19,10 @@ returns-in_err-cnf-clause-within c =
     let device = c.args.device.now in
     rw (p.1, p.2) (by_any (λ choose.
     fault_through (λ clauses. result_and (in_few_bits options.extras (length device.parts) clauses) (Ok device)) (λ output. refl) (told_by c.in_err-cnf.field-0.0)
-    (within options.budget (clauses_by options.narrow choose device)) (c.in_err-cnf.ensures.fault options.narrow choose options.budget)))
-
-pub returns-in_err-forest-clause-within : goal.returns-in_err-forest-clause-within
-returns-in_err-forest-clause-within c =
-    let p = err_from_is_err_and c.from_residual-in_err-forest.result c.from_residual-in_err-forest.ensures.1 in
-    rw (p.1, p.2) (by_any (λ choose. tt))
+    (within options.budget (clauses_by options.narrow choose device)) (c.in_err-cnf.ensures.fault choose options.budget)))
 
 pub compile_in_few_bits-requires-clause-sum : goal.compile_in_few_bits-requires-clause-sum
-compile_in_few_bits-requires-clause-sum c = has_sum c.in_ok-cnf.cnf c.args.options.narrow c.in_ok-forest.forest c.in_ok-forest.ensures
+compile_in_few_bits-requires-clause-sum c = has_sum c.in_ok-cnf.cnf c.args.options.narrow c.in_ok-cnf.forest c.in_ok-cnf.ensures.forest
 
 pub compile_in_few_bits-requires-clause-vars : goal.compile_in_few_bits-requires-clause-vars
 compile_in_few_bits-requires-clause-vars c = omega (arith, encoded-few_vars c.args.device.now c.in_ok-cnf.cnf c.parts.ensures.valid c.in_ok-cnf.ensures.list.encoded)
@@ -38,7 +33,7 @@ returns-clause-within c =
     let device = c.args.device.now in
     let cnf = c.in_ok-cnf.cnf in
     let result = c.compile_in_few_bits.result in
-    list_gives options.narrow device cnf c.in_ok-forest.forest c.in_ok-cnf.ensures.list c.in_ok-forest.ensures
+    list_gives options.narrow device cnf c.in_ok-cnf.forest c.in_ok-cnf.ensures.list c.in_ok-cnf.ensures.forest
     (λ clauses. Fulfils (λ _. device) told_by (result_and (in_few_bits options.extras (length device.parts) (within options.budget clauses)) (Ok device)) result)
     (λ sum has.
     let weighed : Weighed = record { list = cnf; sum = sum } in
@@ -47,7 +42,7 @@ returns-clause-within c =
 
 pub returns-clause-servable : goal.returns-clause-servable
 returns-clause-servable c =
-    let some = has_sum c.in_ok-cnf.cnf c.args.options.narrow c.in_ok-forest.forest c.in_ok-forest.ensures in
+    let some = has_sum c.in_ok-cnf.cnf c.args.options.narrow c.in_ok-cnf.forest c.in_ok-cnf.ensures.forest in
     let made = c.compile_in_few_bits.ensures in
     all_servable c.args.device.now c.in_ok-cnf.cnf c.in_ok-cnf.ensures.list c.parts.ensures.valid c.args.options.budget some.0 c.requires.budget c.compile_in_few_bits.result
     (made.within some.0 some.1) (made.graph some.0 some.1)

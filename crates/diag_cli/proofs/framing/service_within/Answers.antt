@@ -10,7 +10,7 @@ use Rattle.device_files.specs.Refusals.{told_by}
 use Rattle.device_files.proofs.Choosing.{by_any, has_sum}
 use Rattle.diag_cli.specs.Besides.{in_few_bits}
 use Rattle.diag_cli.proofs.FewBits.{fault_through}
-use Rattle.diag_cli.proofs.ServedFrames.{not_unrolled_told, unrolled_gives, many_parts, many_costs, frame_service}
+use Rattle.diag_cli.proofs.ServedFrames.{not_unrolled_told, unrolled_gives, many_parts, many_costs, frames_answer}
 use Rattle.diag_cli.proofs.framing.service_within.Goals as goal
 
 pub returns-in-Err-clause-within : goal.returns-in-Err-clause-within
@@ -95,8 +95,8 @@ returns-in-Ok-over-clause-service c =
     let options = c.args.options in
     let some = has_sum c.in-Ok.made.cnf options.narrow c.in_ok-forest.forest c.in_ok-forest.ensures in
     let costs = c.in_ok-costs.ensures.costs ∙ ap (λ ps. plain_costs (length ps)) c.parts-count.ensures.parts in
-    frame_service c.args.seq.now c.args.frames c.in-Ok.made c.in-Ok.ensures.unrolled c.in-Ok.ensures.valid c.in-Ok.ensures.describes
-    c.in_ok-graph.graph some.0 (omega (arith, c.in_ok-graph.ensures.within some.0 some.1, c.requires.options.budget)) (c.in_ok-graph.ensures.graph some.0 some.1)
+    frames_answer c.args.seq.now c.args.frames c.in-Ok.made c.in-Ok.ensures.unrolled c.in-Ok.ensures.valid c.in-Ok.ensures.describes
+    c.in_ok-graph.graph some.0 (c.in_ok-graph.ensures.graph some.0 some.1)
     options c.in_ok-costs.costs.items c.in-Ok-over.service costs
     (c.in-Ok-over.ensures ∙ (λ i. record {
       subject = record { parts = c.into_vec.ensures i; wires = c.into_vec-2.ensures i; costs = c.in_ok-costs.costs.items; graph = c.in_ok-graph.graph; extras = options.extras };

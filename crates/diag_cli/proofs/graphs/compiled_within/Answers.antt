@@ -4,7 +4,6 @@ use Rattle.text_rules.specs.Expected.{Fulfils}
 use Rattle.branch_states.specs.Branches.{sum_of}
 use Rattle.elimination_forests.specs.declared.steps.Weight.TheVariants.{Lists}
 use Rattle.elimination_forests.specs.Forests.{forest_sum}
-use Rattle.device_files.specs.Choices.{Weighed}
 use Rattle.device_files.specs.Refusals.{told_by}
 use Rattle.device_files.specs.Weighing.{within}
 use Rattle.diag_cli.specs.inner.Compiling.{IsGraphBy}

@@ -1,4 +1,3 @@
-use Rattle.std.proofs.Common.{◌≡◌, Ok, arith}
 use Rattle.std.proofs.lemmas.Result.{err_from_is_err_and}
 use Rattle.device_files.specs.Weighing.{within}
 use Rattle.device_files.proofs.Choosing.{by_any, has_sum, list_gives}
@@ -9,19 +8,14 @@ use Rattle.diag_cli.proofs.graphs.graph_within.Goals as goal
 pub returns-in_err-cnf : goal.returns-in_err-cnf
 returns-in_err-cnf c =
     let p = err_from_is_err_and c.from_residual.result c.from_residual.ensures.1 in
-    rw (p.1, p.2) (by_any (λ choose. c.in_err-cnf.ensures.fault c.args.is_narrow choose c.args.budget))
-
-pub returns-in_err-forest : goal.returns-in_err-forest
-returns-in_err-forest c =
-    let p = err_from_is_err_and c.from_residual-in_err-forest.result c.from_residual-in_err-forest.ensures.1 in
-    rw (p.1, p.2) (by_any (λ choose. tt))
+    rw (p.1, p.2) (by_any (λ choose. c.in_err-cnf.ensures.fault choose c.args.budget))
 
 pub compiled_within-requires-clause-sum : goal.compiled_within-requires-clause-sum
-compiled_within-requires-clause-sum c = has_sum c.in_ok-cnf.cnf c.args.is_narrow c.in_ok-forest.forest c.in_ok-forest.ensures
+compiled_within-requires-clause-sum c = has_sum c.in_ok-cnf.cnf c.args.is_narrow c.in_ok-cnf.forest c.in_ok-cnf.ensures.forest
 
 pub returns : goal.returns
 returns c =
     let of = c.in_ok-cnf.ensures.list in
-    list_gives c.args.is_narrow c.args.device.now c.in_ok-cnf.cnf c.in_ok-forest.forest of c.in_ok-forest.ensures (λ clauses. FindsGraph c.args.device.now (within c.args.budget clauses) c.compiled_within.result)
+    list_gives c.args.is_narrow c.args.device.now c.in_ok-cnf.cnf c.in_ok-cnf.forest of c.in_ok-cnf.ensures.forest (λ clauses. FindsGraph c.args.device.now (within c.args.budget clauses) c.compiled_within.result)
     (λ sum has. found_or_refused c.args.device.now c.in_ok-cnf.cnf of c.parts-parts.ensures.valid c.args.budget sum c.requires c.compiled_within.result
     (c.compiled_within.ensures.list sum has) (c.compiled_within.ensures.within sum has) (c.compiled_within.ensures.graph sum has))

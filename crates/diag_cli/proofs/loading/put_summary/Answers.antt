@@ -1,7 +1,7 @@
 use Rattle.std.proofs.Common.{◌∷◌, [], ◌∙◌, ℕ, List, codes, length, subst}
 use Rattle.session_rules.specs.Items.{Item}
 use Rattle.session_rules.specs.Spelling.{Writes, WritesPart}
-use Rattle.diag_cli.specs.declared.loading.Summary.{Summary}
+use Rattle.diag_cli.specs.declared.summing.Summary.{Summary}
 use Rattle.device_files.specs.Inspecting.{count_line}
 use Rattle.diag_cli.specs.inner.Loading.{found_items}
 use Rattle.device_files.proofs.Failing.{replies_then, replies_cut}

@@ -1,4 +1,4 @@
-use Rattle.std.proofs.Common.{false, Ok, None, sym, subst, arith}
+use Rattle.std.proofs.Common.{false, None, sym, subst, arith}
 use Rattle.std.specs.Result.{result_map_both}
 use Rattle.std.proofs.lemmas.Result.{err_from_is_err_and}
 use Rattle.text_rules.specs.Expected.{IsExpectedFault}

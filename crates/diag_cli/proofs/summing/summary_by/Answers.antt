@@ -1,12 +1,13 @@
-use Rattle.std.proofs.Common.{◌≡◌, ℕ, List, length, refl, sym, ◌∙◌, ap, subst}
+use Rattle.std.proofs.Common.{◌≡◌, ℕ, List, Vec, Global, length, refl, sym, ◌∙◌, ap, subst, subst₂}
 use Rattle.std.proofs.lemmas.List.{length-replicate}
 use Rattle.fault_graph.specs.Distilled.{Serves}
 use Rattle.device_model.specs.Devices.{part_costs}
 use Rattle.adder_load.specs.Readings.{adder_case}
 use Rattle.session_rules.specs.GraphSystems.{case_words}
-use Rattle.diag_cli.specs.declared.loading.Summary.{Summary}
+use Rattle.diag_cli.specs.declared.summing.Summary.{Summary}
+use Rattle.diag_cli.specs.inner.Loading.{IsSummaryOf}
 use Rattle.diag_cli.proofs.LoadedAdders.{summary_is}
-use Rattle.diag_cli.proofs.loading.summary_by.Goals as goal
+use Rattle.diag_cli.proofs.summing.summary_by.Goals as goal
 
 pub sample-found-requires-clause-serves : goal.sample-found-requires-clause-serves
 sample-found-requires-clause-serves g c =
@@ -24,13 +25,15 @@ returns-clause-summary g c =
     let long : length c.in_ok-memory.memory.words.items ≡ graph.vars = ap length c.in_ok-memory.ensures.words ∙ length-replicate graph.vars 0 in
     let noted : words ≡ case_words graph.vars (adder_case device places) = c.note.ensures.case ∙ ap (λ n. case_words n (adder_case device places)) long in
     let found = c.sample-found.ensures in
-    let summary : Summary = record {
+    let states = c.states-first.ensures in
+    let summary : Vec ℕ Global → Vec ℕ Global → Summary = λ first last. record {
       parts = c.in_ok-parts.parts;
       wires = c.len-2.result;
       clauses = c.args.clauses;
       found = c.sample-found.result;
-      first = c.sample-found.new.self.first;
-      last = c.sample-found.new.self.last;
+      first = first;
+      last = last;
     } in
-    summary_is device graph places words costs c.requires.graph priced many noted c.args.clauses summary c.in_ok-parts.wires.items
-    c.in_ok-parts.ensures.parts c.in_ok-parts.ensures.wires (c.len-2.ensures ∙ c.in_ok-parts.wires.ok.0) refl found.least found.listed found.first found.last
+    subst₂ (λ first last. IsSummaryOf device c.args.clauses places (summary first last)) (sym states.first) (sym states.last)
+    (summary_is device graph places words costs c.requires.graph priced many noted c.args.clauses (summary c.sample-found.new.self.first c.sample-found.new.self.last) c.in_ok-parts.wires.items
+    c.in_ok-parts.ensures.parts c.in_ok-parts.ensures.wires (c.len-2.ensures ∙ c.in_ok-parts.wires.ok.0) refl found.least found.listed found.first found.last)

@@ -1,0 +1,31 @@
+use Rattle.std.proofs.Common.{sym, subst}
+use Rattle.std.proofs.lemmas.Result.{err_from_is_err_and}
+use Rattle.device_files.specs.Choices.{clauses_by}
+use Rattle.device_files.specs.Describing.{described}
+use Rattle.device_files.specs.Refusals.{told_by}
+use Rattle.device_files.proofs.Choosing.{by_any, by_same}
+use Rattle.device_files.proofs.Refusing.{refused_then}
+use Rattle.diag_cli.specs.Courses.{if_within, served_device, served_or_refused}
+use Rattle.diag_cli.specs.inner.Serving.{IsFor}
+use Rattle.diag_cli.proofs.Services.{refused_for, service_for, none_open}
+use Rattle.diag_cli.proofs.devices.device_service.Goals as goal
+
+pub returns-in_err-device-clause-course : goal.returns-in_err-device-clause-course
+returns-in_err-device-clause-course c =
+    let p = err_from_is_err_and c.from_residual.result c.from_residual.ensures.1 in
+    let fault = told_by c.in_err-device.field-0.0 in
+    let options = c.args.options in
+    rw (p.1, p.2) (by_any (λ choose.
+    refused_for (served_device options) options.sessions (if_within options (clauses_by options.narrow choose) (described c.args.path.now c.args.file.now)) fault (refused_then _ _ fault c.in_err-device.ensures)))
+
+pub returns-clause-course : goal.returns-clause-course
+returns-clause-course c =
+    let made = c.service_within.ensures in
+    let options = c.args.options in
+    let device = c.in_ok-device.device in
+    by_same made.within (λ choose within.
+    subst (λ found. IsFor (served_or_refused (served_device options) options.sessions (if_within options (clauses_by options.narrow choose) found)) c.service_within.result) (sym c.in_ok-device.ensures)
+    (service_for (served_device options) options.sessions _ (λ service. device) c.service_within.result within made.service))
+
+pub returns-clause-none_open : goal.returns-clause-none_open
+returns-clause-none_open c = none_open (λ service. served_device c.args.options c.in_ok-device.device) c.args.options.sessions c.service_within.result c.service_within.ensures.service

@@ -1,0 +1,33 @@
+use Rattle.std.proofs.Common.{sym, subst}
+use Rattle.std.proofs.lemmas.Result.{err_from_is_err_and}
+use Rattle.device_files.specs.Choices.{weighed_by}
+use Rattle.device_files.specs.Refusals.{told_by}
+use Rattle.device_files.proofs.Choosing.{by_any, by_same}
+use Rattle.device_files.proofs.Refusing.{refused_then}
+use Rattle.diag_cli.specs.Courses.{served_frames, served_or_refused}
+use Rattle.diag_cli.specs.Frames.{sequential_in, if_unrolled}
+use Rattle.diag_cli.specs.inner.Serving.{IsFor}
+use Rattle.diag_cli.proofs.Services.{refused_for, service_for, none_open}
+use Rattle.diag_cli.proofs.framing.frame_service.Goals as goal
+
+pub returns-in_err-seq-clause-course : goal.returns-in_err-seq-clause-course
+returns-in_err-seq-clause-course c =
+    let p = err_from_is_err_and c.from_residual.result c.from_residual.ensures.1 in
+    let fault = told_by c.in_err-seq.field-0.0 in
+    let options = c.args.options in
+    let frames = c.args.frames in
+    rw (p.1, p.2) (by_any (λ choose.
+    refused_for (served_frames frames options) options.sessions (if_unrolled frames options (weighed_by options.narrow choose) (sequential_in c.args.file.now)) fault (refused_then _ _ fault c.in_err-seq.ensures.read)))
+
+pub returns-clause-course : goal.returns-clause-course
+returns-clause-course c =
+    let made = c.service_within.ensures in
+    let options = c.args.options in
+    let frames = c.args.frames in
+    let seq = c.in_ok-seq.seq in
+    by_same made.within (λ choose within.
+    subst (λ found. IsFor (served_or_refused (served_frames frames options) options.sessions (if_unrolled frames options (weighed_by options.narrow choose) found)) c.service_within.result) (sym c.in_ok-seq.ensures.read)
+    (service_for (served_frames frames options) options.sessions _ (λ service. seq) c.service_within.result within made.service))
+
+pub returns-clause-none_open : goal.returns-clause-none_open
+returns-clause-none_open c = none_open (λ service. served_frames c.args.frames c.args.options c.in_ok-seq.seq) c.args.options.sessions c.service_within.result c.service_within.ensures.service

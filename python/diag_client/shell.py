@@ -429,7 +429,7 @@ class Shell(cmd.Cmd):
 
 
 def in_words(reply: str) -> str:
-    """A reply, as a person is told."""
+    """A reply, as a person reads it."""
     return f"{reply} (nothing is wrong)" if reply in NOTHING_WRONG else reply
 
 

@@ -20,6 +20,9 @@ LONGEST_NAME = 32
 MOST_PORTS = 6
 # So many wires are on a line of a design.
 WIRES_ON_A_LINE = 12
+# How the files that are made here begin and end in their first lines.
+MADE, MADE_BY = "# Made of ", " by diag-netlist."
+NAMES = "# The name here, and the name in the file that it was made of."
 TYPE_NAMES = {(len(letters), table): name for name, (letters, table) in TABLES.items()}
 TOP = "TOP"
 
@@ -77,7 +80,7 @@ def check_types(circuit: Circuit, is_bench_wanted: bool) -> list[Node]:
 
 def bench_text(circuit: Circuit, names: dict[str, str], title: str) -> str:
     """The circuit as a netlist."""
-    lines = [f"# {title}"]
+    lines = [title]
     lines += [f"INPUT({names[name]})" for name in circuit.inputs]
     lines += [f"OUTPUT({name})" for name in dict.fromkeys(names[circuit.find(name)] for name in circuit.outputs)]
     lines += [f"{names[output]} = DFF({names[reads]})" for output, reads in circuit.flip_flops.items()]
@@ -98,7 +101,7 @@ def type_lines(node: Node) -> list[str]:
 
 def design_text(circuit: Circuit, special: Sequence[Node], names: dict[str, str], title: str) -> str:
     """The circuit as a design of one block, whose ports are the inputs and outputs."""
-    lines = [f"# {title}"]
+    lines = [title]
     for node in {type_of(node): node for node in special}.values():
         lines += type_lines(node)
     ports = list(dict.fromkeys([names[name] for name in circuit.inputs] + [names[circuit.find(name)] for name in circuit.outputs]))
@@ -113,7 +116,7 @@ def design_text(circuit: Circuit, special: Sequence[Node], names: dict[str, str]
 
 def table_text(circuit: Circuit, names: dict[str, str]) -> str:
     """What names were replaced, and what was left out."""
-    lines = ["# The name here, and the name in the file that it was made of."]
+    lines = [NAMES]
     for name in dict.fromkeys([*circuit.driven, *circuit.joined]):
         wire = circuit.find(name)
         if wire in names and names[wire] != name:
@@ -139,8 +142,17 @@ def write_whole(path: pathlib.Path, text: str) -> None:
             raise
 
 
+def is_made_here(path: pathlib.Path) -> bool:
+    """Whether a file was made by `convert`, by its first line."""
+    with path.open(encoding="utf-8", errors="surrogateescape") as file:
+        line = file.readline().rstrip("\n")
+    return line == NAMES or (line.startswith(MADE) and line.endswith(MADE_BY))
+
+
 def convert(path: pathlib.Path, out: pathlib.Path | None = None) -> list[str]:
-    """Converts a file, and says what was written. Without `out` the new file has the old name with another ending."""
+    """Converts a file, and says what was written. Without `out` the new file has the old name with another ending, and no file is replaced
+    that was not made so.
+    """
     if out is not None and out.suffix not in (".bench", ".dev"):
         raise UnusableNetlist(f"the name of {out} does not end in .bench or .dev")
     circuit = read_circuit(path)
@@ -148,15 +160,18 @@ def convert(path: pathlib.Path, out: pathlib.Path | None = None) -> list[str]:
     is_design = bool(special) or (out is not None and out.suffix == ".dev")
     if is_design and circuit.flip_flops:
         raise UnusableNetlist("a design (.dev) has no flip-flops: let OUT end in .bench")
-    if out is None:
-        out = path.with_suffix(".dev" if is_design else ".bench")
+    is_named = out is not None
+    out = out or path.with_suffix(".dev" if is_design else ".bench")
     if out.exists() and out.samefile(path):
-        out = path.with_name(f"{path.stem}-diag{out.suffix}")
+        is_named, out = False, path.with_name(f"{path.stem}-diag{out.suffix}")
+    table = out.with_name(out.name + ".names")
+    for file in (out, table):
+        if not is_named and file.exists() and not is_made_here(file):
+            raise UnusableNetlist(f"{file} is there, and diag-netlist has not made it: give another name by -o, or this one to replace it")
     names = new_names(circuit, is_design)
-    title = f"Made of {' '.join(path.name.split())} by diag-netlist."
+    title = f"{MADE}{' '.join(path.name.split())}{MADE_BY}"
     write_whole(out, design_text(circuit, special, names, title) if is_design else bench_text(circuit, names, title))
     said = [f"{out}: {len(circuit.nodes)} gates, {len(circuit.flip_flops)} flip-flops, {len(circuit.inputs)} inputs"]
-    table = out.with_name(out.name + ".names")
     text = table_text(circuit, names)
     if text.count("\n") > 1:
         write_whole(table, text)

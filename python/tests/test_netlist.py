@@ -286,6 +286,22 @@ class ByHand(Converts):
         self.assertEqual(path.name, "x-diag.bench")
         self.assertEqual(path.read_text().split("\n")[1:], ["INPUT(a)", "OUTPUT(q)", "q = DFF(d)", "d = XOR(a, q)", "z = BUFF(a)", ""])
 
+    def test_other_files_stay(self):
+        """What it has made itself it makes anew; a file that somebody else has written stays, unless OUT names it."""
+        text, own = ".model m\n.inputs a b\n.outputs y\n.names a b y\n11 1\n.end\n", "y = AND(a, b) # by hand\n"
+        made, _ = self.convert(text)
+        self.assertEqual(self.convert(text)[0], made)
+        names = self.folder / "given.bench.names"
+        for file in (made, names):
+            file.write_text(own)
+        self.assertIn("given.bench", self.refused(text))
+        self.assertEqual([made.read_text(), names.read_text()], [own, own])
+        made.unlink()
+        self.assertIn("given.bench.names", self.refused(text))
+        self.assertEqual(names.read_text(), own)
+        self.convert(text, out="given.bench")
+        self.assertIn("AND(a, b)\n", made.read_text())
+
     def test_command(self):
         words = [sys.executable, "-m", "diag_client.netlist", VERILOG / "gray.blif", "-o", self.folder / "gray.bench"]
         done = subprocess.run(words, capture_output=True, text=True, env={**os.environ, "PYTHONPATH": str(TOP / "python")}, check=True)

@@ -3,14 +3,13 @@
 from __future__ import annotations
 
 import argparse
-import os
 import pathlib
 import re
 import sys
-import tempfile
 from collections.abc import Sequence
 
 from .errors import DiagError, sentence
+from .files import write_whole
 from .netlist_circuit import Circuit, Node, UnusableNetlist, kind_of
 from .netlist_readers import READERS, TABLES, TO_PLAIN_CELLS
 
@@ -125,23 +124,6 @@ def table_text(circuit: Circuit, names: dict[str, str]) -> str:
     return "\n".join(lines) + "\n"
 
 
-def write_whole(path: pathlib.Path, text: str) -> None:
-    """Writes a file whole, or leaves it as it was."""
-    with tempfile.NamedTemporaryFile(
-        "w", dir=path.parent, prefix=f".{path.name}.", delete=False, encoding="utf-8", errors="surrogateescape"
-    ) as file:
-        try:
-            file.write(text)
-            file.close()
-            umask = os.umask(0)
-            os.umask(umask)
-            os.chmod(file.name, 0o666 & ~umask)
-            os.replace(file.name, path)
-        except BaseException:
-            os.unlink(file.name)
-            raise
-
-
 def is_made_here(path: pathlib.Path) -> bool:
     """Whether a file was made by `convert`, by its first line."""
     with path.open(encoding="utf-8", errors="surrogateescape") as file:
@@ -170,11 +152,12 @@ def convert(path: pathlib.Path, out: pathlib.Path | None = None) -> list[str]:
             raise UnusableNetlist(f"{file} is there, and diag-netlist has not made it: give another name by -o, or this one to replace it")
     names = new_names(circuit, is_design)
     title = f"{MADE}{' '.join(path.name.split())}{MADE_BY}"
-    write_whole(out, design_text(circuit, special, names, title) if is_design else bench_text(circuit, names, title))
+    made = design_text(circuit, special, names, title) if is_design else bench_text(circuit, names, title)
+    write_whole(out, made.encode("utf-8", "surrogateescape"))
     said = [f"{out}: {len(circuit.nodes)} gates, {len(circuit.flip_flops)} flip-flops, {len(circuit.inputs)} inputs"]
     text = table_text(circuit, names)
     if text.count("\n") > 1:
-        write_whole(table, text)
+        write_whole(table, text.encode("utf-8", "surrogateescape"))
         said.append(f"{table}: {sum(line[:1] != '#' for line in text.splitlines())} names that were replaced")
     else:
         table.unlink(missing_ok=True)

@@ -86,7 +86,7 @@ addEventListener("keydown", () => { pressed = null; }, true);
 function ask(act) {
   const seen = { tab, version: pressed ?? state?.version };
   queue = queue.then(async () => {
-    const got = await post("do", { ...seen, ...act });
+    const got = await post("do", { ...seen, ...act }, act.act === "state");
     if (got && got.version !== undefined) await show(got);
   });
   return queue;

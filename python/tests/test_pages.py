@@ -116,6 +116,10 @@ def codes(cell):
 class Tables(unittest.TestCase):
     """What several pages say of one thing is the same, and is what the help and the client say."""
 
+    def test_every_command_has_an_example(self):
+        shown = {line.split()[0] for line in (TOP / "examples/c17_commands.script").read_text().splitlines() if line}
+        self.assertLessEqual(manual.usages().keys(), shown)
+
     def test_statuses(self):
         told = [entry.head for section in manual.read_help() if section.title == "Exit statuses" for entry in section.entries]
         self.assertEqual([*dict.fromkeys(status for status, *_ in table("docs/SCRIPT.md", "How a run ends"))], told)

@@ -28,6 +28,9 @@ OFTEN = {b"close": 1, b"see": 16, b"hold": 3, b"min": 8, b"next": 10, b"list": 6
          b"level": 0, b"levels": 0, b"leastnnf": 0}
 WITH_OPTION = {b"level": ("--levels", 8), b"levels": ("--levels", 8), b"after": ("--levels", 4), b"leastnnf": ("--least", 8)}
 LEVELS_LIMIT = LIMITS["levels"][1]
+# Numbers that are tried with an option, if not the least and the greatest. Some options have a function of their own.
+NUMBERS = {"--sessions": [1, 1, 2, 3, 1024]}
+CHOSEN = ("--frames", "--budget", "--levels")
 LEVELS = [0, 1, 1, 2, 2, 2, 3, 3, 5, 9, 31, 32, 63, 64, 999, 1000, 3003]
 
 
@@ -245,11 +248,11 @@ def options(r, form, sum, times=0, vars=0):
     # over several times a budget is all that shows the sum
     if "--budget" in takes and chance(r, 60 if times else 30):
         found.append(["--budget", str(max(1, r.choice([sum - 1, sum - 1, sum, sum, sum, sum + 1, sum // 2, 8388608, 1])))])
-    if "--sessions" in takes and chance(r, 40):
-        found.append(["--sessions", str(r.choice([1, 1, 2, 3, 1024]))])
     if "--levels" in takes and chance(r, 35):
         found.append(levels_option(r, nodes_within(sum, vars)))
-    found += [[option] for option, number in takes.items() if not number and chance(r, 30)]
+    for option, number in takes.items():
+        if option not in CHOSEN and chance(r, 40 if number else 30):
+            found.append([option, *([str(r.choice(NUMBERS.get(option) or LIMITS[option[2:]]))] if number else [])])
     r.shuffle(found)
     words = [word for option in found for word in option]
     if chance(r, 2):

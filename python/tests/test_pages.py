@@ -72,7 +72,8 @@ class Written(unittest.TestCase):
             found = manual.sections((top / "python/diag_client/help.txt").read_text())
             entries = {entry.head: entry for section in found for entry in section.entries}
             self.assertEqual(entries["diag tell FILE"].text, "tells what; prints 1000; --narrow may follow")
-            self.assertIn(("--wide N", "is wide; from 2 to 3000; 2500 if none is given"), [(it.head, it.text) for it in found[0].entries[0].options])
+            options = {option.head: option.text for option in entries["diag serve FILE"].options}
+            self.assertEqual(options["--wide N"], "is wide; from 2 to 3000; 2500 if none is given")
             self.assertEqual(entries["dance S w"].text, "dances; w is a wire")
             self.assertIn("| `diag tell FILE` | tells what |\n| `diag check FILE`", (top / "README.md").read_text())
             self.assertIn("diag tell FILE [\\-\\-narrow]", (top / "docs/diag.1").read_text())

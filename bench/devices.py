@@ -1,6 +1,6 @@
 """Devices that are measured, as texts of netlists. Each function gives the text of a device of a size.
 
-The gates of most stand, by their names, in an order in which they are wired together. `by_tool` names them by kind and number, as tools
+The names of most put the gates in an order in which they are wired together. `by_tool` names them by kind and number, as tools
 do it, and `at_random` in no order.
 """
 
@@ -207,13 +207,13 @@ def counter(bits):
 
 
 def shift_register(stages):
-    """Flip-flops in a row, of which the last one and that in the middle are outputs."""
+    """Flip-flops in a row. The last one and the one in the middle are outputs."""
     lines = [f"stage{stage + 1:02} = DFF({f'stage{stage:02}' if stage else 'in'})" for stage in range(stages)]
     return netlist(["in"], [f"OUTPUT(stage{stages // 2:02})", f"OUTPUT(stage{stages:02})"] + lines)
 
 
 def side_by_side(count, text):
-    """So many of a device, each with names of its own. What stands before a bracket is no name."""
+    """So many of a device, each with names of its own. What comes before a bracket is no name."""
     return b"".join(re.sub(rb"\b(\w+)\b(?!\()", b"m%02d_\\1" % copy, text) for copy in range(count))
 
 

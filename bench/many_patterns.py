@@ -82,7 +82,7 @@ def solved(ground, *options):
 
 
 class Board:
-    """A netlist, its gates in an order in which each stands below those that it reads."""
+    """A netlist, each gate after those that it reads."""
 
     def __init__(self, file):
         device = read_device(file)
@@ -96,7 +96,7 @@ class Board:
                 del left[part.name]
 
     def patterns(self, chance, faults, count):
-        """Of each pattern the bits of inputs and outputs, where some parts put out the opposite, one bit always, or bits at random."""
+        """The bits of inputs and outputs of each pattern, if some parts put out the opposite, one bit always, or bits at random."""
         faulty = {name: chance.choice(["opposite", "0", "1", "random"]) for name, _, _ in chance.sample(self.gates, faults)}
         return sorted(faulty), [self.pattern(chance, faulty) for _ in range(count)]
 

@@ -1,9 +1,9 @@
-# Completion of `diag` for bash: `source completions/diag.bash`. What may stand where is what `diag --help` says, which is asked at each
-# completion: that of the checkout in which this file stands, or else of what was typed.
+# Completion of `diag` for bash: `source completions/diag.bash`. It offers what `diag --help` says, which is asked at each completion:
+# the one of the checkout that this file is in, or else of the command that was typed.
 
 _diag_launcher=$(dirname "$(dirname "$(readlink -f "${BASH_SOURCE[0]}")")")/diag
 
-# A line for each form: the form, how many words stand before its options, the endings of its FILE, and its options, with `=` behind those
+# A line for each form: the form, how many words come before its options, the endings of its FILE, and its options, with `=` after those
 # that take a number: `ask|4|.nnf |--sessions= `.
 _diag_forms() {
   local launcher=$_diag_launcher
@@ -27,7 +27,7 @@ _diag_forms() {
       $1 = $1
       said[form] = said[form] " " $0
     }
-    # What is said of FILE is said of all forms above that take one, up to those of which it is said already.
+    # What is said of FILE holds for all forms above that take one, up to those that have it already.
     END {
       for (form = forms; form; form--) {
         text = said[form]
@@ -36,7 +36,7 @@ _diag_forms() {
       }
       for (form = 1; form <= forms; form++) print line[form]
     }
-    # What in a text looks so, each once, with a blank behind it.
+    # What in a text looks so, each once, with a blank after it.
     function all(text, pattern,    found, it) {
       found = " "
       while (match(text, pattern)) {
@@ -71,9 +71,9 @@ _diag() {
     done < <(compgen -f -- "$word")
     return
   fi
-  # A number, as HEALTH behind the file of `ask`, and that behind an option, nobody but the user knows.
+  # A number, such as HEALTH after the file of `ask` or that of an option, is for the user to know.
   if [ "$COMP_CWORD" -lt "$place" ] || [[ " $options" == *" ${COMP_WORDS[COMP_CWORD - 1]}= "* ]]; then return; fi
-  # Each option stands at most once.
+  # Each option is given at most once.
   options=" ${options//=/}"
   for given in "${COMP_WORDS[@]:2:COMP_CWORD-2}"; do
     options=${options/" $given "/ }

@@ -15,7 +15,7 @@ from rules.texts import Refused
 NAMES = [b"a", b"b", b"c", b"a1", b"a-1", b"a.1", b"10", b"2", b"22", b"INPUT", b"and", b"AND", b"x[0]", b"~", b"!y", b"Z", b"z" * 64,
          b"a@", b"a@0001"]
 PLAIN_NAMES = [name for name in NAMES if b"." not in name and name != b"AND"]
-# What may stand where a byte is broken.
+# What may replace a byte that is broken.
 BYTES = b"(),=# \t\r\n\x0b\0.-+_~\x7f\x80\xff019aALOn"
 PARITIES = [word for word, gate in GATES.items() if gate.reduction is Reduction.ODD_ONES]
 VARIABLES = 17
@@ -28,6 +28,9 @@ OFTEN = {b"close": 1, b"see": 16, b"hold": 3, b"min": 8, b"next": 10, b"list": 6
          b"level": 0, b"levels": 0, b"leastnnf": 0}
 WITH_OPTION = {b"level": ("--levels", 8), b"levels": ("--levels", 8), b"after": ("--levels", 4), b"leastnnf": ("--least", 8)}
 LEVELS_LIMIT = LIMITS["levels"][1]
+# Numbers that are tried with an option, if not the least and the greatest. Some options have a function of their own.
+NUMBERS = {"--sessions": [1, 1, 2, 3, 1024]}
+CHOSEN = ("--frames", "--budget", "--levels")
 LEVELS = [0, 1, 1, 2, 2, 2, 3, 3, 5, 9, 31, 32, 63, 64, 999, 1000, 3003]
 
 
@@ -36,7 +39,7 @@ def chance(r, percent):
 
 
 def spaced(r, tokens):
-    """Tokens with blanks between them, or none where marks need none."""
+    """Tokens with blanks between them, or none if marks need none."""
     gap = r.choice([b"", b" ", b" ", b"\t ", b"\r"])
     return gap.join(tokens)
 
@@ -132,7 +135,7 @@ def number(r, value):
 
 
 def graph(r, most):
-    """A graph of few variables, mostly decomposable, of which the greatest is at most so much."""
+    """A graph of few variables, mostly decomposable. The greatest variable is at most so much."""
     vars = r.randint(0, most)
     mentionable = [r.randint(1, vars) for _ in range(9)] if vars else []
     lines, below, kids = [], [], 0
@@ -245,11 +248,11 @@ def options(r, form, sum, times=0, vars=0):
     # over several times a budget is all that shows the sum
     if "--budget" in takes and chance(r, 60 if times else 30):
         found.append(["--budget", str(max(1, r.choice([sum - 1, sum - 1, sum, sum, sum, sum + 1, sum // 2, 8388608, 1])))])
-    if "--sessions" in takes and chance(r, 40):
-        found.append(["--sessions", str(r.choice([1, 1, 2, 3, 1024]))])
     if "--levels" in takes and chance(r, 35):
         found.append(levels_option(r, nodes_within(sum, vars)))
-    found += [[option] for option, number in takes.items() if not number and chance(r, 30)]
+    for option, number in takes.items():
+        if option not in CHOSEN and chance(r, 40 if number else 30):
+            found.append([option, *([str(r.choice(NUMBERS.get(option) or LIMITS[option[2:]]))] if number else [])])
     r.shuffle(found)
     words = [word for option in found for word in option]
     if chance(r, 2):
@@ -276,7 +279,7 @@ class Case:
 
 
 def known_of(read, text):
-    """What a text gives, where it gives something."""
+    """What a text gives, if it gives something."""
     try:
         return read(text)
     except Refused:
@@ -284,7 +287,7 @@ def known_of(read, text):
 
 
 def made_device(r):
-    """A text of a device that is small where it is read, the device, and the ending of its language."""
+    """A text, the device if it is one, which is then small, and the ending of its language."""
     while True:
         make, read, ending = r.choice([(netlist, netlists.read, ".bench"), (design, designs.read, ".dev")])
         # now and then with a flip-flop, which is refused
@@ -319,13 +322,13 @@ def describing(r, form):
     file, vars = "f" + ending, clauses_of(device)[1] if device else 0
     times = r.randint(1, 64) if (form != "serve" or ending == ".dev") and chance(r, 3) else 0
     words = [form, file, *options(r, form, sum, times, vars)]
-    # much is faulty where it is asked for what is next best, or for a graph of many diagnoses
+    # much is faulty if the script asks for dearer sets, or for a graph of many diagnoses
     looks = r.choice([0, 30, 60]) if {"--levels", "--least"} & {*words} else 0
     return Case(words, {file: text}, script(r, parts, wires, looks, words) if form == "serve" else b"")
 
 
 def doubtful(r):
-    """A case of many diagnoses: rows of buffers, of which some cost more than others, and each is seen wrong at its end."""
+    """A case of many diagnoses: rows of buffers, some of which cost more than others. Each row is seen wrong at its end."""
     rows = r.choice([[2, 2, 3], [3, 3], [2, 4], [1, 2, 3], [6], [3, 4], [7]])
     names = r.sample([name for name in PLAIN_NAMES if name not in (b"D", b"M")], sum(rows) + len(rows))
     ends, lines, wrong = [*names], [], []
@@ -363,7 +366,7 @@ def brimming(r):
 
 
 def times_for(r, device):
-    """A number of times with which a netlist is small, and its sum over these; 0 where it is never small."""
+    """A number of times with which a netlist is small, and its sum over these; 0 if it is never small."""
     fitting = [times for times in range(1, r.choice([3, 8, 64]) + 1) if frames.steps_of(device, times) <= STEPS]
     times = r.choice(fitting or [0])
     while times:

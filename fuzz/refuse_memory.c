@@ -1,5 +1,5 @@
 /* Preloaded into a program, it refuses requests for memory: with REFUSE=N in the environment the request of that number, and with
- * REFUSE_FROM=N that one and all behind it. With COUNT=FILE it writes to FILE how many requests there were. */
+ * REFUSE_FROM=N that one and all after it. With COUNT=FILE it writes to FILE how many requests there were. */
 #include <errno.h>
 #include <stdio.h>
 #include <stdlib.h>

@@ -12,7 +12,7 @@ sys.dont_write_bytecode = True
 from rules.pieces import Bits, Graph, complaint
 from rules.runs import TooLarge, asked_by, bits_for_node, wanted
 
-# b is c where part b is ok, and c is a where part c is.
+# Wire b is a if part b is ok, and c is b if part c is.
 BUFFERS = b"INPUT(a)\nb = BUFF(a)\nc = BUFF(b)\n"
 ONE_ROW = b"type T p\nok 1\nbad 0\nend\nblock M p\npart u T p\nend\ntop M\n"
 # Something was seen that no state explains.
@@ -57,7 +57,7 @@ class Rows(unittest.TestCase):
     def test_one_point(self):
         script = [b"open S", b"see S a=0", b"see S c=1", b"next S", b"level S", b"level S", b"next S", b"hold S b=bad", b"level S"]
         pieces, _ = served(BUFFERS, script, "--levels", "9")
-        # behind the state of both parts stand both diagnoses
+        # both diagnoses come after the state of both parts
         self.told(pieces, b"ready 2 3", b"S open", b"S ok", b"S ok", b"S diag b", b"S level 1 c", b"S level 2 b c", b"S diag b", b"S ok",
                   b"S level 1 b")
 

@@ -45,7 +45,7 @@ def takes_arguments(kind, count):
 
 
 class Reader:
-    """What was closed above a line, what is open, and the top. The tests of a line stand in the order of their numbers."""
+    """What was closed above a line, what is open, and the top. The tests of a line are in the order of their numbers."""
 
     def __init__(self):
         self.kinds = dict(GATE_NAMES)

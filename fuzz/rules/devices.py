@@ -62,7 +62,7 @@ class Device:
         return [part.kind.cost if isinstance(part.kind, Type) else 1 for part in self.parts]
 
     def wire_variable(self, wire):
-        """Variables are counted from 1: first the parts, each true where it is ok, then the wires."""
+        """Variables are counted from 1: first the parts, each true if it is ok, then the wires."""
         return len(self.parts) + self.places[wire] + 1
 
     def fits(self):

@@ -19,7 +19,7 @@ def is_flip_flop(part):
 
 
 def copy_at(part, time):
-    """The name has the time first, so that copies in the order of their names stand by time and then as their parts do."""
+    """The name has the time first, so that the order of the copies' names is by time and then by part."""
     *inputs, output = part.wires
     before = time - 1 if is_flip_flop(part) else time
     return Part(b"%04d@" % time + part.name, "BUFF" if is_flip_flop(part) else part.kind,
@@ -67,7 +67,7 @@ class TimedNetlist:
         return clauses_of(copies)[1] - len(copies.parts) + len(self.device.parts)
 
     def clauses(self):
-        """Those of the device of all copies, in which the health of its part stands for that of a copy."""
+        """Those of the device of all copies, in which the health of a copy is that of its part."""
         parts, copies = self.device.part_names(), self.copies()
         owners = [parts.index(name.split(b"@", 1)[1]) + 1 for name in copies.part_names()]
 

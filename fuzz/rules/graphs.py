@@ -74,7 +74,7 @@ def read(text):
 
 
 def variables_below(nodes):
-    """Of each node the variables that stand at or below it."""
+    """The variables at or below each node."""
     below = []
     for node in nodes:
         below.append({abs(node.number)} if node.kind == "L" else set().union(*(below[kid] for kid in node.kids)))
@@ -128,14 +128,14 @@ def projected(nodes, parts, held, seen):
         if variable not in known:
             return Node("L", number) if variable <= parts else Node("A")
         return Node("A") if known[variable] == (number > 0) else Node("O")
-    behind = [literal(node.number) if node.kind == "L" else node for node in nodes]
+    kept = [literal(node.number) if node.kind == "L" else node for node in nodes]
     literals = [Node("L", part if held[part] else -part) for part in sorted(held)]
     kids = (len(nodes) - 1, *range(len(nodes), len(nodes) + len(held)))
-    return behind + literals + [Node("A", 0, kids)]
+    return kept + literals + [Node("A", 0, kids)]
 
 
 def cut_text(out):
-    """One text without blank lines from the front of what was written, as its header says, and the rest; none where there is none."""
+    """One text without blank lines from the front of what was written, as its header says, and the rest; none if there is none."""
     head = re.match(rb"nnf ([0-9]{1,10}) [0-9]+ [0-9]+\n", out)
     if not head:
         return None

@@ -33,7 +33,7 @@ def is_word(token):
 
 
 def arguments_of(tokens):
-    """The words of `( a1 , .. , ak )`, k at least 0; none where it has not this form."""
+    """The words of `( a1 , .. , ak )`, k at least 0; none if it has not this form."""
     if len(tokens) < 2 or tokens[0] != b"(" or tokens[-1] != b")":
         return None
     inner = tokens[1:-1]
@@ -68,7 +68,7 @@ def statement_of(number, tokens, takes_flip_flops):
 
 
 def read(text, takes_flip_flops=False):
-    """The device of a netlist, or its first fault. Flip-flops, where they are taken, are parts of a kind that is no gate."""
+    """The device of a netlist, or its first fault. Flip-flops, if they are taken, are parts of a kind that is no gate."""
     numbered = enumerate(map(tokens_of, lines_of(text)), 1)
     statements = [statement_of(number, tokens, takes_flip_flops) for number, tokens in numbered if tokens]
     outside, gates = set(), set()

@@ -1,4 +1,4 @@
-"""What is written: known bytes, and pieces of which only what they mean is known. Each takes itself off the front."""
+"""What is written: known bytes, and pieces whose meaning alone is known. Each takes itself off the front."""
 
 import re
 from dataclasses import dataclass
@@ -10,7 +10,7 @@ from .texts import Refused
 @dataclass
 class Graph:
     """A text of a graph over so many variables, with at most so many nodes, that has this truth table over the first few, for some
-    bits of the others. Where it has to be smooth, and is true somewhere, all variables stand below its root."""
+    bits of the others. If it has to be smooth, and is true somewhere, all variables are below its root."""
     vars: int
     few: int
     table: int
@@ -18,7 +18,7 @@ class Graph:
     smooth: bool = False
 
     def take(self, out):
-        """What is left behind it, and what is wrong with it or none."""
+        """What is left after it, and what is wrong with it or none."""
         cut = graphs.cut_text(out)
         if cut is None:
             return out, "no text of a graph"

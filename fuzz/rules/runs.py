@@ -47,7 +47,7 @@ class Asked:
     number: int = 0  # HEALTH of `ask`, or the places of `load`
     budget: int = BUDGET
     sessions: int = SESSIONS
-    frames: int = 0  # over how many times a netlist is served; 0 where the option is not given
+    frames: int = 0  # over how many times a netlist is served; 0 if the option is not given
     levels: int = None  # the cost up to which states are listed
     least: bool = False
     narrow: bool = False
@@ -122,7 +122,7 @@ def above(budget):
 
 
 def weighed(encoded, budget, narrow, *answers):
-    """The answers within the budget, or that the sum is above it. By another order it may be within where it is not by the names."""
+    """The answers within the budget, or that the sum is above it. By another order it may be within, though it is not by the names."""
     if encoded.sum <= budget:
         return [*answers]
     return [above(budget), *answers] if narrow else [above(budget)]
@@ -184,7 +184,7 @@ def described(asked, text, script):
         most = 3 * encoded.sum + 2 * encoded.vars + 2
         answer = [Graph(encoded.vars, encoded.outer(), encoded.fits(), most)], 0
         return weighed(encoded, asked.budget, asked.narrow, answer)
-    # where it is above the budget by the names, another order is within
+    # if it is above the budget by the names, another order is within
     sum = min(encoded.sum, asked.budget)
     answers = listed(asked, sum, encoded.vars, len(encoded.device.parts), encoded.system, script)
     return weighed(encoded, asked.budget, asked.narrow, *answers)
@@ -232,7 +232,7 @@ def loaded(asked):
 
 
 def wanted(words, files, script):
-    """What may be written, as pieces, each with its status: one, but where a contract leaves two open."""
+    """What may be written, as pieces, each with its status: one, unless a contract leaves two open."""
     try:
         asked = asked_by(words)
         if asked.form == "load":

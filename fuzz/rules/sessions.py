@@ -25,8 +25,8 @@ REASONS = {int(number): text for number, text in re.findall("^[|] `(?:S )?error 
 
 
 class System:
-    """What sessions are asked over. Variables are the parts, true where ok, then the wires, then others; `table` has the rows that
-    are allowed. `text_of(held, seen)` gives the one text of `dnnf` where it is known, and else None. `levels` is the cost up to which
+    """What sessions are asked over. Variables are the parts, true if ok, then the wires, then others; `table` has the rows that
+    are allowed. `text_of(held, seen)` gives the one text of `dnnf` if it is known, and else None. `levels` is the cost up to which
     states are listed, if they are, and `least` whether the graph of the diagnoses is told."""
 
     def __init__(self, parts, wires, costs, table, vars, text_of=lambda held, seen: None):
@@ -41,7 +41,7 @@ class System:
         return truths.over_first(self.table & truths.conjunction(literals, self.vars), self.vars, len(self.parts))
 
     def states(self, held, seen):
-        """These states in order: 1 where a part is ok, so that a faulty part comes first."""
+        """These states in order: 1 if a part is ok, so that a faulty part comes first."""
         key = frozenset(held.items()), frozenset(seen.items())
         if key not in self.known:
             self.known[key] = truths.rows_of(self.allowed(held, seen), len(self.parts))
@@ -58,7 +58,7 @@ class System:
         return [state for state in self.states(held, seen) if self.cost(state) == least]
 
     def by_cost(self, held, seen):
-        """The states that are listed, each behind its cost: the cheapest first, and of one cost in their order."""
+        """The states that are listed, each after its cost: the cheapest first, and of one cost in their order."""
         key = frozenset(held.items()), frozenset(seen.items())
         if key not in self.listed:
             priced = sorted((self.cost(state), state) for state in self.states(held, seen))
@@ -238,7 +238,7 @@ def error(number):
 
 
 def replies(system, most, script):
-    """What is written to a script: bytes, and graphs where their text is left open."""
+    """What is written to a script: bytes, and graphs if their text is left open."""
     table, pieces = {}, []
     for line in script.split(b"\n"):
         try:

@@ -1,4 +1,4 @@
-"""Truth tables. Over n variables one is a number of 2^n bits: bit i tells whether row i is in it, and in row i the variable v is
+"""Truth tables. Over n variables one is a number of 2^n bits: bit i says whether row i is in it, and in row i the variable v is
 bit v - 1 of i."""
 
 from functools import lru_cache
@@ -10,7 +10,7 @@ def all_rows(vars):
 
 @lru_cache(maxsize=4096)
 def literal(number, vars):
-    """The rows in which a variable is true, or in which it is false where the number is below 0."""
+    """The rows in which a variable is true, or in which it is false if the number is below 0."""
     half = 1 << (abs(number) - 1)
     true = (((1 << half) - 1) << half) * (all_rows(vars) // ((1 << 2 * half) - 1))
     return true if number > 0 else all_rows(vars) ^ true

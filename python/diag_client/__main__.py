@@ -1,4 +1,4 @@
-"""`python -m diag_client`: pictures, a terminal and the manual page, over the same client."""
+"""`python -m diag_client`: pictures, a terminal and a page in the browser, over the same client."""
 
 from __future__ import annotations
 
@@ -8,7 +8,7 @@ import os
 import re
 import sys
 
-from . import bench, board, draw, manual, progress, shell
+from . import bench, board, draw, progress, shell
 from .errors import DiagError, sentence
 from .service import LIMITS
 
@@ -38,7 +38,6 @@ def words_of() -> argparse.ArgumentParser:
     patterns = "begin with the test patterns of a table (.csv): wires in its first row, then 0, 1 or nothing"
     asks.add_argument("--patterns", metavar="TABLE", help=patterns)
     bench.add_words(commands.add_parser("bench", parents=[served], help="open a page on which readings are entered by clicking wires"))
-    commands.add_parser("man", help="write the manual page that says what the launcher's help says")
     return parser
 
 
@@ -46,9 +45,6 @@ def main() -> int:
     """Does what the words say, and gives the exit status."""
     words = draw.read_words(words_of())
     try:
-        if words.command == "man":
-            sys.stdout.write(manual.page(manual.read_help()))
-            return 0
         if words.command == "bench":
             return bench.run(words)
         given = progress.options_in(words)

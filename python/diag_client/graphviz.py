@@ -1,4 +1,4 @@
-"""Graphviz's `dot`: the form of a picture by its ending, and a file that is written whole or not at all."""
+"""Graphviz's `dot`: the form of a picture by its ending."""
 
 from __future__ import annotations
 
@@ -8,6 +8,7 @@ import shutil
 import subprocess
 
 from .errors import DiagError
+from .files import write_whole
 
 # A picture of the most parts that are drawn unasked takes well under a second.
 PATIENCE = 60.0
@@ -56,22 +57,7 @@ def render(text: str, path: str | os.PathLike[str]) -> pathlib.Path:
     form = path.suffix.lower()
     if form in TEXTS or find_dot() is None:
         path = path if form in TEXTS else path.with_suffix(".dot")
-        _write_whole(path, text.encode())
+        write_whole(path, text.encode())
     else:
-        _write_whole(path, layout(text, form[1:]))
+        write_whole(path, layout(text, form[1:]))
     return path
-
-
-def _write_whole(path: pathlib.Path, data: bytes) -> None:
-    """Writes a file beside its place, and then puts it there."""
-    if path.exists() and not path.is_file():
-        # A pipe or a device, such as /dev/stdout, has no place to be put at.
-        path.write_bytes(data)
-        return
-    path = path.resolve()
-    beside = path.with_name(f".{path.name}.{os.getpid()}")
-    try:
-        beside.write_bytes(data)
-        os.replace(beside, path)
-    finally:
-        beside.unlink(missing_ok=True)

@@ -16,7 +16,7 @@ from .replies import Lines, Listing, NotAReply, Request
 if TYPE_CHECKING:
     from .session import Session
 
-# The progress is told at most once in so many seconds.
+# Progress is reported at most once in so many seconds.
 BETWEEN = 0.1
 
 
@@ -57,14 +57,14 @@ class Least:
             self.always, self.some = functools.reduce(operator.and_, listed), functools.reduce(operator.or_, listed)
 
     def within(self, bad: int, ok: int) -> Least | None:
-        """What is least where parts are held so too; None if it costs more."""
+        """What is least if parts are held so too; None if it costs more."""
         listed = [found for found in self.listed if not (bad & ~found or ok & found)]
         return Least(self.cost, listed, True) if listed else None
 
 
 @dataclasses.dataclass(frozen=True)
 class Question:
-    """What is least of one pattern where parts are held so? If `ok` is None, parts that are held ok and not bad stay so."""
+    """What is least of one pattern if parts are held so? If `ok` is None, parts that are held ok and not bad stay so."""
 
     place: int
     bad: int
@@ -135,7 +135,7 @@ class Listed(Request):
 
     @property
     def least(self) -> Least | None:
-        """None where nothing explains the case."""
+        """None if nothing explains the case."""
         return None if self._cost is None else Least(self._cost, self._listed, self._is_all)
 
 
@@ -224,7 +224,7 @@ class Copies:
 
     @property
     def parts(self) -> Parts:
-        """The parts of the device. Raises `Inconsistent` where nothing explains the first pattern."""
+        """The parts of the device. Raises `Inconsistent` if nothing explains the first pattern."""
         if self._parts is None:
             rows = self.sessions[0].ask("blame")
             if rows[0].endswith(" inconsistent"):
@@ -233,7 +233,7 @@ class Copies:
         return self._parts
 
     def least(self, questions: Sequence[Question], limit: int) -> list[Least | None]:
-        """Of each of these questions what is least, or None where nothing explains it; at most so many sets of each."""
+        """Of each of these questions what is least, or None if nothing explains it; at most so many sets of each."""
         asked, requests = [], self._opening()
         for question in questions:
             copy = self._copies[question.place]
@@ -243,14 +243,14 @@ class Copies:
         return [request.least for request in asked]
 
     def blame(self, question: Question, least: Least) -> None:
-        """Asks what is blamed where not all is listed. Something explains the pattern."""
+        """Asks what is blamed if not all is listed. Something explains the pattern."""
         opening, copy = self._opening(), self._copies[question.place]
         request = BlameBits(copy.name, self.parts)
         self._ask([*opening, *copy.held(question.bad, question.ok), request], 1)
         least.always, least.some = request.always, request.some
 
     def bits_left(self, faulty: int) -> list[dict[str, tuple[bool, bool]]]:
-        """Of each pattern and of each of its wires that was not seen: whether it may be 0, and 1, where just these parts are faulty."""
+        """Of each pattern and of each of its wires that was not seen: whether it may be 0, and 1, if just these parts are faulty."""
         asked, requests = [], self._opening()
         for copy in self._copies:
             asked.append(Listing(copy.name, f"probes {copy.name}", more="probe", last="end inconsistent"))

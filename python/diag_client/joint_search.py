@@ -22,7 +22,7 @@ from collections.abc import Iterator
 from .errors import Inconsistent
 from .holding import Copies, Least, Question
 
-# So many sets are listed where they may be all that is wanted, and where sets at hand are looked at.
+# So many sets are listed if they may be all that is wanted, and if sets at hand are looked at.
 MOST_LISTED = 1000
 AT_HAND = 200
 # So few sets are asked about one by one, and one more for so many parts, since it takes a line to hold each part.
@@ -35,7 +35,7 @@ NEVER = sys.maxsize
 class Region:
     """The states in which some parts are bad and some ok, and what is known of each pattern there; `bounds` are lower bounds of its cost.
 
-    What `among` leaves out is ok too, and it is not held. It is set only where cheaper and dearer states do not count.
+    What `among` leaves out is ok too, and it is not held. It is set only if cheaper and dearer states do not count.
     """
 
     bad: int
@@ -133,7 +133,7 @@ class Search:
         self._with_pairs: set[int] = set()
 
     def found(self) -> Iterator[int]:
-        """The sets. Raises `Inconsistent` where nothing explains all patterns."""
+        """The sets. Raises `Inconsistent` if nothing explains all patterns."""
         root = self._root()
         waiting = [root] if root is not None else []
         while waiting:
@@ -292,7 +292,7 @@ class Search:
         return sets
 
     def _ask_pairs(self, places: list[int]) -> None:
-        """Asks once which two parts explain a pattern, where one does too."""
+        """Asks once which two parts explain a pattern, if one does too."""
         places = [place for place in places if place in self._with_pairs and self._is_plain]
         self._with_pairs.difference_update(places)
         answers = self._copies.least([Question(place, 0, self._enough[place].ones) for place in places], MOST_LISTED) if places else []
@@ -313,7 +313,7 @@ class Search:
         return [(place, sets)]
 
     def _about(self, place: int, group: set[int]) -> Question:
-        """What is least where just the parts of these sets are free?"""
+        """What is least if just the parts of these sets are free?"""
         bad = functools.reduce(operator.and_, group)
         free = functools.reduce(operator.or_, group)
         return Question(place, bad, None if len(group) == 1 else self._copies.parts.all & ~free)

@@ -1,7 +1,7 @@
 """The launcher's help, read into its entries, and the manual page that is made of them.
 
-The help alone says what commands, options and statuses there are. The terminal, the manual page, the completion and the tests of all three
-go by it.
+`docs/write-help` makes its forms, options and commands of the tables of docs/SCRIPT.md. The terminal, the manual page, the completion and
+the tests of all three go by the help alone.
 """
 
 from __future__ import annotations
@@ -17,7 +17,7 @@ HELP = pathlib.Path(__file__).parent / "help.txt"
 # So long are the lines of the page's source.
 LINE = 120
 # When what is said here was last changed.
-DATE = "2026-11-30"
+DATE = "2026-12-01"
 FILES = {
     "crates/diag/out/diag": "the built program; it needs nothing else and may be copied",
     "crates/diag/out/diag.sources": "the checksums of the sources and of the program that was built from them",
@@ -76,6 +76,12 @@ def forms() -> dict[str, Entry]:
     return {entry.head.split()[1]: entry for entry in read_help()[0].entries}
 
 
+def limits() -> dict[str, tuple[int, int]]:
+    """The numbers that options of `serve` take, from the least to the greatest, by the options' names."""
+    ranges = {option.head: re.search("from ([0-9]+) to ([0-9]+)", option.text) for option in forms()["serve"].options}
+    return {head.split()[0].removeprefix("--"): (int(found[1]), int(found[2])) for head, found in ranges.items() if found}
+
+
 def sections(text: str) -> list[Section]:
     """The sections of a help text. Blank lines part them, and the first line of each but the first is its title.
 
@@ -118,18 +124,9 @@ def _add_line(section: Section, line: str) -> None:
 
 def usages() -> dict[str, Usage]:
     """The commands of a script, by their words: those of the section whose entries name a session."""
-    rows = {}
-    for section in read_help():
-        if not section.title.startswith("Lines of a script"):
-            continue
-        for entry in section.entries:
-            # One explanation may be that of several lines, and they are parted by the same mark or not at all.
-            texts = [text.strip() for text in entry.text.split(";")]
-            heads = entry.head.split(", ")
-            for number, head in enumerate(heads):
-                command, _, *words = head.split()
-                rows[command] = Usage(command, tuple(words), entry.text if len(texts) != len(heads) else texts[number])
-    return rows
+    section, = (section for section in read_help() if section.title.startswith("Lines of a script"))
+    rows = ((entry.head.split(), entry.text) for entry in section.entries)
+    return {command: Usage(command, tuple(words), text) for (command, _, *words), text in rows}
 
 
 def _roff(text: str) -> str:
@@ -157,7 +154,7 @@ def page(found: Sequence[Section]) -> str:
     """The manual page: each entry of the help under a heading of its section."""
     forms, *others = found
     lines = [
-        ".\\\" Made of the launcher's help by `python3 -m diag_client man`. Do not edit.",
+        ".\\\" Made by `docs/write-help --write`. Do not edit.",
         f".TH DIAG 1 {DATE}",
         ".SH NAME",
         "diag \\- verified diagnosis of digital devices",

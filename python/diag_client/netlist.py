@@ -3,14 +3,13 @@
 from __future__ import annotations
 
 import argparse
-import os
 import pathlib
 import re
 import sys
-import tempfile
 from collections.abc import Sequence
 
 from .errors import DiagError, sentence
+from .files import write_whole
 from .netlist_circuit import Circuit, Node, UnusableNetlist, kind_of
 from .netlist_readers import READERS, TABLES, TO_PLAIN_CELLS
 
@@ -20,6 +19,9 @@ LONGEST_NAME = 32
 MOST_PORTS = 6
 # So many wires are on a line of a design.
 WIRES_ON_A_LINE = 12
+# How the files that are made here begin and end in their first lines.
+MADE, MADE_BY = "# Made of ", " by diag-netlist."
+NAMES = "# The name here, and the name in the file that it was made of."
 TYPE_NAMES = {(len(letters), table): name for name, (letters, table) in TABLES.items()}
 TOP = "TOP"
 
@@ -77,7 +79,7 @@ def check_types(circuit: Circuit, is_bench_wanted: bool) -> list[Node]:
 
 def bench_text(circuit: Circuit, names: dict[str, str], title: str) -> str:
     """The circuit as a netlist."""
-    lines = [f"# {title}"]
+    lines = [title]
     lines += [f"INPUT({names[name]})" for name in circuit.inputs]
     lines += [f"OUTPUT({name})" for name in dict.fromkeys(names[circuit.find(name)] for name in circuit.outputs)]
     lines += [f"{names[output]} = DFF({names[reads]})" for output, reads in circuit.flip_flops.items()]
@@ -98,7 +100,7 @@ def type_lines(node: Node) -> list[str]:
 
 def design_text(circuit: Circuit, special: Sequence[Node], names: dict[str, str], title: str) -> str:
     """The circuit as a design of one block, whose ports are the inputs and outputs."""
-    lines = [f"# {title}"]
+    lines = [title]
     for node in {type_of(node): node for node in special}.values():
         lines += type_lines(node)
     ports = list(dict.fromkeys([names[name] for name in circuit.inputs] + [names[circuit.find(name)] for name in circuit.outputs]))
@@ -113,7 +115,7 @@ def design_text(circuit: Circuit, special: Sequence[Node], names: dict[str, str]
 
 def table_text(circuit: Circuit, names: dict[str, str]) -> str:
     """What names were replaced, and what was left out."""
-    lines = ["# The name here, and the name in the file that it was made of."]
+    lines = [NAMES]
     for name in dict.fromkeys([*circuit.driven, *circuit.joined]):
         wire = circuit.find(name)
         if wire in names and names[wire] != name:
@@ -122,25 +124,17 @@ def table_text(circuit: Circuit, names: dict[str, str]) -> str:
     return "\n".join(lines) + "\n"
 
 
-def write_whole(path: pathlib.Path, text: str) -> None:
-    """Writes a file whole, or leaves it as it was."""
-    with tempfile.NamedTemporaryFile(
-        "w", dir=path.parent, prefix=f".{path.name}.", delete=False, encoding="utf-8", errors="surrogateescape"
-    ) as file:
-        try:
-            file.write(text)
-            file.close()
-            umask = os.umask(0)
-            os.umask(umask)
-            os.chmod(file.name, 0o666 & ~umask)
-            os.replace(file.name, path)
-        except BaseException:
-            os.unlink(file.name)
-            raise
+def is_made_here(path: pathlib.Path) -> bool:
+    """Whether a file was made by `convert`, by its first line."""
+    with path.open(encoding="utf-8", errors="surrogateescape") as file:
+        line = file.readline().rstrip("\n")
+    return line == NAMES or (line.startswith(MADE) and line.endswith(MADE_BY))
 
 
 def convert(path: pathlib.Path, out: pathlib.Path | None = None) -> list[str]:
-    """Converts a file, and says what was written. Without `out` the new file has the old name with another ending."""
+    """Converts a file, and says what was written. Without `out` the new file has the old name with another ending, and no file is replaced
+    that was not made so.
+    """
     if out is not None and out.suffix not in (".bench", ".dev"):
         raise UnusableNetlist(f"the name of {out} does not end in .bench or .dev")
     circuit = read_circuit(path)
@@ -148,18 +142,22 @@ def convert(path: pathlib.Path, out: pathlib.Path | None = None) -> list[str]:
     is_design = bool(special) or (out is not None and out.suffix == ".dev")
     if is_design and circuit.flip_flops:
         raise UnusableNetlist("a design (.dev) has no flip-flops: let OUT end in .bench")
-    if out is None:
-        out = path.with_suffix(".dev" if is_design else ".bench")
+    is_named = out is not None
+    out = out or path.with_suffix(".dev" if is_design else ".bench")
     if out.exists() and out.samefile(path):
-        out = path.with_name(f"{path.stem}-diag{out.suffix}")
-    names = new_names(circuit, is_design)
-    title = f"Made of {' '.join(path.name.split())} by diag-netlist."
-    write_whole(out, design_text(circuit, special, names, title) if is_design else bench_text(circuit, names, title))
-    said = [f"{out}: {len(circuit.nodes)} gates, {len(circuit.flip_flops)} flip-flops, {len(circuit.inputs)} inputs"]
+        is_named, out = False, path.with_name(f"{path.stem}-diag{out.suffix}")
     table = out.with_name(out.name + ".names")
+    for file in (out, table):
+        if not is_named and file.exists() and not is_made_here(file):
+            raise UnusableNetlist(f"{file} is there, and diag-netlist has not made it: give another name by -o, or this one to replace it")
+    names = new_names(circuit, is_design)
+    title = f"{MADE}{' '.join(path.name.split())}{MADE_BY}"
+    made = design_text(circuit, special, names, title) if is_design else bench_text(circuit, names, title)
+    write_whole(out, made.encode("utf-8", "surrogateescape"))
+    said = [f"{out}: {len(circuit.nodes)} gates, {len(circuit.flip_flops)} flip-flops, {len(circuit.inputs)} inputs"]
     text = table_text(circuit, names)
     if text.count("\n") > 1:
-        write_whole(table, text)
+        write_whole(table, text.encode("utf-8", "surrogateescape"))
         said.append(f"{table}: {sum(line[:1] != '#' for line in text.splitlines())} names that were replaced")
     else:
         table.unlink(missing_ok=True)

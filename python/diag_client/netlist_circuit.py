@@ -163,9 +163,9 @@ class Circuit:
                 self.left_out.append(f"the clock {clock}")
 
     def _check_driven(self) -> None:
-        driven = {self.find(name) for name in self.driven}
+        driven = self.driven.keys() - self.joined.keys()
         read = [name for node in self.nodes for name in node.inputs] + list(self.flip_flops.values()) + list(map(self.find, self.outputs))
-        lost = [name for name in dict.fromkeys(read) if name not in driven or name in self.joined]
+        lost = [name for name in dict.fromkeys(read) if name not in driven]
         if lost:
             self.fault(f"wires that nothing drives: {' '.join(lost[:8])}")
 

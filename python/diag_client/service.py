@@ -2,7 +2,6 @@
 
 from __future__ import annotations
 
-import contextlib
 import functools
 import itertools
 import os
@@ -13,6 +12,7 @@ import weakref
 from collections.abc import Callable, Iterable, Iterator, Mapping, Sequence
 from typing import TYPE_CHECKING
 
+from . import manual
 from .child import Child
 from .devices import input_wires
 from .errors import Ended, NotBuilt
@@ -27,8 +27,9 @@ if TYPE_CHECKING:
 TOP = pathlib.Path(__file__).resolve().parents[2]
 # The program in a wheel of this package.
 PACKED = pathlib.Path(__file__).parent / "bin/diag"
-# The numbers that options take, from the least to the greatest.
-LIMITS = {"budget": (1, 8_388_608), "sessions": (1, 1024), "frames": (1, 64), "levels": (0, 4_096_000), "health": (0, 4096)}
+# The options of `serve`, and the numbers that some of them and HEALTH of `ask` take, from the least to the greatest.
+OPTIONS = {word.removeprefix("--") for word in manual.forms()["serve"].option_words()}
+LIMITS = manual.limits() | {"health": (0, 4096)}
 
 Program = str | os.PathLike[str] | Sequence[str | os.PathLike[str]]
 
@@ -80,20 +81,22 @@ def check_options(file: pathlib.Path, options: Mapping[str, int | bool | None]) 
     if file.suffix not in suffixes:
         hint = "; a graph (.nnf) needs health=N, the number of its parts" if file.suffix == ".nnf" else ""
         raise ValueError(f"{file}: the name of the file ends in {' or '.join(suffixes)}{hint}")
-    for name in ("narrow", "least"):
-        if not isinstance(options[name], bool):
-            raise TypeError(f"{name} is True or False, not {options[name]!r}")
-    for name, (least, most) in LIMITS.items():
-        value = options[name]
-        if value is None:
-            continue
-        if isinstance(value, bool) or not isinstance(value, int):
-            raise TypeError(f"{name} is a whole number, not {value!r}")
-        if not least <= value <= most:
-            raise ValueError(f"{name} is from {least} to {most}, not {value}")
+    for name, value in options.items():
+        if name not in OPTIONS | {"health"}:
+            raise TypeError(f"there is no option {name}")
+        if name not in LIMITS:
+            if not isinstance(value, bool):
+                raise TypeError(f"{name} is True or False, not {value!r}")
+        elif value is not None:
+            if isinstance(value, bool) or not isinstance(value, int):
+                raise TypeError(f"{name} is a whole number, not {value!r}")
+            least, most = LIMITS[name]
+            if not least <= value <= most:
+                raise ValueError(f"{name} is from {least} to {most}, not {value}")
     if options["frames"] is not None and file.suffix != ".bench":
         raise ValueError("frames is for a netlist (.bench)")
-    if options["health"] is not None and (options["least"] or any(options[name] is not None for name in ("budget", "levels"))):
+    given = {name for name, value in options.items() if value is not None and value is not False}
+    if "health" in given and given - {"health", "sessions", "narrow"}:
         raise ValueError("of the options a graph takes sessions alone")
 
 
@@ -129,11 +132,11 @@ class Service:
     """A device that is served by a program of its own, which is started here and ended by `close` or at the end of `with`.
 
     `file` is a netlist (`.bench`) or a design (`.dev`). `budget`, `sessions`, `frames`, `levels` and `least` are the options of `diag
-    serve`. As many sessions as the program allows may be open at a time; with None it is the program's own default. The program looks for
-    a forest by which the device is small unless `narrow` is False, which asks for the order of the names. With
-    `health=N` the file is a graph (`.nnf`) whose first N variables are parts, and `diag ask` serves it. `program` is the program or
-    launcher to start, a path or words; see `find_program` for what is started otherwise. `timeout` is how many seconds a call, this one
-    too, may wait for its answer; then it raises `TimedOut`.
+    serve`; `others` are further ones that its help names. As many sessions as the program allows may be open at a time; with None it is
+    the program's own default. The program looks for a forest by which the device is small unless `narrow` is False, which asks for the
+    order of the names. With `health=N` the file is a graph (`.nnf`) whose first N variables are parts, and `diag ask` serves it. `program`
+    is the program or launcher to start, a path or words; see `find_program` for what is started otherwise. `timeout` is how many seconds a
+    call, this one too, may wait for its answer; then it raises `TimedOut`.
 
     Raises TypeError or ValueError for wrong options, `NotBuilt` if there is no program, OSError if the file cannot be read, and `Ended` if
     the program refuses the device. What is sent and what comes is logged by `diag_client` at the level DEBUG.
@@ -163,10 +166,11 @@ class Service:
         least: bool = False,
         program: Program | None = None,
         timeout: float | None = None,
+        **others: int | bool | None,
     ) -> None:
         self.file = pathlib.Path(file)
         self.frames = frames
-        options = {"narrow": narrow, "budget": budget, "sessions": sessions, "frames": frames, "levels": levels, "least": least}
+        options = {"narrow": narrow, "budget": budget, "sessions": sessions, "frames": frames, "levels": levels, "least": least, **others}
         check_options(self.file, {**options, "health": health})
         start = find_program() if program is None else program
         words = [os.fspath(start)] if isinstance(start, (str, os.PathLike)) else [os.fspath(word) for word in start]
@@ -360,7 +364,7 @@ class Service:
         self._child.catch_up()
 
     def restart(self) -> None:
-        """Ends the program at once, whatever it does, starts it again, and tells it what each open session has seen and holds.
+        """Ends the program at once, whatever it does, starts it again, and gives it what each open session has seen and holds.
 
         Readings that were sent and not yet answered are sent again; whatever else was asked is dropped. It may be called after the program
         has ended too, or after a `restart` that was interrupted.
@@ -409,7 +413,7 @@ class Service:
         self._child.stop()
 
     def has_open(self, name: str) -> bool:
-        """Whether a session of this name is open, as far as was told."""
+        """Whether a session of this name is open, by the replies so far."""
         return name in self._open
 
     def note_open(self, session: Session) -> None:

@@ -89,7 +89,7 @@ class Session:
 
     @property
     def is_open(self) -> bool:
-        """Whether it is open, as far as was told."""
+        """Whether it is open, by the replies so far."""
         return self._is_open
 
     @property

@@ -16,6 +16,7 @@ from typing import Any
 from . import graphviz, manual, picture
 from .devices import read_device
 from .errors import DiagError, Ended, Inconsistent, Refused, sentence
+from .files import write_whole
 from .progress import Progress
 from .replies import AnyLines, Lines
 from .service import Service
@@ -235,9 +236,7 @@ class Shell(cmd.Cmd):
                 if there.read(len(b"open ")) != b"open ":
                     raise ValueError(f"{path} is there and is not a saved case: choose another name")
         text, told = self._saved()
-        beside = path.with_name(path.name + ".new")
-        beside.write_text(text, encoding="utf-8", errors="surrogateescape")
-        beside.replace(path)
+        write_whole(path, text.encode("utf-8", "surrogateescape"))
         print(f"wrote {path}: {told}")
         return False
 
@@ -429,7 +428,7 @@ class Shell(cmd.Cmd):
 
 
 def in_words(reply: str) -> str:
-    """A reply, as a person is told."""
+    """A reply, as a person reads it."""
     return f"{reply} (nothing is wrong)" if reply in NOTHING_WRONG else reply
 
 

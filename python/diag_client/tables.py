@@ -4,6 +4,7 @@ from __future__ import annotations
 
 import csv
 import dataclasses
+import io
 import os
 from collections.abc import Iterable, Sequence
 
@@ -30,17 +31,22 @@ class Row:
 def read_table(source: str | os.PathLike[str] | Rows, wires: Iterable[str]) -> list[Row]:
     """The patterns in a file of comma-separated values, or in rows of cells, over a device with these wires.
 
-    A cell is 0, 1 or empty. A column called `pattern` names them; without it they are p1, p2 and so on.
+    A cell is 0, 1 or empty. A column called `pattern` names them; without it they are p1, p2 and so on. Semicolons or tabs may part the
+    cells as well.
     """
+    wires = set(wires)
     if not isinstance(source, (str, os.PathLike)):
-        return rows_of("the table", [[str(cell).strip(BLANKS) for cell in row] for row in source], set(wires))
+        return rows_of("the table", [[str(cell).strip(BLANKS) for cell in row] for row in source], wires)
     # Some programs put a mark before UTF-8.
     with open(source, encoding="utf-8-sig", errors="surrogateescape", newline="") as file:
-        try:
-            cells = [[cell.strip(BLANKS) for cell in row] for row in csv.reader(file, strict=True)]
-        except csv.Error as error:
-            raise BadTable(f"{source}: not comma-separated values: {error}") from None
-    return rows_of(os.fspath(source), cells, set(wires))
+        text = file.read()
+    header = text.strip().split("\n")[0].strip(BLANKS)
+    sign = next((sign for sign in ",;\t" if sign in header and header not in wires), ",")
+    try:
+        cells = [[cell.strip(BLANKS) for cell in row] for row in csv.reader(io.StringIO(text, newline=""), delimiter=sign, strict=True)]
+    except csv.Error as error:
+        raise BadTable(f"{source}: not comma-separated values: {error}") from None
+    return rows_of(os.fspath(source), cells, wires)
 
 
 def rows_of(table: str, cells: Sequence[Sequence[str]], wires: set[str]) -> list[Row]:
@@ -51,8 +57,7 @@ def rows_of(table: str, cells: Sequence[Sequence[str]], wires: set[str]) -> list
     (first, header), *rest = numbered
     for column, name in enumerate(header, 1):
         if name != NAME and name not in wires:
-            near = "; are the columns not separated by commas?" if len(header) == 1 and len(name) > 64 else ""
-            raise BadTable(f"{table}: row {first}, column {column}: no wire {name!r}{near}")
+            raise BadTable(f"{table}: row {first}, column {column}: no wire {name!r}")
         if name in header[:column - 1]:
             raise BadTable(f"{table}: row {first}, column {column}: a second column {name!r}")
     found: list[Row] = []

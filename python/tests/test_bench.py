@@ -102,6 +102,18 @@ class OnC17(unittest.TestCase):
         bits = [dict(self.do("turn", wire="22")["patterns"][0]["seen"]).get("22") for _ in range(3)]
         self.assertEqual(bits, [0, 1, None])
 
+    def test_two_tabs_on_one_board(self):
+        """What goes by what a tab shows is refused if another tab has changed the board since. A tab's own clicks may follow quickly."""
+        for bit in (0, 1):
+            state = self.do("turn", wire="22", tab="one", version=0)
+            self.assertEqual(state["patterns"][0]["seen"], [("22", bit)])
+        for act, more in (("turn", {"wire": "22"}), ("see", {"wire": "1", "bit": 0}), ("pattern", {"how": "new"}), ("undo", {})):
+            with self.subTest(act), self.assertRaisesRegex(Bad, "another tab"):
+                self.do(act, tab="two", version=1, **more)
+        self.assertEqual(self.board.state()["patterns"][0]["seen"], [("22", 1)])
+        self.assertEqual(dict(self.do("turn", wire="1", tab="two", version=state["version"])["patterns"][0]["seen"]), {"1": 0, "22": 1})
+        self.do("show", shown=3, tab="one", version=0)
+
     def test_the_fault_is_found(self):
         state = self.enter()
         self.assertEqual((state["cost"], self.parts(state), state["blame"]), (1, [("10",), ("22",)], [("10", "sometimes"), ("22", "sometimes")]))

@@ -12,6 +12,7 @@ from unittest import mock
 from support import C17, EXAMPLES, TOP, needs_program
 
 from diag_client import BadTable, DiagError, Inconsistent, Refused, Service, holding
+from diag_client.tables import read_table
 from diag_client.replies import Verdict
 from diag_client.session import case_lines
 
@@ -161,6 +162,19 @@ class Tables(unittest.TestCase):
             path.write_text("\ufeff22, 1,3\r\n1,0,\r\n0,1,1\r\n")
             patterns = service.patterns(path)
             self.assertEqual({name: dict(row.seen) for name, row in patterns.items()}, {"p1": {"22": 1, "1": 0}, "p2": {"22": 0, "1": 1, "3": 1}})
+
+    def test_other_separators(self):
+        """Some programs write semicolons or tabs. A wire may have a semicolon in its name."""
+        with tempfile.TemporaryDirectory() as folder:
+            path = pathlib.Path(folder, "readings.csv")
+            for text, wires in (("a;b\r\n0;1\r\n", "ab"), ("a\tb\n0\t1\n", "ab"), ("pattern;b\np1;1\n", "b"), ("a;b\n1\n", ["a;b"]), ("a;b,c\n1,0\n", ["a;b", "c"])):
+                path.write_text(text)
+                with self.subTest(text):
+                    [row] = read_table(path, wires)
+                    self.assertEqual((row.name, list(row.seen)), ("p1", list(wires)))
+            path.write_text("a;z\n0;1\n")
+            with self.assertRaisesRegex(BadTable, "row 1, column 2: no wire 'z'"):
+                read_table(path, "ab")
 
     def test_a_refusal_opens_none(self):
         with Service(C17, narrow=False, sessions=2) as service:

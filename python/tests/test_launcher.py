@@ -164,9 +164,9 @@ class Hints(InCheckout):
             ("serve plain.bench --narrow", 3, "try --budget 8388608 too"), ("plan plain.bench", 3, "try --narrow, which"),
             ("serve plain.bench --budget 8388608 --narrow", 3, "a smaller piece"), ("plan plain.bench --narrow", 3, "a smaller piece"),
             ("serve no.bench", 4, "there is no file no.bench"), ("serve .", 4, ". is a folder"), ("serve --narrow plain.bench", 2, "FILE --narrow"),
-            ("--narrow serve plain.bench", 2, "options come after the file"), ("srve plain.bench", 2, "no form `srve`"), ("serve plain.txt", 2, ".bench (a netlist) or .dev (a design);"),
-            ("plan /dev/stdin", 2, ".bench (a netlist) or .dev (a design);"),
-            ("serve", 2, ".bench (a netlist) or .dev (a design);"), ("check plain.bench", 2, ".nnf"), ("load 801", 2, "from 1 to 800"), ("serve plain.bench --wide", 2, "an option of `serve`"),
+            ("--narrow serve plain.bench", 2, "options come after the file"), ("srve plain.bench", 2, "no form `srve`"), ("serve plain.txt", 2, ".bench or .dev;"),
+            ("plan /dev/stdin", 2, ".bench or .dev;"),
+            ("serve", 2, ".bench or .dev;"), ("check plain.bench", 2, ".nnf"), ("ask plain.nnf", 2, "comes HEALTH: `diag ask FILE HEALTH`"), ("ask plain.nnf --sessions 2", 2, "comes HEALTH"), ("load 801", 2, "from 1 to 800"), ("serve plain.bench --wide", 2, "an option of `serve`"),
         ):
             got, told, said = self.run_diag(*words.split(), FAKE=str(status))
             said = said.replace(said.partition("diag: no checksum")[1] and said.split("\n")[0] + "\n", "")

@@ -264,7 +264,8 @@ class ByHand(Converts):
             (".gate $_DFF_PP0_ C=c D=a R=b Q=y", "flip-flop y ($_DFF_PP0_) has an enable or a reset"),
             (".gate $_AND_ A=a B=b Y=y\n.gate $_OR_ A=a B=b Y=y", "wires with several drivers: y"),
             (".gate $_NOT_ A=a Y=b", "wires with several drivers: b"),
-            (".gate $_NOT_ A=q Y=y", "wires that nothing drives: q"),
+            (".gate $_NOT_ A=q Y=y", "wires that nothing drives: q"), (".names q y\n1 1", "wires that nothing drives: q"),
+            (".names q r\n1 1\n.gate $_NOT_ A=r Y=y", "wires that nothing drives: q"),
             (".latch a y re c 2\n.latch b z re a 2", "several clocks"),
             (".latch a y re c 2\n.gate $_NOT_ A=c Y=z", "the clock c is read by a gate"),
             (".latch a y re c 2\n.names a b z\n10 1", "flip-flops"),
@@ -285,6 +286,22 @@ class ByHand(Converts):
         path, _ = self.convert("INPUT(a)\nOUTPUT(q)\nq = DFFRSE( d, gnd, gnd, gnd, gnd )\none = vdd\nd = LUT 0x6 ( a, q )\nz = LUT 0x8 ( a, one )\n", "x.bench")
         self.assertEqual(path.name, "x-diag.bench")
         self.assertEqual(path.read_text().split("\n")[1:], ["INPUT(a)", "OUTPUT(q)", "q = DFF(d)", "d = XOR(a, q)", "z = BUFF(a)", ""])
+
+    def test_other_files_stay(self):
+        """What it has made itself it makes anew; a file that somebody else has written stays, unless OUT names it."""
+        text, own = ".model m\n.inputs a b\n.outputs y\n.names a b y\n11 1\n.end\n", "y = AND(a, b) # by hand\n"
+        made, _ = self.convert(text)
+        self.assertEqual(self.convert(text)[0], made)
+        names = self.folder / "given.bench.names"
+        for file in (made, names):
+            file.write_text(own)
+        self.assertIn("given.bench", self.refused(text))
+        self.assertEqual([made.read_text(), names.read_text()], [own, own])
+        made.unlink()
+        self.assertIn("given.bench.names", self.refused(text))
+        self.assertEqual(names.read_text(), own)
+        self.convert(text, out="given.bench")
+        self.assertIn("AND(a, b)\n", made.read_text())
 
     def test_command(self):
         words = [sys.executable, "-m", "diag_client.netlist", VERILOG / "gray.blif", "-o", self.folder / "gray.bench"]

@@ -6,6 +6,7 @@ import io
 import os
 import pathlib
 import re
+import resource
 import signal
 import subprocess
 import sys
@@ -117,6 +118,23 @@ class Lines(unittest.TestCase):
             self.assertEqual(len(self.say("save ~/case.script", "save", "load")), 3)
             self.assertEqual(self.say("load ~/nowhere"), [f"{folder}/nowhere: no such file or directory"])
             self.assertEqual(sorted(path.name for path in pathlib.Path(folder).iterdir()), ["c17.bench", "case.script"])
+
+    def test_saving_touches_no_other_file(self):
+        """Neither one whose name is like it, nor any if the disk is full: then the old file stays, and nothing is left beside it."""
+        with tempfile.TemporaryDirectory() as folder:
+            case, other = pathlib.Path(folder, "case.script"), pathlib.Path(folder, "case.script.new")
+            other.write_text("mine\n")
+            self.say("see 1=0", f"save {case}")
+            self.assertEqual((case.read_text(), other.read_text()), ("open S\nsee S 1=0\n", "mine\n"))
+            limit = resource.getrlimit(resource.RLIMIT_FSIZE)
+            try:
+                resource.setrlimit(resource.RLIMIT_FSIZE, (0, limit[1]))
+                told = self.say("see 2=0", f"save {case}")
+            finally:
+                resource.setrlimit(resource.RLIMIT_FSIZE, limit)
+            self.assertEqual(told[1:], [f"{case}: file too large"])
+            self.assertEqual(case.read_text(), "open S\nsee S 1=0\n")
+            self.assertEqual(sorted(path.name for path in pathlib.Path(folder).iterdir()), [case.name, other.name])
 
     def test_expect(self):
         self.say("see 1=0 2=0 3=0 6=0 22=1")

@@ -43,6 +43,8 @@ LONGEST = 5.0
 # So many bits that wires should have are kept.
 KEPT_EXPECTED = 300_000
 KEPT_DRAWINGS = 32
+# Requests that go by what their tab shows.
+LOOKING = frozenset(("turn", "see", "readings", "hold", "pattern", "clear", "undo", "redo"))
 Answered = TypeVar("Answered")
 
 
@@ -205,6 +207,8 @@ class Board:
         self.view = View()
         self._before: list[Case] = []
         self._after: list[Case] = []
+        # The versions that the last changes made, each with the tab that asked for it.
+        self._changes: collections.deque[tuple[int, object]] = collections.deque(maxlen=MOST_UNDO)
         self._sessions: dict[str, Session] = {}
         self._answers: Answers | None = None
         # The state as it was shown last: to look at it nobody waits.
@@ -244,6 +248,9 @@ class Board:
         name = act.get("act")
         if not isinstance(name, str) or name not in self._acts:
             raise Bad("there is no such request: load the page again")
+        shown, tab = act.get("version"), act.get("tab")
+        if name in LOOKING and isinstance(shown, int) and any(made > shown and by != tab for made, by in self._changes):
+            raise Bad("another tab has changed this board, and nothing was entered: here it is as it is now")
         case, view, version = self.case, self.view, self.version
         self._acts[name](act)
         if (self.case, self.view) != (case, view):
@@ -255,6 +262,9 @@ class Board:
             # It is left as it was: the page never shows a case without its answers.
             self.case, self.view, self.version, self._answers = case, view, version, None
             raise Bad(f"the program refuses this: {error}") from error
+        finally:
+            if self.case != case:
+                self._changes.append((self.version, tab))
 
     def _advised(self) -> Json:
         """The state with the next measurement, or without it if a newer request came meanwhile."""

@@ -77,9 +77,16 @@ async function post(where, act, isQuiet = false) {
   return got;
 }
 
+// A click goes by what was shown when it was pressed: one that another tab has overtaken is refused.
+const tab = String(Math.random());
+let pressed = null;
+addEventListener("pointerdown", () => { pressed = state && state.version; }, true);
+addEventListener("keydown", () => { pressed = null; }, true);
+
 function ask(act) {
+  const seen = { tab, version: pressed ?? state?.version };
   queue = queue.then(async () => {
-    const got = await post("do", act);
+    const got = await post("do", { ...seen, ...act }, act.act === "state");
     if (got && got.version !== undefined) await show(got);
   });
   return queue;

@@ -1,0 +1,25 @@
+"""A file that is written whole or not at all."""
+
+from __future__ import annotations
+
+import os
+import pathlib
+
+
+def write_whole(path: pathlib.Path, data: bytes) -> None:
+    """Writes a file beside its place, and then puts it there. What was there before stays until all is written."""
+    if path.exists() and not path.is_file():
+        # A pipe or a device, such as /dev/stdout, has no place to be put at.
+        path.write_bytes(data)
+        return
+    place = path.resolve()
+    beside = place.with_name(f".{place.name}.{os.getpid()}")
+    try:
+        beside.write_bytes(data)
+        os.replace(beside, place)
+    except OSError as error:
+        # It is said of the file that was asked for.
+        error.filename, error.filename2 = str(path), None
+        raise
+    finally:
+        beside.unlink(missing_ok=True)

@@ -11,7 +11,6 @@ use Rattle.state_rules.specs.Graphs.{Graph}
 use Rattle.conditioner.specs.Models.{has_model, fits_words, models, least_under, diagnoses_under}
 use Rattle.minimiser.specs.LeastStates.{ModelWithin}
 use Rattle.minimiser.proofs.Models.{LeastIs, least-some, least-none, diagnosis-in, diagnosis-out}
-use Rattle.probe_report.specs.declared.verdicts.Blame.{Blame}
 use Rattle.probe_report.specs.declared.verdicts.Blame.TheVariants.{Always, Sometimes, Never, Inconsistent}
 use Rattle.probe_report.specs.Verdicts.{verdict, blame_of}
 use Rattle.probe_report.proofs.With.{bit-out, bit-in}

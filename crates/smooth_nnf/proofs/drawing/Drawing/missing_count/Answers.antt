@@ -1,4 +1,4 @@
-use Rattle.std.proofs.Common.{length, ap, sym, subst, arith}
+use Rattle.std.proofs.Common.{◌≡◌, ◌+◌, length, ap, sym, subst, arith}
 use Rattle.std.specs.List.{filter, range_with_len}
 use Rattle.std.proofs.lemmas.List.{length-map}
 use Rattle.state_rules.specs.Graphs.{mentions, IsGraph}
@@ -12,8 +12,9 @@ pub returns-then-lacks_none-clause-count : goal.returns-then-lacks_none-clause-c
 returns-then-lacks_none-clause-count c =
     ap length (sym (no-fillers c.args.self.now c.args.over c.args.node (λ part low high. c.lacks_none.ensures c.args.node part c.if-lacks_none.true c.requires.under low high)))
 
-pub overflow_sub-result : goal.overflow_sub-result
-overflow_sub-result c =
+-- the parts below the greater node are those of the lesser one, and those that are missing
+counted : (c : goal.After-part_count) → length (filter (missing_in c.args.self.now c.args.over c.args.node) (range_with_len 1 c.args.self.now.parts)) + c.part_count.result ≡ c.over_count.result
+counted c =
     let d = c.args.self.now in
     let is : IsDrawing d = subst IsDrawing c.self.view_is c.self.invariant in
     let valid : IsGraph d.graph = subst IsGraph (ap (λ (s : Drawing). s.graph) c.self.view_is) c.len-nodes.ensures.valid in
@@ -24,15 +25,8 @@ overflow_sub-result c =
       left-over (is_over d.graph.nodes c.args.over) (λ p. mentions d.graph.nodes p c.args.node) (under-wider d is valid c.args.over c.args.node c.requires.under) (range_with_len 1 d.parts),
     )
 
+pub overflow_sub-result : goal.overflow_sub-result
+overflow_sub-result c = omega (arith, counted c)
+
 pub returns-clause-count : goal.returns-clause-count
-returns-clause-count c =
-    let d = c.args.self.now in
-    let is : IsDrawing d = subst IsDrawing c.self.view_is c.self.invariant in
-    let valid : IsGraph d.graph = subst IsGraph (ap (λ (s : Drawing). s.graph) c.self.view_is) c.len-nodes.ensures.valid in
-    omega (
-      arith,
-      c.over_count.ensures.count,
-      c.part_count.ensures.count,
-      left-over (is_over d.graph.nodes c.args.over) (λ p. mentions d.graph.nodes p c.args.node) (under-wider d is valid c.args.over c.args.node c.requires.under) (range_with_len 1 d.parts),
-      length-map (filter (missing_in d c.args.over c.args.node) (range_with_len 1 d.parts)) (filler d.words),
-    )
+returns-clause-count c = omega (arith, counted c, length-map (filter (missing_in c.args.self.now c.args.over c.args.node) (range_with_len 1 c.args.self.now.parts)) (filler c.args.self.now.words))

@@ -68,8 +68,8 @@ impl SmallNodes {
         self.kids.clear();
     }
 
-    /// Adds a node over the places of the kids that cost something, and no more than so much; unless it need be no node of its own,
-    /// and one kid stays, which then stands for it. Gives the place of what stands for it.
+    /// Adds a node over the places of the kids that cost something, and no more than so much. If it need not stay a node of its own
+    /// and one kid is left, nothing is added. Gives the place of what stands for the node: itself, or that kid.
     pub(crate) fn add(
         &mut self,
         what: NodeKind,

@@ -47,22 +47,24 @@ pub(crate) fn distil<L: Ledger>(
     let root = graph.len() - 1;
     let root_cost = values[root as usize];
     if root_cost == 0 {
-        nodes.push(NodeKind::And, &[], values, places, 0);
+        nodes.add(NodeKind::And, &[], values, places, 0, true);
         return Some(cost);
     }
     mark(graph, values, places);
     for at in 0..root {
         if places[at as usize] == MARKED {
             let value = values[at as usize];
-            places[at as usize] = nodes.add(graph.what(at), graph.kids(at), values, places, value);
+            let place = nodes.add(graph.what(at), graph.kids(at), values, places, value, false);
+            places[at as usize] = place;
         }
     }
-    nodes.push(
+    nodes.add(
         graph.what(root),
         graph.kids(root),
         values,
         places,
         root_cost,
+        true,
     );
     Some(cost)
 }

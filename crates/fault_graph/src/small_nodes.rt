@@ -1,4 +1,4 @@
-ghost use Rattle.std.specs.Prelude.{◌≡◌, ◌+◌, ◌<◌, ◌≤◌, ◌++◌, [], ◌∷◌, length, All, IfOk, vec_len, vec_capacity};
+ghost use Rattle.std.specs.Prelude.{◌≡◌, ◌+◌, ◌<◌, ◌≤◌, ◌++◌, [], ◌∷◌, true, false, length, All, IfOk, vec_len, vec_capacity};
 ghost use Rattle.state_rules.specs.Graphs.{edges};
 ghost use Rattle.fault_graph.specs.inner.Rows.{kept_kids, Adds};
 
@@ -68,30 +68,8 @@ impl SmallNodes {
         self.kids.clear();
     }
 
-    /// Adds a node over the places of the kids that cost something, and no more than so much.
-    pub(crate) fn push(
-        &mut self,
-        what: NodeKind,
-        kids: &[u32],
-        values: &[u32],
-        places: &[u32],
-        cost: u32,
-    )
-        requires node_room { length self.old.nodes < self.old.node_room }
-        requires kid_room { edges self.old.nodes + length kids.now ≤ self.old.kid_room }
-        requires kids { All (λ k. k < length values.now) kids.now }
-        requires places { length places.now ≡ length values.now }
-        ensures { self.new ≡ record self.old {
-          nodes = self.old.nodes
-              ++ record { what = what; kids = kept_kids values.now places.now cost kids.now } ∷ [];
-        } }
-    {
-        gather(&mut self.kids, kids, values, places, cost);
-        put(&mut self.ends, self.kids.len());
-        put(&mut self.kinds, what);
-    }
-
-    /// Does the same, unless one kid stays: then that stands for the node. The place of what does.
+    /// Adds a node over the places of the kids that cost something, and no more than so much. If it need not stay a node of its own
+    /// and one kid is left, nothing is added. Gives the place of what stands for the node: itself, or that kid.
     pub(crate) fn add(
         &mut self,
         what: NodeKind,
@@ -99,19 +77,22 @@ impl SmallNodes {
         values: &[u32],
         places: &[u32],
         cost: u32,
+        own: bool,
     ) -> u32
         requires node_room { length self.old.nodes < self.old.node_room }
         requires kid_room { edges self.old.nodes + length kids.now ≤ self.old.kid_room }
         requires kids { All (λ k. k < length values.now) kids.now }
         requires places { length places.now ≡ length values.now }
         requires few { length self.old.nodes ≤ u32.MAX }
-        ensures adds { Adds self.old.nodes
+        ensures adds { own ≡ false → Adds self.old.nodes
             (record { what = what; kids = kept_kids values.now places.now cost kids.now }) self.new.nodes result }
+        ensures own { own ≡ true → self.new.nodes ≡ self.old.nodes
+            ++ record { what = what; kids = kept_kids values.now places.now cost kids.now } ∷ [] }
         ensures stays { self.new ≡ record self.old { nodes = self.new.nodes } }
     {
         let before = self.kids.len();
         gather(&mut self.kids, kids, values, places, cost);
-        if self.kids.len() == before + 1 {
+        if !own && self.kids.len() == before + 1 {
             let only = self.kids[before];
             self.kids.truncate(before);
             return only;

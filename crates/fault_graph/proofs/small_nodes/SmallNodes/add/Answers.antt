@@ -1,4 +1,5 @@
-use Rattle.std.proofs.Common.{◌≡◌, ◌++◌, ◌∷◌, [], length, length-append, ap, ◌∙◌, arith, inr}
+use Rattle.std.proofs.Common.{◌≡◌, ◌++◌, ◌∷◌, [], length, length-append, ap, sym, ◌∙◌, arith, inr}
+use Rattle.std.proofs.lemmas.Bool.{false≢true}
 use Rattle.state_rules.specs.Graphs.{edges}
 use Rattle.flat_lists.specs.Flat.{pieces, EndAt}
 use Rattle.node_store.specs.Flat.{nodes_of}
@@ -6,7 +7,7 @@ use Rattle.fault_graph.specs.inner.Filled.{Filled}
 use Rattle.fault_graph.specs.inner.Rows.{kept_kids}
 use Rattle.fault_graph.proofs.Filling.{sizes, filled}
 use Rattle.fault_graph.proofs.small_nodes.SmallNodes.add.Goals as goal
-use Rattle.fault_graph.proofs.small_nodes.SmallNodes.add.Goals.{After-self, After-put-2}
+use Rattle.fault_graph.proofs.small_nodes.SmallNodes.add.Goals.{After-self, After-put-2, else-not-own-via-then-not-own+else-len-before, else-not-own-via-else-not-own}
 
 there : (c : After-self) → (length c.args.self.now.nodes ≡ length c.self.inside.kinds.items) × (edges c.args.self.now.nodes ≡ length c.self.inside.kids.items)
 there c = sizes c.self.inside.kinds.items c.self.inside.ends.items c.self.inside.kids.items c.args.self.now.nodes c.self.invariant.0 c.self.invariant.1 (ap (λ (f : Filled). f.nodes) c.self.view_is)
@@ -44,10 +45,16 @@ pub overflow_cast-place : goal.overflow_cast-place
 overflow_cast-place c = omega (arith, (there (goal.at.overflow_cast-place c).After-self).0, c.len-place.ensures, c.self.inside.kinds.ok.0, c.requires.few)
 
 pub returns-clause-adds : goal.returns-clause-adds
-returns-clause-adds c =
+returns-clause-adds c = λ kept.
     let row = kept_kids c.args.values.now c.args.places.now c.args.cost c.args.kids.now in
     inr (
       (more (goal.at.returns-clause-adds c).After-put-2).1,
       omega (arith, (there (goal.at.returns-clause-adds c).After-self).0, c.len-place.ensures, c.self.inside.kinds.ok.0),
-      (λ (one : length row ≡ 1). c.if-len-before.false (omega (arith, one, c.len.ensures, c.len-before.ensures, c.gather.new.all.ok.0, c.self.inside.kids.ok.0, ap length c.gather.ensures.kept, length-append c.self.inside.kids.items row))),
+      (λ (one : length row ≡ 1). elim c.else-not-own.branch [
+        | else-not-own-via-then-not-own+else-len-before w ↦ w.if-len-before.false (omega (arith, one, w.len.ensures, c.len-before.ensures, c.gather.new.all.ok.0, c.self.inside.kids.ok.0, ap length c.gather.ensures.kept, length-append c.self.inside.kids.items row))
+        | else-not-own-via-else-not-own w ↦ false≢true (sym kept ∙ w.if-not-own.false)
+      ]),
     )
+
+pub returns-clause-own : goal.returns-clause-own
+returns-clause-own c = λ own. (more (goal.at.returns-clause-own c).After-put-2).1

@@ -1,4 +1,4 @@
-use Rattle.std.proofs.Common.{◌∙◌, ◌<◌, ℕ, List, Bool, All, get_or, length, ap, sym, subst, arith}
+use Rattle.std.proofs.Common.{◌∙◌, ◌<◌, ℕ, List, Bool, All, get_or, length, ap, sym, subst}
 use Rattle.conditioner.specs.Words.{bits_of}
 use Rattle.session_core.specs.inner.Desks.{OnDesk, agreeing, least_asked, diagnoses_asked}
 use Rattle.session_core.proofs.Desks.{least-asked, diagnoses-asked, fits_after, stays_after}

@@ -21,33 +21,19 @@ use crate::desk_memory::DeskMemory;
 use conditioner::is_open;
 use diag_edge::{Sink, WriteFailed};
 use diagnosis_lister::Step;
-use fault_graph::Distiller;
 use level_lister::LevelStep;
 use minimiser::Steps;
 use probe_report::{Blame, cost_of, probe, probe_all};
-use scratch_pool::Region;
 use script_lang::{Noted, each_name};
 use smooth_nnf::write_least_with;
 use std::alloc::{AllocError, Global};
 use std::marker::Model;
 use std::sync::ledger::Ledger;
 
-/// What is asked over, the words of the case that is asked, and the memory that answers are worked out in. All of it is taken when
-/// a desk is made.
+/// What is asked over, and the memory that answers are worked out in. All of it is taken when a desk is made.
 pub(crate) struct Desk {
     basis: Basis,
-    // a word for each variable, which passes change and put back
-    known: Vec<u32>,
-    // what a pass finds at each node
-    values: Vec<u32>,
-    // what was found last: a state, a verdict for each part, and two numbers for each wire
-    state: Vec<u32>,
-    verdicts: Vec<Blame>,
-    numbers: Vec<u32>,
-    // a smaller graph that has the diagnoses of the words that were asked last
-    distiller: Distiller,
-    // room that an answer takes whole for its while: the probes of all wires, and what is told besides
-    room: Region,
+    memory: DeskMemory,
 }
 
 // One call, so that the prover does not go through the desk at each place that lets one go.
@@ -55,13 +41,7 @@ impl Drop for Desk {
     fn drop(self) {
         let Desk {
             basis: _,
-            known: _,
-            values: _,
-            state: _,
-            verdicts: _,
-            numbers: _,
-            distiller: _,
-            room: _,
+            memory: _,
         } = self;
     }
 }
@@ -73,19 +53,19 @@ impl Model for Desk {
 
     ghost view = { λ d. record {
       subject = d.basis;
-      known = d.known.items;
-      state = d.state.items;
-      verdicts = d.verdicts.items;
-      numbers = d.numbers.items;
+      known = d.memory.known.items;
+      state = d.memory.state.items;
+      verdicts = d.memory.verdicts.items;
+      numbers = d.memory.numbers.items;
     } };
 
     ghost invariant = { λ d. FitsTogether (record {
       subject = d.basis;
-      known = d.known.items;
-      state = d.state.items;
-      verdicts = d.verdicts.items;
-      numbers = d.numbers.items;
-    }) d.values.items d.room d.distiller };
+      known = d.memory.known.items;
+      state = d.memory.state.items;
+      verdicts = d.memory.verdicts.items;
+      numbers = d.memory.numbers.items;
+    }) d.memory.values.items d.memory.room d.memory.distiller };
 }
 
 impl Desk {
@@ -93,25 +73,8 @@ impl Desk {
     pub(crate) fn new(alloc: Global, basis: Basis) -> Result<Desk, AllocError>
         ensures { IfOk result (λ desk. desk.subject ≡ basis) }
     {
-        let DeskMemory {
-            known,
-            values,
-            state,
-            verdicts,
-            numbers,
-            distiller,
-            room,
-        } = DeskMemory::new(alloc, &basis)?;
-        Ok(Desk {
-            basis,
-            known,
-            values,
-            state,
-            verdicts,
-            numbers,
-            distiller,
-            room,
-        })
+        let memory = DeskMemory::new(alloc, &basis)?;
+        Ok(Desk { basis, memory })
     }
 
     /// What is asked over.
@@ -127,7 +90,7 @@ impl Desk {
         ensures one_a_part { length self.now.state ≡ length self.now.subject.parts }
         ensures bits { All (λ s. s < 2) self.now.state }
     {
-        &self.state
+        &self.memory.state
     }
 
     /// The verdicts that were found last.
@@ -135,7 +98,7 @@ impl Desk {
         ensures verdicts { result.now ≡ self.now.verdicts }
         ensures one_a_part { length self.now.verdicts ≡ length self.now.subject.parts }
     {
-        &self.verdicts
+        &self.memory.verdicts
     }
 
     /// From here on the case of these words is asked.
@@ -143,7 +106,7 @@ impl Desk {
         requires { AreKnown self.old.subject words.now }
         ensures { self.new ≡ record self.old { known = words.now } }
     {
-        self.known.copy_from_slice(words);
+        self.memory.known.copy_from_slice(words);
     }
 
     /// Whether a wire is seen in the case.
@@ -151,7 +114,7 @@ impl Desk {
         requires { wire < length self.now.subject.wires }
         ensures { result ≡ is_some (seen_at (asked_case self.now) wire) }
     {
-        !is_open(self.known[self.basis.parts().len() + wire as usize])
+        !is_open(self.memory.known[self.basis.parts().len() + wire as usize])
     }
 
     /// Whether some state agrees with the case.
@@ -159,11 +122,11 @@ impl Desk {
         ensures some { result ≡ is_some (least_asked self.old) }
         ensures same { self.new ≡ self.old }
     {
-        self.distiller.prepare(
+        self.memory.distiller.prepare(
             self.basis.graph(),
-            &self.known,
+            &self.memory.known,
             self.basis.costs(),
-            &mut self.values,
+            &mut self.memory.values,
             steps,
         )
     }
@@ -174,13 +137,13 @@ impl Desk {
         ensures first { IfSome result (λ _. bits_of self.new.state ≡ slice_index_or (diagnoses_asked self.old) 0 []) }
         ensures stays { self.new ≡ record self.old { state = self.new.state } }
     {
-        self.state.fill(0);
-        self.distiller.first(
+        self.memory.state.fill(0);
+        self.memory.distiller.first(
             self.basis.graph(),
-            &mut self.known,
+            &mut self.memory.known,
             self.basis.costs(),
-            &mut self.values,
-            &mut self.state,
+            &mut self.memory.values,
+            &mut self.memory.state,
             steps,
         )
     }
@@ -221,13 +184,13 @@ impl Desk {
             → bits_of self.new.state ≡ slice_index_or (rest (diagnoses_asked self.old) (Some (bits_of old.now))) 0 [] }
         ensures stays { self.new ≡ record self.old { state = self.new.state } }
     {
-        self.state.copy_from_slice(old);
-        self.distiller.next(
+        self.memory.state.copy_from_slice(old);
+        self.memory.distiller.next(
             self.basis.graph(),
-            &mut self.known,
+            &mut self.memory.known,
             self.basis.costs(),
-            &mut self.values,
-            &mut self.state,
+            &mut self.memory.values,
+            &mut self.memory.state,
             steps,
         )
     }
@@ -247,18 +210,22 @@ impl Desk {
             (later_asked self.old (option_map (λ old. bits_of old.now) point.entry)) 0 [] }
         ensures stays { self.new ≡ record self.old { state = self.new.state } }
     {
-        let pointed = start_at(&mut self.state, point);
+        let pointed = start_at(&mut self.memory.state, point);
         let levels = self.basis.levels().unwrap();
-        let run = self.room.carve(self.basis.level_room(levels)).unwrap();
+        let run = self
+            .memory
+            .room
+            .carve(self.basis.level_room(levels))
+            .unwrap();
         let step = levels.next_in(
             self.basis.graph(),
-            &mut self.known,
-            self.room.run_mut(&run),
-            &mut self.state,
+            &mut self.memory.known,
+            self.memory.room.run_mut(&run),
+            &mut self.memory.state,
             pointed,
             steps,
         );
-        self.room.release(run);
+        self.memory.room.release(run);
         step
     }
 
@@ -273,9 +240,9 @@ impl Desk {
         write_least_with(
             self.basis.graph(),
             self.basis.part_sets(),
-            &self.known,
+            &self.memory.known,
             self.basis.costs(),
-            &mut self.room,
+            &mut self.memory.room,
             out,
         )
     }
@@ -287,13 +254,13 @@ impl Desk {
         ensures long { length self.new.verdicts ≡ length self.new.subject.parts }
         ensures stays { self.new ≡ record self.old { state = self.new.state; verdicts = self.new.verdicts } }
     {
-        self.distiller.blame_all(
+        self.memory.distiller.blame_all(
             self.basis.graph(),
-            &mut self.known,
+            &mut self.memory.known,
             self.basis.costs(),
-            &mut self.values,
-            &mut self.state,
-            &mut self.verdicts,
+            &mut self.memory.values,
+            &mut self.memory.state,
+            &mut self.memory.verdicts,
             steps,
         );
     }
@@ -311,10 +278,10 @@ impl Desk {
     {
         probe(
             self.basis.graph(),
-            &mut self.known,
+            &mut self.memory.known,
             self.basis.costs(),
             self.basis.parts().len() as u32 + wire + 1,
-            &mut self.values,
+            &mut self.memory.values,
             steps,
         )
     }
@@ -326,16 +293,16 @@ impl Desk {
             → probed self.new.numbers wire bit ≡ least_seen self.old wire bit }
         ensures stays { self.new ≡ record self.old { numbers = self.new.numbers } }
     {
-        let run = self.room.carve(self.basis.probes_room()).unwrap();
+        let run = self.memory.room.carve(self.basis.probes_room()).unwrap();
         let least = probe_all(
             self.basis.graph(),
-            &self.known,
+            &self.memory.known,
             self.basis.costs(),
-            self.room.run_mut(&run),
-            &mut self.numbers,
+            self.memory.room.run_mut(&run),
+            &mut self.memory.numbers,
             steps,
         );
-        self.room.release(run);
+        self.memory.room.release(run);
         least.is_some()
     }
 
@@ -345,8 +312,8 @@ impl Desk {
         ensures zero { result.0 ≡ probed self.now.numbers wire false }
         ensures one { result.1 ≡ probed self.now.numbers wire true }
     {
-        let zero = cost_of(&self.numbers, wire as usize, false);
-        let one = cost_of(&self.numbers, wire as usize, true);
+        let zero = cost_of(&self.memory.numbers, wire as usize, false);
+        let one = cost_of(&self.memory.numbers, wire as usize, true);
         (zero, one)
     }
 
@@ -356,7 +323,7 @@ impl Desk {
         ensures state { result ≡ true → bits_of self.new.state ≡ state_of (words names.now) self.old.subject.parts }
         ensures stays { self.new ≡ record self.old { state = self.new.state } }
     {
-        mark_named(&self.basis, names, &mut self.state)
+        mark_named(&self.basis, names, &mut self.memory.state)
     }
 }
 

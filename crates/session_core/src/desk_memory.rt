@@ -12,12 +12,17 @@ use std::alloc::{AllocError, Global};
 /// What a desk works with besides what is asked over.
 #[derive(Drop)]
 pub(crate) struct DeskMemory {
+    // a word for each variable, which passes change and put back
     pub(crate) known: Vec<u32>,
+    // what a pass finds at each node
     pub(crate) values: Vec<u32>,
+    // what was found last: a state, a verdict for each part, and two numbers for each wire
     pub(crate) state: Vec<u32>,
     pub(crate) verdicts: Vec<Blame>,
     pub(crate) numbers: Vec<u32>,
+    // room that an answer takes whole for its while: the probes of all wires, and what is told besides
     pub(crate) room: Region,
+    // a smaller graph that has the diagnoses of the words that were asked last
     pub(crate) distiller: Distiller,
 }
 

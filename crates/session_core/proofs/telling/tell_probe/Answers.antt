@@ -6,7 +6,7 @@ use Rattle.session_rules.specs.declared.refusal.Refusal.TheVariants.{NoWire}
 use Rattle.session_rules.specs.Refusals.{refusal_row}
 use Rattle.session_rules.specs.GraphSystems.{Subject, system_of}
 use Rattle.session_rules.specs.Items.{line}
-use Rattle.session_rules.specs.Replies.{probe_line, probe_told, inconsistent, count_text, if_any}
+use Rattle.session_rules.specs.Replies.{probe_line, probe_told, inconsistent, count_text}
 use Rattle.session_rules.specs.Sessions.{error_words}
 use Rattle.session_rules.specs.Spelling.{Replies}
 use Rattle.session_rules.proofs.Spellings.{replies_one}

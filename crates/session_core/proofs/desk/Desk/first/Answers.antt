@@ -1,4 +1,4 @@
-use Rattle.std.proofs.Common.{◌∙◌, ◌<◌, ℕ, List, Bool, All, get_or, length, ap, sym, subst, arith}
+use Rattle.std.proofs.Common.{◌∙◌, ◌<◌, ℕ, List, Bool, All, get_or, length, ap, sym, subst}
 use Rattle.conditioner.specs.Words.{bits_of}
 use Rattle.session_core.specs.inner.Desks.{OnDesk, agreeing, least_asked, diagnoses_asked}
 use Rattle.session_core.proofs.Desks.{least-asked, diagnoses-asked, fits_after, stays_after}
@@ -9,14 +9,14 @@ use Rattle.session_core.proofs.desk.Desk.first.Goals as goal
 pub returns-clause-least : goal.returns-clause-least
 returns-clause-least g c =
     c.first.ensures.least
-    ∙ least-asked c.self.inside.basis c.self.inside.known.items c.graph.ensures.basis c.self.invariant.known _ _ _ c.graph.ensures.graph c.deref_mut.ensures.value c.costs.ensures
+    ∙ least-asked c.self.inside.basis c.self.inside.memory.known.items c.graph.ensures.basis c.self.invariant.known _ _ _ c.graph.ensures.graph c.deref_mut.ensures.value c.costs.ensures
     ∙ ap (λ (desk : OnDesk). least_asked desk) c.self.view_is
 
 pub returns-clause-first : goal.returns-clause-first
 returns-clause-first g c =
     let desk = c.args.self.now in
     let old = bits_of c.deref_mut-3.result.now in
-    let ds = diagnoses-asked c.self.inside.basis c.self.inside.known.items c.graph.ensures.basis c.self.invariant.known _ _ _ c.graph.ensures.graph c.deref_mut.ensures.value c.costs.ensures
+    let ds = diagnoses-asked c.self.inside.basis c.self.inside.memory.known.items c.graph.ensures.basis c.self.invariant.known _ _ _ c.graph.ensures.graph c.deref_mut.ensures.value c.costs.ensures
     ∙ ap (λ (d : OnDesk). diagnoses_asked d) c.self.view_is in
     let back = written_back c.fill.new.self.len c.first.new.state c.fill.new.self.items (sym (c.first.auto.state ∙ c.deref_mut-3.ensures.len)) in
     first_some desk.subject.costs (agreeing desk) c.first.result _ old (returns-clause-least g c)
@@ -24,15 +24,15 @@ returns-clause-first g c =
 
 pub invariant_of-self : goal.invariant_of-self
 invariant_of-self g c =
-    let known = written_back c.self.inside.known.len c.first.new.words c.self.inside.known.items (sym (c.first.auto.words ∙ c.deref_mut.ensures.len)) in
-    let values = written_back c.self.inside.values.len c.first.new.values c.self.inside.values.items (sym (c.first.auto.values ∙ c.deref_mut-2.ensures.len)) in
+    let known = written_back c.self.inside.memory.known.len c.first.new.words c.self.inside.memory.known.items (sym (c.first.auto.words ∙ c.deref_mut.ensures.len)) in
+    let values = written_back c.self.inside.memory.values.len c.first.new.values c.self.inside.memory.values.items (sym (c.first.auto.values ∙ c.deref_mut-2.ensures.len)) in
     let state = written_back c.fill.new.self.len c.first.new.state c.fill.new.self.items (sym (c.first.auto.state ∙ c.deref_mut-3.ensures.len)) in
     fits_after _ _ _ _ c.self.invariant _ _ _ _ _ _ _ (known ∙ (c.first.ensures.words ∙ c.deref_mut.ensures.value))
-    (ap length state ∙ (c.first.auto.state ∙ (c.deref_mut-3.ensures.len ∙ (c.fill.ensures.len ∙ (c.self.inside.state.ok.0 ∙ c.self.invariant.one_a_part)))))
+    (ap length state ∙ (c.first.auto.state ∙ (c.deref_mut-3.ensures.len ∙ (c.fill.ensures.len ∙ (c.self.inside.memory.state.ok.0 ∙ c.self.invariant.one_a_part)))))
     (subst (λ (xs : List ℕ). All (λ s. s < 2) xs) (sym state) c.first.ensures.state) c.self.invariant.verdict_a_part
     (ap length values ∙ (c.first.auto.values ∙ ap length c.deref_mut-2.ensures.value)) c.graph.ensures.graph c.costs.ensures c.first.ensures.serves
 
 pub returns-clause-stays : goal.returns-clause-stays
 returns-clause-stays g c =
-    let known = written_back c.self.inside.known.len c.first.new.words c.self.inside.known.items (sym (c.first.auto.words ∙ c.deref_mut.ensures.len)) in
+    let known = written_back c.self.inside.memory.known.len c.first.new.words c.self.inside.memory.known.items (sym (c.first.auto.words ∙ c.deref_mut.ensures.len)) in
     stays_after _ _ _ _ c.self.view_is (known ∙ (c.first.ensures.words ∙ c.deref_mut.ensures.value))

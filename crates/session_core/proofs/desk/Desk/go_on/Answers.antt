@@ -10,8 +10,8 @@ use Rattle.session_core.proofs.desk.Desk.go_on.Goals as goal
 
 pub returns-clause-step : goal.returns-clause-step
 returns-clause-step g c =
-    let states = states-asked c.self.inside.basis c.self.inside.known.items c.graph.ensures.basis c.self.invariant.known _ _ _ c.graph.ensures.graph c.deref_mut.ensures.value c.costs.ensures in
-    let list = diagnoses-asked c.self.inside.basis c.self.inside.known.items c.graph.ensures.basis c.self.invariant.known _ _ _ c.graph.ensures.graph c.deref_mut.ensures.value c.costs.ensures in
+    let states = states-asked c.self.inside.basis c.self.inside.memory.known.items c.graph.ensures.basis c.self.invariant.known _ _ _ c.graph.ensures.graph c.deref_mut.ensures.value c.costs.ensures in
+    let list = diagnoses-asked c.self.inside.basis c.self.inside.memory.known.items c.graph.ensures.basis c.self.invariant.known _ _ _ c.graph.ensures.graph c.deref_mut.ensures.value c.costs.ensures in
     let at = c.deref_mut-3.ensures.value ∙ c.copy_from_slice.ensures.items in
     c.next.ensures.step
     ∙ ((λ i. step_of (states i) (rest (list i) (Some (bits_of (at i)))))
@@ -21,7 +21,7 @@ pub returns-clause-state : goal.returns-clause-state
 returns-clause-state g c = λ found.
     let desk = c.args.self.now in
     let old = bits_of c.args.old.now in
-    let list = diagnoses-asked c.self.inside.basis c.self.inside.known.items c.graph.ensures.basis c.self.invariant.known _ _ _ c.graph.ensures.graph c.deref_mut.ensures.value c.costs.ensures in
+    let list = diagnoses-asked c.self.inside.basis c.self.inside.memory.known.items c.graph.ensures.basis c.self.invariant.known _ _ _ c.graph.ensures.graph c.deref_mut.ensures.value c.costs.ensures in
     let at = c.deref_mut-3.ensures.value ∙ c.copy_from_slice.ensures.items in
     let back = written_back c.copy_from_slice.new.self.len c.next.new.state c.copy_from_slice.new.self.items (sym (c.next.auto.state ∙ c.deref_mut-3.ensures.len)) in
     let later = rest (diagnoses_asked desk) (Some old) in
@@ -33,15 +33,15 @@ returns-clause-state g c = λ found.
 
 pub invariant_of-self : goal.invariant_of-self
 invariant_of-self g c =
-    let known = written_back c.self.inside.known.len c.next.new.words c.self.inside.known.items (sym (c.next.auto.words ∙ c.deref_mut.ensures.len)) in
-    let values = written_back c.self.inside.values.len c.next.new.values c.self.inside.values.items (sym (c.next.auto.values ∙ c.deref_mut-2.ensures.len)) in
+    let known = written_back c.self.inside.memory.known.len c.next.new.words c.self.inside.memory.known.items (sym (c.next.auto.words ∙ c.deref_mut.ensures.len)) in
+    let values = written_back c.self.inside.memory.values.len c.next.new.values c.self.inside.memory.values.items (sym (c.next.auto.values ∙ c.deref_mut-2.ensures.len)) in
     let state = written_back c.copy_from_slice.new.self.len c.next.new.state c.copy_from_slice.new.self.items (sym (c.next.auto.state ∙ c.deref_mut-3.ensures.len)) in
     fits_after _ _ _ _ c.self.invariant _ _ _ _ _ _ _ (known ∙ (c.next.ensures.words ∙ c.deref_mut.ensures.value))
-    (ap length state ∙ (c.next.auto.state ∙ (c.deref_mut-3.ensures.len ∙ (c.copy_from_slice.ensures.len ∙ (c.self.inside.state.ok.0 ∙ c.self.invariant.one_a_part)))))
+    (ap length state ∙ (c.next.auto.state ∙ (c.deref_mut-3.ensures.len ∙ (c.copy_from_slice.ensures.len ∙ (c.self.inside.memory.state.ok.0 ∙ c.self.invariant.one_a_part)))))
     (subst (λ (xs : List ℕ). All (λ s. s < 2) xs) (sym state) c.next.ensures.state) c.self.invariant.verdict_a_part
     (ap length values ∙ (c.next.auto.values ∙ ap length c.deref_mut-2.ensures.value)) c.graph.ensures.graph c.costs.ensures c.next.ensures.serves
 
 pub returns-clause-stays : goal.returns-clause-stays
 returns-clause-stays g c =
-    let known = written_back c.self.inside.known.len c.next.new.words c.self.inside.known.items (sym (c.next.auto.words ∙ c.deref_mut.ensures.len)) in
+    let known = written_back c.self.inside.memory.known.len c.next.new.words c.self.inside.memory.known.items (sym (c.next.auto.words ∙ c.deref_mut.ensures.len)) in
     stays_after _ _ _ _ c.self.view_is (known ∙ (c.next.ensures.words ∙ c.deref_mut.ensures.value))

@@ -44,12 +44,12 @@ kept_so basis found levels is =
 
 pub invariant_of-self : goal.invariant_of-self
 invariant_of-self g c =
-    let before = c.self.inside.room in
+    let before = c.self.inside.memory.room in
     let run = c.unwrap-run.result in
     let at = carved_so before c.carve.new.self c.level_room.result c.carve.result run c.unwrap-run.ensures c.carve.ensures.run in
-    let known = written_back c.self.inside.known.len c.next_in-step.new.words c.self.inside.known.items (sym (c.next_in-step.auto.words ∙ c.deref_mut-2.ensures.len))
+    let known = written_back c.self.inside.memory.known.len c.next_in-step.new.words c.self.inside.memory.known.items (sym (c.next_in-step.auto.words ∙ c.deref_mut-2.ensures.len))
     ∙ (c.next_in-step.ensures.words ∙ c.deref_mut-2.ensures.value) in
-    let state = written_back c.self.inside.state.len c.next_in-step.new.state _ (sym (c.next_in-step.auto.state ∙ c.deref_mut-3.ensures.len)) in
+    let state = written_back c.self.inside.memory.state.len c.next_in-step.new.state _ (sym (c.next_in-step.auto.state ∙ c.deref_mut-3.ensures.len)) in
     record {
       known = subst (AreKnown c.self.inside.basis) (sym known) c.self.invariant.known;
       one_a_part = ap length state ∙ (c.next_in-step.auto.state ∙ (c.deref_mut-3.ensures.len ∙ (sym c.deref_mut.ensures.len ∙ (ap length c.deref_mut.ensures.value ∙ c.self.invariant.one_a_part))));
@@ -65,11 +65,11 @@ invariant_of-self g c =
 pub returns-clause-step : goal.returns-clause-step
 returns-clause-step g c =
     let basis = c.self.inside.basis in
-    let known = c.self.inside.known.items in
+    let known = c.self.inside.memory.known.items in
     let kept = c.unwrap-levels.result.now in
     let so = kept_so basis c.levels.result c.unwrap-levels.result c.unwrap-levels.ensures c.levels.ensures.some in
     let point = option_map (λ (old : Bor (List ℕ)). bits_of old.now) c.args.point in
-    let start = written_back c.self.inside.state.len c.start_at-pointed.new.state c.self.inside.state.items (sym (c.start_at-pointed.auto.state ∙ c.deref_mut.ensures.len)) in
+    let start = written_back c.self.inside.memory.state.len c.start_at-pointed.new.state c.self.inside.memory.state.items (sym (c.start_at-pointed.auto.state ∙ c.deref_mut.ensures.len)) in
     let from = ap (λ (xs : List ℕ). point_if c.start_at-pointed.result (bits_of xs)) (c.deref_mut-3.ensures.value ∙ start) ∙ c.start_at-pointed.ensures.point in
     c.next_in-step.ensures.step
     ∙ ((λ i. level_step kept.costs (models (c.graph.ensures.graph i) (c.deref_mut-2.ensures.value i) (length kept.costs)) (later_levels (c.graph.ensures.graph i) (c.deref_mut-2.ensures.value i) kept (from i)))
@@ -80,13 +80,13 @@ pub returns-clause-state : goal.returns-clause-state
 returns-clause-state g c = λ cost found.
     let desk = c.args.self.now in
     let basis = c.self.inside.basis in
-    let known = c.self.inside.known.items in
+    let known = c.self.inside.memory.known.items in
     let kept = c.unwrap-levels.result.now in
     let so = kept_so basis c.levels.result c.unwrap-levels.result c.unwrap-levels.ensures c.levels.ensures.some in
     let point = option_map (λ (old : Bor (List ℕ)). bits_of old.now) c.args.point in
-    let start = written_back c.self.inside.state.len c.start_at-pointed.new.state c.self.inside.state.items (sym (c.start_at-pointed.auto.state ∙ c.deref_mut.ensures.len)) in
+    let start = written_back c.self.inside.memory.state.len c.start_at-pointed.new.state c.self.inside.memory.state.items (sym (c.start_at-pointed.auto.state ∙ c.deref_mut.ensures.len)) in
     let from = ap (λ (xs : List ℕ). point_if c.start_at-pointed.result (bits_of xs)) (c.deref_mut-3.ensures.value ∙ start) ∙ c.start_at-pointed.ensures.point in
-    let state = written_back c.self.inside.state.len c.next_in-step.new.state _ (sym (c.next_in-step.auto.state ∙ c.deref_mut-3.ensures.len)) in
+    let state = written_back c.self.inside.memory.state.len c.next_in-step.new.state _ (sym (c.next_in-step.auto.state ∙ c.deref_mut-3.ensures.len)) in
     let old = bits_of c.deref_mut-3.result.now in
     ap bits_of state
     ∙ (c.next_in-step.ensures.next
@@ -97,15 +97,15 @@ returns-clause-state g c = λ cost found.
 
 pub run_mut-requires : goal.run_mut-requires
 run_mut-requires g c =
-    let at = carved_so c.self.inside.room c.carve.new.self c.level_room.result c.carve.result c.unwrap-run.result c.unwrap-run.ensures c.carve.ensures.run in
-    is_held c.self.inside.room c.carve.new.self c.unwrap-run.result c.self.invariant.unused at.1
+    let at = carved_so c.self.inside.memory.room c.carve.new.self c.level_room.result c.carve.result c.unwrap-run.result c.unwrap-run.ensures c.carve.ensures.run in
+    is_held c.self.inside.memory.room c.carve.new.self c.unwrap-run.result c.self.invariant.unused at.1
 
 pub next_in-step-requires : goal.next_in-step-requires
 next_in-step-requires g c =
     let basis = c.self.inside.basis in
     let kept = c.unwrap-levels.result.now in
     let so = kept_so basis c.levels.result c.unwrap-levels.result c.unwrap-levels.ensures c.levels.ensures.some in
-    let start = written_back c.self.inside.state.len c.start_at-pointed.new.state c.self.inside.state.items (sym (c.start_at-pointed.auto.state ∙ c.deref_mut.ensures.len)) in
+    let start = written_back c.self.inside.memory.state.len c.start_at-pointed.new.state c.self.inside.memory.state.items (sym (c.start_at-pointed.auto.state ∙ c.deref_mut.ensures.len)) in
     let at = c.deref_mut-3.ensures.value ∙ start in
     let room = ap length c.run_mut.ensures.value
     ∙ (run_long c.carve.new.self c.level_room.result c.carve.result c.unwrap-run.result c.unwrap-run.ensures c.carve.ensures.zeros ∙ (c.level_room.ensures.room
@@ -121,5 +121,5 @@ next_in-step-requires g c =
 
 pub returns-clause-stays : goal.returns-clause-stays
 returns-clause-stays g c =
-    let known = written_back c.self.inside.known.len c.next_in-step.new.words c.self.inside.known.items (sym (c.next_in-step.auto.words ∙ c.deref_mut-2.ensures.len)) in
+    let known = written_back c.self.inside.memory.known.len c.next_in-step.new.words c.self.inside.memory.known.items (sym (c.next_in-step.auto.words ∙ c.deref_mut-2.ensures.len)) in
     stays_after _ _ _ _ c.self.view_is (known ∙ (c.next_in-step.ensures.words ∙ c.deref_mut-2.ensures.value))

@@ -18,6 +18,6 @@ pub returns-clause-text : goal.returns-clause-text
 returns-clause-text g c =
     subst (λ (text : List ℕ). Puts (g.O.Sink.got c.args.out.now) (g.O.Sink.got c.write_least_with.new.out) c.write_least_with.result text)
     ((λ i. least_text (c.graph.ensures.graph i) (c.deref.ensures.value i) (c.costs.ensures i))
-    ∙ (text_is c.self.inside.basis c.self.inside.known.items c.self.invariant.known
+    ∙ (text_is c.self.inside.basis c.self.inside.memory.known.items c.self.invariant.known
     ∙ ap (λ (d : OnDesk). least_case_text d.subject (asked_case d)) c.self.view_is))
     c.write_least_with.ensures.bytes

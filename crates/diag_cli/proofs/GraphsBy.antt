@@ -1,5 +1,5 @@
 -- What is compiled, by the sum that a budget limits.
-use Rattle.std.proofs.Common.{◌≡◌, ◌≤◌, ◌+◌, ◌*◌, ℕ, length, Option, Some, None, Result, Ok, Err, sym, subst, arith}
+use Rattle.std.proofs.Common.{◌≡◌, ◌≤◌, ℕ, Option, Some, None, Result, Ok, Err, sym, subst, arith}
 use Rattle.std.specs.Prelude.{IfOk, IfErr}
 use Rattle.text_rules.specs.Expected.{IsExpectedFault, Fulfils}
 use Rattle.clause_encoder.specs.Clauses.{ClauseList}

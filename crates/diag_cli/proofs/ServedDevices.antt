@@ -1,5 +1,5 @@
 -- A service over a device's graph answers as the device's system does.
-use Rattle.std.proofs.Common.{◌≡◌, ◌≤◌, ◌+◌, ◌*◌, ℕ, [], ◌∷◌, length, ap, ◌∙◌, arith}
+use Rattle.std.proofs.Common.{◌≡◌, ◌≤◌, ℕ, [], ◌∷◌, ap, ◌∙◌, arith}
 use Rattle.std.specs.Prelude.{Result, Ok, Err, IfOk}
 use Rattle.text_rules.specs.Expected.{Fulfils}
 use Rattle.state_rules.specs.declared.extras.Extras.{Extras}

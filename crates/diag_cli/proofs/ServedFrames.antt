@@ -1,5 +1,5 @@
 -- A service over a netlist and several times answers as its system does.
-use Rattle.std.proofs.Common.{◌≡◌, ◌≤◌, ◌+◌, ◌*◌, ℕ, List, [], ◌∷◌, length, ap, sym, subst, ◌∙◌, arith}
+use Rattle.std.proofs.Common.{◌≡◌, ◌≤◌, ◌+◌, ℕ, List, [], ◌∷◌, length, ap, sym, subst, ◌∙◌, arith}
 use Rattle.std.specs.Prelude.{Result, Ok, Option}
 use Rattle.std.specs.Result.{result_and}
 use Rattle.std.proofs.lemmas.List.{length-map, length-replicate}

@@ -20,7 +20,7 @@ pub const DEFAULT_BUDGET: u32 = 2_097_152;
 pub const DEFAULT_SESSIONS: u32 = 16;
 
 /// How `serve` answers a script.
-#[derive(Clone, Copy, Debug)]
+#[derive(Clone, Copy)]
 pub struct ServeOptions {
     /// The sum of the clauses is at most this, from 1 to `BUDGET_LIMIT`.
     pub budget: u32,
@@ -33,7 +33,7 @@ pub struct ServeOptions {
 }
 
 /// What is done over a file.
-#[derive(Clone, Copy, Debug)]
+#[derive(Clone, Copy)]
 pub enum Command {
     /// `serve`: answers the script on the input over the device of the file.
     Serve { options: ServeOptions },
@@ -49,7 +49,7 @@ pub enum Command {
 }
 
 /// What the words of the command line ask for.
-#[derive(Clone, Copy, Debug)]
+#[derive(Clone, Copy)]
 pub enum Form<'a> {
     /// `load N`: makes an adder of so many places, and prints what its readings come to.
     Load { places: u32 },
@@ -58,7 +58,7 @@ pub enum Form<'a> {
 }
 
 /// The numbers that an option takes, in decimal digits.
-#[derive(Clone, Copy, Debug)]
+#[derive(Clone, Copy)]
 pub struct Numbers {
     /// So many digits at most.
     pub digits: usize,

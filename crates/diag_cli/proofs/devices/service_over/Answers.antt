@@ -1,4 +1,4 @@
-use Rattle.std.proofs.Common.{◌≡◌, ◌≤◌, ◌+◌, ◌∙◌, ℕ, List, [], true, length, IfSome, ap, sym, subst, subst₂, rules}
+use Rattle.std.proofs.Common.{◌≡◌, ◌≤◌, ◌+◌, ◌∙◌, List, [], true, length, IfSome, ap, sym, subst, subst₂, rules}
 use Rattle.std.proofs.lemmas.List.{length-map}
 use Rattle.text_rules.specs.Names.{Name, names_rise}
 use Rattle.device_model.specs.declared.component.Component.{Component}

@@ -33,13 +33,7 @@ silent nodes v Or [] e = refl
 silent nodes v Or (k ∷ ks) e = absurd (let clash : true ≡ false = sym e ∙ filled k ks in let never : ⊥ = cc in never)
 
 pub named_plain : (vars : ℕ) (nodes : List Node) (k v : ℕ) → AreNodes vars nodes → mentions nodes v k ≡ true → IsPlain nodes k
-named_plain vars nodes k v are named = λ node there. by node there (is_bare node.what node.kids) refl where
-  by : (node : Node) → slice_get nodes k ≡ Some node → (b : Bool) → is_bare node.what node.kids ≡ b → is_bare node.what node.kids ≡ false
-  by node there false e = e
-  by node there true e =
-      let none : mentions nodes v k ≡ false = value_of-get (mention_by v) nodes k node there (fits-get vars nodes k node are.fit there).below ∙ silent nodes v node.what node.kids e in
-      let clash : true ≡ false = sym named ∙ none in
-      absurd (let never : ⊥ = cc in never)
+named_plain vars nodes k v are named = grind (arith, value_of-get (mention_by v) nodes k, fits-get vars nodes k, silent nodes v)
 
 pub named_all : (vars : ℕ) (nodes : List Node) (v : ℕ) (o : Option ℕ) → AreNodes vars nodes → IfSome o (λ n. mentions nodes v n ≡ true) → IfSome o (IsPlain nodes)
 named_all vars nodes v None are named = tt
@@ -93,7 +87,7 @@ two_kidless nodes a b none e f = subst HaveNoKids (append_assoc nodes (a ∷ [])
 
 literals_kidless : (n : ℕ) → HaveNoKids (literals n)
 literals_kidless zero i n there = absurd (let never : ⊥ = cc in never)
-literals_kidless (suc n) i m there = two_kidless (literals n) (literal_node (n + 1) true) (literal_node (n + 1) false) (literals_kidless n) refl refl i m there
+literals_kidless (suc n) i m there = grind (arith, two_kidless (literals n), literals_kidless n)
 
 grown_kidless : (old new : List Node) (node : Node) → AddsAtMost old node new → HaveNoKids old → node.kids ≡ [] → HaveNoKids new
 grown_kidless old new node (inl e) none f = subst HaveNoKids (sym e) none

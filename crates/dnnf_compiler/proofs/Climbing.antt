@@ -134,13 +134,7 @@ head_at i x xs ys e =
 
 forks_many : (forest : Forest) (base : Place) → length (forks_on forest base) ≡ length (steps_of forest)
 forks_many none base = refl
-forks_many (tree v below beside) base = omega (
-  arith,
-  length-append (forks_on below (decided v (part (v ∷ variables below) base))) (forks_on beside base),
-  length-append (steps_of below) (steps_of beside),
-  forks_many below (decided v (part (v ∷ variables below) base)),
-  forks_many beside base,
-)
+forks_many (tree v below beside) base = grind (arith, length-append, forks_many below, forks_many beside base)
 
 -- ---- the way up
 

@@ -8,9 +8,6 @@ use Rattle.dnnf_compiler.specs.inner.Joining.{Grows, IsConstant}
 pub grows_not : (nodes : List Node) → Grows nodes nodes
 grows_not nodes = record { longer = omega arith; truth = λ k a h. refl; variables = λ k v h. refl }
 
-pub grows_then : (old mid new : List Node) → Grows old mid → Grows mid new → Grows old new
-grows_then old mid new g h = grind arith
-
 pub constant_grows : (old new : List Node) (value : Bool) (node : ℕ) → Grows old new → IsConstant old value node → IsConstant new value node
 constant_grows old new value node g is = grind arith
 

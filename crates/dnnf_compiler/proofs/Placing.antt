@@ -26,10 +26,6 @@ use Rattle.dnnf_compiler.specs.inner.Placing.{rest_by, left_by, Spot, spots_on, 
 both_fail : (x y : Bool) → (not x && not y) ≡ not (x || y)
 both_fail x y = grind arith
 
-literal-next : (bound : List ℕ) (v : ℕ) (a : Assignment) (u : ℕ) (positive : Bool) → is_among bound v ≡ false
-    → (not (is_among bound u) && same_bit positive (a u)) ≡ (((u == v) && same_bit positive (a v)) || (not ((v == u) || is_among bound u) && same_bit positive (a u)))
-literal-next bound v a u positive free = grind (arith, nat_tests)
-
 clause-next : (bound : List ℕ) (v : ℕ) (a : Assignment) (clause : Clause) → is_among bound v ≡ false → rest_by bound a clause ≡ (has_true v (a v) clause || rest_by (v ∷ bound) a clause)
 clause-next bound v a [] free = refl
 clause-next bound v a (l ∷ clause) free = grind (arith, nat_tests, clause-next bound v a clause free)
@@ -38,7 +34,7 @@ clause-next bound v a (l ∷ clause) free = grind (arith, nat_tests, clause-next
 pub expand_by : (v : ℕ) (place : Place) (a : Assignment) (list : List Bool) → is_among place.bound v ≡ false → left_by place a list ≡ left_by (decided v place) a (next_by v place list (a v))
 expand_by v place a list free = ap not ((λ j. some_passes (λ c. each c j) place.clauses list) ∙ sym (passes_without (λ c. not (rest_by (v ∷ place.bound) a c)) (has_true v (a v)) place.clauses list)) where
   each : (c : Clause) → not (rest_by place.bound a c) ≡ (not (has_true v (a v) c) && not (rest_by (v ∷ place.bound) a c))
-  each c = ap not (clause-next place.bound v a c free) ∙ sym (both_fail (has_true v (a v) c) (rest_by (v ∷ place.bound) a c))
+  each c = grind (arith, clause-next place.bound v a c free)
 
 -- ---- a dead list does not hold
 
@@ -211,11 +207,12 @@ pub root_holds : (clauses : List Clause) (a : Assignment) → left_by (root clau
 root_holds [] a = refl
 root_holds (c ∷ clauses) a = grind (arith, nat_tests, root_holds clauses a)
 
+open_first : (vars : ℕ) (c : Clause) → is_clause vars c ≡ true → is_within [] c ≡ false
+open_first vars [] e = absurd (false≢true e)
+open_first vars (l ∷ c) e = refl
+
 root_alive : (vars : ℕ) (clauses : List Clause) → list_all (is_clause vars) clauses ≡ true → is_dead_by [] clauses (map (λ c. true) clauses) ≡ false
-root_alive vars clauses e = none_passes (is_within []) clauses (map (λ c. true) clauses) (λ c m. open_first c (all-at (is_clause vars) c clauses e m)) where
-  open_first : (c : Clause) → is_clause vars c ≡ true → is_within [] c ≡ false
-  open_first [] e = absurd (false≢true e)
-  open_first (l ∷ c) e = refl
+root_alive vars clauses e = grind (arith, none_passes, all-at, open_first vars)
 
 pub root_down : (cnf : ClauseList) (forest : Forest) → is_forest_of forest cnf ≡ true → list_all (is_clause cnf.vars) cnf.clauses ≡ true → IsDown forest (root cnf.clauses) (map (λ c. true) cnf.clauses)
 root_down cnf forest e valid = record {
@@ -234,9 +231,7 @@ root_base cnf forest e valid =
 
 -- a list is at its number
 pub number_at : (lists : List (List Bool)) (x : List Bool) → In x lists → slice_get lists (number_in lists x) ≡ Some x
-number_at lists x there =
-    let at = position-Some (λ other. same_list other x) lists (number_in lists x) [] (found-at (λ other. same_list other x) lists (any_in (λ other. same_list other x) x lists there (pointwise-refl x))) in
-    slice_get-get_or lists (number_in lists x) [] at.0 ∙ ap Some (pointwise-equal (get_or lists (number_in lists x) []) x at.1)
+number_at lists x there = grind (arith, position-Some (λ other. same_list other x) lists (number_in lists x) [], found-at (λ other. same_list other x) lists, any_in (λ other. same_list other x) x lists there, pointwise-refl x, slice_get-get_or lists (number_in lists x) [], pointwise-equal (get_or lists (number_in lists x) []) x)
 
 -- the part of a list is at a tree
 pub part_in : (vs : List ℕ) (base : Place) (list : List Bool) → In list base.lists → In (part_of vs base list) (part vs base).lists

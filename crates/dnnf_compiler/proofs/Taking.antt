@@ -5,6 +5,7 @@ use Rattle.std.specs.declared.alloc.Global.{Global}
 use Rattle.std.specs.List.{list_any, list_all, AllByRecursion}
 use Rattle.std.proofs.Math.Bool.{or-false}
 use Rattle.std.proofs.lemmas.Bool.{eqb-true, eq-eqb, or_left}
+use Rattle.std.proofs.lemmas.Bool.Decides.{nat_tests}
 use Rattle.std.proofs.lemmas.List.Elements.{All-from_recursion}
 use Rattle.state_rules.specs.Bits.{same_bit}
 use Rattle.state_rules.specs.Assignments.{Assignment}
@@ -72,14 +73,12 @@ module _ (m : Maker) (var : ℕ) (bit : Bool) (below : List (Vec ℕ Global)) (n
   kids_meetable maker few = record {
     maker = maker;
     within = All-from_recursion (λ k. k < length m.store.nodes) kids (literal_in, is.within);
-    apart = λ v. by v (var == v) refl;
+    apart = by;
     few_kids = omega (arith, is.few, length-taken below numbers is.held, length-held below numbers is.held);
     few = few;
   } where
-    by : (v : ℕ) (b : Bool) → (var == v) ≡ b → at_most_one (map (mentions m.store.nodes v) kids) ≡ true
-    by v true e = others_none (mentions m.store.nodes v literal) (map (mentions m.store.nodes v) (taken below numbers))
-        (list_any-map (λ b. b) (mentions m.store.nodes v) (taken below numbers) ∙ ap (λ u. list_any (mentions m.store.nodes u) (taken below numbers)) (sym (eqb-true var v e)) ∙ is.free)
-    by v false e = first_none (mentions m.store.nodes v literal) (map (mentions m.store.nodes v) (taken below numbers)) (variables v ∙ e) (is.apart v)
+    by : (v : ℕ) → at_most_one (map (mentions m.store.nodes v) kids) ≡ true
+    by v = grind (arith, nat_tests, others_none, list_any-map, is.free, is.apart v, variables v)
 
   module _ (new : Maker) (node : ℕ) (meet : IsMeet m new kids node) where
     adds : Adds m new 1 (1 + length below)
@@ -134,9 +133,6 @@ choice_one old mid most new var below zero one first second node zero_usable one
 
 choice_grows : (old new more : List Node) (var : ℕ) (below : List (Vec ℕ Global)) (zero one : Option (List ℕ)) (node : ℕ) → Grows new more → IsChoice old new var below zero one node → IsChoice old more var below zero one node
 choice_grows old new more var below zero one node g is = grind arith
-
-bit_usable : (P : List ℕ → Type 0) (zero one : Option (List ℕ)) (bit : Bool) → IfSome zero P → IfSome one P → IfSome (bit_way zero one bit) P
-bit_usable P zero one bit h k = grind arith
 
 -- what a node was made of later says the same of the nodes that were there at first
 choice_before : (old mid new : List Node) (var : ℕ) (below : List (Vec ℕ Global)) (zero one : Option (List ℕ)) (node : ℕ) → Grows old mid

@@ -4,7 +4,7 @@ use Rattle.std.specs.Prelude.{slice_get, reverse, Vec}
 use Rattle.std.specs.declared.alloc.Global.{Global}
 use Rattle.std.specs.List.{flat_map, list_all, AllByRecursion}
 use Rattle.std.proofs.lemmas.Nat.{mul-le}
-use Rattle.std.proofs.lemmas.List.{append-nil, drop_more, drop-drop, length-drop, length-reverse, reverse-append}
+use Rattle.std.proofs.lemmas.List.{append-nil, nil_from_length, drop_more, drop-drop, length-drop, length-reverse, reverse-append}
 use Rattle.std.proofs.lemmas.List.Elements.{All-from_recursion}
 use Rattle.std.proofs.lemmas.Option.{slice_get-get_or}
 use Rattle.std.proofs.lemmas.List.Concat.{flat_map-append}
@@ -55,7 +55,7 @@ all_sum (spot ∷ spots) = (length spot.place.lists + sum_on Lists spot.below (d
 
 steps_on : (forest : Forest) (base : Place) → flat_map its_steps (spots_on forest base) ≡ steps_of forest
 steps_on none base = refl
-steps_on (tree v below beside) base = ap (λ xs. (record { var = v; trees = trees below }) ∷ (steps_of below ++ xs)) (steps_on beside base)
+steps_on (tree v below beside) base = grind (arith, steps_on beside base)
 
 forks_along : (forest : Forest) (base : Place) → flat_map its_forks (spots_on forest base) ≡ forks_on forest base
 forks_along none base = refl
@@ -163,14 +163,11 @@ module _ (cnf : ClauseList) (steps : List Step) (forks : List Forks) (forest : F
   pub forks_long : length forks ≡ length steps
   forks_long = ap length is.forks_are ∙ forks_many forest (root cnf.clauses) ∙ sym (ap length is.steps_are)
 
-  bounded : sum_on Lists forest (root cnf.clauses) ≤ BUDGET_LIMIT
-  bounded = is.few
-
   its_after : is_clause_list cnf ≡ true → (i : ℕ) → IsAfter cnf.vars (width forest) BUDGET_LIMIT i steps forks (spots_at (start cnf forest) i)
   its_after valid i = all_after cnf.vars (width forest) BUDGET_LIMIT i steps forks (start cnf forest) (record {
     steps_are = steps_on forest (root cnf.clauses) ∙ sym is.steps_are;
     forks_are = forks_along forest (root cnf.clauses) ∙ sym is.forks_are;
-    few = omega (arith, sum_along forest (root cnf.clauses), bounded);
+    few = omega (arith, sum_along forest (root cnf.clauses), is.few);
     each = each_spot cnf.vars forest (root cnf.clauses) (root_base cnf forest is.forest_is (clauses-valid cnf valid).2);
     narrow = narrow_on (width forest) forest (root cnf.clauses) (omega arith);
   })
@@ -234,12 +231,8 @@ module _ (cnf : ClauseList) (steps : List Step) (forks : List Forks) (forest : F
     all = map (λ c. true) cnf.clauses
 
     module _ (top under : List (Vec ℕ Global)) (are : reverse stack ≡ top ++ reverse under) (many : length top ≡ length stack) where
-      empty : (xs : List (Vec ℕ Global)) → length xs ≡ 0 → xs ≡ []
-      empty [] e = refl
-      empty (x ∷ xs) e = absurd (omega arith)
-
       whole : reverse stack ≡ top
-      whole = are ∙ ap (λ xs. top ++ xs) (empty (reverse under) (omega (arith, ap length are, length-append top (reverse under), length-reverse stack, many))) ∙ append-nil top
+      whole = grind (arith, are, length-append, length-reverse, many, append-nil, nil_from_length)
 
       levels : AreLevels m.store.nodes (spots_on forest (root cnf.clauses)) top
       levels = subst (AreLevels m.store.nodes (spots_on forest (root cnf.clauses))) whole climbing.stacked
@@ -253,12 +246,9 @@ module _ (cnf : ClauseList) (steps : List Step) (forks : List Forks) (forest : F
       pub top_many : length top ≡ trees forest
       top_many = sym (length-levels m.store.nodes (spots_on forest (root cnf.clauses)) top levels) ∙ length-spots forest (root cnf.clauses)
 
-      number_one : (x : List Bool) → number_in (x ∷ []) x ≡ 0
-      number_one x = ap (λ b. cond (not b) (1 + 0) 0) (pointwise-refl x)
-
       begin_zero : (part_forest : Forest) → begins part_forest (root cnf.clauses) all ≡ replicate (trees part_forest) 0
       begin_zero none = refl
-      begin_zero (tree v below beside) = λ j. number_one (part_of (v ∷ variables below) (root cnf.clauses) all) j ∷ begin_zero beside j
+      begin_zero (tree v below beside) = grind (arith, begin_zero beside, pointwise-refl)
 
       module _ (numbers : List ℕ) (n : ℕ) (long : n ≡ length stack) (zeros : numbers ≡ replicate n 0) where
         same_numbers : begins forest (root cnf.clauses) all ≡ numbers
@@ -280,8 +270,8 @@ module _ (cnf : ClauseList) (steps : List Step) (forks : List Forks) (forest : F
               maker = climbing.maker;
               within = All-from_recursion (λ k. k < length m.store.nodes) kids (subst (AllByRecursion (λ k. k < length m.store.nodes)) kids_are its_begin.within);
               apart = subst (AreApart m.store.nodes) kids_are its_begin.apart;
-              few_kids = omega (arith, kids_many, trees_few forest (root cnf.clauses) all there, bounded);
-              few = omega (arith, climbing.made, sum_along forest (root cnf.clauses), bounded);
+              few_kids = omega (arith, kids_many, trees_few forest (root cnf.clauses) all there, is.few);
+              few = omega (arith, climbing.made, sum_along forest (root cnf.clauses), is.few);
             };
             right = λ new node compiled meet valid_graph frozen made.
                 let vars : new.store.vars ≡ cnf.vars = meet.adds.vars ∙ climbing.vars in

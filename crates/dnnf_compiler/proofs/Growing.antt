@@ -12,5 +12,4 @@ pub constant_grows : (old new : List Node) (value : Bool) (node : ℕ) → Grows
 constant_grows old new value node g is = grind arith
 
 pub grows_by : (old new : List Node) (kind : NodeKind) (kids : List ℕ) (number : ℕ) → AddsAtMost old (record { what = kind; kids = kids }) new → Means old new kind kids number → Grows old new
-grows_by old new kind kids number (inl e) means = record { longer = omega (arith, ap length e); truth = λ k a h. means.true_before k a h; variables = λ k v h. means.variables_before k v h }
-grows_by old new kind kids number (inr e) means = record { longer = omega (arith, ap length e, length-append old (record { what = kind; kids = kids } ∷ [])); truth = λ k a h. means.true_before k a h; variables = λ k v h. means.variables_before k v h }
+grows_by old new kind kids number adds means = grind (arith, length-append)

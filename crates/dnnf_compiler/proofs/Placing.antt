@@ -95,9 +95,7 @@ along_within (tree v below beside) bound c e f = grind (arith, nat_tests, along_
 pub down_holds : (forest : Forest) (base : Place) (a : Assignment) (list : List Bool) → IsDown forest base list → left_by base a list ≡ trees_hold forest base a list
 down_holds forest base a list is = sym (trees_say forest base a list ∙ ap not (passes_full (meets (variables forest)) (λ c. not (rest_by base.bound a c)) base.clauses list full)) where
   full : some_passes (λ c. not (meets (variables forest) c)) base.clauses list ≡ false
-  full = fail_by (λ c. is_within base.bound c || not (is_along forest base.bound c)) (λ c. not (meets (variables forest) c)) (λ c e.
-      let parts = or_parts (is_within base.bound c) (not (is_along forest base.bound c)) e in
-      ap not (true_from_ne_false (meets (variables forest) c) (λ f. false≢true (sym parts.0 ∙ along_within forest base.bound c (not-false (is_along forest base.bound c) parts.1) f)))) base.clauses list
+  full = fail_by (λ c. is_within base.bound c || not (is_along forest base.bound c)) (λ c. not (meets (variables forest) c)) (λ c e. grind (arith, e, along_within forest base.bound c)) base.clauses list
       (passes_or (is_within base.bound) (λ c. not (is_along forest base.bound c)) base.clauses list ∙ (λ j. is.alive j || is.along j))
 
 -- the trees of a base, or the last of them
@@ -123,7 +121,7 @@ each_spot vars (tree v below beside) base is = (
     along = each-different GoesDown (map (part_of own base) base.lists) (each-map Along GoesDown (part_of own base)
         (λ list e. passes_without (λ c. not (is_along below (v ∷ base.bound) c)) (λ c. not (meets own c)) base.clauses list
         ∙ fail_by (λ c. meets (variables (tree v below beside)) c && not (is_along (tree v below beside) base.bound c)) (λ c. not (not (meets own c)) && not (is_along below (v ∷ base.bound) c))
-        (λ c. own_along (meets own c) (meets (variables (tree v below beside)) c) (meets (variables beside) c) (is_along below (v ∷ base.bound) c) (is_along beside base.bound c) (meets-append own (variables beside) c)) base.clauses list e) base.lists is.along);
+        (λ c f. grind (arith, f, meets-append own (variables beside) c)) base.clauses list e) base.lists is.along);
   },
   each_spot vars beside base (record {
     once = once_back own (variables beside) is.once;
@@ -131,7 +129,7 @@ each_spot vars (tree v below beside) base is = (
     fit = (parts (fits vars) is.fit).1;
     along = each_more Along Later base.lists (λ list e.
         fail_by (λ c. meets (variables (tree v below beside)) c && not (is_along (tree v below beside) base.bound c)) (λ c. meets (variables beside) c && not (is_along beside base.bound c))
-        (λ c. later_along (meets own c) (meets (variables (tree v below beside)) c) (meets (variables beside) c) (is_along below (v ∷ base.bound) c) (is_along beside base.bound c) (meets-append own (variables beside) c)) base.clauses list e) is.along;
+        (λ c f. grind (arith, f, meets-append own (variables beside) c)) base.clauses list e) is.along;
   }),
 ) where
   own : List ℕ
@@ -174,8 +172,7 @@ each_decided P Q v place h each =
       both x = followed_by v place x false ++ followed_by v place x true
 
       one : (x : List Bool) (bit : Bool) → P x → AllByRecursion Q (followed_by v place x bit)
-      one x bit p = each-filter (λ l. is_dead_by (v ∷ place.bound) place.clauses l ≡ false → Q l) Q (λ next. not (is_dead_by (v ∷ place.bound) place.clauses next))
-          (λ l q e. q (not-true (is_dead_by (v ∷ place.bound) place.clauses l) e)) (next_by v place x bit ∷ []) (h x bit p, tt)
+      one x bit p = grind (arith, h x bit p)
 
 pub each_down : (vars : ℕ) (spot : Spot) → IsSpot vars spot → AllByRecursion (IsDown spot.below (decided spot.v spot.place)) (decided spot.v spot.place).lists
 each_down vars spot is =
@@ -188,12 +185,7 @@ each_down vars spot is =
     }) is.along
 
 pub below_base : (vars : ℕ) (spot : Spot) → IsSpot vars spot → IsBase vars spot.below (decided spot.v spot.place)
-below_base vars spot is =
-    let once = and_parts (not (is_among (variables spot.below) spot.v)) (is_once (variables spot.below)) is.once in
-    down_base vars spot.below (decided spot.v spot.place) once.1
-    (free_next spot.v spot.place.bound (variables spot.below) (not-true (is_among (variables spot.below) spot.v) once.0)
-    (and_parts (not (is_among spot.place.bound spot.v)) (list_all (λ u. not (is_among spot.place.bound u)) (variables spot.below)) is.free).1)
-    (and_parts (fits vars spot.v) (list_all (fits vars) (variables spot.below)) is.fit).1 (each_down vars spot is)
+below_base vars spot is = grind (arith, nat_tests, down_base vars spot.below (decided spot.v spot.place), free_next spot.v spot.place.bound (variables spot.below), each_down vars spot is)
 
 pub spot_free : (vars : ℕ) (spot : Spot) → IsSpot vars spot → is_among spot.place.bound spot.v ≡ false
 spot_free vars spot is = grind (arith, nat_tests)
@@ -215,17 +207,10 @@ root_alive : (vars : ℕ) (clauses : List Clause) → list_all (is_clause vars) 
 root_alive vars clauses e = grind (arith, none_passes, all-at, open_first vars)
 
 pub root_down : (cnf : ClauseList) (forest : Forest) → is_forest_of forest cnf ≡ true → list_all (is_clause cnf.vars) cnf.clauses ≡ true → IsDown forest (root cnf.clauses) (map (λ c. true) cnf.clauses)
-root_down cnf forest e valid = record {
-  alive = root_alive cnf.vars cnf.clauses valid;
-  along = all_fail (is_along forest []) cnf.clauses (map (λ c. true) cnf.clauses)
-      (and_parts (is_once (variables forest) && list_all (fits cnf.vars) (variables forest)) (list_all (is_along forest []) cnf.clauses) e).1;
-}
+root_down cnf forest e valid = grind (arith, nat_tests, root_alive cnf.vars cnf.clauses valid, all_fail (is_along forest []) cnf.clauses (map (λ c. true) cnf.clauses))
 
 pub root_base : (cnf : ClauseList) (forest : Forest) → is_forest_of forest cnf ≡ true → list_all (is_clause cnf.vars) cnf.clauses ≡ true → IsBase cnf.vars forest (root cnf.clauses)
-root_base cnf forest e valid =
-    let own = and_parts (is_once (variables forest)) (list_all (fits cnf.vars) (variables forest))
-    (and_parts (is_once (variables forest) && list_all (fits cnf.vars) (variables forest)) (list_all (is_along forest []) cnf.clauses) e).0 in
-    down_base cnf.vars forest (root cnf.clauses) own.0 (all-in (λ u. not (is_among [] u)) (variables forest) (λ u m. refl)) own.1 (root_down cnf forest e valid, tt)
+root_base cnf forest e valid = grind (arith, nat_tests, down_base cnf.vars forest (root cnf.clauses), all-in (λ u. not (is_among [] u)) (variables forest) (λ u m. refl), root_down cnf forest e valid)
 
 -- ---- the number of a list
 

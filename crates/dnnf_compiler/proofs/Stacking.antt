@@ -141,10 +141,7 @@ module _ (vars : ℕ) (spot : Spot) (nodes : List Node) (levels : List (Vec ℕ 
   chosen_node new list n at node = grind (arith, way_says list false, way_says list true, way_silent list false, way_silent list true)
 
   pub all_usable : (bit : Bool) → All (λ w. IfSome w (IsUsable nodes spot.v levels)) (map (way bit) spot.place.lists)
-  all_usable bit k d h =
-      let low : k < length spot.place.lists = omega (arith, h, length-map spot.place.lists (way bit)) in
-      subst (λ w. IfSome w (IsUsable nodes spot.v levels)) (sym (get_or-map (way bit) spot.place.lists k [] d low))
-      (way_usable (get_or spot.place.lists k []) bit (In-at spot.place.lists k [] low))
+  all_usable bit k d h = grind (arith, length-map, get_or-map (way bit) spot.place.lists k [] d, way_usable (get_or spot.place.lists k []) bit, In-at spot.place.lists k [])
 
   chosen_nodes : (old new : Maker) (numbers : List ℕ) → nodes ≡ old.store.nodes → AreChoices old new spot.v levels (forks_at spot.v spot.below spot.place) numbers → AreNodesAt spot new.store.nodes numbers
   chosen_nodes old new numbers same made = record {
@@ -158,7 +155,7 @@ module _ (vars : ℕ) (spot : Spot) (nodes : List Node) (levels : List (Vec ℕ 
 
 module _ (m : Maker) (step : Step) (forks : Forks) (stack under : List (Vec ℕ Global)) (top : List (Vec ℕ Global)) (spot : Spot) (rest : List Spot) (ready : IsReady m step forks stack spot rest) where
   pub enough : step.trees ≤ length stack
-  enough = omega (arith, ap (λ (s : Step). s.trees) ready.step_is, length-levels m.store.nodes (spots_below spot ++ rest) (reverse stack) ready.stacked, length-reverse stack, length-append (spots_below spot) rest, length-spots spot.below (decided spot.v spot.place))
+  enough = grind (arith, ready.step_is, length-levels m.store.nodes (spots_below spot ++ rest) (reverse stack) ready.stacked, length-reverse stack, length-append, length-spots)
 
   module _ (are : reverse stack ≡ top ++ reverse under) (many : length top ≡ step.trees) where
     its_many : length top ≡ trees spot.below

@@ -88,22 +88,10 @@ module _ (m : Maker) (var : ℕ) (bit : Bool) (below : List (Vec ℕ Global)) (n
     says a = meet.truth a ∙ ap (λ b. b && list_all (λ k. is_true m.store.nodes k a) (taken below numbers)) (truth a)
 
     pub take_false : node ≡ new.no → IsTaken m new var bit below (Some numbers) None
-    take_false e = record {
-      adds = adds;
-      within = tt;
-      names = tt;
-      truth = λ a. sym (ap (λ n. is_true new.store.nodes n a) e ∙ meet.adds.maker.no.truth a) ∙ says a;
-      silent = λ v other h. refl;
-    }
+    take_false e = grind (arith, adds, says, meet.adds.maker.no.truth)
 
     pub take_some : node ≢ new.no → IsTaken m new var bit below (Some numbers) (Some node)
-    take_some other = record {
-      adds = adds;
-      within = meet.within;
-      names = meet.names other var (or_left (mentions m.store.nodes var literal) (list_any (mentions m.store.nodes var) (taken below numbers)) (variables var ∙ eq-eqb var var refl));
-      truth = says;
-      silent = λ v e h. meet.silent v (λ j. (variables v ∙ e) j || h j);
-    }
+    take_some other = grind (arith, nat_tests, adds, says, meet.within, meet.names other var, meet.silent, variables)
 
 -- ---- both bits
 

@@ -182,13 +182,7 @@ module _ (cnf : ClauseList) (steps : List Step) (forks : List Forks) (forest : F
       → IsClimbing cnf (width forest) m stack (spots_at (start cnf forest) i)
   climb_first valid i m stack e made vars two no_kid empty = by (spots_at (start cnf forest) i) (ap length (its_after valid i).steps_are) where
     by : (spots : List Spot) → length (flat_map its_steps spots) ≡ length (drop i steps) → IsClimbing cnf (width forest) m stack spots
-    by [] same = record {
-      maker = made;
-      vars = vars;
-      stacked = subst (λ s. AreLevels m.store.nodes [] (reverse s)) (sym empty) tt;
-      made = omega (arith, two);
-      handed = omega (arith, no_kid);
-    }
+    by [] same = grind (arith, made, vars, two, no_kid, empty)
     by (spot ∷ rest) same = absurd (omega (arith, e, same, length-drop i steps))
 
   module _ (valid : is_clause_list cnf ≡ true) (i : ℕ) (m : Maker) (stack : List (Vec ℕ Global)) (next : IsNext (start cnf forest) i) (climbing : IsClimbing cnf (width forest) m stack (spots_at (start cnf forest) (suc i))) where
@@ -200,29 +194,13 @@ module _ (cnf : ClauseList) (steps : List Step) (forks : List Forks) (forest : F
 
     pub climb_ready : (step : Step) (fork : Forks) → slice_get steps i ≡ Some step → slice_get forks i ≡ Some fork → IsReady m step fork stack next.spot next.rest
     climb_ready step fork step_there forks_there =
-        let same_step : Some step ≡ Some (its_step next.spot) = sym step_there ∙ head_at i (its_step next.spot) steps _ known.steps_are in
-        let same_fork : Some fork ≡ Some (forks_at next.spot.v next.spot.below next.spot.place) =
-        sym forks_there ∙ head_at i (forks_at next.spot.v next.spot.below next.spot.place) forks _ known.forks_are in
-        record {
-          made = climbing.maker;
-          step_is = cc;
-          forks_are = cc;
-          spot_is = subst (λ n. IsSpot n next.spot) (sym climbing.vars) known.each.0;
-          stacked = climbed.stacked;
-          few = omega (arith, climbed.made, sum_next next.spot next.rest, known.few);
-          narrow = omega (arith, known.few);
-        }
+        let same_step : slice_get steps i ≡ Some (its_step next.spot) = head_at i (its_step next.spot) steps _ known.steps_are in
+        let same_fork : slice_get forks i ≡ Some (forks_at next.spot.v next.spot.below next.spot.place) = head_at i (forks_at next.spot.v next.spot.below next.spot.place) forks _ known.forks_are in
+        grind (arith, step_there, forks_there, same_step, same_fork, climbing, climbed, known, sum_next next.spot next.rest)
 
     pub climb_more : (new : Maker) (under : List (Vec ℕ Global)) (numbers : Vec ℕ Global) → IsRaised m new under numbers.items next.spot next.rest
         → IsClimbing cnf (width forest) new (under ++ numbers ∷ []) (spots_at (start cnf forest) i)
-    climb_more new under numbers raised = subst (IsClimbing cnf (width forest) new (under ++ numbers ∷ [])) (sym next.are) (record {
-      maker = raised.adds.maker;
-      vars = raised.adds.vars ∙ climbing.vars;
-      stacked = subst (AreLevels new.store.nodes (next.spot ∷ next.rest)) (sym (reverse-append under (numbers ∷ []))) (raised.nodes, raised.stacked);
-      made = omega (arith, raised.adds.made, climbed.made, sum_next next.spot next.rest);
-      handed = kids_few m.store.handed new.store.handed (trees next.spot.below) (width forest) (length next.spot.place.lists) (all_sum (spots_below next.spot ++ next.rest)) (all_sum (next.spot ∷ next.rest))
-          raised.adds.handed (omega (arith, trees_within next.spot.below, known.narrow.0)) climbed.handed (sum_next next.spot next.rest);
-    })
+    climb_more new under numbers raised = grind (arith, next.are, raised, climbing, climbed, known, sum_next next.spot next.rest, trees_within next.spot.below, kids_few m.store.handed new.store.handed (trees next.spot.below) (width forest), reverse-append under (numbers ∷ []))
 
   -- ---- the base of all
 
@@ -266,13 +244,7 @@ module _ (cnf : ClauseList) (steps : List Step) (forks : List Forks) (forest : F
 
           pub root_is : IsRoot cnf forest m kids
           root_is = record {
-            meetable = record {
-              maker = climbing.maker;
-              within = All-from_recursion (λ k. k < length m.store.nodes) kids (subst (AllByRecursion (λ k. k < length m.store.nodes)) kids_are its_begin.within);
-              apart = subst (AreApart m.store.nodes) kids_are its_begin.apart;
-              few_kids = omega (arith, kids_many, trees_few forest (root cnf.clauses) all there, is.few);
-              few = omega (arith, climbing.made, sum_along forest (root cnf.clauses), is.few);
-            };
+            meetable = grind (arith, climbing, All-from_recursion, kids_are, its_begin, kids_many, trees_few forest (root cnf.clauses) all there, is.few, sum_along forest (root cnf.clauses));
             right = λ new node compiled meet valid_graph frozen made.
                 let vars : new.store.vars ≡ cnf.vars = meet.adds.vars ∙ climbing.vars in
                 record {
@@ -293,4 +265,4 @@ module _ (cnf : ClauseList) (steps : List Step) (forks : List Forks) (forest : F
                 };
           } where
             last_kids : (handed k sum : ℕ) → handed ≤ (4 + 2 * k) * sum → handed + k ≤ (4 + 2 * k) * (1 + sum)
-            last_kids handed k sum h = let e : (4 + 2 * k) * (1 + sum) ≡ (4 + 2 * k) * sum + (4 + 2 * k) = omega arith in omega (arith, h, e)
+            last_kids handed k sum h = grind arith

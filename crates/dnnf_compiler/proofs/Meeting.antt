@@ -39,10 +39,7 @@ length-zip R [] (y ∷ ys) all = absurd all
 length-zip R (x ∷ xs) [] all = absurd all
 length-zip R (x ∷ xs) (y ∷ ys) all = ap suc (length-zip R xs ys all.1)
 
--- at most one, if the first is none, or no other is one
-pub first_none : (b : Bool) (bs : List Bool) → b ≡ false → at_most_one bs ≡ true → at_most_one (b ∷ bs) ≡ true
-first_none b bs e h = ap (λ b. at_most_one (b ∷ bs)) e ∙ h
-
+-- at most one, if no other is one
 none_one : (bs : List Bool) → list_any (λ b. b) bs ≡ false → at_most_one bs ≡ true
 none_one [] e = refl
 none_one (b ∷ bs) e = grind (arith, none_one bs)

@@ -105,12 +105,6 @@ pub record IsBase (vars : ℕ) (forest : Forest) (base : Place) : Type 0 where
   pub fit : list_all (fits vars) (variables forest) ≡ true
   pub along : AllByRecursion (λ list. some_passes (λ c. meets (variables forest) c && not (is_along forest base.bound c)) base.clauses list ≡ false) base.lists
 
-own_along : (own met later below beside : Bool) → met ≡ (own || later) → (met && not (cond own (not later && below) beside)) ≡ false → (not (not own) && not below) ≡ false
-own_along own met later below beside e f = grind arith
-
-later_along : (own met later below beside : Bool) → met ≡ (own || later) → (met && not (cond own (not later && below) beside)) ≡ false → (later && not beside) ≡ false
-later_along own met later below beside e f = grind arith
-
 pub each_spot : (vars : ℕ) (forest : Forest) (base : Place) → IsBase vars forest base → AllByRecursion (IsSpot vars) (spots_on forest base)
 each_spot vars none base is = tt
 each_spot vars (tree v below beside) base is = (

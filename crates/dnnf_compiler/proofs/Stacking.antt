@@ -23,7 +23,7 @@ use Rattle.dnnf_compiler.specs.inner.Joining.{Grows}
 use Rattle.dnnf_compiler.specs.inner.Making.{Adds}
 use Rattle.dnnf_compiler.specs.inner.Meeting.{taken, AreHeld, IsUsable, way_true, way_mentions, bit_way, IsChoice, IsPlaceable, AreChoices}
 use Rattle.dnnf_compiler.specs.inner.Placing.{left_by, Spot, spots_on, spots_below, IsSpot, IsNodeAt, AreNodesAt, AreLevels, IsReady, IsRaised}
-use Rattle.dnnf_compiler.proofs.Meeting.{first_none, others_none, length-zip}
+use Rattle.dnnf_compiler.proofs.Meeting.{others_none, length-zip}
 use Rattle.dnnf_compiler.proofs.Placing.{expand_by, dead_left, trees_hold, IsDown, down_holds, each_down, spot_free, spot_once, number_at, part_in, next_in}
 
 -- ---- nodes stay
@@ -65,13 +65,7 @@ pub begun : (nodes : List Node) (forest : Forest) (base : Place) (levels : List 
 begun nodes none base [] list once there are = record { held = tt; many = refl; within = tt; truth = λ a. refl; silent = λ u e. refl; apart = λ u. refl }
 begun nodes none base (level ∷ levels) list once there are = absurd are
 begun nodes (tree v below beside) base [] list once there are = absurd are
-begun nodes (tree v below beside) base (level ∷ levels) list once there are = more (begun nodes beside base levels list (later once) there are.1) where
-  own : List ℕ
-  own = v ∷ variables below
-
-  later : is_once (v ∷ (variables below ++ variables beside)) ≡ true → is_once (variables beside) ≡ true
-  later e = once_back (v ∷ variables below) (variables beside) e
-
+begun nodes (tree v below beside) base (level ∷ levels) list once there are = more (begun nodes beside base levels list (once_back (v ∷ variables below) (variables beside) once) there are.1) where
   k : ℕ
   k = number_in (part (v ∷ variables below) base).lists (part_of (v ∷ variables below) base list)
 
@@ -93,15 +87,9 @@ begun nodes (tree v below beside) base (level ∷ levels) list once there are = 
     many = ap suc rest.many;
     within = (node.within, rest.within);
     truth = λ a j. node.truth a j && rest.truth a j;
-    silent = λ u e. let parts = or_parts (is_among (v ∷ variables below) u) (is_among (variables beside) u) (sym (list_any-append (λ w. w == u) (v ∷ variables below) (variables beside)) ∙ e) in
-        λ j. node.silent u parts.0 j || rest.silent u parts.1 j;
-    apart = by;
-  } where
-    others : List ℕ
-    others = taken levels (begins beside base list)
-
-    by : (u : ℕ) → at_most_one (mentions nodes u n ∷ map (mentions nodes u) (taken levels (begins beside base list))) ≡ true
-    by u = grind (arith, node.silent u, rest.silent u, rest.apart u, others_none, list_any-map, once_apart (v ∷ variables below) (variables beside) u once)
+    silent = λ u e. grind (arith, e, node.silent u, rest.silent u, list_any-append);
+    apart = λ u. grind (arith, node.silent u, rest.silent u, rest.apart u, others_none, list_any-map, once_apart (v ∷ variables below) (variables beside) u once);
+  }
 
 -- ---- if a list is there, there are no more trees than lists
 
@@ -176,12 +164,4 @@ module _ (m : Maker) (step : Step) (forks : Forks) (stack under : List (Vec ℕ 
     }))
 
     pub raised : (new : Maker) (numbers : List ℕ) → AreChoices m new step.var top forks numbers → IsRaised m new under numbers spot rest
-    raised new numbers made =
-        let made_here : AreChoices m new spot.v top (forks_at spot.v spot.below spot.place) numbers =
-        subst (λ v. AreChoices m new v top (forks_at spot.v spot.below spot.place) numbers) (ap (λ (s : Step). s.var) ready.step_is) (subst (λ fs. AreChoices m new step.var top fs numbers) ready.forks_are made) in
-        let long : length numbers ≡ length spot.place.lists = made_here.long ∙ length-map spot.place.lists (way_by spot.v spot.below spot.place false) in
-        record {
-          adds = subst (λ n. Adds m new (3 * n) ((4 + 2 * trees spot.below) * n)) long (subst (λ k. Adds m new (3 * length numbers) ((4 + 2 * k) * length numbers)) its_many made.adds);
-          nodes = chosen_nodes m.store.vars spot m.store.nodes top ready.spot_is both.0 ready.narrow m new numbers refl made_here;
-          stacked = levels_grow m.store.nodes new.store.nodes rest (reverse under) made.adds.grows both.1;
-        }
+    raised new numbers made = grind (arith, ready.step_is, ready.forks_are, its_many, made, both, chosen_nodes m.store.vars spot m.store.nodes top ready.spot_is both.0 ready.narrow m new numbers refl, levels_grow m.store.nodes new.store.nodes rest (reverse under), length-map)

@@ -19,7 +19,7 @@ use Rattle.dnnf_compiler.specs.inner.Joining.{Grows}
 use Rattle.dnnf_compiler.specs.inner.Making.{IsMaker, Adds, IsJoin}
 use Rattle.dnnf_compiler.specs.inner.Meeting.{AreApart, AreMeetable, IsMeet, taken, AreHeld, IsUsable, way_true, way_mentions, bit_way, IsChoice, IsTaken, IsChosen}
 use Rattle.dnnf_compiler.proofs.Making.{adds_then, may_grow, mention_grows, get-push}
-use Rattle.dnnf_compiler.proofs.Meeting.{each_more, all_same, first_none, others_none, length-zip}
+use Rattle.dnnf_compiler.proofs.Meeting.{each_more, all_same, others_none, length-zip}
 
 -- ---- the nodes to which numbers lead
 
@@ -102,20 +102,7 @@ bit_true nodes a below zero one x = grind arith
 pub choice_one : (old mid most new : Maker) (var : ℕ) (below : List (Vec ℕ Global)) (zero one : Option (List ℕ)) (first second : Option ℕ) (node : ℕ)
     → IfSome zero (IsUsable old.store.nodes var below) → IfSome one (IsUsable old.store.nodes var below)
     → IsTaken old mid var false below zero first → IsTaken mid most var true below one second → IsJoin most new first second node → IsChosen old new var below zero one node
-choice_one old mid most new var below zero one first second node zero_usable one_usable off on join = record {
-  adds = adds_then old most new 2 (2 + 2 * length below) 1 2 3 (4 + 2 * length below) (adds_then old mid most 1 (1 + length below) 1 (1 + length below) 2 (2 + 2 * length below) off.adds on.adds refl (omega arith)) join.adds refl (omega arith);
-  right = record {
-    within = join.within;
-    truth = λ a.
-        join.truth a
-        ∙ (λ j. (may_grow mid.store.nodes most.store.nodes a first on.adds.grows off.within ∙ off.truth a) j
-        || (on.truth a ∙ ap (λ b. same_bit true (a var) && b) (way_grows old.store.nodes mid.store.nodes var below one a off.adds.grows one_usable)) j)
-        ∙ bit_true old.store.nodes a below zero one (a var);
-    silent = λ v other no_zero no_one. join.variables v
-        (mention_grows mid.store.nodes most.store.nodes v first on.adds.grows off.within ∙ off.silent v other no_zero)
-        (on.silent v other (names_grow old.store.nodes mid.store.nodes var below one v off.adds.grows one_usable ∙ no_one));
-  };
-}
+choice_one old mid most new var below zero one first second node zero_usable one_usable off on join = grind (arith, zero_usable, one_usable, off, on, join, adds_then old mid most, adds_then old most new, may_grow mid.store.nodes most.store.nodes, mention_grows mid.store.nodes most.store.nodes, way_grows old.store.nodes mid.store.nodes, names_grow old.store.nodes mid.store.nodes, bit_true)
 
 -- ---- all lists
 
@@ -136,14 +123,4 @@ pub choices_more : (old mid new : Maker) (var : ℕ) (below : List (Vec ℕ Glob
     → IfSome zero (IsUsable old.store.nodes var below) → IfSome one (IsUsable old.store.nodes var below)
     → slice_get zeros (length nodes) ≡ Some zero → slice_get ones (length nodes) ≡ Some one → Adds old mid more kids → IsChosen mid new var below zero one node
     → AreFirstChoices old mid var below zeros ones nodes → AreFirstChoices old new var below zeros ones (nodes ++ node ∷ [])
-choices_more old mid new var below zeros ones nodes zero one node more kids h k at_zero at_one adds made first j z o n here there at = by (get-push nodes node n j at) where
-  by : ((j ≡ length nodes) × (node ≡ n)) ⊎ (slice_get nodes j ≡ Some n) → IsChoice old.store.nodes new.store.nodes var below z o n
-  by (inl p) =
-      let e : Some zero ≡ Some z = sym at_zero ∙ ap (slice_get zeros) (sym p.0) ∙ here in
-      let f : Some one ≡ Some o = sym at_one ∙ ap (slice_get ones) (sym p.0) ∙ there in
-      let s : zero ≡ z = cc in
-      let t : one ≡ o = cc in
-      subst (λ z. IsChoice old.store.nodes new.store.nodes var below z o n) s (subst (λ o. IsChoice old.store.nodes new.store.nodes var below zero o n) t
-      (subst (IsChoice old.store.nodes new.store.nodes var below zero one) p.1
-      (choice_before old.store.nodes mid.store.nodes new.store.nodes var below zero one node adds.grows h k made.right)))
-  by (inr e) = choice_grows old.store.nodes mid.store.nodes new.store.nodes var below z o n made.adds.grows (first j z o n here there e)
+choices_more old mid new var below zeros ones nodes zero one node more kids h k at_zero at_one adds made first j z o n here there at = grind (arith, get-push nodes node n j at, choice_before old.store.nodes mid.store.nodes new.store.nodes var below zero one node adds.grows h k made.right, choice_grows old.store.nodes mid.store.nodes new.store.nodes var below z o n made.adds.grows, first j z o n here there)

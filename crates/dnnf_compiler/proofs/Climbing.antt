@@ -194,9 +194,7 @@ module _ (cnf : ClauseList) (steps : List Step) (forks : List Forks) (forest : F
 
     pub climb_ready : (step : Step) (fork : Forks) → slice_get steps i ≡ Some step → slice_get forks i ≡ Some fork → IsReady m step fork stack next.spot next.rest
     climb_ready step fork step_there forks_there =
-        let same_step : slice_get steps i ≡ Some (its_step next.spot) = head_at i (its_step next.spot) steps _ known.steps_are in
-        let same_fork : slice_get forks i ≡ Some (forks_at next.spot.v next.spot.below next.spot.place) = head_at i (forks_at next.spot.v next.spot.below next.spot.place) forks _ known.forks_are in
-        grind (arith, step_there, forks_there, same_step, same_fork, climbing, climbed, known, sum_next next.spot next.rest)
+        grind (arith, step_there, forks_there, head_at i (its_step next.spot) steps _ known.steps_are, head_at i (forks_at next.spot.v next.spot.below next.spot.place) forks _ known.forks_are, climbing, climbed, known, sum_next next.spot next.rest)
 
     pub climb_more : (new : Maker) (under : List (Vec ℕ Global)) (numbers : Vec ℕ Global) → IsRaised m new under numbers.items next.spot next.rest
         → IsClimbing cnf (width forest) new (under ++ numbers ∷ []) (spots_at (start cnf forest) i)

@@ -50,9 +50,7 @@ and-requires-clause-apart c =
     kept_apart c.args.self.now c.requires.maker c.args.kids.now c.as_slice.result.now (whole d) c.requires.apart
 
 pub and-requires-clause-few : goal.and-requires-clause-few
-and-requires-clause-few c =
-    let d = (goal.at.and-requires-clause-few c).After-as_slice in
-    omega (arith, kept_few c.args.self.now c.requires.maker c.args.kids.now c.as_slice.result.now (whole d), c.requires.few_kids)
+and-requires-clause-few c = grind (arith, kept_few c.args.self.now c.requires.maker c.args.kids.now c.as_slice.result.now (whole (goal.at.and-requires-clause-few c).After-as_slice))
 
 pub returns : goal.returns
 returns c =

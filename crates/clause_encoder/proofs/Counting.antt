@@ -41,8 +41,7 @@ table-counts rows e =
     }
 
 length-side : (ok : Bool) (allowed h : ℕ) (vs : List ℕ) → allowed < 2 ^ (2 ^ length vs) → length (blocked_rows ok allowed h vs) + count_ones allowed ≡ 2 ^ length vs
-length-side ok allowed h vs lt = ap (λ n. n + count_ones allowed) (length-map (filter (λ r. not (has_bit allowed r)) (rows_of vs)) (λ r. literal (not ok) h ∷ blocking_literals vs (row_bits r vs)))
-    ∙ others allowed (2 ^ length vs) lt
+length-side ok allowed h vs lt = grind (arith, length-map, ok, others)
 
 pub length-table : (rows : TruthTable) (h : ℕ) (vs : List ℕ) → is_table rows ≡ true → length vs ≡ rows.ports
     → length (table_clauses (Some rows) h vs) + count_ones rows.ok + count_ones rows.bad ≡ 2 * 2 ^ rows.ports
@@ -59,8 +58,7 @@ length-rows odd h xs y n long = length-map-range_with_len _ 0 (2 ^ length xs) �
 
 pub length-parity : (gate : Gate) (h : ℕ) (xs : List ℕ) (y inputs : ℕ) → length xs ≡ inputs → inputs ≤ 4 → gate.reduction ≡ OddOnes
     → length (gate_clauses gate h xs y) ≡ 1 * 2 ^ inputs % 18446744073709551616
-length-parity gate h xs y inputs long few odd = ap (λ r. length (reduction_clauses r gate.positive h xs y)) odd
-    ∙ length-rows gate.positive h xs y inputs long ∙ sym (shifted_far inputs (omega arith))
+length-parity gate h xs y inputs long few odd = grind (arith, length-rows, shifted_far)
 
 -- ands have a clause for each input, and one for all
 pub length-ands : (gate : Gate) (h : ℕ) (xs : List ℕ) (y inputs : ℕ) → length xs ≡ inputs → (gate.reduction ≡ AllOnes) ⊎ (gate.reduction ≡ AnyOne)
@@ -93,12 +91,7 @@ length-two OddOnes positive h b l y z c x = refl
 module _ (gate : Gate) (h last y n : ℕ) (step : (z b x : ℕ) → length (step_clauses gate.reduction z b x) ≡ n) (two : (b : ℕ) → length (gate_clauses gate h (b ∷ last ∷ []) y) ≡ n) where
   length-chain : (xs : List ℕ) (z before : ℕ) → length (chain_clauses gate h last y z before xs) ≡ n * length xs + n
   length-chain [] z before = omega (arith, two before)
-  length-chain (x ∷ xs) z before = omega (
-    arith,
-    length-append (step_clauses gate.reduction z before x) (chain_clauses gate h last y (z + 1) z xs),
-    step z before x,
-    length-chain xs (z + 1) z,
-  )
+  length-chain (x ∷ xs) z before = grind (arith, length-chain xs (z + 1) z)
 
 pub length-any_gate : (gate : Gate) (inputs n : ℕ) → ((z b x : ℕ) → length (step_clauses gate.reduction z b x) ≡ n) → 5 ≤ inputs → (h z y : ℕ) (xs : List ℕ) → length xs ≡ inputs → length (any_gate_clauses gate h z xs y) ≡ n * (inputs - 1)
 length-any_gate gate inputs n step wide h z y xs long =

@@ -48,10 +48,7 @@ module _ (old : ℕ) (variables : List ℕ) (vars : ℕ) (all : length variables
 
   AllIn-replaced : (c : Clause) → AllIn old c → AllIn vars (map (literal_for variables) c)
   AllIn-replaced [] h = tt
-  AllIn-replaced (l ∷ c) h =
-      let in_place = stands_in (var_of l) h.0 h.1 in
-      let same = var_of-literal (is_positive l) (variable_for variables (var_of l)) in
-      (omega (arith, same, in_place.0), omega (arith, same, in_place.1), AllIn-replaced c h.2)
+  AllIn-replaced (l ∷ c) h = grind (arith, AllIn-replaced c h.2)
 
   AllRaw-replaced : (cs : List Clause) → list_all (is_clause old) cs ≡ true → AllRaw vars (map (map (literal_for variables)) cs)
   AllRaw-replaced [] h = tt
@@ -62,8 +59,7 @@ module _ (old : ℕ) (variables : List ℕ) (vars : ℕ) (all : length variables
 
   true-replaced : (a : Assignment) (c : Clause) → AllIn old c → is_true_clause a (map (literal_for variables) c) ≡ is_true_clause (λ v. a (variable_for variables v)) c
   true-replaced a [] h = refl
-  true-replaced a (l ∷ c) h =
-      λ i. lit-literal a (is_positive l) (variable_for variables (var_of l)) (stands_in (var_of l) h.0 h.1).0 i || true-replaced a c h.2 i
+  true-replaced a (l ∷ c) h = grind (arith, true-replaced a c h.2)
 
   all-replaced : (a : Assignment) (cs : List Clause) → list_all (is_clause old) cs ≡ true
       → all_hold a (map (map (literal_for variables)) cs) ≡ all_hold (λ v. a (variable_for variables v)) cs
@@ -110,12 +106,7 @@ pub record IsList (cnf : ClauseList) : Type 0 where
   pub each : list_all (is_clause cnf.vars) cnf.clauses ≡ true
 
 pub list_from : (cnf : ClauseList) → is_clause_list cnf ≡ true → IsList cnf
-list_from cnf h =
-    let two = and_parts (nat_lt cnf.vars VARIABLE_LIMIT && nat_le (length cnf.clauses) CLAUSE_LIMIT) (list_all (is_clause cnf.vars) cnf.clauses) h in
-    record {
-      few = leb-true (length cnf.clauses) CLAUSE_LIMIT (and_parts (nat_lt cnf.vars VARIABLE_LIMIT) (nat_le (length cnf.clauses) CLAUSE_LIMIT) two.0).1;
-      each = two.1;
-    }
+list_from cnf h = grind arith
 
 pub clause-at : (cnf : ClauseList) (at : ℕ) (clause : Clause) → is_clause_list cnf ≡ true → at < length cnf.clauses → clause ≡ get_or cnf.clauses at [] → is_clause cnf.vars clause ≡ true
 clause-at cnf at clause h lt is = ap (is_clause cnf.vars) is ∙ list_all-at (is_clause cnf.vars) cnf.clauses at [] (list_from cnf h).each lt

@@ -84,13 +84,7 @@ pub record IsEncoded (device : Device) (cnf : ClauseList) : Type 0 where
   pub few : raw_count device ≤ CLAUSE_LIMIT
 
 pub encoded-is : (device : Device) (cnf : ClauseList) → encoded device ≡ Ok cnf → IsEncoded device cnf
-encoded-is device cnf is = by_count (nat_lt CLAUSE_LIMIT (raw_count device)) refl is where
-  by_count : (too_many : Bool) → nat_lt CLAUSE_LIMIT (raw_count device) ≡ too_many
-      → (if too_many then Err (TooManyClauses (raw_count device)) else Ok (clause_list device)) ≡ Ok cnf → IsEncoded device cnf
-  by_count true many e = let f : Err (TooManyClauses (raw_count device)) ≡ Ok cnf = e in absurd (cc)
-  by_count false few e =
-      let same : clause_list device ≡ cnf = cc in
-      record { vars = sym (ap (λ (l : ClauseList). l.vars) same); few = ltb-false CLAUSE_LIMIT (raw_count device) few }
+encoded-is device cnf is = grind arith
 
 pub few_inner : (device : Device) (cnf : ClauseList) → IsDevice device → encoded device ≡ Ok cnf → 3 * inner_vars device.parts ≤ CLAUSE_LIMIT
 few_inner device cnf valid is = omega (arith, parts-inner device 1 (first_inner device) device.parts valid.arities, (encoded-is device cnf is).few)

@@ -143,8 +143,14 @@ each_spot vars (tree v below beside) base is = (
 
 pub down_base : (vars : ℕ) (forest : Forest) (base : Place) → is_once (variables forest) ≡ true → list_all (λ u. not (is_among base.bound u)) (variables forest) ≡ true → list_all (fits vars) (variables forest) ≡ true
     → AllByRecursion (IsDown forest base) base.lists → IsBase vars forest base
-down_base vars forest base once free fit down = grind (arith, once, free, fit, each_more (IsDown forest base) (λ list. some_passes (λ c. meets (variables forest) c && not (is_along forest base.bound c)) base.clauses list ≡ false) base.lists
-    (λ list is. fail_by (λ c. not (is_along forest base.bound c)) (λ c. meets (variables forest) c && not (is_along forest base.bound c)) (λ c e. grind (arith, e)) base.clauses list is.along) down)
+down_base vars forest base once free fit down = grind (
+  arith,
+  once,
+  free,
+  fit,
+  each_more (IsDown forest base) (λ list. some_passes (λ c. meets (variables forest) c && not (is_along forest base.bound c)) base.clauses list ≡ false) base.lists
+      (λ list is. fail_by (λ c. not (is_along forest base.bound c)) (λ c. meets (variables forest) c && not (is_along forest base.bound c)) (λ c e. grind (arith, e)) base.clauses list is.along) down,
+)
 
 -- ---- after a variable's bit
 
@@ -165,8 +171,13 @@ each_decided P Q v place h each =
 pub each_down : (vars : ℕ) (spot : Spot) → IsSpot vars spot → AllByRecursion (IsDown spot.below (decided spot.v spot.place)) (decided spot.v spot.place).lists
 each_down vars spot is =
     each_decided (λ list. some_passes (λ c. not (is_along spot.below (spot.v ∷ spot.place.bound) c)) spot.place.clauses list ≡ false) (IsDown spot.below (decided spot.v spot.place)) spot.v spot.place
-    (λ list bit e alive. grind (arith, e, alive, passes_without (λ c. not (is_along spot.below (spot.v ∷ spot.place.bound) c)) (has_true spot.v bit) spot.place.clauses list,
-    fail_by (λ c. not (is_along spot.below (spot.v ∷ spot.place.bound) c)) (λ c. not (has_true spot.v bit c) && not (is_along spot.below (spot.v ∷ spot.place.bound) c)))) is.along
+    (λ list bit e alive. grind (
+      arith,
+      e,
+      alive,
+      passes_without (λ c. not (is_along spot.below (spot.v ∷ spot.place.bound) c)) (has_true spot.v bit) spot.place.clauses list,
+      fail_by (λ c. not (is_along spot.below (spot.v ∷ spot.place.bound) c)) (λ c. not (has_true spot.v bit c) && not (is_along spot.below (spot.v ∷ spot.place.bound) c)),
+    )) is.along
 
 pub below_base : (vars : ℕ) (spot : Spot) → IsSpot vars spot → IsBase vars spot.below (decided spot.v spot.place)
 below_base vars spot is = grind (arith, nat_tests, down_base vars spot.below (decided spot.v spot.place), free_next spot.v spot.place.bound (variables spot.below), each_down vars spot is)

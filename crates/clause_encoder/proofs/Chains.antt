@@ -16,9 +16,8 @@ use Rattle.device_model.specs.declared.gates.Reduction.TheVariants.{AllOnes, Any
 use Rattle.device_model.specs.TruthTable.{TruthTable}
 use Rattle.device_model.specs.Devices.{gate_allows, any_table_allows, allows, takes_ports, rows_take}
 use Rattle.device_model.specs.Gates.{takes, reduced, gate_value}
-use Rattle.clause_encoder.specs.Clauses.{is_true_clause, all_hold}
+use Rattle.clause_encoder.specs.Clauses.{all_hold}
 use Rattle.clause_encoder.specs.Encoding.{gate_clauses, and_step, xor_step, step_clauses, chain_clauses, wide_clauses, is_wide, any_gate_clauses, inner_count, table_clauses, raw_clauses}
-use Rattle.clause_encoder.proofs.Literals.{lit-literal}
 use Rattle.clause_encoder.proofs.RowBits.{AllPositive, count-cons}
 use Rattle.clause_encoder.proofs.Meaning.{gate-holds, table-holds, takes-some, gate_allows-says, AllPositive-take, AllPositive-at}
 use Rattle.clause_encoder.proofs.Settled.{has_bits, Settles}

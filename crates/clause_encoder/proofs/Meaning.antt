@@ -40,12 +40,6 @@ same_bit-not true b = refl
 same_bit-not false true = refl
 same_bit-not false false = refl
 
-fronts_step : (ok y x all : Bool) → ((not ok || (not y || (x || false))) && (not ok || (not y || all))) ≡ (not ok || (not y || (x && all)))
-fronts_step false y x all = refl
-fronts_step true false x all = refl
-fronts_step true true true all = refl
-fronts_step true true false all = refl
-
 always : (ok y : Bool) → true ≡ (not ok || (not y || true))
 always false y = refl
 always true false = refl

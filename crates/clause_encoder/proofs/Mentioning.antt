@@ -13,7 +13,7 @@ use Rattle.device_model.specs.TruthTable.{TruthTable}
 use Rattle.device_model.specs.Devices.{takes_ports}
 use Rattle.device_model.specs.Gates.{takes}
 use Rattle.clause_encoder.specs.Clauses.{Clause, var_of, literal}
-use Rattle.clause_encoder.specs.Encoding.{parity_clauses, and_clauses, row_bits, rows_of, blocking_literals, row_clause, blocked_rows, table_clauses, reduction_clauses, gate_clauses, and_step, xor_step, step_clauses, chain_clauses, wide_clauses, is_wide, any_gate_clauses, inner_count, raw_clauses}
+use Rattle.clause_encoder.specs.Encoding.{parity_clauses, and_clauses, row_bits, rows_of, blocking_literals, row_clause, blocked_rows, table_clauses, reduction_clauses, gate_clauses, chain_clauses, wide_clauses, is_wide, any_gate_clauses, inner_count, raw_clauses}
 use Rattle.clause_encoder.proofs.Literals.{var_of-literal}
 use Rattle.clause_encoder.proofs.Meaning.{and_clauses-literals, takes-some}
 
@@ -75,19 +75,6 @@ module _ (P : ℕ → Type 0) where
 
   Of-three : (b c d : Bool) (u v w : ℕ) → P u → P v → P w → Of (literal b u ∷ literal c v ∷ literal d w ∷ [])
   Of-three b c d u v w hu hv hw = Of-cons b u (literal c v ∷ literal d w ∷ []) hu (Of-two c d v w hv hw)
-
-  -- the steps of a chain
-  module _ (z before x : ℕ) (hz : P z) (hb : P before) (hx : P x) where
-    Of-and_step : (s : Bool) → OfEach (and_step s z before x)
-    Of-and_step s = grind arith
-
-    Of-xor_step : OfEach (xor_step z before x)
-    Of-xor_step = grind arith
-
-    Of-step : (reduction : Reduction) → OfEach (step_clauses reduction z before x)
-    Of-step AllOnes = Of-and_step true
-    Of-step AnyOne = Of-and_step false
-    Of-step OddOnes = Of-xor_step
 
   module _ (h : ℕ) (hh : P h) where
     Of-and : (y : ℕ) (t s : Bool) (xs : List ℕ) → P y → Variables xs → OfEach (and_clauses (pos h) (literal t y) (map (literal s) xs))

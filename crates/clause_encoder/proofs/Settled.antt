@@ -9,7 +9,7 @@ use Rattle.state_rules.specs.Bits.{bit_in, same_bit, lists_of_bits}
 use Rattle.state_rules.specs.Assignments.{Assignment, assignment}
 use Rattle.state_rules.proofs.Lists.{list_any-map, any-never}
 use Rattle.state_rules.proofs.Members.{any_same}
-use Rattle.clause_encoder.specs.Clauses.{Clause, is_true_clause, all_hold}
+use Rattle.clause_encoder.specs.Clauses.{Clause, all_hold}
 
 -- the variables from one on have these bits
 abbrev pub has_bits : Assignment → ℕ → List Bool → Bool

@@ -16,9 +16,8 @@ use Rattle.device_model.specs.declared.gates.Reduction.TheVariants.{AllOnes, Any
 use Rattle.device_model.specs.TruthTable.{TruthTable}
 use Rattle.device_model.specs.Devices.{gate_allows, any_table_allows, allows, takes_ports, rows_take}
 use Rattle.device_model.specs.Gates.{takes, reduced, gate_value}
-use Rattle.clause_encoder.specs.Clauses.{is_true_clause, all_hold}
+use Rattle.clause_encoder.specs.Clauses.{all_hold}
 use Rattle.clause_encoder.specs.Encoding.{gate_clauses, and_step, xor_step, step_clauses, chain_clauses, wide_clauses, is_wide, any_gate_clauses, inner_count, table_clauses, raw_clauses}
-use Rattle.clause_encoder.proofs.Literals.{lit-literal}
 use Rattle.clause_encoder.proofs.RowBits.{AllPositive, count-cons}
 use Rattle.clause_encoder.proofs.Meaning.{gate-holds, table-holds, takes-some, gate_allows-says, AllPositive-take, AllPositive-at}
 use Rattle.clause_encoder.proofs.Settled.{has_bits, Settles}
@@ -33,49 +32,13 @@ step_value OddOnes b c = not (same_bit b c)
 
 module _ (a : Assignment) (z before x : ℕ) (hz : 1 ≤ z) (hb : 1 ≤ before) (hx : 1 ≤ x) where
   and_step-holds : all_hold a (and_step true z before x) ≡ same_bit (a before && a x) (a z)
-  and_step-holds =
-      (λ i. (lit-literal a false z hz i || (lit-literal a true before hb i || false))
-      && ((lit-literal a false z hz i || (lit-literal a true x hx i || false))
-      && ((lit-literal a true z hz i || (lit-literal a false before hb i || (lit-literal a false x hx i || false))) && true)))
-      ∙ by_bits (a z) (a before) (a x) where
-        by_bits : (c b d : Bool) → ((not c || (b || false)) && ((not c || (d || false)) && ((c || (not b || (not d || false))) && true))) ≡ same_bit (b && d) c
-        by_bits true true true = refl
-        by_bits true true false = refl
-        by_bits true false d = refl
-        by_bits false true true = refl
-        by_bits false true false = refl
-        by_bits false false d = refl
+  and_step-holds = grind arith
 
   or_step-holds : all_hold a (and_step false z before x) ≡ same_bit (a before || a x) (a z)
-  or_step-holds =
-      (λ i. (lit-literal a true z hz i || (lit-literal a false before hb i || false))
-      && ((lit-literal a true z hz i || (lit-literal a false x hx i || false))
-      && ((lit-literal a false z hz i || (lit-literal a true before hb i || (lit-literal a true x hx i || false))) && true)))
-      ∙ by_bits (a z) (a before) (a x) where
-        by_bits : (c b d : Bool) → ((c || (not b || false)) && ((c || (not d || false)) && ((not c || (b || (d || false))) && true))) ≡ same_bit (b || d) c
-        by_bits true true d = refl
-        by_bits true false true = refl
-        by_bits true false false = refl
-        by_bits false true d = refl
-        by_bits false false true = refl
-        by_bits false false false = refl
+  or_step-holds = grind arith
 
   xor_step-holds : all_hold a (xor_step z before x) ≡ same_bit (not (same_bit (a before) (a x))) (a z)
-  xor_step-holds =
-      (λ i. (lit-literal a false z hz i || (lit-literal a true before hb i || (lit-literal a true x hx i || false)))
-      && ((lit-literal a false z hz i || (lit-literal a false before hb i || (lit-literal a false x hx i || false)))
-      && ((lit-literal a true z hz i || (lit-literal a true before hb i || (lit-literal a false x hx i || false)))
-      && ((lit-literal a true z hz i || (lit-literal a false before hb i || (lit-literal a true x hx i || false))) && true))))
-      ∙ by_bits (a z) (a before) (a x) where
-        by_bits : (c b d : Bool) → ((not c || (b || (d || false))) && ((not c || (not b || (not d || false))) && ((c || (b || (not d || false))) && ((c || (not b || (d || false))) && true)))) ≡ same_bit (not (same_bit b d)) c
-        by_bits true true true = refl
-        by_bits true true false = refl
-        by_bits true false true = refl
-        by_bits true false false = refl
-        by_bits false true true = refl
-        by_bits false true false = refl
-        by_bits false false true = refl
-        by_bits false false false = refl
+  xor_step-holds = grind arith
 
   step-holds : (reduction : Reduction) → all_hold a (step_clauses reduction z before x) ≡ same_bit (step_value reduction (a before) (a x)) (a z)
   step-holds AllOnes = and_step-holds
@@ -131,14 +94,7 @@ module _ (a : Assignment) (gate : Gate) (h last y : ℕ) (hh : 1 ≤ h) (hl : 1 
       → Settles a z (chain_clauses gate h last y z before xs) (chain_bits gate.reduction (a before) (map a xs))
       (output_is a h y (gate_value gate (chain_end gate.reduction (a before) (map a xs) ∷ a last ∷ [])))
   chain-settles [] z before hz hb hs = gate-holds a h (before ∷ last ∷ []) y hh hy (hb, (hl, tt)) gate
-  chain-settles (x ∷ xs) z before hz hb hs =
-      list_all-append (is_true_clause a) (step_clauses gate.reduction z before x) (chain_clauses gate h last y (z + 1) z xs)
-      ∙ (λ i. step-holds a z before x hz hb hs.0 gate.reduction i && chain-settles xs (z + 1) z (omega arith) hz hs.1 i)
-      ∙ settled (step_value gate.reduction (a before) (a x)) (a z)
-      (λ b. has_bits a (z + 1) (chain_bits gate.reduction b (map a xs)) && output_is a h y (gate_value gate (chain_end gate.reduction b (map a xs) ∷ a last ∷ [])))
-      ∙ sym (and_assoc (same_bit (step_value gate.reduction (a before) (a x)) (a z))
-      (has_bits a (z + 1) (chain_bits gate.reduction (step_value gate.reduction (a before) (a x)) (map a xs)))
-      (output_is a h y (gate_value gate (chain_end gate.reduction (step_value gate.reduction (a before) (a x)) (map a xs) ∷ a last ∷ []))))
+  chain-settles (x ∷ xs) z before hz hb hs = grind (arith, chain-settles xs (z + 1) z (omega arith) hz hs.1, list_all-append, step-holds, settled, has_bits, and_assoc)
 
 -- the end of the chain and the last input give what all inputs give
 chain_end-reduced : (reduction : Reduction) (bits : List Bool) (b c : Bool)
@@ -232,8 +188,7 @@ inner_bits (OfGate gate) row = gate_bits gate.reduction (take (length row - 1) r
 
 pub length-inner_bits : (rule : Rule) (row : List Bool) → length (inner_bits rule row) ≡ inner_count rule (length row)
 length-inner_bits (OfTable t) row = refl
-length-inner_bits (OfGate gate) row =
-    length-gate_bits gate.reduction (take (length row - 1) row) (length row) (length-take-le (length row - 1) row (omega arith))
+length-inner_bits (OfGate gate) row = grind (arith, length-gate_bits, length-take-le)
 
 -- ---- a part of any rule
 

@@ -1,23 +1,19 @@
 -- How many clauses a part has.
-use Rattle.std.proofs.Common.{◌≡◌, ℕ, ◌+◌, ◌-◌, ◌*◌, ◌%◌, ◌^◌, ◌<◌, ◌≤◌, Bool, true, false, not, ◌⊎◌, inl, inr, List, [], ◌∷◌, map, length, take, drop, get_or, refl, count_ones, Some, ℤ, pos, neg_ℤ, ap, sym, ◌∙◌, subst, arith}
+use Rattle.std.proofs.Common.{◌≡◌, ℕ, ◌+◌, ◌-◌, ◌*◌, ◌%◌, ◌^◌, ◌<◌, ◌≤◌, Bool, true, false, List, [], ◌∷◌, map, length, take, drop, get_or, refl, count_ones, Some, ap, sym, ◌∙◌, subst, arith}
 use Rattle.std.specs.Prelude.{if◌then◌else◌}
-use Rattle.std.specs.List.{filter}
 use Rattle.std.proofs.Math.Pow.{pow_mono}
 use Rattle.std.proofs.lemmas.Bool.{lt-ltb}
 use Rattle.std.proofs.lemmas.List.{length-append, length-map, length-take-le, length-drop}
 use Rattle.std.proofs.lemmas.List.FromFn.{length-map-range_with_len}
 use lib.Count.{ones-le}
-use Rattle.state_rules.specs.Bits.{has_bit}
 use Rattle.device_model.specs.declared.gates.Gate.{Gate}
 use Rattle.device_model.specs.declared.gates.Reduction.{Reduction}
 use Rattle.device_model.specs.declared.gates.Reduction.TheVariants.{AllOnes, AnyOne, OddOnes}
 use Rattle.device_model.specs.declared.component.Component.{Component}
-use Rattle.device_model.specs.declared.limits.TheConstants.{INPUT_LIMIT}
 use Rattle.device_model.specs.TruthTable.{TruthTable, is_table}
 use Rattle.device_model.specs.Devices.{Device}
-use Rattle.device_model.specs.Gates.{takes, rule}
-use Rattle.clause_encoder.specs.Clauses.{literal}
-use Rattle.clause_encoder.specs.Encoding.{and_clauses, parity_clauses, reduction_clauses, gate_clauses, step_clauses, chain_clauses, wide_clauses, any_gate_clauses, raw_clauses, clauses_from, wire_variable, blocked_rows, table_clauses, rows_of, row_bits, blocking_literals}
+use Rattle.device_model.specs.Gates.{rule}
+use Rattle.clause_encoder.specs.Encoding.{parity_clauses, reduction_clauses, gate_clauses, step_clauses, chain_clauses, wide_clauses, any_gate_clauses, raw_clauses, clauses_from, wire_variable, blocked_rows, table_clauses}
 use Rattle.clause_encoder.proofs.RowBits.{others}
 use Rattle.clause_encoder.proofs.Writing.{IsTable-from, shifted_far, inner_at, split-at}
 
@@ -41,8 +37,7 @@ table-counts rows e =
     }
 
 length-side : (ok : Bool) (allowed h : ℕ) (vs : List ℕ) → allowed < 2 ^ (2 ^ length vs) → length (blocked_rows ok allowed h vs) + count_ones allowed ≡ 2 ^ length vs
-length-side ok allowed h vs lt = ap (λ n. n + count_ones allowed) (length-map (filter (λ r. not (has_bit allowed r)) (rows_of vs)) (λ r. literal (not ok) h ∷ blocking_literals vs (row_bits r vs)))
-    ∙ others allowed (2 ^ length vs) lt
+length-side ok allowed h vs lt = grind (arith, length-map, ok, others)
 
 pub length-table : (rows : TruthTable) (h : ℕ) (vs : List ℕ) → is_table rows ≡ true → length vs ≡ rows.ports
     → length (table_clauses (Some rows) h vs) + count_ones rows.ok + count_ones rows.bad ≡ 2 * 2 ^ rows.ports
@@ -59,24 +54,7 @@ length-rows odd h xs y n long = length-map-range_with_len _ 0 (2 ^ length xs) �
 
 pub length-parity : (gate : Gate) (h : ℕ) (xs : List ℕ) (y inputs : ℕ) → length xs ≡ inputs → inputs ≤ 4 → gate.reduction ≡ OddOnes
     → length (gate_clauses gate h xs y) ≡ 1 * 2 ^ inputs % 18446744073709551616
-length-parity gate h xs y inputs long few odd = ap (λ r. length (reduction_clauses r gate.positive h xs y)) odd
-    ∙ length-rows gate.positive h xs y inputs long ∙ sym (shifted_far inputs (omega arith))
-
--- ands have a clause for each input, and one for all
-pub length-ands : (gate : Gate) (h : ℕ) (xs : List ℕ) (y inputs : ℕ) → length xs ≡ inputs → (gate.reduction ≡ AllOnes) ⊎ (gate.reduction ≡ AnyOne)
-    → length (gate_clauses gate h xs y) ≡ inputs + 1
-length-ands gate h xs y inputs long which = elim which [
-  | inl all ↦ ap (λ r. length (reduction_clauses r gate.positive h xs y)) all ∙ of (literal gate.positive y) true
-  | inr any ↦ ap (λ r. length (reduction_clauses r gate.positive h xs y)) any ∙ of (literal (not gate.positive) y) false
-] where
-  of : (output : ℤ) (positive : Bool) → length (and_clauses (pos h) output (map (literal positive) xs)) ≡ inputs + 1
-  of output positive = omega (
-    arith,
-    length-append (map (λ x. neg_ℤ (pos h) ∷ neg_ℤ output ∷ x ∷ []) (map (literal positive) xs)) ((neg_ℤ (pos h) ∷ output ∷ map neg_ℤ (map (literal positive) xs)) ∷ []),
-    length-map (map (literal positive) xs) (λ x. neg_ℤ (pos h) ∷ neg_ℤ output ∷ x ∷ []),
-    length-map xs (literal positive),
-    long,
-  )
+length-parity gate h xs y inputs long few odd = grind (arith, length-rows, shifted_far)
 
 pub few-rows : (n : ℕ) → n ≤ 4 → 1 * 2 ^ n % 18446744073709551616 ≤ 16
 few-rows n h = let most : 2 ^ n ≤ 2 ^ 4 = pow_mono h in omega arith
@@ -93,12 +71,7 @@ length-two OddOnes positive h b l y z c x = refl
 module _ (gate : Gate) (h last y n : ℕ) (step : (z b x : ℕ) → length (step_clauses gate.reduction z b x) ≡ n) (two : (b : ℕ) → length (gate_clauses gate h (b ∷ last ∷ []) y) ≡ n) where
   length-chain : (xs : List ℕ) (z before : ℕ) → length (chain_clauses gate h last y z before xs) ≡ n * length xs + n
   length-chain [] z before = omega (arith, two before)
-  length-chain (x ∷ xs) z before = omega (
-    arith,
-    length-append (step_clauses gate.reduction z before x) (chain_clauses gate h last y (z + 1) z xs),
-    step z before x,
-    length-chain xs (z + 1) z,
-  )
+  length-chain (x ∷ xs) z before = grind (arith, length-chain xs (z + 1) z)
 
 pub length-any_gate : (gate : Gate) (inputs n : ℕ) → ((z b x : ℕ) → length (step_clauses gate.reduction z b x) ≡ n) → 5 ≤ inputs → (h z y : ℕ) (xs : List ℕ) → length xs ≡ inputs → length (any_gate_clauses gate h z xs y) ≡ n * (inputs - 1)
 length-any_gate gate inputs n step wide h z y xs long =

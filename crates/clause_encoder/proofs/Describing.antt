@@ -94,8 +94,7 @@ length-bits part wires = length-inner_bits (rule part.kind) (map (bit_in wires) 
 
 length-part_bits : (parts : List Component) (wires : List Bool) → length (part_bits parts wires) ≡ inner_vars parts
 length-part_bits [] wires = refl
-length-part_bits (part ∷ parts) wires = length-append (inner_bits (rule part.kind) (map (bit_in wires) part.ports)) (part_bits parts wires)
-    ∙ (λ i. length-bits part wires i + length-part_bits parts wires i)
+length-part_bits (part ∷ parts) wires = grind (arith, length-part_bits parts wires, length-append, inner_bits, length-bits)
 
 module _ (device : Device) (a : Assignment) (wires : List Bool) (wire_is : (w : ℕ) → w < length device.wires → a (wire_variable device w) ≡ bit_in wires w) where
   ports-are : (ports : List ℕ) → list_all (λ port. nat_lt port (length device.wires)) ports ≡ true → map a (map (wire_variable device) ports) ≡ map (bit_in wires) ports

@@ -40,12 +40,6 @@ same_bit-not true b = refl
 same_bit-not false true = refl
 same_bit-not false false = refl
 
-fronts_step : (ok y x all : Bool) → ((not ok || (not y || (x || false))) && (not ok || (not y || all))) ≡ (not ok || (not y || (x && all)))
-fronts_step false y x all = refl
-fronts_step true false x all = refl
-fronts_step true true true all = refl
-fronts_step true true false all = refl
-
 always : (ok y : Bool) → true ≡ (not ok || (not y || true))
 always false y = refl
 always true false = refl
@@ -66,8 +60,7 @@ module _ (a : Assignment) (h y : ℕ) (t s : Bool) (hh : 1 ≤ h) (hy : 1 ≤ y)
   fronts-hold : (xs : List ℕ) → AllPositive xs → all_hold a (map (λ x. literal false h ∷ literal (not t) y ∷ literal s x ∷ []) xs)
       ≡ (not (a h) || (not (same_bit t (a y)) || list_all (λ x. same_bit s (a x)) xs))
   fronts-hold [] hs = always (a h) (same_bit t (a y))
-  fronts-hold (x ∷ xs) hs = (λ i. (lit-literal a false h hh i || ((lit-literal a (not t) y hy ∙ same_bit-not t (a y)) i || (lit-literal a s x hs.0 i || false))) && fronts-hold xs hs.1 i)
-      ∙ fronts_step (a h) (same_bit t (a y)) (same_bit s (a x)) (list_all (λ x. same_bit s (a x)) xs)
+  fronts-hold (x ∷ xs) hs = grind (arith, fronts-hold xs hs.1)
 
   any-negated : (xs : List ℕ) → AllPositive xs → list_any (lit a) (map (literal (not s)) xs) ≡ not (list_all (λ x. same_bit s (a x)) xs)
   any-negated [] hs = refl
@@ -82,10 +75,7 @@ module _ (a : Assignment) (h y : ℕ) (t s : Bool) (hh : 1 ≤ h) (hy : 1 ≤ y)
 
 all_not : (a : Assignment) (xs : List ℕ) → list_all (λ x. not (a x)) xs ≡ not (list_any (λ b. b) (map a xs))
 all_not a [] = refl
-all_not a (x ∷ xs) = ap (λ b. not (a x) && b) (all_not a xs) ∙ not_or (a x) (list_any (λ b. b) (map a xs)) where
-  not_or : (b c : Bool) → (not b && not c) ≡ not (b || c)
-  not_or true c = refl
-  not_or false c = refl
+all_not a (x ∷ xs) = grind (arith, all_not a xs)
 
 all_bits : (a : Assignment) (xs : List ℕ) → list_all (λ x. a x) xs ≡ list_all (λ b. b) (map a xs)
 all_bits a xs = sym (list_all-map (λ (b : Bool). b) a xs)

@@ -13,7 +13,7 @@ use Rattle.device_model.specs.TruthTable.{TruthTable}
 use Rattle.device_model.specs.Devices.{takes_ports}
 use Rattle.device_model.specs.Gates.{takes}
 use Rattle.clause_encoder.specs.Clauses.{Clause, var_of, literal}
-use Rattle.clause_encoder.specs.Encoding.{parity_clauses, and_clauses, row_bits, rows_of, blocking_literals, row_clause, blocked_rows, table_clauses, reduction_clauses, gate_clauses, and_step, xor_step, step_clauses, chain_clauses, wide_clauses, is_wide, any_gate_clauses, inner_count, raw_clauses}
+use Rattle.clause_encoder.specs.Encoding.{parity_clauses, and_clauses, row_bits, rows_of, blocking_literals, row_clause, blocked_rows, table_clauses, reduction_clauses, gate_clauses, chain_clauses, wide_clauses, is_wide, any_gate_clauses, inner_count, raw_clauses}
 use Rattle.clause_encoder.proofs.Literals.{var_of-literal}
 use Rattle.clause_encoder.proofs.Meaning.{and_clauses-literals, takes-some}
 
@@ -76,35 +76,6 @@ module _ (P : ℕ → Type 0) where
   Of-three : (b c d : Bool) (u v w : ℕ) → P u → P v → P w → Of (literal b u ∷ literal c v ∷ literal d w ∷ [])
   Of-three b c d u v w hu hv hw = Of-cons b u (literal c v ∷ literal d w ∷ []) hu (Of-two c d v w hv hw)
 
-  -- the steps of a chain
-  module _ (z before x : ℕ) (hz : P z) (hb : P before) (hx : P x) where
-    Of-and_step : (s : Bool) → OfEach (and_step s z before x)
-    Of-and_step s = (
-      omega arith,
-      Of-two (not s) s z before hz hb,
-      (omega arith, Of-two (not s) s z x hz hx, (omega arith, Of-three s (not s) (not s) z before x hz hb hx, tt)),
-    )
-
-    Of-xor_step : OfEach (xor_step z before x)
-    Of-xor_step = (
-      omega arith,
-      Of-three false true true z before x hz hb hx,
-      (
-        omega arith,
-        Of-three false false false z before x hz hb hx,
-        (
-          omega arith,
-          Of-three true true false z before x hz hb hx,
-          (omega arith, Of-three true false true z before x hz hb hx, tt),
-        ),
-      ),
-    )
-
-    Of-step : (reduction : Reduction) → OfEach (step_clauses reduction z before x)
-    Of-step AllOnes = Of-and_step true
-    Of-step AnyOne = Of-and_step false
-    Of-step OddOnes = Of-xor_step
-
   module _ (h : ℕ) (hh : P h) where
     Of-and : (y : ℕ) (t s : Bool) (xs : List ℕ) → P y → Variables xs → OfEach (and_clauses (pos h) (literal t y) (map (literal s) xs))
     Of-and y t s xs hy hs = subst OfEach (sym (and_clauses-literals h y t s xs))
@@ -140,10 +111,7 @@ module _ (P : ℕ → Type 0) where
     Of-chain : (gate : Gate) (last y : ℕ) → P last → P y → (xs : List ℕ) (z before : ℕ) → ((v : ℕ) → z ≤ v → v < z + length xs → P v)
         → P before → Variables xs → OfEach (chain_clauses gate h last y z before xs)
     Of-chain gate last y hl hy [] z before hz hb hs = Of-gate gate (before ∷ last ∷ []) y hy (hb, (hl, tt))
-    Of-chain gate last y hl hy (x ∷ xs) z before hz hb hs =
-        OfEach-append (step_clauses gate.reduction z before x) (chain_clauses gate h last y (z + 1) z xs)
-        (Of-step z before x (hz z (omega arith) (omega arith)) hb hs.0 gate.reduction)
-        (Of-chain gate last y hl hy xs (z + 1) z (λ v le lt. hz v (omega arith) (omega arith)) (hz z (omega arith) (omega arith)) hs.1)
+    Of-chain gate last y hl hy (x ∷ xs) z before hz hb hs = grind (arith, Of-chain gate last y hl hy xs (z + 1) z (λ v le lt. hz v (omega arith) (omega arith)) (hz z (omega arith) (omega arith)) hs.1)
 
     Of-wide : (gate : Gate) (z : ℕ) (xs : List ℕ) (y : ℕ) → 5 ≤ length xs → ((v : ℕ) → z ≤ v → v < z + (length xs - 2) → P v) → P y → Variables xs
         → OfEach (wide_clauses gate h z xs y)

@@ -1,17 +1,17 @@
 -- Clauses in which other variables stand for those that were there are true where these are.
-use Rattle.std.proofs.Common.{◌≡◌, ℕ, zero, suc, ◌+◌, ◌-◌, ◌<◌, ◌≤◌, true, false, ◌&&◌, ◌||◌, List, [], ◌∷◌, ◌++◌, map, length, take, get_or, ℤ, refl, ap, sym, ◌∙◌, arith}
+use Rattle.std.proofs.Common.{◌≡◌, ℕ, zero, suc, ◌<◌, ◌≤◌, true, false, ◌&&◌, ◌||◌, List, [], ◌∷◌, map, length, get_or, ℤ, refl, ap, ◌∙◌, arith}
 use Rattle.std.specs.Prelude.{nat_lt, nat_le}
 use Rattle.std.specs.List.{All, list_all}
 use Rattle.std.proofs.lemmas.Bool.{and_parts, ltb-true, leb-true}
-use Rattle.std.proofs.lemmas.List.{length-map, take_more, map-append}
+use Rattle.std.proofs.lemmas.List.{length-map}
 use Rattle.state_rules.specs.Bits.{same_bit}
 use Rattle.state_rules.specs.Assignments.{Assignment}
 use Rattle.state_rules.proofs.Lists.{list_all-at}
-use Rattle.clause_encoder.specs.declared.limits.TheConstants.{CLAUSE_LIMIT, VARIABLE_LIMIT}
+use Rattle.clause_encoder.specs.declared.limits.TheConstants.{CLAUSE_LIMIT}
 use Rattle.clause_encoder.specs.Clauses.{Clause, ClauseList, var_of, is_positive, is_true_clause, all_hold, vars_rise, is_clause, is_clause_list}
 use Rattle.clause_encoder.specs.Encoding.{tidy}
 use Rattle.clause_encoder.specs.Replacing.{variable_for, literal_for}
-use Rattle.clause_encoder.proofs.Literals.{var_of-literal, lit-literal, AllIn, AllRaw, all_hold-tidy, are_clauses-tidy, tidy-append, length-tidy}
+use Rattle.clause_encoder.proofs.Literals.{AllIn, AllRaw, all_hold-tidy, are_clauses-tidy, length-tidy}
 
 -- ---- the literals of a clause
 
@@ -43,15 +43,9 @@ clause-within vars c h k d lt = (AllIn-at vars c k d (raw_from vars c h).1 lt).1
 -- ---- replaced
 
 module _ (old : ℕ) (variables : List ℕ) (vars : ℕ) (all : length variables ≡ old) (some : All (λ v. 1 ≤ v) variables) (within : All (λ v. v ≤ vars) variables) where
-  stands_in : (v : ℕ) → 1 ≤ v → v ≤ old → (1 ≤ variable_for variables v) × (variable_for variables v ≤ vars)
-  stands_in v h most = (some (v - 1) 0 (omega arith), within (v - 1) 0 (omega arith))
-
   AllIn-replaced : (c : Clause) → AllIn old c → AllIn vars (map (literal_for variables) c)
   AllIn-replaced [] h = tt
-  AllIn-replaced (l ∷ c) h =
-      let in_place = stands_in (var_of l) h.0 h.1 in
-      let same = var_of-literal (is_positive l) (variable_for variables (var_of l)) in
-      (omega (arith, same, in_place.0), omega (arith, same, in_place.1), AllIn-replaced c h.2)
+  AllIn-replaced (l ∷ c) h = grind (arith, AllIn-replaced c h.2)
 
   AllRaw-replaced : (cs : List Clause) → list_all (is_clause old) cs ≡ true → AllRaw vars (map (map (literal_for variables)) cs)
   AllRaw-replaced [] h = tt
@@ -62,8 +56,7 @@ module _ (old : ℕ) (variables : List ℕ) (vars : ℕ) (all : length variables
 
   true-replaced : (a : Assignment) (c : Clause) → AllIn old c → is_true_clause a (map (literal_for variables) c) ≡ is_true_clause (λ v. a (variable_for variables v)) c
   true-replaced a [] h = refl
-  true-replaced a (l ∷ c) h =
-      λ i. lit-literal a (is_positive l) (variable_for variables (var_of l)) (stands_in (var_of l) h.0 h.1).0 i || true-replaced a c h.2 i
+  true-replaced a (l ∷ c) h = grind (arith, true-replaced a c h.2)
 
   all-replaced : (a : Assignment) (cs : List Clause) → list_all (is_clause old) cs ≡ true
       → all_hold a (map (map (literal_for variables)) cs) ≡ all_hold (λ v. a (variable_for variables v)) cs
@@ -81,15 +74,6 @@ module _ (old : ℕ) (variables : List ℕ) (vars : ℕ) (all : length variables
 
 pub replaced-few : (variables : List ℕ) (cs : List Clause) → length (tidy (map (map (literal_for variables)) cs)) ≤ length cs
 replaced-few variables cs = omega (arith, length-tidy (map (map (literal_for variables)) cs), length-map cs (map (literal_for variables)))
-
--- one clause more
-pub replaced-more : (variables : List ℕ) (cs : List Clause) (at : ℕ) → at < length cs
-    → tidy (map (map (literal_for variables)) (take at cs)) ++ tidy (map (literal_for variables) (get_or cs at []) ∷ [])
-    ≡ tidy (map (map (literal_for variables)) (take (at + 1) cs))
-replaced-more variables cs at lt =
-    let each = map (literal_for variables) in
-    sym (tidy-append (map each (take at cs)) (each (get_or cs at []) ∷ []))
-    ∙ ap tidy (sym (map-append each (take at cs) (get_or cs at [] ∷ [])) ∙ ap (map each) (sym (take_more cs at [] lt)))
 
 -- variables that have the same bits
 pub all_hold-same : (vars : ℕ) (a b : Assignment) (cs : List Clause) → list_all (is_clause vars) cs ≡ true
@@ -110,12 +94,7 @@ pub record IsList (cnf : ClauseList) : Type 0 where
   pub each : list_all (is_clause cnf.vars) cnf.clauses ≡ true
 
 pub list_from : (cnf : ClauseList) → is_clause_list cnf ≡ true → IsList cnf
-list_from cnf h =
-    let two = and_parts (nat_lt cnf.vars VARIABLE_LIMIT && nat_le (length cnf.clauses) CLAUSE_LIMIT) (list_all (is_clause cnf.vars) cnf.clauses) h in
-    record {
-      few = leb-true (length cnf.clauses) CLAUSE_LIMIT (and_parts (nat_lt cnf.vars VARIABLE_LIMIT) (nat_le (length cnf.clauses) CLAUSE_LIMIT) two.0).1;
-      each = two.1;
-    }
+list_from cnf h = grind arith
 
 pub clause-at : (cnf : ClauseList) (at : ℕ) (clause : Clause) → is_clause_list cnf ≡ true → at < length cnf.clauses → clause ≡ get_or cnf.clauses at [] → is_clause cnf.vars clause ≡ true
 clause-at cnf at clause h lt is = ap (is_clause cnf.vars) is ∙ list_all-at (is_clause cnf.vars) cnf.clauses at [] (list_from cnf h).each lt

@@ -59,14 +59,8 @@ row_number-below (false ∷ bits) (suc n) h = omega (arith, row_number-below bit
 -- ---- a row differs from that of the variables, or is it
 
 differs : (bit : Bool) (r n : ℕ) → (same_bit (not (r % 2 == 1)) bit || not (r / 2 == n)) ≡ not (r == number_of_bit bit + 2 * n)
-differs true r n = by_test (r % 2 == 1) refl where
-  by_test : (t : Bool) → (r % 2 == 1) ≡ t → (same_bit (not t) true || not (r / 2 == n)) ≡ not (r == 1 + 2 * n)
-  by_test true e = grind (arith, nat_tests)
-  by_test false e = grind (arith, nat_tests)
-differs false r n = by_test (r % 2 == 1) refl where
-  by_test : (t : Bool) → (r % 2 == 1) ≡ t → (same_bit (not t) false || not (r / 2 == n)) ≡ not (r == 0 + 2 * n)
-  by_test true e = grind (arith, nat_tests)
-  by_test false e = grind (arith, nat_tests)
+differs true r n = grind (arith, nat_tests)
+differs false r n = grind (arith, nat_tests)
 
 -- The literals that are false in a row are all false where the variables have that row.
 pub blocking_literals-row : (a : Assignment) (vs : List ℕ) (r : ℕ) → AllPositive vs → r < 2 ^ length vs
@@ -81,9 +75,7 @@ blocking_literals-row a (v ∷ vs) r h lt = ap (λ bits. list_any (lit a) (block
 
 all-past : (q : ℕ → Bool) (n k row : ℕ) → row < k → list_all (λ r. not (r == row) || q r) (range_with_len k n) ≡ true
 all-past q zero k row h = refl
-all-past q (suc n) k row h = (λ i. (not (other i) || q k) && all-past q n (k + 1) row (omega arith) i) where
-  other : (k == row) ≡ false
-  other = ne_eqb k row (λ e. omega arith)
+all-past q (suc n) k row h = grind (arith, nat_tests, all-past q n (k + 1) row (omega arith))
 
 all-at : (q : ℕ → Bool) (n k row : ℕ) → k ≤ row → row < k + n → list_all (λ r. not (r == row) || q r) (range_with_len k n) ≡ q row
 all-at q zero k row h lt = absurd (omega arith)
@@ -106,11 +98,7 @@ all-rows p q vs row lt h = all-same p (λ r. not (r == row) || q r) (2 ^ length 
 pub all-filtered : {A : Type 0} (p : A → Bool) (f : ℕ → A) (keep : ℕ → Bool) (rs : List ℕ)
     → list_all p (map f (filter keep rs)) ≡ list_all (λ r. not (keep r) || p (f r)) rs
 all-filtered p f keep [] = refl
-all-filtered p f keep (r ∷ rs) = by_test (keep r) (all-filtered p f keep rs) where
-  by_test : (b : Bool) → list_all p (map f (filter keep rs)) ≡ list_all (λ r. not (keep r) || p (f r)) rs
-      → list_all p (map f (cond b (r ∷ filter keep rs) (filter keep rs))) ≡ ((not b || p (f r)) && list_all (λ r. not (keep r) || p (f r)) rs)
-  by_test true rest = λ i. p (f r) && rest i
-  by_test false rest = rest
+all-filtered p f keep (r ∷ rs) = grind (arith, nat_tests, all-filtered p f keep rs)
 
 -- ---- how many bits are set
 
@@ -118,10 +106,7 @@ pub count-cons : (b : Bool) (bits : List Bool) → count_by (λ b. b) (b ∷ bit
 count-cons b bits = sum_by-cons (λ (b : Bool). cond b 1 0) b bits
 
 odd-bit : (r : ℕ) → cond (r % 2 == 1) 1 0 ≡ r % 2
-odd-bit r = by_test (r % 2 == 1) refl where
-  by_test : (t : Bool) → (r % 2 == 1) ≡ t → cond t 1 0 ≡ r % 2
-  by_test true e = grind (arith, nat_tests)
-  by_test false e = grind (arith, nat_tests)
+odd-bit r = grind (arith, nat_tests)
 
 no_ones : (r : ℕ) → r ≡ 0 → 0 ≡ count_ones r
 unfolding ones

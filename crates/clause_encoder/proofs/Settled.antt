@@ -9,7 +9,7 @@ use Rattle.state_rules.specs.Bits.{bit_in, same_bit, lists_of_bits}
 use Rattle.state_rules.specs.Assignments.{Assignment, assignment}
 use Rattle.state_rules.proofs.Lists.{list_any-map, any-never}
 use Rattle.state_rules.proofs.Members.{any_same}
-use Rattle.clause_encoder.specs.Clauses.{Clause, is_true_clause, all_hold}
+use Rattle.clause_encoder.specs.Clauses.{Clause, all_hold}
 
 -- the variables from one on have these bits
 abbrev pub has_bits : Assignment → ℕ → List Bool → Bool
@@ -27,9 +27,7 @@ and_swap_inner true false false e = refl
 and_swap_inner false c d e = refl
 
 pub has_bits-append : (a : Assignment) (z : ℕ) (bits more : List Bool) → has_bits a z (bits ++ more) ≡ (has_bits a z bits && has_bits a (z + length bits) more)
-has_bits-append a z [] more = ap (λ v. has_bits a v more) (at z) where
-  at : (z : ℕ) → z ≡ z + 0
-  at z = omega arith
+has_bits-append a z [] more = grind arith
 has_bits-append a z (b ∷ bits) more =
     ap (λ t. same_bit b (a z) && t) (has_bits-append a (z + 1) bits more ∙ ap (λ v. has_bits a (z + 1) bits && has_bits a v more) (at z (length bits)))
     ∙ sym (and_assoc (same_bit b (a z)) (has_bits a (z + 1) bits) (has_bits a (z + suc (length bits)) more)) where
@@ -39,12 +37,7 @@ has_bits-append a z (b ∷ bits) more =
 -- the inner variables of the second clauses come behind those of the first
 pub Settles-append : (a : Assignment) (z y : ℕ) (cs ds : List Clause) (bits more : List Bool) (rest others : Bool) → y ≡ z + length bits
     → Settles a z cs bits rest → Settles a y ds more others → Settles a z (cs ++ ds) (bits ++ more) (rest && others)
-Settles-append a z y cs ds bits more rest others at first second =
-    list_all-append (is_true_clause a) cs ds
-    ∙ (λ i. first i && second i)
-    ∙ (λ i. (has_bits a z bits && rest) && (has_bits a (at i) more && others))
-    ∙ and_swap_inner (has_bits a z bits) rest (has_bits a (z + length bits) more) others
-    ∙ ap (λ b. b && (rest && others)) (sym (has_bits-append a z bits more))
+Settles-append a z y cs ds bits more rest others at first second = grind (arith, list_all-append, at, and_swap_inner, has_bits-append)
 
 -- ---- some bits of the inner variables
 

@@ -1,8 +1,8 @@
 -- How many variables a device that is encoded has: each inner one comes with three clauses or more, of which there are few.
-use Rattle.std.proofs.Common.{◌≡◌, ℕ, ◌+◌, ◌-◌, ◌*◌, ◌<◌, ◌≤◌, Bool, true, false, List, [], ◌∷◌, map, length, take, get_or, Ok, Err, refl, ap, sym, ◌∙◌, subst, arith}
-use Rattle.std.specs.Prelude.{nat_lt, if◌then◌else◌}
+use Rattle.std.proofs.Common.{◌≡◌, ℕ, ◌+◌, ◌-◌, ◌*◌, ◌<◌, ◌≤◌, Bool, true, false, List, [], ◌∷◌, map, length, take, get_or, Ok, refl, ap, sym, ◌∙◌, subst, arith}
+use Rattle.std.specs.Prelude.{if◌then◌else◌}
 use Rattle.std.specs.List.{list_all}
-use Rattle.std.proofs.lemmas.Bool.{ltb-true, ltb-false, and_parts}
+use Rattle.std.proofs.lemmas.Bool.{ltb-true, and_parts}
 use Rattle.std.proofs.lemmas.List.{length-append, length-map, length-take-le}
 use Rattle.device_model.specs.declared.gates.Rule.{Rule}
 use Rattle.device_model.specs.declared.gates.Rule.TheVariants.{Gate as OfGate, Table as OfTable}
@@ -14,9 +14,8 @@ use Rattle.device_model.specs.TruthTable.{TruthTable}
 use Rattle.device_model.specs.Devices.{Device, IsDevice, takes_ports, has_arity}
 use Rattle.device_model.specs.Gates.{rule}
 use Rattle.clause_encoder.specs.declared.limits.TheConstants.{CLAUSE_LIMIT, NARROW_LIMIT}
-use Rattle.clause_encoder.specs.declared.encoding.EncodeError.TheVariants.{TooManyClauses}
 use Rattle.clause_encoder.specs.Clauses.{ClauseList}
-use Rattle.clause_encoder.specs.Encoding.{step_clauses, any_gate_clauses, is_wide, raw_clauses, inner_count, inner_vars, wire_variable, clauses_from, first_inner, raw_count, clause_list, most_variables, encoded}
+use Rattle.clause_encoder.specs.Encoding.{step_clauses, any_gate_clauses, is_wide, raw_clauses, inner_count, inner_vars, wire_variable, clauses_from, first_inner, raw_count, most_variables, encoded}
 use Rattle.clause_encoder.proofs.Counting.{length-any_gate}
 
 -- ---- inner variables and clauses
@@ -84,13 +83,7 @@ pub record IsEncoded (device : Device) (cnf : ClauseList) : Type 0 where
   pub few : raw_count device ≤ CLAUSE_LIMIT
 
 pub encoded-is : (device : Device) (cnf : ClauseList) → encoded device ≡ Ok cnf → IsEncoded device cnf
-encoded-is device cnf is = by_count (nat_lt CLAUSE_LIMIT (raw_count device)) refl is where
-  by_count : (too_many : Bool) → nat_lt CLAUSE_LIMIT (raw_count device) ≡ too_many
-      → (if too_many then Err (TooManyClauses (raw_count device)) else Ok (clause_list device)) ≡ Ok cnf → IsEncoded device cnf
-  by_count true many e = let f : Err (TooManyClauses (raw_count device)) ≡ Ok cnf = e in absurd (cc)
-  by_count false few e =
-      let same : clause_list device ≡ cnf = cc in
-      record { vars = sym (ap (λ (l : ClauseList). l.vars) same); few = ltb-false CLAUSE_LIMIT (raw_count device) few }
+encoded-is device cnf is = grind arith
 
 pub few_inner : (device : Device) (cnf : ClauseList) → IsDevice device → encoded device ≡ Ok cnf → 3 * inner_vars device.parts ≤ CLAUSE_LIMIT
 few_inner device cnf valid is = omega (arith, parts-inner device 1 (first_inner device) device.parts valid.arities, (encoded-is device cnf is).few)

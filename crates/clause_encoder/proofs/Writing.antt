@@ -1,20 +1,20 @@
 -- Clauses that are written one after the other: what a step of a loop adds to those that were there.
-use Rattle.std.proofs.Common.{◌≡◌, ℕ, zero, suc, ◌+◌, ◌-◌, ◌*◌, ◌/◌, ◌%◌, ◌^◌, ◌<◌, ◌≤◌, Bool, true, false, not, cond, List, [], ◌∷◌, ◌++◌, map, length, take, drop, get_or, ℤ, pos, count_ones, Some, ap, sym, ◌∙◌, arith, append_assoc, ◌&&◌, w32, to_z, of_z, FitsSigned}
-use Rattle.std.specs.List.{list_all, filter, range_with_len}
+use Rattle.std.proofs.Common.{◌≡◌, ℕ, zero, suc, ◌+◌, ◌-◌, ◌*◌, ◌/◌, ◌%◌, ◌^◌, ◌<◌, ◌≤◌, Bool, true, false, not, cond, List, [], ◌∷◌, ◌++◌, map, length, take, drop, get_or, ℤ, pos, count_ones, Some, ap, sym, ◌∙◌, arith, append_assoc, w32, to_z, of_z, FitsSigned}
+use Rattle.std.specs.List.{filter, range_with_len}
 use Rattle.std.proofs.lemmas.List.{append-nil, drop_more, drop_all, take_more, length-map, get_or-map}
-use Rattle.std.specs.Prelude.{◌==◌, slice_get, nat_lt, nat_le}
+use Rattle.std.specs.Prelude.{◌==◌, slice_get}
 use Rattle.std.proofs.Math.Pow.{pow_mono}
-use Rattle.std.proofs.lemmas.Bool.{eqb-true, leb-true, ltb-true, and_parts, false≢true}
+use Rattle.std.proofs.lemmas.Bool.{eqb-true, ltb-true, false≢true}
 use Rattle.std.proofs.lemmas.Bool.Decides.{nat_tests}
 use Rattle.std.proofs.lemmas.Int.{to_z-of_z, fits_signed_from_abs}
 use Rattle.state_rules.specs.Bits.{same_bit, has_odd_ones, has_bit}
 use Rattle.state_rules.proofs.Lists.{list_all-at}
-use Rattle.device_model.specs.TruthTable.{TruthTable, has_few_ports, is_cost, is_table}
+use Rattle.device_model.specs.TruthTable.{TruthTable, is_table}
 use Rattle.device_model.specs.declared.gates.Gate.{Gate}
 use Rattle.device_model.specs.declared.gates.Reduction.{Reduction}
 use Rattle.device_model.specs.Gates.{rule}
 use Rattle.device_model.specs.declared.component.Component.{Component}
-use Rattle.device_model.specs.Devices.{Device, IsDevice, has_arity, has_wires, rows_take, takes_ports}
+use Rattle.device_model.specs.Devices.{Device, IsDevice, rows_take, takes_ports}
 use Rattle.clause_encoder.specs.Clauses.{Clause, literal}
 use Rattle.clause_encoder.specs.Encoding.{tidy, and_clauses, row_bits, row_clause, blocking_literals, step_clauses, chain_clauses, raw_clauses, inner_count, inner_vars, first_inner, clauses_from, wire_variable}
 use Rattle.clause_encoder.proofs.Literals.{tidy-append}
@@ -31,9 +31,7 @@ module _ (now next start : List Clause) where
   item-written f xs i d lt e h = written (f (get_or xs i d) ∷ []) (map f (drop (i + 1) xs)) e (ap (λ ys. now ++ tidy (map f ys)) (sym (drop_more xs i d lt)) ∙ h)
 
   rows-from : (r n : ℕ) → r < n → range_with_len r (n - r) ≡ r ∷ range_with_len (r + 1) (n - (r + 1))
-  rows-from r n lt = ap (range_with_len r) (less r n lt) where
-    less : (r n : ℕ) → r < n → n - r ≡ suc (n - (r + 1))
-    less r n lt = omega arith
+  rows-from r n lt = grind (arith, nat_tests)
 
   pub row-written : (f : ℕ → Clause) (r n : ℕ) → r < n → next ≡ now ++ tidy (f r ∷ [])
       → now ++ tidy (map f (range_with_len r (n - r))) ≡ start → next ++ tidy (map f (range_with_len (r + 1) (n - (r + 1)))) ≡ start
@@ -47,9 +45,7 @@ module _ (now next start : List Clause) where
 
   pub kept-skipped : (f : ℕ → Clause) (keep : ℕ → Bool) (r n : ℕ) → r < n → keep r ≡ false → next ≡ now
       → now ++ tidy (map f (filter keep (range_with_len r (n - r)))) ≡ start → next ++ tidy (map f (filter keep (range_with_len (r + 1) (n - (r + 1))))) ≡ start
-  kept-skipped f keep r n lt k e h = (λ i. e i ++ tidy (map f (filter keep (range_with_len (r + 1) (n - (r + 1))))))
-      ∙ (λ i. now ++ tidy (map f (cond (sym k i) (r ∷ filter keep (range_with_len (r + 1) (n - (r + 1)))) (filter keep (range_with_len (r + 1) (n - (r + 1)))))))
-      ∙ ap (λ rs. now ++ tidy (map f (filter keep rs))) (sym (rows-from r n lt)) ∙ h
+  kept-skipped f keep r n lt k e h = grind (arith, nat_tests, rows-from)
 
 -- clauses behind those that were written before
 pub more-written : (start now next : List Clause) (front back : List Clause) → now ≡ start ++ tidy front → next ≡ now ++ tidy back → next ≡ start ++ tidy (front ++ back)
@@ -152,22 +148,11 @@ pub record IsTable (rows : TruthTable) : Type 0 where
   pub bad : rows.bad < 2 ^ (2 ^ rows.ports)
 
 pub IsTable-from : (rows : TruthTable) → is_table rows ≡ true → IsTable rows
-IsTable-from rows e =
-    let both = and_parts (has_few_ports rows.ports) (nat_lt rows.ok (2 ^ (2 ^ rows.ports)) && (nat_lt rows.bad (2 ^ (2 ^ rows.ports)) && is_cost rows.cost)) e in
-    let ports = and_parts (nat_le 1 rows.ports) (nat_le rows.ports 6) both.0 in
-    let sets = and_parts (nat_lt rows.ok (2 ^ (2 ^ rows.ports))) (nat_lt rows.bad (2 ^ (2 ^ rows.ports)) && is_cost rows.cost) both.1 in
-    record {
-      few = leb-true rows.ports 6 ports.1;
-      ok = ltb-true rows.ok (2 ^ (2 ^ rows.ports)) sets.0;
-      bad = ltb-true rows.bad (2 ^ (2 ^ rows.ports)) (and_parts (nat_lt rows.bad (2 ^ (2 ^ rows.ports))) (is_cost rows.cost) sets.1).0;
-    }
+IsTable-from rows e = grind (arith, nat_tests)
 
 -- the rows of a table are those below `1 << ports`
 pub row_below : (rows : TruthTable) (row ports : ℕ) → is_table rows ≡ true → ports ≡ rows.ports → row < 1 * 2 ^ ports % 4294967296 → row < 2 ^ rows.ports
-row_below rows row ports e f lt =
-    let few = (IsTable-from rows e).few in
-    let all = shifted ports (omega arith) in
-    omega (arith, ap (λ n. 2 ^ n) f)
+row_below rows row ports e f lt = grind (arith, nat_tests)
 
 -- the table of a part that has one
 pub taken : (tables : List TruthTable) (t ports : ℕ) (rows : TruthTable) → rows_take (slice_get tables t) ports ≡ true → rows ≡ get_or tables t rows
@@ -199,10 +184,7 @@ pub split-at : (device : Device) (place : ℕ) (part : Component) → place < le
     → clauses_from device (place + 1) (inner_at device place) (drop place device.parts)
     ≡ raw_clauses device.tables (rule part.kind) (place + 1) (inner_at device place) (map (wire_variable device) part.ports)
     ++ clauses_from device ((place + 1) + 1) (inner_at device (place + 1)) (drop (place + 1) device.parts)
-split-at device place part lt is =
-    ap (clauses_from device (place + 1) (inner_at device place)) (drop_more device.parts place part lt ∙ ap (λ q. q ∷ drop (place + 1) device.parts) (sym is))
-    ∙ ap (λ z. raw_clauses device.tables (rule part.kind) (place + 1) (inner_at device place) (map (wire_variable device) part.ports) ++ clauses_from device ((place + 1) + 1) z (drop (place + 1) device.parts))
-    (sym (inner_at-more device place part lt is))
+split-at device place part lt is = grind (arith, nat_tests, drop_more, inner_at-more)
 
 -- the clauses of one part more
 pub part-written : (device : Device) (place : ℕ) (parts : List Component) (part : Component) (tables : List TruthTable) (h z : ℕ) (ports wires : List ℕ) (now next start : List Clause)
@@ -221,9 +203,7 @@ part-written device place parts part tables h z ports wires now next start same 
 pub inner-next : (device : Device) (place : ℕ) (parts : List Component) (part : Component) (inner next : ℕ) (ports wires : List ℕ)
     → parts ≡ device.parts → place < length parts → part ≡ get_or parts place part → inner ≡ inner_at device place
     → ports ≡ map (λ wire. length parts + wire + 1) wires → wires ≡ part.ports → next ≡ inner + inner_count (rule part.kind) (length ports) → next ≡ inner_at device (place + 1)
-inner-next device place parts part inner next ports wires same lt is first p w e =
-    e ∙ (λ i. first i + inner_count (rule part.kind) ((ap length p ∙ length-map wires (λ wire. length parts + wire + 1) ∙ ap length w) i))
-    ∙ sym (inner_at-more device place part (omega (arith, ap length same)) (is ∙ ap (λ ps. get_or ps place part) same))
+inner-next device place parts part inner next ports wires same lt is first p w e = grind (arith, nat_tests, length-map, inner_at-more, same)
 
 -- ---- chains
 
@@ -247,18 +227,9 @@ small parts wires ports items e f few low k d lt =
 -- the wires at the ports of a part
 pub low : (device : Device) (parts : List Component) (place : ℕ) (part : Component) (wires : List ℕ) → IsDevice device → parts ≡ device.parts → place < length parts → part ≡ get_or parts place part → wires ≡ part.ports
     → (k d : ℕ) → k < length wires → get_or wires k d < 16384
-low device parts place part wires valid same lt is w k d within =
-    let at : list_all (λ port. nat_lt port (length device.wires)) wires ≡ true =
-    ap (list_all (λ port. nat_lt port (length device.wires))) w
-    ∙ ap (has_wires (length device.wires)) is
-    ∙ ap (λ ps. has_wires (length device.wires) (get_or ps place part)) same
-    ∙ list_all-at (has_wires (length device.wires)) device.parts place part valid.joined (omega (arith, ap length same)) in
-    omega (arith, valid.few_wires, ltb-true (get_or wires k d) (length device.wires) (list_all-at (λ port. nat_lt port (length device.wires)) wires k d at within))
+low device parts place part wires valid same lt is w k d within = grind (arith, nat_tests, same, list_all-at, ltb-true)
 
 -- the number of ports of a part, as its kind takes it
 pub arity-taken : (device : Device) (parts : List Component) (place : ℕ) (part : Component) (tables : List TruthTable) (ports : List ℕ) → IsDevice device → parts ≡ device.parts
     → place < length parts → part ≡ get_or parts place part → tables ≡ device.tables → ports ≡ part.ports → takes_ports tables (rule part.kind) (length ports) ≡ true
-arity-taken device parts place part tables ports valid same lt is t p =
-    (λ i. takes_ports (t i) (rule part.kind) (length (p i)))
-    ∙ ap (has_arity device.tables) (is ∙ ap (λ ps. get_or ps place part) same)
-    ∙ list_all-at (has_arity device.tables) device.parts place part valid.arities (omega (arith, ap length same))
+arity-taken device parts place part tables ports valid same lt is t p = grind (arith, nat_tests, same, list_all-at)

@@ -33,13 +33,7 @@ silent nodes v Or [] e = refl
 silent nodes v Or (k ∷ ks) e = absurd (let clash : true ≡ false = sym e ∙ filled k ks in let never : ⊥ = cc in never)
 
 pub named_plain : (vars : ℕ) (nodes : List Node) (k v : ℕ) → AreNodes vars nodes → mentions nodes v k ≡ true → IsPlain nodes k
-named_plain vars nodes k v are named = λ node there. by node there (is_bare node.what node.kids) refl where
-  by : (node : Node) → slice_get nodes k ≡ Some node → (b : Bool) → is_bare node.what node.kids ≡ b → is_bare node.what node.kids ≡ false
-  by node there false e = e
-  by node there true e =
-      let none : mentions nodes v k ≡ false = value_of-get (mention_by v) nodes k node there (fits-get vars nodes k node are.fit there).below ∙ silent nodes v node.what node.kids e in
-      let clash : true ≡ false = sym named ∙ none in
-      absurd (let never : ⊥ = cc in never)
+named_plain vars nodes k v are named = grind (arith, value_of-get (mention_by v) nodes k, fits-get vars nodes k, silent nodes v)
 
 pub named_all : (vars : ℕ) (nodes : List Node) (v : ℕ) (o : Option ℕ) → AreNodes vars nodes → IfSome o (λ n. mentions nodes v n ≡ true) → IfSome o (IsPlain nodes)
 named_all vars nodes v None are named = tt
@@ -93,16 +87,14 @@ two_kidless nodes a b none e f = subst HaveNoKids (append_assoc nodes (a ∷ [])
 
 literals_kidless : (n : ℕ) → HaveNoKids (literals n)
 literals_kidless zero i n there = absurd (let never : ⊥ = cc in never)
-literals_kidless (suc n) i m there = two_kidless (literals n) (literal_node (n + 1) true) (literal_node (n + 1) false) (literals_kidless n) refl refl i m there
+literals_kidless (suc n) i m there = grind (arith, two_kidless (literals n), literals_kidless n)
 
 grown_kidless : (old new : List Node) (node : Node) → AddsAtMost old node new → HaveNoKids old → node.kids ≡ [] → HaveNoKids new
 grown_kidless old new node (inl e) none f = subst HaveNoKids (sym e) none
 grown_kidless old new node (inr e) none f = subst HaveNoKids (sym e) (one_kidless old node none f)
 
 pub first_bare : (vars : ℕ) (nodes mid new : List Node) (a b : Node) → nodes ≡ literals vars → AddsAtMost nodes a mid → a.kids ≡ [] → AddsAtMost mid b new → b.kids ≡ [] → HasNoBareKid new
-first_bare vars nodes mid new a b is one e two f = λ parent child n kid there has kid_there.
-    let none = grown_kidless mid new b two (grown_kidless nodes mid a one (subst HaveNoKids (sym is) (literals_kidless vars)) e) f parent n there in
-    absurd (omega (arith, has.1, ap length none))
+first_bare vars nodes mid new a b is one e two f = grind (arith, grown_kidless mid new b two, grown_kidless nodes mid a one, literals_kidless vars)
 
 -- ---- one of two
 
@@ -115,21 +107,9 @@ module _ (m : Maker) (s : Stored) (first second node : ℕ) (is : IsMaker m) whe
 
   of_two : IsChild first → IsChild second → Makes m.store s Or (first ∷ second ∷ []) node → Means m.store.nodes s.nodes Or (first ∷ second ∷ []) node → IsStore s
       → IsJoin m (record m { store = s }) (Some first) (Some second) node
-  of_two one two makes means store = record {
-    adds = adds_store m s 2 is store (kept_in m.store.nodes s.nodes either makes.nodes)
-        (bare_push m.store.vars m.store.nodes s.nodes either is.store.nodes makes.nodes is.bare (two_plain IsChild first second one two))
-        (grows_by m.store.nodes s.nodes Or (first ∷ second ∷ []) node makes.nodes means) makes.vars (omega (arith, makes.made)) (omega (arith, makes.handed));
-    within = slice_get_within s.nodes node either makes.there;
-    truth = λ a. means.truth a ∙ ap (λ b. is_true m.store.nodes first a || b) (or-false (is_true m.store.nodes second a));
-    variables = λ v no_first no_second. means.variables v ∙ (λ j. no_first j || (no_second j || false));
-  }
+  of_two one two makes means store = grind (arith, adds_store m s 2 is store (kept_in m.store.nodes s.nodes either makes.nodes) (bare_push m.store.vars m.store.nodes s.nodes either is.store.nodes makes.nodes is.bare (two_plain IsChild first second one two)) (grows_by m.store.nodes s.nodes Or (first ∷ second ∷ []) node makes.nodes means) makes.vars, slice_get_within s.nodes node either makes.there, means.truth, means.variables)
 
 pub join_both : (m : Maker) (s : Stored) (off on : Option ℕ) (first second node : ℕ) → IsMaker m → off ≡ Some first → on ≡ Some second → IfSome off (λ n. n < length m.store.nodes) → IfSome on (λ n. n < length m.store.nodes)
     → IfSome off (IsPlain m.store.nodes) → IfSome on (IsPlain m.store.nodes) → Makes m.store s Or (first ∷ second ∷ []) node → Means m.store.nodes s.nodes Or (first ∷ second ∷ []) node → IsStore s
     → IsJoin m (record m { store = s }) off on node
-join_both m s off on first second node is e f off_in on_in off_plain on_plain makes means store =
-    subst (λ o. IsJoin m (record m { store = s }) o on node) (sym e)
-    (subst (λ o. IsJoin m (record m { store = s }) (Some first) o node) (sym f)
-    (of_two m s first second node is
-    (subst (λ o. IfSome o (λ n. n < length m.store.nodes)) e off_in, subst (λ o. IfSome o (IsPlain m.store.nodes)) e off_plain)
-    (subst (λ o. IfSome o (λ n. n < length m.store.nodes)) f on_in, subst (λ o. IfSome o (IsPlain m.store.nodes)) f on_plain) makes means store))
+join_both m s off on first second node is e f off_in on_in off_plain on_plain makes means store = grind (arith, e, f, off_in, on_in, off_plain, on_plain, of_two m s first second node is, makes, means, store)

@@ -4,7 +4,7 @@ use Rattle.std.specs.Prelude.{slice_get, reverse, Vec}
 use Rattle.std.specs.declared.alloc.Global.{Global}
 use Rattle.std.specs.List.{flat_map, list_all, AllByRecursion}
 use Rattle.std.proofs.lemmas.Nat.{mul-le}
-use Rattle.std.proofs.lemmas.List.{append-nil, drop_more, drop-drop, length-drop, length-reverse, reverse-append}
+use Rattle.std.proofs.lemmas.List.{append-nil, nil_from_length, drop_more, drop-drop, length-drop, length-reverse, reverse-append}
 use Rattle.std.proofs.lemmas.List.Elements.{All-from_recursion}
 use Rattle.std.proofs.lemmas.Option.{slice_get-get_or}
 use Rattle.std.proofs.lemmas.List.Concat.{flat_map-append}
@@ -55,7 +55,7 @@ all_sum (spot ∷ spots) = (length spot.place.lists + sum_on Lists spot.below (d
 
 steps_on : (forest : Forest) (base : Place) → flat_map its_steps (spots_on forest base) ≡ steps_of forest
 steps_on none base = refl
-steps_on (tree v below beside) base = ap (λ xs. (record { var = v; trees = trees below }) ∷ (steps_of below ++ xs)) (steps_on beside base)
+steps_on (tree v below beside) base = grind (arith, steps_on beside base)
 
 forks_along : (forest : Forest) (base : Place) → flat_map its_forks (spots_on forest base) ≡ forks_on forest base
 forks_along none base = refl
@@ -134,13 +134,7 @@ head_at i x xs ys e =
 
 forks_many : (forest : Forest) (base : Place) → length (forks_on forest base) ≡ length (steps_of forest)
 forks_many none base = refl
-forks_many (tree v below beside) base = omega (
-  arith,
-  length-append (forks_on below (decided v (part (v ∷ variables below) base))) (forks_on beside base),
-  length-append (steps_of below) (steps_of beside),
-  forks_many below (decided v (part (v ∷ variables below) base)),
-  forks_many beside base,
-)
+forks_many (tree v below beside) base = grind (arith, length-append, forks_many below, forks_many beside base)
 
 -- ---- the way up
 
@@ -169,14 +163,11 @@ module _ (cnf : ClauseList) (steps : List Step) (forks : List Forks) (forest : F
   pub forks_long : length forks ≡ length steps
   forks_long = ap length is.forks_are ∙ forks_many forest (root cnf.clauses) ∙ sym (ap length is.steps_are)
 
-  bounded : sum_on Lists forest (root cnf.clauses) ≤ BUDGET_LIMIT
-  bounded = is.few
-
   its_after : is_clause_list cnf ≡ true → (i : ℕ) → IsAfter cnf.vars (width forest) BUDGET_LIMIT i steps forks (spots_at (start cnf forest) i)
   its_after valid i = all_after cnf.vars (width forest) BUDGET_LIMIT i steps forks (start cnf forest) (record {
     steps_are = steps_on forest (root cnf.clauses) ∙ sym is.steps_are;
     forks_are = forks_along forest (root cnf.clauses) ∙ sym is.forks_are;
-    few = omega (arith, sum_along forest (root cnf.clauses), bounded);
+    few = omega (arith, sum_along forest (root cnf.clauses), is.few);
     each = each_spot cnf.vars forest (root cnf.clauses) (root_base cnf forest is.forest_is (clauses-valid cnf valid).2);
     narrow = narrow_on (width forest) forest (root cnf.clauses) (omega arith);
   })
@@ -191,13 +182,7 @@ module _ (cnf : ClauseList) (steps : List Step) (forks : List Forks) (forest : F
       → IsClimbing cnf (width forest) m stack (spots_at (start cnf forest) i)
   climb_first valid i m stack e made vars two no_kid empty = by (spots_at (start cnf forest) i) (ap length (its_after valid i).steps_are) where
     by : (spots : List Spot) → length (flat_map its_steps spots) ≡ length (drop i steps) → IsClimbing cnf (width forest) m stack spots
-    by [] same = record {
-      maker = made;
-      vars = vars;
-      stacked = subst (λ s. AreLevels m.store.nodes [] (reverse s)) (sym empty) tt;
-      made = omega (arith, two);
-      handed = omega (arith, no_kid);
-    }
+    by [] same = grind (arith, made, vars, two, no_kid, empty)
     by (spot ∷ rest) same = absurd (omega (arith, e, same, length-drop i steps))
 
   module _ (valid : is_clause_list cnf ≡ true) (i : ℕ) (m : Maker) (stack : List (Vec ℕ Global)) (next : IsNext (start cnf forest) i) (climbing : IsClimbing cnf (width forest) m stack (spots_at (start cnf forest) (suc i))) where
@@ -209,29 +194,11 @@ module _ (cnf : ClauseList) (steps : List Step) (forks : List Forks) (forest : F
 
     pub climb_ready : (step : Step) (fork : Forks) → slice_get steps i ≡ Some step → slice_get forks i ≡ Some fork → IsReady m step fork stack next.spot next.rest
     climb_ready step fork step_there forks_there =
-        let same_step : Some step ≡ Some (its_step next.spot) = sym step_there ∙ head_at i (its_step next.spot) steps _ known.steps_are in
-        let same_fork : Some fork ≡ Some (forks_at next.spot.v next.spot.below next.spot.place) =
-        sym forks_there ∙ head_at i (forks_at next.spot.v next.spot.below next.spot.place) forks _ known.forks_are in
-        record {
-          made = climbing.maker;
-          step_is = cc;
-          forks_are = cc;
-          spot_is = subst (λ n. IsSpot n next.spot) (sym climbing.vars) known.each.0;
-          stacked = climbed.stacked;
-          few = omega (arith, climbed.made, sum_next next.spot next.rest, known.few);
-          narrow = omega (arith, known.few);
-        }
+        grind (arith, step_there, forks_there, head_at i (its_step next.spot) steps _ known.steps_are, head_at i (forks_at next.spot.v next.spot.below next.spot.place) forks _ known.forks_are, climbing, climbed, known, sum_next next.spot next.rest)
 
     pub climb_more : (new : Maker) (under : List (Vec ℕ Global)) (numbers : Vec ℕ Global) → IsRaised m new under numbers.items next.spot next.rest
         → IsClimbing cnf (width forest) new (under ++ numbers ∷ []) (spots_at (start cnf forest) i)
-    climb_more new under numbers raised = subst (IsClimbing cnf (width forest) new (under ++ numbers ∷ [])) (sym next.are) (record {
-      maker = raised.adds.maker;
-      vars = raised.adds.vars ∙ climbing.vars;
-      stacked = subst (AreLevels new.store.nodes (next.spot ∷ next.rest)) (sym (reverse-append under (numbers ∷ []))) (raised.nodes, raised.stacked);
-      made = omega (arith, raised.adds.made, climbed.made, sum_next next.spot next.rest);
-      handed = kids_few m.store.handed new.store.handed (trees next.spot.below) (width forest) (length next.spot.place.lists) (all_sum (spots_below next.spot ++ next.rest)) (all_sum (next.spot ∷ next.rest))
-          raised.adds.handed (omega (arith, trees_within next.spot.below, known.narrow.0)) climbed.handed (sum_next next.spot next.rest);
-    })
+    climb_more new under numbers raised = grind (arith, next.are, raised, climbing, climbed, known, sum_next next.spot next.rest, trees_within next.spot.below, kids_few m.store.handed new.store.handed (trees next.spot.below) (width forest), reverse-append under (numbers ∷ []))
 
   -- ---- the base of all
 
@@ -240,12 +207,8 @@ module _ (cnf : ClauseList) (steps : List Step) (forks : List Forks) (forest : F
     all = map (λ c. true) cnf.clauses
 
     module _ (top under : List (Vec ℕ Global)) (are : reverse stack ≡ top ++ reverse under) (many : length top ≡ length stack) where
-      empty : (xs : List (Vec ℕ Global)) → length xs ≡ 0 → xs ≡ []
-      empty [] e = refl
-      empty (x ∷ xs) e = absurd (omega arith)
-
       whole : reverse stack ≡ top
-      whole = are ∙ ap (λ xs. top ++ xs) (empty (reverse under) (omega (arith, ap length are, length-append top (reverse under), length-reverse stack, many))) ∙ append-nil top
+      whole = grind (arith, are, length-append, length-reverse, many, append-nil, nil_from_length)
 
       levels : AreLevels m.store.nodes (spots_on forest (root cnf.clauses)) top
       levels = subst (AreLevels m.store.nodes (spots_on forest (root cnf.clauses))) whole climbing.stacked
@@ -259,12 +222,9 @@ module _ (cnf : ClauseList) (steps : List Step) (forks : List Forks) (forest : F
       pub top_many : length top ≡ trees forest
       top_many = sym (length-levels m.store.nodes (spots_on forest (root cnf.clauses)) top levels) ∙ length-spots forest (root cnf.clauses)
 
-      number_one : (x : List Bool) → number_in (x ∷ []) x ≡ 0
-      number_one x = ap (λ b. cond (not b) (1 + 0) 0) (pointwise-refl x)
-
       begin_zero : (part_forest : Forest) → begins part_forest (root cnf.clauses) all ≡ replicate (trees part_forest) 0
       begin_zero none = refl
-      begin_zero (tree v below beside) = λ j. number_one (part_of (v ∷ variables below) (root cnf.clauses) all) j ∷ begin_zero beside j
+      begin_zero (tree v below beside) = grind (arith, begin_zero beside, pointwise-refl)
 
       module _ (numbers : List ℕ) (n : ℕ) (long : n ≡ length stack) (zeros : numbers ≡ replicate n 0) where
         same_numbers : begins forest (root cnf.clauses) all ≡ numbers
@@ -282,13 +242,7 @@ module _ (cnf : ClauseList) (steps : List Step) (forks : List Forks) (forest : F
 
           pub root_is : IsRoot cnf forest m kids
           root_is = record {
-            meetable = record {
-              maker = climbing.maker;
-              within = All-from_recursion (λ k. k < length m.store.nodes) kids (subst (AllByRecursion (λ k. k < length m.store.nodes)) kids_are its_begin.within);
-              apart = subst (AreApart m.store.nodes) kids_are its_begin.apart;
-              few_kids = omega (arith, kids_many, trees_few forest (root cnf.clauses) all there, bounded);
-              few = omega (arith, climbing.made, sum_along forest (root cnf.clauses), bounded);
-            };
+            meetable = grind (arith, climbing, All-from_recursion, kids_are, its_begin, kids_many, trees_few forest (root cnf.clauses) all there, is.few, sum_along forest (root cnf.clauses));
             right = λ new node compiled meet valid_graph frozen made.
                 let vars : new.store.vars ≡ cnf.vars = meet.adds.vars ∙ climbing.vars in
                 record {
@@ -309,4 +263,4 @@ module _ (cnf : ClauseList) (steps : List Step) (forks : List Forks) (forest : F
                 };
           } where
             last_kids : (handed k sum : ℕ) → handed ≤ (4 + 2 * k) * sum → handed + k ≤ (4 + 2 * k) * (1 + sum)
-            last_kids handed k sum h = let e : (4 + 2 * k) * (1 + sum) ≡ (4 + 2 * k) * sum + (4 + 2 * k) = omega arith in omega (arith, h, e)
+            last_kids handed k sum h = grind arith

@@ -8,12 +8,8 @@ use Rattle.dnnf_compiler.specs.inner.Joining.{Grows, IsConstant}
 pub grows_not : (nodes : List Node) → Grows nodes nodes
 grows_not nodes = record { longer = omega arith; truth = λ k a h. refl; variables = λ k v h. refl }
 
-pub grows_then : (old mid new : List Node) → Grows old mid → Grows mid new → Grows old new
-grows_then old mid new g h = grind arith
-
 pub constant_grows : (old new : List Node) (value : Bool) (node : ℕ) → Grows old new → IsConstant old value node → IsConstant new value node
 constant_grows old new value node g is = grind arith
 
 pub grows_by : (old new : List Node) (kind : NodeKind) (kids : List ℕ) (number : ℕ) → AddsAtMost old (record { what = kind; kids = kids }) new → Means old new kind kids number → Grows old new
-grows_by old new kind kids number (inl e) means = record { longer = omega (arith, ap length e); truth = λ k a h. means.true_before k a h; variables = λ k v h. means.variables_before k v h }
-grows_by old new kind kids number (inr e) means = record { longer = omega (arith, ap length e, length-append old (record { what = kind; kids = kids } ∷ [])); truth = λ k a h. means.true_before k a h; variables = λ k v h. means.variables_before k v h }
+grows_by old new kind kids number adds means = grind (arith, length-append)

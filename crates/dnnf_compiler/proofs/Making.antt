@@ -11,7 +11,7 @@ use Rattle.node_store.specs.Stores.{Stored, IsStore, Makes, Means, AddsAtMost, H
 use Rattle.dnnf_compiler.specs.declared.maker.Maker.{Maker}
 use Rattle.dnnf_compiler.specs.inner.Joining.{Grows}
 use Rattle.dnnf_compiler.specs.inner.Making.{IsMaker, Adds, may_be_true, may_mention}
-use Rattle.dnnf_compiler.proofs.Growing.{grows_not, grows_then, constant_grows, grows_by}
+use Rattle.dnnf_compiler.proofs.Growing.{grows_not, constant_grows, grows_by}
 
 pub kept_in : (old new : List Node) (node : Node) → AddsAtMost old node new → (k : ℕ) (n : Node) → slice_get old k ≡ Some n → slice_get new k ≡ Some n
 kept_in old new node (inl e) k n there = ap (λ ns. slice_get ns k) e ∙ there

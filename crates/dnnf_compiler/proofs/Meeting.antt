@@ -39,17 +39,13 @@ length-zip R [] (y ∷ ys) all = absurd all
 length-zip R (x ∷ xs) [] all = absurd all
 length-zip R (x ∷ xs) (y ∷ ys) all = ap suc (length-zip R xs ys all.1)
 
--- at most one, if the first is none, or no other is one
-pub first_none : (b : Bool) (bs : List Bool) → b ≡ false → at_most_one bs ≡ true → at_most_one (b ∷ bs) ≡ true
-first_none b bs e h = ap (λ b. at_most_one (b ∷ bs)) e ∙ h
+-- at most one, if no other is one
+none_one : (bs : List Bool) → list_any (λ b. b) bs ≡ false → at_most_one bs ≡ true
+none_one [] e = refl
+none_one (b ∷ bs) e = grind (arith, none_one bs)
 
 pub others_none : (b : Bool) (bs : List Bool) → list_any (λ b. b) bs ≡ false → at_most_one (b ∷ bs) ≡ true
-others_none true bs e = ap not e
-others_none false bs e = by bs e where
-  by : (bs : List Bool) → list_any (λ b. b) bs ≡ false → at_most_one bs ≡ true
-  by [] e = refl
-  by (true ∷ bs) e = absurd (cc)
-  by (false ∷ bs) e = by bs e
+others_none b bs e = grind (arith, none_one bs)
 
 -- ---- those that are always true are left out
 
@@ -73,36 +69,15 @@ module _ (m : Maker) (is : IsMaker m) where
 
   one_kept : (v : ℕ) (kids : List ℕ) → at_most_one (map (mentions its v) (filter keeps kids)) ≡ at_most_one (map (mentions its v) kids)
   one_kept v [] = refl
-  one_kept v (k ∷ kids) = by (k == m.yes) refl (one_kept v kids) where
-    first : (b : Bool) → at_most_one (map (mentions its v) (filter keeps kids)) ≡ at_most_one (map (mentions its v) kids) → at_most_one (b ∷ map (mentions its v) (filter keeps kids)) ≡ at_most_one (b ∷ map (mentions its v) kids)
-    first true rest = ap not (list_any-map (λ b. b) (mentions its v) (filter keeps kids) ∙ any_kept v kids ∙ sym (list_any-map (λ b. b) (mentions its v) kids))
-    first false rest = rest
-
-    by : (b : Bool) → (k == m.yes) ≡ b → at_most_one (map (mentions its v) (filter keeps kids)) ≡ at_most_one (map (mentions its v) kids)
-        → at_most_one (map (mentions its v) (cond (not b) (k ∷ filter keeps kids) (filter keeps kids))) ≡ at_most_one (mentions its v k ∷ map (mentions its v) kids)
-    by true e rest = rest ∙ (λ j. at_most_one (sym (ap (mentions its v) (eqb-true k m.yes e) ∙ is.yes.variables v) j ∷ map (mentions its v) kids))
-    by false e rest = first (mentions its v k) rest
+  one_kept v (k ∷ kids) = grind (arith, nat_tests, one_kept v kids, any_kept v kids, list_any-map, is.yes.variables v)
 
   few_kept : (kids : List ℕ) → length (filter keeps kids) ≤ length kids
   few_kept kids = length-filter-le keeps kids
 
   -- ---- while kids are gone over
 
-  one_on : (kids kept : List ℕ) (i k : ℕ) → i < length kids → k ≡ get_or kids i 0 → kept ++ filter keeps (drop i kids) ≡ kept ++ cond (keeps k) (k ∷ filter keeps (drop (i + 1) kids)) (filter keeps (drop (i + 1) kids))
-  one_on kids kept i k low at = ap (λ ks. kept ++ filter keeps ks) (drop_more kids i 0 low) ∙ ap (λ n. kept ++ filter keeps (n ∷ drop (i + 1) kids)) (sym at)
-
-  pub kept_not : (kids kept : List ℕ) (i k : ℕ) → i < length kids → k ≡ get_or kids i 0 → k ≡ m.yes → kept ++ filter keeps (drop i kids) ≡ filter keeps kids → kept ++ filter keeps (drop (i + 1) kids) ≡ filter keeps kids
-  kept_not kids kept i k low at e so_far =
-      sym (one_on kids kept i k low at ∙ ap (λ b. kept ++ cond (not b) (k ∷ filter keeps (drop (i + 1) kids)) (filter keeps (drop (i + 1) kids))) (same k m.yes e)) ∙ so_far where
-        same : (n l : ℕ) → n ≡ l → (n == l) ≡ true
-        same n l e = grind (arith, e)
-
   pub kept_more : (kids kept : List ℕ) (i k : ℕ) → i < length kids → k ≡ get_or kids i 0 → k ≢ m.yes → kept ++ filter keeps (drop i kids) ≡ filter keeps kids → (kept ++ k ∷ []) ++ filter keeps (drop (i + 1) kids) ≡ filter keeps kids
-  kept_more kids kept i k low at e so_far =
-      append_assoc kept (k ∷ []) (filter keeps (drop (i + 1) kids))
-      ∙ sym (one_on kids kept i k low at ∙ ap (λ b. kept ++ cond (not b) (k ∷ filter keeps (drop (i + 1) kids)) (filter keeps (drop (i + 1) kids))) (apart k m.yes e)) ∙ so_far where
-        apart : (n l : ℕ) → n ≢ l → (n == l) ≡ false
-        apart n l e = grind (arith, e)
+  kept_more kids kept i k low at e so_far = grind (arith, nat_tests, append_assoc, drop_more kids i 0 low)
 
   -- ---- what is made
 

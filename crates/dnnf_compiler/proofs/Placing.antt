@@ -26,10 +26,6 @@ use Rattle.dnnf_compiler.specs.inner.Placing.{rest_by, left_by, Spot, spots_on, 
 both_fail : (x y : Bool) → (not x && not y) ≡ not (x || y)
 both_fail x y = grind arith
 
-literal-next : (bound : List ℕ) (v : ℕ) (a : Assignment) (u : ℕ) (positive : Bool) → is_among bound v ≡ false
-    → (not (is_among bound u) && same_bit positive (a u)) ≡ (((u == v) && same_bit positive (a v)) || (not ((v == u) || is_among bound u) && same_bit positive (a u)))
-literal-next bound v a u positive free = grind (arith, nat_tests)
-
 clause-next : (bound : List ℕ) (v : ℕ) (a : Assignment) (clause : Clause) → is_among bound v ≡ false → rest_by bound a clause ≡ (has_true v (a v) clause || rest_by (v ∷ bound) a clause)
 clause-next bound v a [] free = refl
 clause-next bound v a (l ∷ clause) free = grind (arith, nat_tests, clause-next bound v a clause free)
@@ -38,7 +34,7 @@ clause-next bound v a (l ∷ clause) free = grind (arith, nat_tests, clause-next
 pub expand_by : (v : ℕ) (place : Place) (a : Assignment) (list : List Bool) → is_among place.bound v ≡ false → left_by place a list ≡ left_by (decided v place) a (next_by v place list (a v))
 expand_by v place a list free = ap not ((λ j. some_passes (λ c. each c j) place.clauses list) ∙ sym (passes_without (λ c. not (rest_by (v ∷ place.bound) a c)) (has_true v (a v)) place.clauses list)) where
   each : (c : Clause) → not (rest_by place.bound a c) ≡ (not (has_true v (a v) c) && not (rest_by (v ∷ place.bound) a c))
-  each c = ap not (clause-next place.bound v a c free) ∙ sym (both_fail (has_true v (a v) c) (rest_by (v ∷ place.bound) a c))
+  each c = grind (arith, clause-next place.bound v a c free)
 
 -- ---- a dead list does not hold
 
@@ -99,9 +95,7 @@ along_within (tree v below beside) bound c e f = grind (arith, nat_tests, along_
 pub down_holds : (forest : Forest) (base : Place) (a : Assignment) (list : List Bool) → IsDown forest base list → left_by base a list ≡ trees_hold forest base a list
 down_holds forest base a list is = sym (trees_say forest base a list ∙ ap not (passes_full (meets (variables forest)) (λ c. not (rest_by base.bound a c)) base.clauses list full)) where
   full : some_passes (λ c. not (meets (variables forest) c)) base.clauses list ≡ false
-  full = fail_by (λ c. is_within base.bound c || not (is_along forest base.bound c)) (λ c. not (meets (variables forest) c)) (λ c e.
-      let parts = or_parts (is_within base.bound c) (not (is_along forest base.bound c)) e in
-      ap not (true_from_ne_false (meets (variables forest) c) (λ f. false≢true (sym parts.0 ∙ along_within forest base.bound c (not-false (is_along forest base.bound c) parts.1) f)))) base.clauses list
+  full = fail_by (λ c. is_within base.bound c || not (is_along forest base.bound c)) (λ c. not (meets (variables forest) c)) (λ c e. grind (arith, e, along_within forest base.bound c)) base.clauses list
       (passes_or (is_within base.bound) (λ c. not (is_along forest base.bound c)) base.clauses list ∙ (λ j. is.alive j || is.along j))
 
 -- the trees of a base, or the last of them
@@ -110,12 +104,6 @@ pub record IsBase (vars : ℕ) (forest : Forest) (base : Place) : Type 0 where
   pub free : list_all (λ u. not (is_among base.bound u)) (variables forest) ≡ true
   pub fit : list_all (fits vars) (variables forest) ≡ true
   pub along : AllByRecursion (λ list. some_passes (λ c. meets (variables forest) c && not (is_along forest base.bound c)) base.clauses list ≡ false) base.lists
-
-own_along : (own met later below beside : Bool) → met ≡ (own || later) → (met && not (cond own (not later && below) beside)) ≡ false → (not (not own) && not below) ≡ false
-own_along own met later below beside e f = grind arith
-
-later_along : (own met later below beside : Bool) → met ≡ (own || later) → (met && not (cond own (not later && below) beside)) ≡ false → (later && not beside) ≡ false
-later_along own met later below beside e f = grind arith
 
 pub each_spot : (vars : ℕ) (forest : Forest) (base : Place) → IsBase vars forest base → AllByRecursion (IsSpot vars) (spots_on forest base)
 each_spot vars none base is = tt
@@ -127,7 +115,7 @@ each_spot vars (tree v below beside) base is = (
     along = each-different GoesDown (map (part_of own base) base.lists) (each-map Along GoesDown (part_of own base)
         (λ list e. passes_without (λ c. not (is_along below (v ∷ base.bound) c)) (λ c. not (meets own c)) base.clauses list
         ∙ fail_by (λ c. meets (variables (tree v below beside)) c && not (is_along (tree v below beside) base.bound c)) (λ c. not (not (meets own c)) && not (is_along below (v ∷ base.bound) c))
-        (λ c. own_along (meets own c) (meets (variables (tree v below beside)) c) (meets (variables beside) c) (is_along below (v ∷ base.bound) c) (is_along beside base.bound c) (meets-append own (variables beside) c)) base.clauses list e) base.lists is.along);
+        (λ c f. grind (arith, f, meets-append own (variables beside) c)) base.clauses list e) base.lists is.along);
   },
   each_spot vars beside base (record {
     once = once_back own (variables beside) is.once;
@@ -135,7 +123,7 @@ each_spot vars (tree v below beside) base is = (
     fit = (parts (fits vars) is.fit).1;
     along = each_more Along Later base.lists (λ list e.
         fail_by (λ c. meets (variables (tree v below beside)) c && not (is_along (tree v below beside) base.bound c)) (λ c. meets (variables beside) c && not (is_along beside base.bound c))
-        (λ c. later_along (meets own c) (meets (variables (tree v below beside)) c) (meets (variables beside) c) (is_along below (v ∷ base.bound) c) (is_along beside base.bound c) (meets-append own (variables beside) c)) base.clauses list e) is.along;
+        (λ c f. grind (arith, f, meets-append own (variables beside) c)) base.clauses list e) is.along;
   }),
 ) where
   own : List ℕ
@@ -155,14 +143,14 @@ each_spot vars (tree v below beside) base is = (
 
 pub down_base : (vars : ℕ) (forest : Forest) (base : Place) → is_once (variables forest) ≡ true → list_all (λ u. not (is_among base.bound u)) (variables forest) ≡ true → list_all (fits vars) (variables forest) ≡ true
     → AllByRecursion (IsDown forest base) base.lists → IsBase vars forest base
-down_base vars forest base once free fit down = record {
-  once = once;
-  free = free;
-  fit = fit;
-  along = each_more (IsDown forest base) (λ list. some_passes (λ c. meets (variables forest) c && not (is_along forest base.bound c)) base.clauses list ≡ false) base.lists
-      (λ list is. fail_by (λ c. not (is_along forest base.bound c)) (λ c. meets (variables forest) c && not (is_along forest base.bound c))
-      (λ c. and_right (meets (variables forest) c) (not (is_along forest base.bound c))) base.clauses list is.along) down;
-}
+down_base vars forest base once free fit down = grind (
+  arith,
+  once,
+  free,
+  fit,
+  each_more (IsDown forest base) (λ list. some_passes (λ c. meets (variables forest) c && not (is_along forest base.bound c)) base.clauses list ≡ false) base.lists
+      (λ list is. fail_by (λ c. not (is_along forest base.bound c)) (λ c. meets (variables forest) c && not (is_along forest base.bound c)) (λ c e. grind (arith, e)) base.clauses list is.along) down,
+)
 
 -- ---- after a variable's bit
 
@@ -178,26 +166,21 @@ each_decided P Q v place h each =
       both x = followed_by v place x false ++ followed_by v place x true
 
       one : (x : List Bool) (bit : Bool) → P x → AllByRecursion Q (followed_by v place x bit)
-      one x bit p = each-filter (λ l. is_dead_by (v ∷ place.bound) place.clauses l ≡ false → Q l) Q (λ next. not (is_dead_by (v ∷ place.bound) place.clauses next))
-          (λ l q e. q (not-true (is_dead_by (v ∷ place.bound) place.clauses l) e)) (next_by v place x bit ∷ []) (h x bit p, tt)
+      one x bit p = grind (arith, h x bit p)
 
 pub each_down : (vars : ℕ) (spot : Spot) → IsSpot vars spot → AllByRecursion (IsDown spot.below (decided spot.v spot.place)) (decided spot.v spot.place).lists
 each_down vars spot is =
     each_decided (λ list. some_passes (λ c. not (is_along spot.below (spot.v ∷ spot.place.bound) c)) spot.place.clauses list ≡ false) (IsDown spot.below (decided spot.v spot.place)) spot.v spot.place
-    (λ list bit e alive. record {
-      alive = alive;
-      along = passes_without (λ c. not (is_along spot.below (spot.v ∷ spot.place.bound) c)) (has_true spot.v bit) spot.place.clauses list
-          ∙ fail_by (λ c. not (is_along spot.below (spot.v ∷ spot.place.bound) c)) (λ c. not (has_true spot.v bit c) && not (is_along spot.below (spot.v ∷ spot.place.bound) c))
-          (λ c. and_right (not (has_true spot.v bit c)) (not (is_along spot.below (spot.v ∷ spot.place.bound) c))) spot.place.clauses list e;
-    }) is.along
+    (λ list bit e alive. grind (
+      arith,
+      e,
+      alive,
+      passes_without (λ c. not (is_along spot.below (spot.v ∷ spot.place.bound) c)) (has_true spot.v bit) spot.place.clauses list,
+      fail_by (λ c. not (is_along spot.below (spot.v ∷ spot.place.bound) c)) (λ c. not (has_true spot.v bit c) && not (is_along spot.below (spot.v ∷ spot.place.bound) c)),
+    )) is.along
 
 pub below_base : (vars : ℕ) (spot : Spot) → IsSpot vars spot → IsBase vars spot.below (decided spot.v spot.place)
-below_base vars spot is =
-    let once = and_parts (not (is_among (variables spot.below) spot.v)) (is_once (variables spot.below)) is.once in
-    down_base vars spot.below (decided spot.v spot.place) once.1
-    (free_next spot.v spot.place.bound (variables spot.below) (not-true (is_among (variables spot.below) spot.v) once.0)
-    (and_parts (not (is_among spot.place.bound spot.v)) (list_all (λ u. not (is_among spot.place.bound u)) (variables spot.below)) is.free).1)
-    (and_parts (fits vars spot.v) (list_all (fits vars) (variables spot.below)) is.fit).1 (each_down vars spot is)
+below_base vars spot is = grind (arith, nat_tests, down_base vars spot.below (decided spot.v spot.place), free_next spot.v spot.place.bound (variables spot.below), each_down vars spot is)
 
 pub spot_free : (vars : ℕ) (spot : Spot) → IsSpot vars spot → is_among spot.place.bound spot.v ≡ false
 spot_free vars spot is = grind (arith, nat_tests)
@@ -211,32 +194,24 @@ pub root_holds : (clauses : List Clause) (a : Assignment) → left_by (root clau
 root_holds [] a = refl
 root_holds (c ∷ clauses) a = grind (arith, nat_tests, root_holds clauses a)
 
+open_first : (vars : ℕ) (c : Clause) → is_clause vars c ≡ true → is_within [] c ≡ false
+open_first vars [] e = absurd (false≢true e)
+open_first vars (l ∷ c) e = refl
+
 root_alive : (vars : ℕ) (clauses : List Clause) → list_all (is_clause vars) clauses ≡ true → is_dead_by [] clauses (map (λ c. true) clauses) ≡ false
-root_alive vars clauses e = none_passes (is_within []) clauses (map (λ c. true) clauses) (λ c m. open_first c (all-at (is_clause vars) c clauses e m)) where
-  open_first : (c : Clause) → is_clause vars c ≡ true → is_within [] c ≡ false
-  open_first [] e = absurd (false≢true e)
-  open_first (l ∷ c) e = refl
+root_alive vars clauses e = grind (arith, none_passes, all-at, open_first vars)
 
 pub root_down : (cnf : ClauseList) (forest : Forest) → is_forest_of forest cnf ≡ true → list_all (is_clause cnf.vars) cnf.clauses ≡ true → IsDown forest (root cnf.clauses) (map (λ c. true) cnf.clauses)
-root_down cnf forest e valid = record {
-  alive = root_alive cnf.vars cnf.clauses valid;
-  along = all_fail (is_along forest []) cnf.clauses (map (λ c. true) cnf.clauses)
-      (and_parts (is_once (variables forest) && list_all (fits cnf.vars) (variables forest)) (list_all (is_along forest []) cnf.clauses) e).1;
-}
+root_down cnf forest e valid = grind (arith, nat_tests, root_alive cnf.vars cnf.clauses valid, all_fail (is_along forest []) cnf.clauses (map (λ c. true) cnf.clauses))
 
 pub root_base : (cnf : ClauseList) (forest : Forest) → is_forest_of forest cnf ≡ true → list_all (is_clause cnf.vars) cnf.clauses ≡ true → IsBase cnf.vars forest (root cnf.clauses)
-root_base cnf forest e valid =
-    let own = and_parts (is_once (variables forest)) (list_all (fits cnf.vars) (variables forest))
-    (and_parts (is_once (variables forest) && list_all (fits cnf.vars) (variables forest)) (list_all (is_along forest []) cnf.clauses) e).0 in
-    down_base cnf.vars forest (root cnf.clauses) own.0 (all-in (λ u. not (is_among [] u)) (variables forest) (λ u m. refl)) own.1 (root_down cnf forest e valid, tt)
+root_base cnf forest e valid = grind (arith, nat_tests, down_base cnf.vars forest (root cnf.clauses), all-in (λ u. not (is_among [] u)) (variables forest) (λ u m. refl), root_down cnf forest e valid)
 
 -- ---- the number of a list
 
 -- a list is at its number
 pub number_at : (lists : List (List Bool)) (x : List Bool) → In x lists → slice_get lists (number_in lists x) ≡ Some x
-number_at lists x there =
-    let at = position-Some (λ other. same_list other x) lists (number_in lists x) [] (found-at (λ other. same_list other x) lists (any_in (λ other. same_list other x) x lists there (pointwise-refl x))) in
-    slice_get-get_or lists (number_in lists x) [] at.0 ∙ ap Some (pointwise-equal (get_or lists (number_in lists x) []) x at.1)
+number_at lists x there = grind (arith, position-Some (λ other. same_list other x) lists (number_in lists x) [], found-at (λ other. same_list other x) lists, any_in (λ other. same_list other x) x lists there, pointwise-refl x, slice_get-get_or lists (number_in lists x) [], pointwise-equal (get_or lists (number_in lists x) []) x)
 
 -- the part of a list is at a tree
 pub part_in : (vs : List ℕ) (base : Place) (list : List Bool) → In list base.lists → In (part_of vs base list) (part vs base).lists

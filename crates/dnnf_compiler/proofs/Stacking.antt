@@ -23,13 +23,10 @@ use Rattle.dnnf_compiler.specs.inner.Joining.{Grows}
 use Rattle.dnnf_compiler.specs.inner.Making.{Adds}
 use Rattle.dnnf_compiler.specs.inner.Meeting.{taken, AreHeld, IsUsable, way_true, way_mentions, bit_way, IsChoice, IsPlaceable, AreChoices}
 use Rattle.dnnf_compiler.specs.inner.Placing.{left_by, Spot, spots_on, spots_below, IsSpot, IsNodeAt, AreNodesAt, AreLevels, IsReady, IsRaised}
-use Rattle.dnnf_compiler.proofs.Meeting.{first_none, others_none, length-zip}
+use Rattle.dnnf_compiler.proofs.Meeting.{others_none, length-zip}
 use Rattle.dnnf_compiler.proofs.Placing.{expand_by, dead_left, trees_hold, IsDown, down_holds, each_down, spot_free, spot_once, number_at, part_in, next_in}
 
 -- ---- nodes stay
-
-node_grows : (spot : Spot) (list : List Bool) (old new : List Node) (node : ℕ) → Grows old new → IsNodeAt spot list old node → IsNodeAt spot list new node
-node_grows spot list old new node g is = grind arith
 
 levels_grow : (old new : List Node) (spots : List Spot) (levels : List (Vec ℕ Global)) → Grows old new → AreLevels old spots levels → AreLevels new spots levels
 levels_grow old new [] [] g are = tt
@@ -68,13 +65,7 @@ pub begun : (nodes : List Node) (forest : Forest) (base : Place) (levels : List 
 begun nodes none base [] list once there are = record { held = tt; many = refl; within = tt; truth = λ a. refl; silent = λ u e. refl; apart = λ u. refl }
 begun nodes none base (level ∷ levels) list once there are = absurd are
 begun nodes (tree v below beside) base [] list once there are = absurd are
-begun nodes (tree v below beside) base (level ∷ levels) list once there are = more (begun nodes beside base levels list (later once) there are.1) where
-  own : List ℕ
-  own = v ∷ variables below
-
-  later : is_once (v ∷ (variables below ++ variables beside)) ≡ true → is_once (variables beside) ≡ true
-  later e = once_back (v ∷ variables below) (variables beside) e
-
+begun nodes (tree v below beside) base (level ∷ levels) list once there are = more (begun nodes beside base levels list (once_back (v ∷ variables below) (variables beside) once) there are.1) where
   k : ℕ
   k = number_in (part (v ∷ variables below) base).lists (part_of (v ∷ variables below) base list)
 
@@ -96,17 +87,9 @@ begun nodes (tree v below beside) base (level ∷ levels) list once there are = 
     many = ap suc rest.many;
     within = (node.within, rest.within);
     truth = λ a j. node.truth a j && rest.truth a j;
-    silent = λ u e. let parts = or_parts (is_among (v ∷ variables below) u) (is_among (variables beside) u) (sym (list_any-append (λ w. w == u) (v ∷ variables below) (variables beside)) ∙ e) in
-        λ j. node.silent u parts.0 j || rest.silent u parts.1 j;
-    apart = λ u. by u (is_among (v ∷ variables below) u) refl;
-  } where
-    others : List ℕ
-    others = taken levels (begins beside base list)
-
-    by : (u : ℕ) (b : Bool) → is_among (v ∷ variables below) u ≡ b → at_most_one (mentions nodes u n ∷ map (mentions nodes u) (taken levels (begins beside base list))) ≡ true
-    by u true e = others_none (mentions nodes u n) (map (mentions nodes u) (taken levels (begins beside base list)))
-        (list_any-map (λ b. b) (mentions nodes u) (taken levels (begins beside base list)) ∙ rest.silent u (once_apart (v ∷ variables below) (variables beside) u once e))
-    by u false e = first_none (mentions nodes u n) (map (mentions nodes u) (taken levels (begins beside base list))) (node.silent u e) (rest.apart u)
+    silent = λ u e. grind (arith, e, node.silent u, rest.silent u, list_any-append);
+    apart = λ u. grind (arith, node.silent u, rest.silent u, rest.apart u, others_none, list_any-map, once_apart (v ∷ variables below) (variables beside) u once);
+  }
 
 -- ---- if a list is there, there are no more trees than lists
 
@@ -134,54 +117,19 @@ module _ (vars : ℕ) (spot : Spot) (nodes : List Node) (levels : List (Vec ℕ 
   its_begin list bit there = begun nodes spot.below (decided spot.v spot.place) levels (next list bit) (spot_once vars spot is).1 there are
 
   way_usable : (list : List Bool) (bit : Bool) → In list spot.place.lists → IfSome (way bit list) (IsUsable nodes spot.v levels)
-  way_usable list bit at = by (is_dead_by (spot.v ∷ spot.place.bound) spot.place.clauses (next list bit)) refl where
-    by : (b : Bool) → is_dead_by (spot.v ∷ spot.place.bound) spot.place.clauses (next list bit) ≡ b → IfSome (cond b None (Some (begins spot.below base (next list bit)))) (IsUsable nodes spot.v levels)
-    by true e = tt
-    by false e =
-        let there = next_in spot.v spot.place list bit at e in
-        let first = its_begin list bit there in
-        record {
-          held = first.held;
-          few = omega (arith, first.many, trees_few spot.below base (next list bit) there, narrow);
-          within = first.within;
-          apart = first.apart;
-          free = first.silent spot.v (spot_once vars spot is).0;
-        }
+  way_usable list bit at = grind (arith, next_in spot.v spot.place list bit at, its_begin list bit, trees_few spot.below base (next list bit), narrow, spot_once vars spot is)
 
   way_silent : (list : List Bool) (bit : Bool) (u : ℕ) → In list spot.place.lists → is_among (variables spot.below) u ≡ false → way_mentions nodes u levels (way bit list) ≡ false
-  way_silent list bit u at apart = by (is_dead_by (spot.v ∷ spot.place.bound) spot.place.clauses (next list bit)) refl where
-    by : (b : Bool) → is_dead_by (spot.v ∷ spot.place.bound) spot.place.clauses (next list bit) ≡ b → way_mentions nodes u levels (cond b None (Some (begins spot.below base (next list bit)))) ≡ false
-    by true e = refl
-    by false e = (its_begin list bit (next_in spot.v spot.place list bit at e)).silent u apart
+  way_silent list bit u at apart = grind (arith, next_in spot.v spot.place list bit at, its_begin list bit)
 
   way_says : (list : List Bool) (bit : Bool) (a : Assignment) → In list spot.place.lists → a spot.v ≡ bit → way_true nodes a levels (way bit list) ≡ left_by spot.place a list
-  way_says list bit a at e = by (is_dead_by (spot.v ∷ spot.place.bound) spot.place.clauses (next list bit)) refl ∙ sym expanded where
-    expanded : left_by spot.place a list ≡ left_by (decided spot.v spot.place) a (next list bit)
-    expanded = expand_by spot.v spot.place a list (spot_free vars spot is) ∙ (λ k. left_by (decided spot.v spot.place) a (next list (e k)))
-
-    by : (b : Bool) → is_dead_by (spot.v ∷ spot.place.bound) spot.place.clauses (next list bit) ≡ b
-        → way_true nodes a levels (cond b None (Some (begins spot.below base (next list bit)))) ≡ left_by (decided spot.v spot.place) a (next list bit)
-    by true f = sym (dead_left (decided spot.v spot.place) a (next list bit) f)
-    by false f =
-        let there = next_in spot.v spot.place list bit at f in
-        (its_begin list bit there).truth a
-        ∙ sym (down_holds spot.below (decided spot.v spot.place) a (next list bit) (each-at (IsDown spot.below (decided spot.v spot.place)) (next list bit) (decided spot.v spot.place).lists (each_down vars spot is) there))
+  way_says list bit a at e = grind (arith, expand_by spot.v spot.place a list (spot_free vars spot is), dead_left (decided spot.v spot.place) a (next list bit), next_in spot.v spot.place list bit at, its_begin list bit, down_holds spot.below (decided spot.v spot.place) a (next list bit), each-at (IsDown spot.below (decided spot.v spot.place)) (next list bit) (decided spot.v spot.place).lists (each_down vars spot is))
 
   chosen_node : (new : List Node) (list : List Bool) (n : ℕ) → In list spot.place.lists → IsChoice nodes new spot.v levels (way false list) (way true list) n → IsNodeAt spot list new n
-  chosen_node new list n at node = record {
-    within = node.within;
-    truth = λ a. node.truth a ∙ by_bit a (a spot.v) refl;
-    silent = λ u e. let parts = or_parts (spot.v == u) (is_among (variables spot.below) u) e in node.silent u parts.0 (way_silent list false u at parts.1) (way_silent list true u at parts.1);
-  } where
-    by_bit : (a : Assignment) (bit : Bool) → a spot.v ≡ bit → way_true nodes a levels (bit_way (way false list) (way true list) bit) ≡ left_by spot.place a list
-    by_bit a false e = way_says list false a at e
-    by_bit a true e = way_says list true a at e
+  chosen_node new list n at node = grind (arith, way_says list false, way_says list true, way_silent list false, way_silent list true)
 
   pub all_usable : (bit : Bool) → All (λ w. IfSome w (IsUsable nodes spot.v levels)) (map (way bit) spot.place.lists)
-  all_usable bit k d h =
-      let low : k < length spot.place.lists = omega (arith, h, length-map spot.place.lists (way bit)) in
-      subst (λ w. IfSome w (IsUsable nodes spot.v levels)) (sym (get_or-map (way bit) spot.place.lists k [] d low))
-      (way_usable (get_or spot.place.lists k []) bit (In-at spot.place.lists k [] low))
+  all_usable bit k d h = grind (arith, length-map, get_or-map (way bit) spot.place.lists k [] d, way_usable (get_or spot.place.lists k []) bit, In-at spot.place.lists k [])
 
   chosen_nodes : (old new : Maker) (numbers : List ℕ) → nodes ≡ old.store.nodes → AreChoices old new spot.v levels (forks_at spot.v spot.below spot.place) numbers → AreNodesAt spot new.store.nodes numbers
   chosen_nodes old new numbers same made = record {
@@ -195,7 +143,7 @@ module _ (vars : ℕ) (spot : Spot) (nodes : List Node) (levels : List (Vec ℕ 
 
 module _ (m : Maker) (step : Step) (forks : Forks) (stack under : List (Vec ℕ Global)) (top : List (Vec ℕ Global)) (spot : Spot) (rest : List Spot) (ready : IsReady m step forks stack spot rest) where
   pub enough : step.trees ≤ length stack
-  enough = omega (arith, ap (λ (s : Step). s.trees) ready.step_is, length-levels m.store.nodes (spots_below spot ++ rest) (reverse stack) ready.stacked, length-reverse stack, length-append (spots_below spot) rest, length-spots spot.below (decided spot.v spot.place))
+  enough = grind (arith, ready.step_is, length-levels m.store.nodes (spots_below spot ++ rest) (reverse stack) ready.stacked, length-reverse stack, length-append, length-spots)
 
   module _ (are : reverse stack ≡ top ++ reverse under) (many : length top ≡ step.trees) where
     its_many : length top ≡ trees spot.below
@@ -216,12 +164,4 @@ module _ (m : Maker) (step : Step) (forks : Forks) (stack under : List (Vec ℕ 
     }))
 
     pub raised : (new : Maker) (numbers : List ℕ) → AreChoices m new step.var top forks numbers → IsRaised m new under numbers spot rest
-    raised new numbers made =
-        let made_here : AreChoices m new spot.v top (forks_at spot.v spot.below spot.place) numbers =
-        subst (λ v. AreChoices m new v top (forks_at spot.v spot.below spot.place) numbers) (ap (λ (s : Step). s.var) ready.step_is) (subst (λ fs. AreChoices m new step.var top fs numbers) ready.forks_are made) in
-        let long : length numbers ≡ length spot.place.lists = made_here.long ∙ length-map spot.place.lists (way_by spot.v spot.below spot.place false) in
-        record {
-          adds = subst (λ n. Adds m new (3 * n) ((4 + 2 * trees spot.below) * n)) long (subst (λ k. Adds m new (3 * length numbers) ((4 + 2 * k) * length numbers)) its_many made.adds);
-          nodes = chosen_nodes m.store.vars spot m.store.nodes top ready.spot_is both.0 ready.narrow m new numbers refl made_here;
-          stacked = levels_grow m.store.nodes new.store.nodes rest (reverse under) made.adds.grows both.1;
-        }
+    raised new numbers made = grind (arith, ready.step_is, ready.forks_are, its_many, made, both, chosen_nodes m.store.vars spot m.store.nodes top ready.spot_is both.0 ready.narrow m new numbers refl, levels_grow m.store.nodes new.store.nodes rest (reverse under), length-map)

@@ -5,6 +5,7 @@ use Rattle.std.specs.declared.alloc.Global.{Global}
 use Rattle.std.specs.List.{list_any, list_all, AllByRecursion}
 use Rattle.std.proofs.Math.Bool.{or-false}
 use Rattle.std.proofs.lemmas.Bool.{eqb-true, eq-eqb, or_left}
+use Rattle.std.proofs.lemmas.Bool.Decides.{nat_tests}
 use Rattle.std.proofs.lemmas.List.Elements.{All-from_recursion}
 use Rattle.state_rules.specs.Bits.{same_bit}
 use Rattle.state_rules.specs.Assignments.{Assignment}
@@ -18,7 +19,7 @@ use Rattle.dnnf_compiler.specs.inner.Joining.{Grows}
 use Rattle.dnnf_compiler.specs.inner.Making.{IsMaker, Adds, IsJoin}
 use Rattle.dnnf_compiler.specs.inner.Meeting.{AreApart, AreMeetable, IsMeet, taken, AreHeld, IsUsable, way_true, way_mentions, bit_way, IsChoice, IsTaken, IsChosen}
 use Rattle.dnnf_compiler.proofs.Making.{adds_then, may_grow, mention_grows, get-push}
-use Rattle.dnnf_compiler.proofs.Meeting.{each_more, all_same, first_none, others_none, length-zip}
+use Rattle.dnnf_compiler.proofs.Meeting.{each_more, all_same, others_none, length-zip}
 
 -- ---- the nodes to which numbers lead
 
@@ -72,14 +73,12 @@ module _ (m : Maker) (var : ℕ) (bit : Bool) (below : List (Vec ℕ Global)) (n
   kids_meetable maker few = record {
     maker = maker;
     within = All-from_recursion (λ k. k < length m.store.nodes) kids (literal_in, is.within);
-    apart = λ v. by v (var == v) refl;
+    apart = by;
     few_kids = omega (arith, is.few, length-taken below numbers is.held, length-held below numbers is.held);
     few = few;
   } where
-    by : (v : ℕ) (b : Bool) → (var == v) ≡ b → at_most_one (map (mentions m.store.nodes v) kids) ≡ true
-    by v true e = others_none (mentions m.store.nodes v literal) (map (mentions m.store.nodes v) (taken below numbers))
-        (list_any-map (λ b. b) (mentions m.store.nodes v) (taken below numbers) ∙ ap (λ u. list_any (mentions m.store.nodes u) (taken below numbers)) (sym (eqb-true var v e)) ∙ is.free)
-    by v false e = first_none (mentions m.store.nodes v literal) (map (mentions m.store.nodes v) (taken below numbers)) (variables v ∙ e) (is.apart v)
+    by : (v : ℕ) → at_most_one (map (mentions m.store.nodes v) kids) ≡ true
+    by v = grind (arith, nat_tests, others_none, list_any-map, is.free, is.apart v, variables v)
 
   module _ (new : Maker) (node : ℕ) (meet : IsMeet m new kids node) where
     adds : Adds m new 1 (1 + length below)
@@ -89,22 +88,10 @@ module _ (m : Maker) (var : ℕ) (bit : Bool) (below : List (Vec ℕ Global)) (n
     says a = meet.truth a ∙ ap (λ b. b && list_all (λ k. is_true m.store.nodes k a) (taken below numbers)) (truth a)
 
     pub take_false : node ≡ new.no → IsTaken m new var bit below (Some numbers) None
-    take_false e = record {
-      adds = adds;
-      within = tt;
-      names = tt;
-      truth = λ a. sym (ap (λ n. is_true new.store.nodes n a) e ∙ meet.adds.maker.no.truth a) ∙ says a;
-      silent = λ v other h. refl;
-    }
+    take_false e = grind (arith, adds, says, meet.adds.maker.no.truth)
 
     pub take_some : node ≢ new.no → IsTaken m new var bit below (Some numbers) (Some node)
-    take_some other = record {
-      adds = adds;
-      within = meet.within;
-      names = meet.names other var (or_left (mentions m.store.nodes var literal) (list_any (mentions m.store.nodes var) (taken below numbers)) (variables var ∙ eq-eqb var var refl));
-      truth = says;
-      silent = λ v e h. meet.silent v (λ j. (variables v ∙ e) j || h j);
-    }
+    take_some other = grind (arith, nat_tests, adds, says, meet.within, meet.names other var, meet.silent, variables)
 
 -- ---- both bits
 
@@ -115,28 +102,12 @@ bit_true nodes a below zero one x = grind arith
 pub choice_one : (old mid most new : Maker) (var : ℕ) (below : List (Vec ℕ Global)) (zero one : Option (List ℕ)) (first second : Option ℕ) (node : ℕ)
     → IfSome zero (IsUsable old.store.nodes var below) → IfSome one (IsUsable old.store.nodes var below)
     → IsTaken old mid var false below zero first → IsTaken mid most var true below one second → IsJoin most new first second node → IsChosen old new var below zero one node
-choice_one old mid most new var below zero one first second node zero_usable one_usable off on join = record {
-  adds = adds_then old most new 2 (2 + 2 * length below) 1 2 3 (4 + 2 * length below) (adds_then old mid most 1 (1 + length below) 1 (1 + length below) 2 (2 + 2 * length below) off.adds on.adds refl (omega arith)) join.adds refl (omega arith);
-  right = record {
-    within = join.within;
-    truth = λ a.
-        join.truth a
-        ∙ (λ j. (may_grow mid.store.nodes most.store.nodes a first on.adds.grows off.within ∙ off.truth a) j
-        || (on.truth a ∙ ap (λ b. same_bit true (a var) && b) (way_grows old.store.nodes mid.store.nodes var below one a off.adds.grows one_usable)) j)
-        ∙ bit_true old.store.nodes a below zero one (a var);
-    silent = λ v other no_zero no_one. join.variables v
-        (mention_grows mid.store.nodes most.store.nodes v first on.adds.grows off.within ∙ off.silent v other no_zero)
-        (on.silent v other (names_grow old.store.nodes mid.store.nodes var below one v off.adds.grows one_usable ∙ no_one));
-  };
-}
+choice_one old mid most new var below zero one first second node zero_usable one_usable off on join = grind (arith, zero_usable, one_usable, off, on, join, adds_then old mid most, adds_then old most new, may_grow mid.store.nodes most.store.nodes, mention_grows mid.store.nodes most.store.nodes, way_grows old.store.nodes mid.store.nodes, names_grow old.store.nodes mid.store.nodes, bit_true)
 
 -- ---- all lists
 
 choice_grows : (old new more : List Node) (var : ℕ) (below : List (Vec ℕ Global)) (zero one : Option (List ℕ)) (node : ℕ) → Grows new more → IsChoice old new var below zero one node → IsChoice old more var below zero one node
 choice_grows old new more var below zero one node g is = grind arith
-
-bit_usable : (P : List ℕ → Type 0) (zero one : Option (List ℕ)) (bit : Bool) → IfSome zero P → IfSome one P → IfSome (bit_way zero one bit) P
-bit_usable P zero one bit h k = grind arith
 
 -- what a node was made of later says the same of the nodes that were there at first
 choice_before : (old mid new : List Node) (var : ℕ) (below : List (Vec ℕ Global)) (zero one : Option (List ℕ)) (node : ℕ) → Grows old mid
@@ -152,14 +123,4 @@ pub choices_more : (old mid new : Maker) (var : ℕ) (below : List (Vec ℕ Glob
     → IfSome zero (IsUsable old.store.nodes var below) → IfSome one (IsUsable old.store.nodes var below)
     → slice_get zeros (length nodes) ≡ Some zero → slice_get ones (length nodes) ≡ Some one → Adds old mid more kids → IsChosen mid new var below zero one node
     → AreFirstChoices old mid var below zeros ones nodes → AreFirstChoices old new var below zeros ones (nodes ++ node ∷ [])
-choices_more old mid new var below zeros ones nodes zero one node more kids h k at_zero at_one adds made first j z o n here there at = by (get-push nodes node n j at) where
-  by : ((j ≡ length nodes) × (node ≡ n)) ⊎ (slice_get nodes j ≡ Some n) → IsChoice old.store.nodes new.store.nodes var below z o n
-  by (inl p) =
-      let e : Some zero ≡ Some z = sym at_zero ∙ ap (slice_get zeros) (sym p.0) ∙ here in
-      let f : Some one ≡ Some o = sym at_one ∙ ap (slice_get ones) (sym p.0) ∙ there in
-      let s : zero ≡ z = cc in
-      let t : one ≡ o = cc in
-      subst (λ z. IsChoice old.store.nodes new.store.nodes var below z o n) s (subst (λ o. IsChoice old.store.nodes new.store.nodes var below zero o n) t
-      (subst (IsChoice old.store.nodes new.store.nodes var below zero one) p.1
-      (choice_before old.store.nodes mid.store.nodes new.store.nodes var below zero one node adds.grows h k made.right)))
-  by (inr e) = choice_grows old.store.nodes mid.store.nodes new.store.nodes var below z o n made.adds.grows (first j z o n here there e)
+choices_more old mid new var below zeros ones nodes zero one node more kids h k at_zero at_one adds made first j z o n here there at = grind (arith, get-push nodes node n j at, choice_before old.store.nodes mid.store.nodes new.store.nodes var below zero one node adds.grows h k made.right, choice_grows old.store.nodes mid.store.nodes new.store.nodes var below z o n made.adds.grows, first j z o n here there)

@@ -62,9 +62,6 @@ left-lists clauses i h = ap (map (left clauses)) (lists_of_bits-more i) ∙ map-
       next : (bits : List Bool) → length bits ≡ i → map (left clauses) (longer bits) ≡ both clauses i (left clauses bits)
       next bits e = grind (arith, left-next clauses bits)
 
-none_pass : {X : Type 0} (p : X → Bool) (a b : X) → p a ≡ false → p b ≡ false → filter p (a ∷ b ∷ []) ≡ []
-none_pass p a b e f = grind arith
-
 abbrev pub is_alive : List Clause → ℕ → List Bool → Bool
 is_alive clauses i list = not (is_dead clauses i list)
 

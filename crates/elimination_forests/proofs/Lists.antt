@@ -100,9 +100,6 @@ is_among lists list = list_any (λ other. same_list other list) lists
 abbrev apart : List (List Bool) → List (List Bool) → List (List Bool)
 apart others lists = filter (λ list. not (is_among others list)) lists
 
-abbrev is_other : List Bool → List Bool → Bool
-is_other a list = not (same_list a list)
-
 pub different-append : (ks bs : List (List Bool)) → different (ks ++ bs) ≡ different ks ++ filter (λ list. not (is_among ks list)) (different bs)
 different-append [] bs = sym (filter-all (different bs))
 different-append (a ∷ ks) bs = grind (arith, different-append ks bs, filter-append, filter-filter, filter_agree, not_either)

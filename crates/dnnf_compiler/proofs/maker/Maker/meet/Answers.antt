@@ -5,21 +5,12 @@ use Rattle.std.proofs.lemmas.List.Elements.{All-from_recursion}
 use Rattle.state_rules.proofs.Lists.{AllByRecursion-append}
 use Rattle.dnnf_compiler.specs.inner.Joining.{IsPlain}
 use Rattle.dnnf_compiler.proofs.Bare.{other_plain}
-use Rattle.dnnf_compiler.proofs.Meeting.{keeps_of, kept_not, kept_more, kept_apart, kept_few, meet_none, meet_one, meet_more, each_more}
+use Rattle.dnnf_compiler.proofs.Meeting.{keeps_of, kept_more, kept_apart, kept_few, meet_none, meet_one, meet_more, each_more}
 use Rattle.dnnf_compiler.proofs.maker.Maker.meet.Goals as goal
 use Rattle.dnnf_compiler.proofs.maker.Maker.meet.Goals.{After-as_slice}
 
 pub loop-i-preserved : goal.loop-i-preserved
-loop-i-preserved c =
-    let m = c.args.self.now in
-    let k = get_or c.args.kids.now c.loop-i.i 0 in
-    record {
-      so_far = subst (λ ks. ks ++ filter (keeps_of c.args.self.now) (drop (c.loop-i.i + 1) c.args.kids.now) ≡ filter (keeps_of c.args.self.now) c.args.kids.now) (sym c.in_ok-push.ensures.ok)
-          (kept_more m c.requires.maker c.args.kids.now c.loop-i.kept.items c.loop-i.i k c.loop-i-test.true refl c.if-kid-self-2.false c.loop-i.invariant.so_far);
-      plain = subst (AllByRecursion (λ k. (k < length c.args.self.now.store.nodes) × IsPlain c.args.self.now.store.nodes k)) (sym c.in_ok-push.ensures.ok)
-          (AllByRecursion-append _ c.loop-i.kept.items (k ∷ []) c.loop-i.invariant.plain
-          ((c.requires.within c.loop-i.i 0 c.loop-i-test.true, other_plain m c.requires.maker k c.if-kid-self-2.false c.if-kid-self.false), tt));
-    }
+loop-i-preserved c = grind (arith, kept_more c.args.self.now c.requires.maker c.args.kids.now c.loop-i.kept.items c.loop-i.i (get_or c.args.kids.now c.loop-i.i 0), AllByRecursion-append, other_plain c.args.self.now c.requires.maker)
 
 -- all kids are gone over
 whole : (c : After-as_slice) → c.as_slice.result.now ≡ filter (keeps_of c.args.self.now) c.args.kids.now
@@ -59,9 +50,7 @@ and-requires-clause-apart c =
     kept_apart c.args.self.now c.requires.maker c.args.kids.now c.as_slice.result.now (whole d) c.requires.apart
 
 pub and-requires-clause-few : goal.and-requires-clause-few
-and-requires-clause-few c =
-    let d = (goal.at.and-requires-clause-few c).After-as_slice in
-    omega (arith, kept_few c.args.self.now c.requires.maker c.args.kids.now c.as_slice.result.now (whole d), c.requires.few_kids)
+and-requires-clause-few c = grind (arith, kept_few c.args.self.now c.requires.maker c.args.kids.now c.as_slice.result.now (whole (goal.at.and-requires-clause-few c).After-as_slice))
 
 pub returns : goal.returns
 returns c =

@@ -83,14 +83,14 @@ impl Entry {
 }
 
 impl Table {
-    /// No clauses.
-    pub(crate) fn new(alloc: Global) -> Table
-        ensures { result ≡ [] }
+    /// No clauses, and room for so many to which something happens.
+    pub(crate) fn new(alloc: Global, room: usize) -> Result<Table, AllocError>
+        ensures { IfOk result (λ table. table ≡ []) }
     {
-        Table {
-            events: Vec::new(alloc),
+        Ok(Table {
+            events: Vec::with_capacity(alloc, room)?,
             rest: 0,
-        }
+        })
     }
 
     /// Adds what happens to one clause more.

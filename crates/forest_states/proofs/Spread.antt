@@ -45,6 +45,13 @@ length-spread (e ∷ es) n = omega (
   length-spread es n,
 )
 
+abbrev pub none : Event
+none = record { run = 0; entry = plain }
+
+pub byte-low : (b : Bool) → bool_byte b ≤ 1
+byte-low true = omega arith
+byte-low false = omega arith
+
 -- those of the first events
 abbrev pub told : List Event → ℕ → ℕ
 told es k = length (spread (take k es) 0)

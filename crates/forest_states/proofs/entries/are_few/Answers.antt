@@ -1,12 +1,7 @@
 use Rattle.std.proofs.Common.{arith}
 use Rattle.std.proofs.lemmas.Bool.{ltb-true}
-use Rattle.forest_states.specs.declared.entries.Event.{Event}
-use Rattle.forest_states.specs.inner.Tables.{plain}
-use Rattle.forest_states.proofs.Spread.{told-more, told-all}
+use Rattle.forest_states.proofs.Spread.{none, told-more, told-all}
 use Rattle.forest_states.proofs.entries.are_few.Goals as goal
-
-abbrev none : Event
-none = record { run = 0; entry = plain }
 
 pub loop-event-preserved : goal.loop-event-preserved
 loop-event-preserved c low = omega (

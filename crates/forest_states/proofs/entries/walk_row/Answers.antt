@@ -1,25 +1,17 @@
-use Rattle.std.proofs.Common.{◌≤◌, ◌+◌, ◌++◌, [], ◌∷◌, Bool, true, false, not, ◌&&◌, ◌||◌, Some, drop, get_or, refl, ap, sym, ◌∙◌, arith}
+use Rattle.std.proofs.Common.{◌+◌, ◌++◌, [], ◌∷◌, not, ◌&&◌, ◌||◌, Some, drop, get_or, refl, ap, sym, ◌∙◌, arith}
 use mir.Val.{bool_byte}
 use Rattle.std.proofs.lemmas.List.{length-append, drop_all, take_all}
 use Rattle.state_rules.specs.Bits.{row_number}
-use Rattle.forest_states.specs.declared.entries.Event.{Event}
 use Rattle.forest_states.specs.inner.BitLists.{copied}
-use Rattle.forest_states.specs.inner.Tables.{plain, true_at, spread}
+use Rattle.forest_states.specs.inner.Tables.{true_at, spread}
 use Rattle.forest_states.specs.inner.Walked.{walked}
 use Rattle.forest_states.proofs.Sets.{behind}
 use Rattle.forest_states.proofs.WordBits.{byte-bit}
 use Rattle.forest_states.proofs.Words.{length-copied, copied-number}
 use Rattle.forest_states.proofs.Walks.{behind-kept, ended-passed, ended-dead, walked-entry}
-use Rattle.forest_states.proofs.Spread.{told-more, told-room, told-all, behind-nil, behind-twice, walked-event, walked-rest}
+use Rattle.forest_states.proofs.Spread.{none, byte-low, told-more, told-room, told-all, behind-nil, behind-twice, walked-event, walked-rest}
 use Rattle.forest_states.proofs.entries.walk_row.Goals as goal
 use Rattle.forest_states.proofs.entries.walk_row.Goals.{then-event+else-is_left, else-event}
-
-abbrev none : Event
-none = record { run = 0; entry = plain }
-
-byte-low : (b : Bool) → bool_byte b ≤ 1
-byte-low true = omega arith
-byte-low false = omega arith
 
 pub first_bits-requires : goal.first_bits-requires
 first_bits-requires c = omega (arith, told-room c.args.events.now c.args.rest c.loop-event.event-index c.loop-event.len none c.loop-event-test.true c.requires.few c.loop-event.invariant.short)

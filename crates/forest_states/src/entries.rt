@@ -120,7 +120,7 @@ impl Table {
         self.rest += count;
     }
 
-    /// Whether there are few clauses, so that a state and what a bit leaves of it are in one word.
+    /// Whether there are so few clauses that what a bit leaves of a state is in one word.
     pub(crate) fn is_short(&self) -> bool
         ensures { result ≡ true → length self.now < 64 }
     {

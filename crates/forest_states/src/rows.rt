@@ -19,7 +19,7 @@ pub(crate) fn first_bits(word: u64, count: usize) -> u64
     word & ((1 << count) - 1)
 }
 
-/// The others.
+/// The bits of a word after so many.
 pub(crate) fn later_bits(word: u64, count: usize) -> u64
     requires { count < 64 }
     ensures { (bits : List Bool) → word ≡ row_number bits → result ≡ row_number (drop count bits) }

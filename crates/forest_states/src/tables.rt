@@ -63,7 +63,7 @@ fn add(numbers: &mut Vec<u32>, number: u32, is_kept: bool) -> Result<(), AllocEr
     Ok(())
 }
 
-// Of open clauses those after the first one, if that is the one of an entry.
+// The open clauses that are left after the clause of an entry. If none of its variables had a bit, it is not among them.
 fn after(entry: Entry, opened: &[u32]) -> &[u32]
     ensures { result.now ≡ after entry opened.now }
 {

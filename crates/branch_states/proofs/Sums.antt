@@ -1,10 +1,12 @@
 -- The sum of the levels, by that along the forest that is their order.
-use Rattle.std.proofs.Common.{◌≡◌, ℕ, ◌+◌, ◌<◌, ◌≤◌, Bool, true, ◌∙◌, arith}
+use Rattle.std.proofs.Common.{◌≡◌, ℕ, ◌+◌, ◌<◌, ◌≤◌, Bool, true, List, ◌∙◌, arith}
 use Rattle.std.specs.Prelude.{if◌then◌else◌}
 use Rattle.clause_encoder.specs.Clauses.{ClauseList, is_clause_list}
 use Rattle.elimination_forests.specs.Branches.{order, sum_of}
 use Rattle.elimination_forests.specs.declared.steps.Weight.TheVariants.{Words}
-use Rattle.elimination_forests.specs.Forests.{root, chain, forest_sum, forks_on, leads_on}
+use Rattle.elimination_forests.specs.declared.steps.Step.{Step}
+use Rattle.elimination_forests.specs.Forests.{Forest, steps_of, is_forest_of, root, chain, forest_sum, forks_on, leads_on}
+use Rattle.elimination_forests.proofs.Chains.{chain-forest}
 use Rattle.elimination_forests.proofs.LastWays.{chain-last}
 
 module _ (cnf : ClauseList) (valid : is_clause_list cnf ≡ true) where
@@ -14,8 +16,14 @@ module _ (cnf : ClauseList) (valid : is_clause_list cnf ≡ true) where
   pub some-counted : (sum : ℕ) → sum ≡ its_sum → 1 ≤ sum
   some-counted sum e = omega (arith, e)
 
-  pub whole-sum : (sum : ℕ) (leads : Bool) → sum ≡ its_sum → leads ≡ leads_on (forks_on (chain (order cnf.clauses)) (root cnf.clauses)) → sum + (if leads then 1 else 0) ≡ 1 + sum_of cnf.clauses
-  whole-sum sum leads e f = (λ j. e j + (if f j then 1 else 0)) ∙ chain-last cnf valid
+  pub whole-sum : (steps : List Step) (sum : ℕ) (leads : Bool) → steps ≡ steps_of (chain (order cnf.clauses))
+      → ((forest : Forest) → steps ≡ steps_of forest → is_forest_of forest cnf ≡ true → sum ≡ forest_sum Words forest cnf.clauses)
+      → ((forest : Forest) → steps ≡ steps_of forest → is_forest_of forest cnf ≡ true → leads ≡ leads_on (forks_on forest (root cnf.clauses)))
+      → sum + (if leads then 1 else 0) ≡ 1 + sum_of cnf.clauses
+  whole-sum steps sum leads e s l =
+      let forest = chain (order cnf.clauses) in
+      let is = chain-forest cnf valid in
+      (λ j. s forest e is j + (if l forest e is j then 1 else 0)) ∙ chain-last cnf valid
 
   pub above-sum : (top : ℕ) → top + 1 < its_sum → top < sum_of cnf.clauses
   above-sum top h = omega (arith, h, chain-last cnf valid)

@@ -3,7 +3,7 @@ use Rattle.std.proofs.Common.{◌≡◌, ℕ, zero, suc, ◌+◌, ◌-◌, ◌<�
 use Rattle.std.specs.Prelude.{◌==◌, nat_lt, if◌then◌else◌}
 use Rattle.std.specs.List.{list_any, list_all}
 use Rattle.std.proofs.lemmas.Bool.{false≢true, and_parts, and_from, or_from, or_left, or_right, eqb-true, eq-eqb, ne_eqb, ltb-true, false_from_ne_true}
-use Rattle.std.proofs.lemmas.List.{append_assoc, append-nil, length-set}
+use Rattle.std.proofs.lemmas.List.{append_assoc, append-nil, length-set, drop_more}
 use Rattle.std.proofs.lemmas.List.Folds.{list_any-append}
 use Rattle.state_rules.specs.Bits.{bit_in}
 use Rattle.clause_encoder.specs.Clauses.{Clause, var_of}
@@ -11,7 +11,6 @@ use Rattle.elimination_forests.specs.declared.steps.Step.{Step}
 use Rattle.elimination_forests.specs.Forests.{Forest, none, tree, trees, steps_of, variables, is_among, meets, is_within, is_once, is_along}
 use Rattle.elimination_forests.proofs.Passing.{once_back, once_apart}
 use Rattle.forest_states.specs.inner.Walked.{numbered, numbers_at, begun_at, within_marked}
-use Rattle.forest_states.proofs.Walks.{from-next}
 
 pub all-wider : {X : Type 0} (p q : X → Bool) → ((x : X) → p x ≡ true → q x ≡ true) → (xs : List X) → list_all p xs ≡ true → list_all q xs ≡ true
 all-wider p q h [] e = refl
@@ -266,5 +265,5 @@ pub numbered-more : (k begun left : ℕ) (steps : List Step) (m : List ℕ) (i :
     → numbered k begun left (drop i steps) m
     ≡ numbered k (begun_at k begun left) (left - 1 + (get_or steps i d).trees) (drop (i + 1) steps) (set m (get_or steps i d).var (begun_at k begun left - 1))
 numbered-more k begun left steps m i d low some =
-    ap (λ ss. numbered k begun left ss m) (from-next steps i d low)
+    ap (λ ss. numbered k begun left ss m) (drop_more steps i d low)
     ∙ ap (λ b. if b then m else numbered k (begun_at k begun left) (left - 1 + (get_or steps i d).trees) (drop (i + 1) steps) (set m (get_or steps i d).var (begun_at k begun left - 1))) (ne_eqb left 0 some)

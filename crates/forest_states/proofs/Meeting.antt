@@ -3,13 +3,12 @@ use Rattle.std.proofs.Common.{◌≡◌, ℕ, zero, suc, ◌+◌, ◌<◌, ◌�
 use Rattle.std.specs.Prelude.{if◌then◌else◌, nat_lt}
 use Rattle.std.specs.List.{filter, prefix_len, range_with_len, AllByRecursion}
 use Rattle.std.proofs.lemmas.Bool.{le-ltb, lt-ltb}
-use Rattle.std.proofs.lemmas.List.{append_assoc, length-drop, length-take-le}
+use Rattle.std.proofs.lemmas.List.{append_assoc, length-drop, length-take-le, drop_more}
 use Rattle.std.proofs.lemmas.List.Sums.{prefix_len-le-length}
 use Rattle.elimination_forests.proofs.Lists.{each-filter}
 use Rattle.forest_states.specs.declared.entries.Entry.{Entry}
 use Rattle.forest_states.specs.inner.Tables.{plain}
 use Rattle.forest_states.specs.inner.Walked.{Met, as_before, after, met, entries_of, kept_of}
-use Rattle.forest_states.proofs.Walks.{from-next}
 
 above-range : (a b n : ℕ) → a < b → AllByRecursion (λ x. a < x) (range_with_len b n)
 above-range a b zero low = tt
@@ -111,7 +110,7 @@ module _ (entry : ℕ → Entry) (numbers : List ℕ) (i : ℕ) (opened : List �
   later = met entry (drop (i + 1) numbers) (after (entry n) (drop below opened))
 
   met-next : met entry (drop i numbers) opened ≡ map as_before (take below opened) ++ (here entry n ∷ later)
-  met-next = ap (λ ns. met entry ns opened) (from-next numbers i 0 low)
+  met-next = ap (λ ns. met entry ns opened) (drop_more numbers i 0 low)
 
   pub entries-next : (table : List Entry) → ((table ++ replicate below plain) ++ entry n ∷ []) ++ entries_of later ≡ table ++ entries_of (met entry (drop i numbers) opened)
   entries-next table =

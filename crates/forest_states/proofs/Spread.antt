@@ -5,7 +5,7 @@ use Rattle.std.specs.Prelude.{Option}
 use Rattle.std.specs.Option.{unwrap_or}
 use Rattle.std.proofs.Math.Bool.{and-true}
 use Rattle.std.proofs.lemmas.Bool.{false≢true}
-use Rattle.std.proofs.lemmas.List.{length-append, length-replicate, replicate-append-replicate, append_assoc, take_all, drop-drop}
+use Rattle.std.proofs.lemmas.List.{length-append, length-replicate, replicate-append-replicate, append_assoc, take_all, drop-drop, drop_more}
 use Rattle.state_rules.specs.Bits.{bit_in}
 use Rattle.forest_states.specs.declared.entries.Entry.{Entry}
 use Rattle.forest_states.specs.declared.entries.Event.{Event}
@@ -13,7 +13,7 @@ use Rattle.forest_states.specs.inner.BitLists.{first_bit, other_bits, copied}
 use Rattle.forest_states.specs.inner.Tables.{true_at, plain, is_plain, spread, pick_entry}
 use Rattle.forest_states.specs.inner.Walked.{with_bit, ended, walked, picked, picked_by}
 use Rattle.forest_states.proofs.Sets.{behind}
-use Rattle.forest_states.proofs.Walks.{from-next, walked-entry}
+use Rattle.forest_states.proofs.Walks.{walked-entry}
 
 pub plain-is : (e : Entry) → is_plain e ≡ true → e ≡ plain
 plain-is e is = by e.fresh e.true_at_0 e.true_at_1 e.ends is where
@@ -45,6 +45,13 @@ length-spread (e ∷ es) n = omega (
   length-spread es n,
 )
 
+abbrev pub none : Event
+none = record { run = 0; entry = plain }
+
+pub byte-low : (b : Bool) → bool_byte b ≤ 1
+byte-low true = omega arith
+byte-low false = omega arith
+
 -- those of the first events
 abbrev pub told : List Event → ℕ → ℕ
 told es k = length (spread (take k es) 0)
@@ -73,12 +80,15 @@ told-next (x ∷ es) (suc k) e low = omega (
 pub told-more : (es : List Event) (k : ℕ) (e : Event) → k < length es → told es (k + 1) ≡ told es k + (get_or es k e).run + 1
 told-more es k e low = let next : k + 1 ≡ suc k = omega arith in ap (told es) next ∙ told-next es k e low
 
+pub told-room : (es : List Event) (rest k n : ℕ) (e : Event) → k < length es → length (spread es rest) < 64 → n ≤ told es k → n + (get_or es k e).run + 1 < 64
+told-room es rest k n e low few short = omega (arith, few, told-within es rest (k + 1), told-more es k e low, short)
+
 pub told-all : (es : List Event) (rest k : ℕ) → length es ≤ k → told es k + rest ≡ length (spread es rest)
 told-all es rest k all = omega (arith, ap (λ xs. length (spread xs 0)) (take_all k es all), length-spread es rest)
 
 -- ---- clauses that stay as they are
 
-behind-nil : (rest : Option (List Bool)) → rest ≡ behind [] rest
+pub behind-nil : (rest : Option (List Bool)) → rest ≡ behind [] rest
 behind-nil None = refl
 behind-nil (Some bits) = refl
 
@@ -112,7 +122,7 @@ pub walked-event : (bit : Bool) (es : List Event) (rest k : ℕ) (e : Event) (st
     → walked bit (spread (drop k es) rest) state
     ≡ behind (copied (get_or es k e).run state) (walked bit ((get_or es k e).entry ∷ spread (drop (k + 1) es) rest) (drop (get_or es k e).run state))
 walked-event bit es rest k e state low =
-    ap (λ xs. walked bit (spread xs rest) state) (from-next es k e low) ∙ walked-run bit (get_or es k e).run ((get_or es k e).entry ∷ spread (drop (k + 1) es) rest) state
+    ap (λ xs. walked bit (spread xs rest) state) (drop_more es k e low) ∙ walked-run bit (get_or es k e).run ((get_or es k e).entry ∷ spread (drop (k + 1) es) rest) state
 
 -- and over it
 pub walked-on : (bit : Bool) (es : List Event) (rest k n : ℕ) (e : Event) (left state : List Bool) → k < length es

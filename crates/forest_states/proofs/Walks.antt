@@ -1,8 +1,7 @@
 -- A state gone over bit by bit.
-use Rattle.std.proofs.Common.{◌≡◌, ℕ, zero, suc, ◌+◌, ◌<◌, Bool, true, false, not, ◌&&◌, ◌||◌, List, [], ◌∷◌, ◌++◌, length, drop, get_or, add-one, Some, None, refl, ap, sym, ◌∙◌, arith}
+use Rattle.std.proofs.Common.{◌≡◌, ℕ, zero, suc, ◌+◌, Bool, true, false, not, ◌&&◌, ◌||◌, List, [], ◌∷◌, ◌++◌, drop, Some, None, refl, ap, sym, ◌∙◌, arith}
 use mir.Val.{bool_byte}
 use Rattle.std.specs.Prelude.{Option, if◌then◌else◌}
-use Rattle.std.proofs.Math.Seq.{drop-cons}
 use Rattle.std.proofs.lemmas.List.{append_assoc}
 use Rattle.state_rules.specs.Bits.{bit_in}
 use Rattle.forest_states.specs.declared.entries.Entry.{Entry}
@@ -22,9 +21,6 @@ others-behind [] zero = refl
 others-behind [] (suc n) = refl
 others-behind (b ∷ state) zero = refl
 others-behind (b ∷ state) (suc n) = others-behind state n
-
-pub from-next : {X : Type 0} (xs : List X) (k : ℕ) (x : X) → k < length xs → drop k xs ≡ get_or xs k x ∷ drop (k + 1) xs
-from-next xs k x low = rw (add-one, drop-cons xs k x) refl
 
 next-state : (fresh : Bool) (state : List Bool) (n : ℕ) → (if fresh then drop n state else other_bits (drop n state)) ≡ drop (n + bool_byte (not fresh)) state
 next-state true state n = ap (λ m. drop m state) (plus n) where

@@ -1,9 +1,10 @@
 -- A base of which all goes to one tree.
-use Rattle.std.proofs.Common.{◌≡◌, ℕ, zero, suc, ◌+◌, Bool, true, false, not, ◌&&◌, cond, List, [], ◌∷◌, map, length, get_or, refl, ap, sym, ◌∙◌, subst, arith}
-use Rattle.std.specs.Prelude.{◌==◌, if◌then◌else◌}
+use Rattle.std.proofs.Common.{◌≡◌, ℕ, zero, suc, ◌+◌, Bool, true, false, not, ◌&&◌, ◌||◌, cond, List, [], ◌∷◌, map, length, get_or, refl, ap, sym, ◌∙◌, subst, arith}
+use Rattle.std.specs.Prelude.{◌==◌}
 use Rattle.std.specs.List.{filter, list_any, list_all, position_or_len, range_with_len, AllByRecursion}
-use Rattle.std.proofs.lemmas.Bool.{and_parts, or_left, eqb-true}
+use Rattle.std.proofs.lemmas.Bool.{and_parts, eqb-true}
 use Rattle.state_rules.proofs.Bits.{pointwise-refl}
+use Rattle.state_rules.proofs.Lists.{filter-all}
 use Rattle.clause_encoder.specs.Clauses.{Clause, var_of}
 use Rattle.elimination_forests.specs.Branches.{same_list, different}
 use Rattle.elimination_forests.proofs.Lists.{each-filter}
@@ -60,22 +61,17 @@ own-places (l ∷ ls) distinct = let rest = own-places ls distinct.1 in λ j. co
 
 -- ---- all of each list is picked
 
-all-kept : (p : ℕ → Bool) → ((n : ℕ) → p n ≡ true) → (ns : List ℕ) → filter p ns ≡ ns
-all-kept p all [] = refl
-all-kept p all (n ∷ ns) = λ j. cond (all n j) (n ∷ all-kept p all ns j) (all-kept p all ns j)
+picked-whole : (ns : List ℕ) (state : List Bool) → length state ≡ length ns → picked (map (λ n. true) ns) state ≡ state
+picked-whole [] [] long = refl
+picked-whole [] (b ∷ state) long = absurd (omega (arith, long))
+picked-whole (n ∷ ns) [] long = absurd (omega (arith, long))
+picked-whole (n ∷ ns) (b ∷ state) long = ap (λ bits. b ∷ bits) (picked-whole ns state (omega (arith, long)))
 
-picked-whole : (p : ℕ → Bool) → ((n : ℕ) → p n ≡ true) → (ns : List ℕ) (state : List Bool) → length state ≡ length ns → picked (map p ns) state ≡ state
-picked-whole p all [] [] long = refl
-picked-whole p all [] (b ∷ state) long = absurd (omega (arith, long))
-picked-whole p all (n ∷ ns) [] long = absurd (omega (arith, long))
-picked-whole p all (n ∷ ns) (b ∷ state) long =
-    (λ j. if all n j then b ∷ picked (map p ns) state else picked (map p ns) state) ∙ ap (λ bits. b ∷ bits) (picked-whole p all ns state (omega (arith, long)))
-
-all-picked : (p : ℕ → Bool) → ((n : ℕ) → p n ≡ true) → (ns : List ℕ) (states : List (List Bool)) → list_all (λ s. length s == length ns) states ≡ true → map (picked (map p ns)) states ≡ states
-all-picked p all ns [] long = refl
-all-picked p all ns (s ∷ states) long =
+all-picked : (ns : List ℕ) (states : List (List Bool)) → list_all (λ s. length s == length ns) states ≡ true → map (picked (map (λ n. true) ns)) states ≡ states
+all-picked ns [] long = refl
+all-picked ns (s ∷ states) long =
     let parts = and_parts (length s == length ns) (list_all (λ t. length t == length ns) states) long in
-    λ j. picked-whole p all ns s (eqb-true (length s) (length ns) parts.0) j ∷ all-picked p all ns states parts.1 j
+    λ j. picked-whole ns s (eqb-true (length s) (length ns) parts.0) j ∷ all-picked ns states parts.1 j
 
 -- ---- the place of the tree
 
@@ -90,11 +86,11 @@ module _ (clauses : List Clause) (trees : ℕ) (seen : List Bool) (numbers : Lis
   one : trees ≡ 1
   one = eqb-true trees 1 parts.0
 
-  all : (n : ℕ) → goes n ≡ true
-  all n = or_left (trees == 1) (list_any (λ l. is_in_tree seen numbers 0 (var_of l)) (clause_at clauses n)) parts.0
+  all : goes_to clauses trees seen numbers 0 ≡ (λ n. true)
+  all = λ j n. parts.0 j || list_any (λ l. is_in_tree seen numbers 0 (var_of l)) (clause_at clauses n)
 
   picks : map (picked (map goes s.opened)) s.states ≡ s.states
-  picks = all-picked goes all s.opened s.states parts.1
+  picks = ap (λ g. map (picked (map g s.opened)) s.states) all ∙ all-picked s.opened s.states parts.1
 
   states-same : part_states (map goes s.opened) s.states ≡ s.states
   states-same = ap different picks ∙ once
@@ -102,7 +98,7 @@ module _ (clauses : List Clause) (trees : ℕ) (seen : List Bool) (numbers : Lis
   pub whole-stands : map (λ j. stand_part clauses trees seen numbers j s) (range_with_len 0 trees) ≡ s ∷ []
   whole-stands =
       ap (λ n. map (λ j. stand_part clauses trees seen numbers j s) (range_with_len 0 n)) one
-      ∙ (λ i. (record { opened = all-kept goes all s.opened i; states = states-same i }) ∷ [])
+      ∙ (λ i. (record { opened = (ap (λ g. filter g s.opened) all ∙ filter-all s.opened) i; states = states-same i }) ∷ [])
 
   whole-columns : map (λ j. column_at clauses trees seen numbers j s) (range_with_len 0 trees) ≡ range_with_len 0 (length s.states) ∷ []
   whole-columns =

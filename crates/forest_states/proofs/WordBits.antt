@@ -20,7 +20,7 @@ low : (b : Bool) (n : ℕ) → (bit_at (number_of_bit b + 2 * n) 0 == 1) ≡ b
 low true n = ap (λ m. m == 1) (bit_at_lowest (1 + 2 * n)) ∙ grind (arith, nat_tests)
 low false n = ap (λ m. m == 1) (bit_at_lowest (0 + 2 * n)) ∙ grind (arith, nat_tests)
 
-number-bit : (bits : List Bool) (i : ℕ) → (bit_at (row_number bits) i == 1) ≡ bit_in bits i
+pub number-bit : (bits : List Bool) (i : ℕ) → (bit_at (row_number bits) i == 1) ≡ bit_in bits i
 number-bit [] i = ap (λ m. m == 1) (bit_at-zero i)
 number-bit (b ∷ bits) zero = low b (row_number bits)
 number-bit (b ∷ bits) (suc i) = ap (λ m. m == 1) (bit_at-suc (number_of_bit b + 2 * row_number bits) i ∙ ap (λ m. bit_at m i) (row_number-half b (row_number bits))) ∙ number-bit bits i
@@ -73,7 +73,7 @@ take-below n ys h = row_number-below (take n ys) n (length-take-le n ys h)
 number-short : (n : ℕ) (ys : List Bool) → length ys ≤ n → row_number ys < 2 ^ n
 number-short n ys h = omega (arith, row_number-below ys (length ys) refl, pow_mono {i = length ys} {j = n} h)
 
-number-take : (n : ℕ) (ys : List Bool) → row_number ys % 2 ^ n ≡ row_number (take n ys)
+pub number-take : (n : ℕ) (ys : List Bool) → row_number ys % 2 ^ n ≡ row_number (take n ys)
 number-take n ys = elim (cases_lt (length ys) n) [
   | inl less ↦
       let whole : row_number ys ≡ 0 * 2 ^ n + row_number ys = omega arith in
@@ -81,7 +81,7 @@ number-take n ys = elim (cases_lt (length ys) n) [
   | inr h ↦ ap (λ m. m % 2 ^ n) (number-parts n ys h) ∙ mod_low (row_number (drop n ys)) n (row_number (take n ys)) (take-below n ys h)
 ]
 
-number-drop : (n : ℕ) (ys : List Bool) → row_number ys / 2 ^ n ≡ row_number (drop n ys)
+pub number-drop : (n : ℕ) (ys : List Bool) → row_number ys / 2 ^ n ≡ row_number (drop n ys)
 number-drop n ys = elim (cases_lt (length ys) n) [
   | inl less ↦
       let whole : row_number ys ≡ 0 * 2 ^ n + row_number ys = omega arith in
@@ -150,3 +150,14 @@ pub word-put_bits : (words : List ℕ) (bits more : List Bool) (at row : ℕ) �
 word-put_bits words bits more at row long fits s e h =
     (λ i. set (e i) (at / 64) (bit_or (get_or (e i) (at / 64) 0) (s i * 2 ^ (at % 64) % 18446744073709551616)))
     ∙ put-bits (length words) (at / 64) (at % 64) bits more (omega arith) (omega arith) fits (omega arith)
+
+pub word-with : (word row n : ℕ) (bits more : List Bool) → length bits ≡ n → n + length more ≤ 64 → word ≡ row_number bits → row ≡ row_number more → bit_or word (row * 2 ^ n % 18446744073709551616) ≡ row_number (bits ++ more)
+word-with word row n bits more long fits w r =
+    (λ i. bit_or (w i) (r i * 2 ^ n % 18446744073709551616))
+    ∙ ap (bit_or (row_number bits)) (shl_whole (row_number more) (length more) n 64 (row_number-below more (length more) refl) (omega arith))
+    ∙ or_bits (row_number bits) n (row_number more) (row_number-below bits n long)
+    ∙ ap (λ m. row_number bits + row_number more * 2 ^ m) (sym long)
+    ∙ sym (number-append bits more)
+
+pub mask-is : (n : ℕ) → n < 64 → 1 * 2 ^ n % 18446744073709551616 ≡ 2 ^ n
+mask-is n low = shl_whole 1 1 n 64 (omega arith) (omega arith) ∙ omega arith

@@ -86,8 +86,8 @@ impl BitList {
         Ok(())
     }
 
-    // So many bits from a place on, which are in one word.
-    fn read(&self, at: usize, count: usize) -> u64
+    /// So many bits from a place on, which are in one word.
+    pub(crate) fn read(&self, at: usize, count: usize) -> u64
         requires some { 0 < count }
         requires within { at % 64 + count ≤ 64 }
         ensures { result ≡ row_number (copied count (drop at self.now)) }
@@ -98,8 +98,8 @@ impl BitList {
         (self.words[at / 64] << (64 - at % 64 - count)) >> (64 - count)
     }
 
-    // Adds so many bits, which stay in one word.
-    fn put(&mut self, row: u64, count: usize) -> Result<(), AllocError>
+    /// Adds so many bits, which stay in one word.
+    pub(crate) fn put(&mut self, row: u64, count: usize) -> Result<(), AllocError>
         requires some { 0 < count }
         requires few { length self.old < 2 ^ 63 }
         requires within { length self.old % 64 + count ≤ 64 }

@@ -1,8 +1,10 @@
-ghost use Rattle.std.specs.Prelude.{◌≡◌, ◌+◌, ◌<◌, ◌^◌, ◌&&◌, ◌||◌, ◌++◌, [], ◌∷◌, not, length, replicate, IfOk, OnOk};
+ghost use Rattle.std.specs.Prelude.{◌≡◌, ◌+◌, ◌<◌, ◌≤◌, true, List, Bool, ◌^◌, ◌&&◌, ◌||◌, ◌++◌, [], ◌∷◌, not, length, replicate, IfOk, OnOk};
+ghost use Rattle.state_rules.specs.Bits.{row_number};
 ghost use Rattle.forest_states.specs.inner.Tables.{true_at, plain, is_plain, gone, spread};
 ghost use Rattle.forest_states.specs.inner.Walked.{walked, picked_by};
 
 use crate::bit_list::BitList;
+use crate::rows::{bit_of, first_bits, later_bits, with_bits};
 use std::alloc::{AllocError, Global};
 use std::marker::Model;
 
@@ -83,14 +85,14 @@ impl Entry {
 }
 
 impl Table {
-    /// No clauses.
-    pub(crate) fn new(alloc: Global) -> Table
-        ensures { result ≡ [] }
+    /// No clauses, and room for so many to which something happens.
+    pub(crate) fn new(alloc: Global, room: usize) -> Result<Table, AllocError>
+        ensures { IfOk result (λ table. table ≡ []) }
     {
-        Table {
-            events: Vec::new(alloc),
+        Ok(Table {
+            events: Vec::with_capacity(alloc, room)?,
             rest: 0,
-        }
+        })
     }
 
     /// Adds what happens to one clause more.
@@ -118,17 +120,30 @@ impl Table {
         self.rest += count;
     }
 
+    /// Whether there are so few clauses that what a bit leaves of a state is in one word.
+    pub(crate) fn is_short(&self) -> bool
+        ensures { result ≡ true → length self.now < 64 }
+    {
+        are_few(self.events.as_slice(), self.rest)
+    }
+
     /// What a bit leaves of a state, unless that is dead.
     pub(crate) fn walk(
         &self,
         alloc: Global,
+        is_short: bool,
         bit: bool,
         state: &BitList,
     ) -> Result<Option<BitList>, AllocError>
-        requires { length self.now < 2 ^ 63 }
+        requires fits { length self.now < 2 ^ 63 }
+        requires short { is_short ≡ true → length self.now < 64 }
         ensures { IfOk result (λ left. left ≡ walked bit self.now state.now) }
     {
-        walk_on(alloc, self.events.as_slice(), self.rest, bit, state)
+        if is_short && state.len() <= 64 {
+            walk_row(alloc, self.events.as_slice(), self.rest, bit, state)
+        } else {
+            walk_on(alloc, self.events.as_slice(), self.rest, bit, state)
+        }
     }
 
     /// The bits of a state that a table of flags picks.
@@ -136,11 +151,22 @@ impl Table {
         requires { length self.now < 2 ^ 63 }
         ensures { IfOk result (λ bits. bits ≡ picked_by self.now state.now) }
     {
-        match self.walk(alloc, false, state)? {
+        match self.walk(alloc, false, false, state)? {
             Some(bits) => Ok(bits),
             None => BitList::new(alloc, 0),
         }
     }
+}
+
+// Whether there are few clauses, by the events and how many come after the last one.
+fn are_few(events: &[Event], rest: usize) -> bool
+    ensures { result ≡ true → length (spread events.now rest) < 64 }
+{
+    let mut len = rest;
+    for event in events {
+        len = len.saturating_add(event.run).saturating_add(1);
+    }
+    len < 64
 }
 
 // What a bit leaves of a state, by the events and how many clauses come after the last one.
@@ -169,4 +195,50 @@ fn walk_on(
     }
     left.append(state, next, rest)?;
     Ok(Some(left))
+}
+
+// The same, if the clauses are few and the state is in one word.
+fn walk_row(
+    alloc: Global,
+    events: &[Event],
+    rest: usize,
+    bit: bool,
+    state: &BitList,
+) -> Result<Option<BitList>, AllocError>
+    requires few { length (spread events.now rest) < 64 }
+    requires short { length state.now ≤ 64 }
+    ensures { IfOk result (λ left. left ≡ walked bit (spread events.now rest) state.now) }
+{
+    let mut from = state.read(0, 64);
+    let mut left = 0;
+    let mut len = 0;
+    for event in events {
+        left = with_bits(left, len, first_bits(from, event.run));
+        len += event.run;
+        let is_left = event.entry.is_left(bit, bit_of(from, event.run));
+        from = later_bits(from, event.run + usize::from(!event.entry.fresh));
+        if event.entry.ends {
+            if is_left {
+                return Ok(None);
+            }
+        } else {
+            left = with_bits(left, len, u64::from(is_left));
+            len += 1;
+        }
+    }
+    let bits = with_bits(left, len, first_bits(from, rest));
+    Ok(Some(list_of(alloc, bits, len + rest)?))
+}
+
+// A list of so many bits, which are in one word.
+fn list_of(alloc: Global, row: u64, count: usize) -> Result<BitList, AllocError>
+    requires few { count ≤ 64 }
+    requires row { (bits : List Bool) × ((length bits ≡ count) × (row ≡ row_number bits)) }
+    ensures { IfOk result (λ list. (bits : List Bool) → length bits ≡ count → row ≡ row_number bits → list ≡ bits) }
+{
+    let mut list = BitList::new(alloc, 0)?;
+    if count > 0 {
+        list.put(row, count)?;
+    }
+    Ok(list)
 }

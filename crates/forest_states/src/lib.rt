@@ -6,6 +6,7 @@ mod descent;
 mod entries;
 mod marks;
 mod places;
+mod rows;
 mod tables;
 
 pub use descent::{Descended, Measured, descend, measure_along};

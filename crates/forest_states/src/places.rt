@@ -237,9 +237,10 @@ fn decide(
 {
     let mut next = IndexSet::new(alloc);
     let mut leads = Vec::with_capacity(alloc, states.len())?;
+    let is_short = table.is_short();
     for state in states.as_slice() {
-        let zero = add(table.walk(alloc, false, state)?, &mut next)?;
-        let one = add(table.walk(alloc, true, state)?, &mut next)?;
+        let zero = add(table.walk(alloc, is_short, false, state)?, &mut next)?;
+        let one = add(table.walk(alloc, is_short, true, state)?, &mut next)?;
         leads.push(Fork { zero, one })?;
     }
     Ok((leads, next))

@@ -26,7 +26,7 @@ pub(crate) fn find_table(
     ensures short { IfOk result (λ r. length r.0 ≤ length opened.now + length touched.now) }
     ensures kept { IfOk result (λ r. r.1.items ≡ kept_of (met (entry_at cnf.now.clauses seen.now var) touched.now opened.now)) }
 {
-    let mut table = Table::new(alloc);
+    let mut table = Table::new(alloc, touched.len())?;
     let mut kept = Vec::with_capacity(alloc, opened.len())?;
     let mut rest = opened;
     for number in touched {
@@ -63,7 +63,7 @@ fn add(numbers: &mut Vec<u32>, number: u32, is_kept: bool) -> Result<(), AllocEr
     Ok(())
 }
 
-// Of open clauses those after the first one, if that is the one of an entry.
+// The open clauses that are left after the clause of an entry. If none of its variables had a bit, it is not among them.
 fn after(entry: Entry, opened: &[u32]) -> &[u32]
     ensures { result.now ≡ after entry opened.now }
 {
@@ -125,7 +125,7 @@ pub(crate) fn find_picks(
     ensures table { IfOk result (λ r. r.0 ≡ map pick_entry (map (goes_to cnf.now.clauses trees seen.now places.now tree) numbers.now)) }
     ensures kept { IfOk result (λ r. r.1.items ≡ filter (goes_to cnf.now.clauses trees seen.now places.now tree) numbers.now) }
 {
-    let mut table = Table::new(alloc);
+    let mut table = Table::new(alloc, 0)?;
     let mut kept = Vec::with_capacity(alloc, numbers.len())?;
     for number in numbers {
         let is_picked = goes_to(cnf, trees, seen, places, tree, *number);

@@ -174,7 +174,7 @@ pub record Met : Type 0 where
 abbrev pub as_before : ℕ → Met
 as_before n = record { number = n; entry = plain }
 
--- of open clauses those after the first one, if that is the one of an entry
+-- the open clauses that are left after the clause of an entry; if none of its variables had a bit, it is not among them
 abbrev pub after : Entry → List ℕ → List ℕ
 after e opened = if e.fresh then opened else drop 1 opened
 

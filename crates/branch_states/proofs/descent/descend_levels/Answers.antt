@@ -20,11 +20,7 @@ sum_within-requires-clause-some c =
 
 pub returns-in-None-clause-above : goal.returns-in-None-clause-above
 returns-in-None-clause-above c _ =
-    let valid = c.in_ok-steps.ensures.valid in
-    let forest = chain (order c.args.cnf.now.clauses) in
-    let steps = c.deref.ensures.value ∙ c.in_ok-steps.ensures.steps in
-    let is = chain-forest c.args.cnf.now valid in
-    let whole = whole-sum c.args.cnf.now valid c.in-Some.found.measured.sum c.in-Some.found.measured.leads_on (if-some _ _ _ c.in-Some.is c.in_ok-found.ensures.sum forest steps is) (if-some _ _ _ c.in-Some.is c.in_ok-found.ensures.leads_on forest steps is) in
+    let whole = whole-sum c.args.cnf.now c.in_ok-steps.ensures.valid _ _ _ (c.deref.ensures.value ∙ c.in_ok-steps.ensures.steps) (if-some _ _ _ c.in-Some.is c.in_ok-found.ensures.sum) (if-some _ _ _ c.in-Some.is c.in_ok-found.ensures.leads_on) in
     omega (arith, whole, c.sum_within.ensures.above c.in-None.is)
 
 pub returns-in-Some-sum_within-clause-forks : goal.returns-in-Some-sum_within-clause-forks
@@ -33,9 +29,5 @@ returns-in-Some-sum_within-clause-forks c =
 
 pub returns-in-Some-sum_within-clause-within : goal.returns-in-Some-sum_within-clause-within
 returns-in-Some-sum_within-clause-within c =
-    let valid = c.in_ok-steps.ensures.valid in
-    let forest = chain (order c.args.cnf.now.clauses) in
-    let steps = c.deref.ensures.value ∙ c.in_ok-steps.ensures.steps in
-    let is = chain-forest c.args.cnf.now valid in
-    let whole = whole-sum c.args.cnf.now valid c.in-Some.found.measured.sum c.in-Some.found.measured.leads_on (if-some _ _ _ c.in-Some.is c.in_ok-found.ensures.sum forest steps is) (if-some _ _ _ c.in-Some.is c.in_ok-found.ensures.leads_on forest steps is) in
+    let whole = whole-sum c.args.cnf.now c.in_ok-steps.ensures.valid _ _ _ (c.deref.ensures.value ∙ c.in_ok-steps.ensures.steps) (if-some _ _ _ c.in-Some.is c.in_ok-found.ensures.sum) (if-some _ _ _ c.in-Some.is c.in_ok-found.ensures.leads_on) in
     omega (arith, whole, if-some _ _ _ c.in-Some-sum_within.is c.sum_within.ensures.sum, if-some _ _ _ c.in-Some-sum_within.is c.sum_within.ensures.within)

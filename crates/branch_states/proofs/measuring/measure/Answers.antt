@@ -20,18 +20,10 @@ sum_within-requires-clause-some c =
 
 pub returns-clause-above : goal.returns-clause-above
 returns-clause-above c _ =
-    let valid = c.in_ok-steps.ensures.valid in
-    let forest = chain (order c.args.cnf.now.clauses) in
-    let steps = c.deref.ensures.value ∙ c.in_ok-steps.ensures.steps in
-    let is = chain-forest c.args.cnf.now valid in
-    let whole = whole-sum c.args.cnf.now valid c.in-Some.found.sum c.in-Some.found.leads_on (if-some _ _ _ c.in-Some.is c.in_ok-found.ensures.sum forest steps is) (if-some _ _ _ c.in-Some.is c.in_ok-found.ensures.leads_on forest steps is) in
+    let whole = whole-sum c.args.cnf.now c.in_ok-steps.ensures.valid _ _ _ (c.deref.ensures.value ∙ c.in_ok-steps.ensures.steps) (if-some _ _ _ c.in-Some.is c.in_ok-found.ensures.sum) (if-some _ _ _ c.in-Some.is c.in_ok-found.ensures.leads_on) in
     omega (arith, whole, c.sum_within.ensures.above c.in-None.is)
 
 pub returns-in-Some-sum_within-clause-sum : goal.returns-in-Some-sum_within-clause-sum
 returns-in-Some-sum_within-clause-sum c =
-    let valid = c.in_ok-steps.ensures.valid in
-    let forest = chain (order c.args.cnf.now.clauses) in
-    let steps = c.deref.ensures.value ∙ c.in_ok-steps.ensures.steps in
-    let is = chain-forest c.args.cnf.now valid in
-    let whole = whole-sum c.args.cnf.now valid c.in-Some.found.sum c.in-Some.found.leads_on (if-some _ _ _ c.in-Some.is c.in_ok-found.ensures.sum forest steps is) (if-some _ _ _ c.in-Some.is c.in_ok-found.ensures.leads_on forest steps is) in
+    let whole = whole-sum c.args.cnf.now c.in_ok-steps.ensures.valid _ _ _ (c.deref.ensures.value ∙ c.in_ok-steps.ensures.steps) (if-some _ _ _ c.in-Some.is c.in_ok-found.ensures.sum) (if-some _ _ _ c.in-Some.is c.in_ok-found.ensures.leads_on) in
     omega (arith, whole, if-some _ _ _ c.in-Some-sum_within.is c.sum_within.ensures.sum)

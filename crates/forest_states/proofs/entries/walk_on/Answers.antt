@@ -1,23 +1,15 @@
-use Rattle.std.proofs.Common.{◌≡◌, ◌≤◌, ◌+◌, ◌++◌, [], ◌∷◌, Bool, true, false, not, Some, length, drop, get_or, ap, sym, ◌∙◌, ◌&&◌, ◌||◌, arith}
+use Rattle.std.proofs.Common.{◌≡◌, ◌≤◌, ◌+◌, ◌++◌, [], ◌∷◌, not, Some, length, drop, get_or, ap, sym, ◌∙◌, ◌&&◌, ◌||◌, arith}
 use mir.Val.{bool_byte}
 use Rattle.std.proofs.lemmas.List.{length-append, drop_all}
-use Rattle.forest_states.specs.declared.entries.Event.{Event}
 use Rattle.forest_states.specs.inner.BitLists.{copied}
-use Rattle.forest_states.specs.inner.Tables.{plain, true_at, spread}
+use Rattle.forest_states.specs.inner.Tables.{true_at, spread}
 use Rattle.forest_states.specs.inner.Walked.{walked}
 use Rattle.forest_states.proofs.Sets.{behind}
 use Rattle.forest_states.proofs.Words.{length-copied}
 use Rattle.forest_states.proofs.Walks.{behind-kept, ended-passed, ended-dead}
-use Rattle.forest_states.proofs.Spread.{told, told-more, told-within, told-all, walked-on, walked-rest}
+use Rattle.forest_states.proofs.Spread.{none, byte-low, told, told-more, told-within, told-all, walked-on, walked-rest}
 use Rattle.forest_states.proofs.entries.walk_on.Goals as goal
 use Rattle.forest_states.proofs.entries.walk_on.Goals.{then-not-event+in_ok-push, else-not-event+else-is_left}
-
-abbrev none : Event
-none = record { run = 0; entry = plain }
-
-byte-low : (b : Bool) → bool_byte b ≤ 1
-byte-low true = omega arith
-byte-low false = omega arith
 
 pub append-requires-clause-few : goal.append-requires-clause-few
 append-requires-clause-few c =

@@ -24,7 +24,7 @@ pub record Fault : Type 0 where
 abbrev pub fault_at : BenchFault → ℕ → Fault
 fault_at what line = record { line = line; what = what }
 
--- An error tells a fault, but for want of memory.
+-- An error is a fault, except lack of memory.
 abbrev pub told : BenchError → Option Fault
 told (Bad line what) = Some (fault_at what line)
 told Memory = None

@@ -186,7 +186,7 @@ clause_list device = record {
 abbrev pub most_variables : ℕ
 most_variables = PART_LIMIT + WIRE_LIMIT + CLAUSE_LIMIT / 3
 
--- an error is a reason, but for want of memory
+-- an error is a reason, except lack of memory
 abbrev pub reason : EncodeError → Option EncodeError
 reason (TooManyClauses count) = Some (TooManyClauses count)
 reason Memory = None

@@ -18,7 +18,7 @@ fault_row NoTop = (7, codes "no top")
 fault_row AfterTop = (8, codes "after top")
 fault_row Cost = (9, codes "cost")
 
--- An error tells a fault, but for want of memory.
+-- An error is a fault, except lack of memory.
 abbrev pub told : LangError → Option Fault
 told (Bad line what) = Some (record { line = line; what = what })
 told Memory = None

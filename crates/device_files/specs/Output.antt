@@ -15,7 +15,7 @@ pub record Output : Type 0 where
 abbrev pub says : List ℕ → Status → Output
 says text status = record { items = Plain text ∷ []; status = status }
 
--- the line that something has more bytes than may be
+-- the line saying that something has more bytes than it may have
 abbrev pub too_long_line : List ℕ → ℕ → List ℕ
 too_long_line what limit = spaced (codes "error:" ∷ what ∷ codes "above" ∷ decimal limit ∷ codes "bytes" ∷ [])
 

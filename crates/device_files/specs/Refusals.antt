@@ -28,7 +28,7 @@ refusal_status (Sum budget) = AboveBudget
 refusal_status Memory = NoMemory
 refusal_status refusal = Refused
 
--- the output of a refusal; want of memory is no refusal of the file
+-- the output of a refusal; lack of memory is no refusal of the file
 abbrev pub told_by : Refusal → Option Output
 told_by Memory = None
 told_by refusal = Some (says (refusal_line refusal) (refusal_status refusal))

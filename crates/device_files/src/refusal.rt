@@ -86,7 +86,7 @@ pub fn above(what: &'static str, count: u64, limit: usize) -> Refusal
     }
 }
 
-// The line that there is no header.
+// The line saying that there is no header.
 fn put_no_header<O: Sink>(out: &mut O) -> Result<(), WriteFailed>
     ensures text { Puts (O.got out.old) (O.got out.new) result (graph_fault_line NoHeader) }
     ensures cause { HasCause (O.faults out.old) (O.faults out.new) result }

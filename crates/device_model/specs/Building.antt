@@ -48,7 +48,7 @@ abbrev pub repeated : List Name → List Name
 repeated [] = []
 repeated (name ∷ names) = if is_among names name then name ∷ repeated names else repeated names
 
--- an error is a reason, but for want of memory
+-- an error is a reason, except lack of memory
 abbrev pub reason : BuildError → Option BuildError
 reason Memory = None
 reason error = Some error

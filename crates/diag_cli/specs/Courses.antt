@@ -134,7 +134,7 @@ course_by choose path (Ask health sessions) file = served_or_refused system_of s
 course_by choose path (Inspect inspection) file = Tells (inspected choose path inspection file)
 course_by choose path (Compile budget narrow) file = Tells (compiled budget (clauses_by narrow choose) (described path file))
 
--- by the form; of a file that is too long, that is printed
+-- by the form; a file that is too long is refused first
 abbrev pub course_of : (ClauseList → Option Forest) → Option Form → List ℕ → Course
 course_of choose None file = Tells (says usage_line Usage)
 course_of choose (Some (Load places)) file = Tells (loaded places)

@@ -25,7 +25,7 @@ use Rattle.diag_cli.specs.declared.loading.TheConstants.{LISTED_LIMIT}
 abbrev pub names_line : List ℕ → List Name → List Bool → Item
 names_line what parts state = line (what ∷ faulty_names parts state)
 
--- Of some first diagnoses: their cost, the first, how many they are, and the last. If nothing agrees, that is printed.
+-- Of some first diagnoses: their cost, the first, how many they are, and the last. If nothing agrees, the one word `inconsistent`.
 abbrev pub listed_lines : List Name → Option ℕ → List (List Bool) → List Item
 listed_lines parts None listed = line (codes "inconsistent" ∷ []) ∷ []
 listed_lines parts (Some fewest) listed =

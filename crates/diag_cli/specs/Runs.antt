@@ -61,7 +61,7 @@ pub record IsRun (choose : ClauseList → Option Forest) (form : Option Form) (h
   pub output : IfSome (told_file held (named_file form)) (λ file. IfSome (whole_output (course_of choose form file) input.left) (λ output.
       new_shelf.faults ≡ shelf.faults → new_input.faults ≡ input.faults → GivesUnlessShort form output status out.got new_out.got))
   -- If that output has status `Done` and no write failed either, that is the status and all of it was written; or it is
-  -- `NoMemory`, with the one line of want of memory.
+  -- `NoMemory`, with the one line of lack of memory.
   pub complete : IfSome (told_file held (named_file form)) (λ file. IfSome (whole_output (course_of choose form file) input.left) (λ output.
       output.status ≡ Done → new_shelf.faults ≡ shelf.faults → new_input.faults ≡ input.faults → new_out.faults ≡ out.faults →
       ((status ≡ Done) × Writes out.got new_out.got output.items) ⊎ ((status ≡ NoMemory) × Writes out.got new_out.got no_memory.items)))

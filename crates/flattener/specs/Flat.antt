@@ -107,7 +107,7 @@ flattened design =
     (unless_over NAME_LIMIT (longest_path design) PathTooLong
     (Ok (flat_device design)))))
 
--- An error tells itself, but for want of memory.
+-- An error is a refusal, except lack of memory.
 abbrev pub told : FlattenError → Option FlattenError
 told Memory = None
 told error = Some error

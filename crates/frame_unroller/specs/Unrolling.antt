@@ -88,7 +88,7 @@ unrolled_by seq frames (Err NoMemory) = Err Memory
 
 -- ---- refusals
 
--- an error is a reason, but for want of memory
+-- an error is a reason, except lack of memory
 abbrev pub reason : UnrollError → Option UnrollError
 reason Memory = None
 reason error = Some error

@@ -32,7 +32,7 @@ asked_names health vars =
     else if nat_lt WIRE_LIMIT (vars - health) then Err (Wires (vars - health))
     else Ok (asked_parts health, asked_wires health vars)
 
--- want of memory is no refusal
+-- lack of memory is no refusal
 abbrev pub told : AskError → Option AskError
 told Memory = None
 told error = Some error

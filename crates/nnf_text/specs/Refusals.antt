@@ -5,7 +5,7 @@ use Rattle.nnf_text.specs.GraphTexts.{Refusal}
 use Rattle.nnf_text.specs.declared.error.NnfError.{NnfError}
 use Rattle.nnf_text.specs.declared.error.NnfError.TheVariants.{Header, Line, Child, Variable, Counts, TooLarge, Shared, Memory}
 
--- want of memory tells none
+-- lack of memory is none
 abbrev pub told : NnfError → Option Refusal
 told Header = Some refusals.NoHeader
 told (Line line) = Some (refusals.AtLine line refusals.WrongLine)

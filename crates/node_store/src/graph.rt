@@ -40,7 +40,7 @@ impl Graph {
         Graph { nodes, vars }
     }
 
-    /// The same graph, for one who takes graphs whose nodes lie anywhere.
+    /// The same graph, for calls that take a graph whose nodes lie anywhere.
     pub fn view(&self) -> GraphView<'_>
         ensures { result ≡ self.now }
     {

@@ -91,7 +91,7 @@ impl Store {
     }
 
     /// The node that is true if all of its children are. Each is a node of the store. No two of them, at
-    /// different places, share a variable. After want of memory the store is as it was.
+    /// different places, share a variable. After lack of memory the store is as it was.
     pub fn and(&mut self, kids: &[u32]) -> Result<u32, Memory>
         requires kids { All (λ k. k < length self.old.nodes) kids.now }
         requires apart { (v : ℕ) → at_most_one (map (mentions self.old.nodes v) kids.now) ≡ true }
@@ -106,7 +106,7 @@ impl Store {
         self.add(NodeKind::And, kids)
     }
 
-    /// The node that is true if one of its children is. Each is a node of the store. After want of memory the
+    /// The node that is true if one of its children is. Each is a node of the store. After lack of memory the
     /// store is as it was.
     pub fn or(&mut self, kids: &[u32]) -> Result<u32, Memory>
         requires kids { All (λ k. k < length self.old.nodes) kids.now }
@@ -122,7 +122,7 @@ impl Store {
     }
 
     /// Makes room for so many more nodes, so that the table need not grow while they come. The store is as it was, also after
-    /// want of memory.
+    /// lack of memory.
     pub fn reserve(&mut self, room: usize) -> Result<(), Memory>
         ensures { self.new ≡ self.old }
     {

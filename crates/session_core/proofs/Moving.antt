@@ -139,7 +139,7 @@ module _ (old : Shown) (listed : Listed) (place : ℕ) (session : Name) (entry :
   abbrev at_point : Option (List Bool) → Entry
   at_point point = record entry { point = point }
 
-  -- what comes behind the next one
+  -- what comes after the next one
   abbrev later_of : ℕ → Option (List Bool) → List Reply
   later_of left point = elim (next point).more as (λ _. List Reply) [ true ↦ listing next left (next point).point | false ↦ [] ]
 

@@ -210,7 +210,7 @@ impl<W: Write + Drop> Sink for StdSink<W> {
 }
 
 /// The words after the program's name. If they cannot be had as text there are none, so that they are answered as
-/// wrong words. An error is want of memory.
+/// wrong words. An error is lack of memory.
 pub fn words_of(rt: &HostRuntime, alloc: Global) -> Result<Vec<String>, Memory> {
     let mut words = Vec::new(alloc);
     match env::args(rt) {

@@ -6,7 +6,7 @@ use Rattle.component_lang.specs.declared.fault.LangError.TheVariants.{Bad, Memor
 use Rattle.component_lang.specs.declared.line_error.LineError.{LineError}
 use Rattle.component_lang.specs.declared.line_error.LineError.TheVariants.{Fault, Memory}
 
--- An error of a line tells its fault, but for want of memory.
+-- An error of a line is its fault, except lack of memory.
 abbrev pub fault_told : LineError → Option LangFault
 fault_told (Fault what) = Some what
 fault_told Memory = None

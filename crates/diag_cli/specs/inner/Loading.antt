@@ -48,7 +48,7 @@ abbrev pub IsSummaryOf : Device → ℕ → ℕ → Summary → Type 0
 IsSummaryOf device clauses places summary =
     summary_lines (device_system device) clauses (adder_case device places) ≡ summary_items summary
 
--- a summary gives an output, and so does a refusal, if it is not want of memory
+-- a summary gives an output, and so does a refusal, if it is not lack of memory
 abbrev pub Loads : Output → Result Summary Refusal → Type 0
 Loads output (Ok summary) = output ≡ summary_output summary
 Loads output (Err refusal) = IfSome (told_by refusal) (λ said. output ≡ said)

@@ -38,7 +38,7 @@ abbrev pub IsFor : Course → Result Shown Refusal → Type 0
 IsFor course (Ok service) = course ≡ Serves (answers_of (system_of service.subject) service.limit)
 IsFor course (Err refusal) = IfSome (told_by refusal) (λ output. course ≡ Tells output)
 
--- the output that a netlist is not unrolled; want of memory is no refusal of it
+-- the output if a netlist is not unrolled; lack of memory is no refusal of it
 abbrev pub frames_told : UnrollError → Option Output
 frames_told NoMemory = None
 frames_told error = Some (not_unrolled error)

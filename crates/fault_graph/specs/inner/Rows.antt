@@ -14,7 +14,7 @@ kept_kids values places cost kids = map (slice_index places) (filter (keeps valu
 abbrev pub kept_node : List ℕ → List ℕ → ℕ → Node → Node
 kept_node values places cost node = record { what = node.what; kids = kept_kids values places cost node.kids }
 
--- a node left with one kid is that kid; else it comes behind the others
+-- a node left with one kid is that kid; else it comes after the others
 abbrev pub Adds : List Node → Node → List Node → ℕ → Type 0
 Adds old node new place = ((new ≡ old) × (node.kids ≡ place ∷ [])) ⊎ ((new ≡ old ++ node ∷ []) × (place ≡ length old) × (length node.kids ≢ 1))
 

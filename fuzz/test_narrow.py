@@ -28,8 +28,9 @@ class Ends(unittest.TestCase):
                 raise subprocess.TimeoutExpired(words, 1)
             return subprocess.CompletedProcess(words, 0, written)
 
-        with tempfile.TemporaryDirectory() as folder, mock.patch.multiple(narrow, TOP=pathlib.Path(folder)), mock.patch("subprocess.run", run):
-            end, kept = narrow.tried("diag", 1, 0)
+        with tempfile.TemporaryDirectory() as folder, mock.patch("subprocess.run", run):
+            with mock.patch.object(narrow, "TOP", pathlib.Path(folder)):
+                end, kept = narrow.tried("diag", 1, 0)
         return end, kept is not None
 
     def test_ends(self):

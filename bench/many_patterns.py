@@ -96,7 +96,7 @@ class Board:
                 del left[part.name]
 
     def patterns(self, chance, faults, count):
-        """The bits of inputs and outputs of each pattern, if some parts put out the opposite, one bit always, or bits at random."""
+        """The bits of inputs and outputs of each pattern, when some parts put out the opposite, one bit always, or bits at random."""
         faulty = {name: chance.choice(["opposite", "0", "1", "random"]) for name, _, _ in chance.sample(self.gates, faults)}
         return sorted(faulty), [self.pattern(chance, faulty) for _ in range(count)]
 

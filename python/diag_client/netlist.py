@@ -132,8 +132,8 @@ def is_made_here(path: pathlib.Path) -> bool:
 
 
 def convert(path: pathlib.Path, out: pathlib.Path | None = None) -> list[str]:
-    """Converts a file, and says what was written. Without `out` the new file has the old name with another ending, and no file is replaced
-    that was not made so.
+    """Converts a file, and says what was written. Without `out` the new file has the old name with another ending. No file is replaced
+    that was not made so, except `out`.
     """
     if out is not None and out.suffix not in (".bench", ".dev"):
         raise UnusableNetlist(f"the name of {out} does not end in .bench or .dev")
@@ -147,9 +147,10 @@ def convert(path: pathlib.Path, out: pathlib.Path | None = None) -> list[str]:
     if out.exists() and out.samefile(path):
         is_named, out = False, path.with_name(f"{path.stem}-diag{out.suffix}")
     table = out.with_name(out.name + ".names")
-    for file in (out, table):
-        if not is_named and file.exists() and not is_made_here(file):
-            raise UnusableNetlist(f"{file} is there, and diag-netlist has not made it: give another name by -o, or this one to replace it")
+    # `-o` names the file and not its table, so it lets the file alone be replaced.
+    for file, may_replace, advice in ((out, is_named, "or this one to replace it"), (table, False, "or move that file")):
+        if not may_replace and file.exists() and not is_made_here(file):
+            raise UnusableNetlist(f"{file} is there, and diag-netlist has not made it: give another name by -o, {advice}")
     names = new_names(circuit, is_design)
     title = f"{MADE}{' '.join(path.name.split())}{MADE_BY}"
     made = design_text(circuit, special, names, title) if is_design else bench_text(circuit, names, title)

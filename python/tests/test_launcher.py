@@ -166,7 +166,11 @@ class Hints(InCheckout):
             ("serve no.bench", 4, "there is no file no.bench"), ("serve .", 4, ". is a folder"), ("serve --narrow plain.bench", 2, "FILE --narrow"),
             ("--narrow serve plain.bench", 2, "options come after the file"), ("srve plain.bench", 2, "no form `srve`"), ("serve plain.txt", 2, ".bench or .dev;"),
             ("plan /dev/stdin", 2, ".bench or .dev;"),
-            ("serve", 2, ".bench or .dev;"), ("check plain.bench", 2, ".nnf"), ("ask plain.nnf", 2, "comes HEALTH: `diag ask FILE HEALTH`"), ("ask plain.nnf --sessions 2", 2, "comes HEALTH"), ("load 801", 2, "from 1 to 800"), ("serve plain.bench --wide", 2, "an option of `serve`"),
+            ("serve", 2, ".bench or .dev;"), ("check plain.bench", 2, ".nnf"), ("ask plain.nnf", 2, "comes HEALTH: `diag ask FILE HEALTH`"), ("ask plain.nnf --sessions 2", 2, "comes HEALTH"),
+            ("ask plain.nnf 4097", 2, "HEALTH is a number from 0 to 4096, without leading zeros"), ("ask plain.nnf 02", 2, "without leading zeros"),
+            ("ask plain.nnf 99999999999999999999", 2, "HEALTH is a number"), ("ask plain.nnf 4096 --wide", 2, "an option of `ask`"),
+            ("ask plain.nnf 0 --wide", 2, "an option of `ask`"),
+            ("load 801", 2, "from 1 to 800"), ("serve plain.bench --wide", 2, "an option of `serve`"),
         ):
             got, told, said = self.run_diag(*words.split(), FAKE=str(status))
             said = said.replace(said.partition("diag: no checksum")[1] and said.split("\n")[0] + "\n", "")

@@ -300,6 +300,10 @@ class ByHand(Converts):
         made.unlink()
         self.assertIn("given.bench.names", self.refused(text))
         self.assertEqual(names.read_text(), own)
+        made.write_text(own)
+        self.assertIn("given.bench.names", self.refused(text, out="given.bench"))
+        self.assertEqual([made.read_text(), names.read_text()], [own, own])
+        names.unlink()
         self.convert(text, out="given.bench")
         self.assertIn("AND(a, b)\n", made.read_text())
 

@@ -77,11 +77,13 @@ async function post(where, act, isQuiet = false) {
   return got;
 }
 
-// A click goes by what was shown when it was pressed: one that another tab has overtaken is refused.
+// A click goes by what was shown when it was pressed: one that another tab has overtaken is refused. All else goes by what is shown now:
+// a press is over after its click, and counts for no key and no paste.
 const tab = String(Math.random());
 let pressed = null;
 addEventListener("pointerdown", () => { pressed = state && state.version; }, true);
-addEventListener("keydown", () => { pressed = null; }, true);
+addEventListener("click", () => { pressed = null; });
+for (const other of ["keydown", "paste"]) addEventListener(other, () => { pressed = null; }, true);
 
 function ask(act) {
   const seen = { tab, version: pressed ?? state?.version };
@@ -615,9 +617,7 @@ function buttons() {
   on("menu-open", () => { openBlocks = [...openBlocks, menuBox.name]; closeMenu(); load(); });
   on("menu-close", closeMenu);
   on("paste", () => { byId("paste-text").value = ""; byId("paste-dialog").showModal(); });
-  byId("paste-dialog").addEventListener("close", () => {
-    if (byId("paste-dialog").returnValue === "take" && byId("paste-text").value.trim()) ask({ act: "readings", text: byId("paste-text").value });
-  });
+  on("paste-take", () => { if (byId("paste-text").value.trim()) ask({ act: "readings", text: byId("paste-text").value }); });
 }
 
 function listeners() {

@@ -20,11 +20,11 @@ use std::sync::ledger::Ledger;
 /// What is known of each variable, what a pass finds at each node, two states, and room for a smaller graph.
 #[derive(Drop)]
 pub(crate) struct LoadMemory {
-    words: Vec<u32>,
-    values: Vec<u32>,
-    first: Vec<u32>,
-    last: Vec<u32>,
-    distiller: Distiller,
+    pub(crate) words: Vec<u32>,
+    pub(crate) values: Vec<u32>,
+    pub(crate) first: Vec<u32>,
+    pub(crate) last: Vec<u32>,
+    pub(crate) distiller: Distiller,
 }
 
 impl LoadMemory {

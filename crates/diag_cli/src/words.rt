@@ -70,14 +70,14 @@ pub struct Numbers {
 
 impl Numbers {
     // Numbers of so many digits at most, from one to another.
-    fn within(digits: usize, least: u32, most: u32) -> Option<Numbers>
-        ensures { result ≡ Some (record { digits = digits; least = least; most = most }) }
+    fn within(digits: usize, least: u32, most: u32) -> Numbers
+        ensures { result ≡ record { digits = digits; least = least; most = most } }
     {
-        Some(Numbers {
+        Numbers {
             digits,
             least,
             most,
-        })
+        }
     }
 
     // The one of them that a word spells.
@@ -95,12 +95,12 @@ fn option_of(command: &str, word: &str) -> Option<Option<Numbers>>
     let is_serve = command == "serve";
     let is_compile = command == "compile";
     match word {
-        "--budget" => (is_serve || is_compile).then_some(Numbers::within(7, 1, BUDGET_LIMIT)),
+        "--budget" => (is_serve || is_compile).then_some(Some(Numbers::within(7, 1, BUDGET_LIMIT))),
         "--sessions" => {
-            (is_serve || command == "ask").then_some(Numbers::within(4, 1, SESSION_LIMIT))
+            (is_serve || command == "ask").then_some(Some(Numbers::within(4, 1, SESSION_LIMIT)))
         }
-        "--frames" => is_serve.then_some(Numbers::within(2, 1, FRAME_LIMIT)),
-        "--levels" => is_serve.then_some(Numbers::within(7, 0, TOP_LIMIT)),
+        "--frames" => is_serve.then_some(Some(Numbers::within(2, 1, FRAME_LIMIT))),
+        "--levels" => is_serve.then_some(Some(Numbers::within(7, 0, TOP_LIMIT))),
         "--narrow" => (is_serve || is_compile || command == "plan").then_some(None),
         "--least" => is_serve.then_some(None),
         _ => None,

@@ -6,7 +6,6 @@ use Rattle.state_rules.specs.Levels.{levels, levels_rest}
 use Rattle.conditioner.specs.Models.{models}
 use Rattle.conditioner.specs.Words.{bits_of}
 use Rattle.level_lister.specs.Listing.{Kept, IsFor, level_step, later_levels, point_if, cost_words, step_words}
-use Rattle.level_lister.proofs.Rooms.{step-fast}
 use Rattle.session_rules.specs.GraphSystems.{Subject, system_of}
 use Rattle.session_rules.proofs.CaseWords.{models-by_words}
 use Rattle.session_core.specs.inner.Bases.{IsBasis, AreEnough, AreKnown, case_in}
@@ -116,7 +115,7 @@ next_in-step-requires g c =
       words = subst (λ (xs : List ℕ). All (λ w. w < 3) xs) (sym c.deref_mut-2.ensures.value) c.self.invariant.known.small;
       state = ap length at ∙ (c.start_at-pointed.auto.state ∙ (ap length c.deref_mut.ensures.value ∙ (c.self.invariant.one_a_part ∙ (sym c.levels.ensures.basis.costs ∙ ap length (sym so.2)))));
       state_words = subst (λ (xs : List ℕ). All (λ s. s < 2) xs) (sym at) c.start_at-pointed.ensures.bits;
-      room = subst (λ (n : ℕ). step_words c.graph.result.now kept ≤ n) (sym room) (step-fast c.graph.result.now kept);
+      room = subst (λ (n : ℕ). step_words c.graph.result.now kept ≤ n) (sym room) (omega arith);
     }
 
 pub returns-clause-stays : goal.returns-clause-stays

@@ -1,9 +1,8 @@
 -- The way up along a forest: the last step first.
-use Rattle.std.proofs.Common.{Bool, ◌≡◌, ℕ, zero, suc, ◌+◌, ◌-◌, ◌*◌, ◌<◌, ◌≤◌, true, false, cond, not, List, [], ◌∷◌, ◌++◌, map, length, drop, get_or, replicate, Option, Some, None, refl, ap, sym, ◌∙◌, subst, arith, add-one, inl, length-append}
+use Rattle.std.proofs.Common.{Bool, ◌≡◌, ℕ, zero, suc, ◌+◌, ◌*◌, ◌<◌, ◌≤◌, true, List, [], ◌∷◌, ◌++◌, map, length, drop, get_or, replicate, Some, refl, ap, sym, ◌∙◌, subst, arith, add-one, inl, length-append}
 use Rattle.std.specs.Prelude.{slice_get, reverse, Vec}
 use Rattle.std.specs.declared.alloc.Global.{Global}
 use Rattle.std.specs.List.{flat_map, list_all, AllByRecursion}
-use Rattle.std.proofs.lemmas.Nat.{mul-le}
 use Rattle.std.proofs.lemmas.List.{append-nil, nil_from_length, drop_more, drop-drop, length-drop, length-reverse, reverse-append}
 use Rattle.std.proofs.lemmas.List.Elements.{All-from_recursion}
 use Rattle.std.proofs.lemmas.Option.{slice_get-get_or}
@@ -19,12 +18,12 @@ use Rattle.elimination_forests.proofs.Ordering.{clauses-valid}
 use Rattle.elimination_forests.specs.declared.forks.Forks.{Forks}
 use Rattle.elimination_forests.specs.declared.steps.Step.{Step}
 use Rattle.elimination_forests.specs.declared.steps.Weight.TheVariants.{Lists}
-use Rattle.elimination_forests.specs.Forests.{Forest, none, tree, trees, variables, steps_of, Place, decided, part, part_of, root, sum_on, number_in, begins, forks_at, forks_on, width}
+use Rattle.elimination_forests.specs.Forests.{Forest, none, tree, trees, steps_of, Place, decided, root, sum_on, begins, forks_at, forks_on, width}
 use Rattle.dnnf_compiler.specs.Along.{IsWay, IsCompiledAlong}
 use Rattle.dnnf_compiler.specs.declared.compiling.Compiled.{Compiled}
 use Rattle.dnnf_compiler.specs.declared.maker.Maker.{Maker}
 use Rattle.dnnf_compiler.specs.inner.Making.{IsMaker}
-use Rattle.dnnf_compiler.specs.inner.Meeting.{AreApart, AreMeetable, IsMeet, taken, AreHeld}
+use Rattle.dnnf_compiler.specs.inner.Meeting.{AreMeetable, IsMeet, taken, AreHeld}
 use Rattle.dnnf_compiler.specs.inner.Placing.{Spot, spots_on, spots_below, IsSpot, AreLevels, IsReady, IsRaised}
 use Rattle.dnnf_compiler.proofs.Placing.{down_holds, each_spot, below_base, root_holds, root_down, root_base}
 use Rattle.dnnf_compiler.proofs.Stacking.{AreBegun, begun, length-levels, length-spots, trees_few}

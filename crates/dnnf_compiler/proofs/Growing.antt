@@ -1,5 +1,5 @@
 -- What stays while nodes come.
-use Rattle.std.proofs.Common.{ℕ, Bool, List, [], ◌∷◌, length, refl, ap, ◌∙◌, arith, inl, inr, length-append}
+use Rattle.std.proofs.Common.{ℕ, Bool, List, refl, arith, length-append}
 use Rattle.state_rules.specs.declared.nodes.NodeKind.{NodeKind}
 use Rattle.state_rules.specs.Graphs.{Node}
 use Rattle.node_store.specs.Stores.{Means, AddsAtMost}

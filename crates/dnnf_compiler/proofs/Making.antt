@@ -1,11 +1,10 @@
 -- What a maker makes.
-use Rattle.std.proofs.Common.{◌≡◌, ℕ, zero, suc, ◌+◌, ◌<◌, ◌≤◌, true, false, List, [], ◌∷◌, ◌++◌, length, Some, None, Option, refl, ap, ◌∙◌, arith, inl, inr}
-use Rattle.std.specs.Prelude.{slice_get, slice_index, IfSome, ◌==◌, ◌⊎◌}
+use Rattle.std.proofs.Common.{◌≡◌, ℕ, zero, suc, ◌+◌, ◌<◌, ◌≤◌, List, [], ◌∷◌, ◌++◌, length, Some, Option, refl, ap, ◌∙◌, arith, inl, inr}
+use Rattle.std.specs.Prelude.{slice_get, IfSome, ◌⊎◌}
 use Rattle.std.proofs.lemmas.Option.{slice_get_within}
-use Rattle.std.proofs.lemmas.Bool.{eq-eqb}
 use Rattle.state_rules.specs.Assignments.{Assignment}
 use Rattle.state_rules.specs.declared.nodes.NodeKind.TheVariants.{And, Or}
-use Rattle.state_rules.specs.Graphs.{Node, true_node, false_node}
+use Rattle.state_rules.specs.Graphs.{Node}
 use Rattle.state_rules.proofs.Lists.{slice_get-before}
 use Rattle.node_store.specs.Stores.{Stored, IsStore, Makes, Means, AddsAtMost, HasNoBareKid}
 use Rattle.dnnf_compiler.specs.declared.maker.Maker.{Maker}

@@ -1,23 +1,22 @@
 -- What is left of clauses at a place of a forest.
-use Rattle.std.proofs.Common.{◌≡◌, ℕ, suc, Bool, true, false, not, ◌&&◌, ◌||◌, cond, List, [], ◌∷◌, ◌++◌, map, get_or, Some, refl, ap, sym, ◌∙◌, subst, arith, inl, inr}
-use Rattle.std.specs.Prelude.{◌==◌, slice_get}
+use Rattle.std.proofs.Common.{◌≡◌, ℕ, Bool, true, false, not, ◌&&◌, ◌||◌, List, [], ◌∷◌, ◌++◌, map, get_or, Some, refl, ap, sym, ◌∙◌, subst, arith, inl, inr}
+use Rattle.std.specs.Prelude.{slice_get}
 use Rattle.std.specs.List.{list_all, flat_map, AllByRecursion}
-use Rattle.std.proofs.lemmas.Bool.{false≢true, eqb-false, ne_eqb, and_parts, and_left, and_right, or_parts, or_from, not-true, not-false, true_from_ne_false}
+use Rattle.std.proofs.lemmas.Bool.{false≢true, eqb-false, ne_eqb, and_parts, or_parts}
 use Rattle.std.proofs.lemmas.Bool.Decides.{nat_tests}
 use Rattle.std.proofs.lemmas.List.Folds.{list_all-append}
 use Rattle.std.proofs.lemmas.List.Quantifiers.{position-Some}
 use Rattle.std.proofs.lemmas.Option.{slice_get-get_or}
-use Rattle.state_rules.specs.Bits.{same_bit}
 use Rattle.state_rules.specs.Assignments.{Assignment}
 use Rattle.state_rules.proofs.Bits.{pointwise-refl, pointwise-equal}
 use Rattle.state_rules.proofs.Lists.{AllByRecursion-append, any-never}
 use Rattle.state_rules.proofs.Members.{In, In-map, In-append_left, In-append_right, In-filtered, any_in}
-use Rattle.clause_encoder.specs.Clauses.{Clause, ClauseList, var_of, is_positive, is_true_clause, all_hold, is_clause}
-use Rattle.elimination_forests.specs.Branches.{is_true_by, has_true, some_passes, same_list}
+use Rattle.clause_encoder.specs.Clauses.{Clause, ClauseList, all_hold, is_clause}
+use Rattle.elimination_forests.specs.Branches.{has_true, some_passes, same_list}
 use Rattle.elimination_forests.proofs.Finding.{found-at}
-use Rattle.elimination_forests.proofs.Lists.{all-in, all-at, none-in, any-none, each-map, each-filter, each-different, In-met}
+use Rattle.elimination_forests.proofs.Lists.{all-in, all-at, none-in, any-none, each-map, each-different, In-met}
 use Rattle.elimination_forests.specs.Forests.{Forest, none, tree, variables, is_among, meets, is_within, is_once, fits, is_along, is_forest_of, Place, is_dead_by, next_by, followed_by, decided, part_of, part, root, number_in}
-use Rattle.elimination_forests.proofs.Passing.{swap, fail_by, passes_by, passes_without, passes_or, passes_never, passes_full, none_passes, all_fail, meets-append, once_back, once_front}
+use Rattle.elimination_forests.proofs.Passing.{fail_by, passes_by, passes_without, passes_or, passes_never, passes_full, none_passes, all_fail, meets-append, once_back, once_front}
 use Rattle.dnnf_compiler.proofs.Meeting.{each_more}
 use Rattle.dnnf_compiler.specs.inner.Placing.{rest_by, left_by, Spot, spots_on, IsSpot}
 

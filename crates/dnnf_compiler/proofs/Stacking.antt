@@ -1,9 +1,9 @@
 -- The nodes of the lists at a place, from those of the places right below it.
-use Rattle.std.proofs.Common.{◌≡◌, ℕ, suc, ◌+◌, ◌*◌, ◌<◌, ◌≤◌, Bool, true, false, ◌&&◌, ◌||◌, cond, List, [], ◌∷◌, ◌++◌, map, length, get_or, All, Some, None, Option, refl, ap, sym, ◌∙◌, subst, arith, inl, inr}
-use Rattle.std.specs.Prelude.{◌==◌, nat_lt, nat_le, slice_get, slice_index, option_map, reverse, IfSome, Vec}
+use Rattle.std.proofs.Common.{◌≡◌, ℕ, suc, ◌<◌, ◌≤◌, Bool, true, false, ◌&&◌, List, [], ◌∷◌, ◌++◌, map, length, get_or, All, Some, Option, refl, ap, sym, ◌∙◌, subst, arith}
+use Rattle.std.specs.Prelude.{nat_lt, nat_le, slice_get, slice_index, option_map, reverse, IfSome, Vec}
 use Rattle.std.specs.declared.alloc.Global.{Global}
 use Rattle.std.specs.List.{list_any, list_all, AllByRecursion}
-use Rattle.std.proofs.lemmas.Bool.{or_parts, and_parts, leb-true, ltb-true}
+use Rattle.std.proofs.lemmas.Bool.{and_parts, leb-true, ltb-true}
 use Rattle.std.proofs.lemmas.List.{length-map, get_or-map, length-reverse, length-append}
 use Rattle.std.proofs.lemmas.List.Folds.{list_any-append}
 use Rattle.std.proofs.lemmas.Option.{slice_get-map, slice_get_within, get_or_from_slice_get, slice_get-get_or}
@@ -16,12 +16,11 @@ use Rattle.elimination_forests.proofs.Lists.{each-at}
 use Rattle.elimination_forests.specs.declared.forks.Forks.{Forks}
 use Rattle.elimination_forests.specs.declared.steps.Step.{Step}
 use Rattle.elimination_forests.specs.declared.steps.Weight.TheVariants.{Lists}
-use Rattle.elimination_forests.specs.Forests.{Forest, none, tree, trees, variables, is_among, is_once, fits, Place, is_dead_by, next_by, decided, part_of, part, sum_on, number_in, begins, way_by, forks_at}
+use Rattle.elimination_forests.specs.Forests.{Forest, none, tree, trees, variables, is_among, is_once, fits, Place, next_by, decided, part_of, part, sum_on, number_in, begins, way_by, forks_at}
 use Rattle.elimination_forests.proofs.Passing.{once_back, once_apart}
 use Rattle.dnnf_compiler.specs.declared.maker.Maker.{Maker}
 use Rattle.dnnf_compiler.specs.inner.Joining.{Grows}
-use Rattle.dnnf_compiler.specs.inner.Making.{Adds}
-use Rattle.dnnf_compiler.specs.inner.Meeting.{taken, AreHeld, IsUsable, way_true, way_mentions, bit_way, IsChoice, IsPlaceable, AreChoices}
+use Rattle.dnnf_compiler.specs.inner.Meeting.{taken, AreHeld, IsUsable, way_true, way_mentions, IsChoice, IsPlaceable, AreChoices}
 use Rattle.dnnf_compiler.specs.inner.Placing.{left_by, Spot, spots_on, spots_below, IsSpot, IsNodeAt, AreNodesAt, AreLevels, IsReady, IsRaised}
 use Rattle.dnnf_compiler.proofs.Meeting.{others_none, length-zip}
 use Rattle.dnnf_compiler.proofs.Placing.{expand_by, dead_left, trees_hold, IsDown, down_holds, each_down, spot_free, spot_once, number_at, part_in, next_in}

@@ -1,11 +1,10 @@
-use Rattle.std.proofs.Common.{◌≡◌, ◌+◌, ◌<◌, ◌≤◌, ◌++◌, ℕ, List, [], ◌∷◌, length, drop, get_or, refl, ap, sym, ◌∙◌, subst, arith}
+use Rattle.std.proofs.Common.{◌≡◌, ◌<◌, ◌≤◌, ◌++◌, ℕ, List, [], ◌∷◌, length, get_or, refl, ap, sym, ◌∙◌, subst, arith}
 use Rattle.std.specs.List.{filter, AllByRecursion}
 use Rattle.std.proofs.lemmas.List.{drop_all, append-nil}
-use Rattle.std.proofs.lemmas.List.Elements.{All-from_recursion}
 use Rattle.state_rules.proofs.Lists.{AllByRecursion-append}
 use Rattle.dnnf_compiler.specs.inner.Joining.{IsPlain}
 use Rattle.dnnf_compiler.proofs.Bare.{other_plain}
-use Rattle.dnnf_compiler.proofs.Meeting.{keeps_of, kept_more, kept_apart, kept_few, meet_none, meet_one, meet_more, each_more}
+use Rattle.dnnf_compiler.proofs.Meeting.{keeps_of, kept_more, kept_apart, kept_few, meet_none, meet_one, meet_more}
 use Rattle.dnnf_compiler.proofs.maker.Maker.meet.Goals as goal
 use Rattle.dnnf_compiler.proofs.maker.Maker.meet.Goals.{After-as_slice}
 

@@ -25,19 +25,12 @@ module _ (entry : ℕ → Entry) where
   met-passed : (a : ℕ) (numbers opened : List ℕ) → AllByRecursion (λ n. a < n) numbers → met entry numbers (a ∷ opened) ≡ as_before a ∷ met entry numbers opened
   met-passed a [] opened above = refl
   met-passed a (n ∷ numbers) opened above = λ j. map as_before (take (first j) (a ∷ opened)) ++ (here n ∷ met entry numbers (after (entry n) (drop (first j) (a ∷ opened)))) where
-    count : ℕ
-    count = prefix_len (λ o. nat_lt o n) opened
-
     first : prefix_len (λ o. nat_lt o n) (a ∷ opened) ≡ suc (prefix_len (λ o. nat_lt o n) opened)
     first = ap (λ b. cond b (1 + prefix_len (λ o. nat_lt o n) opened) 0) (lt-ltb a n above.0) ∙ omega arith
 
   -- one that has it
   met-open : (a : ℕ) (numbers opened : List ℕ) → (entry a).fresh ≡ false → met entry (a ∷ numbers) (a ∷ opened) ≡ here a ∷ met entry numbers opened
-  met-open a numbers opened fresh =
-      (λ j. map as_before (take (none j) (a ∷ opened)) ++ (here a ∷ met entry numbers (after (entry a) (drop (none j) (a ∷ opened)))))
-      ∙ (λ j. here a ∷ met entry numbers (if fresh j then a ∷ opened else opened)) where
-        none : prefix_len (λ o. nat_lt o a) (a ∷ opened) ≡ 0
-        none = ap (λ b. cond b (1 + prefix_len (λ o. nat_lt o a) opened) 0) (le-ltb a a (omega arith))
+  met-open a numbers opened fresh = grind (arith, le-ltb a a (omega arith))
 
   -- one that begins with it
   met-begun : (a : ℕ) (numbers opened : List ℕ) → (entry a).fresh ≡ true → AllByRecursion (λ o. a < o) opened → met entry (a ∷ numbers) opened ≡ here a ∷ met entry numbers opened
@@ -55,32 +48,16 @@ module _ (entry : ℕ → Entry) where
   pub met-either : (opened has : ℕ → Bool) (a n : ℕ) → ((k : ℕ) → k < a + n → has k ≡ true → (entry k).fresh ≡ not (opened k))
       → met entry (filter has (range_with_len a n)) (filter opened (range_with_len a n)) ≡ map (met_if has) (filter (λ k. opened k || has k) (range_with_len a n))
   met-either opened has a zero fresh = refl
-  met-either opened has a (suc n) fresh = by (opened a) refl (has a) refl (met-either opened has (a + 1) n (λ k h. fresh k (omega arith))) where
-    by : (x : Bool) → opened a ≡ x → (y : Bool) → has a ≡ y
-        → met entry (filter has (range_with_len (a + 1) n)) (filter opened (range_with_len (a + 1) n)) ≡ map (met_if has) (filter (λ k. opened k || has k) (range_with_len (a + 1) n))
-        → met entry (cond y (a ∷ filter has (range_with_len (a + 1) n)) (filter has (range_with_len (a + 1) n))) (cond x (a ∷ filter opened (range_with_len (a + 1) n)) (filter opened (range_with_len (a + 1) n)))
-        ≡ map (met_if has) (cond (x || y) (a ∷ filter (λ k. opened k || has k) (range_with_len (a + 1) n)) (filter (λ k. opened k || has k) (range_with_len (a + 1) n)))
-    by true x true y rest = met-open a _ _ (fresh a (omega arith) y ∙ ap not x) ∙ (λ j. (record { number = a; entry = if sym y j then entry a else plain }) ∷ rest j)
-    by true x false y rest = met-passed a _ _ (above-filter has a n) ∙ (λ j. (record { number = a; entry = if sym y j then entry a else plain }) ∷ rest j)
-    by false x true y rest = met-begun a _ _ (fresh a (omega arith) y ∙ ap not x) (above-filter opened a n) ∙ (λ j. (record { number = a; entry = if sym y j then entry a else plain }) ∷ rest j)
-    by false x false y rest = rest
+  met-either opened has a (suc n) fresh = grind (arith, met-either opened has (a + 1) n (λ k h. fresh k (omega arith)), fresh a (omega arith), met-open a, met-passed a, met-begun a, above-filter has a n, above-filter opened a n)
 
   pub kept-met : (has : ℕ → Bool) (ns : List ℕ) → kept_of (map (met_if has) ns) ≡ filter (λ n. not (met_if has n).entry.ends) ns
   kept-met has [] = refl
-  kept-met has (n ∷ ns) = by (met_if has n).entry.ends (kept-met has ns) where
-    by : (b : Bool) → kept_of (map (met_if has) ns) ≡ filter (λ k. not (met_if has k).entry.ends) ns
-        → map (λ m. m.number) (cond (not b) (met_if has n ∷ filter (λ m. not m.entry.ends) (map (met_if has) ns)) (filter (λ m. not m.entry.ends) (map (met_if has) ns)))
-        ≡ cond (not b) (n ∷ filter (λ k. not (met_if has k).entry.ends) ns) (filter (λ k. not (met_if has k).entry.ends) ns)
-    by true rest = rest
-    by false rest = ap (λ ks. n ∷ ks) rest
+  kept-met has (n ∷ ns) = grind (arith, kept-met has ns)
 
 -- ---- one clause after the other
 
 pub length-after : (e : Entry) (opened : List ℕ) → length (after e opened) ≤ length opened
-length-after e opened = by e.fresh where
-  by : (b : Bool) → length (if b then opened else drop 1 opened) ≤ length opened
-  by true = omega arith
-  by false = omega (arith, length-drop 1 opened)
+length-after e opened = grind (arith, length-drop 1 opened)
 
 -- after those that stay as they are
 entries-after : (opened : List ℕ) (ms : List Met) → entries_of (map as_before opened ++ ms) ≡ replicate (length opened) plain ++ entries_of ms

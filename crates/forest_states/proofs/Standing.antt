@@ -4,6 +4,7 @@ use Rattle.std.specs.Prelude.{◌==◌, if◌then◌else◌}
 use Rattle.std.specs.List.{filter, list_any, range_with_len, AllByRecursion}
 use Rattle.std.proofs.Math.Bool.{and-true, or-false, not-not}
 use Rattle.std.proofs.lemmas.Bool.{false≢true, and_parts, or_parts, and_left, and_right, or_from, or_left, or_right, or_cases, not-true, false_from_ne_true, eqb-true}
+use Rattle.std.proofs.lemmas.Bool.Decides.{nat_tests}
 use Rattle.std.proofs.lemmas.List.{length-map, length-set}
 use Rattle.std.proofs.lemmas.List.Folds.{list_any-append}
 use Rattle.state_rules.specs.Bits.{bit_in}
@@ -63,14 +64,10 @@ AreItems clauses seen (it ∷ items) [] = ⊥
 AreItems clauses seen (it ∷ items) (s ∷ stands) = IsItem clauses it s × IsBefore seen it.bound × AreItems clauses seen items stands
 
 either-way : (h m w o : Bool) → o ≡ (h || w) → ((m && o) || h) ≡ ((h || m) && (h || w))
-either-way true m w o e = or_right (m && o) true refl
-either-way false m w o e = or-false (m && o) ∙ ap (λ x. m && x) e
+either-way h m w o e = grind arith
 
 next-way : (h m w wm mb : Bool) → mb ≡ (h || m) → ((h || w) ≡ true → wm ≡ not w) → (((h || m) && (h || w)) && not wm) ≡ (mb && w)
-next-way true m w wm mb e k = ap not (k refl) ∙ not-not w ∙ ap (λ x. x && w) (sym e)
-next-way false true true wm mb e k = ap not (k refl) ∙ ap (λ x. x && true) (sym e)
-next-way false false true wm mb e k = ap (λ x. x && true) (sym e)
-next-way false m false wm mb e k = and_left (m && false) (not wm) (and_right m false refl) ∙ sym (and_right mb false refl)
+next-way h m w wm mb e k = grind arith
 
 -- ---- the trees on a base
 
@@ -102,17 +99,13 @@ module _ (clauses : List Clause) (ws bound : List ℕ) (lists : List (List Bool)
 
     pub base-beside : IsBase clauses ws beside bound lists s
     base-beside = record {
-      along = λ n low e. by n (meets (v ∷ variables below) (cl n)) refl e (h.along n low (wider (variables beside) later (cl n) e));
+      along = λ n low e. grind (arith, h.along n low, wider (variables beside) later (cl n));
       free = λ u e. h.free u (later u e);
       inside = λ u e. h.inside u (later u e);
       known = h.known;
       opened = h.opened;
       states = h.states;
-    } where
-      by : (n : ℕ) (b : Bool) → meets (v ∷ variables below) (cl n) ≡ b → meets (variables beside) (cl n) ≡ true
-          → (if b then not (meets (variables beside) (cl n)) && is_along below (v ∷ bound) (cl n) else is_along beside bound (cl n)) ≡ true → is_along beside bound (cl n) ≡ true
-      by n true m e f = absurd (false≢true (sym (not-true (meets (variables beside) (cl n)) (and_parts (not (meets (variables beside) (cl n))) (is_along below (v ∷ bound) (cl n)) f).0) ∙ e))
-      by n false m e f = f
+    }
 
     module _ (g : ℕ → Bool) (goes : (n : ℕ) → n < length clauses → is_open ws bound (cl n) ≡ true → g n ≡ meets (v ∷ variables below) (cl n)) where
       flags-are : map g s.opened ≡ flags_of ws bound clauses lists h.known (v ∷ variables below)
@@ -130,24 +123,13 @@ module _ (clauses : List Clause) (ws bound : List ℕ) (lists : List (List Bool)
 
       pub item-of : IsItem clauses item_of (record { opened = filter g s.opened; states = part_states (map g s.opened) s.states })
       item-of = record {
-        along = λ n low e. by n (meets (v ∷ variables below) (cl n)) e (h.along n low (wider (v ∷ variables below) first (cl n) e));
+        along = λ n low e. grind (arith, h.along n low, wider (v ∷ variables below) first (cl n));
         free = λ u e. h.free u (first u e);
         known = known-apart ws bound clauses lists h.known (v ∷ variables below) inside;
         opened = ap (filter g) h.opened ∙ filter-filter g (λ n. is_open ws bound (cl n)) range
-            ∙ filter-within _ (λ n. is_open (v ∷ variables below) bound (cl n)) 0 (length clauses) (λ n k. kept n (omega arith) (is_open ws bound (cl n)) refl (meets (v ∷ variables below) (cl n)) refl);
+            ∙ filter-within _ (λ n. is_open (v ∷ variables below) bound (cl n)) 0 (length clauses) (λ n k. grind (arith, goes n (omega arith), inside (cl n)));
         states = (λ j. part_states (flags-are j) (h.states j)) ∙ part-mapped ws bound clauses lists h.known (v ∷ variables below) inside;
-      } where
-        by : (n : ℕ) (b : Bool) → b ≡ true → (if b then not (meets (variables beside) (cl n)) && is_along below (v ∷ bound) (cl n) else is_along beside bound (cl n)) ≡ true → is_along below (v ∷ bound) (cl n) ≡ true
-        by n true m f = (and_parts (not (meets (variables beside) (cl n))) (is_along below (v ∷ bound) (cl n)) f).1
-        by n false m f = absurd (false≢true m)
-
-        kept : (n : ℕ) → n < length clauses → (o : Bool) → is_open ws bound (cl n) ≡ o → (p : Bool) → meets (v ∷ variables below) (cl n) ≡ p → (o && g n) ≡ (meets bound (cl n) && p)
-        kept n k true o p e = goes n k o ∙ e ∙ ap (λ m. m && p) (sym (and_parts (meets bound (cl n)) (meets ws (cl n)) o).0)
-        kept n k false o false e = sym (and_right (meets bound (cl n)) false refl)
-        kept n k false o true e = off (meets bound (cl n)) (meets ws (cl n)) o (inside (cl n) e) where
-          off : (x y : Bool) → (x && y) ≡ false → y ≡ true → false ≡ (x && true)
-          off x true e f = sym e
-          off x false e f = absurd (false≢true f)
+      }
 
 -- ---- where a variable gets a bit
 
@@ -173,10 +155,7 @@ module _ (clauses : List Clause) (of : List (List ℕ)) (seen : List Bool) (foun
   closed n low there = along-closed below (v ∷ bound) (clause n) (h.along n low there)
 
   apart : (u : ℕ) → is_among (variables below) u ≡ true → is_among (v ∷ bound) u ≡ false
-  apart u e = or_from (v == u) (is_among bound u)
-      (false_from_ne_true (v == u) (λ same. false≢true (sym (not-true (is_among (variables below) v) (and_parts (not (is_among (variables below) v)) (is_once (variables below)) once).0)
-      ∙ ap (is_among (variables below)) (eqb-true v u same) ∙ e)))
-      (h.free u (or_right (v == u) (is_among (variables below) u) e))
+  apart u e = grind (arith, nat_tests, once, h.free u)
 
   ends : (n : ℕ) → n < length clauses → meets (v ∷ variables below) (clause n) ≡ true → is_within (v ∷ bound) (clause n) ≡ not (meets (variables below) (clause n))
   ends n low there = ends-there (variables below) (v ∷ bound) apart (clause n) (closed n low there)
@@ -185,11 +164,7 @@ module _ (clauses : List Clause) (of : List (List ℕ)) (seen : List Bool) (foun
   ends-all = each-at (Ends v (variables below) bound) clauses ends
 
   marked-at : (u : ℕ) → u < length seen → is_among (variables below ++ (v ∷ bound)) u ≡ true → bit_in seen u ≡ is_among bound u
-  marked-at u low e = by (is_among bound u) refl (or_cases (is_among (variables below) u) ((v == u) || is_among bound u) (sym (list_any-append (λ x. x == u) (variables below) (v ∷ bound)) ∙ e)) where
-    by : (b : Bool) → is_among bound u ≡ b → (is_among (variables below) u ≡ true) ⊎ (((v == u) || is_among bound u) ≡ true) → bit_in seen u ≡ b
-    by true there k = before u low there
-    by false off (inl k) = new u (or_right (v == u) (is_among (variables below) u) k)
-    by false off (inr k) = elim (or_cases (v == u) (is_among bound u) k) [ inl same ↦ new u (or_left (v == u) (is_among (variables below) u) same) | inr there ↦ absurd (false≢true (sym off ∙ there)) ]
+  marked-at u low e = grind (arith, list_any-append, before u low, new u)
 
   meets-is : (n : ℕ) → n < length clauses → meets (v ∷ variables below) (clause n) ≡ true → meets_marked seen (clause n) ≡ meets bound (clause n)
   meets-is n low there = any-same (variables below ++ (v ∷ bound)) (length seen) (bit_in seen) (is_among bound) marked-at (clause n) (found.small n low) (closed n low there)
@@ -207,7 +182,7 @@ module _ (clauses : List Clause) (of : List (List ℕ)) (seen : List Bool) (foun
   own-has n e = meets-more v (variables below) (clause n) ∙ or_left (has_var v (clause n)) (meets (variables below) (clause n)) e
 
   fresh-is : (n : ℕ) → n < length clauses → has_var v (clause n) ≡ true → not (meets_marked seen (clause n)) ≡ not (is_open (v ∷ variables below) bound (clause n))
-  fresh-is n low e = ap not (meets-is n low (own-has n e) ∙ sym (and-true (meets bound (clause n))) ∙ ap (λ x. meets bound (clause n) && x) (sym (own-has n e)))
+  fresh-is n low e = grind (arith, meets-is n low, own-has n)
 
   met-is : met_at clauses of seen v s.opened ≡ map (met_if (entry_at clauses seen v) has) (filter (λ n. is_walked v (variables below) bound (clause n)) numbers_of)
   met-is =
@@ -218,10 +193,7 @@ module _ (clauses : List Clause) (of : List (List ℕ)) (seen : List Bool) (foun
 
   -- A clause that does not have the variable does not end.
   ends-if : (n : ℕ) → n < length clauses → (has_var v (clause n) || meets (variables below) (clause n)) ≡ true → (entry n).ends ≡ not (meets (variables below) (clause n))
-  ends-if n low e = by (has_var v (clause n)) refl e where
-    by : (b : Bool) → has_var v (clause n) ≡ b → (b || meets (variables below) (clause n)) ≡ true → (if b then entry_at clauses seen v n else plain).ends ≡ not (meets (variables below) (clause n))
-    by true b e = ends-is n low (own-has n b) ∙ ends n low (own-has n b)
-    by false b e = sym (ap not e)
+  ends-if n low e = grind (arith, ends-is n low, ends n low, own-has n)
 
   table-is : table_at clauses of seen v s.opened ≡ table_of v (variables below) bound clauses
   table-is =
@@ -231,23 +203,7 @@ module _ (clauses : List Clause) (of : List (List ℕ)) (seen : List Bool) (foun
       ∙ sym (mapped-twice (entry_of v bound) clause (filter (λ n. is_walked v (variables below) bound (clause n)) numbers_of))
       ∙ ap (map (entry_of v bound)) (sym (passing clauses (is_walked v (variables below) bound))) where
         same : (n : ℕ) → n < length clauses → ((has_var v (clause n) || meets bound (clause n)) ≡ true) × ((has_var v (clause n) || meets (variables below) (clause n)) ≡ true) → entry n ≡ entry_of v bound (clause n)
-        same n low walked = by (has_var v (clause n)) refl walked.0 where
-          there : meets (v ∷ variables below) (clause n) ≡ true
-          there = meets-more v (variables below) (clause n) ∙ walked.1
-
-          by : (b : Bool) → has_var v (clause n) ≡ b → (b || meets bound (clause n)) ≡ true → (if b then entry_at clauses seen v n else plain) ≡ entry_of v bound (clause n)
-          by true b e = λ j. record {
-            fresh = not (meets-is n low there j);
-            true_at_0 = has_true v false (clause n);
-            true_at_1 = has_true v true (clause n);
-            ends = ends-is n low there j;
-          }
-          by false b e = λ j. record {
-            fresh = not (sym e j);
-            true_at_0 = sym (true-apart v false (clause n) b) j;
-            true_at_1 = sym (true-apart v true (clause n) b) j;
-            ends = sym (ends n low there ∙ ap not (ap (λ x. x || meets (variables below) (clause n)) (sym b) ∙ walked.1)) j;
-          }
+        same n low walked = grind (arith, meets-is n low, ends-is n low, ends n low, meets-more v (variables below) (clause n), true-apart v false (clause n), true-apart v true (clause n))
 
   next-opened : kept_of (met_at clauses of seen v s.opened) ≡ filter (λ n. is_open (variables below) (v ∷ bound) (clause n)) numbers_of
   next-opened =
@@ -270,24 +226,11 @@ module _ (clauses : List Clause) (of : List (List ℕ)) (seen : List Bool) (foun
   -- ---- the trees below
 
   module _ (nums : List ℕ) where
-    abbrev marked : List Bool
-    marked = set seen v true
-
     -- a variable of a clause that goes on
     in-tree : (j : ℕ) (own : List ℕ) → ((u : ℕ) → is_among own u ≡ true → is_among (variables below) u ≡ true)
         → ((u : ℕ) → u < length seen → is_among (variables below) u ≡ true → (get_or nums u 0 == j) ≡ is_among own u)
         → (u : ℕ) → u < length seen → is_among (variables below ++ (v ∷ bound)) u ≡ true → is_in_tree (set seen v true) nums j u ≡ is_among own u
-    in-tree j own inside sides u low e = by (is_among (variables below) u) refl (sym (list_any-append (λ x. x == u) (variables below) (v ∷ bound)) ∙ e) where
-      by : (b : Bool) → is_among (variables below) u ≡ b → (b || is_among (v ∷ bound) u) ≡ true → is_in_tree (set seen v true) nums j u ≡ is_among own u
-      by true there k =
-          let off = mark-bit seen v u low ∙ or_from (v == u) (bit_in seen u) (or_parts (v == u) (is_among bound u) (apart u there)).0 (new u (or_right (v == u) (is_among (variables below) u) there)) in
-          ap (λ b. not b && (get_or nums u 0 == j)) off ∙ sides u low there
-      by false off k =
-          let on = mark-bit seen v u low ∙ seen-one (v == u) (is_among bound u) k (λ there. before u low there) in
-          ap (λ b. not b && (get_or nums u 0 == j)) on ∙ sym (false_from_ne_true (is_among own u) (λ there. false≢true (sym off ∙ inside u there))) where
-            seen-one : (x y : Bool) → (x || y) ≡ true → (y ≡ true → bit_in seen u ≡ true) → (x || bit_in seen u) ≡ true
-            seen-one true y e f = refl
-            seen-one false y e f = f e
+    in-tree j own inside sides u low e = grind (arith, list_any-append, mark-bit seen v u low, apart u, new u, sides u low, inside u, before u low)
 
     goes-is : (j : ℕ) (own : List ℕ) → ((u : ℕ) → is_among own u ≡ true → is_among (variables below) u ≡ true)
         → ((u : ℕ) → u < length seen → is_among (variables below) u ≡ true → ((trees below == 1) || (get_or nums u 0 == j)) ≡ is_among own u)
@@ -300,22 +243,15 @@ module _ (clauses : List Clause) (of : List (List ℕ)) (seen : List Bool) (foun
       within = closed n low (meets-more v (variables below) (clause n) ∙ or_right (has_var v (clause n)) (meets (variables below) (clause n)) goes_on)
 
       alone : (trees below == 1) ≡ true → (u : ℕ) → u < length seen → (b : Bool) → is_among (variables below) u ≡ b → is_among own u ≡ b
-      alone e u k true there = sym (sides u k there) ∙ ap (λ x. x || (get_or nums u 0 == j)) e
-      alone e u k false off = false_from_ne_true (is_among own u) (λ there. false≢true (sym off ∙ inside u there))
+      alone e u k b there = grind (arith, sides u k, inside u)
 
       by : (b : Bool) → (trees below == 1) ≡ b → (b || list_any (λ l. is_in_tree (set seen v true) nums j (var_of l)) (clause n)) ≡ meets own (clause n)
       by true e = sym (any-same (variables below ++ (v ∷ bound)) (length seen) (is_among own) (is_among (variables below)) (λ u k _. alone e u k (is_among (variables below) u) refl) (clause n) (found.small n low) within ∙ goes_on)
       by false e = any-same (variables below ++ (v ∷ bound)) (length seen) (is_in_tree (set seen v true) nums j) (is_among own)
           (in-tree j own inside (λ u k there. ap (λ x. x || (get_or nums u 0 == j)) (sym e) ∙ sides u k there)) (clause n) (found.small n low) within
 
-    abbrev base : Stand
-    base = stand_decided clauses of seen v s
-
     next-before : IsBefore (set seen v true) (v ∷ bound)
-    next-before u low there = mark-bit seen v u (omega (arith, length-set seen v true)) ∙ by (v == u) (is_among bound u) there (before u (omega (arith, low, length-set seen v true))) where
-      by : (x y : Bool) → (x || y) ≡ true → (y ≡ true → bit_in seen u ≡ true) → (x || bit_in seen u) ≡ true
-      by true y e f = refl
-      by false y e f = f e
+    next-before u low there = grind (arith, mark-bit seen v u, before u, length-set seen v true)
 
     -- the places of trees side by side
     abbrev pub items_on : Forest → List Item

@@ -80,16 +80,7 @@ within-numbered k b none n rest m high = ap (λ x. numbered k b x rest m) (plain
   plain x = omega arith
 within-numbered k b (tree v below beside) n rest m high =
     let next = set m v (b - 1) in
-    (λ j. if ne_eqb (suc (trees beside) + n) 0 (λ e. absurd (omega (arith, e))) j then m
-    else numbered k (same j) (left (trees beside) (trees below) n j) (append_assoc (steps_of below) (steps_of beside) rest j) (set m v (same j - 1)))
-    ∙ within-numbered k b below (trees beside + n) (steps_of beside ++ rest) next (omega (arith, high))
-    ∙ within-numbered k b beside n rest (at_all (variables below) (b - 1) next) high
-    ∙ ap (numbered k b n rest) (all-append (variables below) (variables beside) (b - 1) next) where
-      same : begun_at k b (suc (trees beside) + n) ≡ b
-      same = ap (λ t. if t then b + 1 else b) (ne_eqb (suc (trees beside) + n + b) k (λ e. absurd (omega (arith, e, high))))
-
-      left : (x y z : ℕ) → suc x + z - 1 + y ≡ y + (x + z)
-      left x y z = omega arith
+    grind (arith, nat_tests, append_assoc, within-numbered k b below (trees beside + n) (steps_of beside ++ rest) next, within-numbered k b beside n rest (at_all (variables below) (b - 1) next), all-append)
 
 -- beside each other
 pub beside-numbered : (k j : ℕ) (f : Forest) (rest : List Step) (m : List ℕ) → k ≡ j + trees f → numbered k j (trees f) (steps_of f ++ rest) m ≡ sided j f m

@@ -82,29 +82,16 @@ within-numbered k b (tree v below beside) n rest m high =
     let next = set m v (b - 1) in
     grind (arith, nat_tests, append_assoc, within-numbered k b below (trees beside + n) (steps_of beside ++ rest) next, within-numbered k b beside n rest (at_all (variables below) (b - 1) next), all-append)
 
+pub numbered-none : (k begun : ℕ) (steps : List Step) (m : List ℕ) → numbered k begun 0 steps m ≡ m
+numbered-none k begun [] m = refl
+numbered-none k begun (s ∷ steps) m = refl
+
 -- beside each other
 pub beside-numbered : (k j : ℕ) (f : Forest) (rest : List Step) (m : List ℕ) → k ≡ j + trees f → numbered k j (trees f) (steps_of f ++ rest) m ≡ sided j f m
-beside-numbered k j none [] m e = refl
-beside-numbered k j none (s ∷ rest) m e = refl
+beside-numbered k j none rest m e = numbered-none k j rest m
 beside-numbered k j (tree v below beside) rest m e =
     let next = set m v j in
-    (λ i. if ne_eqb (suc (trees beside)) 0 (λ h. absurd (omega (arith, h))) i then m
-    else numbered k (here i) (left (trees beside) (trees below) i) (append_assoc (steps_of below) (steps_of beside) rest i) (set m v (here i - 1)))
-    ∙ (λ i. numbered k (j + 1) (trees below + trees beside) (steps_of below ++ (steps_of beside ++ rest)) (set m v (minus j i)))
-    ∙ within-numbered k (j + 1) below (trees beside) (steps_of beside ++ rest) next (omega (arith, e))
-    ∙ ap (λ i. numbered k (j + 1) (trees beside) (steps_of beside ++ rest) (at_all (variables below) i next)) (minus j)
-    ∙ beside-numbered k (j + 1) beside rest (at_all (variables below) j next) (e ∙ plus j (trees beside)) where
-      here : begun_at k j (suc (trees beside)) ≡ j + 1
-      here = ap (λ t. if t then j + 1 else j) (eq-eqb (suc (trees beside) + j) k (omega (arith, e)))
-
-      left : (x y : ℕ) → suc x - 1 + y ≡ y + x
-      left x y = omega arith
-
-      minus : (x : ℕ) → x + 1 - 1 ≡ x
-      minus x = omega arith
-
-      plus : (x y : ℕ) → x + suc y ≡ x + 1 + y
-      plus x y = omega arith
+    grind (arith, nat_tests, append_assoc, within-numbered k (j + 1) below (trees beside) (steps_of beside ++ rest) next, beside-numbered k (j + 1) beside rest (at_all (variables below) j next))
 
 -- what is read at a variable
 all-read : (vs : List ℕ) (number : ℕ) (m : List ℕ) (u : ℕ) → u < length m → get_or (at_all vs number m) u 0 ≡ (if is_among vs u then number else get_or m u 0)
@@ -165,10 +152,6 @@ sides-are below rest m once = by (trees below == 1) refl where
       (λ u low there h. absurd (false≢true (sym h ∙ there)))
 
 -- ---- the steps one after the other
-
-pub numbered-none : (k begun : ℕ) (steps : List Step) (m : List ℕ) → numbered k begun 0 steps m ≡ m
-numbered-none k begun [] m = refl
-numbered-none k begun (s ∷ steps) m = refl
 
 pub numbered-more : (k begun left : ℕ) (steps : List Step) (m : List ℕ) (i : ℕ) (d : Step) → i < length steps → (left ≡ 0 → ⊥)
     → numbered k begun left (drop i steps) m

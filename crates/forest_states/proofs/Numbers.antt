@@ -15,11 +15,7 @@ filter-within p q a (suc n) same = let rest = filter-within p q (a + 1) n (λ k 
 
 pub map-within : {X : Type 0} (f g : ℕ → X) (p : ℕ → Bool) (a n : ℕ) → ((k : ℕ) → k < a + n → p k ≡ true → f k ≡ g k) → map f (filter p (range_with_len a n)) ≡ map g (filter p (range_with_len a n))
 map-within f g p a zero same = refl
-map-within f g p a (suc n) same = by (p a) refl (map-within f g p (a + 1) n (λ k h. same k (omega arith))) where
-  by : (x : Bool) → p a ≡ x → map f (filter p (range_with_len (a + 1) n)) ≡ map g (filter p (range_with_len (a + 1) n))
-      → map f (cond x (a ∷ filter p (range_with_len (a + 1) n)) (filter p (range_with_len (a + 1) n))) ≡ map g (cond x (a ∷ filter p (range_with_len (a + 1) n)) (filter p (range_with_len (a + 1) n)))
-  by true x rest = λ i. same a (omega arith) x i ∷ rest i
-  by false x rest = rest
+map-within f g p a (suc n) same = grind (arith, same a (omega arith), map-within f g p (a + 1) n (λ k h. same k (omega arith)))
 
 -- all clauses by their numbers
 all-from : (cs front : List Clause) → cs ≡ map (λ n. get_or (front ++ cs) n []) (range_with_len (length front) (length cs))
@@ -33,10 +29,7 @@ all-from (c ∷ cs) front =
 
 filter-mapped : (f : ℕ → Clause) (test : Clause → Bool) (ns : List ℕ) → filter test (map f ns) ≡ map f (filter (λ n. test (f n)) ns)
 filter-mapped f test [] = refl
-filter-mapped f test (n ∷ ns) = by (test (f n)) (filter-mapped f test ns) where
-  by : (b : Bool) → filter test (map f ns) ≡ map f (filter (λ k. test (f k)) ns) → cond b (f n ∷ filter test (map f ns)) (filter test (map f ns)) ≡ map f (cond b (n ∷ filter (λ k. test (f k)) ns) (filter (λ k. test (f k)) ns))
-  by true rest = ap (λ cs. f n ∷ cs) rest
-  by false rest = rest
+filter-mapped f test (n ∷ ns) = grind (arith, filter-mapped f test ns)
 
 -- those that pass
 pub passing : (clauses : List Clause) (test : Clause → Bool) → filter test clauses ≡ map (λ n. get_or clauses n []) (filter (λ n. test (get_or clauses n [])) (range_with_len 0 (length clauses)))
@@ -50,9 +43,7 @@ each-at P (c ∷ cs) h = (h 0 (omega arith), each-at P cs (λ n low. h (suc n) (
 -- ---- numbers counted down
 
 pub mapped-on : {X : Type 0} (g : ℕ → X) (n : ℕ) → map g (range_with_len 0 n) ++ g n ∷ [] ≡ map g (range_with_len 0 (n + 1))
-mapped-on g n = ap (λ m. map g (range_with_len 0 n) ++ g m ∷ []) (plus n) ∙ sym (map-append g (range_with_len 0 n) ((0 + n) ∷ [])) ∙ ap (map g) (sym (range_more 0 n)) where
-  plus : (m : ℕ) → m ≡ 0 + m
-  plus m = omega arith
+mapped-on g n = ap (λ m. map g (range_with_len 0 n) ++ g m ∷ []) (omega arith) ∙ sym (map-append g (range_with_len 0 n) ((0 + n) ∷ [])) ∙ ap (map g) (sym (range_more 0 n))
 
 back : {X : Type 0} (f : ℕ → X) (k n : ℕ) → n ≤ k → reverse (map (λ i. f (k - 1 - i)) (range_with_len 0 n)) ≡ map f (range_with_len (k - n) n)
 back f k zero low = refl

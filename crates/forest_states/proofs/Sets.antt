@@ -35,10 +35,7 @@ mapped-more h xs ys k x at e =
 -- one list more
 pub joined-more : (ks : List (List Bool)) (more : Option (List Bool)) → joined (different ks) more ≡ different (ks ++ option_to_list more)
 joined-more ks None = ap different (sym (append-nil ks))
-joined-more ks (Some k) = by (is_among (different ks) k) (among-different ks k) ∙ sym (different-append ks (k ∷ [])) where
-  by : (b : Bool) → b ≡ is_among ks k → cond b (different ks) (different ks ++ k ∷ []) ≡ different ks ++ cond (not (is_among ks k)) (k ∷ []) []
-  by true e = sym (append-nil (different ks)) ∙ ap (λ x. different ks ++ cond (not x) (k ∷ []) []) e
-  by false e = ap (λ x. different ks ++ cond (not x) (k ∷ []) []) e
+joined-more ks (Some k) = grind (arith, among-different ks k, different-append ks (k ∷ []), append-nil (different ks))
 
 -- what is added after the first ones has its place there
 pub place-ahead : (ks : List (List Bool)) (k : List Bool) (more : List (List Bool)) → position_or_len (is_same k) (different ks) ≡ position_or_len (is_same k) (different ((ks ++ k ∷ []) ++ more))
@@ -57,11 +54,7 @@ place-ahead ks k more = by (is_among ks k) refl ∙ back where
   by false e = new (different ks) (among-different ks k ∙ e) ∙ ap (position_or_len (is_same k)) (ap (λ x. different ks ++ cond (not x) (k ∷ []) []) (sym e) ∙ sym (different-append ks (k ∷ []))) where
     new : (ls : List (List Bool)) → is_among ls k ≡ false → position_or_len (is_same k) ls ≡ position_or_len (is_same k) (ls ++ k ∷ [])
     new [] h = ap (λ x. cond (not x) 1 0) (sym (pointwise-refl k))
-    new (l ∷ ls) h = step (same_list l k) h (new ls) where
-      step : (x : Bool) → (x || is_among ls k) ≡ false → (is_among ls k ≡ false → position_or_len (is_same k) ls ≡ position_or_len (is_same k) (ls ++ k ∷ []))
-          → cond (not x) (1 + position_or_len (is_same k) ls) 0 ≡ cond (not x) (1 + position_or_len (is_same k) (ls ++ k ∷ [])) 0
-      step true h rest = refl
-      step false h rest = ap (λ n. 1 + n) (rest h)
+    new (l ∷ ls) h = grind (arith, new ls)
 
 pub lead-front : (ks : List (List Bool)) (k : Option (List Bool)) (more : List (List Bool)) → lead (different ks) k ≡ lead (different ((ks ++ option_to_list k) ++ more)) k
 lead-front ks None more = refl

@@ -34,9 +34,7 @@ length-bits n words = length-map-range_with_len (word_bit words) 0 n
 pub words-longer : (m : ℕ) (bits : List Bool) → length bits ≤ 64 * m → words_of m bits ++ 0 ∷ [] ≡ words_of (m + 1) bits
 words-longer zero [] room = refl
 words-longer zero (b ∷ bits) room = absurd (omega arith)
-words-longer (suc m) bits room = ap (λ ws. row_number (take 64 bits) ∷ ws) (words-longer m (drop 64 bits) (omega (arith, length-drop 64 bits))) ∙ ap (λ k. words_of k bits) (plus m) where
-  plus : (n : ℕ) → suc (n + 1) ≡ suc n + 1
-  plus n = omega arith
+words-longer (suc m) bits room = let next : suc (m + 1) ≡ suc m + 1 = omega arith in ap (λ ws. row_number (take 64 bits) ∷ ws) (words-longer m (drop 64 bits) (omega (arith, length-drop 64 bits))) ∙ ap (λ k. words_of k bits) next
 
 pub words-many : (n : ℕ) (words : List ℕ) → AreBits n words → length words ≡ n / 64 + 1
 words-many n words are = ap length are ∙ length-words (n / 64 + 1) (bits_in n words)

@@ -99,10 +99,10 @@ module _ (weight : Weight) (all : List Step) (clauses : List Clause) (of : List 
               ∙ ap (λ ss. (ss ++ steps_left items) ++ steps_of later) (sym (steps-on below)) ∙ ap (λ ss. ss ++ steps_of later) (sym (flat_map-append (λ x. (record { var = x.v; trees = trees x.below }) ∷ steps_of x.below) (new_items below) items));
           are = items-append clauses (set seen v true) (new_items below) items _ stands
               (trees-are clauses of seen known v below bound lists s way.are.0 way.are.1 here_new here_once nums below 0 (base-is clauses of seen known v below bound lists s way.are.0 way.are.1 here_new here_once) sides)
-              (items-marked clauses seen v marked-more items stands way.are.2);
+              (items-marked clauses seen v (λ bs before u low there. grind (arith, mark-bit seen v u, before u, length-set seen v true)) items stands way.are.2);
           base = way.base;
           once = ap is_once ahead ∙ (and_parts (not (is_among tail v)) (is_once tail) way.once).1;
-          new = λ u there. new_later u (ap (λ vs. is_among vs u) (sym ahead) ∙ there);
+          new = λ u there. grind (arith, nat_tests, get_or-set_other, way.once, way.new u, ap (λ vs. is_among vs u) ahead);
           forks = append_assoc found (forks_below clauses of seen numbers step own_rest s ∷ []) _
               ∙ (λ j. found ++ (forks_is j ∷ forks_ahead j)) ∙ way.forks;
           total = omega (arith, way.total, weight-is clauses of seen known v below bound lists s way.are.0 way.are.1 here_new here_once weight, sum-append weight clauses (new_items below) items, sum-on below);
@@ -121,9 +121,6 @@ module _ (weight : Weight) (all : List Step) (clauses : List Clause) (of : List 
 
           here_new : (u : ℕ) → is_among (v ∷ variables below) u ≡ true → bit_in seen u ≡ false
           here_new u e = way.new u (grind (arith, list_any-append))
-
-          new_later : (u : ℕ) → is_among tail u ≡ true → bit_in (set seen v true) u ≡ false
-          new_later u there = grind (arith, nat_tests, get_or-set_other, way.once, way.new u)
 
           nums : List ℕ
           nums = numbers_at (trees below) own_rest numbers
@@ -159,9 +156,6 @@ module _ (weight : Weight) (all : List Step) (clauses : List Clause) (of : List 
 
           forks_ahead : forks_left clauses (new_items below ++ items) ++ forks_on later (root clauses) ≡ (forks_on below (decided v (at bound clauses lists)) ++ forks_left clauses items) ++ forks_on later (root clauses)
           forks_ahead = ap (λ fs. fs ++ forks_on later (root clauses)) (flat_map-append (λ o. forks_at o.v o.below (place clauses o) ∷ forks_on o.below (decided o.v (place clauses o))) (new_items below) items ∙ ap (λ fs. fs ++ forks_left clauses items) (forks-on below))
-
-          marked-more : (bs : List ℕ) → IsBefore seen bs → IsBefore (set seen v true) bs
-          marked-more bs before u low there = grind (arith, mark-bit seen v u, before u, length-set seen v true)
 
   pub way-more : Way weight all clauses forest i seen found sum (s ∷ stands) → After (get_or all i d) (drop (i + 1) all)
   way-more ([], later, way) = absurd way.are

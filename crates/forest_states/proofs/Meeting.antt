@@ -3,7 +3,7 @@ use Rattle.std.proofs.Common.{◌≡◌, ℕ, zero, suc, ◌+◌, ◌<◌, ◌�
 use Rattle.std.specs.Prelude.{if◌then◌else◌, nat_lt}
 use Rattle.std.specs.List.{filter, prefix_len, range_with_len, AllByRecursion}
 use Rattle.std.proofs.lemmas.Bool.{le-ltb, lt-ltb}
-use Rattle.std.proofs.lemmas.List.{append_assoc, length-drop, length-take-le, drop_more}
+use Rattle.std.proofs.lemmas.List.{append_assoc, append-nil, length-drop, length-take-le, drop_more}
 use Rattle.std.proofs.lemmas.List.Sums.{prefix_len-le-length}
 use Rattle.elimination_forests.proofs.Lists.{each-filter}
 use Rattle.forest_states.specs.declared.entries.Entry.{Entry}
@@ -69,12 +69,10 @@ kept-after [] ms = refl
 kept-after (o ∷ opened) ms = ap (λ ns. o ∷ ns) (kept-after opened ms)
 
 pub last-entries : (opened : List ℕ) → replicate (length opened) plain ≡ entries_of (map as_before opened)
-last-entries [] = refl
-last-entries (o ∷ opened) = ap (λ es. plain ∷ es) (last-entries opened)
+last-entries opened = grind (arith, entries-after opened [], append-nil)
 
 pub last-kept : (opened : List ℕ) → opened ≡ kept_of (map as_before opened)
-last-kept [] = refl
-last-kept (o ∷ opened) = ap (λ ns. o ∷ ns) (last-kept opened)
+last-kept opened = grind (arith, kept-after opened [], append-nil)
 
 module _ (entry : ℕ → Entry) (numbers : List ℕ) (i : ℕ) (opened : List ℕ) (low : i < length numbers) where
   abbrev n : ℕ

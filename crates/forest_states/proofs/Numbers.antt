@@ -3,6 +3,8 @@ use Rattle.std.proofs.Common.{◌≡◌, ℕ, zero, suc, ◌+◌, ◌<◌, ◌�
 use Rattle.std.specs.Prelude.{nat_lt}
 use Rattle.std.specs.List.{filter, list_all, range_with_len, AllByRecursion}
 use Rattle.std.proofs.lemmas.List.{append_assoc, length-append, map-append, reverse-append}
+use Rattle.std.proofs.lemmas.List.{ext_get_or}
+use Rattle.std.proofs.lemmas.List.FromFn.{get_or-map-range_with_len, length-map-range_with_len}
 use Rattle.state_rules.proofs.Lists.{range_more}
 use Rattle.clause_encoder.specs.Clauses.{Clause, var_of}
 use Rattle.forest_states.specs.inner.Walked.{has_var}
@@ -17,23 +19,16 @@ pub map-within : {X : Type 0} (f g : ℕ → X) (p : ℕ → Bool) (a n : ℕ) �
 map-within f g p a zero same = refl
 map-within f g p a (suc n) same = grind (arith, same a (omega arith), map-within f g p (a + 1) n (λ k h. same k (omega arith)))
 
--- all clauses by their numbers
-all-from : (cs front : List Clause) → cs ≡ map (λ n. get_or (front ++ cs) n []) (range_with_len (length front) (length cs))
-all-from [] front = refl
-all-from (c ∷ cs) front =
-    let rest = all-from cs (front ++ c ∷ []) in
-    λ j. sym (at-front front) j ∷ (rest ∙ (λ k. map (λ n. get_or (append_assoc front (c ∷ []) cs k) n []) (range_with_len (length-append front (c ∷ []) k) (length cs)))) j where
-      at-front : (xs : List Clause) → get_or (xs ++ c ∷ cs) (length xs) [] ≡ c
-      at-front [] = refl
-      at-front (x ∷ xs) = at-front xs
-
 filter-mapped : (f : ℕ → Clause) (test : Clause → Bool) (ns : List ℕ) → filter test (map f ns) ≡ map f (filter (λ n. test (f n)) ns)
 filter-mapped f test [] = refl
 filter-mapped f test (n ∷ ns) = grind (arith, filter-mapped f test ns)
 
 -- those that pass
 pub passing : (clauses : List Clause) (test : Clause → Bool) → filter test clauses ≡ map (λ n. get_or clauses n []) (filter (λ n. test (get_or clauses n [])) (range_with_len 0 (length clauses)))
-passing clauses test = ap (filter test) (all-from clauses []) ∙ filter-mapped (λ n. get_or clauses n []) test (range_with_len 0 (length clauses))
+passing clauses test =
+    let at = λ (n : ℕ). get_or clauses n [] in
+    let all = ext_get_or [] clauses (map at (range_with_len 0 (length clauses))) (sym (length-map-range_with_len at 0 (length clauses))) (λ i low. sym (get_or-map-range_with_len at 0 (length clauses) i i [] low (omega arith))) in
+    ap (filter test) all ∙ filter-mapped (λ n. get_or clauses n []) test (range_with_len 0 (length clauses))
 
 -- what holds at each number
 pub each-at : (P : Clause → Type 0) (cs : List Clause) → ((n : ℕ) → n < length cs → P (get_or cs n [])) → AllByRecursion P cs

@@ -6,6 +6,7 @@ use Rattle.std.specs.Option.{unwrap_or}
 use Rattle.std.proofs.Math.Bool.{and-true}
 use Rattle.std.proofs.lemmas.Bool.{false≢true}
 use Rattle.std.proofs.lemmas.List.{length-append, length-replicate, replicate-append-replicate, append_assoc, take_all, drop-drop, drop_more}
+use Rattle.std.proofs.Math.Seq.{drop-nil}
 use Rattle.state_rules.specs.Bits.{bit_in}
 use Rattle.forest_states.specs.declared.entries.Entry.{Entry}
 use Rattle.forest_states.specs.declared.entries.Event.{Event}
@@ -72,15 +73,9 @@ behind-nil rest = grind arith
 pub behind-twice : (bits more : List Bool) (rest : Option (List Bool)) → behind bits (behind more rest) ≡ behind (bits ++ more) rest
 behind-twice bits more rest = grind (arith, append_assoc)
 
-never : (bit : Bool) → true_at plain bit ≡ false
-never bit = grind arith
-
-drop-others : (n : ℕ) (bits : List Bool) → drop n (other_bits bits) ≡ drop (suc n) bits
-drop-others n bits = grind arith
-
 walked-run : (bit : Bool) (n : ℕ) (table : List Entry) (state : List Bool) → walked bit (replicate n plain ++ table) state ≡ behind (copied n state) (walked bit table (drop n state))
 walked-run bit zero table state = behind-nil (walked bit table state)
-walked-run bit (suc n) table state = grind (arith, never bit, walked-run bit n table (other_bits state), drop-others n state)
+walked-run bit (suc n) table state = grind (arith, walked-run bit n table (other_bits state), drop-nil {A = Bool} n)
 
 -- up to the next event
 pub walked-event : (bit : Bool) (es : List Event) (rest k : ℕ) (e : Event) (state : List Bool) → k < length es
@@ -105,7 +100,7 @@ walked-on bit es rest k n e left state low =
 -- after the last one
 pub walked-rest : (bit : Bool) (n : ℕ) (state : List Bool) → walked bit (replicate n plain) state ≡ Some (copied n state)
 walked-rest bit zero state = refl
-walked-rest bit (suc n) state = grind (arith, never bit, walked-rest bit n (other_bits state))
+walked-rest bit (suc n) state = grind (arith, walked-rest bit n (other_bits state))
 
 -- ---- what is picked
 

@@ -63,12 +63,6 @@ AreItems clauses seen [] (s ∷ stands) = ⊥
 AreItems clauses seen (it ∷ items) [] = ⊥
 AreItems clauses seen (it ∷ items) (s ∷ stands) = IsItem clauses it s × IsBefore seen it.bound × AreItems clauses seen items stands
 
-either-way : (h m w o : Bool) → o ≡ (h || w) → ((m && o) || h) ≡ ((h || m) && (h || w))
-either-way h m w o e = grind arith
-
-next-way : (h m w wm mb : Bool) → mb ≡ (h || m) → ((h || w) ≡ true → wm ≡ not w) → (((h || m) && (h || w)) && not wm) ≡ (mb && w)
-next-way h m w wm mb e k = grind arith
-
 -- ---- the trees on a base
 
 module _ (clauses : List Clause) (ws bound : List ℕ) (lists : List (List Bool)) (s : Stand) where
@@ -79,17 +73,11 @@ module _ (clauses : List Clause) (ws bound : List ℕ) (lists : List (List Bool)
   range = range_with_len 0 (length clauses)
 
   module _ (v : ℕ) (below beside : Forest) (h : IsBase clauses ws (tree v below beside) bound lists s) where
-    own : List ℕ
-    own = v ∷ variables below
-
-    both : (u : ℕ) → is_among (variables (tree v below beside)) u ≡ (is_among (v ∷ variables below) u || is_among (variables beside) u)
-    both u = list_any-append (λ x. x == u) (v ∷ variables below) (variables beside)
-
     first : (u : ℕ) → is_among (v ∷ variables below) u ≡ true → is_among (variables (tree v below beside)) u ≡ true
-    first u e = both u ∙ or_left (is_among (v ∷ variables below) u) (is_among (variables beside) u) e
+    first u e = grind (arith, list_any-append)
 
     later : (u : ℕ) → is_among (variables beside) u ≡ true → is_among (variables (tree v below beside)) u ≡ true
-    later u e = both u ∙ or_right (is_among (v ∷ variables below) u) (is_among (variables beside) u) e
+    later u e = grind (arith, list_any-append)
 
     inside : (c : Clause) → meets (v ∷ variables below) c ≡ true → meets ws c ≡ true
     inside c e = meets_wider ws bound clauses lists h.known (v ∷ variables below) ws (λ u e. h.inside u (first u e)) c e
@@ -136,9 +124,6 @@ module _ (clauses : List Clause) (ws bound : List ℕ) (lists : List (List Bool)
 module _ (clauses : List Clause) (of : List (List ℕ)) (seen : List Bool) (found : IsIndex clauses of (length seen)) (v : ℕ) (below : Forest) (bound : List ℕ) (lists : List (List Bool)) (s : Stand)
     (h : IsItem clauses (record { v = v; below = below; bound = bound; lists = lists }) s) (before : IsBefore seen bound)
     (new : (u : ℕ) → is_among (v ∷ variables below) u ≡ true → bit_in seen u ≡ false) (once : is_once (v ∷ variables below) ≡ true) where
-  abbrev ws : List ℕ
-  ws = variables below
-
   abbrev clause : ℕ → Clause
   clause n = get_or clauses n []
 
@@ -179,39 +164,22 @@ module _ (clauses : List Clause) (of : List (List ℕ)) (seen : List Bool) (foun
   entry n = (met_if (entry_at clauses seen v) has n).entry
 
   own-has : (n : ℕ) → has_var v (clause n) ≡ true → meets (v ∷ variables below) (clause n) ≡ true
-  own-has n e = meets-more v (variables below) (clause n) ∙ or_left (has_var v (clause n)) (meets (variables below) (clause n)) e
-
-  fresh-is : (n : ℕ) → n < length clauses → has_var v (clause n) ≡ true → not (meets_marked seen (clause n)) ≡ not (is_open (v ∷ variables below) bound (clause n))
-  fresh-is n low e = grind (arith, meets-is n low, own-has n)
+  own-has n e = grind (arith, meets-more v (variables below) (clause n))
 
   met-is : met_at clauses of seen v s.opened ≡ map (met_if (entry_at clauses seen v) has) (filter (λ n. is_walked v (variables below) bound (clause n)) numbers_of)
   met-is =
       (λ j. met (entry_at clauses seen v) (found.each v j) (h.opened j))
-      ∙ met-either (entry_at clauses seen v) (λ n. is_open (v ∷ variables below) bound (clause n)) has 0 (length clauses) (λ n k e. fresh-is n (omega arith) e)
+      ∙ met-either (entry_at clauses seen v) (λ n. is_open (v ∷ variables below) bound (clause n)) has 0 (length clauses) (λ n k e. grind (arith, meets-is n (omega arith), own-has n))
       ∙ ap (map (met_if (entry_at clauses seen v) has)) (filter-within _ (λ n. is_walked v (variables below) bound (clause n)) 0 (length clauses)
-      (λ n k. either-way (has_var v (clause n)) (meets bound (clause n)) (meets (variables below) (clause n)) (meets (v ∷ variables below) (clause n)) (meets-more v (variables below) (clause n))))
-
-  -- A clause that does not have the variable does not end.
-  ends-if : (n : ℕ) → n < length clauses → (has_var v (clause n) || meets (variables below) (clause n)) ≡ true → (entry n).ends ≡ not (meets (variables below) (clause n))
-  ends-if n low e = grind (arith, ends-is n low, ends n low, own-has n)
+      (λ n k. grind (arith, meets-more v (variables below) (clause n))))
 
   table-is : table_at clauses of seen v s.opened ≡ table_of v (variables below) bound clauses
   table-is =
       ap entries_of met-is
       ∙ mapped-twice (λ m. m.entry) (met_if (entry_at clauses seen v) has) (filter (λ n. is_walked v (variables below) bound (clause n)) numbers_of)
-      ∙ map-within entry (λ n. entry_of v bound (clause n)) (λ n. is_walked v (variables below) bound (clause n)) 0 (length clauses) (λ n k e. same n (omega arith) (and_parts (has_var v (clause n) || meets bound (clause n)) (has_var v (clause n) || meets (variables below) (clause n)) e))
+      ∙ map-within entry (λ n. entry_of v bound (clause n)) (λ n. is_walked v (variables below) bound (clause n)) 0 (length clauses) (λ n k e. grind (arith, meets-is n (omega arith), ends-is n (omega arith), ends n (omega arith), meets-more v (variables below) (clause n), true-apart v false (clause n), true-apart v true (clause n)))
       ∙ sym (mapped-twice (entry_of v bound) clause (filter (λ n. is_walked v (variables below) bound (clause n)) numbers_of))
-      ∙ ap (map (entry_of v bound)) (sym (passing clauses (is_walked v (variables below) bound))) where
-        same : (n : ℕ) → n < length clauses → ((has_var v (clause n) || meets bound (clause n)) ≡ true) × ((has_var v (clause n) || meets (variables below) (clause n)) ≡ true) → entry n ≡ entry_of v bound (clause n)
-        same n low walked = grind (arith, meets-is n low, ends-is n low, ends n low, meets-more v (variables below) (clause n), true-apart v false (clause n), true-apart v true (clause n))
-
-  next-opened : kept_of (met_at clauses of seen v s.opened) ≡ filter (λ n. is_open (variables below) (v ∷ bound) (clause n)) numbers_of
-  next-opened =
-      ap kept_of met-is
-      ∙ kept-met (entry_at clauses seen v) has (filter (λ n. is_walked v (variables below) bound (clause n)) numbers_of)
-      ∙ filter-filter (λ n. not (entry n).ends) (λ n. is_walked v (variables below) bound (clause n)) numbers_of
-      ∙ filter-within _ (λ n. is_open (variables below) (v ∷ bound) (clause n)) 0 (length clauses)
-      (λ n k. next-way (has_var v (clause n)) (meets bound (clause n)) (meets (variables below) (clause n)) (entry n).ends (meets (v ∷ bound) (clause n)) (meets-more v bound (clause n)) (ends-if n (omega arith)))
+      ∙ ap (map (entry_of v bound)) (sym (passing clauses (is_walked v (variables below) bound)))
 
   pub base-is : IsBase clauses (variables below) below (v ∷ bound) (decided v (at bound clauses lists)).lists (stand_decided clauses of seen v s)
   base-is = record {
@@ -219,19 +187,16 @@ module _ (clauses : List Clause) (of : List (List ℕ)) (seen : List Bool) (foun
     free = apart;
     inside = λ u e. e;
     known = known-decided v below bound clauses ends-all lists h.known;
-    opened = next-opened;
+    opened = ap kept_of met-is
+        ∙ kept-met (entry_at clauses seen v) has (filter (λ n. is_walked v (variables below) bound (clause n)) numbers_of)
+        ∙ filter-filter (λ n. not (entry n).ends) (λ n. is_walked v (variables below) bound (clause n)) numbers_of
+        ∙ filter-within _ (λ n. is_open (variables below) (v ∷ bound) (clause n)) 0 (length clauses) (λ n k. grind (arith, meets-more v bound (clause n), ends-is n (omega arith), ends n (omega arith), own-has n));
     states = (λ j. decided_states (table-is j) (h.states j)) ∙ decided-mapped v below bound clauses ends-all lists h.known;
   }
 
   -- ---- the trees below
 
   module _ (nums : List ℕ) where
-    -- a variable of a clause that goes on
-    in-tree : (j : ℕ) (own : List ℕ) → ((u : ℕ) → is_among own u ≡ true → is_among (variables below) u ≡ true)
-        → ((u : ℕ) → u < length seen → is_among (variables below) u ≡ true → (get_or nums u 0 == j) ≡ is_among own u)
-        → (u : ℕ) → u < length seen → is_among (variables below ++ (v ∷ bound)) u ≡ true → is_in_tree (set seen v true) nums j u ≡ is_among own u
-    in-tree j own inside sides u low e = grind (arith, list_any-append, mark-bit seen v u low, apart u, new u, sides u low, inside u, before u low)
-
     goes-is : (j : ℕ) (own : List ℕ) → ((u : ℕ) → is_among own u ≡ true → is_among (variables below) u ≡ true)
         → ((u : ℕ) → u < length seen → is_among (variables below) u ≡ true → ((trees below == 1) || (get_or nums u 0 == j)) ≡ is_among own u)
         → (n : ℕ) → n < length clauses → is_open (variables below) (v ∷ bound) (clause n) ≡ true → goes_to clauses (trees below) (set seen v true) nums j n ≡ meets own (clause n)
@@ -242,13 +207,10 @@ module _ (clauses : List Clause) (of : List (List ℕ)) (seen : List Bool) (foun
       within : is_within (variables below ++ (v ∷ bound)) (clause n) ≡ true
       within = closed n low (meets-more v (variables below) (clause n) ∙ or_right (has_var v (clause n)) (meets (variables below) (clause n)) goes_on)
 
-      alone : (trees below == 1) ≡ true → (u : ℕ) → u < length seen → (b : Bool) → is_among (variables below) u ≡ b → is_among own u ≡ b
-      alone e u k b there = grind (arith, sides u k, inside u)
-
       by : (b : Bool) → (trees below == 1) ≡ b → (b || list_any (λ l. is_in_tree (set seen v true) nums j (var_of l)) (clause n)) ≡ meets own (clause n)
-      by true e = sym (any-same (variables below ++ (v ∷ bound)) (length seen) (is_among own) (is_among (variables below)) (λ u k _. alone e u k (is_among (variables below) u) refl) (clause n) (found.small n low) within ∙ goes_on)
+      by true e = sym (any-same (variables below ++ (v ∷ bound)) (length seen) (is_among own) (is_among (variables below)) (λ u k _. grind (arith, sides u k, inside u)) (clause n) (found.small n low) within ∙ goes_on)
       by false e = any-same (variables below ++ (v ∷ bound)) (length seen) (is_in_tree (set seen v true) nums j) (is_among own)
-          (in-tree j own inside (λ u k there. ap (λ x. x || (get_or nums u 0 == j)) (sym e) ∙ sides u k there)) (clause n) (found.small n low) within
+          (λ u k there. grind (arith, e, list_any-append, mark-bit seen v u k, apart u, new u, sides u k, inside u, before u k)) (clause n) (found.small n low) within
 
     next-before : IsBefore (set seen v true) (v ∷ bound)
     next-before u low there = grind (arith, mark-bit seen v u, before u, length-set seen v true)
@@ -263,7 +225,7 @@ module _ (clauses : List Clause) (of : List (List ℕ)) (seen : List Bool) (foun
     trees-are none j h sides = tt
     trees-are (tree x down beside) j h sides = (
       item-of clauses (variables below) (v ∷ bound) (decided v (at bound clauses lists)).lists (stand_decided clauses of seen v s) x down beside h (goes_to clauses (trees below) (set seen v true) nums j)
-          (goes-is j (x ∷ variables down) (λ u e. h.inside u (list_any-append (λ y. y == u) (x ∷ variables down) (variables beside) ∙ or_left (is_among (x ∷ variables down) u) (is_among (variables beside) u) e)) sides.0),
+          (goes-is j (x ∷ variables down) (λ u e. h.inside u (grind (arith, list_any-append))) sides.0),
       next-before,
       trees-are beside (j + 1) (base-beside clauses (variables below) (v ∷ bound) (decided v (at bound clauses lists)).lists (stand_decided clauses of seen v s) x down beside h) sides.1,
     )
@@ -274,7 +236,7 @@ module _ (clauses : List Clause) (of : List (List ℕ)) (seen : List Bool) (foun
     columns-are none j h sides = refl
     columns-are (tree x down beside) j h sides = λ i.
         column-is clauses (variables below) (v ∷ bound) (decided v (at bound clauses lists)).lists (stand_decided clauses of seen v s) x down beside h (goes_to clauses (trees below) (set seen v true) nums j)
-        (goes-is j (x ∷ variables down) (λ u e. h.inside u (list_any-append (λ y. y == u) (x ∷ variables down) (variables beside) ∙ or_left (is_among (x ∷ variables down) u) (is_among (variables beside) u) e)) sides.0) i
+        (goes-is j (x ∷ variables down) (λ u e. h.inside u (grind (arith, list_any-append))) sides.0) i
         ∷ columns-are beside (j + 1) (base-beside clauses (variables below) (v ∷ bound) (decided v (at bound clauses lists)).lists (stand_decided clauses of seen v s) x down beside h) sides.1 i
 
     pub forks-are : AreSides (trees below == 1) (variables below) nums (length seen) 0 below

@@ -226,11 +226,9 @@ module _ (weight : Weight) (all : List Step) (clauses : List Clause) (of : List 
 
 abbrev pub way-last : (weight : Weight) (all : List Step) (clauses : List Clause) (forest : Forest) (i : ℕ) (seen : List Bool) (found : List Forks) (sum : ℕ) (stands : List Stand) → Way weight all clauses forest i seen found sum stands → length all ≤ i
     → (found ≡ forks_on forest (root clauses)) × (sum ≡ forest_sum weight forest clauses)
-way-last weight all clauses forest i seen found sum stands way high = by way.0 way.1 way.2 where
-  by : (items : List Item) (later : Forest) → WayOf weight all clauses forest i seen found sum stands items later → (found ≡ forks_on forest (root clauses)) × (sum ≡ forest_sum weight forest clauses)
-  by [] none way = (sym (append-nil found) ∙ way.forks, omega (arith, way.total))
-  by [] (tree v below beside) way = absurd (omega (arith, ap length (sym way.steps ∙ drop_all i all high)))
-  by (it ∷ items) later way = absurd (omega (arith, ap length (sym way.steps ∙ drop_all i all high)))
+way-last weight all clauses forest i seen found sum stands ([], none, way) high = (sym (append-nil found) ∙ way.forks, omega (arith, way.total))
+way-last weight all clauses forest i seen found sum stands ([], tree v below beside, way) high = absurd (omega (arith, ap length (sym way.steps ∙ drop_all i all high)))
+way-last weight all clauses forest i seen found sum stands (it ∷ items, later, way) high = absurd (omega (arith, ap length (sym way.steps ∙ drop_all i all high)))
 
 -- ---- the first place
 

@@ -34,20 +34,10 @@ module _ (of : List (List ℕ)) (u v number : ℕ) (base : List ℕ) (c : Clause
   Goal next = get_or next v [] ≡ base ++ (if has_var v (take (k + 1) c) then number ∷ [] else [])
 
   pub had : (u ≡ v → ⊥) → Goal of
-  had other = was ∙ ap (λ b. base ++ (if b then number ∷ [] else [])) (sym (has-more v c k d low
-      ∙ ap (λ b. has_var v (take k c) || b) (ne_eqb v (var_of (get_or c k d)) (λ same. other (is ∙ sym same))) ∙ or-false (has_var v (take k c))))
+  had other = grind (arith, nat_tests, has-more v c k d low, other)
 
   pub has : vars_rise 0 c ≡ true → v < length of → Goal (set of u (get_or of u [] ++ number ∷ []))
-  has rise within = by (u == v) refl where
-    by : (b : Bool) → (u == v) ≡ b → Goal (set of u (get_or of u [] ++ number ∷ []))
-    by false e = get_or-set_other of u v (get_or of u [] ++ number ∷ []) [] (λ same. false≢true (sym e ∙ eq-eqb u v (sym same))) ∙ had (λ same. false≢true (sym e ∙ eq-eqb u v same))
-    by true e =
-        let same = eqb-true u v e in
-        let v_is = sym same ∙ is in
-        let none = ap (λ w. has_var w (take k c)) v_is ∙ (rise-new 0 c k d rise low).1 in
-        ap (λ w. get_or (set of w (get_or of w [] ++ number ∷ [])) v []) same ∙ get_or-set_same of v (get_or of v [] ++ number ∷ []) [] within
-        ∙ ap (λ ns. ns ++ number ∷ []) (was ∙ ap (λ b. base ++ (if b then number ∷ [] else [])) none ∙ append-nil base)
-        ∙ ap (λ b. base ++ (if b then number ∷ [] else [])) (sym (has-more v c k d low ∙ (λ j. none j || eq-eqb v (var_of (get_or c k d)) v_is j)))
+  has rise within = grind (arith, nat_tests, has-more v c k d low, rise-new 0 c k d rise low, get_or-set_same, get_or-set_other, append-nil)
 
 -- one clause more
 pub numbers-more : (p : ℕ → Bool) (n : ℕ) → filter p (range_with_len 0 n) ++ (if p n then n ∷ [] else []) ≡ filter p (range_with_len 0 (n + 1))

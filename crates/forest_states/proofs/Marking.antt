@@ -75,12 +75,9 @@ all-append (x ∷ xs) ys number m = all-append xs ys number (set m x number)
 
 -- within a tree
 within-numbered : (k b : ℕ) (f : Forest) (n : ℕ) (rest : List Step) (m : List ℕ) → k ≤ n + b → numbered k b (trees f + n) (steps_of f ++ rest) m ≡ numbered k b n rest (at_all (variables f) (b - 1) m)
-within-numbered k b none n rest m high = ap (λ x. numbered k b x rest m) (plain n) where
-  plain : (x : ℕ) → 0 + x ≡ x
-  plain x = omega arith
+within-numbered k b none n rest m high = let same : 0 + n ≡ n = omega arith in ap (λ x. numbered k b x rest m) same
 within-numbered k b (tree v below beside) n rest m high =
-    let next = set m v (b - 1) in
-    grind (arith, nat_tests, append_assoc, within-numbered k b below (trees beside + n) (steps_of beside ++ rest) next, within-numbered k b beside n rest (at_all (variables below) (b - 1) next), all-append)
+    grind (arith, nat_tests, append_assoc, within-numbered k b below (trees beside + n) (steps_of beside ++ rest) (set m v (b - 1)), within-numbered k b beside n rest (at_all (v ∷ variables below) (b - 1) m), all-append)
 
 pub numbered-none : (k begun : ℕ) (steps : List Step) (m : List ℕ) → numbered k begun 0 steps m ≡ m
 numbered-none k begun [] m = refl
@@ -90,8 +87,7 @@ numbered-none k begun (s ∷ steps) m = refl
 pub beside-numbered : (k j : ℕ) (f : Forest) (rest : List Step) (m : List ℕ) → k ≡ j + trees f → numbered k j (trees f) (steps_of f ++ rest) m ≡ sided j f m
 beside-numbered k j none rest m e = numbered-none k j rest m
 beside-numbered k j (tree v below beside) rest m e =
-    let next = set m v j in
-    grind (arith, nat_tests, append_assoc, within-numbered k (j + 1) below (trees beside) (steps_of beside ++ rest) next, beside-numbered k (j + 1) beside rest (at_all (variables below) j next))
+    grind (arith, nat_tests, append_assoc, within-numbered k (j + 1) below (trees beside) (steps_of beside ++ rest) (set m v j), beside-numbered k (j + 1) beside rest (at_all (v ∷ variables below) j m))
 
 -- what is read at a variable
 all-read : (vs : List ℕ) (number : ℕ) (m : List ℕ) (u : ℕ) → u < length m → get_or (at_all vs number m) u 0 ≡ (if is_among vs u then number else get_or m u 0)
@@ -113,8 +109,7 @@ sided-read : (f : Forest) (j : ℕ) (m : List ℕ) (u : ℕ) → u < length m �
 sided-read none j m u low once = refl
 sided-read (tree v below beside) j m u low once =
     let own = v ∷ variables below in
-    let next = at_all own j m in
-    grind (arith, sided-read beside (j + 1) next u, length-all own j m, once_back own (variables beside), once_apart own (variables beside) u once, all-read own j m u low, list_any-append)
+    grind (arith, sided-read beside (j + 1) (at_all own j m) u, length-all own j m, once_back own (variables beside), once_apart own (variables beside) u once, all-read own j m u low, list_any-append)
 
 -- the numbers say of each tree which variables it has
 abbrev pub AreSides : Bool → List ℕ → List ℕ → ℕ → ℕ → Forest → Type 0
@@ -127,13 +122,11 @@ are-from : (ws nums : List ℕ) (size j : ℕ) (f : Forest) → is_once (variabl
     → ((u : ℕ) → u < size → is_among ws u ≡ true → is_among (variables f) u ≡ false → get_or nums u 0 < j) → AreSides false ws nums size j f
 are-from ws nums size j none once own other = tt
 are-from ws nums size j (tree v below beside) once own other = (
-  (λ u low there. grind (arith, nat_tests, both u, own u low there, other u low there)),
+  (λ u low there. grind (arith, nat_tests, list_any-append, own u low there, other u low there)),
   are-from ws nums size (j + 1) beside (once_back (v ∷ variables below) (variables beside) once)
-      (λ u low there h. grind (arith, both u, own u low there, once_apart (v ∷ variables below) (variables beside) u once))
-      (λ u low there h. grind (arith, both u, own u low there, other u low there)),
-) where
-  both : (u : ℕ) → is_among ((v ∷ variables below) ++ variables beside) u ≡ (is_among (v ∷ variables below) u || is_among (variables beside) u)
-  both u = list_any-append (λ x. x == u) (v ∷ variables below) (variables beside)
+      (λ u low there h. grind (arith, list_any-append, own u low there, once_apart (v ∷ variables below) (variables beside) u once))
+      (λ u low there h. grind (arith, list_any-append, own u low there, other u low there)),
+)
 
 -- one alone has all of them
 only-are : (ws nums : List ℕ) (size j : ℕ) (f : Forest) → ((u : ℕ) → is_among ws u ≡ true → is_among (variables f) u ≡ true) → trees f ≡ 1 → AreSides true ws nums size j f

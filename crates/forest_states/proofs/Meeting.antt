@@ -96,10 +96,8 @@ module _ (entry : ℕ → Entry) (numbers : List ℕ) (i : ℕ) (opened : List �
 
   pub kept-next : (kept : List ℕ) → ((kept ++ take below opened) ++ (if not (entry n).ends then n ∷ [] else [])) ++ kept_of later ≡ kept ++ kept_of (met entry (drop i numbers) opened)
   kept-next kept =
+      let next : (if not (entry n).ends then n ∷ [] else []) ++ kept_of later ≡ kept_of (here entry n ∷ later) = grind arith in
       append_assoc (kept ++ take below opened) (if not (entry n).ends then n ∷ [] else []) (kept_of later)
       ∙ append_assoc kept (take below opened) ((if not (entry n).ends then n ∷ [] else []) ++ kept_of later)
-      ∙ ap (λ ns. kept ++ (take below opened ++ ns)) (by (entry n).ends)
-      ∙ ap (λ ns. kept ++ ns) (sym (ap kept_of met-next ∙ kept-after (take below opened) (here entry n ∷ later))) where
-        by : (b : Bool) → (if not b then n ∷ [] else []) ++ kept_of later ≡ map (λ m. m.number) (cond (not b) (here entry n ∷ filter (λ m. not m.entry.ends) later) (filter (λ m. not m.entry.ends) later))
-        by true = refl
-        by false = refl
+      ∙ ap (λ ns. kept ++ (take below opened ++ ns)) next
+      ∙ ap (λ ns. kept ++ ns) (sym (ap kept_of met-next ∙ kept-after (take below opened) (here entry n ∷ later)))

@@ -3,6 +3,7 @@ use Rattle.std.proofs.Common.{◌≡◌, ℕ, zero, suc, ◌+◌, Bool, true, fa
 use mir.Val.{bool_byte}
 use Rattle.std.specs.Prelude.{Option, if◌then◌else◌}
 use Rattle.std.proofs.lemmas.List.{append_assoc}
+use Rattle.std.proofs.Math.Seq.{drop-nil}
 use Rattle.state_rules.specs.Bits.{bit_in}
 use Rattle.forest_states.specs.declared.entries.Entry.{Entry}
 use Rattle.forest_states.specs.inner.BitLists.{first_bit, other_bits}
@@ -17,8 +18,7 @@ first-behind (b ∷ state) zero = refl
 first-behind (b ∷ state) (suc n) = first-behind state n
 
 others-behind : (state : List Bool) (n : ℕ) → other_bits (drop n state) ≡ drop (suc n) state
-others-behind [] zero = refl
-others-behind [] (suc n) = refl
+others-behind [] n = grind (arith, drop-nil {A = Bool} n)
 others-behind (b ∷ state) zero = refl
 others-behind (b ∷ state) (suc n) = others-behind state n
 

@@ -48,9 +48,6 @@ item-range zero a n d e = refl
 item-range (suc k) a zero d e = omega (arith, e)
 item-range (suc k) a (suc n) d e = item-range k (a + 1) n d (omega (arith, e))
 
-own-item : (k n : ℕ) → get_or (range_with_len 0 k) n n ≡ n
-own-item k n = item-range k 0 n n (omega arith)
-
 own-places : (ls : List (List Bool)) → AreDistinct ls → map (λ s. position_or_len (is_same s) ls) ls ≡ range_with_len 0 (length ls)
 own-places [] distinct = refl
 own-places (l ∷ ls) distinct = let rest = own-places ls distinct.1 in λ j. cond (not (pointwise-refl l j)) (1 + position_or_len (is_same l) ls) 0 ∷ later rest j where
@@ -108,4 +105,4 @@ module _ (clauses : List Clause) (trees : ℕ) (seen : List Bool) (numbers : Lis
       ∙ own-places s.states (subst AreDistinct once (distinct-different s.states)))
 
   pub whole-row : row_at (map (λ j. column_at clauses trees seen numbers j s) (range_with_len 0 trees)) ≡ (λ n. n ∷ [])
-  whole-row = ap row_at whole-columns ∙ (λ j n. own-item (length s.states) n j ∷ [])
+  whole-row = ap row_at whole-columns ∙ (λ j n. item-range (length s.states) 0 n n (omega arith) j ∷ [])

@@ -50,8 +50,7 @@ word-bit words bits at e h =
     ∙ ap (bit_in bits) (omega arith)
 
 pub byte-bit : (b : Bool) → bool_byte b ≡ number_of_bit b
-byte-bit true = refl
-byte-bit false = refl
+byte-bit b = grind arith
 
 pub no-bits : (n : ℕ) → words_of n [] ≡ replicate n 0
 no-bits zero = refl

@@ -128,10 +128,7 @@ module _ (v : ℕ) (below : Forest) (bound : List ℕ) (cs : List Clause) (ends 
   all-mapped : (lists : List (List Bool)) → AllByRecursion (IsKnown (v ∷ ws) bound cs) lists
       → flat_map (λ s. option_to_list (walked false (table_of v ws bound cs) s) ++ option_to_list (walked true (table_of v ws bound cs) s)) (map own_state lists) ≡ map base_state (flat_map either lists)
   all-mapped [] known = refl
-  all-mapped (l ∷ lists) known =
-      (λ i. (walked-mapped false l known.0 i ++ walked-mapped true l known.0 i) ++ all-mapped lists known.1 i)
-      ∙ ap (λ ss. ss ++ map base_state (flat_map either lists)) (sym (map-append base_state (alive_by false l) (alive_by true l)))
-      ∙ sym (map-append base_state (either l) (flat_map either lists))
+  all-mapped (l ∷ lists) known = grind (arith, walked-mapped false l known.0, walked-mapped true l known.0, map-append, all-mapped lists known.1)
 
   known-all : (lists : List (List Bool)) → AllByRecursion (IsKnown (v ∷ ws) bound cs) lists → AllByRecursion (IsKnown ws (v ∷ bound) cs) (flat_map either lists)
   known-all [] known = tt

@@ -76,9 +76,6 @@ sum-append weight clauses (x ∷ xs) ys = omega (arith, sum-append weight clause
 pub step-at : (all : List Step) (i : ℕ) (d x : Step) (ys : List Step) → drop i all ≡ x ∷ ys → get_or all i d ≡ x
 step-at all i d x ys e = grind (arith, get_or-drop i all 0 d)
 
-pub steps-more : (all : List Step) (i : ℕ) (x : Step) (ys : List Step) → drop i all ≡ x ∷ ys → drop (i + 1) all ≡ ys
-steps-more all i x ys e = sym (drop-drop 1 i all) ∙ ap (drop 1) e
-
 module _ (weight : Weight) (all : List Step) (clauses : List Clause) (of : List (List ℕ)) (seen : List Bool) (known : IsIndex clauses of (length seen)) (numbers : List ℕ) (size : length numbers ≡ length seen)
     (forest : Forest) (i : ℕ) (d : Step) (found : List Forks) (sum : ℕ) (s : Stand) (stands : List Stand) where
   abbrev After : Step → List Step → Type 0
@@ -104,14 +101,14 @@ module _ (weight : Weight) (all : List Step) (clauses : List Clause) (of : List 
           once = ap is_once ahead ∙ (and_parts (not (is_among tail v)) (is_once tail) way.once).1;
           new = λ u there. grind (arith, nat_tests, get_or-set_other, way.once, way.new u, ap (λ vs. is_among vs u) ahead);
           forks = append_assoc found (forks_below clauses of seen numbers step own_rest s ∷ []) _
-              ∙ (λ j. found ++ (forks_is j ∷ forks_ahead j)) ∙ way.forks;
+              ∙ (λ j. found ++ (forks-are clauses of seen known v below bound lists s way.are.0 way.are.1 here_new here_once nums sides j ∷ forks_ahead j)) ∙ way.forks;
           total = omega (arith, way.total, weight-is clauses of seen known v below bound lists s way.are.0 way.are.1 here_new here_once weight, sum-append weight clauses (new_items below) items, sum-on below);
         })) where
           own_rest : List Step
           own_rest = steps_of below ++ (steps_left items ++ steps_of later)
 
           rest_is : drop (i + 1) all ≡ steps_of below ++ (steps_left items ++ steps_of later)
-          rest_is = steps-more all i step _ way.steps ∙ append_assoc (steps_of below) (steps_left items) (steps_of later)
+          rest_is = sym (drop-drop 1 i all) ∙ ap (drop 1) way.steps ∙ append_assoc (steps_of below) (steps_left items) (steps_of later)
 
           tail : List ℕ
           tail = (variables below ++ variables_left items) ++ variables later
@@ -150,9 +147,6 @@ module _ (weight : Weight) (all : List Step) (clauses : List Clause) (of : List 
 
           ahead : variables_left (new_items below ++ items) ++ variables later ≡ (variables below ++ variables_left items) ++ variables later
           ahead = ap (λ vs. vs ++ variables later) (flat_map-append own_of (new_items below) items ∙ ap (λ vs. vs ++ variables_left items) (variables-on below))
-
-          forks_is : forks_below clauses of seen numbers step own_rest s ≡ forks_at v below (at bound clauses lists)
-          forks_is = forks-are clauses of seen known v below bound lists s way.are.0 way.are.1 here_new here_once nums sides
 
           forks_ahead : forks_left clauses (new_items below ++ items) ++ forks_on later (root clauses) ≡ (forks_on below (decided v (at bound clauses lists)) ++ forks_left clauses items) ++ forks_on later (root clauses)
           forks_ahead = ap (λ fs. fs ++ forks_on later (root clauses)) (flat_map-append (λ o. forks_at o.v o.below (place clauses o) ∷ forks_on o.below (decided o.v (place clauses o))) (new_items below) items ∙ ap (λ fs. fs ++ forks_left clauses items) (forks-on below))

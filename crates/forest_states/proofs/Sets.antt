@@ -43,11 +43,8 @@ place-ahead ks k more = by (is_among ks k) refl ∙ back where
   all : List (List Bool)
   all = ks ++ k ∷ []
 
-  there : is_among (different all) k ≡ true
-  there = among-different all k ∙ list_any-append (λ o. same_list o k) ks (k ∷ []) ∙ or_right (is_among ks k) (same_list k k || false) (or_left (same_list k k) false (pointwise-refl k))
-
   back : position_or_len (is_same k) (different all) ≡ position_or_len (is_same k) (different (all ++ more))
-  back = sym (place-front (is_same k) (different all) _ there) ∙ ap (position_or_len (is_same k)) (sym (different-append all more))
+  back = sym (place-front (is_same k) (different all) _ (among-different all k ∙ grind (arith, list_any-append, pointwise-refl k))) ∙ ap (position_or_len (is_same k)) (sym (different-append all more))
 
   by : (b : Bool) → is_among ks k ≡ b → position_or_len (is_same k) (different ks) ≡ position_or_len (is_same k) (different all)
   by true e = sym (place-front (is_same k) (different ks) _ (among-different ks k ∙ e)) ∙ ap (position_or_len (is_same k)) (sym (different-append ks (k ∷ [])))

@@ -201,14 +201,11 @@ module _ (clauses : List Clause) (of : List (List ℕ)) (seen : List Bool) (foun
         → ((u : ℕ) → u < length seen → is_among (variables below) u ≡ true → ((trees below == 1) || (get_or nums u 0 == j)) ≡ is_among own u)
         → (n : ℕ) → n < length clauses → is_open (variables below) (v ∷ bound) (clause n) ≡ true → goes_to clauses (trees below) (set seen v true) nums j n ≡ meets own (clause n)
     goes-is j own inside sides n low open_there = by (trees below == 1) refl where
-      goes_on : meets (variables below) (clause n) ≡ true
-      goes_on = (and_parts (meets (v ∷ bound) (clause n)) (meets (variables below) (clause n)) open_there).1
-
       within : is_within (variables below ++ (v ∷ bound)) (clause n) ≡ true
-      within = closed n low (meets-more v (variables below) (clause n) ∙ or_right (has_var v (clause n)) (meets (variables below) (clause n)) goes_on)
+      within = closed n low (grind (arith, meets-more v (variables below) (clause n)))
 
       by : (b : Bool) → (trees below == 1) ≡ b → (b || list_any (λ l. is_in_tree (set seen v true) nums j (var_of l)) (clause n)) ≡ meets own (clause n)
-      by true e = sym (any-same (variables below ++ (v ∷ bound)) (length seen) (is_among own) (is_among (variables below)) (λ u k _. grind (arith, sides u k, inside u)) (clause n) (found.small n low) within ∙ goes_on)
+      by true e = sym (any-same (variables below ++ (v ∷ bound)) (length seen) (is_among own) (is_among (variables below)) (λ u k _. grind (arith, sides u k, inside u)) (clause n) (found.small n low) within ∙ (and_parts (meets (v ∷ bound) (clause n)) (meets (variables below) (clause n)) open_there).1)
       by false e = any-same (variables below ++ (v ∷ bound)) (length seen) (is_in_tree (set seen v true) nums j) (is_among own)
           (λ u k there. grind (arith, e, list_any-append, mark-bit seen v u k, apart u, new u, sides u k, inside u, before u k)) (clause n) (found.small n low) within
 

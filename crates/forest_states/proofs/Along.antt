@@ -1,14 +1,14 @@
 -- One place of a forest: what happens to the states of its lists is what happens to the lists.
-use Rattle.std.proofs.Common.{◌≡◌, ℕ, ◌+◌, Bool, true, false, not, ◌||◌, cond, List, [], ◌∷◌, ◌++◌, map, Some, None, get_or, suc, refl, ap, sym, ◌∙◌, inl, inr, arith}
-use Rattle.std.specs.Prelude.{option_to_list, option_map, ◌==◌, if◌then◌else◌}
+use Rattle.std.proofs.Common.{◌≡◌, ℕ, Bool, true, false, not, cond, List, [], ◌∷◌, ◌++◌, map, Some, None, get_or, refl, ap, ◌∙◌, arith}
+use Rattle.std.specs.Prelude.{option_to_list, option_map, if◌then◌else◌}
 use Rattle.std.specs.List.{filter, flat_map, position_or_len, AllByRecursion}
-use Rattle.std.proofs.lemmas.Bool.{false≢true, or_left, or_right, or_cases}
+use Rattle.std.proofs.lemmas.Bool.{false≢true}
 use Rattle.std.proofs.lemmas.List.{map-append}
 use Rattle.std.proofs.lemmas.List.Folds.{list_any-append}
 use Rattle.state_rules.proofs.Bits.{pointwise-refl, pointwise-equal}
 use Rattle.state_rules.proofs.Lists.{AllByRecursion-append}
 use Rattle.clause_encoder.specs.Clauses.{Clause, var_of}
-use Rattle.elimination_forests.specs.Branches.{same_list, different, has_true, without, bits_of}
+use Rattle.elimination_forests.specs.Branches.{different, has_true, without, bits_of}
 use Rattle.elimination_forests.proofs.Counting.{among-different}
 use Rattle.elimination_forests.proofs.Lists.{is_among as is_listed, each-different}
 use Rattle.elimination_forests.specs.Forests.{Forest, none, tree, trees, variables, is_among, meets, Place, is_dead_by, decided, part_of, part, number_in, begins, way_by, forks_at}

@@ -3,19 +3,19 @@ use Rattle.std.proofs.Common.{◌≡◌, ℕ, ◌+◌, ◌≤◌, ◌<◌, set, 
 use mathlib.Core.Path.{transport}
 use Rattle.std.specs.Prelude.{◌==◌, if◌then◌else◌}
 use Rattle.std.specs.List.{flat_map, list_all, range_with_len}
-use Rattle.std.proofs.lemmas.Bool.{false≢true, and_parts, or_parts, or_left, or_right, not-true}
+use Rattle.std.proofs.lemmas.Bool.{false≢true, and_parts}
 use Rattle.std.proofs.lemmas.Bool.Decides.{nat_tests}
 use Rattle.std.proofs.lemmas.List.{append_assoc, append-nil, get_or-drop, drop-drop, drop_all, length-drop, length-set}
 use Rattle.std.proofs.lemmas.List.Concat.{flat_map-append}
 use Rattle.std.proofs.lemmas.List.Folds.{list_any-append}
 use Rattle.state_rules.specs.Bits.{bit_in}
 use Rattle.state_rules.proofs.Lists.{any-never, filter-never, list_all-at}
-use Rattle.clause_encoder.specs.Clauses.{Clause, ClauseList, is_clause, is_clause_list, var_of}
+use Rattle.clause_encoder.specs.Clauses.{Clause, ClauseList, is_clause, is_clause_list}
 use Rattle.elimination_forests.proofs.Ordering.{clauses-valid}
 use Rattle.elimination_forests.specs.declared.steps.Step.{Step}
 use Rattle.elimination_forests.specs.declared.steps.Weight.{Weight}
 use Rattle.elimination_forests.specs.declared.forks.Forks.{Forks}
-use Rattle.elimination_forests.specs.Forests.{Forest, none, tree, trees, steps_of, variables, is_among, meets, is_within, is_once, fits, is_along, is_forest_of, root, decided, part, weight_at, sum_on, forest_sum, forks_at, forks_on}
+use Rattle.elimination_forests.specs.Forests.{Forest, none, tree, trees, steps_of, variables, is_among, meets, is_once, fits, is_along, is_forest_of, root, decided, part, weight_at, sum_on, forest_sum, forks_at, forks_on}
 use Rattle.elimination_forests.proofs.Passing.{once_front}
 use Rattle.forest_states.specs.inner.Walked.{Stand, first_stand, or_first, step_at, numbers_at, stands_below, forks_below, weight_of}
 use Rattle.forest_states.proofs.Turned.{is_open}
@@ -91,19 +91,23 @@ module _ (weight : Weight) (all : List Step) (clauses : List Clause) (of : List 
     go : WayOf weight all clauses forest i seen found sum (s ∷ stands) (it ∷ items) later → After (get_or all i d) (drop (i + 1) all)
     go way =
         subst (λ x. After x (drop (i + 1) all)) (sym (step-at all i d step _ way.steps))
-        (subst (After step) (sym rest_is) (new_items below ++ items, later, record {
-          steps = rest_is ∙ sym (append_assoc (steps_of below) (steps_left items) (steps_of later))
-              ∙ ap (λ ss. (ss ++ steps_left items) ++ steps_of later) (sym (steps-on below)) ∙ ap (λ ss. ss ++ steps_of later) (sym (flat_map-append (λ x. (record { var = x.v; trees = trees x.below }) ∷ steps_of x.below) (new_items below) items));
-          are = items-append clauses (set seen v true) (new_items below) items _ stands
-              (trees-are clauses of seen known v below bound lists s way.are.0 way.are.1 here_new here_once nums below 0 (base-is clauses of seen known v below bound lists s way.are.0 way.are.1 here_new here_once) sides)
-              (items-marked clauses seen v (λ bs before u low there. grind (arith, mark-bit seen v u, before u, length-set seen v true)) items stands way.are.2);
-          base = way.base;
-          once = ap is_once ahead ∙ (and_parts (not (is_among tail v)) (is_once tail) way.once).1;
-          new = λ u there. grind (arith, nat_tests, get_or-set_other, way.once, way.new u, ap (λ vs. is_among vs u) ahead);
-          forks = append_assoc found (forks_below clauses of seen numbers step own_rest s ∷ []) _
-              ∙ (λ j. found ++ (forks-are clauses of seen known v below bound lists s way.are.0 way.are.1 here_new here_once nums sides j ∷ forks_ahead j)) ∙ way.forks;
-          total = omega (arith, way.total, weight-is clauses of seen known v below bound lists s way.are.0 way.are.1 here_new here_once weight, sum-append weight clauses (new_items below) items, sum-on below);
-        })) where
+        (subst (After step) (sym rest_is) (
+          new_items below ++ items,
+          later,
+          record {
+            steps = rest_is ∙ sym (append_assoc (steps_of below) (steps_left items) (steps_of later))
+                ∙ ap (λ ss. (ss ++ steps_left items) ++ steps_of later) (sym (steps-on below)) ∙ ap (λ ss. ss ++ steps_of later) (sym (flat_map-append (λ x. (record { var = x.v; trees = trees x.below }) ∷ steps_of x.below) (new_items below) items));
+            are = items-append clauses (set seen v true) (new_items below) items _ stands
+                (trees-are clauses of seen known v below bound lists s way.are.0 way.are.1 here_new here_once nums below 0 (base-is clauses of seen known v below bound lists s way.are.0 way.are.1 here_new here_once) sides)
+                (items-marked clauses seen v (λ bs before u low there. grind (arith, mark-bit seen v u, before u, length-set seen v true)) items stands way.are.2);
+            base = way.base;
+            once = ap is_once ahead ∙ (and_parts (not (is_among tail v)) (is_once tail) way.once).1;
+            new = λ u there. grind (arith, nat_tests, get_or-set_other, way.once, way.new u, ap (λ vs. is_among vs u) ahead);
+            forks = append_assoc found (forks_below clauses of seen numbers step own_rest s ∷ []) _
+                ∙ (λ j. found ++ (forks-are clauses of seen known v below bound lists s way.are.0 way.are.1 here_new here_once nums sides j ∷ forks_ahead j)) ∙ way.forks;
+            total = omega (arith, way.total, weight-is clauses of seen known v below bound lists s way.are.0 way.are.1 here_new here_once weight, sum-append weight clauses (new_items below) items, sum-on below);
+          },
+        )) where
           own_rest : List Step
           own_rest = steps_of below ++ (steps_left items ++ steps_of later)
 
@@ -168,8 +172,10 @@ pub way-begin : (weight : Weight) (all : List Step) (clauses : List Clause) (for
 way-begin weight all clauses forest i seen found sum low (it ∷ items, later, way) = absurd way.are
 way-begin weight all clauses forest i seen found sum low ([], none, way) = absurd (omega (arith, low, ap length way.steps, length-drop i all))
 way-begin weight all clauses forest i seen found sum low ([], tree v below beside, way) =
-      let same = ap (λ vs. vs ++ variables beside) (append-nil (v ∷ variables below)) in
-      ((record { v = v; below = below; bound = []; lists = (part (v ∷ variables below) (root clauses)).lists }) ∷ [], beside, record {
+    let same = ap (λ vs. vs ++ variables beside) (append-nil (v ∷ variables below)) in (
+      (record { v = v; below = below; bound = []; lists = (part (v ∷ variables below) (root clauses)).lists }) ∷ [],
+      beside,
+      record {
         steps = way.steps ∙ ap (λ ss. ss ++ steps_of beside) (sym (append-nil ((record { var = v; trees = trees below }) ∷ steps_of below)));
         are = (
           item-of clauses (variables forest) [] (root clauses).lists first_stand v below beside way.base (λ n. false) (λ n low e. absurd (false≢true (sym (none-open (variables forest) (get_or clauses n [])) ∙ e))),
@@ -181,7 +187,8 @@ way-begin weight all clauses forest i seen found sum low ([], tree v below besid
         new = λ u e. way.new u (ap (λ vs. is_among vs u) (sym same) ∙ e);
         forks = ap (λ fs. found ++ (fs ++ forks_on beside (root clauses))) (append-nil (forks_at v below (part (v ∷ variables below) (root clauses)) ∷ forks_on below (decided v (part (v ∷ variables below) (root clauses))))) ∙ way.forks;
         total = omega (arith, way.total);
-      })
+      },
+    )
 
 pub way-ready : (weight : Weight) (all : List Step) (clauses : List Clause) (forest : Forest) (i : ℕ) (seen : List Bool) (found : List Forks) (sum : ℕ) (stands : List Stand) → i < length all
     → Way weight all clauses forest i seen found sum stands → Way weight all clauses forest i seen found sum (or_first stands)
@@ -239,22 +246,26 @@ module _ (weight : Weight) (list : ClauseList) (valid : is_clause_list list ≡ 
   meets-some (l ∷ c) clause along off = absurd (grind (arith, along-closed forest [] (l ∷ c), append-nil (variables forest)))
 
   pub way-first : Way weight (steps_of forest) list.clauses forest 0 (replicate size false) [] 1 []
-  way-first = ([], forest, record {
-    steps = refl;
-    are = tt;
-    base = record {
-      along = λ n low e. list_all-at (is_along forest []) list.clauses n [] parts.1 low;
-      free = λ u e. refl;
-      inside = λ u e. e;
-      known = (known-root list.clauses (clauses-valid list valid).2 parts.1, tt);
-      opened = sym (filter-never (range_with_len 0 (length list.clauses))) ∙ filter-within (λ n. false) (λ n. is_open (variables forest) [] (get_or list.clauses n [])) 0 (length list.clauses) (λ n k. sym (none-open (variables forest) (get_or list.clauses n [])));
-      states = ap (λ x. x ∷ []) (no-bits list.clauses (map (λ c. true) list.clauses));
-    };
-    once = (and_parts (is_once (variables forest)) (list_all (fits list.vars) (variables forest)) parts.0).0;
-    new = λ u e. no-mark size u;
-    forks = refl;
-    total = omega arith;
-  }) where
+  way-first = (
+    [],
+    forest,
+    record {
+      steps = refl;
+      are = tt;
+      base = record {
+        along = λ n low e. list_all-at (is_along forest []) list.clauses n [] parts.1 low;
+        free = λ u e. refl;
+        inside = λ u e. e;
+        known = (known-root list.clauses (clauses-valid list valid).2 parts.1, tt);
+        opened = sym (filter-never (range_with_len 0 (length list.clauses))) ∙ filter-within (λ n. false) (λ n. is_open (variables forest) [] (get_or list.clauses n [])) 0 (length list.clauses) (λ n k. sym (none-open (variables forest) (get_or list.clauses n [])));
+        states = ap (λ x. x ∷ []) (no-bits list.clauses (map (λ c. true) list.clauses));
+      };
+      once = (and_parts (is_once (variables forest)) (list_all (fits list.vars) (variables forest)) parts.0).0;
+      new = λ u e. no-mark size u;
+      forks = refl;
+      total = omega arith;
+    },
+  ) where
     known-root : (cs : List Clause) → list_all (is_clause list.vars) cs ≡ true → list_all (is_along forest []) cs ≡ true → IsKnown (variables forest) [] cs (map (λ c. true) cs)
     known-root [] e f = tt
     known-root (c ∷ cs) e f =

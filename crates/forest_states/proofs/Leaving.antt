@@ -1,16 +1,14 @@
 -- What a bit of a variable leaves of a list, and the parts of a list, by the bits of the open clauses.
-use Rattle.std.proofs.Common.{arith, ◌≡◌, ℕ, Bool, true, false, not, ◌&&◌, ◌||◌, cond, List, [], ◌∷◌, map, Some, None, refl, ap, sym, ◌∙◌}
+use Rattle.std.proofs.Common.{arith, ◌≡◌, ℕ, Bool, true, false, not, ◌&&◌, ◌||◌, List, [], ◌∷◌, map, Some, None, refl}
 use Rattle.std.specs.Prelude.{Option, if◌then◌else◌}
 use Rattle.std.specs.List.{filter, AllByRecursion}
-use Rattle.std.proofs.Math.Bool.{and-true, not-not}
-use Rattle.std.proofs.lemmas.Bool.{false≢true, and_parts, and_right, and_left, or_parts, or_from, or_left, or_right, and_from}
+use Rattle.std.proofs.lemmas.Bool.{or_parts}
 use Rattle.clause_encoder.specs.Clauses.{Clause}
 use Rattle.elimination_forests.specs.Branches.{has_true, without, some_passes, bits_of}
 use Rattle.elimination_forests.specs.Forests.{meets, is_within}
 use Rattle.forest_states.specs.declared.entries.Entry.{Entry}
-use Rattle.forest_states.specs.inner.BitLists.{first_bit, other_bits}
 use Rattle.forest_states.specs.inner.Tables.{true_at}
-use Rattle.forest_states.specs.inner.Walked.{has_var, ended, walked, picked}
+use Rattle.forest_states.specs.inner.Walked.{ended, walked, picked}
 use Rattle.forest_states.proofs.Turned.{is_open, is_walked, meets-more, true-apart}
 
 -- what is known of the lists of a tree with these variables: a clause that does not meet them is in none, and an untouched one in each
@@ -66,12 +64,11 @@ module _ (v : ℕ) (ws bound : List ℕ) (bit : Bool) where
   known-next [] [] ends known alive = tt
   known-next [] (b ∷ list) ends known alive = absurd known
   known-next (c ∷ cs) [] ends known alive = absurd known
-  known-next (c ∷ cs) (b ∷ list) ends known alive =
-      let lives = or_parts ((b && not (has_true v bit c)) && is_within (v ∷ bound) c) (some_passes (is_within (v ∷ bound)) cs (without (has_true v bit) cs list)) alive in (
-        (λ n. grind (arith, known.0, ends.0, lives.0)),
-        (λ m n. grind (arith, known.1, meets-more v ws c, meets-more v bound c, true-apart v bit c)),
-        known-next cs list ends.1 known.2 lives.1,
-      )
+  known-next (c ∷ cs) (b ∷ list) ends known alive = (
+    (λ n. grind (arith, known.0, ends.0, alive)),
+    (λ m n. grind (arith, known.1, meets-more v ws c, meets-more v bound c, true-apart v bit c)),
+    known-next cs list ends.1 known.2 (grind (arith, alive)),
+  )
 
 -- ---- lists and their bits at open clauses
 

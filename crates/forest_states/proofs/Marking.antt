@@ -1,8 +1,8 @@
 -- Which variables are marked, and in which trees the others are.
-use Rattle.std.proofs.Common.{◌≡◌, ℕ, zero, suc, ◌+◌, ◌-◌, ◌<◌, ◌≤◌, Bool, true, false, not, ◌&&◌, ◌||◌, List, [], ◌∷◌, ◌++◌, length, drop, set, replicate, get_or, get_or-set_same, get_or-set_other, refl, ap, sym, ◌∙◌, arith}
+use Rattle.std.proofs.Common.{◌≡◌, ℕ, zero, suc, ◌+◌, ◌-◌, ◌<◌, ◌≤◌, Bool, true, false, not, ◌||◌, List, [], ◌∷◌, ◌++◌, length, drop, set, replicate, get_or, get_or-set_same, get_or-set_other, refl, ap, sym, ◌∙◌, arith}
 use Rattle.std.specs.Prelude.{◌==◌, nat_lt, if◌then◌else◌}
 use Rattle.std.specs.List.{list_any, list_all}
-use Rattle.std.proofs.lemmas.Bool.{false≢true, and_parts, and_from, or_from, or_left, or_right, eqb-true, eq-eqb, ne_eqb, ltb-true, false_from_ne_true}
+use Rattle.std.proofs.lemmas.Bool.{false≢true, eqb-true, ne_eqb}
 use Rattle.std.proofs.lemmas.Bool.Decides.{nat_tests}
 use Rattle.std.proofs.lemmas.List.{append_assoc, append-nil, length-set, drop_more}
 use Rattle.std.proofs.lemmas.List.Folds.{list_any-append}
@@ -149,6 +149,4 @@ sides-are below rest m once = by (trees below == 1) refl where
 pub numbered-more : (k begun left : ℕ) (steps : List Step) (m : List ℕ) (i : ℕ) (d : Step) → i < length steps → (left ≡ 0 → ⊥)
     → numbered k begun left (drop i steps) m
     ≡ numbered k (begun_at k begun left) (left - 1 + (get_or steps i d).trees) (drop (i + 1) steps) (set m (get_or steps i d).var (begun_at k begun left - 1))
-numbered-more k begun left steps m i d low some =
-    ap (λ ss. numbered k begun left ss m) (drop_more steps i d low)
-    ∙ ap (λ b. if b then m else numbered k (begun_at k begun left) (left - 1 + (get_or steps i d).trees) (drop (i + 1) steps) (set m (get_or steps i d).var (begun_at k begun left - 1))) (ne_eqb left 0 some)
+numbered-more k begun left steps m i d low some = grind (arith, nat_tests, drop_more steps i d low)

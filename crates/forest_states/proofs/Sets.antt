@@ -1,14 +1,13 @@
 -- Different lists one after the other.
-use Rattle.std.proofs.Common.{◌≡◌, ℕ, ◌+◌, ◌<◌, Bool, true, false, not, ◌||◌, cond, List, [], ◌∷◌, ◌++◌, map, length, take, drop, get_or, Some, None, refl, ap, sym, ◌∙◌, arith}
+use Rattle.std.proofs.Common.{◌≡◌, ℕ, ◌+◌, ◌<◌, Bool, true, false, not, cond, List, [], ◌∷◌, ◌++◌, map, length, take, drop, get_or, Some, None, refl, ap, sym, ◌∙◌, arith}
 use Rattle.std.specs.Prelude.{Option, option_to_list, slice_get}
 use Rattle.std.specs.List.{flat_map, position_or_len}
-use Rattle.std.proofs.lemmas.Bool.{or_right, or_left}
 use Rattle.std.proofs.lemmas.List.{append_assoc, append-nil, take-append-drop, get_or-map, length-map, take_more, map-append}
 use Rattle.std.proofs.lemmas.List.Concat.{flat_map-append}
 use Rattle.std.proofs.lemmas.List.Folds.{list_any-append}
 use Rattle.std.proofs.lemmas.Option.{slice_get_within, slice_get_read, get_or_from_slice_get}
 use Rattle.state_rules.proofs.Bits.{pointwise-refl}
-use Rattle.elimination_forests.specs.Branches.{same_list, different}
+use Rattle.elimination_forests.specs.Branches.{different}
 use Rattle.elimination_forests.proofs.Counting.{among-different}
 use Rattle.elimination_forests.proofs.Lists.{is_among, different-append}
 use Rattle.elimination_forests.proofs.Finding.{place-front}

@@ -1,18 +1,16 @@
 -- What a table does to clauses, by its events.
-use Rattle.std.proofs.Common.{◌≡◌, ℕ, zero, suc, ◌+◌, ◌<◌, ◌≤◌, Bool, true, false, not, ◌&&◌, ◌||◌, List, [], ◌∷◌, ◌++◌, map, length, take, drop, get_or, replicate, Some, None, refl, ap, sym, ◌∙◌, arith}
+use Rattle.std.proofs.Common.{◌≡◌, ℕ, zero, suc, ◌+◌, ◌<◌, ◌≤◌, Bool, true, false, not, ◌&&◌, ◌||◌, List, [], ◌∷◌, ◌++◌, map, length, take, drop, get_or, replicate, Some, refl, ap, sym, ◌∙◌, arith}
 use mir.Val.{bool_byte}
 use Rattle.std.specs.Prelude.{Option}
 use Rattle.std.specs.Option.{unwrap_or}
-use Rattle.std.proofs.Math.Bool.{and-true}
-use Rattle.std.proofs.lemmas.Bool.{false≢true}
 use Rattle.std.proofs.lemmas.List.{length-append, length-replicate, replicate-append-replicate, append_assoc, take_all, drop-drop, drop_more}
 use Rattle.std.proofs.Math.Seq.{drop-nil}
 use Rattle.state_rules.specs.Bits.{bit_in}
 use Rattle.forest_states.specs.declared.entries.Entry.{Entry}
 use Rattle.forest_states.specs.declared.entries.Event.{Event}
-use Rattle.forest_states.specs.inner.BitLists.{first_bit, other_bits, copied}
+use Rattle.forest_states.specs.inner.BitLists.{other_bits, copied}
 use Rattle.forest_states.specs.inner.Tables.{true_at, plain, is_plain, spread, pick_entry}
-use Rattle.forest_states.specs.inner.Walked.{with_bit, ended, walked, picked, picked_by}
+use Rattle.forest_states.specs.inner.Walked.{ended, walked, picked, picked_by}
 use Rattle.forest_states.proofs.Sets.{behind}
 use Rattle.forest_states.proofs.Walks.{walked-entry}
 

@@ -1,21 +1,18 @@
 -- A place of a forest as its open clauses and its states show it, and what becomes of these at the places right below.
-use Rattle.std.proofs.Common.{◌≡◌, ℕ, ◌+◌, ◌*◌, ◌<◌, Bool, true, false, not, ◌&&◌, ◌||◌, List, [], ◌∷◌, ◌++◌, map, length, set, get_or, refl, ap, sym, ◌∙◌, arith, ◌⊎◌, inl, inr}
-use Rattle.std.specs.Prelude.{◌==◌, if◌then◌else◌}
+use Rattle.std.proofs.Common.{◌≡◌, ℕ, ◌+◌, ◌*◌, ◌<◌, Bool, true, false, not, ◌||◌, List, [], ◌∷◌, ◌++◌, map, length, set, get_or, refl, ap, sym, ◌∙◌, arith}
+use Rattle.std.specs.Prelude.{◌==◌}
 use Rattle.std.specs.List.{filter, list_any, range_with_len, AllByRecursion}
-use Rattle.std.proofs.Math.Bool.{and-true, or-false, not-not}
-use Rattle.std.proofs.lemmas.Bool.{false≢true, and_parts, or_parts, and_left, and_right, or_from, or_left, or_right, or_cases, not-true, false_from_ne_true, eqb-true}
+use Rattle.std.proofs.lemmas.Bool.{and_parts, or_right}
 use Rattle.std.proofs.lemmas.Bool.Decides.{nat_tests}
 use Rattle.std.proofs.lemmas.List.{length-map, length-set}
 use Rattle.std.proofs.lemmas.List.Folds.{list_any-append}
 use Rattle.state_rules.specs.Bits.{bit_in}
 use Rattle.state_rules.proofs.Lists.{filter-filter}
 use Rattle.clause_encoder.specs.Clauses.{Clause, var_of}
-use Rattle.elimination_forests.specs.Branches.{has_true}
 use Rattle.elimination_forests.specs.declared.steps.Weight.{Weight}
 use Rattle.elimination_forests.specs.Forests.{Forest, none, tree, trees, variables, is_among, meets, is_within, is_once, is_along, Place, decided, part, weigh, weight_at, forks_at}
 use Rattle.forest_states.specs.inner.Walked.{has_var, meets_marked, within_marked, is_in_tree, goes_to, entry_at, met, entries_of, kept_of, Stand, met_at, table_at, decided_states, decided_forks, part_states, column, row_at, forks_found, stand_decided, stand_part, column_at, weight_of}
 use Rattle.forest_states.specs.declared.entries.Entry.{Entry}
-use Rattle.forest_states.specs.inner.Tables.{plain}
 use Rattle.forest_states.proofs.Turned.{is_open, is_walked, meets-more, true-apart}
 use Rattle.forest_states.proofs.Leaving.{IsKnown, Ends, entry_of, table_of}
 use Rattle.forest_states.proofs.Mapped.{mapped-twice}

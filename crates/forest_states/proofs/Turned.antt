@@ -1,11 +1,9 @@
 -- What a bit of a variable does to one clause.
-use Rattle.std.proofs.Common.{arith, ◌≡◌, ℕ, Bool, true, false, ◌&&◌, ◌||◌, List, [], ◌∷◌, refl, ap, sym, ◌∙◌}
-use Rattle.std.specs.Prelude.{◌==◌}
+use Rattle.std.proofs.Common.{arith, ◌≡◌, ℕ, Bool, false, ◌&&◌, ◌||◌, List, [], ◌∷◌, refl}
 use Rattle.std.proofs.lemmas.Bool.Decides.{nat_tests}
-use Rattle.state_rules.specs.Bits.{same_bit}
-use Rattle.clause_encoder.specs.Clauses.{Clause, var_of, is_positive}
-use Rattle.elimination_forests.specs.Branches.{has_true, is_true_by}
-use Rattle.elimination_forests.specs.Forests.{is_among, meets}
+use Rattle.clause_encoder.specs.Clauses.{Clause}
+use Rattle.elimination_forests.specs.Branches.{has_true}
+use Rattle.elimination_forests.specs.Forests.{meets}
 use Rattle.forest_states.specs.inner.Walked.{has_var}
 
 -- the clause has begun, and goes on in the tree

@@ -1,5 +1,5 @@
 -- A state gone over bit by bit.
-use Rattle.std.proofs.Common.{◌≡◌, ℕ, zero, suc, ◌+◌, Bool, true, false, not, ◌&&◌, ◌||◌, List, [], ◌∷◌, ◌++◌, drop, Some, None, refl, ap, sym, ◌∙◌, arith}
+use Rattle.std.proofs.Common.{◌≡◌, ℕ, zero, suc, ◌+◌, Bool, true, false, not, ◌&&◌, ◌||◌, List, [], ◌∷◌, ◌++◌, drop, None, refl, ap, sym, ◌∙◌, arith}
 use mir.Val.{bool_byte}
 use Rattle.std.specs.Prelude.{Option, if◌then◌else◌}
 use Rattle.std.proofs.lemmas.List.{append_assoc}
@@ -8,7 +8,7 @@ use Rattle.state_rules.specs.Bits.{bit_in}
 use Rattle.forest_states.specs.declared.entries.Entry.{Entry}
 use Rattle.forest_states.specs.inner.BitLists.{first_bit, other_bits}
 use Rattle.forest_states.specs.inner.Tables.{true_at}
-use Rattle.forest_states.specs.inner.Walked.{with_bit, ended, walked}
+use Rattle.forest_states.specs.inner.Walked.{ended, walked}
 use Rattle.forest_states.proofs.Sets.{behind}
 
 first-behind : (state : List Bool) (n : ℕ) → first_bit (drop n state) ≡ bit_in state n

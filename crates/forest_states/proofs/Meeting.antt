@@ -88,16 +88,7 @@ module _ (entry : ℕ → Entry) (numbers : List ℕ) (i : ℕ) (opened : List �
   met-next = ap (λ ns. met entry ns opened) (drop_more numbers i 0 low)
 
   pub entries-next : (table : List Entry) → ((table ++ replicate below plain) ++ entry n ∷ []) ++ entries_of later ≡ table ++ entries_of (met entry (drop i numbers) opened)
-  entries-next table =
-      append_assoc (table ++ replicate below plain) (entry n ∷ []) (entries_of later)
-      ∙ append_assoc table (replicate below plain) (entry n ∷ entries_of later)
-      ∙ ap (λ k. table ++ (replicate k plain ++ (entry n ∷ entries_of later))) (sym (length-take-le below opened (prefix_len-le-length (λ o. nat_lt o n) opened)))
-      ∙ ap (λ es. table ++ es) (sym (ap entries_of met-next ∙ entries-after (take below opened) (here entry n ∷ later)))
+  entries-next table = grind (arith, append_assoc, met-next, entries-after (take below opened) (here entry n ∷ later), length-take-le below opened (prefix_len-le-length (λ o. nat_lt o n) opened))
 
   pub kept-next : (kept : List ℕ) → ((kept ++ take below opened) ++ (if not (entry n).ends then n ∷ [] else [])) ++ kept_of later ≡ kept ++ kept_of (met entry (drop i numbers) opened)
-  kept-next kept =
-      let next : (if not (entry n).ends then n ∷ [] else []) ++ kept_of later ≡ kept_of (here entry n ∷ later) = grind arith in
-      append_assoc (kept ++ take below opened) (if not (entry n).ends then n ∷ [] else []) (kept_of later)
-      ∙ append_assoc kept (take below opened) ((if not (entry n).ends then n ∷ [] else []) ++ kept_of later)
-      ∙ ap (λ ns. kept ++ (take below opened ++ ns)) next
-      ∙ ap (λ ns. kept ++ ns) (sym (ap kept_of met-next ∙ kept-after (take below opened) (here entry n ∷ later)))
+  kept-next kept = grind (arith, append_assoc, met-next, kept-after (take below opened) (here entry n ∷ later))

@@ -4,7 +4,7 @@ use Rattle.std.specs.Prelude.{nat_lt}
 use Rattle.std.specs.List.{filter, list_all, range_with_len, AllByRecursion}
 use Rattle.std.proofs.lemmas.List.{map-append, reverse-append}
 use Rattle.std.proofs.lemmas.List.{ext_get_or}
-use Rattle.std.proofs.lemmas.List.FromFn.{get_or-map-range_with_len, length-map-range_with_len}
+use Rattle.std.proofs.lemmas.List.FromFn.{get_or-map-range_with_len, length-map-range_with_len, map-range_with_len_more}
 use Rattle.state_rules.proofs.Lists.{range_more}
 use Rattle.clause_encoder.specs.Clauses.{Clause, var_of}
 use Rattle.forest_states.specs.inner.Walked.{has_var}
@@ -37,9 +37,6 @@ each-at P (c ∷ cs) h = (h 0 (omega arith), each-at P cs (λ n low. h (suc n) (
 
 -- ---- numbers counted down
 
-pub mapped-on : {X : Type 0} (g : ℕ → X) (n : ℕ) → map g (range_with_len 0 n) ++ g n ∷ [] ≡ map g (range_with_len 0 (n + 1))
-mapped-on g n = ap (λ m. map g (range_with_len 0 n) ++ g m ∷ []) (omega arith) ∙ sym (map-append g (range_with_len 0 n) ((0 + n) ∷ [])) ∙ ap (map g) (sym (range_more 0 n))
-
 back : {X : Type 0} (f : ℕ → X) (k n : ℕ) → n ≤ k → reverse (map (λ i. f (k - 1 - i)) (range_with_len 0 n)) ≡ map f (range_with_len (k - n) n)
 back f k zero low = refl
 back f k (suc n) low =
@@ -47,7 +44,7 @@ back f k (suc n) low =
     let first : k - 1 - n ≡ k - suc n = omega (arith, low) in
     let next : k - n ≡ k - suc n + 1 = omega (arith, low) in
     ap (λ m. reverse (map g (range_with_len 0 m))) (sym (add-one n))
-    ∙ ap reverse (sym (mapped-on g n))
+    ∙ ap reverse (map-range_with_len_more g 0 n n (omega arith))
     ∙ reverse-append (map g (range_with_len 0 n)) (g n ∷ [])
     ∙ (λ j. f (first j) ∷ (back f k n (omega (arith, low)) ∙ ap (λ a. map f (range_with_len a n)) next) j)
 

@@ -70,17 +70,10 @@ module _ (f g : List Bool → Option (List Bool)) (states : List (List Bool)) wh
   later k = flat_map both (drop (k + 1) states)
 
   reached-more : (k : ℕ) (s : List Bool) → slice_get states k ≡ Some s → (reached k ++ option_to_list (f s)) ++ option_to_list (g s) ≡ reached (k + 1)
-  reached-more k s at =
-      append_assoc (reached k) (option_to_list (f s)) (option_to_list (g s))
-      ∙ ap (λ ls. reached k ++ ls) (sym (append-nil (both s)))
-      ∙ sym (flat_map-append both (take k states) (s ∷ []))
-      ∙ ap (flat_map both) (sym (take-more states k s at))
+  reached-more k s at = grind (arith, append_assoc, append-nil, flat_map-append, take-more states k s at)
 
   all-three : (k : ℕ) (s : List Bool) → slice_get states k ≡ Some s → ((reached k ++ option_to_list (f s)) ++ option_to_list (g s)) ++ later k ≡ flat_map both states
-  all-three k s at =
-      ap (λ ls. ls ++ later k) (reached-more k s at)
-      ∙ sym (flat_map-append both (take (k + 1) states) (drop (k + 1) states))
-      ∙ ap (flat_map both) (take-append-drop (k + 1) states)
+  all-three k s at = grind (arith, reached-more k s at, flat_map-append both (take (k + 1) states) (drop (k + 1) states), take-append-drop (k + 1) states)
 
   pub first-lead : (k : ℕ) (s : List Bool) → slice_get states k ≡ Some s → lead (different (reached k)) (f s) ≡ lead (different (flat_map both states)) (f s)
   first-lead k s at =

@@ -25,11 +25,9 @@ overflow_add-next-in-loop-event c = omega (arith, c.requires, told-within c.args
 
 pub push-requires : goal.push-requires
 push-requires c =
-    let es = c.args.events.now in
-    let k = c.loop-event.event-index in
-    let run = (get_or es k none).run in
-    let more = copied (get_or c.args.events.now c.loop-event.event-index none).run (drop c.loop-event.next c.args.state.now) in
-    omega (arith, c.requires, told-within es c.args.rest (k + 1), told-more es k none c.loop-event-test.true, c.loop-event.invariant.short, ap length c.in_ok-append.ensures, length-append c.loop-event.left more, length-copied run (drop c.loop-event.next c.args.state.now))
+    let e = get_or c.args.events.now c.loop-event.event-index none in
+    let from = drop c.loop-event.next c.args.state.now in
+    omega (arith, c.requires, told-within c.args.events.now c.args.rest (c.loop-event.event-index + 1), told-more c.args.events.now c.loop-event.event-index none c.loop-event-test.true, c.loop-event.invariant.short, ap length c.in_ok-append.ensures, length-append c.loop-event.left (copied e.run from), length-copied e.run from)
 
 pub returns-then-is_left : goal.returns-then-is_left
 returns-then-is_left c =

@@ -2,7 +2,6 @@
 use Rattle.std.proofs.Common.{arith, ◌≡◌, ℕ, Bool, true, false, not, ◌&&◌, ◌||◌, List, [], ◌∷◌, map, Some, None, refl}
 use Rattle.std.specs.Prelude.{Option, if◌then◌else◌}
 use Rattle.std.specs.List.{filter, AllByRecursion}
-use Rattle.std.proofs.lemmas.Bool.{or_parts}
 use Rattle.clause_encoder.specs.Clauses.{Clause}
 use Rattle.elimination_forests.specs.Branches.{has_true, without, some_passes, bits_of}
 use Rattle.elimination_forests.specs.Forests.{meets, is_within}

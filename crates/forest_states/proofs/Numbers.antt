@@ -1,11 +1,10 @@
 -- Clauses by their numbers.
-use Rattle.std.proofs.Common.{◌≡◌, ℕ, zero, suc, ◌+◌, ◌<◌, ◌≤◌, ◌-◌, Bool, true, cond, List, [], ◌∷◌, ◌++◌, map, length, reverse, get_or, add-one, refl, ap, sym, ◌∙◌, arith}
+use Rattle.std.proofs.Common.{◌≡◌, ℕ, zero, suc, ◌+◌, ◌<◌, ◌≤◌, ◌-◌, Bool, true, cond, List, [], ◌∷◌, map, length, reverse, get_or, add-one, refl, ap, sym, ◌∙◌, arith}
 use Rattle.std.specs.Prelude.{nat_lt}
 use Rattle.std.specs.List.{filter, list_all, range_with_len, AllByRecursion}
-use Rattle.std.proofs.lemmas.List.{map-append, reverse-append}
+use Rattle.std.proofs.lemmas.List.{reverse-append}
 use Rattle.std.proofs.lemmas.List.{ext_get_or}
 use Rattle.std.proofs.lemmas.List.FromFn.{get_or-map-range_with_len, length-map-range_with_len, map-range_with_len_more}
-use Rattle.state_rules.proofs.Lists.{range_more}
 use Rattle.clause_encoder.specs.Clauses.{Clause, var_of}
 use Rattle.forest_states.specs.inner.Walked.{has_var}
 

@@ -1,4 +1,4 @@
-use Rattle.std.proofs.Common.{sym, ◌≡◌, Bool, List, [], ◌∷◌, ◌++◌, length, refl, ap, ◌∙◌, arith}
+use Rattle.std.proofs.Common.{sym, ◌++◌, ap, ◌∙◌, arith}
 use Rattle.std.proofs.lemmas.List.{nil_from_length}
 use Rattle.forest_states.proofs.entries.list_of.Goals as goal
 use Rattle.forest_states.proofs.entries.list_of.Goals.{then-count-gt0+in_ok-put, else-count-gt0}

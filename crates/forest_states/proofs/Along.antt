@@ -1,14 +1,14 @@
 -- One place of a forest: what happens to the states of its lists is what happens to the lists.
-use Rattle.std.proofs.Common.{◌≡◌, ℕ, ◌+◌, Bool, true, false, not, ◌||◌, cond, List, [], ◌∷◌, ◌++◌, map, Some, None, get_or, suc, refl, ap, sym, ◌∙◌, inl, inr, arith}
-use Rattle.std.specs.Prelude.{option_to_list, option_map, ◌==◌, if◌then◌else◌}
+use Rattle.std.proofs.Common.{◌≡◌, ℕ, Bool, true, false, not, cond, List, [], ◌∷◌, ◌++◌, map, Some, None, get_or, refl, ap, ◌∙◌, arith}
+use Rattle.std.specs.Prelude.{option_to_list, option_map, if◌then◌else◌}
 use Rattle.std.specs.List.{filter, flat_map, position_or_len, AllByRecursion}
-use Rattle.std.proofs.lemmas.Bool.{false≢true, or_left, or_right, or_cases}
+use Rattle.std.proofs.lemmas.Bool.{false≢true}
 use Rattle.std.proofs.lemmas.List.{map-append}
 use Rattle.std.proofs.lemmas.List.Folds.{list_any-append}
 use Rattle.state_rules.proofs.Bits.{pointwise-refl, pointwise-equal}
 use Rattle.state_rules.proofs.Lists.{AllByRecursion-append}
 use Rattle.clause_encoder.specs.Clauses.{Clause, var_of}
-use Rattle.elimination_forests.specs.Branches.{same_list, different, has_true, without, bits_of}
+use Rattle.elimination_forests.specs.Branches.{different, has_true, without, bits_of}
 use Rattle.elimination_forests.proofs.Counting.{among-different}
 use Rattle.elimination_forests.proofs.Lists.{is_among as is_listed, each-different}
 use Rattle.elimination_forests.specs.Forests.{Forest, none, tree, trees, variables, is_among, meets, Place, is_dead_by, decided, part_of, part, number_in, begins, way_by, forks_at}
@@ -66,13 +66,7 @@ module _ (ws bound : List ℕ) (cs : List Clause) (lists : List (List Bool)) (kn
     -- at the number of a list
     read-mapped : (f : List Bool → ℕ) (ls : List (List Bool)) (x : List Bool) (d : ℕ) → is_listed ls x ≡ true → get_or (map f ls) (number_in ls x) d ≡ f x
     read-mapped f [] x d there = absurd (false≢true there)
-    read-mapped f (l ∷ ls) x d there = by (same_list l x) refl there (read-mapped f ls x d) where
-      by : (b : Bool) → same_list l x ≡ b → (b || is_listed ls x) ≡ true → (is_listed ls x ≡ true → get_or (map f ls) (number_in ls x) d ≡ f x)
-          → get_or (f l ∷ map f ls) (cond (not b) (1 + number_in ls x) 0) d ≡ f x
-      by true e h rest = ap f (pointwise-equal l x e)
-      by false e h rest = ap (λ k. get_or (f l ∷ map f ls) k d) (next (number_in ls x)) ∙ rest h where
-        next : (k : ℕ) → 1 + k ≡ suc k
-        next k = omega arith
+    read-mapped f (l ∷ ls) x d there = grind (arith, pointwise-equal l x, read-mapped f ls x d)
 
     pub row-mapped : (list : List Bool) → is_listed lists list ≡ true → IsKnown ws bound cs list
         → get_or (column (flags_of own) states) (number_in lists list) (number_in lists list) ≡ number_in (part own (at bound cs lists)).lists (own_part list)
@@ -88,19 +82,14 @@ module _ (ws bound : List ℕ) (cs : List Clause) (lists : List (List Bool)) (kn
 
   pub meets_wider : (xs ys : List ℕ) → ((u : ℕ) → is_among xs u ≡ true → is_among ys u ≡ true) → (c : Clause) → meets xs c ≡ true → meets ys c ≡ true
   meets_wider xs ys h [] e = e
-  meets_wider xs ys h (l ∷ c) e = elim (or_cases (is_among xs (var_of l)) (meets xs c) e) [
-    | inl here ↦ or_left (is_among ys (var_of l)) (meets ys c) (h (var_of l) here)
-    | inr later ↦ or_right (is_among ys (var_of l)) (meets ys c) (meets_wider xs ys h c later)
-  ]
+  meets_wider xs ys h (l ∷ c) e = grind (arith, h (var_of l), meets_wider xs ys h c)
 
   pub rows-mapped : (f : Forest) → ((u : ℕ) → is_among (variables f) u ≡ true → is_among ws u ≡ true) → (list : List Bool) → is_listed lists list ≡ true → IsKnown ws bound cs list
       → row_at (columns_of f) (number_in lists list) ≡ begins f (at bound cs lists) list
   rows-mapped none inside list there it = refl
   rows-mapped (tree v below beside) inside list there it =
-      let own = v ∷ variables below in
-      let both = λ (u : ℕ). list_any-append (λ x. x == u) own (variables beside) in
-      λ j. row-mapped own (meets_wider own ws (λ u e. inside u (both u ∙ or_left (is_among own u) (is_among (variables beside) u) e))) list there it j
-      ∷ rows-mapped beside (λ u e. inside u (both u ∙ or_right (is_among own u) (is_among (variables beside) u) e)) list there it j
+      λ j. row-mapped (v ∷ variables below) (meets_wider (v ∷ variables below) ws (λ u e. inside u (grind (arith, list_any-append)))) list there it j
+      ∷ rows-mapped beside (λ u e. inside u (grind (arith, list_any-append))) list there it j
 
 -- ---- where a variable gets a bit
 
@@ -128,10 +117,7 @@ module _ (v : ℕ) (below : Forest) (bound : List ℕ) (cs : List Clause) (ends 
   own_state list = state_of (v ∷ ws) bound cs list
 
   walked-mapped : (bit : Bool) (list : List Bool) → IsKnown (v ∷ ws) bound cs list → option_to_list (walked bit (table_of v ws bound cs) (own_state list)) ≡ map base_state (alive_by bit list)
-  walked-mapped bit list known = ap option_to_list (walked-same v ws bound bit cs list ends known) ∙ by (is_dead (left_by bit list)) where
-    by : (d : Bool) → option_to_list (unless d (base_state (left_by bit list))) ≡ map base_state (cond (not d) (left_by bit list ∷ []) [])
-    by true = refl
-    by false = refl
+  walked-mapped bit list known = grind (arith, walked-same v ws bound bit cs list ends known)
 
   known-alive_by : (bit : Bool) (list : List Bool) → IsKnown (v ∷ ws) bound cs list → AllByRecursion (IsKnown ws (v ∷ bound) cs) (alive_by bit list)
   known-alive_by bit list known = by (is_dead (left_by bit list)) refl where
@@ -142,10 +128,7 @@ module _ (v : ℕ) (below : Forest) (bound : List ℕ) (cs : List Clause) (ends 
   all-mapped : (lists : List (List Bool)) → AllByRecursion (IsKnown (v ∷ ws) bound cs) lists
       → flat_map (λ s. option_to_list (walked false (table_of v ws bound cs) s) ++ option_to_list (walked true (table_of v ws bound cs) s)) (map own_state lists) ≡ map base_state (flat_map either lists)
   all-mapped [] known = refl
-  all-mapped (l ∷ lists) known =
-      (λ i. (walked-mapped false l known.0 i ++ walked-mapped true l known.0 i) ++ all-mapped lists known.1 i)
-      ∙ ap (λ ss. ss ++ map base_state (flat_map either lists)) (sym (map-append base_state (alive_by false l) (alive_by true l)))
-      ∙ sym (map-append base_state (either l) (flat_map either lists))
+  all-mapped (l ∷ lists) known = grind (arith, walked-mapped false l known.0, walked-mapped true l known.0, map-append, all-mapped lists known.1)
 
   known-all : (lists : List (List Bool)) → AllByRecursion (IsKnown (v ∷ ws) bound cs) lists → AllByRecursion (IsKnown ws (v ∷ bound) cs) (flat_map either lists)
   known-all [] known = tt
@@ -170,19 +153,16 @@ module _ (v : ℕ) (below : Forest) (bound : List ℕ) (cs : List Clause) (ends 
         next : List Bool
         next = left_by bit list
 
-        own : is_dead next ≡ false → is_listed (alive_by bit list) next ≡ true
-        own d = ap (λ x. is_listed (cond (not x) (next ∷ []) []) next) d ∙ or_left (same_list next next) false (pointwise-refl next)
-
-        given : (b : Bool) → is_listed (alive_by b list) next ≡ true → is_listed (either list) next ≡ true
-        given false e = list_any-append (λ o. same_list o next) (alive_by false list) (alive_by true list) ∙ or_left (is_listed (alive_by false list) next) (is_listed (alive_by true list) next) e
-        given true e = list_any-append (λ o. same_list o next) (alive_by false list) (alive_by true list) ∙ or_right (is_listed (alive_by false list) next) (is_listed (alive_by true list) next) e
+        given : (b : Bool) → is_dead next ≡ false → b ≡ bit → is_listed (either list) next ≡ true
+        given false d e = grind (arith, list_any-append, pointwise-refl next)
+        given true d e = grind (arith, list_any-append, pointwise-refl next)
 
         by : (d : Bool) → is_dead next ≡ d → option_map row (lead (map base_state ds) (unless d (base_state next))) ≡ (if d then None else Some (begins below (decided v (at bound cs lists)) next))
         by true d = refl
         by false d =
             let known_next = known-next v ws bound bit cs list ends it d in
             ap (λ n. Some (row n)) (place-mapped (IsKnown ws (v ∷ bound) cs) base_state (λ x y p q e. bits-lists ws (v ∷ bound) cs x y p q e) next known_next ds known-decided)
-            ∙ ap Some (rows next (among-different (flat_map either lists) next ∙ among-given either lists list next there (given bit (own d))) known_next)
+            ∙ ap Some (rows next (among-different (flat_map either lists) next ∙ among-given either lists list next there (given bit d refl)) known_next)
 
       ways-mapped : (bit : Bool) → map (λ s. option_map row (lead (decided_states (table_of v ws bound cs) (map own_state lists)) (walked bit (table_of v ws bound cs) s))) (map own_state lists)
           ≡ map (way_by v below (at bound cs lists) bit) lists

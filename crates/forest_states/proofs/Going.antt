@@ -3,18 +3,19 @@ use Rattle.std.proofs.Common.{◌≡◌, ℕ, ◌+◌, ◌≤◌, ◌<◌, set, 
 use mathlib.Core.Path.{transport}
 use Rattle.std.specs.Prelude.{◌==◌, if◌then◌else◌}
 use Rattle.std.specs.List.{flat_map, list_all, range_with_len}
-use Rattle.std.proofs.lemmas.Bool.{false≢true, and_parts, or_parts, or_left, or_right, not-true}
+use Rattle.std.proofs.lemmas.Bool.{false≢true, and_parts}
+use Rattle.std.proofs.lemmas.Bool.Decides.{nat_tests}
 use Rattle.std.proofs.lemmas.List.{append_assoc, append-nil, get_or-drop, drop-drop, drop_all, length-drop, length-set}
 use Rattle.std.proofs.lemmas.List.Concat.{flat_map-append}
 use Rattle.std.proofs.lemmas.List.Folds.{list_any-append}
 use Rattle.state_rules.specs.Bits.{bit_in}
 use Rattle.state_rules.proofs.Lists.{any-never, filter-never, list_all-at}
-use Rattle.clause_encoder.specs.Clauses.{Clause, ClauseList, is_clause, is_clause_list, var_of}
+use Rattle.clause_encoder.specs.Clauses.{Clause, ClauseList, is_clause, is_clause_list}
 use Rattle.elimination_forests.proofs.Ordering.{clauses-valid}
 use Rattle.elimination_forests.specs.declared.steps.Step.{Step}
 use Rattle.elimination_forests.specs.declared.steps.Weight.{Weight}
 use Rattle.elimination_forests.specs.declared.forks.Forks.{Forks}
-use Rattle.elimination_forests.specs.Forests.{Forest, none, tree, trees, steps_of, variables, is_among, meets, is_within, is_once, fits, is_along, is_forest_of, root, decided, part, weight_at, sum_on, forest_sum, forks_at, forks_on}
+use Rattle.elimination_forests.specs.Forests.{Forest, none, tree, trees, steps_of, variables, is_among, meets, is_once, fits, is_along, is_forest_of, root, decided, part, weight_at, sum_on, forest_sum, forks_at, forks_on}
 use Rattle.elimination_forests.proofs.Passing.{once_front}
 use Rattle.forest_states.specs.inner.Walked.{Stand, first_stand, or_first, step_at, numbers_at, stands_below, forks_below, weight_of}
 use Rattle.forest_states.proofs.Turned.{is_open}
@@ -39,9 +40,8 @@ abbrev pub sum_left : Weight → List Clause → List Item → ℕ
 sum_left weight clauses [] = 0
 sum_left weight clauses (it ∷ items) = (weight_at weight (own_of it) (place clauses it) + sum_on weight it.below (decided it.v (place clauses it))) + sum_left weight clauses items
 
-pub record Way (weight : Weight) (all : List Step) (clauses : List Clause) (forest : Forest) (i : ℕ) (seen : List Bool) (found : List Forks) (sum : ℕ) (stands : List Stand) : Type 0 where
-  pub items : List Item
-  pub later : Forest
+-- with these places begun, and these trees on the base of all
+pub record WayOf (weight : Weight) (all : List Step) (clauses : List Clause) (forest : Forest) (i : ℕ) (seen : List Bool) (found : List Forks) (sum : ℕ) (stands : List Stand) (items : List Item) (later : Forest) : Type 0 where
   pub steps : drop i all ≡ steps_left items ++ steps_of later
   pub are : AreItems clauses seen items stands
   pub base : IsBase clauses (variables forest) later [] (root clauses).lists first_stand
@@ -49,6 +49,9 @@ pub record Way (weight : Weight) (all : List Step) (clauses : List Clause) (fore
   pub new : (u : ℕ) → is_among (variables_left items ++ variables later) u ≡ true → bit_in seen u ≡ false
   pub forks : found ++ (forks_left clauses items ++ forks_on later (root clauses)) ≡ forks_on forest (root clauses)
   pub total : sum + (sum_left weight clauses items + sum_on weight later (root clauses)) ≡ forest_sum weight forest clauses
+
+abbrev pub Way : Weight → List Step → List Clause → Forest → ℕ → List Bool → List Forks → ℕ → List Stand → Type 0
+Way weight all clauses forest i seen found sum stands = (items : List Item) × (later : Forest) × WayOf weight all clauses forest i seen found sum stands items later
 
 -- one mark more
 items-marked : (clauses : List Clause) (seen : List Bool) (v : ℕ) → ((bound : List ℕ) → IsBefore seen bound → IsBefore (set seen v true) bound) → (items : List Item) (stands : List Stand)
@@ -71,12 +74,7 @@ sum-append weight clauses (x ∷ xs) ys = omega (arith, sum-append weight clause
 -- ---- one step
 
 pub step-at : (all : List Step) (i : ℕ) (d x : Step) (ys : List Step) → drop i all ≡ x ∷ ys → get_or all i d ≡ x
-step-at all i d x ys e = ap (λ n. get_or all n d) (plus i) ∙ sym (get_or-drop i all 0 d) ∙ ap (λ xs. get_or xs 0 d) e where
-  plus : (n : ℕ) → n ≡ n + 0
-  plus n = omega arith
-
-pub steps-more : (all : List Step) (i : ℕ) (x : Step) (ys : List Step) → drop i all ≡ x ∷ ys → drop (i + 1) all ≡ ys
-steps-more all i x ys e = sym (drop-drop 1 i all) ∙ ap (drop 1) e
+step-at all i d x ys e = grind (arith, get_or-drop i all 0 d)
 
 module _ (weight : Weight) (all : List Step) (clauses : List Clause) (of : List (List ℕ)) (seen : List Bool) (known : IsIndex clauses of (length seen)) (numbers : List ℕ) (size : length numbers ≡ length seen)
     (forest : Forest) (i : ℕ) (d : Step) (found : List Forks) (sum : ℕ) (s : Stand) (stands : List Stand) where
@@ -90,46 +88,40 @@ module _ (weight : Weight) (all : List Step) (clauses : List Clause) (of : List 
     abbrev step : Step
     step = record { var = v; trees = trees below }
 
-    go : drop i all ≡ steps_left (it ∷ items) ++ steps_of later → AreItems clauses seen (it ∷ items) (s ∷ stands) → IsBase clauses (variables forest) later [] (root clauses).lists first_stand
-        → is_once (variables_left (it ∷ items) ++ variables later) ≡ true → ((u : ℕ) → is_among (variables_left (it ∷ items) ++ variables later) u ≡ true → bit_in seen u ≡ false)
-        → found ++ (forks_left clauses (it ∷ items) ++ forks_on later (root clauses)) ≡ forks_on forest (root clauses)
-        → sum + (sum_left weight clauses (it ∷ items) + sum_on weight later (root clauses)) ≡ forest_sum weight forest clauses → After (get_or all i d) (drop (i + 1) all)
-    go steps are base once new forks total =
-        subst (λ x. After x (drop (i + 1) all)) (sym (step-at all i d step _ steps))
-        (subst (After step) (sym rest_is) (record {
-          items = items_on clauses of seen known v below bound lists s are.0 are.1 here_new here_once nums below ++ items;
-          later = later;
-          steps = rest_is ∙ sym (append_assoc (steps_of below) (steps_left items) (steps_of later))
-              ∙ ap (λ ss. (ss ++ steps_left items) ++ steps_of later) (sym (steps-on below)) ∙ ap (λ ss. ss ++ steps_of later) (sym (flat_map-append (λ x. (record { var = x.v; trees = trees x.below }) ∷ steps_of x.below) (new_items below) items));
-          are = items-append clauses (set seen v true) (new_items below) items _ stands
-              (trees-are clauses of seen known v below bound lists s are.0 are.1 here_new here_once nums below 0 (base-is clauses of seen known v below bound lists s are.0 are.1 here_new here_once) sides)
-              (items-marked clauses seen v marked-more items stands are.2);
-          base = base;
-          once = ap is_once ahead ∙ (and_parts (not (is_among tail v)) (is_once tail) once).1;
-          new = λ u there.
-              let in_tail = ap (λ vs. is_among vs u) (sym ahead) ∙ there in
-              get_or-set_other seen v u true false (λ same. false≢true (sym (not-true (is_among tail v) (and_parts (not (is_among tail v)) (is_once tail) once).0) ∙ ap (is_among tail) (sym same) ∙ in_tail))
-              ∙ new u (or_right (v == u) (is_among tail u) in_tail);
-          forks = append_assoc found (forks_below clauses of seen numbers step own_rest s ∷ []) _
-              ∙ (λ j. found ++ (forks_is j ∷ forks_ahead j)) ∙ forks;
-          total = omega (arith, total, weight-is clauses of seen known v below bound lists s are.0 are.1 here_new here_once weight, sum-append weight clauses (new_items below) items, sum-on below);
-        })) where
+    go : WayOf weight all clauses forest i seen found sum (s ∷ stands) (it ∷ items) later → After (get_or all i d) (drop (i + 1) all)
+    go way =
+        subst (λ x. After x (drop (i + 1) all)) (sym (step-at all i d step _ way.steps))
+        (subst (After step) (sym rest_is) (
+          new_items below ++ items,
+          later,
+          record {
+            steps = rest_is ∙ sym (append_assoc (steps_of below) (steps_left items) (steps_of later))
+                ∙ ap (λ ss. (ss ++ steps_left items) ++ steps_of later) (sym (steps-on below)) ∙ ap (λ ss. ss ++ steps_of later) (sym (flat_map-append (λ x. (record { var = x.v; trees = trees x.below }) ∷ steps_of x.below) (new_items below) items));
+            are = items-append clauses (set seen v true) (new_items below) items _ stands
+                (trees-are clauses of seen known v below bound lists s way.are.0 way.are.1 here_new here_once nums below 0 (base-is clauses of seen known v below bound lists s way.are.0 way.are.1 here_new here_once) sides)
+                (items-marked clauses seen v (λ bs before u low there. grind (arith, mark-bit seen v u, before u, length-set seen v true)) items stands way.are.2);
+            base = way.base;
+            once = ap is_once ahead ∙ (and_parts (not (is_among tail v)) (is_once tail) way.once).1;
+            new = λ u there. grind (arith, nat_tests, get_or-set_other, way.once, way.new u, ap (λ vs. is_among vs u) ahead);
+            forks = append_assoc found (forks_below clauses of seen numbers step own_rest s ∷ []) _
+                ∙ (λ j. found ++ (forks-are clauses of seen known v below bound lists s way.are.0 way.are.1 here_new here_once nums sides j ∷ forks_ahead j)) ∙ way.forks;
+            total = omega (arith, way.total, weight-is clauses of seen known v below bound lists s way.are.0 way.are.1 here_new here_once weight, sum-append weight clauses (new_items below) items, sum-on below);
+          },
+        )) where
           own_rest : List Step
           own_rest = steps_of below ++ (steps_left items ++ steps_of later)
 
           rest_is : drop (i + 1) all ≡ steps_of below ++ (steps_left items ++ steps_of later)
-          rest_is = steps-more all i step _ steps ∙ append_assoc (steps_of below) (steps_left items) (steps_of later)
+          rest_is = sym (drop-drop 1 i all) ∙ ap (drop 1) way.steps ∙ append_assoc (steps_of below) (steps_left items) (steps_of later)
 
           tail : List ℕ
           tail = (variables below ++ variables_left items) ++ variables later
 
           here_once : is_once (v ∷ variables below) ≡ true
-          here_once = once_front (v ∷ variables below) (variables_left items) (once_front ((v ∷ variables below) ++ variables_left items) (variables later) once)
+          here_once = once_front (v ∷ variables below) (variables_left items) (once_front ((v ∷ variables below) ++ variables_left items) (variables later) way.once)
 
           here_new : (u : ℕ) → is_among (v ∷ variables below) u ≡ true → bit_in seen u ≡ false
-          here_new u e = new u (list_any-append (λ x. x == u) ((v ∷ variables below) ++ variables_left items) (variables later)
-              ∙ or_left (is_among ((v ∷ variables below) ++ variables_left items) u) (is_among (variables later) u)
-              (list_any-append (λ x. x == u) (v ∷ variables below) (variables_left items) ∙ or_left (is_among (v ∷ variables below) u) (is_among (variables_left items) u) e))
+          here_new u e = way.new u (grind (arith, list_any-append))
 
           nums : List ℕ
           nums = numbers_at (trees below) own_rest numbers
@@ -138,7 +130,7 @@ module _ (weight : Weight) (all : List Step) (clauses : List Clause) (of : List 
           sides = subst (λ n. AreSides (trees below == 1) (variables below) nums n 0 below) size (sides-are below (steps_left items ++ steps_of later) numbers (and_parts (not (is_among (variables below) v)) (is_once (variables below)) here_once).1)
 
           new_items : Forest → List Item
-          new_items f = items_on clauses of seen known v below bound lists s are.0 are.1 here_new here_once nums f
+          new_items f = items_on clauses of seen known v below bound lists s way.are.0 way.are.1 here_new here_once nums f
 
           steps-on : (f : Forest) → steps_left (new_items f) ≡ steps_of f
           steps-on none = refl
@@ -160,26 +152,15 @@ module _ (weight : Weight) (all : List Step) (clauses : List Clause) (of : List 
           ahead : variables_left (new_items below ++ items) ++ variables later ≡ (variables below ++ variables_left items) ++ variables later
           ahead = ap (λ vs. vs ++ variables later) (flat_map-append own_of (new_items below) items ∙ ap (λ vs. vs ++ variables_left items) (variables-on below))
 
-          forks_is : forks_below clauses of seen numbers step own_rest s ≡ forks_at v below (at bound clauses lists)
-          forks_is = forks-are clauses of seen known v below bound lists s are.0 are.1 here_new here_once nums sides
-
           forks_ahead : forks_left clauses (new_items below ++ items) ++ forks_on later (root clauses) ≡ (forks_on below (decided v (at bound clauses lists)) ++ forks_left clauses items) ++ forks_on later (root clauses)
           forks_ahead = ap (λ fs. fs ++ forks_on later (root clauses)) (flat_map-append (λ o. forks_at o.v o.below (place clauses o) ∷ forks_on o.below (decided o.v (place clauses o))) (new_items below) items ∙ ap (λ fs. fs ++ forks_left clauses items) (forks-on below))
 
-          marked-more : (bs : List ℕ) → IsBefore seen bs → IsBefore (set seen v true) bs
-          marked-more bs before u low there = let under : u < length seen = omega (arith, low, length-set seen v true) in mark-bit seen v u under ∙ or_right (v == u) (bit_in seen u) (before u under there)
-
   pub way-more : Way weight all clauses forest i seen found sum (s ∷ stands) → After (get_or all i d) (drop (i + 1) all)
-  way-more way = by way.items way.later way.steps way.are way.base way.once way.new way.forks way.total where
-    by : (items : List Item) (later : Forest) → drop i all ≡ steps_left items ++ steps_of later → AreItems clauses seen items (s ∷ stands) → IsBase clauses (variables forest) later [] (root clauses).lists first_stand
-        → is_once (variables_left items ++ variables later) ≡ true → ((u : ℕ) → is_among (variables_left items ++ variables later) u ≡ true → bit_in seen u ≡ false)
-        → found ++ (forks_left clauses items ++ forks_on later (root clauses)) ≡ forks_on forest (root clauses)
-        → sum + (sum_left weight clauses items + sum_on weight later (root clauses)) ≡ forest_sum weight forest clauses → After (get_or all i d) (drop (i + 1) all)
-    by [] later steps are base once new forks total = absurd are
-    by (it ∷ items) later steps are base once new forks total = go it.v it.below it.bound it.lists items later steps are base once new forks total
+  way-more ([], later, way) = absurd way.are
+  way-more (it ∷ items, later, way) = go it.v it.below it.bound it.lists items later way
 
   pub way-most : Way weight all clauses forest i seen found sum (s ∷ stands) → sum + weight_of weight s ≤ forest_sum weight forest clauses
-  way-most way = let next = way-more way in omega (arith, next.total)
+  way-most way = omega (arith, (way-more way).2.total)
 
 -- ---- a tree on the base of all
 
@@ -188,30 +169,26 @@ none-open vs c = ap (λ m. m && meets vs c) (any-never c)
 
 pub way-begin : (weight : Weight) (all : List Step) (clauses : List Clause) (forest : Forest) (i : ℕ) (seen : List Bool) (found : List Forks) (sum : ℕ) → i < length all
     → Way weight all clauses forest i seen found sum [] → Way weight all clauses forest i seen found sum (first_stand ∷ [])
-way-begin weight all clauses forest i seen found sum low way = by way.items way.later way.steps way.are way.base way.once way.new way.forks way.total where
-  by : (items : List Item) (later : Forest) → drop i all ≡ steps_left items ++ steps_of later → AreItems clauses seen items [] → IsBase clauses (variables forest) later [] (root clauses).lists first_stand
-      → is_once (variables_left items ++ variables later) ≡ true → ((u : ℕ) → is_among (variables_left items ++ variables later) u ≡ true → bit_in seen u ≡ false)
-      → found ++ (forks_left clauses items ++ forks_on later (root clauses)) ≡ forks_on forest (root clauses)
-      → sum + (sum_left weight clauses items + sum_on weight later (root clauses)) ≡ forest_sum weight forest clauses → Way weight all clauses forest i seen found sum (first_stand ∷ [])
-  by (it ∷ items) later steps are base once new forks total = absurd are
-  by [] none steps are base once new forks total = absurd (omega (arith, low, ap length steps, length-drop i all))
-  by [] (tree v below beside) steps are base once new forks total =
-      let same = ap (λ vs. vs ++ variables beside) (append-nil (v ∷ variables below)) in
+way-begin weight all clauses forest i seen found sum low (it ∷ items, later, way) = absurd way.are
+way-begin weight all clauses forest i seen found sum low ([], none, way) = absurd (omega (arith, low, ap length way.steps, length-drop i all))
+way-begin weight all clauses forest i seen found sum low ([], tree v below beside, way) =
+    let same = ap (λ vs. vs ++ variables beside) (append-nil (v ∷ variables below)) in (
+      (record { v = v; below = below; bound = []; lists = (part (v ∷ variables below) (root clauses)).lists }) ∷ [],
+      beside,
       record {
-        items = (record { v = v; below = below; bound = []; lists = (part (v ∷ variables below) (root clauses)).lists }) ∷ [];
-        later = beside;
-        steps = steps ∙ ap (λ ss. ss ++ steps_of beside) (sym (append-nil ((record { var = v; trees = trees below }) ∷ steps_of below)));
+        steps = way.steps ∙ ap (λ ss. ss ++ steps_of beside) (sym (append-nil ((record { var = v; trees = trees below }) ∷ steps_of below)));
         are = (
-          item-of clauses (variables forest) [] (root clauses).lists first_stand v below beside base (λ n. false) (λ n low e. absurd (false≢true (sym (none-open (variables forest) (get_or clauses n [])) ∙ e))),
+          item-of clauses (variables forest) [] (root clauses).lists first_stand v below beside way.base (λ n. false) (λ n low e. absurd (false≢true (sym (none-open (variables forest) (get_or clauses n [])) ∙ e))),
           (λ u low e. absurd (false≢true e)),
           tt,
         );
-        base = base-beside clauses (variables forest) [] (root clauses).lists first_stand v below beside base;
-        once = ap is_once same ∙ once;
-        new = λ u e. new u (ap (λ vs. is_among vs u) (sym same) ∙ e);
-        forks = ap (λ fs. found ++ (fs ++ forks_on beside (root clauses))) (append-nil (forks_at v below (part (v ∷ variables below) (root clauses)) ∷ forks_on below (decided v (part (v ∷ variables below) (root clauses))))) ∙ forks;
-        total = omega (arith, total);
-      }
+        base = base-beside clauses (variables forest) [] (root clauses).lists first_stand v below beside way.base;
+        once = ap is_once same ∙ way.once;
+        new = λ u e. way.new u (ap (λ vs. is_among vs u) (sym same) ∙ e);
+        forks = ap (λ fs. found ++ (fs ++ forks_on beside (root clauses))) (append-nil (forks_at v below (part (v ∷ variables below) (root clauses)) ∷ forks_on below (decided v (part (v ∷ variables below) (root clauses))))) ∙ way.forks;
+        total = omega (arith, way.total);
+      },
+    )
 
 pub way-ready : (weight : Weight) (all : List Step) (clauses : List Clause) (forest : Forest) (i : ℕ) (seen : List Bool) (found : List Forks) (sum : ℕ) (stands : List Stand) → i < length all
     → Way weight all clauses forest i seen found sum stands → Way weight all clauses forest i seen found sum (or_first stands)
@@ -250,12 +227,9 @@ module _ (weight : Weight) (all : List Step) (clauses : List Clause) (of : List 
 
 abbrev pub way-last : (weight : Weight) (all : List Step) (clauses : List Clause) (forest : Forest) (i : ℕ) (seen : List Bool) (found : List Forks) (sum : ℕ) (stands : List Stand) → Way weight all clauses forest i seen found sum stands → length all ≤ i
     → (found ≡ forks_on forest (root clauses)) × (sum ≡ forest_sum weight forest clauses)
-way-last weight all clauses forest i seen found sum stands way high = by way.items way.later (sym way.steps ∙ drop_all i all high) way.forks way.total where
-  by : (items : List Item) (later : Forest) → steps_left items ++ steps_of later ≡ [] → found ++ (forks_left clauses items ++ forks_on later (root clauses)) ≡ forks_on forest (root clauses)
-      → sum + (sum_left weight clauses items + sum_on weight later (root clauses)) ≡ forest_sum weight forest clauses → (found ≡ forks_on forest (root clauses)) × (sum ≡ forest_sum weight forest clauses)
-  by [] none e forks total = (sym (append-nil found) ∙ forks, omega (arith, total))
-  by [] (tree v below beside) e forks total = absurd (omega (arith, ap length e))
-  by (it ∷ items) later e forks total = absurd (omega (arith, ap length e))
+way-last weight all clauses forest i seen found sum stands ([], none, way) high = (sym (append-nil found) ∙ way.forks, omega (arith, way.total))
+way-last weight all clauses forest i seen found sum stands ([], tree v below beside, way) high = absurd (omega (arith, ap length (sym way.steps ∙ drop_all i all high)))
+way-last weight all clauses forest i seen found sum stands (it ∷ items, later, way) high = absurd (omega (arith, ap length (sym way.steps ∙ drop_all i all high)))
 
 -- ---- the first place
 
@@ -269,29 +243,29 @@ module _ (weight : Weight) (list : ClauseList) (valid : is_clause_list list ≡ 
   -- a clause of no tree would have no literal
   meets-some : (c : Clause) → is_clause list.vars c ≡ true → is_along forest [] c ≡ true → meets (variables forest) c ≡ false → ⊥
   meets-some [] clause along off = false≢true clause
-  meets-some (l ∷ c) clause along off =
-      let there = (and_parts (is_among (variables forest ++ []) (var_of l)) (is_within (variables forest ++ []) c) (along-closed forest [] (l ∷ c) along)).0 in
-      false≢true (sym (or_parts (is_among (variables forest) (var_of l)) (meets (variables forest) c) off).0 ∙ ap (λ vs. is_among vs (var_of l)) (sym (append-nil (variables forest))) ∙ there)
+  meets-some (l ∷ c) clause along off = absurd (grind (arith, along-closed forest [] (l ∷ c), append-nil (variables forest)))
 
   pub way-first : Way weight (steps_of forest) list.clauses forest 0 (replicate size false) [] 1 []
-  way-first = record {
-    items = [];
-    later = forest;
-    steps = refl;
-    are = tt;
-    base = record {
-      along = λ n low e. list_all-at (is_along forest []) list.clauses n [] parts.1 low;
-      free = λ u e. refl;
-      inside = λ u e. e;
-      known = (known-root list.clauses (clauses-valid list valid).2 parts.1, tt);
-      opened = sym (filter-never (range_with_len 0 (length list.clauses))) ∙ filter-within (λ n. false) (λ n. is_open (variables forest) [] (get_or list.clauses n [])) 0 (length list.clauses) (λ n k. sym (none-open (variables forest) (get_or list.clauses n [])));
-      states = ap (λ x. x ∷ []) (no-bits list.clauses (map (λ c. true) list.clauses));
-    };
-    once = (and_parts (is_once (variables forest)) (list_all (fits list.vars) (variables forest)) parts.0).0;
-    new = λ u e. no-mark size u;
-    forks = refl;
-    total = omega arith;
-  } where
+  way-first = (
+    [],
+    forest,
+    record {
+      steps = refl;
+      are = tt;
+      base = record {
+        along = λ n low e. list_all-at (is_along forest []) list.clauses n [] parts.1 low;
+        free = λ u e. refl;
+        inside = λ u e. e;
+        known = (known-root list.clauses (clauses-valid list valid).2 parts.1, tt);
+        opened = sym (filter-never (range_with_len 0 (length list.clauses))) ∙ filter-within (λ n. false) (λ n. is_open (variables forest) [] (get_or list.clauses n [])) 0 (length list.clauses) (λ n k. sym (none-open (variables forest) (get_or list.clauses n [])));
+        states = ap (λ x. x ∷ []) (no-bits list.clauses (map (λ c. true) list.clauses));
+      };
+      once = (and_parts (is_once (variables forest)) (list_all (fits list.vars) (variables forest)) parts.0).0;
+      new = λ u e. no-mark size u;
+      forks = refl;
+      total = omega arith;
+    },
+  ) where
     known-root : (cs : List Clause) → list_all (is_clause list.vars) cs ≡ true → list_all (is_along forest []) cs ≡ true → IsKnown (variables forest) [] cs (map (λ c. true) cs)
     known-root [] e f = tt
     known-root (c ∷ cs) e f =

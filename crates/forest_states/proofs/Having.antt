@@ -1,10 +1,10 @@
 -- The clauses that have each variable, clause by clause and literal by literal.
-use Rattle.std.proofs.Common.{◌≡◌, ℕ, zero, suc, ◌+◌, ◌<◌, ◌≤◌, Bool, true, false, ◌||◌, cond, List, [], ◌∷◌, ◌++◌, length, take, get_or, set, get_or-set_same, get_or-set_other, refl, ap, sym, ◌∙◌, arith, ℤ, pos, negsuc, add-one}
+use Rattle.std.proofs.Common.{◌≡◌, ℕ, zero, suc, ◌+◌, ◌<◌, ◌≤◌, Bool, true, false, ◌||◌, List, [], ◌∷◌, ◌++◌, length, take, get_or, set, get_or-set_same, get_or-set_other, refl, ap, sym, ◌∙◌, arith, ℤ, pos, negsuc, add-one}
 use lib.IntN.{nat_abs}
 use Rattle.std.specs.Prelude.{◌==◌, nat_lt, nat_le, if◌then◌else◌}
 use Rattle.std.specs.List.{filter, list_all, range_with_len}
-use Rattle.std.proofs.Math.Bool.{or-false}
-use Rattle.std.proofs.lemmas.Bool.{false≢true, and_parts, or_from, ltb-true, leb-true, leb-false, lt-ltb, ne_eqb, eq-eqb, eqb-true}
+use Rattle.std.proofs.lemmas.Bool.{false≢true, and_parts, ltb-true, leb-true, leb-false}
+use Rattle.std.proofs.lemmas.Bool.Decides.{nat_tests}
 use Rattle.std.proofs.lemmas.List.{take_more, append-nil, get_or_past}
 use Rattle.std.proofs.lemmas.List.Elements.{filter-append}
 use Rattle.state_rules.proofs.Lists.{any-push, range_more, filter-never, list_all-at}
@@ -22,12 +22,7 @@ abs-var (negsuc n) = sym (add-one n)
 rise-new : (below : ℕ) (c : Clause) (k : ℕ) (d : ℤ) → vars_rise below c ≡ true → k < length c → (below < var_of (get_or c k d)) × (has_var (var_of (get_or c k d)) (take k c) ≡ false)
 rise-new below [] k d e low = absurd (omega arith)
 rise-new below (l ∷ c) zero d e low = (ltb-true below (var_of l) (and_parts (nat_lt below (var_of l)) (vars_rise (var_of l) c) e).0, refl)
-rise-new below (l ∷ c) (suc k) d e low =
-    let parts = and_parts (nat_lt below (var_of l)) (vars_rise (var_of l) c) e in
-    let rest = rise-new (var_of l) c k d parts.1 (omega arith) in (
-      omega (arith, ltb-true below (var_of l) parts.0, rest.0),
-      or_from (var_of (get_or c k d) == var_of l) (has_var (var_of (get_or c k d)) (take k c)) (ne_eqb (var_of (get_or c k d)) (var_of l) (λ same. absurd (omega (arith, rest.0)))) rest.1,
-    )
+rise-new below (l ∷ c) (suc k) d e low = let rest = rise-new (var_of l) c k d in (grind (arith, nat_tests, rest), grind (arith, nat_tests, rest))
 
 has-more : (v : ℕ) (c : Clause) (k : ℕ) (d : ℤ) → k < length c → has_var v (take (k + 1) c) ≡ (has_var v (take k c) || (v == var_of (get_or c k d)))
 has-more v c k d low = ap (has_var v) (take_more c k d low) ∙ any-push (λ l. v == var_of l) (take k c) (get_or c k d)
@@ -38,30 +33,14 @@ module _ (of : List (List ℕ)) (u v number : ℕ) (base : List ℕ) (c : Clause
   Goal next = get_or next v [] ≡ base ++ (if has_var v (take (k + 1) c) then number ∷ [] else [])
 
   pub had : (u ≡ v → ⊥) → Goal of
-  had other = was ∙ ap (λ b. base ++ (if b then number ∷ [] else [])) (sym (has-more v c k d low
-      ∙ ap (λ b. has_var v (take k c) || b) (ne_eqb v (var_of (get_or c k d)) (λ same. other (is ∙ sym same))) ∙ or-false (has_var v (take k c))))
+  had other = grind (arith, nat_tests, has-more v c k d low, other)
 
   pub has : vars_rise 0 c ≡ true → v < length of → Goal (set of u (get_or of u [] ++ number ∷ []))
-  has rise within = by (u == v) refl where
-    by : (b : Bool) → (u == v) ≡ b → Goal (set of u (get_or of u [] ++ number ∷ []))
-    by false e = get_or-set_other of u v (get_or of u [] ++ number ∷ []) [] (λ same. false≢true (sym e ∙ eq-eqb u v (sym same))) ∙ had (λ same. false≢true (sym e ∙ eq-eqb u v same))
-    by true e =
-        let same = eqb-true u v e in
-        let v_is = sym same ∙ is in
-        let none = ap (λ w. has_var w (take k c)) v_is ∙ (rise-new 0 c k d rise low).1 in
-        ap (λ w. get_or (set of w (get_or of w [] ++ number ∷ [])) v []) same ∙ get_or-set_same of v (get_or of v [] ++ number ∷ []) [] within
-        ∙ ap (λ ns. ns ++ number ∷ []) (was ∙ ap (λ b. base ++ (if b then number ∷ [] else [])) none ∙ append-nil base)
-        ∙ ap (λ b. base ++ (if b then number ∷ [] else [])) (sym (has-more v c k d low ∙ (λ j. none j || eq-eqb v (var_of (get_or c k d)) v_is j)))
+  has rise within = grind (arith, nat_tests, has-more v c k d low, rise-new 0 c k d rise low, get_or-set_same, get_or-set_other, append-nil)
 
 -- one clause more
 pub numbers-more : (p : ℕ → Bool) (n : ℕ) → filter p (range_with_len 0 n) ++ (if p n then n ∷ [] else []) ≡ filter p (range_with_len 0 (n + 1))
-numbers-more p n = by (p n) ∙ ap (λ m. filter p (range_with_len 0 n) ++ cond (p m) (m ∷ []) []) (sym (plus n)) ∙ sym (filter-append p (range_with_len 0 n) ((0 + n) ∷ [])) ∙ ap (filter p) (sym (range_more 0 n)) where
-  plus : (m : ℕ) → 0 + m ≡ m
-  plus m = omega arith
-
-  by : (b : Bool) → filter p (range_with_len 0 n) ++ (if b then n ∷ [] else []) ≡ filter p (range_with_len 0 n) ++ cond b (n ∷ []) []
-  by true = refl
-  by false = refl
+numbers-more p n = grind (arith, filter-append, range_more 0 n)
 
 pub rises : (vars : ℕ) (c : Clause) → is_clause vars c ≡ true → vars_rise 0 c ≡ true
 rises vars [] e = absurd (false≢true e)
@@ -69,14 +48,11 @@ rises vars (l ∷ c) e = (and_parts (vars_rise 0 (l ∷ c)) (list_all (λ k. nat
 
 small : (vars : ℕ) (c : Clause) → is_clause vars c ≡ true → list_all (λ l. nat_lt (var_of l) (vars + 1)) c ≡ true
 small vars [] e = refl
-small vars (l ∷ c) e = all-wider (λ k. nat_le (var_of k) vars) (λ k. nat_lt (var_of k) (vars + 1)) (λ k h. lt-ltb (var_of k) (vars + 1) (omega (arith, leb-true (var_of k) vars h))) (l ∷ c)
-    (and_parts (vars_rise 0 (l ∷ c)) (list_all (λ k. nat_le (var_of k) vars) (l ∷ c)) e).1
+small vars (l ∷ c) e = all-wider (λ k. nat_le (var_of k) vars) (λ k. nat_lt (var_of k) (vars + 1)) (λ k h. grind (arith, nat_tests)) (l ∷ c) (grind (arith, e))
 
 has-none : (v size : ℕ) (c : Clause) → size ≤ v → list_all (λ l. nat_lt (var_of l) size) c ≡ true → has_var v c ≡ false
 has-none v size [] high e = refl
-has-none v size (l ∷ c) high e =
-    let parts = and_parts (nat_lt (var_of l) size) (list_all (λ k. nat_lt (var_of k) size) c) e in
-    or_from (v == var_of l) (has_var v c) (ne_eqb v (var_of l) (λ same. absurd (omega (arith, ltb-true (var_of l) size parts.0)))) (has-none v size c high parts.1)
+has-none v size (l ∷ c) high e = grind (arith, nat_tests, has-none v size c high)
 
 pub index-is : (cnf : ClauseList) → is_clause_list cnf ≡ true → (of : List (List ℕ)) (size : ℕ) → length of ≡ cnf.vars + 1 → size ≡ cnf.vars + 1
     → ((v : ℕ) → v ≤ cnf.vars → get_or of v [] ≡ filter (λ n. has_var v (get_or cnf.clauses n [])) (range_with_len 0 (length cnf.clauses))) → IsIndex cnf.clauses of size

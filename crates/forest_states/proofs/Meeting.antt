@@ -1,9 +1,9 @@
 -- The clauses that a bit meets, by their numbers: the open ones, and those that have the variable.
-use Rattle.std.proofs.Common.{◌≡◌, ℕ, zero, suc, ◌+◌, ◌<◌, ◌≤◌, Bool, true, false, not, ◌||◌, cond, List, [], ◌∷◌, ◌++◌, map, length, take, drop, get_or, replicate, refl, ap, sym, ◌∙◌, arith}
+use Rattle.std.proofs.Common.{◌≡◌, ℕ, zero, suc, ◌+◌, ◌<◌, ◌≤◌, Bool, true, false, not, ◌||◌, cond, List, [], ◌∷◌, ◌++◌, map, length, take, drop, get_or, replicate, refl, ap, ◌∙◌, arith}
 use Rattle.std.specs.Prelude.{if◌then◌else◌, nat_lt}
 use Rattle.std.specs.List.{filter, prefix_len, range_with_len, AllByRecursion}
 use Rattle.std.proofs.lemmas.Bool.{le-ltb, lt-ltb}
-use Rattle.std.proofs.lemmas.List.{append_assoc, length-drop, length-take-le, drop_more}
+use Rattle.std.proofs.lemmas.List.{append_assoc, append-nil, length-drop, length-take-le, drop_more}
 use Rattle.std.proofs.lemmas.List.Sums.{prefix_len-le-length}
 use Rattle.elimination_forests.proofs.Lists.{each-filter}
 use Rattle.forest_states.specs.declared.entries.Entry.{Entry}
@@ -25,19 +25,12 @@ module _ (entry : ℕ → Entry) where
   met-passed : (a : ℕ) (numbers opened : List ℕ) → AllByRecursion (λ n. a < n) numbers → met entry numbers (a ∷ opened) ≡ as_before a ∷ met entry numbers opened
   met-passed a [] opened above = refl
   met-passed a (n ∷ numbers) opened above = λ j. map as_before (take (first j) (a ∷ opened)) ++ (here n ∷ met entry numbers (after (entry n) (drop (first j) (a ∷ opened)))) where
-    count : ℕ
-    count = prefix_len (λ o. nat_lt o n) opened
-
     first : prefix_len (λ o. nat_lt o n) (a ∷ opened) ≡ suc (prefix_len (λ o. nat_lt o n) opened)
     first = ap (λ b. cond b (1 + prefix_len (λ o. nat_lt o n) opened) 0) (lt-ltb a n above.0) ∙ omega arith
 
   -- one that has it
   met-open : (a : ℕ) (numbers opened : List ℕ) → (entry a).fresh ≡ false → met entry (a ∷ numbers) (a ∷ opened) ≡ here a ∷ met entry numbers opened
-  met-open a numbers opened fresh =
-      (λ j. map as_before (take (none j) (a ∷ opened)) ++ (here a ∷ met entry numbers (after (entry a) (drop (none j) (a ∷ opened)))))
-      ∙ (λ j. here a ∷ met entry numbers (if fresh j then a ∷ opened else opened)) where
-        none : prefix_len (λ o. nat_lt o a) (a ∷ opened) ≡ 0
-        none = ap (λ b. cond b (1 + prefix_len (λ o. nat_lt o a) opened) 0) (le-ltb a a (omega arith))
+  met-open a numbers opened fresh = grind (arith, le-ltb a a (omega arith))
 
   -- one that begins with it
   met-begun : (a : ℕ) (numbers opened : List ℕ) → (entry a).fresh ≡ true → AllByRecursion (λ o. a < o) opened → met entry (a ∷ numbers) opened ≡ here a ∷ met entry numbers opened
@@ -55,32 +48,16 @@ module _ (entry : ℕ → Entry) where
   pub met-either : (opened has : ℕ → Bool) (a n : ℕ) → ((k : ℕ) → k < a + n → has k ≡ true → (entry k).fresh ≡ not (opened k))
       → met entry (filter has (range_with_len a n)) (filter opened (range_with_len a n)) ≡ map (met_if has) (filter (λ k. opened k || has k) (range_with_len a n))
   met-either opened has a zero fresh = refl
-  met-either opened has a (suc n) fresh = by (opened a) refl (has a) refl (met-either opened has (a + 1) n (λ k h. fresh k (omega arith))) where
-    by : (x : Bool) → opened a ≡ x → (y : Bool) → has a ≡ y
-        → met entry (filter has (range_with_len (a + 1) n)) (filter opened (range_with_len (a + 1) n)) ≡ map (met_if has) (filter (λ k. opened k || has k) (range_with_len (a + 1) n))
-        → met entry (cond y (a ∷ filter has (range_with_len (a + 1) n)) (filter has (range_with_len (a + 1) n))) (cond x (a ∷ filter opened (range_with_len (a + 1) n)) (filter opened (range_with_len (a + 1) n)))
-        ≡ map (met_if has) (cond (x || y) (a ∷ filter (λ k. opened k || has k) (range_with_len (a + 1) n)) (filter (λ k. opened k || has k) (range_with_len (a + 1) n)))
-    by true x true y rest = met-open a _ _ (fresh a (omega arith) y ∙ ap not x) ∙ (λ j. (record { number = a; entry = if sym y j then entry a else plain }) ∷ rest j)
-    by true x false y rest = met-passed a _ _ (above-filter has a n) ∙ (λ j. (record { number = a; entry = if sym y j then entry a else plain }) ∷ rest j)
-    by false x true y rest = met-begun a _ _ (fresh a (omega arith) y ∙ ap not x) (above-filter opened a n) ∙ (λ j. (record { number = a; entry = if sym y j then entry a else plain }) ∷ rest j)
-    by false x false y rest = rest
+  met-either opened has a (suc n) fresh = grind (arith, met-either opened has (a + 1) n (λ k h. fresh k (omega arith)), fresh a (omega arith), met-open a, met-passed a, met-begun a, above-filter has a n, above-filter opened a n)
 
   pub kept-met : (has : ℕ → Bool) (ns : List ℕ) → kept_of (map (met_if has) ns) ≡ filter (λ n. not (met_if has n).entry.ends) ns
   kept-met has [] = refl
-  kept-met has (n ∷ ns) = by (met_if has n).entry.ends (kept-met has ns) where
-    by : (b : Bool) → kept_of (map (met_if has) ns) ≡ filter (λ k. not (met_if has k).entry.ends) ns
-        → map (λ m. m.number) (cond (not b) (met_if has n ∷ filter (λ m. not m.entry.ends) (map (met_if has) ns)) (filter (λ m. not m.entry.ends) (map (met_if has) ns)))
-        ≡ cond (not b) (n ∷ filter (λ k. not (met_if has k).entry.ends) ns) (filter (λ k. not (met_if has k).entry.ends) ns)
-    by true rest = rest
-    by false rest = ap (λ ks. n ∷ ks) rest
+  kept-met has (n ∷ ns) = grind (arith, kept-met has ns)
 
 -- ---- one clause after the other
 
 pub length-after : (e : Entry) (opened : List ℕ) → length (after e opened) ≤ length opened
-length-after e opened = by e.fresh where
-  by : (b : Bool) → length (if b then opened else drop 1 opened) ≤ length opened
-  by true = omega arith
-  by false = omega (arith, length-drop 1 opened)
+length-after e opened = grind (arith, length-drop 1 opened)
 
 -- after those that stay as they are
 entries-after : (opened : List ℕ) (ms : List Met) → entries_of (map as_before opened ++ ms) ≡ replicate (length opened) plain ++ entries_of ms
@@ -92,12 +69,10 @@ kept-after [] ms = refl
 kept-after (o ∷ opened) ms = ap (λ ns. o ∷ ns) (kept-after opened ms)
 
 pub last-entries : (opened : List ℕ) → replicate (length opened) plain ≡ entries_of (map as_before opened)
-last-entries [] = refl
-last-entries (o ∷ opened) = ap (λ es. plain ∷ es) (last-entries opened)
+last-entries opened = grind (arith, entries-after opened [], append-nil)
 
 pub last-kept : (opened : List ℕ) → opened ≡ kept_of (map as_before opened)
-last-kept [] = refl
-last-kept (o ∷ opened) = ap (λ ns. o ∷ ns) (last-kept opened)
+last-kept opened = grind (arith, kept-after opened [], append-nil)
 
 module _ (entry : ℕ → Entry) (numbers : List ℕ) (i : ℕ) (opened : List ℕ) (low : i < length numbers) where
   abbrev n : ℕ
@@ -113,18 +88,7 @@ module _ (entry : ℕ → Entry) (numbers : List ℕ) (i : ℕ) (opened : List �
   met-next = ap (λ ns. met entry ns opened) (drop_more numbers i 0 low)
 
   pub entries-next : (table : List Entry) → ((table ++ replicate below plain) ++ entry n ∷ []) ++ entries_of later ≡ table ++ entries_of (met entry (drop i numbers) opened)
-  entries-next table =
-      append_assoc (table ++ replicate below plain) (entry n ∷ []) (entries_of later)
-      ∙ append_assoc table (replicate below plain) (entry n ∷ entries_of later)
-      ∙ ap (λ k. table ++ (replicate k plain ++ (entry n ∷ entries_of later))) (sym (length-take-le below opened (prefix_len-le-length (λ o. nat_lt o n) opened)))
-      ∙ ap (λ es. table ++ es) (sym (ap entries_of met-next ∙ entries-after (take below opened) (here entry n ∷ later)))
+  entries-next table = grind (arith, append_assoc, met-next, entries-after (take below opened) (here entry n ∷ later), length-take-le below opened (prefix_len-le-length (λ o. nat_lt o n) opened))
 
   pub kept-next : (kept : List ℕ) → ((kept ++ take below opened) ++ (if not (entry n).ends then n ∷ [] else [])) ++ kept_of later ≡ kept ++ kept_of (met entry (drop i numbers) opened)
-  kept-next kept =
-      append_assoc (kept ++ take below opened) (if not (entry n).ends then n ∷ [] else []) (kept_of later)
-      ∙ append_assoc kept (take below opened) ((if not (entry n).ends then n ∷ [] else []) ++ kept_of later)
-      ∙ ap (λ ns. kept ++ (take below opened ++ ns)) (by (entry n).ends)
-      ∙ ap (λ ns. kept ++ ns) (sym (ap kept_of met-next ∙ kept-after (take below opened) (here entry n ∷ later))) where
-        by : (b : Bool) → (if not b then n ∷ [] else []) ++ kept_of later ≡ map (λ m. m.number) (cond (not b) (here entry n ∷ filter (λ m. not m.entry.ends) later) (filter (λ m. not m.entry.ends) later))
-        by true = refl
-        by false = refl
+  kept-next kept = grind (arith, append_assoc, met-next, kept-after (take below opened) (here entry n ∷ later))

@@ -1,9 +1,10 @@
 -- Clauses by their numbers.
-use Rattle.std.proofs.Common.{◌≡◌, ℕ, zero, suc, ◌+◌, ◌<◌, ◌≤◌, ◌-◌, Bool, true, false, cond, List, [], ◌∷◌, ◌++◌, map, length, reverse, get_or, add-one, refl, ap, sym, ◌∙◌, arith}
+use Rattle.std.proofs.Common.{◌≡◌, ℕ, zero, suc, ◌+◌, ◌<◌, ◌≤◌, ◌-◌, Bool, true, cond, List, [], ◌∷◌, map, length, reverse, get_or, add-one, refl, ap, sym, ◌∙◌, arith}
 use Rattle.std.specs.Prelude.{nat_lt}
 use Rattle.std.specs.List.{filter, list_all, range_with_len, AllByRecursion}
-use Rattle.std.proofs.lemmas.List.{append_assoc, length-append, map-append, reverse-append}
-use Rattle.state_rules.proofs.Lists.{range_more}
+use Rattle.std.proofs.lemmas.List.{reverse-append}
+use Rattle.std.proofs.lemmas.List.{ext_get_or}
+use Rattle.std.proofs.lemmas.List.FromFn.{get_or-map-range_with_len, length-map-range_with_len, map-range_with_len_more}
 use Rattle.clause_encoder.specs.Clauses.{Clause, var_of}
 use Rattle.forest_states.specs.inner.Walked.{has_var}
 
@@ -15,32 +16,18 @@ filter-within p q a (suc n) same = let rest = filter-within p q (a + 1) n (λ k 
 
 pub map-within : {X : Type 0} (f g : ℕ → X) (p : ℕ → Bool) (a n : ℕ) → ((k : ℕ) → k < a + n → p k ≡ true → f k ≡ g k) → map f (filter p (range_with_len a n)) ≡ map g (filter p (range_with_len a n))
 map-within f g p a zero same = refl
-map-within f g p a (suc n) same = by (p a) refl (map-within f g p (a + 1) n (λ k h. same k (omega arith))) where
-  by : (x : Bool) → p a ≡ x → map f (filter p (range_with_len (a + 1) n)) ≡ map g (filter p (range_with_len (a + 1) n))
-      → map f (cond x (a ∷ filter p (range_with_len (a + 1) n)) (filter p (range_with_len (a + 1) n))) ≡ map g (cond x (a ∷ filter p (range_with_len (a + 1) n)) (filter p (range_with_len (a + 1) n)))
-  by true x rest = λ i. same a (omega arith) x i ∷ rest i
-  by false x rest = rest
-
--- all clauses by their numbers
-all-from : (cs front : List Clause) → cs ≡ map (λ n. get_or (front ++ cs) n []) (range_with_len (length front) (length cs))
-all-from [] front = refl
-all-from (c ∷ cs) front =
-    let rest = all-from cs (front ++ c ∷ []) in
-    λ j. sym (at-front front) j ∷ (rest ∙ (λ k. map (λ n. get_or (append_assoc front (c ∷ []) cs k) n []) (range_with_len (length-append front (c ∷ []) k) (length cs)))) j where
-      at-front : (xs : List Clause) → get_or (xs ++ c ∷ cs) (length xs) [] ≡ c
-      at-front [] = refl
-      at-front (x ∷ xs) = at-front xs
+map-within f g p a (suc n) same = grind (arith, same a (omega arith), map-within f g p (a + 1) n (λ k h. same k (omega arith)))
 
 filter-mapped : (f : ℕ → Clause) (test : Clause → Bool) (ns : List ℕ) → filter test (map f ns) ≡ map f (filter (λ n. test (f n)) ns)
 filter-mapped f test [] = refl
-filter-mapped f test (n ∷ ns) = by (test (f n)) (filter-mapped f test ns) where
-  by : (b : Bool) → filter test (map f ns) ≡ map f (filter (λ k. test (f k)) ns) → cond b (f n ∷ filter test (map f ns)) (filter test (map f ns)) ≡ map f (cond b (n ∷ filter (λ k. test (f k)) ns) (filter (λ k. test (f k)) ns))
-  by true rest = ap (λ cs. f n ∷ cs) rest
-  by false rest = rest
+filter-mapped f test (n ∷ ns) = grind (arith, filter-mapped f test ns)
 
 -- those that pass
 pub passing : (clauses : List Clause) (test : Clause → Bool) → filter test clauses ≡ map (λ n. get_or clauses n []) (filter (λ n. test (get_or clauses n [])) (range_with_len 0 (length clauses)))
-passing clauses test = ap (filter test) (all-from clauses []) ∙ filter-mapped (λ n. get_or clauses n []) test (range_with_len 0 (length clauses))
+passing clauses test =
+    let at = λ (n : ℕ). get_or clauses n [] in
+    let all = ext_get_or [] clauses (map at (range_with_len 0 (length clauses))) (sym (length-map-range_with_len at 0 (length clauses))) (λ i low. sym (get_or-map-range_with_len at 0 (length clauses) i i [] low (omega arith))) in
+    ap (filter test) all ∙ filter-mapped (λ n. get_or clauses n []) test (range_with_len 0 (length clauses))
 
 -- what holds at each number
 pub each-at : (P : Clause → Type 0) (cs : List Clause) → ((n : ℕ) → n < length cs → P (get_or cs n [])) → AllByRecursion P cs
@@ -49,11 +36,6 @@ each-at P (c ∷ cs) h = (h 0 (omega arith), each-at P cs (λ n low. h (suc n) (
 
 -- ---- numbers counted down
 
-pub mapped-on : {X : Type 0} (g : ℕ → X) (n : ℕ) → map g (range_with_len 0 n) ++ g n ∷ [] ≡ map g (range_with_len 0 (n + 1))
-mapped-on g n = ap (λ m. map g (range_with_len 0 n) ++ g m ∷ []) (plus n) ∙ sym (map-append g (range_with_len 0 n) ((0 + n) ∷ [])) ∙ ap (map g) (sym (range_more 0 n)) where
-  plus : (m : ℕ) → m ≡ 0 + m
-  plus m = omega arith
-
 back : {X : Type 0} (f : ℕ → X) (k n : ℕ) → n ≤ k → reverse (map (λ i. f (k - 1 - i)) (range_with_len 0 n)) ≡ map f (range_with_len (k - n) n)
 back f k zero low = refl
 back f k (suc n) low =
@@ -61,7 +43,7 @@ back f k (suc n) low =
     let first : k - 1 - n ≡ k - suc n = omega (arith, low) in
     let next : k - n ≡ k - suc n + 1 = omega (arith, low) in
     ap (λ m. reverse (map g (range_with_len 0 m))) (sym (add-one n))
-    ∙ ap reverse (sym (mapped-on g n))
+    ∙ ap reverse (map-range_with_len_more g 0 n n (omega arith))
     ∙ reverse-append (map g (range_with_len 0 n)) (g n ∷ [])
     ∙ (λ j. f (first j) ∷ (back f k n (omega (arith, low)) ∙ ap (λ a. map f (range_with_len a n)) next) j)
 

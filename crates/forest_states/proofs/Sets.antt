@@ -1,14 +1,13 @@
 -- Different lists one after the other.
-use Rattle.std.proofs.Common.{◌≡◌, ℕ, ◌+◌, ◌<◌, Bool, true, false, not, ◌||◌, cond, List, [], ◌∷◌, ◌++◌, map, length, take, drop, get_or, Some, None, refl, ap, sym, ◌∙◌, arith}
+use Rattle.std.proofs.Common.{◌≡◌, ℕ, ◌+◌, ◌<◌, Bool, true, false, not, cond, List, [], ◌∷◌, ◌++◌, map, length, take, drop, get_or, Some, None, refl, ap, sym, ◌∙◌, arith}
 use Rattle.std.specs.Prelude.{Option, option_to_list, slice_get}
 use Rattle.std.specs.List.{flat_map, position_or_len}
-use Rattle.std.proofs.lemmas.Bool.{or_right, or_left}
 use Rattle.std.proofs.lemmas.List.{append_assoc, append-nil, take-append-drop, get_or-map, length-map, take_more, map-append}
 use Rattle.std.proofs.lemmas.List.Concat.{flat_map-append}
 use Rattle.std.proofs.lemmas.List.Folds.{list_any-append}
 use Rattle.std.proofs.lemmas.Option.{slice_get_within, slice_get_read, get_or_from_slice_get}
 use Rattle.state_rules.proofs.Bits.{pointwise-refl}
-use Rattle.elimination_forests.specs.Branches.{same_list, different}
+use Rattle.elimination_forests.specs.Branches.{different}
 use Rattle.elimination_forests.proofs.Counting.{among-different}
 use Rattle.elimination_forests.proofs.Lists.{is_among, different-append}
 use Rattle.elimination_forests.proofs.Finding.{place-front}
@@ -35,10 +34,7 @@ mapped-more h xs ys k x at e =
 -- one list more
 pub joined-more : (ks : List (List Bool)) (more : Option (List Bool)) → joined (different ks) more ≡ different (ks ++ option_to_list more)
 joined-more ks None = ap different (sym (append-nil ks))
-joined-more ks (Some k) = by (is_among (different ks) k) (among-different ks k) ∙ sym (different-append ks (k ∷ [])) where
-  by : (b : Bool) → b ≡ is_among ks k → cond b (different ks) (different ks ++ k ∷ []) ≡ different ks ++ cond (not (is_among ks k)) (k ∷ []) []
-  by true e = sym (append-nil (different ks)) ∙ ap (λ x. different ks ++ cond (not x) (k ∷ []) []) e
-  by false e = ap (λ x. different ks ++ cond (not x) (k ∷ []) []) e
+joined-more ks (Some k) = grind (arith, among-different ks k, different-append ks (k ∷ []), append-nil (different ks))
 
 -- what is added after the first ones has its place there
 pub place-ahead : (ks : List (List Bool)) (k : List Bool) (more : List (List Bool)) → position_or_len (is_same k) (different ks) ≡ position_or_len (is_same k) (different ((ks ++ k ∷ []) ++ more))
@@ -46,22 +42,15 @@ place-ahead ks k more = by (is_among ks k) refl ∙ back where
   all : List (List Bool)
   all = ks ++ k ∷ []
 
-  there : is_among (different all) k ≡ true
-  there = among-different all k ∙ list_any-append (λ o. same_list o k) ks (k ∷ []) ∙ or_right (is_among ks k) (same_list k k || false) (or_left (same_list k k) false (pointwise-refl k))
-
   back : position_or_len (is_same k) (different all) ≡ position_or_len (is_same k) (different (all ++ more))
-  back = sym (place-front (is_same k) (different all) _ there) ∙ ap (position_or_len (is_same k)) (sym (different-append all more))
+  back = sym (place-front (is_same k) (different all) _ (among-different all k ∙ grind (arith, list_any-append, pointwise-refl k))) ∙ ap (position_or_len (is_same k)) (sym (different-append all more))
 
   by : (b : Bool) → is_among ks k ≡ b → position_or_len (is_same k) (different ks) ≡ position_or_len (is_same k) (different all)
   by true e = sym (place-front (is_same k) (different ks) _ (among-different ks k ∙ e)) ∙ ap (position_or_len (is_same k)) (sym (different-append ks (k ∷ [])))
   by false e = new (different ks) (among-different ks k ∙ e) ∙ ap (position_or_len (is_same k)) (ap (λ x. different ks ++ cond (not x) (k ∷ []) []) (sym e) ∙ sym (different-append ks (k ∷ []))) where
     new : (ls : List (List Bool)) → is_among ls k ≡ false → position_or_len (is_same k) ls ≡ position_or_len (is_same k) (ls ++ k ∷ [])
     new [] h = ap (λ x. cond (not x) 1 0) (sym (pointwise-refl k))
-    new (l ∷ ls) h = step (same_list l k) h (new ls) where
-      step : (x : Bool) → (x || is_among ls k) ≡ false → (is_among ls k ≡ false → position_or_len (is_same k) ls ≡ position_or_len (is_same k) (ls ++ k ∷ []))
-          → cond (not x) (1 + position_or_len (is_same k) ls) 0 ≡ cond (not x) (1 + position_or_len (is_same k) (ls ++ k ∷ [])) 0
-      step true h rest = refl
-      step false h rest = ap (λ n. 1 + n) (rest h)
+    new (l ∷ ls) h = grind (arith, new ls)
 
 pub lead-front : (ks : List (List Bool)) (k : Option (List Bool)) (more : List (List Bool)) → lead (different ks) k ≡ lead (different ((ks ++ option_to_list k) ++ more)) k
 lead-front ks None more = refl
@@ -81,17 +70,10 @@ module _ (f g : List Bool → Option (List Bool)) (states : List (List Bool)) wh
   later k = flat_map both (drop (k + 1) states)
 
   reached-more : (k : ℕ) (s : List Bool) → slice_get states k ≡ Some s → (reached k ++ option_to_list (f s)) ++ option_to_list (g s) ≡ reached (k + 1)
-  reached-more k s at =
-      append_assoc (reached k) (option_to_list (f s)) (option_to_list (g s))
-      ∙ ap (λ ls. reached k ++ ls) (sym (append-nil (both s)))
-      ∙ sym (flat_map-append both (take k states) (s ∷ []))
-      ∙ ap (flat_map both) (sym (take-more states k s at))
+  reached-more k s at = grind (arith, append_assoc, append-nil, flat_map-append, take-more states k s at)
 
   all-three : (k : ℕ) (s : List Bool) → slice_get states k ≡ Some s → ((reached k ++ option_to_list (f s)) ++ option_to_list (g s)) ++ later k ≡ flat_map both states
-  all-three k s at =
-      ap (λ ls. ls ++ later k) (reached-more k s at)
-      ∙ sym (flat_map-append both (take (k + 1) states) (drop (k + 1) states))
-      ∙ ap (flat_map both) (take-append-drop (k + 1) states)
+  all-three k s at = grind (arith, reached-more k s at, flat_map-append both (take (k + 1) states) (drop (k + 1) states), take-append-drop (k + 1) states)
 
   pub first-lead : (k : ℕ) (s : List Bool) → slice_get states k ≡ Some s → lead (different (reached k)) (f s) ≡ lead (different (flat_map both states)) (f s)
   first-lead k s at =

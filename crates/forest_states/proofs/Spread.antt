@@ -1,28 +1,21 @@
 -- What a table does to clauses, by its events.
-use Rattle.std.proofs.Common.{◌≡◌, ℕ, zero, suc, ◌+◌, ◌<◌, ◌≤◌, Bool, true, false, not, ◌&&◌, ◌||◌, List, [], ◌∷◌, ◌++◌, map, length, take, drop, get_or, replicate, Some, None, refl, ap, sym, ◌∙◌, arith}
+use Rattle.std.proofs.Common.{◌≡◌, ℕ, zero, suc, ◌+◌, ◌<◌, ◌≤◌, Bool, true, false, not, ◌&&◌, ◌||◌, List, [], ◌∷◌, ◌++◌, map, length, take, drop, get_or, replicate, Some, refl, ap, sym, ◌∙◌, arith}
 use mir.Val.{bool_byte}
 use Rattle.std.specs.Prelude.{Option}
 use Rattle.std.specs.Option.{unwrap_or}
-use Rattle.std.proofs.Math.Bool.{and-true}
-use Rattle.std.proofs.lemmas.Bool.{false≢true}
 use Rattle.std.proofs.lemmas.List.{length-append, length-replicate, replicate-append-replicate, append_assoc, take_all, drop-drop, drop_more}
+use Rattle.std.proofs.Math.Seq.{drop-nil}
 use Rattle.state_rules.specs.Bits.{bit_in}
 use Rattle.forest_states.specs.declared.entries.Entry.{Entry}
 use Rattle.forest_states.specs.declared.entries.Event.{Event}
-use Rattle.forest_states.specs.inner.BitLists.{first_bit, other_bits, copied}
+use Rattle.forest_states.specs.inner.BitLists.{other_bits, copied}
 use Rattle.forest_states.specs.inner.Tables.{true_at, plain, is_plain, spread, pick_entry}
-use Rattle.forest_states.specs.inner.Walked.{with_bit, ended, walked, picked, picked_by}
+use Rattle.forest_states.specs.inner.Walked.{ended, walked, picked, picked_by}
 use Rattle.forest_states.proofs.Sets.{behind}
 use Rattle.forest_states.proofs.Walks.{walked-entry}
 
 pub plain-is : (e : Entry) → is_plain e ≡ true → e ≡ plain
-plain-is e is = by e.fresh e.true_at_0 e.true_at_1 e.ends is where
-  by : (a b c d : Bool) → not (((a || b) || c) || d) ≡ true → (record { fresh = a; true_at_0 = b; true_at_1 = c; ends = d }) ≡ plain
-  by false false false false is = refl
-  by true b c d is = absurd (false≢true is)
-  by false true c d is = absurd (false≢true is)
-  by false false true d is = absurd (false≢true is)
-  by false false false true is = absurd (false≢true is)
+plain-is e is = grind arith
 
 -- ---- clauses more
 
@@ -38,19 +31,13 @@ spread-event (e ∷ es) n x = ap (λ xs. replicate e.run plain ++ (e.entry ∷ x
 
 pub length-spread : (es : List Event) (n : ℕ) → length (spread es n) ≡ length (spread es 0) + n
 length-spread [] n = omega (arith, length-replicate n plain)
-length-spread (e ∷ es) n = omega (
-  arith,
-  length-append (replicate e.run plain) (e.entry ∷ spread es n),
-  length-append (replicate e.run plain) (e.entry ∷ spread es 0),
-  length-spread es n,
-)
+length-spread (e ∷ es) n = grind (arith, length-append, length-spread es n)
 
 abbrev pub none : Event
 none = record { run = 0; entry = plain }
 
 pub byte-low : (b : Bool) → bool_byte b ≤ 1
-byte-low true = omega arith
-byte-low false = omega arith
+byte-low b = grind arith
 
 -- those of the first events
 abbrev pub told : List Event → ℕ → ℕ
@@ -60,22 +47,12 @@ pub told-within : (es : List Event) (rest k : ℕ) → told es k ≤ length (spr
 told-within [] rest zero = omega arith
 told-within [] rest (suc k) = omega arith
 told-within (e ∷ es) rest zero = omega arith
-told-within (e ∷ es) rest (suc k) = omega (
-  arith,
-  length-append (replicate e.run plain) (e.entry ∷ spread (take k es) 0),
-  length-append (replicate e.run plain) (e.entry ∷ spread es rest),
-  told-within es rest k,
-)
+told-within (e ∷ es) rest (suc k) = grind (arith, length-append, told-within es rest k)
 
 told-next : (es : List Event) (k : ℕ) (e : Event) → k < length es → told es (suc k) ≡ told es k + (get_or es k e).run + 1
 told-next [] k e low = absurd (omega arith)
-told-next (x ∷ es) zero e low = omega (arith, length-append (replicate x.run plain) (x.entry ∷ []), length-replicate x.run plain)
-told-next (x ∷ es) (suc k) e low = omega (
-  arith,
-  length-append (replicate x.run plain) (x.entry ∷ spread (take k es) 0),
-  length-append (replicate x.run plain) (x.entry ∷ spread (take (suc k) es) 0),
-  told-next es k e (omega arith),
-)
+told-next (x ∷ es) zero e low = grind (arith, length-append, length-replicate)
+told-next (x ∷ es) (suc k) e low = grind (arith, length-append, told-next es k e)
 
 pub told-more : (es : List Event) (k : ℕ) (e : Event) → k < length es → told es (k + 1) ≡ told es k + (get_or es k e).run + 1
 told-more es k e low = let next : k + 1 ≡ suc k = omega arith in ap (told es) next ∙ told-next es k e low
@@ -89,33 +66,14 @@ told-all es rest k all = omega (arith, ap (λ xs. length (spread xs 0)) (take_al
 -- ---- clauses that stay as they are
 
 pub behind-nil : (rest : Option (List Bool)) → rest ≡ behind [] rest
-behind-nil None = refl
-behind-nil (Some bits) = refl
-
-with-behind : (b : Bool) (bits : List Bool) (rest : Option (List Bool)) → with_bit b (behind bits rest) ≡ behind (b ∷ bits) rest
-with-behind b bits None = refl
-with-behind b bits (Some more) = refl
+behind-nil rest = grind arith
 
 pub behind-twice : (bits more : List Bool) (rest : Option (List Bool)) → behind bits (behind more rest) ≡ behind (bits ++ more) rest
-behind-twice bits more None = refl
-behind-twice bits more (Some left) = ap Some (sym (append_assoc bits more left))
-
-never : (bit : Bool) → true_at plain bit ≡ false
-never false = refl
-never true = refl
-
-drop-others : (n : ℕ) (bits : List Bool) → drop n (other_bits bits) ≡ drop (suc n) bits
-drop-others zero [] = refl
-drop-others (suc n) [] = refl
-drop-others n (b ∷ bits) = refl
+behind-twice bits more rest = grind (arith, append_assoc)
 
 walked-run : (bit : Bool) (n : ℕ) (table : List Entry) (state : List Bool) → walked bit (replicate n plain ++ table) state ≡ behind (copied n state) (walked bit table (drop n state))
 walked-run bit zero table state = behind-nil (walked bit table state)
-walked-run bit (suc n) table state =
-    (λ j. with_bit (first_bit state && not (never bit j)) (walked bit (replicate n plain ++ table) (other_bits state)))
-    ∙ (λ j. with_bit (and-true (first_bit state) j) (walked-run bit n table (other_bits state) j))
-    ∙ with-behind (first_bit state) (copied n (other_bits state)) (walked bit table (drop n (other_bits state)))
-    ∙ ap (λ s. behind (first_bit state ∷ copied n (other_bits state)) (walked bit table s)) (drop-others n state)
+walked-run bit (suc n) table state = grind (arith, walked-run bit n table (other_bits state), drop-nil {A = Bool} n)
 
 -- up to the next event
 pub walked-event : (bit : Bool) (es : List Event) (rest k : ℕ) (e : Event) (state : List Bool) → k < length es
@@ -140,19 +98,13 @@ walked-on bit es rest k n e left state low =
 -- after the last one
 pub walked-rest : (bit : Bool) (n : ℕ) (state : List Bool) → walked bit (replicate n plain) state ≡ Some (copied n state)
 walked-rest bit zero state = refl
-walked-rest bit (suc n) state =
-    (λ j. with_bit (first_bit state && not (never bit j)) (walked bit (replicate n plain) (other_bits state)))
-    ∙ (λ j. with_bit (and-true (first_bit state) j) (walked-rest bit n (other_bits state) j))
+walked-rest bit (suc n) state = grind (arith, walked-rest bit n (other_bits state))
 
 -- ---- what is picked
 
 pub walked-picks : (flags state : List Bool) → walked false (map pick_entry flags) state ≡ Some (picked flags state)
 walked-picks [] state = refl
-walked-picks (true ∷ flags) state = (λ j. with_bit (and-true (first_bit state) j) (walked-picks flags (other_bits state) j))
-walked-picks (false ∷ flags) state = by (first_bit state) ∙ walked-picks flags (other_bits state) where
-  by : (b : Bool) → ended true ((false || b) && not true) (walked false (map pick_entry flags) (other_bits state)) ≡ walked false (map pick_entry flags) (other_bits state)
-  by true = refl
-  by false = refl
+walked-picks (f ∷ flags) state = grind (arith, walked-picks flags (other_bits state))
 
 pub picked-by : (flags : List Bool) → picked_by (map pick_entry flags) ≡ picked flags
 picked-by flags = λ j state. unwrap_or (walked-picks flags state j) []

@@ -1,20 +1,18 @@
 -- A place of a forest as its open clauses and its states show it, and what becomes of these at the places right below.
-use Rattle.std.proofs.Common.{◌≡◌, ℕ, ◌+◌, ◌*◌, ◌<◌, Bool, true, false, not, ◌&&◌, ◌||◌, List, [], ◌∷◌, ◌++◌, map, length, set, get_or, refl, ap, sym, ◌∙◌, arith, ◌⊎◌, inl, inr}
-use Rattle.std.specs.Prelude.{◌==◌, if◌then◌else◌}
+use Rattle.std.proofs.Common.{◌≡◌, ℕ, ◌+◌, ◌*◌, ◌<◌, Bool, true, false, not, ◌||◌, List, [], ◌∷◌, ◌++◌, map, length, set, get_or, refl, ap, sym, ◌∙◌, arith}
+use Rattle.std.specs.Prelude.{◌==◌}
 use Rattle.std.specs.List.{filter, list_any, range_with_len, AllByRecursion}
-use Rattle.std.proofs.Math.Bool.{and-true, or-false, not-not}
-use Rattle.std.proofs.lemmas.Bool.{false≢true, and_parts, or_parts, and_left, and_right, or_from, or_left, or_right, or_cases, not-true, false_from_ne_true, eqb-true}
+use Rattle.std.proofs.lemmas.Bool.{and_parts, or_right}
+use Rattle.std.proofs.lemmas.Bool.Decides.{nat_tests}
 use Rattle.std.proofs.lemmas.List.{length-map, length-set}
 use Rattle.std.proofs.lemmas.List.Folds.{list_any-append}
 use Rattle.state_rules.specs.Bits.{bit_in}
 use Rattle.state_rules.proofs.Lists.{filter-filter}
 use Rattle.clause_encoder.specs.Clauses.{Clause, var_of}
-use Rattle.elimination_forests.specs.Branches.{has_true}
 use Rattle.elimination_forests.specs.declared.steps.Weight.{Weight}
 use Rattle.elimination_forests.specs.Forests.{Forest, none, tree, trees, variables, is_among, meets, is_within, is_once, is_along, Place, decided, part, weigh, weight_at, forks_at}
 use Rattle.forest_states.specs.inner.Walked.{has_var, meets_marked, within_marked, is_in_tree, goes_to, entry_at, met, entries_of, kept_of, Stand, met_at, table_at, decided_states, decided_forks, part_states, column, row_at, forks_found, stand_decided, stand_part, column_at, weight_of}
 use Rattle.forest_states.specs.declared.entries.Entry.{Entry}
-use Rattle.forest_states.specs.inner.Tables.{plain}
 use Rattle.forest_states.proofs.Turned.{is_open, is_walked, meets-more, true-apart}
 use Rattle.forest_states.proofs.Leaving.{IsKnown, Ends, entry_of, table_of}
 use Rattle.forest_states.proofs.Mapped.{mapped-twice}
@@ -62,16 +60,6 @@ AreItems clauses seen [] (s ∷ stands) = ⊥
 AreItems clauses seen (it ∷ items) [] = ⊥
 AreItems clauses seen (it ∷ items) (s ∷ stands) = IsItem clauses it s × IsBefore seen it.bound × AreItems clauses seen items stands
 
-either-way : (h m w o : Bool) → o ≡ (h || w) → ((m && o) || h) ≡ ((h || m) && (h || w))
-either-way true m w o e = or_right (m && o) true refl
-either-way false m w o e = or-false (m && o) ∙ ap (λ x. m && x) e
-
-next-way : (h m w wm mb : Bool) → mb ≡ (h || m) → ((h || w) ≡ true → wm ≡ not w) → (((h || m) && (h || w)) && not wm) ≡ (mb && w)
-next-way true m w wm mb e k = ap not (k refl) ∙ not-not w ∙ ap (λ x. x && w) (sym e)
-next-way false true true wm mb e k = ap not (k refl) ∙ ap (λ x. x && true) (sym e)
-next-way false false true wm mb e k = ap (λ x. x && true) (sym e)
-next-way false m false wm mb e k = and_left (m && false) (not wm) (and_right m false refl) ∙ sym (and_right mb false refl)
-
 -- ---- the trees on a base
 
 module _ (clauses : List Clause) (ws bound : List ℕ) (lists : List (List Bool)) (s : Stand) where
@@ -82,17 +70,11 @@ module _ (clauses : List Clause) (ws bound : List ℕ) (lists : List (List Bool)
   range = range_with_len 0 (length clauses)
 
   module _ (v : ℕ) (below beside : Forest) (h : IsBase clauses ws (tree v below beside) bound lists s) where
-    own : List ℕ
-    own = v ∷ variables below
-
-    both : (u : ℕ) → is_among (variables (tree v below beside)) u ≡ (is_among (v ∷ variables below) u || is_among (variables beside) u)
-    both u = list_any-append (λ x. x == u) (v ∷ variables below) (variables beside)
-
     first : (u : ℕ) → is_among (v ∷ variables below) u ≡ true → is_among (variables (tree v below beside)) u ≡ true
-    first u e = both u ∙ or_left (is_among (v ∷ variables below) u) (is_among (variables beside) u) e
+    first u e = grind (arith, list_any-append)
 
     later : (u : ℕ) → is_among (variables beside) u ≡ true → is_among (variables (tree v below beside)) u ≡ true
-    later u e = both u ∙ or_right (is_among (v ∷ variables below) u) (is_among (variables beside) u) e
+    later u e = grind (arith, list_any-append)
 
     inside : (c : Clause) → meets (v ∷ variables below) c ≡ true → meets ws c ≡ true
     inside c e = meets_wider ws bound clauses lists h.known (v ∷ variables below) ws (λ u e. h.inside u (first u e)) c e
@@ -102,17 +84,13 @@ module _ (clauses : List Clause) (ws bound : List ℕ) (lists : List (List Bool)
 
     pub base-beside : IsBase clauses ws beside bound lists s
     base-beside = record {
-      along = λ n low e. by n (meets (v ∷ variables below) (cl n)) refl e (h.along n low (wider (variables beside) later (cl n) e));
+      along = λ n low e. grind (arith, h.along n low, wider (variables beside) later (cl n));
       free = λ u e. h.free u (later u e);
       inside = λ u e. h.inside u (later u e);
       known = h.known;
       opened = h.opened;
       states = h.states;
-    } where
-      by : (n : ℕ) (b : Bool) → meets (v ∷ variables below) (cl n) ≡ b → meets (variables beside) (cl n) ≡ true
-          → (if b then not (meets (variables beside) (cl n)) && is_along below (v ∷ bound) (cl n) else is_along beside bound (cl n)) ≡ true → is_along beside bound (cl n) ≡ true
-      by n true m e f = absurd (false≢true (sym (not-true (meets (variables beside) (cl n)) (and_parts (not (meets (variables beside) (cl n))) (is_along below (v ∷ bound) (cl n)) f).0) ∙ e))
-      by n false m e f = f
+    }
 
     module _ (g : ℕ → Bool) (goes : (n : ℕ) → n < length clauses → is_open ws bound (cl n) ≡ true → g n ≡ meets (v ∷ variables below) (cl n)) where
       flags-are : map g s.opened ≡ flags_of ws bound clauses lists h.known (v ∷ variables below)
@@ -130,33 +108,19 @@ module _ (clauses : List Clause) (ws bound : List ℕ) (lists : List (List Bool)
 
       pub item-of : IsItem clauses item_of (record { opened = filter g s.opened; states = part_states (map g s.opened) s.states })
       item-of = record {
-        along = λ n low e. by n (meets (v ∷ variables below) (cl n)) e (h.along n low (wider (v ∷ variables below) first (cl n) e));
+        along = λ n low e. grind (arith, h.along n low, wider (v ∷ variables below) first (cl n));
         free = λ u e. h.free u (first u e);
         known = known-apart ws bound clauses lists h.known (v ∷ variables below) inside;
         opened = ap (filter g) h.opened ∙ filter-filter g (λ n. is_open ws bound (cl n)) range
-            ∙ filter-within _ (λ n. is_open (v ∷ variables below) bound (cl n)) 0 (length clauses) (λ n k. kept n (omega arith) (is_open ws bound (cl n)) refl (meets (v ∷ variables below) (cl n)) refl);
+            ∙ filter-within _ (λ n. is_open (v ∷ variables below) bound (cl n)) 0 (length clauses) (λ n k. grind (arith, goes n (omega arith), inside (cl n)));
         states = (λ j. part_states (flags-are j) (h.states j)) ∙ part-mapped ws bound clauses lists h.known (v ∷ variables below) inside;
-      } where
-        by : (n : ℕ) (b : Bool) → b ≡ true → (if b then not (meets (variables beside) (cl n)) && is_along below (v ∷ bound) (cl n) else is_along beside bound (cl n)) ≡ true → is_along below (v ∷ bound) (cl n) ≡ true
-        by n true m f = (and_parts (not (meets (variables beside) (cl n))) (is_along below (v ∷ bound) (cl n)) f).1
-        by n false m f = absurd (false≢true m)
-
-        kept : (n : ℕ) → n < length clauses → (o : Bool) → is_open ws bound (cl n) ≡ o → (p : Bool) → meets (v ∷ variables below) (cl n) ≡ p → (o && g n) ≡ (meets bound (cl n) && p)
-        kept n k true o p e = goes n k o ∙ e ∙ ap (λ m. m && p) (sym (and_parts (meets bound (cl n)) (meets ws (cl n)) o).0)
-        kept n k false o false e = sym (and_right (meets bound (cl n)) false refl)
-        kept n k false o true e = off (meets bound (cl n)) (meets ws (cl n)) o (inside (cl n) e) where
-          off : (x y : Bool) → (x && y) ≡ false → y ≡ true → false ≡ (x && true)
-          off x true e f = sym e
-          off x false e f = absurd (false≢true f)
+      }
 
 -- ---- where a variable gets a bit
 
 module _ (clauses : List Clause) (of : List (List ℕ)) (seen : List Bool) (found : IsIndex clauses of (length seen)) (v : ℕ) (below : Forest) (bound : List ℕ) (lists : List (List Bool)) (s : Stand)
     (h : IsItem clauses (record { v = v; below = below; bound = bound; lists = lists }) s) (before : IsBefore seen bound)
     (new : (u : ℕ) → is_among (v ∷ variables below) u ≡ true → bit_in seen u ≡ false) (once : is_once (v ∷ variables below) ≡ true) where
-  abbrev ws : List ℕ
-  ws = variables below
-
   abbrev clause : ℕ → Clause
   clause n = get_or clauses n []
 
@@ -173,10 +137,7 @@ module _ (clauses : List Clause) (of : List (List ℕ)) (seen : List Bool) (foun
   closed n low there = along-closed below (v ∷ bound) (clause n) (h.along n low there)
 
   apart : (u : ℕ) → is_among (variables below) u ≡ true → is_among (v ∷ bound) u ≡ false
-  apart u e = or_from (v == u) (is_among bound u)
-      (false_from_ne_true (v == u) (λ same. false≢true (sym (not-true (is_among (variables below) v) (and_parts (not (is_among (variables below) v)) (is_once (variables below)) once).0)
-      ∙ ap (is_among (variables below)) (eqb-true v u same) ∙ e)))
-      (h.free u (or_right (v == u) (is_among (variables below) u) e))
+  apart u e = grind (arith, nat_tests, once, h.free u)
 
   ends : (n : ℕ) → n < length clauses → meets (v ∷ variables below) (clause n) ≡ true → is_within (v ∷ bound) (clause n) ≡ not (meets (variables below) (clause n))
   ends n low there = ends-there (variables below) (v ∷ bound) apart (clause n) (closed n low there)
@@ -185,11 +146,7 @@ module _ (clauses : List Clause) (of : List (List ℕ)) (seen : List Bool) (foun
   ends-all = each-at (Ends v (variables below) bound) clauses ends
 
   marked-at : (u : ℕ) → u < length seen → is_among (variables below ++ (v ∷ bound)) u ≡ true → bit_in seen u ≡ is_among bound u
-  marked-at u low e = by (is_among bound u) refl (or_cases (is_among (variables below) u) ((v == u) || is_among bound u) (sym (list_any-append (λ x. x == u) (variables below) (v ∷ bound)) ∙ e)) where
-    by : (b : Bool) → is_among bound u ≡ b → (is_among (variables below) u ≡ true) ⊎ (((v == u) || is_among bound u) ≡ true) → bit_in seen u ≡ b
-    by true there k = before u low there
-    by false off (inl k) = new u (or_right (v == u) (is_among (variables below) u) k)
-    by false off (inr k) = elim (or_cases (v == u) (is_among bound u) k) [ inl same ↦ new u (or_left (v == u) (is_among (variables below) u) same) | inr there ↦ absurd (false≢true (sym off ∙ there)) ]
+  marked-at u low e = grind (arith, list_any-append, before u low, new u)
 
   meets-is : (n : ℕ) → n < length clauses → meets (v ∷ variables below) (clause n) ≡ true → meets_marked seen (clause n) ≡ meets bound (clause n)
   meets-is n low there = any-same (variables below ++ (v ∷ bound)) (length seen) (bit_in seen) (is_among bound) marked-at (clause n) (found.small n low) (closed n low there)
@@ -204,58 +161,22 @@ module _ (clauses : List Clause) (of : List (List ℕ)) (seen : List Bool) (foun
   entry n = (met_if (entry_at clauses seen v) has n).entry
 
   own-has : (n : ℕ) → has_var v (clause n) ≡ true → meets (v ∷ variables below) (clause n) ≡ true
-  own-has n e = meets-more v (variables below) (clause n) ∙ or_left (has_var v (clause n)) (meets (variables below) (clause n)) e
-
-  fresh-is : (n : ℕ) → n < length clauses → has_var v (clause n) ≡ true → not (meets_marked seen (clause n)) ≡ not (is_open (v ∷ variables below) bound (clause n))
-  fresh-is n low e = ap not (meets-is n low (own-has n e) ∙ sym (and-true (meets bound (clause n))) ∙ ap (λ x. meets bound (clause n) && x) (sym (own-has n e)))
+  own-has n e = grind (arith, meets-more v (variables below) (clause n))
 
   met-is : met_at clauses of seen v s.opened ≡ map (met_if (entry_at clauses seen v) has) (filter (λ n. is_walked v (variables below) bound (clause n)) numbers_of)
   met-is =
       (λ j. met (entry_at clauses seen v) (found.each v j) (h.opened j))
-      ∙ met-either (entry_at clauses seen v) (λ n. is_open (v ∷ variables below) bound (clause n)) has 0 (length clauses) (λ n k e. fresh-is n (omega arith) e)
+      ∙ met-either (entry_at clauses seen v) (λ n. is_open (v ∷ variables below) bound (clause n)) has 0 (length clauses) (λ n k e. grind (arith, meets-is n (omega arith), own-has n))
       ∙ ap (map (met_if (entry_at clauses seen v) has)) (filter-within _ (λ n. is_walked v (variables below) bound (clause n)) 0 (length clauses)
-      (λ n k. either-way (has_var v (clause n)) (meets bound (clause n)) (meets (variables below) (clause n)) (meets (v ∷ variables below) (clause n)) (meets-more v (variables below) (clause n))))
-
-  -- A clause that does not have the variable does not end.
-  ends-if : (n : ℕ) → n < length clauses → (has_var v (clause n) || meets (variables below) (clause n)) ≡ true → (entry n).ends ≡ not (meets (variables below) (clause n))
-  ends-if n low e = by (has_var v (clause n)) refl e where
-    by : (b : Bool) → has_var v (clause n) ≡ b → (b || meets (variables below) (clause n)) ≡ true → (if b then entry_at clauses seen v n else plain).ends ≡ not (meets (variables below) (clause n))
-    by true b e = ends-is n low (own-has n b) ∙ ends n low (own-has n b)
-    by false b e = sym (ap not e)
+      (λ n k. grind (arith, meets-more v (variables below) (clause n))))
 
   table-is : table_at clauses of seen v s.opened ≡ table_of v (variables below) bound clauses
   table-is =
       ap entries_of met-is
       ∙ mapped-twice (λ m. m.entry) (met_if (entry_at clauses seen v) has) (filter (λ n. is_walked v (variables below) bound (clause n)) numbers_of)
-      ∙ map-within entry (λ n. entry_of v bound (clause n)) (λ n. is_walked v (variables below) bound (clause n)) 0 (length clauses) (λ n k e. same n (omega arith) (and_parts (has_var v (clause n) || meets bound (clause n)) (has_var v (clause n) || meets (variables below) (clause n)) e))
+      ∙ map-within entry (λ n. entry_of v bound (clause n)) (λ n. is_walked v (variables below) bound (clause n)) 0 (length clauses) (λ n k e. grind (arith, meets-is n (omega arith), ends-is n (omega arith), ends n (omega arith), meets-more v (variables below) (clause n), true-apart v false (clause n), true-apart v true (clause n)))
       ∙ sym (mapped-twice (entry_of v bound) clause (filter (λ n. is_walked v (variables below) bound (clause n)) numbers_of))
-      ∙ ap (map (entry_of v bound)) (sym (passing clauses (is_walked v (variables below) bound))) where
-        same : (n : ℕ) → n < length clauses → ((has_var v (clause n) || meets bound (clause n)) ≡ true) × ((has_var v (clause n) || meets (variables below) (clause n)) ≡ true) → entry n ≡ entry_of v bound (clause n)
-        same n low walked = by (has_var v (clause n)) refl walked.0 where
-          there : meets (v ∷ variables below) (clause n) ≡ true
-          there = meets-more v (variables below) (clause n) ∙ walked.1
-
-          by : (b : Bool) → has_var v (clause n) ≡ b → (b || meets bound (clause n)) ≡ true → (if b then entry_at clauses seen v n else plain) ≡ entry_of v bound (clause n)
-          by true b e = λ j. record {
-            fresh = not (meets-is n low there j);
-            true_at_0 = has_true v false (clause n);
-            true_at_1 = has_true v true (clause n);
-            ends = ends-is n low there j;
-          }
-          by false b e = λ j. record {
-            fresh = not (sym e j);
-            true_at_0 = sym (true-apart v false (clause n) b) j;
-            true_at_1 = sym (true-apart v true (clause n) b) j;
-            ends = sym (ends n low there ∙ ap not (ap (λ x. x || meets (variables below) (clause n)) (sym b) ∙ walked.1)) j;
-          }
-
-  next-opened : kept_of (met_at clauses of seen v s.opened) ≡ filter (λ n. is_open (variables below) (v ∷ bound) (clause n)) numbers_of
-  next-opened =
-      ap kept_of met-is
-      ∙ kept-met (entry_at clauses seen v) has (filter (λ n. is_walked v (variables below) bound (clause n)) numbers_of)
-      ∙ filter-filter (λ n. not (entry n).ends) (λ n. is_walked v (variables below) bound (clause n)) numbers_of
-      ∙ filter-within _ (λ n. is_open (variables below) (v ∷ bound) (clause n)) 0 (length clauses)
-      (λ n k. next-way (has_var v (clause n)) (meets bound (clause n)) (meets (variables below) (clause n)) (entry n).ends (meets (v ∷ bound) (clause n)) (meets-more v bound (clause n)) (ends-if n (omega arith)))
+      ∙ ap (map (entry_of v bound)) (sym (passing clauses (is_walked v (variables below) bound)))
 
   pub base-is : IsBase clauses (variables below) below (v ∷ bound) (decided v (at bound clauses lists)).lists (stand_decided clauses of seen v s)
   base-is = record {
@@ -263,59 +184,30 @@ module _ (clauses : List Clause) (of : List (List ℕ)) (seen : List Bool) (foun
     free = apart;
     inside = λ u e. e;
     known = known-decided v below bound clauses ends-all lists h.known;
-    opened = next-opened;
+    opened = ap kept_of met-is
+        ∙ kept-met (entry_at clauses seen v) has (filter (λ n. is_walked v (variables below) bound (clause n)) numbers_of)
+        ∙ filter-filter (λ n. not (entry n).ends) (λ n. is_walked v (variables below) bound (clause n)) numbers_of
+        ∙ filter-within _ (λ n. is_open (variables below) (v ∷ bound) (clause n)) 0 (length clauses) (λ n k. grind (arith, meets-more v bound (clause n), ends-is n (omega arith), ends n (omega arith), own-has n));
     states = (λ j. decided_states (table-is j) (h.states j)) ∙ decided-mapped v below bound clauses ends-all lists h.known;
   }
 
   -- ---- the trees below
 
   module _ (nums : List ℕ) where
-    abbrev marked : List Bool
-    marked = set seen v true
-
-    -- a variable of a clause that goes on
-    in-tree : (j : ℕ) (own : List ℕ) → ((u : ℕ) → is_among own u ≡ true → is_among (variables below) u ≡ true)
-        → ((u : ℕ) → u < length seen → is_among (variables below) u ≡ true → (get_or nums u 0 == j) ≡ is_among own u)
-        → (u : ℕ) → u < length seen → is_among (variables below ++ (v ∷ bound)) u ≡ true → is_in_tree (set seen v true) nums j u ≡ is_among own u
-    in-tree j own inside sides u low e = by (is_among (variables below) u) refl (sym (list_any-append (λ x. x == u) (variables below) (v ∷ bound)) ∙ e) where
-      by : (b : Bool) → is_among (variables below) u ≡ b → (b || is_among (v ∷ bound) u) ≡ true → is_in_tree (set seen v true) nums j u ≡ is_among own u
-      by true there k =
-          let off = mark-bit seen v u low ∙ or_from (v == u) (bit_in seen u) (or_parts (v == u) (is_among bound u) (apart u there)).0 (new u (or_right (v == u) (is_among (variables below) u) there)) in
-          ap (λ b. not b && (get_or nums u 0 == j)) off ∙ sides u low there
-      by false off k =
-          let on = mark-bit seen v u low ∙ seen-one (v == u) (is_among bound u) k (λ there. before u low there) in
-          ap (λ b. not b && (get_or nums u 0 == j)) on ∙ sym (false_from_ne_true (is_among own u) (λ there. false≢true (sym off ∙ inside u there))) where
-            seen-one : (x y : Bool) → (x || y) ≡ true → (y ≡ true → bit_in seen u ≡ true) → (x || bit_in seen u) ≡ true
-            seen-one true y e f = refl
-            seen-one false y e f = f e
-
     goes-is : (j : ℕ) (own : List ℕ) → ((u : ℕ) → is_among own u ≡ true → is_among (variables below) u ≡ true)
         → ((u : ℕ) → u < length seen → is_among (variables below) u ≡ true → ((trees below == 1) || (get_or nums u 0 == j)) ≡ is_among own u)
         → (n : ℕ) → n < length clauses → is_open (variables below) (v ∷ bound) (clause n) ≡ true → goes_to clauses (trees below) (set seen v true) nums j n ≡ meets own (clause n)
     goes-is j own inside sides n low open_there = by (trees below == 1) refl where
-      goes_on : meets (variables below) (clause n) ≡ true
-      goes_on = (and_parts (meets (v ∷ bound) (clause n)) (meets (variables below) (clause n)) open_there).1
-
       within : is_within (variables below ++ (v ∷ bound)) (clause n) ≡ true
-      within = closed n low (meets-more v (variables below) (clause n) ∙ or_right (has_var v (clause n)) (meets (variables below) (clause n)) goes_on)
-
-      alone : (trees below == 1) ≡ true → (u : ℕ) → u < length seen → (b : Bool) → is_among (variables below) u ≡ b → is_among own u ≡ b
-      alone e u k true there = sym (sides u k there) ∙ ap (λ x. x || (get_or nums u 0 == j)) e
-      alone e u k false off = false_from_ne_true (is_among own u) (λ there. false≢true (sym off ∙ inside u there))
+      within = closed n low (grind (arith, meets-more v (variables below) (clause n)))
 
       by : (b : Bool) → (trees below == 1) ≡ b → (b || list_any (λ l. is_in_tree (set seen v true) nums j (var_of l)) (clause n)) ≡ meets own (clause n)
-      by true e = sym (any-same (variables below ++ (v ∷ bound)) (length seen) (is_among own) (is_among (variables below)) (λ u k _. alone e u k (is_among (variables below) u) refl) (clause n) (found.small n low) within ∙ goes_on)
+      by true e = sym (any-same (variables below ++ (v ∷ bound)) (length seen) (is_among own) (is_among (variables below)) (λ u k _. grind (arith, sides u k, inside u)) (clause n) (found.small n low) within ∙ (and_parts (meets (v ∷ bound) (clause n)) (meets (variables below) (clause n)) open_there).1)
       by false e = any-same (variables below ++ (v ∷ bound)) (length seen) (is_in_tree (set seen v true) nums j) (is_among own)
-          (in-tree j own inside (λ u k there. ap (λ x. x || (get_or nums u 0 == j)) (sym e) ∙ sides u k there)) (clause n) (found.small n low) within
-
-    abbrev base : Stand
-    base = stand_decided clauses of seen v s
+          (λ u k there. grind (arith, e, list_any-append, mark-bit seen v u k, apart u, new u, sides u k, inside u, before u k)) (clause n) (found.small n low) within
 
     next-before : IsBefore (set seen v true) (v ∷ bound)
-    next-before u low there = mark-bit seen v u (omega (arith, length-set seen v true)) ∙ by (v == u) (is_among bound u) there (before u (omega (arith, low, length-set seen v true))) where
-      by : (x y : Bool) → (x || y) ≡ true → (y ≡ true → bit_in seen u ≡ true) → (x || bit_in seen u) ≡ true
-      by true y e f = refl
-      by false y e f = f e
+    next-before u low there = grind (arith, mark-bit seen v u, before u, length-set seen v true)
 
     -- the places of trees side by side
     abbrev pub items_on : Forest → List Item
@@ -327,7 +219,7 @@ module _ (clauses : List Clause) (of : List (List ℕ)) (seen : List Bool) (foun
     trees-are none j h sides = tt
     trees-are (tree x down beside) j h sides = (
       item-of clauses (variables below) (v ∷ bound) (decided v (at bound clauses lists)).lists (stand_decided clauses of seen v s) x down beside h (goes_to clauses (trees below) (set seen v true) nums j)
-          (goes-is j (x ∷ variables down) (λ u e. h.inside u (list_any-append (λ y. y == u) (x ∷ variables down) (variables beside) ∙ or_left (is_among (x ∷ variables down) u) (is_among (variables beside) u) e)) sides.0),
+          (goes-is j (x ∷ variables down) (λ u e. h.inside u (grind (arith, list_any-append))) sides.0),
       next-before,
       trees-are beside (j + 1) (base-beside clauses (variables below) (v ∷ bound) (decided v (at bound clauses lists)).lists (stand_decided clauses of seen v s) x down beside h) sides.1,
     )
@@ -338,7 +230,7 @@ module _ (clauses : List Clause) (of : List (List ℕ)) (seen : List Bool) (foun
     columns-are none j h sides = refl
     columns-are (tree x down beside) j h sides = λ i.
         column-is clauses (variables below) (v ∷ bound) (decided v (at bound clauses lists)).lists (stand_decided clauses of seen v s) x down beside h (goes_to clauses (trees below) (set seen v true) nums j)
-        (goes-is j (x ∷ variables down) (λ u e. h.inside u (list_any-append (λ y. y == u) (x ∷ variables down) (variables beside) ∙ or_left (is_among (x ∷ variables down) u) (is_among (variables beside) u) e)) sides.0) i
+        (goes-is j (x ∷ variables down) (λ u e. h.inside u (grind (arith, list_any-append))) sides.0) i
         ∷ columns-are beside (j + 1) (base-beside clauses (variables below) (v ∷ bound) (decided v (at bound clauses lists)).lists (stand_decided clauses of seen v s) x down beside h) sides.1 i
 
     pub forks-are : AreSides (trees below == 1) (variables below) nums (length seen) 0 below

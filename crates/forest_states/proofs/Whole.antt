@@ -3,6 +3,7 @@ use Rattle.std.proofs.Common.{◌≡◌, ℕ, zero, suc, ◌+◌, Bool, true, fa
 use Rattle.std.specs.Prelude.{◌==◌}
 use Rattle.std.specs.List.{filter, list_any, list_all, position_or_len, range_with_len, AllByRecursion}
 use Rattle.std.proofs.lemmas.Bool.{and_parts, eqb-true}
+use Rattle.std.proofs.lemmas.Bool.Decides.{nat_tests}
 use Rattle.state_rules.proofs.Bits.{pointwise-refl}
 use Rattle.state_rules.proofs.Lists.{filter-all}
 use Rattle.clause_encoder.specs.Clauses.{Clause, var_of}
@@ -47,9 +48,6 @@ item-range zero a n d e = refl
 item-range (suc k) a zero d e = omega (arith, e)
 item-range (suc k) a (suc n) d e = item-range k (a + 1) n d (omega (arith, e))
 
-own-item : (k n : ℕ) → get_or (range_with_len 0 k) n n ≡ n
-own-item k n = item-range k 0 n n (omega arith)
-
 own-places : (ls : List (List Bool)) → AreDistinct ls → map (λ s. position_or_len (is_same s) ls) ls ≡ range_with_len 0 (length ls)
 own-places [] distinct = refl
 own-places (l ∷ ls) distinct = let rest = own-places ls distinct.1 in λ j. cond (not (pointwise-refl l j)) (1 + position_or_len (is_same l) ls) 0 ∷ later rest j where
@@ -64,14 +62,12 @@ own-places (l ∷ ls) distinct = let rest = own-places ls distinct.1 in λ j. co
 picked-whole : (ns : List ℕ) (state : List Bool) → length state ≡ length ns → picked (map (λ n. true) ns) state ≡ state
 picked-whole [] [] long = refl
 picked-whole [] (b ∷ state) long = absurd (omega (arith, long))
-picked-whole (n ∷ ns) [] long = absurd (omega (arith, long))
-picked-whole (n ∷ ns) (b ∷ state) long = ap (λ bits. b ∷ bits) (picked-whole ns state (omega (arith, long)))
+picked-whole (n ∷ ns) state long = grind (arith, picked-whole ns)
 
 all-picked : (ns : List ℕ) (states : List (List Bool)) → list_all (λ s. length s == length ns) states ≡ true → map (picked (map (λ n. true) ns)) states ≡ states
 all-picked ns [] long = refl
 all-picked ns (s ∷ states) long =
-    let parts = and_parts (length s == length ns) (list_all (λ t. length t == length ns) states) long in
-    λ j. picked-whole ns s (eqb-true (length s) (length ns) parts.0) j ∷ all-picked ns states parts.1 j
+    grind (arith, nat_tests, picked-whole ns s, all-picked ns states)
 
 -- ---- the place of the tree
 
@@ -109,4 +105,4 @@ module _ (clauses : List Clause) (trees : ℕ) (seen : List Bool) (numbers : Lis
       ∙ own-places s.states (subst AreDistinct once (distinct-different s.states)))
 
   pub whole-row : row_at (map (λ j. column_at clauses trees seen numbers j s) (range_with_len 0 trees)) ≡ (λ n. n ∷ [])
-  whole-row = ap row_at whole-columns ∙ (λ j n. own-item (length s.states) n j ∷ [])
+  whole-row = ap row_at whole-columns ∙ (λ j n. item-range (length s.states) 0 n n (omega arith) j ∷ [])

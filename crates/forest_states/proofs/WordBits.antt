@@ -25,9 +25,6 @@ number-bit [] i = ap (λ m. m == 1) (bit_at-zero i)
 number-bit (b ∷ bits) zero = low b (row_number bits)
 number-bit (b ∷ bits) (suc i) = ap (λ m. m == 1) (bit_at-suc (number_of_bit b + 2 * row_number bits) i ∙ ap (λ m. bit_at m i) (row_number-half b (row_number bits))) ∙ number-bit bits i
 
-pow_more : (n : ℕ) → 2 ^ suc n ≡ 2 * 2 ^ n
-pow_more n = grind arith
-
 -- ---- words
 
 words_of-at : (n : ℕ) (bits : List Bool) (k : ℕ) → k < n → get_or (words_of n bits) k 0 ≡ row_number (take 64 (drop (64 * k) bits))
@@ -50,8 +47,7 @@ word-bit words bits at e h =
     ∙ ap (bit_in bits) (omega arith)
 
 pub byte-bit : (b : Bool) → bool_byte b ≡ number_of_bit b
-byte-bit true = refl
-byte-bit false = refl
+byte-bit b = grind arith
 
 pub no-bits : (n : ℕ) → words_of n [] ≡ replicate n 0
 no-bits zero = refl
@@ -61,7 +57,7 @@ no-bits (suc n) = ap (λ ws. 0 ∷ ws) (no-bits n)
 
 number-append : (ys xs : List Bool) → row_number (ys ++ xs) ≡ row_number ys + row_number xs * 2 ^ length ys
 number-append [] xs = omega arith
-number-append (y ∷ ys) xs = omega (arith, number-append ys xs, ap (λ p. row_number xs * p) (pow_more (length ys)))
+number-append (y ∷ ys) xs = let next : 2 ^ suc (length ys) ≡ 2 * 2 ^ length ys = grind arith in omega (arith, number-append ys xs, ap (λ p. row_number xs * p) next)
 
 number-parts : (n : ℕ) (ys : List Bool) → n ≤ length ys → row_number ys ≡ row_number (drop n ys) * 2 ^ n + row_number (take n ys)
 number-parts n ys h = ap row_number (sym (take-append-drop n ys)) ∙ number-append (take n ys) (drop n ys)

@@ -7,6 +7,7 @@ use Rattle.std.proofs.lemmas.Bool.{false≢true, false_from_ne_true, ne_eqb}
 use Rattle.std.proofs.lemmas.Slice.Eq.{bytes_eq-Decides}
 use Rattle.std.proofs.lemmas.List.{ext_get_or, length-drop, length-append, drop_all, take_all, append-nil}
 use Rattle.std.proofs.lemmas.List.FromFn.{get_or-map-range_with_len, length-map-range_with_len}
+use Rattle.std.proofs.Math.Seq.{drop-nil}
 use Rattle.state_rules.specs.Bits.{row_number, number_of_bit}
 use Rattle.elimination_forests.specs.Branches.{words_of}
 use Rattle.forest_states.proofs.WordBits.{word-bit}
@@ -34,9 +35,7 @@ length-bits n words = length-map-range_with_len (word_bit words) 0 n
 pub words-longer : (m : ℕ) (bits : List Bool) → length bits ≤ 64 * m → words_of m bits ++ 0 ∷ [] ≡ words_of (m + 1) bits
 words-longer zero [] room = refl
 words-longer zero (b ∷ bits) room = absurd (omega arith)
-words-longer (suc m) bits room = ap (λ ws. row_number (take 64 bits) ∷ ws) (words-longer m (drop 64 bits) (omega (arith, length-drop 64 bits))) ∙ ap (λ k. words_of k bits) (plus m) where
-  plus : (n : ℕ) → suc (n + 1) ≡ suc n + 1
-  plus n = omega arith
+words-longer (suc m) bits room = let next : suc (m + 1) ≡ suc m + 1 = omega arith in ap (λ ws. row_number (take 64 bits) ∷ ws) (words-longer m (drop 64 bits) (omega (arith, length-drop 64 bits))) ∙ ap (λ k. words_of k bits) next
 
 pub words-many : (n : ℕ) (words : List ℕ) → AreBits n words → length words ≡ n / 64 + 1
 words-many n words are = ap length are ∙ length-words (n / 64 + 1) (bits_in n words)
@@ -98,15 +97,11 @@ pub length-copied : (n : ℕ) (bits : List Bool) → length (copied n bits) ≡ 
 length-copied zero bits = refl
 length-copied (suc n) bits = ap suc (length-copied n (other_bits bits))
 
-none-dropped : (m : ℕ) → [] ≡ drop {A = Bool} m []
-none-dropped zero = refl
-none-dropped (suc m) = refl
-
 pub copied-add : (m n : ℕ) (bits : List Bool) → copied m bits ++ copied n (drop m bits) ≡ copied (m + n) bits
 copied-add zero n bits = let same : n ≡ 0 + n = omega arith in ap (λ k. copied k bits) same
 copied-add (suc m) n [] =
     let next : suc (m + n) ≡ suc m + n = omega arith in
-    ap (λ bs. false ∷ bs) (ap (λ bs. copied m [] ++ copied n bs) (none-dropped m) ∙ copied-add m n []) ∙ ap (λ k. copied k []) next
+    ap (λ bs. false ∷ bs) (ap (λ bs. copied m [] ++ copied n bs) (sym (drop-nil m)) ∙ copied-add m n []) ∙ ap (λ k. copied k []) next
 copied-add (suc m) n (b ∷ bits) = let next : suc (m + n) ≡ suc m + n = omega arith in ap (λ bs. b ∷ bs) (copied-add m n bits) ∙ ap (λ k. copied k (b ∷ bits)) next
 
 copied-none : (n : ℕ) → row_number (copied n []) ≡ 0

@@ -142,16 +142,28 @@ impl Table {
         if is_short && state.len() <= 64 {
             walk_row(alloc, self.events.as_slice(), self.rest, bit, state)
         } else {
-            walk_on(alloc, self.events.as_slice(), self.rest, bit, state)
+            walk_on(
+                alloc,
+                self.events.as_slice(),
+                self.rest,
+                bit,
+                state,
+                state.len(),
+            )
         }
     }
 
-    /// The bits of a state that a table of flags picks.
-    pub(crate) fn pick(&self, alloc: Global, state: &BitList) -> Result<BitList, AllocError>
+    /// The bits of a state that a table of flags picks, with room for so many.
+    pub(crate) fn pick(
+        &self,
+        alloc: Global,
+        room: usize,
+        state: &BitList,
+    ) -> Result<BitList, AllocError>
         requires { length self.now < 2 ^ 63 }
         ensures { IfOk result (λ bits. bits ≡ picked_by self.now state.now) }
     {
-        match self.walk(alloc, false, false, state)? {
+        match walk_on(alloc, self.events.as_slice(), self.rest, false, state, room)? {
             Some(bits) => Ok(bits),
             None => BitList::new(alloc, 0),
         }
@@ -169,18 +181,19 @@ fn are_few(events: &[Event], rest: usize) -> bool
     len < 64
 }
 
-// What a bit leaves of a state, by the events and how many clauses come after the last one.
+// What a bit leaves of a state, by the events and how many clauses come after the last one. It has room for so many bits.
 fn walk_on(
     alloc: Global,
     events: &[Event],
     rest: usize,
     bit: bool,
     state: &BitList,
+    room: usize,
 ) -> Result<Option<BitList>, AllocError>
     requires { length (spread events.now rest) < 2 ^ 63 }
     ensures { IfOk result (λ left. left ≡ walked bit (spread events.now rest) state.now) }
 {
-    let mut left = BitList::new(alloc, state.len())?;
+    let mut left = BitList::new(alloc, room)?;
     let mut next = 0;
     for event in events {
         left.append(state, next, event.run)?;

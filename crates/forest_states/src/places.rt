@@ -189,14 +189,15 @@ fn go_to(
         tree,
         base.opened.as_slice(),
     )?;
-    let (column, states) = part(alloc, &picks, &base.states)?;
+    let (column, states) = part(alloc, &picks, opened.len(), &base.states)?;
     Ok((column, Spot { opened, states }))
 }
 
-// The part of each state that a table of flags picks: its place among the parts, and the parts.
+// The part of each state that a table of flags picks: its place among the parts, and the parts, with room for so many bits.
 fn part(
     alloc: Global,
     picks: &Table,
+    room: usize,
     states: &IndexSet<BitList>,
 ) -> Result<(Vec<u32>, IndexSet<BitList>), AllocError>
     requires few { length states.now.keys < 2 ^ 32 }
@@ -207,7 +208,7 @@ fn part(
     let mut parts = IndexSet::new(alloc);
     let mut column = Vec::with_capacity(alloc, states.len())?;
     for state in states.as_slice() {
-        column.push(put(picks.pick(alloc, state)?, &mut parts)?)?;
+        column.push(put(picks.pick(alloc, room, state)?, &mut parts)?)?;
     }
     Ok((column, parts))
 }

@@ -12,36 +12,22 @@ use Rattle.forest_states.proofs.entries.walk_on.Goals as goal
 use Rattle.forest_states.proofs.entries.walk_on.Goals.{then-not-event+in_ok-push, else-not-event+else-is_left}
 
 pub append-requires-clause-few : goal.append-requires-clause-few
-append-requires-clause-few c =
-    let es = c.args.events.now in
-    let k = c.loop-event.event-index in
-    omega (arith, c.requires, told-within es c.args.rest (k + 1), told-more es k none c.loop-event-test.true, c.loop-event.invariant.short)
+append-requires-clause-few c = omega (arith, c.requires, told-within c.args.events.now c.args.rest (c.loop-event.event-index + 1), told-more c.args.events.now c.loop-event.event-index none c.loop-event-test.true, c.loop-event.invariant.short)
 
 pub append-requires-clause-at : goal.append-requires-clause-at
-append-requires-clause-at c =
-    let es = c.args.events.now in
-    let k = c.loop-event.event-index in
-    omega (arith, c.requires, told-within es c.args.rest (k + 1), told-more es k none c.loop-event-test.true, c.loop-event.invariant.low)
+append-requires-clause-at c = omega (arith, c.requires, told-within c.args.events.now c.args.rest (c.loop-event.event-index + 1), told-more c.args.events.now c.loop-event.event-index none c.loop-event-test.true, c.loop-event.invariant.low)
 
 pub overflow_add-next : goal.overflow_add-next
-overflow_add-next c =
-    let es = c.args.events.now in
-    let k = c.loop-event.event-index in
-    omega (arith, c.requires, told-within es c.args.rest (k + 1), told-more es k none c.loop-event-test.true, c.loop-event.invariant.low)
+overflow_add-next c = omega (arith, c.requires, told-within c.args.events.now c.args.rest (c.loop-event.event-index + 1), told-more c.args.events.now c.loop-event.event-index none c.loop-event-test.true, c.loop-event.invariant.low)
 
 pub overflow_add-next-in-loop-event : goal.overflow_add-next-in-loop-event
-overflow_add-next-in-loop-event c =
-    let es = c.args.events.now in
-    let k = c.loop-event.event-index in
-    omega (arith, c.requires, told-within es c.args.rest (k + 1), told-more es k none c.loop-event-test.true, c.loop-event.invariant.low, c.from-next.ensures, byte-low (not (get_or es k none).entry.fresh))
+overflow_add-next-in-loop-event c = omega (arith, c.requires, told-within c.args.events.now c.args.rest (c.loop-event.event-index + 1), told-more c.args.events.now c.loop-event.event-index none c.loop-event-test.true, c.loop-event.invariant.low, c.from-next.ensures, byte-low (not (get_or c.args.events.now c.loop-event.event-index none).entry.fresh))
 
 pub push-requires : goal.push-requires
 push-requires c =
-    let es = c.args.events.now in
-    let k = c.loop-event.event-index in
-    let run = (get_or es k none).run in
-    let more = copied (get_or c.args.events.now c.loop-event.event-index none).run (drop c.loop-event.next c.args.state.now) in
-    omega (arith, c.requires, told-within es c.args.rest (k + 1), told-more es k none c.loop-event-test.true, c.loop-event.invariant.short, ap length c.in_ok-append.ensures, length-append c.loop-event.left more, length-copied run (drop c.loop-event.next c.args.state.now))
+    let e = get_or c.args.events.now c.loop-event.event-index none in
+    let from = drop c.loop-event.next c.args.state.now in
+    omega (arith, c.requires, told-within c.args.events.now c.args.rest (c.loop-event.event-index + 1), told-more c.args.events.now c.loop-event.event-index none c.loop-event-test.true, c.loop-event.invariant.short, ap length c.in_ok-append.ensures, length-append c.loop-event.left (copied e.run from), length-copied e.run from)
 
 pub returns-then-is_left : goal.returns-then-is_left
 returns-then-is_left c =

@@ -19,14 +19,14 @@ LOADER.exec_module(narrow)
 class Ends(unittest.TestCase):
     """Only what was compared counts as the same, or as different."""
 
-    def tried(self, plain, other):
+    def tried(self, plain, other, status=0):
         """How a case ends whose runs write this, and whether it is kept; a run that writes nothing takes too long."""
 
         def run(words, **options):
             written = other if "--narrow" in words else plain
             if written is None:
                 raise subprocess.TimeoutExpired(words, 1)
-            return subprocess.CompletedProcess(words, 0, written)
+            return subprocess.CompletedProcess(words, status, written)
 
         with tempfile.TemporaryDirectory() as folder, mock.patch("subprocess.run", run):
             with mock.patch.object(narrow, "TOP", pathlib.Path(folder)):
@@ -39,6 +39,7 @@ class Ends(unittest.TestCase):
         self.assertEqual(self.tried(None, None), ("too long both ways", False))
         self.assertEqual(self.tried(None, b"a"), ("too long without --narrow alone", False))
         self.assertEqual(self.tried(b"a", None), ("too long with --narrow alone", True))
+        self.assertEqual(self.tried(b"", b"", -11), ("ended by a signal", True))
 
 
 if __name__ == "__main__":

@@ -12,35 +12,25 @@ use Rattle.state_rules.proofs.Lists.{list_any-map}
 -- ---- one bit
 
 pub same_bit-swap : (x y : Bool) → same_bit x y ≡ same_bit y x
-same_bit-swap true true = refl
-same_bit-swap true false = refl
-same_bit-swap false true = refl
-same_bit-swap false false = refl
+same_bit-swap bit1 bit2 = grind arith
 
 pub same_bit-refl : (x : Bool) → same_bit x x ≡ true
-same_bit-refl true = refl
-same_bit-refl false = refl
+same_bit-refl bit1 = grind arith
 
 pub same_bit-equal : (x y : Bool) → same_bit x y ≡ true → x ≡ y
-same_bit-equal true true e = refl
-same_bit-equal true false e = sym e
-same_bit-equal false true e = e
-same_bit-equal false false e = refl
+same_bit-equal bit1 bit2 e = grind arith
 
 -- where not both are 1 and the second is, the first is not
 pub not_left : (x y : Bool) → (x && y) ≡ false → y ≡ true → x ≡ false
-not_left true y e f = sym f ∙ e
-not_left false y e f = refl
+not_left bit1 y e f = grind arith
 
 -- two are alike only where a first one is
 pub and-not_alike : (p x y : Bool) → (p ≡ true → x ≡ y) → (p && not x) ≡ (p && not y)
-and-not_alike true x y h = ap not (h refl)
-and-not_alike false x y h = refl
+and-not_alike bit1 x y h = grind arith
 
 -- what counts where the negated bit is 1 counts where the bit is 0
 pub cond-not : (b : Bool) (n : ℕ) → cond (not b) n 0 ≡ cond b 0 n
-cond-not true n = refl
-cond-not false n = refl
+cond-not bit1 n = grind arith
 
 -- ---- a list of bits
 
@@ -55,9 +45,7 @@ pub pointwise-equal : (bits others : List Bool) → pointwise same_bit bits othe
 pointwise-equal [] [] e = refl
 pointwise-equal [] (c ∷ others) e = absurd (false≢true e)
 pointwise-equal (b ∷ bits) [] e = absurd (false≢true e)
-pointwise-equal (b ∷ bits) (c ∷ others) e =
-    let parts = and_parts (same_bit b c) (pointwise same_bit bits others) e in
-    λ i. same_bit-equal b c parts.0 i ∷ pointwise-equal bits others parts.1 i
+pointwise-equal (b ∷ bits) (c ∷ others) e = grind (arith, pointwise-equal bits others)
 
 -- a bit of a list that is made of the first numbers of another
 pub bit_in-map : (f : ℕ → Bool) (xs : List ℕ) (n i : ℕ) → i < n → n ≤ length xs → bit_in (map f (take n xs)) i ≡ f (get_or xs i 0)
@@ -73,8 +61,7 @@ pub half-below : (r n : ℕ) → r < 2 ^ suc n → r / 2 < 2 ^ n
 half-below r n h = omega arith
 
 pub row_number-half : (b : Bool) (n : ℕ) → (number_of_bit b + 2 * n) / 2 ≡ n
-row_number-half true n = omega arith
-row_number-half false n = omega arith
+row_number-half bit1 n = grind arith
 
 pub row_number-push : (bits : List Bool) (b : Bool) → row_number (bits ++ b ∷ []) ≡ row_number bits + number_of_bit b * 2 ^ length bits
 row_number-push [] b = omega arith
@@ -84,6 +71,4 @@ row_number-push (c ∷ bits) b = grind (arith, row_number-push bits b, pow_more 
 
 -- a test of lists of one bit more, by their first bit
 pub any-suc : (p : List Bool → Bool) (n : ℕ) → list_any p (lists_of_bits (suc n)) ≡ (list_any (λ bits. p (false ∷ bits)) (lists_of_bits n) || list_any (λ bits. p (true ∷ bits)) (lists_of_bits n))
-any-suc p n =
-    list_any-append p (map (λ bits. false ∷ bits) (lists_of_bits n)) (map (λ bits. true ∷ bits) (lists_of_bits n))
-    ∙ (λ i. list_any-map p (λ bits. false ∷ bits) (lists_of_bits n) i || list_any-map p (λ bits. true ∷ bits) (lists_of_bits n) i)
+any-suc p n = grind (arith, list_any-append, list_any-map)

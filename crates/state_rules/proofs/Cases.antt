@@ -14,12 +14,10 @@ usual_bit None = true
 usual_bit (Some b) = b
 
 pub usual_bit-agrees : (k : Option Bool) → agrees_at k (usual_bit k) ≡ true
-usual_bit-agrees None = refl
-usual_bit-agrees (Some b) = same_bit-refl b
+usual_bit-agrees k = grind arith
 
 pub agrees_cond : (k : Option Bool) (p x y : Bool) → agrees_at k x ≡ true → agrees_at k y ≡ true → agrees_at k (cond p x y) ≡ true
-agrees_cond k true x y e f = e
-agrees_cond k false x y e f = f
+agrees_cond k bit1 x y e f = grind arith
 
 -- ---- a list of bits, place by place
 
@@ -38,23 +36,13 @@ agrees-from (k ∷ known) (b ∷ bits) each = and_from _ _ (each 0 (omega arith)
 pub agrees-place : (ks : List (Option Bool)) (bits : List Bool) (n : ℕ) → n < length bits → agrees ks bits ≡ (agrees ks bits && agrees_at (get_or ks n None) (bit_in bits n))
 agrees-place [] bits n within = refl
 agrees-place (k ∷ ks) [] n within = absurd (omega (arith, within))
-agrees-place (k ∷ ks) (b ∷ bits) zero within = twice (agrees_at k b) (agrees ks bits)
-  where
-    twice : (x y : Bool) → (x && y) ≡ ((x && y) && x)
-    twice true true = refl
-    twice true false = refl
-    twice false y = refl
-agrees-place (k ∷ ks) (b ∷ bits) (suc n) within =
-    ap (λ x. agrees_at k b && x) (agrees-place ks bits n (omega (arith, within)))
-    ∙ sym (and_assoc (agrees_at k b) (agrees ks bits) (agrees_at (get_or ks n None) (bit_in bits n)))
+agrees-place (k ∷ ks) (b ∷ bits) zero within = grind arith
+agrees-place (k ∷ ks) (b ∷ bits) (suc n) within = grind (arith, agrees-place ks bits n)
 
 -- a bit that becomes known at an open place is asked of the bit there too
 pub agrees-set : (ks : List (Option Bool)) (bits : List Bool) (n : ℕ) (bit : Bool) → n < length ks → n < length bits → get_or ks n None ≡ None
     → (agrees ks bits && same_bit bit (bit_in bits n)) ≡ agrees (set ks n (Some bit)) bits
 agrees-set [] bits n bit room within is_open = absurd (omega (arith, room))
 agrees-set (k ∷ ks) [] n bit room within is_open = absurd (omega (arith, within))
-agrees-set (k ∷ ks) (b ∷ bits) zero bit room within is_open =
-    ap (λ x. (agrees_at x b && agrees ks bits) && same_bit bit b) is_open ∙ and_comm (agrees ks bits) (same_bit bit b)
-agrees-set (k ∷ ks) (b ∷ bits) (suc n) bit room within is_open =
-    and_assoc (agrees_at k b) (agrees ks bits) (same_bit bit (bit_in bits n))
-    ∙ ap (λ x. agrees_at k b && x) (agrees-set ks bits n bit (omega (arith, room)) (omega (arith, within)) is_open)
+agrees-set (k ∷ ks) (b ∷ bits) zero bit room within is_open = grind arith
+agrees-set (k ∷ ks) (b ∷ bits) (suc n) bit room within is_open = grind (arith, agrees-set ks bits n bit)

@@ -9,10 +9,7 @@ use Rattle.state_rules.proofs.NodeValues.{are_below}
 -- where a fact holds of a number as soon as it holds of those below it, it holds of all below n
 pub each_below : (P : ℕ → Type 0) (n : ℕ) → ((i : ℕ) → i < n → ((k : ℕ) → k < i → P k) → P i) → (m : ℕ) → m ≤ n → (k : ℕ) → k < m → P k
 each_below P n step zero most k h = absurd (omega arith)
-each_below P n step (suc m) most k h = ⊎_elim
-    (λ (p : k < m). each_below P n step m (omega arith) k p)
-    (λ (p : m ≤ k). step k (omega arith) (λ j g. each_below P n step m (omega arith) j (omega arith)))
-    (cases_lt k m)
+each_below P n step (suc m) most k h = grind (arith, each_below P n step m)
 
 -- ---- any of them
 
@@ -20,11 +17,7 @@ each_below P n step (suc m) most k h = ⊎_elim
 pub any_more : (Q : Type 0) (f g : ℕ → Bool) (own : ℕ) (kids : List ℕ) → are_below own kids ≡ true → ((k : ℕ) → k < own → f k ≡ true → (g k ≡ true) × Q)
     → list_any (λ b. b) (map f kids) ≡ true → (list_any (λ b. b) (map g kids) ≡ true) × Q
 any_more Q f g own [] below more any = absurd (let no : false ≡ true = any in cc)
-any_more Q f g own (kid ∷ kids) below more any =
-    let parts = and_parts (nat_lt kid own) (are_below own kids) below in ⊎_elim
-    (λ h. let r = more kid (ltb-true kid own parts.0) h in (or_left _ _ r.0, r.1))
-    (λ h. let r = any_more Q f g own kids parts.1 more h in (or_right _ _ r.0, r.1))
-    (or_cases (f kid) (list_any (λ b. b) (map f kids)) any)
+any_more Q f g own (kid ∷ kids) below more any = grind (arith, any_more Q f g own kids)
 
 -- ---- at most one of them
 
@@ -34,19 +27,13 @@ at_most_one-none (true ∷ bs) none = absurd (false≢true (sym none))
 at_most_one-none (false ∷ bs) none = at_most_one-none bs none
 
 pub at_most_one-tail : (b : Bool) (bs : List Bool) → at_most_one (b ∷ bs) ≡ true → at_most_one bs ≡ true
-at_most_one-tail true bs e = at_most_one-none bs (not-true _ e)
-at_most_one-tail false bs e = e
+at_most_one-tail bit1 bs e = grind (arith, at_most_one-none)
 
 pub not_both : (b : Bool) (bs : List Bool) → at_most_one (b ∷ bs) ≡ true → (b && list_any (λ x. x) bs) ≡ false
-not_both true bs e = not-true _ e
-not_both false bs e = refl
+not_both bit1 bs e = grind arith
 
 pub at_most_one-from : (b : Bool) (bs : List Bool) → (list_any (λ x. x) bs ≡ true → b ≡ false) → at_most_one bs ≡ true → at_most_one (b ∷ bs) ≡ true
-at_most_one-from true bs h e = ap not (off (list_any (λ x. x) bs) h) where
-  off : (x : Bool) → (x ≡ true → true ≡ false) → x ≡ false
-  off true h = absurd (let no : true ≡ false = h refl in cc)
-  off false h = refl
-at_most_one-from false bs h e = e
+at_most_one-from bit1 bs h e = grind arith
 
 -- fewer are true
 pub at_most_one-less : (f g : ℕ → Bool) (own : ℕ) (kids : List ℕ) → are_below own kids ≡ true → ((k : ℕ) → k < own → f k ≡ true → g k ≡ true)

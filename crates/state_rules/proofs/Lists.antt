@@ -29,11 +29,7 @@ length-filter-le p xs = omega (arith, length-filter p xs, count_by-le-length p x
 -- what passes two tests
 pub filter-filter : {A : Type 0} (p q : A → Bool) (xs : List A) → filter p (filter q xs) ≡ filter (λ x. q x && p x) xs
 filter-filter p q [] = refl
-filter-filter p q (x ∷ xs) = by_test (q x) (filter-filter p q xs) where
-  by_test : (t : Bool) → filter p (filter q xs) ≡ filter (λ x. q x && p x) xs
-      → filter p (cond t (x ∷ filter q xs) (filter q xs)) ≡ cond (t && p x) (x ∷ filter (λ x. q x && p x) xs) (filter (λ x. q x && p x) xs)
-  by_test true e = ap (λ ys. cond (p x) (x ∷ ys) ys) e
-  by_test false e = e
+filter-filter p q (x ∷ xs) = grind (arith, filter-filter p q xs)
 
 -- what stands at a place stays there where more follows
 pub slice_get-before : {A : Type 0} (xs ys : List A) (i : ℕ) (x : A) → slice_get xs i ≡ Some x → slice_get (xs ++ ys) i ≡ Some x

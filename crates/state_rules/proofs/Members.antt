@@ -66,10 +66,7 @@ pub record Passing {A : Type 0} (p : A → Bool) (xs : List A) : Type 0 where
 
 pub any_from : {A : Type 0} (p : A → Bool) (xs : List A) → list_any p xs ≡ true → Passing p xs
 any_from p [] e = absurd (cc)
-any_from {A} p (x ∷ xs) e = by_first (any_from p xs) (p x) refl e where
-  by_first : (list_any p xs ≡ true → Passing p xs) → (b : Bool) → p x ≡ b → (b || list_any p xs) ≡ true → Passing p (x ∷ xs)
-  by_first more true q e = record { item = x; is_in = inl refl; passes = q }
-  by_first more false q e = let r = more e in record { item = r.item; is_in = inr r.is_in; passes = r.passes }
+any_from {A} p (x ∷ xs) e = grind (arith, any_from p xs)
 
 pub any_in : {A : Type 0} (p : A → Bool) (x : A) (xs : List A) → In x xs → p x ≡ true → list_any p xs ≡ true
 any_in p x [] h e = absurd h
@@ -79,22 +76,12 @@ any_in p x (y ∷ ys) (inr h) e = or_right _ _ (any_in p x ys h e)
 -- what is in a filtered list
 pub In-filter : {A : Type 0} (p : A → Bool) (x : A) (xs : List A) → In x (filter p xs) → In x xs × (p x ≡ true)
 In-filter p x [] m = absurd m
-In-filter {A} p x (y ∷ ys) m = by_test (In-filter p x ys) (p y) refl m where
-  later : In x ys × (p x ≡ true) → In x (y ∷ ys) × (p x ≡ true)
-  later s = (inr s.0, s.1)
-
-  by_test : (In x (filter p ys) → In x ys × (p x ≡ true)) → (b : Bool) → p y ≡ b → In x (cond b (y ∷ filter p ys) (filter p ys)) → In x (y ∷ ys) × (p x ≡ true)
-  by_test more true e (inl q) = (inl q, ap p q ∙ e)
-  by_test more true e (inr r) = later (more r)
-  by_test more false e r = later (more r)
+In-filter {A} p x (y ∷ ys) m = grind (arith, In-filter p x ys)
 
 pub In-filtered : {A : Type 0} (p : A → Bool) (x : A) (xs : List A) → In x xs → p x ≡ true → In x (filter p xs)
 In-filtered p x [] m e = absurd m
 In-filtered p x (y ∷ ys) (inl q) e = rw (subst (λ z. p z ≡ true) q e) (inl q)
-In-filtered {A} p x (y ∷ ys) (inr r) e = by_test (In-filtered p x ys r e) (p y) where
-  by_test : In x (filter p ys) → (b : Bool) → In x (cond b (y ∷ filter p ys) (filter p ys))
-  by_test more true = inr more
-  by_test more false = more
+In-filtered {A} p x (y ∷ ys) (inr r) e = grind (arith, In-filtered p x ys r e)
 
 pub empty-none : {A : Type 0} (xs : List A) → ((x : A) → In x xs → ⊥) → xs ≡ []
 empty-none [] h = refl
@@ -115,20 +102,16 @@ AtMost None n = ⊥
 AtMost (Some c) n = c ≤ n
 
 pub AtMost-le : (o : Option ℕ) (n m : ℕ) → AtMost o n → n ≤ m → AtMost o m
-AtMost-le None n m h e = h
-AtMost-le (Some c) n m h e = omega arith
+AtMost-le o n m h e = grind arith
 
 AtMost-least_with : (n : ℕ) (o : Option ℕ) → AtMost (least_with n o) n
-AtMost-least_with n None = omega arith
-AtMost-least_with n (Some m) = omega arith
+AtMost-least_with n o = grind arith
 
 AtMost-least_with_rest : (n : ℕ) (o : Option ℕ) (k : ℕ) → AtMost o k → AtMost (least_with n o) k
-AtMost-least_with_rest n None k h = absurd h
-AtMost-least_with_rest n (Some m) k h = omega arith
+AtMost-least_with_rest n o k h = grind arith
 
 from_least_with : (n : ℕ) (o : Option ℕ) (k : ℕ) → least_with n o ≡ Some k → (n ≡ k) ⊎ (o ≡ Some k)
-from_least_with n None k e = inl cc
-from_least_with n (Some m) k e = grind arith
+from_least_with n o k e = grind arith
 
 module _ {A : Type 0} (size : A → ℕ) (p : A → Bool) where
   abbrev pub least_size : List A → Option ℕ
@@ -137,10 +120,7 @@ module _ {A : Type 0} (size : A → ℕ) (p : A → Bool) where
   pub least-below : (x : A) (xs : List A) → In x xs → p x ≡ true → AtMost (least_size xs) (size x)
   least-below x [] h e = absurd h
   least-below x (y ∷ ys) (inl q) e = rw (subst (λ z. p z ≡ true) q e) (subst (λ z. AtMost (least_with (size y) (least_size ys)) (size z)) (sym q) (AtMost-least_with (size y) (least_size ys)))
-  least-below x (y ∷ ys) (inr h) e = by_first (least-below x ys h e) (p y) where
-    by_first : AtMost (least_size ys) (size x) → (b : Bool) → AtMost (least_of (map size (cond b (y ∷ filter p ys) (filter p ys)))) (size x)
-    by_first rest true = AtMost-least_with_rest (size y) (least_size ys) (size x) rest
-    by_first rest false = rest
+  least-below x (y ∷ ys) (inr h) e = grind (arith, least-below x ys h e)
 
   pub record OfSize (n : ℕ) (xs : List A) : Type 0 where
     pub item : A
@@ -150,10 +130,4 @@ module _ {A : Type 0} (size : A → ℕ) (p : A → Bool) where
 
   pub least-from : (n : ℕ) (xs : List A) → least_size xs ≡ Some n → OfSize n xs
   least-from n [] e = absurd (cc)
-  least-from n (y ∷ ys) e = by_first (least-from n ys) (p y) refl e where
-    later : OfSize n ys → OfSize n (y ∷ ys)
-    later r = record { item = r.item; is_in = inr r.is_in; passes = r.passes; is_size = r.is_size }
-
-    by_first : (least_size ys ≡ Some n → OfSize n ys) → (b : Bool) → p y ≡ b → least_of (map size (cond b (y ∷ filter p ys) (filter p ys))) ≡ Some n → OfSize n (y ∷ ys)
-    by_first more true q e = ⊎_elim (λ s. record { item = y; is_in = inl refl; passes = q; is_size = s }) (λ s. later (more s)) (from_least_with (size y) (least_size ys) n e)
-    by_first more false q e = later (more e)
+  least-from n (y ∷ ys) e = grind (arith, least-from n ys)

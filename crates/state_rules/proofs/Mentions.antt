@@ -34,20 +34,14 @@ none_of f [] h = refl
 none_of f (k ∷ kids) h = rw (h k) (none_of f kids h)
 
 not_mentioned : (v : ℕ) (kind : NodeKind) (kids : List ℕ) (earlier : List Bool) → has_variable v kind ≡ false → AllFalse earlier → mention_by v kind (map (bit_in earlier) kids) ≡ false
-not_mentioned v (Literal positive var) kids earlier other h = other
-not_mentioned v And kids earlier other h = none_of (bit_in earlier) kids h
-not_mentioned v Or kids earlier other h = none_of (bit_in earlier) kids h
+not_mentioned v kind kids earlier other h = grind (arith, none_of)
 
 all-false : (v : ℕ) (nodes : List Node) (earlier : List Bool) → is_used nodes v ≡ false → AllFalse earlier → AllFalse (values_after (mention v) earlier nodes)
 all-false v [] earlier unused h = h
-all-false v (node ∷ nodes) earlier unused h =
-    let both = or_parts (has_variable v node.what) (is_used nodes v) unused in
-    all-false v nodes (earlier ++ mention v node earlier ∷ []) both.1 (AllFalse-push earlier _ h (not_mentioned v node.what node.kids earlier both.0 h))
+all-false v (node ∷ nodes) earlier unused h = grind (arith, AllFalse-push, not_mentioned, all-false v nodes (earlier ++ mention v node earlier ∷ []))
 
 none_apart : (f : ℕ → Bool) (kind : NodeKind) (kids : List ℕ) → ((k : ℕ) → f k ≡ false) → apart_at f kind kids ≡ true
-none_apart f (Literal positive var) kids none = refl
-none_apart f And kids none = at_most_one-none (map f kids) (none_of f kids none)
-none_apart f Or kids none = refl
+none_apart f kind kids none = grind (arith, at_most_one-none, none_of)
 
 unshared : (nodes : List Node) (node : Node) (v : ℕ) → is_used nodes v ≡ false → shares nodes node v ≡ false
 unshared nodes node v unused = ap not (none_apart (mentions nodes v) node.what node.kids (all-false v nodes [] unused (λ k. refl)))
@@ -61,9 +55,7 @@ pub record IsUsed (nodes : List Node) (v : ℕ) : Type 0 where
   pub literal : (node_at nodes at).what ≡ Literal positive v
 
 used_kind : (v : ℕ) (kind : NodeKind) → has_variable v kind ≡ true → (positive : Bool) × (kind ≡ Literal positive v)
-used_kind v (Literal positive var) e = let same = eqb-true var v e in (positive, ap (λ u. Literal positive u) same)
-used_kind v And e = absurd (let no : false ≡ true = e in cc)
-used_kind v Or e = absurd (let no : false ≡ true = e in cc)
+used_kind v kind e = grind arith
 
 IsUsed-from : (nodes : List Node) (v : ℕ) → is_used nodes v ≡ true → IsUsed nodes v
 IsUsed-from [] v e = absurd (let no : false ≡ true = e in cc)
@@ -73,16 +65,10 @@ IsUsed-from (node ∷ nodes) v e = elim (or_cases (has_variable v node.what) (is
 ]
 
 pub IsUsed-mentioned : (nodes : List Node) (v i : ℕ) → mentions nodes v i ≡ true → IsUsed nodes v
-IsUsed-mentioned nodes v i mentioned = elim (cases_Bool (is_used nodes v)) [
-  | inl used ↦ IsUsed-from nodes v used
-  | inr unused ↦ absurd (false≢true (sym (all-false v nodes [] unused (λ k. refl) i) ∙ mentioned))
-]
+IsUsed-mentioned nodes v i mentioned = grind (arith, IsUsed-from, all-false)
 
 pub IsUsed-shared : (nodes : List Node) (node : Node) (v : ℕ) → shares nodes node v ≡ true → IsUsed nodes v
-IsUsed-shared nodes node v shared = elim (cases_Bool (is_used nodes v)) [
-  | inl used ↦ IsUsed-from nodes v used
-  | inr unused ↦ absurd (let no : true ≡ false = sym shared ∙ unshared nodes node v unused in cc)
-]
+IsUsed-shared nodes node v shared = grind (arith, IsUsed-from, unshared)
 
 -- and lies in their range
 pub record InRange (vars v : ℕ) : Type 0 where
@@ -100,7 +86,4 @@ mentioned-range vars nodes v i fit mentioned = IsUsed-range vars nodes v fit (Is
 
 -- no kids share variable 0
 pub unshared-0 : (vars : ℕ) (nodes : List Node) (node : Node) → nodes_fit vars 0 nodes ≡ true → shares nodes node 0 ≡ false
-unshared-0 vars nodes node fit = elim (cases_Bool (shares nodes node 0)) [
-  | inl shared ↦ (let range = IsUsed-range vars nodes 0 fit (IsUsed-shared nodes node 0 shared) in absurd (omega (arith, range.low)))
-  | inr none ↦ none
-]
+unshared-0 vars nodes node fit = grind (arith, IsUsed-range, IsUsed-shared)

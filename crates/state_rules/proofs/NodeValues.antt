@@ -26,9 +26,7 @@ below-each own kids below k d h = ltb-true (get_or kids k d) own (list_all-at (�
 -- where two functions agree below a number, they agree on kids that are below it
 pub map-below : {A : Type 0} (f g : ℕ → A) (own : ℕ) (kids : List ℕ) → are_below own kids ≡ true → ((k : ℕ) → k < own → f k ≡ g k) → map f kids ≡ map g kids
 map-below f g own [] below same = refl
-map-below f g own (kid ∷ kids) below same =
-    let parts = and_parts (nat_lt kid own) (are_below own kids) below in
-    λ i. same kid (ltb-true kid own parts.0) i ∷ map-below f g own kids parts.1 same i
+map-below f g own (kid ∷ kids) below same = grind (arith, map-below f g own kids)
 
 pub node_at-last : (nodes : List Node) (node : Node) → node_at (nodes ++ node ∷ []) (length nodes) ≡ node
 node_at-last nodes node = get_or_at nodes node [] true_node (length nodes) refl
@@ -43,9 +41,7 @@ module _ (by_kind : NodeKind → List Bool → Bool) where
 
   pub value_of-at : (nodes : List Node) (i : ℕ) → i < length nodes → are_below i (node_at nodes i).kids ≡ true
       → value_of nodes i ≡ by_kind (node_at nodes i).what (map (value_of nodes) (node_at nodes i).kids)
-  value_of-at nodes i inside below =
-      values-at value nodes i true_node inside false
-      ∙ ap (by_kind (node_at nodes i).what) (map-below (bit_in (values value (take i nodes))) (value_of nodes) i (node_at nodes i).kids below (λ k h. values-before value nodes i true_node inside k false h))
+  value_of-at nodes i inside below = grind (arith, values-at, map-below, values-before)
 
   pub value_of-get : (nodes : List Node) (i : ℕ) (node : Node) → slice_get nodes i ≡ Some node → are_below i node.kids ≡ true
       → value_of nodes i ≡ by_kind node.what (map (value_of nodes) node.kids)

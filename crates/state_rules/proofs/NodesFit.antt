@@ -15,9 +15,7 @@ use Rattle.state_rules.proofs.Lists.{AllByRecursion-append}
 
 pub nodes_fit-at : (vars own : ℕ) (nodes : List Node) (i : ℕ) → nodes_fit vars own nodes ≡ true → i < length nodes → node_fits vars (own + i) (node_at nodes i) ≡ true
 nodes_fit-at vars own [] i all inside = absurd (omega arith)
-nodes_fit-at vars own (node ∷ nodes) zero all inside =
-    let here : own ≡ own + 0 = omega arith in
-    subst (λ o. node_fits vars o node ≡ true) here (and_parts (node_fits vars own node) (nodes_fit vars (own + 1) nodes) all).0
+nodes_fit-at vars own (node ∷ nodes) zero all inside = grind arith
 nodes_fit-at vars own (node ∷ nodes) (suc i) all inside =
     let there : (own + 1) + i ≡ own + suc i = omega arith in
     subst (λ o. node_fits vars o (node_at nodes i) ≡ true) there
@@ -41,10 +39,7 @@ pub record IsLiteral (vars var : ℕ) (kids : List ℕ) : Type 0 where
   pub high : var ≤ vars
 
 pub literal : (vars var : ℕ) (positive : Bool) (kids : List ℕ) → kind_fits vars (Literal positive var) kids ≡ true → IsLiteral vars var kids
-literal vars var positive kids fit =
-    let parts = and_parts (length kids == 0) (nat_le 1 var && nat_le var vars) fit in
-    let range = and_parts (nat_le 1 var) (nat_le var vars) parts.1 in
-    record { alone = nil_from_length kids (eqb-true (length kids) 0 parts.0); low = leb-true 1 var range.0; high = leb-true var vars range.1 }
+literal vars var positive kids fit = grind (arith, nil_from_length)
 
 pub each_apart : (f : ℕ → Bool) (nodes : List Node) (i : ℕ) → AllByRecursion (λ (n : Node). apart_at f n.what n.kids ≡ true) nodes → i < length nodes → apart_at f (node_at nodes i).what (node_at nodes i).kids ≡ true
 each_apart f [] i all inside = absurd (omega arith)
@@ -60,27 +55,16 @@ apart-get f nodes i node all there = subst (λ (n : Node). apart_at f n.what n.k
 -- ---- one more
 
 nodes_fit-push : (vars own : ℕ) (nodes : List Node) (node : Node) → nodes_fit vars own nodes ≡ true → node_fits vars (own + length nodes) node ≡ true → nodes_fit vars own (nodes ++ node ∷ []) ≡ true
-nodes_fit-push vars own [] node all one =
-    let here : own + 0 ≡ own = omega arith in
-    and_from _ _ (subst (λ o. node_fits vars o node ≡ true) here one) refl
-nodes_fit-push vars own (m ∷ nodes) node all one =
-    let parts = and_parts (node_fits vars own m) (nodes_fit vars (own + 1) nodes) all in
-    let here : own + suc (length nodes) ≡ own + 1 + length nodes = omega arith in
-    and_from _ _ parts.0 (nodes_fit-push vars (own + 1) nodes node parts.1 (subst (λ o. node_fits vars o node ≡ true) here one))
+nodes_fit-push vars own [] node all one = grind arith
+nodes_fit-push vars own (m ∷ nodes) node all one = grind (arith, nodes_fit-push vars (own + 1) nodes node)
 
 pub apart_at-below : (f g : ℕ → Bool) (own : ℕ) (kind : NodeKind) (kids : List ℕ) → are_below own kids ≡ true → ((k : ℕ) → k < own → f k ≡ g k) → apart_at f kind kids ≡ apart_at g kind kids
-apart_at-below f g own (Literal positive var) kids below same = refl
-apart_at-below f g own And kids below same = ap at_most_one (map-below f g own kids below same)
-apart_at-below f g own Or kids below same = refl
+apart_at-below f g own kind kids below same = grind (arith, map-below)
 
 apart-same : (vars own bound : ℕ) (f g : ℕ → Bool) → ((k : ℕ) → k < bound → f k ≡ g k) → (nodes : List Node) → own + length nodes ≤ bound → nodes_fit vars own nodes ≡ true
     → AllByRecursion (λ (n : Node). apart_at f n.what n.kids ≡ true) nodes → AllByRecursion (λ (n : Node). apart_at g n.what n.kids ≡ true) nodes
 apart-same vars own bound f g same [] few all h = tt
-apart-same vars own bound f g same (m ∷ nodes) few all h =
-    let parts = and_parts (node_fits vars own m) (nodes_fit vars (own + 1) nodes) all in (
-      sym (apart_at-below f g own m.what m.kids (fits vars own m parts.0).below (λ k lt. same k (omega arith))) ∙ h.0,
-      apart-same vars (own + 1) bound f g same nodes (omega arith) parts.1 h.1,
-    )
+apart-same vars own bound f g same (m ∷ nodes) few all h = grind (arith, apart_at-below, apart-same vars (own + 1) bound f g same nodes)
 
 pub AreNodes-push : (vars : ℕ) (nodes : List Node) (node : Node) → AreNodes vars nodes → node_fits vars (length nodes) node ≡ true → ((v : ℕ) → apart_at (mentions nodes v) node.what node.kids ≡ true) → AreNodes vars (nodes ++ node ∷ [])
 AreNodes-push vars nodes node are one apart = record {

@@ -27,8 +27,7 @@ pub record Differs (h k : List Bool) : Type 0 where
 
 pub differs : (h k : List Bool) → is_before h k ≡ true → Differs h k
 differs [] k e = absurd (cc)
-differs (false ∷ h) [] e = absurd (cc)
-differs (true ∷ h) [] e = absurd (cc)
+differs (bit1 ∷ h) [] e = grind arith
 differs (false ∷ h) (true ∷ k) e = record { at = 0; within = omega arith; alike = λ i g. absurd (omega arith); faulty = refl; ok = refl }
 differs (true ∷ h) (false ∷ k) e = absurd (cc)
 differs (false ∷ h) (false ∷ k) e = let d = differs h k e in later d where
@@ -46,8 +45,7 @@ differs (true ∷ h) (true ∷ k) e = let d = differs h k e in later d where
 
 pub not_both_before : (h k : List Bool) → is_before h k ≡ true → is_before k h ≡ true → ⊥
 not_both_before [] k e f = cc
-not_both_before (false ∷ h) [] e f = cc
-not_both_before (true ∷ h) [] e f = cc
+not_both_before (bit1 ∷ h) [] e f = grind arith
 not_both_before (false ∷ h) (true ∷ k) e f = cc
 not_both_before (true ∷ h) (false ∷ k) e f = cc
 not_both_before (false ∷ h) (false ∷ k) e f = not_both_before h k e f
@@ -74,8 +72,7 @@ Sorted-append (x ∷ xs) ys s t h = (
 )
 
 front-before : (b : Bool) (x y : List Bool) → is_before x y ≡ true → is_before (b ∷ x) (b ∷ y) ≡ true
-front-before true x y e = e
-front-before false x y e = e
+front-before bit1 x y e = grind arith
 
 Sorted-map : (b : Bool) (xs : List (List Bool)) → Sorted xs → Sorted (map (λ bs. b ∷ bs) xs)
 Sorted-map b [] s = tt
@@ -93,10 +90,7 @@ Sorted-states (suc n) = Sorted-append _ _ (Sorted-map false (lists_of_bits n) (S
 
 pub Sorted-filter : (p : List Bool → Bool) (xs : List (List Bool)) → Sorted xs → Sorted (filter p xs)
 Sorted-filter p [] s = tt
-Sorted-filter p (x ∷ xs) s = by_test (Sorted-filter p xs s.1) (p x) where
-  by_test : Sorted (filter p xs) → (b : Bool) → Sorted (cond b (x ∷ filter p xs) (filter p xs))
-  by_test more true = (λ y m. s.0 y (In-filter p y xs m).0, more)
-  by_test more false = more
+Sorted-filter p (x ∷ xs) s = grind (arith, In-filter, Sorted-filter p xs s.1)
 
 -- a state of a sorted list before which none stands is its first
 pub first-sorted : (xs : List (List Bool)) (h d : List Bool) → Sorted xs → In h xs → ((k : List Bool) → In k xs → (k ≡ h) ⊎ (is_before h k ≡ true)) → get_or xs 0 d ≡ h

@@ -14,8 +14,7 @@ module _ {N A : Type 0} (f : N → List A → A) where
 
   pub values_after-keeps : (es : List A) (ns : List N) (k : ℕ) (d : A) → k < length es → get_or (values_after f es ns) k d ≡ get_or es k d
   values_after-keeps es [] k d l = refl
-  values_after-keeps es (n ∷ ns) k d l =
-      values_after-keeps (es ++ f n es ∷ []) ns k d (omega (arith, length_push es (f n es))) ∙ get_or_append_left es (f n es ∷ []) d k l
+  values_after-keeps es (n ∷ ns) k d l = grind (arith, length_push, get_or_append_left, values_after-keeps (es ++ f n es ∷ []) ns k d)
 
   module _ (ns : List N) (k : ℕ) (x : N) (l : k < length ns) where
     before : List A
@@ -30,12 +29,7 @@ module _ {N A : Type 0} (f : N → List A → A) where
 
     -- a value is by the values before it
     pub values-at : (d : A) → get_or (values f ns) k d ≡ f (get_or ns k x) (values f (take k ns))
-    values-at d =
-        let es = values f (take k ns) in
-        let y = f (get_or ns k x) es in
-        ap (λ vs. get_or vs k d) split
-        ∙ values_after-keeps (es ++ y ∷ []) (drop (k + 1) ns) k d (omega (arith, length_push es y, length-before))
-        ∙ get_or_push es y d k length-before
+    values-at d = grind (arith, split, values_after-keeps, length_push, length-before, get_or_push)
 
     -- and those are the same in the whole list
     pub values-before : (j : ℕ) (d : A) → j < k → get_or (values f (take k ns)) j d ≡ get_or (values f ns) j d

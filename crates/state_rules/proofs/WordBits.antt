@@ -11,22 +11,10 @@ use Rattle.state_rules.specs.Bits.{has_bit}
 use Rattle.state_rules.proofs.Lists.{any-push}
 
 or-bits : (m n : ℕ) → m < 2 → n < 2 → (max m n == 1) ≡ ((m == 1) || (n == 1))
-or-bits zero zero h g = refl
-or-bits zero (suc zero) h g = refl
-or-bits (suc zero) zero h g = refl
-or-bits (suc zero) (suc zero) h g = refl
-or-bits zero (suc (suc n)) h g = absurd (omega arith)
-or-bits (suc zero) (suc (suc n)) h g = absurd (omega arith)
-or-bits (suc (suc m)) n h g = absurd (omega arith)
+or-bits m n h g = grind arith
 
 and-bits : (m n : ℕ) → m < 2 → n < 2 → (min m n == 1) ≡ ((m == 1) && (n == 1))
-and-bits zero zero h g = refl
-and-bits zero (suc zero) h g = refl
-and-bits (suc zero) zero h g = refl
-and-bits (suc zero) (suc zero) h g = refl
-and-bits zero (suc (suc n)) h g = absurd (omega arith)
-and-bits (suc zero) (suc (suc n)) h g = absurd (omega arith)
-and-bits (suc (suc m)) n h g = absurd (omega arith)
+and-bits m n h g = grind arith
 
 pub has_bit-or : (x y b : ℕ) → has_bit (bit_or x y) b ≡ (has_bit x b || has_bit y b)
 has_bit-or x y b = ap (λ n. n == 1) (bit_at_or x y b) ∙ or-bits (bit_at x b) (bit_at y b) (bit_at-lt x b) (bit_at-lt y b)
@@ -39,10 +27,7 @@ has_bit-zero b = ap (λ n. n == 1) (bit_at-zero b)
 
 -- one bit alone, in a word of so many bits
 pub one_bit : (width k b : ℕ) → k < width → has_bit (1 * 2 ^ k % 2 ^ width) b ≡ (b == k)
-one_bit width k b lt = ap (λ w. has_bit w b) (one_shl k width lt) ∙ ⊎_elim
-    (λ e. ap (has_bit (2 ^ k)) e ∙ ap (λ n. n == 1) (bit_at-pow_same k) ∙ sym (eq-eqb b k e))
-    (λ ne. ap (λ n. n == 1) (bit_at-pow_other k b ne) ∙ sym (ne_eqb b k ne))
-    (cases_eq b k)
+one_bit width k b lt = grind (arith, one_shl, bit_at-pow_same, bit_at-pow_other)
 
 -- ---- the words of some kids, joined
 

@@ -32,12 +32,7 @@ lookup-seen name (e ∷ es) = ap (cond (same_name name e.0.now) (Some e.1)) (loo
 
 pub insert-seen : (key : Bor Name) (driver : Driver) (es : Entries) → seen (insert_entry same_key es key driver) ≡ insert_entry same_name (seen es) key.now driver
 insert-seen key driver [] = refl
-insert-seen key driver (e ∷ es) = by (same_name key.now e.0.now) (insert-seen key driver es)
-  where
-    by : (b : Bool) → seen (insert_entry same_key es key driver) ≡ insert_entry same_name (seen es) key.now driver
-        → seen (if b then (e.0, driver) ∷ es else e ∷ insert_entry same_key es key driver) ≡ (if b then (e.0.now, driver) ∷ seen es else (e.0.now, e.1) ∷ insert_entry same_name (seen es) key.now driver)
-    by true h = refl
-    by false h = ap (λ (ds : Signals). (e.0.now, e.1) ∷ ds) h
+insert-seen key driver (e ∷ es) = grind (arith, insert-seen key driver es)
 
 pub keys-seen : (es : Entries) → map (λ (k : Bor Name). k.now) (keys_of es) ≡ keys_of (seen es)
 keys-seen [] = refl
@@ -82,8 +77,7 @@ module _ (line : ℕ) (es new : Entries) (key : Bor Name) (old : Option Driver) 
   input-free none made = ap (λ d. unless_gate line d (insert_entry same_name (seen es) key.now Outside)) (looked ∙ none) ∙ ap Ok (sym (ap seen made ∙ insert-seen key Outside es))
 
   pub input-again : (driver : Driver) → old ≡ Some driver → driver ≡ Outside → new ≡ insert_entry same_key es key Outside → driven_more (seen es) (line, Input key.now) ≡ Ok (seen new)
-  input-again driver some outside made =
-      ap (λ d. unless_gate line d (insert_entry same_name (seen es) key.now Outside)) (looked ∙ some ∙ ap Some outside) ∙ ap Ok (sym (ap seen made ∙ insert-seen key Outside es))
+  input-again driver some outside made = grind (arith, looked, insert-seen)
 
   pub input-gate : (driver : Driver) → old ≡ Some driver → driver ≡ ByGate → driven_more (seen es) (line, Input key.now) ≡ Err (fault_at DrivenTwice line)
   input-gate driver some gate = ap (λ d. unless_gate line d (insert_entry same_name (seen es) key.now Outside)) (looked ∙ some ∙ ap Some gate)

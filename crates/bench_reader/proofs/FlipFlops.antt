@@ -1,5 +1,5 @@
 -- The flip-flops among statements, and the parts that they are.
-use Rattle.std.proofs.Common.{◌≡◌, ℕ, ◌+◌, ◌<◌, ◌≤◌, Bool, true, false, cond, List, [], ◌∷◌, ◌++◌, map, length, drop, get_or, Bor, Ok, refl, sym, ap, subst, ◌∙◌, append_assoc}
+use Rattle.std.proofs.Common.{◌≡◌, ℕ, ◌+◌, ◌<◌, ◌≤◌, Bool, true, false, cond, List, [], ◌∷◌, ◌++◌, map, length, drop, get_or, Bor, Ok, refl, sym, ap, subst, ◌∙◌, append_assoc, arith}
 use Rattle.std.specs.Prelude.{◌||◌, ◌&&◌, nat_le, if◌then◌else◌}
 use Rattle.std.specs.List.{list_any, list_all, filter, filter_map, flat_map, enumerate_from}
 use Rattle.std.proofs.lemmas.Bool.{and_parts, leb-true}
@@ -63,22 +63,14 @@ kept-insert ks k name = by (list_any (λ (j : Bor Name). same_name k.now j.now) 
 
 pub named_flip_flop : (statement : StatementRead) (output : Bor Name) (kind : NamedKind) (inputs : Inputs) (name : Name)
     → statement ≡ GateRead output kind inputs → kind ≡ KeepsItsValue → is_among (flip_flop (meaning statement)) name ≡ same_name name output.now
-named_flip_flop statement output kind inputs name is keeps =
-    ap (λ (s : StatementRead). is_among (flip_flop (meaning s)) name) (is ∙ ap (λ (k : NamedKind). GateRead output k inputs) keeps) ∙ or-false (same_name name output.now)
+named_flip_flop statement output kind inputs name is keeps = grind arith
 
 -- one statement more
 pub kept-more : (statements : List NumberedStatement) (i : ℕ) (s : NumberedStatement) (name : Name) (old new whole : Bool) → i < length statements → s ≡ get_or statements i s
     → new ≡ (old || is_among (flip_flop (meaning s.statement)) name)
     → (old || is_among (flip_flops (map with_number (drop i statements))) name) ≡ whole
     → (new || is_among (flip_flops (map with_number (drop (i + 1) statements))) name) ≡ whole
-kept-more statements i s name old new whole lt is added inv =
-    let rest = is_among (flip_flops (map with_number (drop (i + 1) statements))) name in
-    let here = is_among (flip_flop (meaning s.statement)) name in
-    let next : drop i statements ≡ s ∷ drop (i + 1) statements = drop_more statements i s lt ∙ ap (λ (t : NumberedStatement). t ∷ drop (i + 1) statements) (sym is) in
-    ap (λ b. b || rest) added ∙ or_assoc old here rest
-    ∙ ap (λ b. old || b) (sym (ap (λ (ss : List NumberedStatement). is_among (flip_flops (map with_number ss)) name) next
-    ∙ list_any-append (same_name name) (flip_flop (meaning s.statement)) (flip_flops (map with_number (drop (i + 1) statements)))))
-    ∙ inv
+kept-more statements i s name old new whole lt is added inv = grind (arith, drop_more)
 
 -- ---- the places of parts
 
@@ -91,14 +83,7 @@ module _ (test : Name → Bool) (parts : List Component) (i : ℕ) (part : Compo
   next_part = ap part_names (drop_more parts i part lt ∙ ap (λ (p : Component). p ∷ drop (i + 1) parts) (sym is))
 
   places-next : (b : Bool) → test part.name ≡ b → places_from test i (part_names (drop i parts)) ≡ (if b then i ∷ places_from test (i + 1) (part_names (drop (i + 1) parts)) else places_from test (i + 1) (part_names (drop (i + 1) parts)))
-  places-next b e = ap (places_from test i) next_part ∙ by b e
-    where
-      rest : List (ℕ × Name)
-      rest = filter (λ (n : ℕ × Name). test n.1) (enumerate_from (i + 1) (part_names (drop (i + 1) parts)))
-
-      by : (b : Bool) → test part.name ≡ b → map (λ (n : ℕ × Name). n.0) (cond (test part.name) ((i, part.name) ∷ rest) rest) ≡ (if b then i ∷ map (λ (n : ℕ × Name). n.0) rest else map (λ (n : ℕ × Name). n.0) rest)
-      by true e = ap (λ c. map (λ (n : ℕ × Name). n.0) (cond c ((i, part.name) ∷ rest) rest)) e
-      by false e = ap (λ c. map (λ (n : ℕ × Name). n.0) (cond c ((i, part.name) ∷ rest) rest)) e
+  places-next b e = grind (arith, next_part)
 
   pub places-taken : (done whole : List ℕ) → test part.name ≡ true → whole ≡ done ++ places_from test i (part_names (drop i parts))
       → whole ≡ (done ++ i ∷ []) ++ places_from test (i + 1) (part_names (drop (i + 1) parts))
@@ -110,16 +95,7 @@ module _ (test : Name → Bool) (parts : List Component) (i : ℕ) (part : Compo
   places-left done whole e inv = inv ∙ ap (λ ps. done ++ ps) (places-next false e)
 
 places-same : (p q : Name → Bool) → ((n : Name) → p n ≡ q n) → (at : ℕ) (names : List Name) → places_from p at names ≡ places_from q at names
-places-same p q same at [] = refl
-places-same p q same at (n ∷ names) =
-    (λ j. map (λ (m : ℕ × Name). m.0) (cond (same n j) ((at, n) ∷ filter (λ (m : ℕ × Name). p m.1) (enumerate_from (at + 1) names)) (filter (λ (m : ℕ × Name). p m.1) (enumerate_from (at + 1) names))))
-    ∙ by (q n) (places-same p q same (at + 1) names)
-  where
-    by : (b : Bool) → places_from p (at + 1) names ≡ places_from q (at + 1) names
-        → map (λ (m : ℕ × Name). m.0) (cond b ((at, n) ∷ filter (λ (m : ℕ × Name). p m.1) (enumerate_from (at + 1) names)) (filter (λ (m : ℕ × Name). p m.1) (enumerate_from (at + 1) names)))
-        ≡ map (λ (m : ℕ × Name). m.0) (cond b ((at, n) ∷ filter (λ (m : ℕ × Name). q m.1) (enumerate_from (at + 1) names)) (filter (λ (m : ℕ × Name). q m.1) (enumerate_from (at + 1) names)))
-    by true h = ap (λ (ks : List ℕ). at ∷ ks) h
-    by false h = h
+places-same p q same at names = grind arith
 
 -- the same places by two tests that are the same
 pub places-by : (p q : Name → Bool) → ((n : Name) → p n ≡ q n) → (names : List Name) → places_where p names ≡ places_where q names
@@ -131,14 +107,10 @@ gates_named : (statements : List Statement) → list_all is_short_name (flat_map
 gates_named [] h = refl
 gates_named (Input signal ∷ statements) h = gates_named statements (and_parts (is_short_name signal) (list_all is_short_name (flat_map driven statements)) h).1
 gates_named (Output signal ∷ statements) h = gates_named statements h
-gates_named (Gate output kind inputs ∷ statements) h =
-    let two = and_parts (is_short_name output) (list_all is_short_name (flat_map driven statements)) h in
-    ap (λ b. b && list_all is_short_name (flat_map driven_by_gate statements)) two.0 ∙ gates_named statements two.1
+gates_named (Gate output kind inputs ∷ statements) h = grind (arith, gates_named statements)
 
 is_few : (name : Name) → is_short_name name ≡ true → length name ≤ 64
-is_few name h =
-    let sizes = and_parts (nat_le 1 (length name) && nat_le (length name) 64) (list_all is_name_byte name) h in
-    leb-true (length name) 64 (and_parts (nat_le 1 (length name)) (nat_le (length name) 64) sizes.0).1
+is_few name h = grind arith
 
 short_device : (statements : List Statement) → list_all is_faultless statements ≡ true → HasShortNames (device_of statements)
 short_device statements h =
@@ -172,8 +144,7 @@ netlist-short flip_flops text device h = by (filter_map fault_in (readings flip_
 
 module _ (text : List ℕ) where
   pub handed : (error : BenchError) → IsExpectedFault (told error) (netlist_with Taken text) → IsExpectedFault (told error) (sequential_netlist text)
-  handed (Bad line what) h = ap (with_delayed (flip_flops (filter_map statement_in (readings Taken text)))) h
-  handed Memory h = tt
+  handed error h = grind arith
 
   module _ (statements : List (ℕ × Statement)) (read : statements_or_fault (readings Taken text) ≡ Ok statements) where
     pub device_read : (device : Device) → device_or_fault statements ≡ Ok device → netlist_with Taken text ≡ Ok device

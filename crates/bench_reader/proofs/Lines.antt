@@ -1,5 +1,5 @@
 -- What lines say, from line to line.
-use Rattle.std.proofs.Common.{◌≡◌, ℕ, ◌+◌, Bool, true, false, List, [], ◌∷◌, ◌++◌, map, drop, get_or, length, Option, Some, None, Ok, Err, append_assoc, refl, sym, ap, subst, ◌∙◌, ◌<◌, drop-drop}
+use Rattle.std.proofs.Common.{◌≡◌, ℕ, ◌+◌, Bool, true, false, List, [], ◌∷◌, ◌++◌, map, drop, get_or, length, Option, Some, None, Ok, Err, append_assoc, refl, sym, ap, subst, ◌∙◌, ◌<◌, drop-drop, arith}
 use Rattle.std.specs.Prelude.{Result, is_none, if◌then◌else◌}
 use Rattle.std.specs.List.{list_all, filter_map, enumerate_from, flat_map}
 use Rattle.std.proofs.lemmas.Bool.{and_parts, and_from}
@@ -30,32 +30,11 @@ pub record IsReadTo (flip_flops : FlipFlops) (number : ℕ) (lines left : List (
 
 -- where a statement has no fault, it has none with flip-flops taken either
 taken_too : (flip_flops : FlipFlops) (s : Statement) → statement_fault flip_flops s ≡ None → is_faultless s ≡ true
-taken_too flip_flops (Input signal) h = ap is_none h
-taken_too flip_flops (Output signal) h = ap is_none h
-taken_too Taken (Gate output kind inputs) h = ap is_none h
-taken_too Refused (Gate output kind inputs) h = by (list_all is_short_name (output ∷ inputs)) kind h
-  where
-    by : (b : Bool) (k : NamedKind) → (if b then kind_fault Refused (length inputs) k else Some NoName) ≡ None → is_none (if b then kind_fault Taken (length inputs) k else Some NoName) ≡ true
-    by true (Combinational gate) h = ap is_none h
-    by true Sequential h = cc
-    by true Unknown h = cc
-    by false k h = cc
+taken_too flip_flops s h = grind arith
 
 -- a statement that a line makes has no fault
 read_is_faultless : (flip_flops : FlipFlops) (line : List ℕ) (s : Statement) → reading flip_flops line ≡ Ok (Some s) → is_faultless s ≡ true
-read_is_faultless flip_flops line s e = over (tokens true (uncommented line)) e
-  where
-    by : (f : Statement) (fault : Option BenchFault) → statement_fault flip_flops f ≡ fault → unless_faulty f fault ≡ Ok (Some s) → is_faultless s ≡ true
-    by f None g h = let same : f ≡ s = cc in ap is_faultless (sym same) ∙ taken_too flip_flops f g
-    by f (Some w) g h = cc
-
-    of_statement : (o : Option Statement) → reading_of_statement flip_flops o ≡ Ok (Some s) → is_faultless s ≡ true
-    of_statement None h = cc
-    of_statement (Some f) h = by f (statement_fault flip_flops f) refl h
-
-    over : (ts : List (List ℕ)) → reading_of flip_flops ts ≡ Ok (Some s) → is_faultless s ≡ true
-    over [] h = cc
-    over (t ∷ ts) h = of_statement (statement_of (t ∷ ts)) h
+read_is_faultless flip_flops line s e = grind (arith, taken_too)
 
 abbrev pub said : ℕ × Statement → Statement
 said s = s.1
@@ -63,22 +42,14 @@ said s = s.1
 -- each statement that lines make has no fault
 pub read_are_faultless : (flip_flops : FlipFlops) (n : ℕ) (lines : List (List ℕ)) → list_all is_faultless (map said (filter_map statement_in (readings_from flip_flops n lines))) ≡ true
 read_are_faultless flip_flops n [] = refl
-read_are_faultless flip_flops n (line ∷ lines) = by (reading flip_flops line) refl (read_are_faultless flip_flops (n + 1) lines)
-  where
-    by : (r : Result (Option Statement) BenchFault) → reading flip_flops line ≡ r → list_all is_faultless (map said (filter_map statement_in (readings_from flip_flops (n + 1) lines))) ≡ true
-        → list_all is_faultless (map said (filter_map statement_in ((n, r) ∷ readings_from flip_flops (n + 1) lines))) ≡ true
-    by (Ok None) e h = h
-    by (Err what) e h = h
-    by (Ok (Some s)) e h = and_from _ _ (read_is_faultless flip_flops line s e) h
+read_are_faultless flip_flops n (line ∷ lines) = grind (arith, and_from, read_is_faultless, read_are_faultless flip_flops (n + 1) lines)
 
 -- ---- statements one after the other
 
 -- what is left of statements passes, so the next one does and those behind it
 pub faultless_next : {S : Type 0} (means : S → Statement) (statements : List S) (i : ℕ) (default : S) → i < length statements → list_all is_faultless (map means (drop i statements)) ≡ true
     → is_faultless (means (get_or statements i default)) ≡ true
-faultless_next means statements i default l h =
-    (and_parts (is_faultless (means (get_or statements i default))) (list_all is_faultless (map means (drop (i + 1) statements)))
-    (sym (ap (λ ss. list_all is_faultless (map means ss)) (drop_more statements i default l)) ∙ h)).0
+faultless_next means statements i default l h = grind (arith, drop_more)
 
 pub faultless_rest : {S : Type 0} (means : S → Statement) (statements : List S) (i : ℕ) → list_all is_faultless (map means (drop i statements)) ≡ true
     → list_all is_faultless (map means (drop (i + 1) statements)) ≡ true
@@ -94,10 +65,4 @@ faultless_rest means statements i h =
 pub items-more : {S A B : Type 0} (items : Statement → List A) (shown : A → B) (means : S → Statement) (statements : List S) (i : ℕ) (default : S) (whole done found : List B)
     → i < length statements → whole ≡ done ++ map shown (flat_map items (map means (drop i statements))) → found ≡ map shown (items (means (get_or statements i default)))
     → whole ≡ (done ++ found) ++ map shown (flat_map items (map means (drop (i + 1) statements)))
-items-more items shown means statements i default whole done found l h e =
-    let here = items (means (get_or statements i default)) in
-    let rest = flat_map items (map means (drop (i + 1) statements)) in
-    h ∙ ap (λ ss. done ++ map shown (flat_map items (map means ss))) (drop_more statements i default l)
-    ∙ ap (λ xs. done ++ xs) (map-append shown here rest)
-    ∙ sym (append_assoc done (map shown here) (map shown rest))
-    ∙ ap (λ xs. (done ++ xs) ++ map shown rest) (sym e)
+items-more items shown means statements i default whole done found l h e = grind (arith, drop_more, map-append, append_assoc)

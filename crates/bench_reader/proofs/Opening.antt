@@ -23,10 +23,7 @@ abbrev place : List ℕ → ℕ
 place line = position_or_len (λ b. b == 40) line
 
 later : (b : ℕ) (line : List ℕ) → (b == 40) ≡ false → behind_bracket (b ∷ line) ≡ behind_bracket line
-later b line other =
-    let first : place (b ∷ line) ≡ 1 + place line = ap (λ t. cond (not t) (1 + place line) 0) other in
-    let on : place (b ∷ line) + 1 ≡ suc (place line + 1) = omega (arith, first) in
-    ap (λ k. drop k (b ∷ line)) on
+later b line other = grind arith
 
 blank_is_other : (b : ℕ) → is_blank b ≡ true → (b == 40) ≡ false
 blank_is_other b blank = grind (arith, nat_tests)
@@ -36,17 +33,11 @@ byte_is_other b inside = grind (arith, nat_tests)
 
 -- a word that begins with another byte is no bracket
 word_is_other : (ends : Bool) (b : ℕ) (ts others : List (List ℕ)) (first : List ℕ) → (b == 40) ≡ false → before_tokens ends b ts ≡ first ∷ others → is_open first ≡ false
-word_is_other ends b [] others first other e = cc
-word_is_other true b (t ∷ ts) others first other e = cc
-word_is_other false b (t ∷ ts) others first other e = cc
+word_is_other ends b ts others first other e = grind arith
 
 -- nor is one that a word goes on with
 rest_is_other : (others : List (List ℕ)) (text first : List ℕ) → ends_word true text ≡ false → tokens true text ≡ first ∷ others → is_open first ≡ false
-rest_is_other others [] first goes e = cc
-rest_is_other others (c ∷ text) first goes e =
-    let parts = or_parts (is_blank c) (stands_alone true c) goes in
-    let inside = and_from _ _ (not_from_false _ parts.0) (not_from_false _ parts.1) in
-    word_is_other (ends_word true text) c (tokens true text) others first (byte_is_other c inside) (sym (tokens-byte true c text inside) ∙ e)
+rest_is_other others text first goes e = grind arith
 
 -- ---- the tokens behind the first bracket
 
@@ -54,23 +45,8 @@ abbrev IsBehind : List ℕ → Type 0
 IsBehind line = (before after : List (List ℕ)) → tokens true line ≡ before ++ (codes "(" ∷ after) → none_opens before ≡ true → tokens true (behind_bracket line) ≡ after
 
 on_mark : (b : ℕ) (line : List ℕ) → IsBehind line → tokens true (b ∷ line) ≡ (b ∷ []) ∷ tokens true line → IsBehind (b ∷ line)
-on_mark b line behind is [] after e none =
-    let first : b ≡ 40 = cc in
-    let rest : tokens true line ≡ after = cc in
-    ap (λ c. tokens true (behind_bracket (c ∷ line))) first ∙ rest
-on_mark b line behind is (token ∷ before) after e none =
-    let parts = and_parts (not (is_open token)) (none_opens before) none in
-    let token_is : b ∷ [] ≡ token = cc in
-    let other : is_open (b ∷ []) ≡ false = ap is_open token_is ∙ not-true _ parts.0 in
-    let rest : tokens true line ≡ before ++ (codes "(" ∷ after) = cc in
-    ap (tokens true) (later b line (byte_by b other)) ∙ behind before after rest parts.1
-  where
-    by : (t : Bool) → (t && true) ≡ false → t ≡ false
-    by true e = e
-    by false e = refl
-
-    byte_by : (c : ℕ) → is_open (c ∷ []) ≡ false → (c == 40) ≡ false
-    byte_by c other = by (c == 40) other
+on_mark b line behind is [] after e none = grind arith
+on_mark b line behind is (token ∷ before) after e none = grind (arith, later)
 
 on_byte : (b : ℕ) (line : List ℕ) → IsBehind line → (b == 40) ≡ false → tokens true (b ∷ line) ≡ before_tokens (ends_word true line) b (tokens true line) → IsBehind (b ∷ line)
 on_byte b line behind other is before after e none =
@@ -81,9 +57,7 @@ on_byte b line behind other is before after e none =
     by ends ts goes all [] after e none = absurd (false≢true (sym (word_is_other ends b ts after (codes "(") other e)))
     by ends [] goes all (token ∷ []) after e none = absurd (let no : ⊥ = cc in no)
     by ends [] goes all (token ∷ next ∷ before) after e none = absurd (let no : ⊥ = cc in no)
-    by true (t ∷ ts) goes all (token ∷ before) after e none =
-        let rest : t ∷ ts ≡ before ++ (codes "(" ∷ after) = cc in
-        behind before after (all ∙ rest) (and_parts (not (is_open token)) (none_opens before) none).1
+    by true (t ∷ ts) goes all (token ∷ before) after e none = grind arith
     by false (t ∷ ts) goes all (token ∷ before) after e none =
         let rest : ts ≡ before ++ (codes "(" ∷ after) = cc in
         behind (t ∷ before) after (all ∙ ap (λ us. t ∷ us) rest)
@@ -92,11 +66,7 @@ on_byte b line behind other is before after e none =
 pub tokens_behind : (line : List ℕ) → IsBehind line
 tokens_behind [] [] after e none = absurd (let no : ⊥ = cc in no)
 tokens_behind [] (token ∷ before) after e none = absurd (let no : ⊥ = cc in no)
-tokens_behind (b ∷ line) before after e none = elim (byte_kinds true b) [
-  | inl blank ↦ ap (tokens true) (later b line (blank_is_other b blank)) ∙ tokens_behind line before after (sym (tokens-blank true b line blank) ∙ e) none
-  | inr (inl alone) ↦ on_mark b line (tokens_behind line) (tokens-mark true b line alone) before after e none
-  | inr (inr inside) ↦ on_byte b line (tokens_behind line) (byte_is_other b inside) (tokens-byte true b line inside) before after e none
-]
+tokens_behind (b ∷ line) before after e none = grind (arith, later, on_mark, on_byte, tokens_behind line)
 
 -- a word without a mark is no bracket
 unmarked_is_other : (word : List ℕ) → has_no_mark word ≡ true → is_open word ≡ false

@@ -21,8 +21,7 @@ one_byte (b ∷ []) k h l e = ap (λ x. x ∷ []) e
 one_byte (b ∷ d ∷ m) k h l e = absurd (omega arith)
 
 some_with_first : (x : Name) (o : Option (List Name)) → is_some (option_map (λ (names : List Name). x ∷ names) o) ≡ is_some o
-some_with_first x None = refl
-some_with_first x (Some names) = refl
+some_with_first x o = grind arith
 
 -- A list goes on behind a word, a comma and the next word.
 pub listed_behind_comma : (x m y : Name) (left behind ts : List (List ℕ)) → has_no_mark x ≡ true → left ≡ m ∷ behind → m ≡ codes "," → behind ≡ y ∷ ts
@@ -35,8 +34,7 @@ AreWords ts None = Unit {0}
 AreWords ts (Some names) = filter has_no_mark ts ≡ names
 
 with_more : (x mark : Name) (ts : List (List ℕ)) (o : Option (List Name)) → has_no_mark x ≡ true → mark ≡ codes "," → AreWords ts o → AreWords (x ∷ mark ∷ ts) (option_map (λ (names : List Name). x ∷ names) o)
-with_more x mark ts None w m h = tt
-with_more x mark ts (Some names) w m h = rw (m, w) (ap (λ (ns : List Name). x ∷ ns) h)
+with_more x mark ts o w m h = grind arith
 
 listed_words : (ts : List (List ℕ)) → AreWords ts (listed_from ts)
 listed_words [] = tt
@@ -67,38 +65,28 @@ input_words (x ∷ y ∷ ts) = listed_words (x ∷ y ∷ ts)
 -- ---- gates
 
 gate_with : (output : Name) (kind : NamedKind) (ts : List (List ℕ)) (o : Option (List Name)) → AreWords ts o → is_some o ≡ true → option_map (Gate output kind) o ≡ Some (Gate output kind (filter has_no_mark ts))
-gate_with output kind ts None w h = cc
-gate_with output kind ts (Some names) w h = ap (λ (ns : List Name). Some (Gate output kind ns)) (sym w)
+gate_with output kind ts o w h = grind arith
 
 gate_behind : (output kind : Name) (ts : List (List ℕ)) → has_no_mark output ≡ true → has_no_mark kind ≡ true → is_some (inputs_in ts) ≡ true
     → statement_of (output ∷ codes "=" ∷ kind ∷ codes "(" ∷ ts) ≡ Some (Gate output (kind_named kind) (filter has_no_mark ts))
-gate_behind output kind [] o k h = cc
-gate_behind output kind (t ∷ ts) o k h = rw (o, k) (gate_with output (kind_named kind) (t ∷ ts) (inputs_in (t ∷ ts)) (input_words (t ∷ ts)) h)
+gate_behind output kind ts o k h = grind (arith, input_words)
 
 -- A line of two words with an equals sign between them, a bracket and a list makes a gate.
 pub statement_of_gate : (output kind bracket : Name) (line left behind ts : List (List ℕ)) → line ≡ output ∷ codes "=" ∷ left → left ≡ kind ∷ behind → behind ≡ bracket ∷ ts
     → bracket ≡ codes "(" → has_no_mark output ≡ true → has_no_mark kind ≡ true → is_some (inputs_in ts) ≡ true
     → Some (Gate output (kind_named kind) (filter has_no_mark ts)) ≡ statement_of line
-statement_of_gate output kind bracket line left behind ts e f g b o k h =
-    let whole : line ≡ output ∷ codes "=" ∷ kind ∷ codes "(" ∷ ts = cc in
-    rw whole (sym (gate_behind output kind ts o k h))
+statement_of_gate output kind bracket line left behind ts e f g b o k h = grind (arith, gate_behind)
 
 -- What is wrong with a gate whose output and inputs are names is wrong with its kind.
 pub fault_of_gate : (flip_flops : FlipFlops) (output : Name) (kind : NamedKind) (names : List Name) (count : ℕ) → Some count ≡ count_names names → is_short_name output ≡ true
     → statement_fault flip_flops (Gate output kind names) ≡ kind_fault flip_flops count kind
-fault_of_gate flip_flops output kind names count c o = rw o (by (list_all is_short_name names) c)
-  where
-    by : (b : Bool) → Some count ≡ (if b then Some (length names) else None)
-        → (if b then kind_fault flip_flops (length names) kind else Some NoName) ≡ kind_fault flip_flops count kind
-    by true e = cc
-    by false e = cc
+fault_of_gate flip_flops output kind names count c o = grind arith
 
 -- ---- so many inputs
 
 -- A line has no more inputs than bytes.
 pub inputs_fit : (inputs : Inputs) → length (input_names inputs) ≤ length inputs.text.now
-inputs_fit inputs =
-    omega (arith, length-filter has_no_mark (input_tokens inputs), count_by-le-length has_no_mark (input_tokens inputs), length-tokens true inputs.text.now)
+inputs_fit inputs = grind (arith, length-filter, count_by-le-length, length-tokens)
 
 pub word_behind : (token : List ℕ) (left behind : List (List ℕ)) → left ≡ token ∷ behind → has_no_mark token ≡ true → 1 ≤ length (filter has_no_mark left)
 word_behind token left behind e w = rw (e, w) (omega arith)

@@ -36,22 +36,10 @@ pub record IsFaultlessGate (output : Name) (kind : NamedKind) (inputs : List Nam
   pub taken : takes_inputs (rule gate) (length inputs) ≡ true
 
 no_fault : (b : Bool) (fault : Option BenchFault) → is_none (if b then fault else Some NoName) ≡ true → (b ≡ true) × (is_none fault ≡ true)
-no_fault true fault h = (refl, h)
-no_fault false fault h = cc
+no_fault bit1 fault h = grind arith
 
 pub faultless_gate : (output : Name) (kind : NamedKind) (inputs : List Name) → is_faultless (Gate output kind inputs) ≡ true → IsFaultlessGate output kind inputs
-faultless_gate output kind inputs h =
-    let fine = no_fault _ (kind_fault Taken (length inputs) kind) h in
-    by kind (and_parts (is_short_name output) (list_all is_short_name inputs) fine.0).0 fine.1
-  where
-    took : (b : Bool) → is_none {T = BenchFault} (if b then None else Some WrongInputs) ≡ true → b ≡ true
-    took true e = refl
-    took false e = cc
-
-    by : (m : NamedKind) → is_short_name output ≡ true → is_none (kind_fault Taken (length inputs) m) ≡ true → IsFaultlessGate output m inputs
-    by (Combinational gate) s f = record { named = s; gate = gate; meant = refl; taken = took (takes_inputs (rule gate) (length inputs)) f }
-    by Sequential s f = record { named = s; gate = Buff; meant = refl; taken = took (takes_inputs (rule Buff) (length inputs)) f }
-    by Unknown s f = cc
+faultless_gate output kind inputs h = grind arith
 
 -- ---- one part
 
@@ -60,13 +48,10 @@ abbrev pub named_names : List NamedPart → List Name
 named_names parts = map (λ (part : NamedPart). part.name) parts
 
 pub names-part_of : (s : Statement) → is_faultless s ≡ true → named_names (part_of s) ≡ driven_by_gate s
-names-part_of (Input signal) h = refl
-names-part_of (Output signal) h = refl
-names-part_of (Gate output kind inputs) h = ap (λ k. named_names (option_to_list (option_map (part_over output inputs) k))) (faultless_gate output kind inputs h).meant
+names-part_of s h = grind arith
 
 takes_one_more : (r : Rule) (n : ℕ) → takes_inputs r n ≡ true → takes_ports [] r (n + 1) ≡ true
-takes_one_more (OfGate gate) n h = let same : n + 1 - 1 ≡ n = omega arith in ap (takes gate) same ∙ h
-takes_one_more (OfTable t) n h = cc
+takes_one_more r n h = grind arith
 
 module _ (wires : List Name) where
   -- a part of the right arity, over wires that are there
@@ -75,17 +60,11 @@ module _ (wires : List Name) where
 
   gate_fits : (output : Name) (kind : NamedKind) (inputs : List Name) → IsFaultlessGate output kind inputs → list_all (is_among wires) (inputs ++ output ∷ []) ≡ true
       → list_all fits (part_of (Gate output kind inputs)) ≡ true
-  gate_fits output kind inputs gate there =
-      let ports = length-map (inputs ++ output ∷ []) (place_in wires) ∙ length_push inputs output in
-      ap (λ k. list_all fits (option_to_list (option_map (part_over output inputs) k))) gate.meant
-      ∙ and_from _ _ (and_from _ _ (ap (takes_ports [] (rule gate.gate)) ports ∙ takes_one_more (rule gate.gate) (length inputs) gate.taken) there) refl
+  gate_fits output kind inputs gate there = grind (arith, length-map, length_push)
 
   pub statement_fits : (s : Statement) → is_faultless s ≡ true → list_all (is_among wires) (driven_by_gate s) ≡ true → list_all (is_among wires) (used s) ≡ true
       → list_all fits (part_of s) ≡ true
-  statement_fits (Input signal) h drives uses = refl
-  statement_fits (Output signal) h drives uses = refl
-  statement_fits (Gate output kind inputs) h drives uses =
-      gate_fits output kind inputs (faultless_gate output kind inputs h) (list_all-append (is_among wires) inputs (output ∷ []) ∙ and_from _ _ uses drives)
+  statement_fits s h drives uses = grind (arith, gate_fits, faultless_gate, list_all-append)
 
   -- ---- all parts
 
@@ -94,43 +73,26 @@ module _ (wires : List Name) where
       → list_all (λ s. list_all (is_among wires) (used s)) statements ≡ true
       → list_all fits (flat_map part_of statements) ≡ true
   statements_fit [] h drives uses = refl
-  statements_fit (s ∷ statements) h drives uses =
-      let faultless = and_parts (is_faultless s) (list_all is_faultless statements) h in
-      let gates = and_parts (list_all (is_among wires) (driven_by_gate s)) (list_all (λ (s : Statement). list_all (is_among wires) (driven_by_gate s)) statements) drives in
-      let inputs = and_parts (list_all (is_among wires) (used s)) (list_all (λ (s : Statement). list_all (is_among wires) (used s)) statements) uses in
-      list_all-append fits (part_of s) (flat_map part_of statements)
-      ∙ and_from _ _ (statement_fits s faultless.0 gates.0 inputs.0) (statements_fit statements faultless.1 gates.1 inputs.1)
+  statements_fit (s ∷ statements) h drives uses = grind (arith, list_all-append, statement_fits, statements_fit statements)
 
   -- parts that fit have their arities and their wires, and the names of these back
   pub arities-joined : (parts : List NamedPart) → list_all fits parts ≡ true → list_all (has_arity []) (map (joined wires) parts) ≡ true
   arities-joined [] h = refl
-  arities-joined (part ∷ parts) h =
-      let two = and_parts (fits part) (list_all fits parts) h in
-      and_from _ _ (and_parts (has_arity [] (joined wires part)) (list_all (is_among wires) part.wires) two.0).0 (arities-joined parts two.1)
+  arities-joined (part ∷ parts) h = grind (arith, arities-joined parts)
 
   pub wired-joined : (parts : List NamedPart) → list_all fits parts ≡ true → list_all (has_wires (length wires)) (map (joined wires) parts) ≡ true
   wired-joined [] h = refl
-  wired-joined (part ∷ parts) h =
-      let two = and_parts (fits part) (list_all fits parts) h in
-      and_from _ _ (joined-wired wires part (and_parts (has_arity [] (joined wires part)) (list_all (is_among wires) part.wires) two.0).1) (wired-joined parts two.1)
+  wired-joined (part ∷ parts) h = grind (arith, joined-wired, wired-joined parts)
 
   pub named_back : (parts : List NamedPart) → list_all fits parts ≡ true → map (named wires) (map (joined wires) parts) ≡ parts
   named_back [] h = refl
-  named_back (part ∷ parts) h =
-      let two = and_parts (fits part) (list_all fits parts) h in
-      let first = named-joined wires part (and_parts (has_arity [] (joined wires part)) (list_all (is_among wires) part.wires) two.0).1 in
-      let rest = named_back parts two.1 in
-      cc
+  named_back (part ∷ parts) h = grind (arith, named-joined, named_back parts)
 
 -- ---- names
 
 pub names-parts : (statements : List Statement) → list_all is_faultless statements ≡ true → named_names (flat_map part_of statements) ≡ flat_map driven_by_gate statements
 names-parts [] h = refl
-names-parts (s ∷ statements) h =
-    let two = and_parts (is_faultless s) (list_all is_faultless statements) h in
-    map-append (λ (part : NamedPart). part.name) (part_of s) (flat_map part_of statements)
-    ∙ ap (λ ns. ns ++ named_names (flat_map part_of statements)) (names-part_of s two.0)
-    ∙ ap (λ ns. driven_by_gate s ++ ns) (names-parts statements two.1)
+names-parts (s ∷ statements) h = grind (arith, names-parts statements)
 
 pub names-joined : (wires : List Name) (parts : List NamedPart) → part_names (map (joined wires) parts) ≡ named_names parts
 names-joined wires parts = map-map (λ (part : Component). part.name) (joined wires) parts

@@ -1,5 +1,5 @@
 -- The statements that drive a signal again: there are none exactly where the signals are found, and else the first is told.
-use Rattle.std.proofs.Common.{◌≡◌, ℕ, Bool, true, false, cond, List, [], ◌∷◌, map, Option, Some, None, is_some, refl, sym, ap, subst, ◌∙◌}
+use Rattle.std.proofs.Common.{◌≡◌, ℕ, Bool, true, false, cond, List, [], ◌∷◌, map, Option, Some, None, is_some, refl, sym, ap, subst, ◌∙◌, arith}
 use Rattle.std.specs.Prelude.{◌||◌, Result, Ok, Err, if◌then◌else◌}
 use Rattle.std.specs.List.{flat_map}
 use Rattle.std.specs.Map.{keys_of}
@@ -31,33 +31,15 @@ Splits (Err fault) statements above = (lines : List ℕ) × (fault ≡ fault_at 
 Splits (Ok ds) statements above = (driven_twice_below above statements ≡ []) × Ends ds above (map said statements)
 
 or_moves : (a b x : Bool) → (b || (a || x)) ≡ ((a || b) || x)
-or_moves true true x = refl
-or_moves true false x = refl
-or_moves false b x = refl
+or_moves a b x = grind arith
 
 module _ (f : ℕ × Statement) (statements : List (ℕ × Statement)) (above : List Statement) where
   lifted : (o : Result Signals Fault) → is_driven_twice above f.1 ≡ false → Splits o statements (f.1 ∷ above) → Splits o (f ∷ statements) above
-  lifted (Err fault) e h = (h.0, h.1, ap (λ (b : Bool). if b then f.0 ∷ driven_twice_below (f.1 ∷ above) statements else driven_twice_below (f.1 ∷ above) statements) e ∙ h.2)
-  lifted (Ok ds) e h = (
-    ap (λ (b : Bool). if b then f.0 ∷ driven_twice_below (f.1 ∷ above) statements else driven_twice_below (f.1 ∷ above) statements) e ∙ h.0,
-    record {
-      all = λ m.
-          let here = is_among (driven f.1) m in
-          let up = is_among (flat_map driven above) m in
-          let down = is_among (flat_map driven (map said statements)) m in
-          ap (λ (b : Bool). up || b) (list_any-append (same_name m) (driven f.1) (flat_map driven (map said statements)))
-          ∙ or_moves here up down
-          ∙ ap (λ (b : Bool). b || down) (sym (list_any-append (same_name m) (driven f.1) (flat_map driven above)))
-          ∙ h.1.all m;
-      once = h.1.once;
-    },
-  )
+  lifted o e h = grind arith
 
   step_on : (ds more : Signals) → driven_more ds f ≡ Ok more → is_driven_twice above f.1 ≡ false → Splits (signals_from more statements) statements (f.1 ∷ above)
       → Splits (signals_from ds (f ∷ statements)) (f ∷ statements) above
-  step_on ds more e t h =
-      subst (λ (o : Result Signals Fault). Splits o (f ∷ statements) above) (sym (ap (λ r. and_then r (λ (ms : Signals). signals_from ms statements)) e))
-      (lifted (signals_from more statements) t h)
+  step_on ds more e t h = grind arith
 
   step_off : (ds : Signals) → driven_more ds f ≡ Err (fault_at DrivenTwice f.0) → is_driven_twice above f.1 ≡ true → Splits (signals_from ds (f ∷ statements)) (f ∷ statements) above
   step_off ds e t =
@@ -93,11 +75,7 @@ splits ((line, Input s) ∷ statements) above ds h =
 
 twice_parts : (f : ℕ × Statement) (statements : List (ℕ × Statement)) (above : List Statement) → driven_twice_below above (f ∷ statements) ≡ []
     → (is_driven_twice above f.1 ≡ false) × (driven_twice_below (f.1 ∷ above) statements ≡ [])
-twice_parts f statements above h = by (is_driven_twice above f.1) h
-  where
-    by : (b : Bool) → cond b (f.0 ∷ driven_twice_below (f.1 ∷ above) statements) (driven_twice_below (f.1 ∷ above) statements) ≡ [] → (b ≡ false) × (driven_twice_below (f.1 ∷ above) statements ≡ [])
-    by true e = cc
-    by false e = (refl, e)
+twice_parts f statements above h = grind arith
 
 still_above : (f : Statement) (above : List Statement) (m : Name) → is_among (flat_map driven above) m ≡ true → is_among (flat_map driven (f ∷ above)) m ≡ true
 still_above f above m e = list_any-append (same_name m) (driven f) (flat_map driven above) ∙ or_right (is_among (driven f) m) _ e
@@ -122,8 +100,4 @@ pub gates_once : (statements : List (ℕ × Statement)) (above : List Statement)
 gates_once [] above h = refl
 gates_once ((line, Input s) ∷ statements) above h = gates_once statements (Input s ∷ above) (twice_parts (line, Input s) statements above h).1
 gates_once ((line, Output s) ∷ statements) above h = gates_once statements (Output s ∷ above) (twice_parts (line, Output s) statements above h).1
-gates_once ((line, Gate o k is) ∷ statements) above h =
-    let later = (twice_parts (line, Gate o k is) statements above h).1 in
-    let rest = flat_map driven_by_gate (map said statements) in
-    let apart : is_among rest o ≡ false = gates_apart statements (Gate o k is ∷ above) o later (itself_among o (flat_map driven above) (same_if_equal o o refl)) in
-    ap (λ (b : Bool). if b then o ∷ repeated rest else repeated rest) apart ∙ gates_once statements (Gate o k is ∷ above) later
+gates_once ((line, Gate o k is) ∷ statements) above h = grind (arith, gates_apart, same_if_equal, gates_once statements (Gate o k is ∷ above))

@@ -1,5 +1,5 @@
 -- The netlist of a text, by what its lines say, what they drive and what they use.
-use Rattle.std.proofs.Common.{◌≡◌, ℕ, suc, inl, inr, Bool, true, false, cond, not, List, [], ◌∷◌, ◌++◌, map, length, Option, Some, None, Ok, Err, nat_lt, refl, sym, ap, subst, ◌∙◌}
+use Rattle.std.proofs.Common.{◌≡◌, ℕ, suc, inl, inr, Bool, true, false, cond, not, List, [], ◌∷◌, ◌++◌, map, length, Option, Some, None, Ok, Err, nat_lt, refl, sym, ap, subst, ◌∙◌, arith}
 use Rattle.std.specs.Prelude.{Result, ◌&&◌, ◌||◌, is_none, if◌then◌else◌}
 use Rattle.std.specs.List.{filter, filter_map, flat_map, list_all}
 use Rattle.std.specs.Map.{keys_of}
@@ -53,43 +53,26 @@ length-placed_new x (y ∷ ys) h = elim (compared x y) [
 ]
 
 no_repeat : (n : Name) (ns : List Name) → repeated (n ∷ ns) ≡ [] → (is_among ns n ≡ false) × (repeated ns ≡ [])
-no_repeat n ns h = by (is_among ns n) h
-  where
-    by : (b : Bool) → cond b (n ∷ repeated ns) (repeated ns) ≡ [] → (b ≡ false) × (repeated ns ≡ [])
-    by true e = cc
-    by false e = (refl, e)
+no_repeat n ns h = grind arith
 
 length-sorted_distinct_once : (ns : List Name) → repeated ns ≡ [] → length (sorted_distinct itself ns) ≡ length ns
 length-sorted_distinct_once [] h = refl
-length-sorted_distinct_once (n ∷ ns) h =
-    let two = no_repeat n ns h in
-    length-placed_new n (sorted_distinct itself ns) (λ m. true≢false (sym (is_among-among n ns (among_sorted_distinct itself ns n m)) ∙ two.0))
-    ∙ ap suc (length-sorted_distinct_once ns two.1)
+length-sorted_distinct_once (n ∷ ns) h = grind (arith, length-placed_new, is_among-among, among_sorted_distinct, length-sorted_distinct_once ns)
 
 -- ---- signals as names of wires
 
 driven_named : (s : Statement) → is_faultless s ≡ true → list_all is_short_name (driven s) ≡ true
-driven_named (Input signal) h = by (is_short_name signal) h
-  where
-    by : (b : Bool) → is_none {T = BenchFault} (if b then None else Some NoName) ≡ true → (b && true) ≡ true
-    by true e = refl
-    by false e = cc
-driven_named (Output signal) h = refl
-driven_named (Gate output kind inputs) h = and_from _ _ (faultless_gate output kind inputs h).named refl
+driven_named s h = grind arith
 
 pub all_driven_named : (statements : List Statement) → list_all is_faultless statements ≡ true → list_all is_short_name (flat_map driven statements) ≡ true
 all_driven_named [] h = refl
-all_driven_named (s ∷ statements) h =
-    let two = and_parts (is_faultless s) (list_all is_faultless statements) h in
-    list_all-append is_short_name (driven s) (flat_map driven statements) ∙ and_from _ _ (driven_named s two.0) (all_driven_named statements two.1)
+all_driven_named (s ∷ statements) h = grind (arith, all_driven_named statements)
 
 gates_pass : (p : Name → Bool) (statements : List Statement) → list_all p (flat_map driven statements) ≡ true → list_all (λ s. list_all p (driven_by_gate s)) statements ≡ true
 gates_pass p [] h = refl
 gates_pass p (Input signal ∷ statements) h = gates_pass p statements (and_parts (p signal) (list_all p (flat_map driven statements)) h).1
 gates_pass p (Output signal ∷ statements) h = gates_pass p statements h
-gates_pass p (Gate output kind inputs ∷ statements) h =
-    let two = and_parts (p output) (list_all p (flat_map driven statements)) h in
-    and_from _ _ (and_from _ _ two.0 refl) (gates_pass p statements two.1)
+gates_pass p (Gate output kind inputs ∷ statements) h = grind (arith, gates_pass p statements)
 
 -- ---- the device of statements without a fault
 
@@ -106,19 +89,7 @@ module _ (statements : List Statement) (signals : List Name) (fine : AreFaultles
   names-made = names-joined signals (flat_map part_of statements) ∙ names-parts statements fine.faultless
 
   can_be_built : CanBeBuilt (map (joined signals) (flat_map part_of statements)) signals []
-  can_be_built =
-      let parts = flat_map part_of statements in
-      let fit = statements_fit signals statements fine.faultless gates_here fine.uses in
-      let many : length (map (joined signals) parts) ≡ length (flat_map driven_by_gate statements) =
-      sym (length-map (map (joined signals) parts) component_name) ∙ ap length names-made in
-      record {
-        few_parts = rw many fine.few_parts;
-        few_wires = fine.few_wires;
-        parts_once = ap repeated names-made ∙ fine.gates_once;
-        wires_once = fine.once;
-        arities = arities-joined signals parts fit;
-        wired = wired-joined signals parts fit;
-      }
+  can_be_built = grind (arith, statements_fit, gates_here, length-map, names-made, arities-joined, wired-joined)
 
   built-device : built (map (joined signals) (flat_map part_of statements)) signals [] ≡ Ok (device_of statements)
   built-device =
@@ -157,26 +128,11 @@ IsFirst (Some line) lines = (rest : List ℕ) × (lines ≡ line ∷ rest)
 first_without : (there signals : List Name) → ((n : Name) → is_among there n ≡ is_among signals n) → (statements : List (ℕ × Statement))
     → IsFirst (first_undriven signals statements) (lines_without there statements)
 first_without there signals alike [] = refl
-first_without there signals alike ((line, s) ∷ statements) =
-    by (list_all (is_among signals) (used s)) (list_all (is_among there) (used s)) (all_same (is_among there) (is_among signals) alike (used s)) (first_without there signals alike statements)
-  where
-    by : (a b : Bool) → b ≡ a → IsFirst (first_undriven signals statements) (lines_without there statements)
-        → IsFirst (if a then first_undriven signals statements else Some line)
-        (map (λ (s : ℕ × Statement). s.0) (cond (not b) ((line, s) ∷ filter (λ (s : ℕ × Statement). not (list_all (is_among there) (used s.1))) statements) (filter (λ (s : ℕ × Statement). not (list_all (is_among there) (used s.1))) statements)))
-    by true true e h = h
-    by true false e h = cc
-    by false true e h = cc
-    by false false e h = (lines_without there statements, refl)
+first_without there signals alike ((line, s) ∷ statements) = grind (arith, first_without there signals alike statements)
 
 all_used : (signals : List Name) (statements : List (ℕ × Statement)) → first_undriven signals statements ≡ None → list_all (λ s. list_all (is_among signals) (used s)) (map said statements) ≡ true
 all_used signals [] h = refl
-all_used signals ((line, s) ∷ statements) h = by (list_all (is_among signals) (used s)) refl h (all_used signals statements)
-  where
-    by : (b : Bool) → list_all (is_among signals) (used s) ≡ b → cond b (first_undriven signals statements) (Some line) ≡ None
-        → (first_undriven signals statements ≡ None → list_all (λ s. list_all (is_among signals) (used s)) (map said statements) ≡ true)
-        → (list_all (is_among signals) (used s) && list_all (λ s. list_all (is_among signals) (used s)) (map said statements)) ≡ true
-    by true e g rest = and_from _ _ e (rest g)
-    by false e g rest = cc
+all_used signals ((line, s) ∷ statements) h = grind (arith, all_used signals statements)
 
 -- ---- statements, from step to step
 
@@ -188,8 +144,7 @@ module _ (statements : List (ℕ × Statement)) where
   pub fault_driven : (fault : Fault) → signals_from [] statements ≡ Err fault → device_or_fault statements ≡ Err fault
   fault_driven fault h =
       let split : Splits (Err fault) statements [] = subst (λ o. Splits o statements []) h (splits statements [] [] Drives-none) in
-      ap (λ ls. unless_together statements (map (fault_at DrivenTwice) ls) (map (fault_at Undriven) (undriven statements)) (too_many (map said statements))) split.2
-      ∙ ap Err (sym split.1)
+      grind arith
 
   module _ (signals : Signals) (driven_so : signals_from [] statements ≡ Ok signals) where
     split : (driven_twice statements ≡ []) × Ends signals [] (map said statements)
@@ -207,19 +162,14 @@ module _ (statements : List (ℕ × Statement)) where
         first_without (flat_map (λ (s : ℕ × Statement). driven s.1) statements) (keys_of signals) there statements
 
     pub fault_used : (line : ℕ) → first_undriven (keys_of signals) statements ≡ Some line → device_or_fault statements ≡ Err (fault_at Undriven line)
-    fault_used line h =
-        let is : IsFirst (Some line) (undriven statements) = subst (λ o. IsFirst o (undriven statements)) h first in
-        without_twice ∙ ap (λ ls. unless_together statements [] (map (fault_at Undriven) ls) (too_many (map said statements))) is.1
+    fault_used line h = grind (arith, first, without_twice)
 
     module _ (used_so : first_undriven (keys_of signals) statements ≡ None) where
       many : length (device_of (map said statements)).wires ≡ length (keys_of signals)
       many = ap length (sym (sorted_distinct-same_tests (keys_of signals) (flat_map driven (map said statements)) members)) ∙ length-sorted_distinct_once (keys_of signals) split.1.once
 
       without_undriven : device_or_fault statements ≡ unless_together statements [] [] (if is_too_large (map said statements) (keys_of signals) then fault_at TooMany 0 ∷ [] else [])
-      without_undriven =
-          without_twice
-          ∙ ap (λ ls. unless_together statements [] (map (fault_at Undriven) ls) (too_many (map said statements))) (subst (λ o. IsFirst o (undriven statements)) used_so first)
-          ∙ ap (λ n. unless_together statements [] [] (if nat_lt PART_LIMIT (length (flat_map driven_by_gate (map said statements))) || nat_lt WIRE_LIMIT n then fault_at TooMany 0 ∷ [] else [])) many
+      without_undriven = grind (arith, without_twice, first, many)
 
       pub fault_many : is_too_large (map said statements) (keys_of signals) ≡ true → device_or_fault statements ≡ Err (fault_at TooMany 0)
       fault_many h = without_undriven ∙ ap (λ b. unless_together statements [] [] (if b then fault_at TooMany 0 ∷ [] else [])) h
@@ -245,33 +195,20 @@ module _ (statements : List (ℕ × Statement)) where
 
 module _ (flip_flops : FlipFlops) (text : List ℕ) where
   fault_read : (fault : Fault) → statements_or_fault (readings flip_flops text) ≡ Err fault → netlist_with flip_flops text ≡ Err fault
-  fault_read fault h = by (filter_map fault_in (readings flip_flops text)) h
-    where
-      by : (fs : List Fault) → unless_fault fs (filter_map statement_in (readings flip_flops text)) ≡ Err fault
-          → unless_fault (fs ++ faults_together (filter_map statement_in (readings flip_flops text))) (device_of (map said (filter_map statement_in (readings flip_flops text)))) ≡ Err fault
-      by [] g = cc
-      by (f ∷ fs) g = cc
+  fault_read fault h = grind arith
 
   pub handed_read : (error : BenchError) → IsExpectedFault (told error) (statements_or_fault (readings flip_flops text)) → IsExpectedFault (told error) (netlist_with flip_flops text)
-  handed_read (Bad line what) h = fault_read (fault_at what line) h
-  handed_read Memory h = tt
+  handed_read error h = grind arith
 
   module _ (statements : List (ℕ × Statement)) (read : statements_or_fault (readings flip_flops text) ≡ Ok statements) where
     pub both : (filter_map fault_in (readings flip_flops text) ≡ []) × (filter_map statement_in (readings flip_flops text) ≡ statements)
-    both = by (filter_map fault_in (readings flip_flops text)) refl read
-      where
-        by : (fs : List Fault) → filter_map fault_in (readings flip_flops text) ≡ fs → unless_fault fs (filter_map statement_in (readings flip_flops text)) ≡ Ok statements
-            → (filter_map fault_in (readings flip_flops text) ≡ []) × (filter_map statement_in (readings flip_flops text) ≡ statements)
-        by [] e g = (e, cc)
-        by (f ∷ fs) e g = cc
+    both = grind arith
 
     pub are_faultless : list_all is_faultless (map said statements) ≡ true
     are_faultless = ap (λ ss. list_all is_faultless (map said ss)) (sym both.1) ∙ read_are_faultless flip_flops 1 (all_lines text)
 
     pub is_read : netlist_with flip_flops text ≡ device_or_fault statements
-    is_read =
-        ap (λ ss. unless_fault (filter_map fault_in (readings flip_flops text) ++ faults_together ss) (device_of (map said ss))) both.1
-        ∙ ap (λ fs. unless_fault (fs ++ faults_together statements) (device_of (map said statements))) both.0
+    is_read = grind arith
 
 -- ---- statements without their lines
 
@@ -282,5 +219,4 @@ said-with_number (s ∷ statements) = ap (λ (ss : List Statement). unnumbered s
 -- ---- faults that are handed on
 
 pub handed_driven : (error : BenchError) (statements : List (ℕ × Statement)) → IsExpectedFault (told error) (signals_from [] statements) → IsExpectedFault (told error) (device_or_fault statements)
-handed_driven (Bad line what) statements h = fault_driven statements (fault_at what line) h
-handed_driven Memory statements h = tt
+handed_driven error statements h = grind (arith, fault_driven)

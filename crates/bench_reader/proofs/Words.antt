@@ -21,29 +21,17 @@ pub capitals_from_lower : (word keyword : List ℕ) → list_all is_capital keyw
 capitals_from_lower [] [] h e = refl
 capitals_from_lower [] (k ∷ keyword) h e = cc
 capitals_from_lower (b ∷ word) [] h e = cc
-capitals_from_lower (b ∷ word) (k ∷ keyword) h e =
-    let parts = and_parts (is_capital k) (list_all is_capital keyword) h in
-    let first = capital_from_lower b k parts.0 (cc) in
-    let rest = capitals_from_lower word keyword parts.1 (cc) in
-    cc
+capitals_from_lower (b ∷ word) (k ∷ keyword) h e = grind (arith, capitals_from_lower word keyword)
 
 pub lower_from_capitals : (word keyword : List ℕ) → list_all is_capital keyword ≡ true → capitals word ≡ keyword → map to_ascii_lowercase word ≡ map to_ascii_lowercase keyword
-lower_from_capitals [] [] h e = refl
-lower_from_capitals [] (k ∷ keyword) h e = cc
+lower_from_capitals [] keyword h e = grind arith
 lower_from_capitals (b ∷ word) [] h e = cc
-lower_from_capitals (b ∷ word) (k ∷ keyword) h e =
-    let parts = and_parts (is_capital k) (list_all is_capital keyword) h in
-    let first = lower_from_capital b k parts.0 (cc) in
-    let rest = lower_from_capitals word keyword parts.1 (cc) in
-    cc
+lower_from_capitals (b ∷ word) (k ∷ keyword) h e = grind (arith, lower_from_capitals word keyword)
 
 -- words that are the same in small letters have the same capitals
 pub spells_in_any_case-test : (test : Bool) (word keyword : List ℕ) → list_all is_capital keyword ≡ true
     → (IsTrue test ↔ (map to_ascii_lowercase word ≡ map to_ascii_lowercase keyword)) → test ≡ same_name (capitals word) keyword
-spells_in_any_case-test test word keyword h e =
-    same_from_decides test (same_name (capitals word) keyword)
-    (λ t. capitals_from_lower word keyword h (e.0 t), λ c. e.1 (lower_from_capitals word keyword h c))
-    (bytes_eq-Decides (capitals word) keyword)
+spells_in_any_case-test test word keyword h e = grind (arith, capitals_from_lower, lower_from_capitals, bytes_eq-Decides)
 
 -- the words of gates are in capital letters
 pub capitals-kind : (kind : Kind) → list_all is_capital (word kind) ≡ true

@@ -1,4 +1,4 @@
-use Rattle.std.proofs.Common.{◌∙◌, ℕ, List, slice_index_or, slice_set, ap}
+use Rattle.std.proofs.Common.{◌∙◌, ℕ, List, slice_index_or, slice_set, ap, arith}
 use Rattle.std.proofs.lemmas.List.Edits.{map_over_more}
 use Rattle.device_model.specs.declared.component.Component.{Component}
 use Rattle.device_model.specs.inner.Sorting.{with_places}
@@ -9,6 +9,4 @@ loop-part-preserved c =
     let i = c.loop-part.part-index in
     let ps = c.loop-part.parts in
     let q : Component = slice_index_or ps i c.part-item.result in
-    ap (λ (ports : List ℕ). slice_set ps i (record q { ports = ports })) c.renumber.ensures
-    ∙ map_over_more (with_places c.args.places.now) c.args.parts.now ps i q c.loop-part-test.true c.loop-part.invariant
-    (ap (slice_index_or ps i) c.part-item.is)
+    grind (arith, map_over_more (with_places c.args.places.now) c.args.parts.now ps i q c.loop-part-test.true c.loop-part.invariant (ap (slice_index_or ps i) c.part-item.is))

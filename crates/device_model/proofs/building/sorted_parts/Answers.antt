@@ -25,8 +25,7 @@ returns-in-Some-clause-twice c =
     let first : IsFirstRepeat (part_names ys) (Some c.in-Some.place) = subst (λ xs. IsFirstRepeat (part_names xs) (Some c.in-Some.place)) c.deref.ensures.value c.in-Some.ensures in
     let named : get_or (part_names ys) c.in-Some.place [] ≡ c.swap_remove-name.result.name =
     get_or-map name_of ys c.in-Some.place c.swap_remove-name.result [] (omega (arith, first.1, length-map ys name_of)) ∙ ap name_of (sym c.swap_remove-name.ensures.value) in
-    λ _. subst (λ n. IsTwice (λ m. TwoParts m) (part_names c.args.parts.items) (TwoParts n)) named
-    (IsTwice-sorted (part_names c.args.parts.items) (part_names ys) moved (Ascends-map name_of ys up) (λ m. TwoParts m) c.in-Some.place first)
+    grind (arith, IsTwice-sorted, Ascends-map)
 
 pub returns-clause-sorted : goal.returns-clause-sorted
 returns-clause-sorted c =
@@ -34,8 +33,7 @@ returns-clause-sorted c =
     let up : Ascends name_of ys = Ascends-from_sort name_of ys (c.in_ok-sort_by.ensures.sorted (λ p q. is_lt (slice_cmp nat_cmp p.name q.name)) (ranks_by nat_list_cmp_total name_of) (answers_always _ _ _ (λ f a r g h. search rules))) in
     let moved : IsPermutation (part_names c.args.parts.items) (part_names ys) = IsPermutation-map name_of c.args.parts.items ys c.in_ok-sort_by.ensures.permutation in
     let differ : NeighboursDiffer (part_names ys) (length (part_names ys)) = subst (λ xs. NeighboursDiffer (part_names xs) (length (part_names xs))) c.deref.ensures.value c.in_default.ensures in
-    sorted_distinct-sorted name_of c.args.parts.items ys c.in_ok-sort_by.ensures.permutation
-    (Rises-unmap name_of ys (Rises-sorted (part_names c.args.parts.items) (part_names ys) moved (Ascends-map name_of ys up) differ))
+    grind (arith, sorted_distinct-sorted, Rises-unmap name_of ys (Rises-sorted (part_names c.args.parts.items) (part_names ys) moved (Ascends-map name_of ys up) differ))
 
 pub returns-clause-distinct : goal.returns-clause-distinct
 returns-clause-distinct c =

@@ -30,8 +30,7 @@ returns-in-Some-clause-twice c =
     let first : IsFirstRepeat (names_of ys) (Some c.in-Some.place) = subst (λ xs. IsFirstRepeat (names_of xs) (Some c.in-Some.place)) c.deref.ensures.value c.in-Some.ensures in
     let named : get_or (names_of ys) c.in-Some.place [] ≡ c.swap_remove-name.result.0 =
     get_or-map name_of ys c.in-Some.place c.swap_remove-name.result [] (omega (arith, first.1, length-map ys name_of)) ∙ ap name_of (sym c.swap_remove-name.ensures.value) in
-    λ _. subst (λ n. IsTwice (λ m. TwoWires m) c.args.wires.items (TwoWires n)) named
-    (IsTwice-sorted c.args.wires.items (names_of ys) moved (Ascends-map name_of ys up) (λ m. TwoWires m) c.in-Some.place first)
+    grind (arith, IsTwice-sorted, Ascends-map)
 
 pub returns-clause-sorted : goal.returns-clause-sorted
 returns-clause-sorted c =

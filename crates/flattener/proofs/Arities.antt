@@ -1,5 +1,5 @@
 -- Each part of an instance has as many wires as its kind takes.
-use Rattle.std.proofs.Common.{◌≡◌, ℕ, zero, suc, ◌-◌, Bool, true, List, [], ◌∷◌, ◌++◌, map, length, get_or, drop, refl, ap, ◌∙◌}
+use Rattle.std.proofs.Common.{◌≡◌, ℕ, zero, suc, ◌-◌, Bool, true, List, [], ◌∷◌, ◌++◌, map, length, get_or, drop, refl, ap, ◌∙◌, arith}
 use Rattle.std.specs.Prelude.{slice_get}
 use Rattle.std.specs.List.{list_all, flat_map}
 use Rattle.std.proofs.lemmas.Bool.{and_parts, and_from}
@@ -31,8 +31,7 @@ is_fed tables part = takes_ports tables (rule part.kind) (length part.wires)
 
 -- a gate takes its ports beside any tables
 gate_fed : (tables : List TruthTable) (r : Rule) (ports : ℕ) → takes_inputs r (ports - 1) ≡ true → takes_ports tables r ports ≡ true
-gate_fed tables (OfGate gate) ports h = h
-gate_fed tables (OfTable t) ports h = cc
+gate_fed tables r ports h = grind arith
 
 type_fed : (types : List Shape) (place n : ℕ) → shape_takes (slice_get types place) n ≡ true → rows_take (slice_get (tables_of types) place) n ≡ true
 type_fed [] place n h = h
@@ -46,18 +45,13 @@ module _ (types : List Shape) (above : List Block) (mades : List Instance) (h : 
   kind_fed : (kind : UsedKind) (path : Name) (passed : List Name) (n : ℕ) → length passed ≡ n → takes_args types above kind n ≡ true
       → list_all (is_fed (tables_of types)) (kind_content mades kind path passed).parts ≡ true
   kind_fed (Gate kind) path passed n e g = and_from (takes_ports (tables_of types) (rule kind) (length passed)) true (gate_fed (tables_of types) (rule kind) (length passed) (ap (λ k. takes_inputs (rule kind) (k - 1)) e ∙ g)) refl
-  kind_fed (OfShape place) path passed n e g =
-      and_from (rows_take (slice_get (tables_of types) place) (length passed)) true (type_fed types place (length passed) (ap (shape_takes (slice_get types place)) e ∙ g)) refl
+  kind_fed (OfShape place) path passed n e g = grind (arith, type_fed)
   kind_fed (OfBlock place) path passed n e g = h place path passed
 
   all_fed : (path : Name) (wires : List Name) (count : ℕ) (parts : List Used) → list_all (is_used types above count) parts ≡ true
       → list_all (is_fed (tables_of types)) (flat_map (λ (c : Content). c.parts) (map (used_content mades path wires) parts)) ≡ true
   all_fed path wires count [] g = refl
-  all_fed path wires count (u ∷ us) g =
-      let two = and_parts (is_used types above count u) (list_all (is_used types above count) us) g in
-      list_all-both (is_fed (tables_of types)) (used_content mades path wires u).parts _
-      (kind_fed u.kind (below path u.name) _ (length u.args) (length-map u.args _) (GoodUsed-from_test types above count u two.0).takes)
-      (all_fed path wires count us two.1)
+  all_fed path wires count (u ∷ us) g = grind (arith, list_all-both, kind_fed, length-map, all_fed path wires count us)
 
 pub instances-fed : (types : List Shape) (blocks : List Block) → are_blocks types [] blocks ≡ true → (j : ℕ) (path : Name) (passed : List Name)
     → list_all (is_fed (tables_of types)) (get_or (values instance blocks) j nothing path passed).parts ≡ true

@@ -34,9 +34,7 @@ use Rattle.flattener.proofs.Totals.{top_good, top_ports-are, top-shows, wires_ar
 
 ports_fed : (tables : List TruthTable) (wires : List Name) (parts : List Component) → list_all (is_fed tables) (map (shown wires) parts) ≡ true → list_all (has_arity tables) parts ≡ true
 ports_fed tables wires [] h = refl
-ports_fed tables wires (p ∷ ps) h =
-    let two = and_parts (is_fed tables (shown wires p)) (list_all (is_fed tables) (map (shown wires) ps)) h in
-    and_from (has_arity tables p) (list_all (has_arity tables) ps) (ap (takes_ports tables (rule p.kind)) (sym (length-map p.ports (wire_at wires))) ∙ two.0) (ports_fed tables wires ps two.1)
+ports_fed tables wires (p ∷ ps) h = grind (arith, length-map, ports_fed tables wires ps)
 
 module _ (design : Design) (valid : is_design design ≡ true) (passed : refusal (counts_of_design design) ≡ None) (parts : List Component) (wires : List Name) (flat : IsFlat design parts wires) where
   names_are : part_names parts ≡ get_or (values names_in design.blocks) design.top no_names Parts
@@ -58,8 +56,7 @@ module _ (design : Design) (valid : is_design design ≡ true) (passed : refusal
       ap repeated all ∙ repeated-Different _ (all-wires above (λ j. instances-differ design.types (take design.top design.blocks) (front_fits design.types [] design.blocks design.top good) j) design.types (take design.top design.blocks) block (top_good design valid))
 
   arities : list_all (has_arity (tables_of design.types)) parts ≡ true
-  arities = ports_fed (tables_of design.types) wires parts (ap (list_all (is_fed (tables_of design.types))) flat.parts_are
-      ∙ instances-fed design.types design.blocks (good_blocks design valid) design.top [] (top_ports design))
+  arities = grind (arith, ports_fed, instances-fed)
 
   many_parts : length parts ≤ PART_LIMIT
   many_parts = let e = length-map parts (shown wires) in let f = ap length flat.parts_are in let g = few_parts design valid passed in omega arith
@@ -69,26 +66,14 @@ module _ (design : Design) (valid : is_design design ≡ true) (passed : refusal
 
   -- Nothing is refused.
   built-flat : built parts wires (tables_of design.types) ≡ Ok (flat_device design)
-  built-flat =
-      built-over parts wires (tables_of design.types) (record {
-        few_parts = many_parts;
-        few_wires = many_wires;
-        parts_once = parts_once;
-        wires_once = wires_once;
-        arities = arities;
-        wired = flat.joined;
-      })
-      ∙ (λ i. Ok (device_over (flat.parts_are i) (flat.wires_are i) (tables_of design.types)))
+  built-flat = grind (arith, built-over, many_parts, many_wires, parts_once, wires_once, arities)
 
   module _ (tables : List TruthTable) (are : tables ≡ tables_of design.types) where
     built-here : built parts wires tables ≡ Ok (flat_device design)
     built-here = ap (built parts wires) are ∙ built-flat
 
     pub device_made : (device : Device) → built parts wires tables ≡ Ok device → flattened design ≡ Ok device
-    device_made device h =
-        let both = sym built-here ∙ h in
-        let same : flat_device design ≡ device = cc in
-        flattened-by_counts design valid ∙ ap (unless_refused (flat_device design)) passed ∙ ap Ok same
+    device_made device h = grind (arith, built-here, flattened-by_counts)
 
     -- Nothing else can be wanting than memory.
     pub only_memory : (error : BuildError) → IsExpectedFault (reason error) (built parts wires tables) → error ≡ NoMemory
@@ -96,8 +81,4 @@ module _ (design : Design) (valid : is_design design ≡ true) (passed : refusal
 
 -- a reason of the design's is told
 pub told-refusal : (design : Design) (error : FlattenError) → flattened design ≡ Err error → IsExpectedFault (told error) (flattened design)
-told-refusal design (TooManyParts count) h = h
-told-refusal design (TooManyWires count) h = h
-told-refusal design (TooManyBlocks count) h = h
-told-refusal design (PathTooLong size) h = h
-told-refusal design Memory h = tt
+told-refusal design error h = grind arith

@@ -18,6 +18,7 @@ use Rattle.flattener.specs.inner.Counting.{no_counts, longest_of, counts_of_wire
 use Rattle.flattener.proofs.Naming.{Plain, AllSome, AllSome-append, AllSome-below, AllSome-right, AllSome-plain, lift, lift-some, lift-none, longest-append, longest-below}
 use Rattle.flattener.proofs.Relative.{Which, Parts, Wires, Instances, Inner, no_names, wires_only, own_names, part_named, instance_named, kind_names, names_used, names_in, GoodUsed-from_test, GoodBlock-from_test}
 use Rattle.flattener.proofs.Values.{values-both}
+use Rattle.std.proofs.lemmas.Bool.Decides.{nat_tests}
 
 abbrev pub longest_in : Inner → ℕ
 longest_in inner = max (longest_of (inner Parts)) (max (longest_of (inner Wires)) (longest_of (inner Instances)))
@@ -36,18 +37,7 @@ pub Counted-none : Counted no_counts no_names
 Counted-none = record { parts = refl; wires = refl; instances = refl; longest = refl; some = λ which. tt }
 
 pub Counted-wires : (wires : List Name) → AllSome wires → Counted (counts_of_wires wires) (wires_only wires)
-Counted-wires wires h = record {
-  parts = refl;
-  wires = refl;
-  instances = refl;
-  longest = (let e : max 0 (max (longest_of wires) 0) ≡ longest_of wires = omega arith in sym (ap saturated e));
-  some = some_of;
-}
-  where
-    some_of : (which : Which) → AllSome (wires_only wires which)
-    some_of Parts = tt
-    some_of Wires = h
-    some_of Instances = tt
+Counted-wires wires h = grind arith
 
 sum_saturated : (a b c : ℕ) → c ≡ a + b → saturated (saturated a + saturated b) ≡ saturated c
 sum_saturated a b c e = omega arith
@@ -62,50 +52,16 @@ max_regroup : (a b c d e f : ℕ) → max (max a (max b c)) (max d (max e f)) �
 max_regroup a b c d e f = omega arith
 
 pub Counted-added : (a b : Counts) (r s : Inner) → Counted a r → Counted b s → Counted (added a b) (joined r s)
-Counted-added a b r s h g = record {
-  parts = length_saturated a.parts b.parts (r Parts) (s Parts) h.parts g.parts;
-  wires = length_saturated a.wires b.wires (r Wires) (s Wires) h.wires g.wires;
-  instances = length_saturated a.instances b.instances (r Instances) (s Instances) h.instances g.instances;
-  longest = (λ i. max (h.longest i) (g.longest i)) ∙ max_saturated (longest_in r) (longest_in s)
-      ∙ ap saturated (max_regroup (longest_of (r Parts)) (longest_of (r Wires)) (longest_of (r Instances)) (longest_of (s Parts)) (longest_of (s Wires)) (longest_of (s Instances))
-      ∙ (λ i. max (sym (longest-append (r Parts) (s Parts)) i) (max (sym (longest-append (r Wires) (s Wires)) i) (sym (longest-append (r Instances) (s Instances)) i))));
-  some = λ which. AllSome-append (r which) (s which) (h.some which) (g.some which);
-}
+Counted-added a b r s h g = grind (arith, length_saturated, longest-append, AllSome-append)
 
 Counted-part : (name : Name) → Plain name → Counted (counts_of_part name) (part_named name)
-Counted-part name p = record {
-  parts = refl;
-  wires = refl;
-  instances = refl;
-  longest = few (length name) p.few;
-  some = some_of;
-}
-  where
-    few : (n : ℕ) → n ≤ 64 → n ≡ saturated (max (max n 0) (max 0 0))
-    few n h = omega arith
-
-    some_of : (which : Which) → AllSome (part_named name which)
-    some_of Parts = (p.some, tt)
-    some_of Wires = tt
-    some_of Instances = tt
+Counted-part name p = grind arith
 
 lift-max : (n a b : ℕ) → max (lift n a) (lift n b) ≡ lift n (max a b)
-lift-max n a b = elim (cases_lt 0 a) [
-  | inl p ↦ elim (cases_lt 0 b) [
-    | inl q ↦ (let e = lift-some n a (omega arith) in let f = lift-some n b (omega arith) in let g = lift-some n (max a b) (omega arith) in omega arith)
-    | inr z ↦ (let e = lift-some n a (omega arith) in let f = lift-none n b (omega arith) in let g = lift-some n (max a b) (omega arith) in omega arith)
-  ]
-  | inr y ↦ elim (cases_lt 0 b) [
-    | inl q ↦ (let e = lift-none n a (omega arith) in let f = lift-some n b (omega arith) in let g = lift-some n (max a b) (omega arith) in omega arith)
-    | inr z ↦ (let e = lift-none n a (omega arith) in let f = lift-none n b (omega arith) in let g = lift-none n (max a b) (omega arith) in omega arith)
-  ]
-]
+lift-max n a b = grind arith
 
 below_saturated : (n c l : ℕ) → n ≤ 64 → c ≡ saturated l → below_name n c ≡ saturated (max n (lift n l))
-below_saturated n c l h e = elim (cases_lt 0 l) [
-  | inl p ↦ ap (λ (t : Bool). if t then n else saturated (n + 1 + c)) (ne_eqb c 0 (λ z. omega arith)) ∙ (let f = lift-some n l (omega arith) in omega arith)
-  | inr z ↦ ap (λ (t : Bool). if t then n else saturated (n + 1 + c)) (eq-eqb c 0 (omega arith)) ∙ (let f = lift-none n l (omega arith) in omega arith)
-]
+below_saturated n c l h e = grind arith
 
 max_four : (n a b c : ℕ) → max n (max a (max b c)) ≡ max a (max b (max n c))
 max_four n a b c = omega arith
@@ -120,14 +76,7 @@ Counted-instance name c inner p h = record {
 }
   where
     over : max (length name) (lift (length name) (longest_in inner)) ≡ longest_in (instance_named name inner)
-    over =
-        let a = longest-below name (inner Parts) p.some (h.some Parts) in
-        let b = longest-below name (inner Wires) p.some (h.some Wires) in
-        let c = longest-below name (inner Instances) p.some (h.some Instances) in
-        ap (max (length name)) (sym (lift-max (length name) (longest_of (inner Parts)) (max (longest_of (inner Wires)) (longest_of (inner Instances)))))
-        ∙ ap (λ k. max (length name) (max (lift (length name) (longest_of (inner Parts))) k)) (sym (lift-max (length name) (longest_of (inner Wires)) (longest_of (inner Instances))))
-        ∙ max_four (length name) (lift (length name) (longest_of (inner Parts))) (lift (length name) (longest_of (inner Wires))) (lift (length name) (longest_of (inner Instances)))
-        ∙ (λ i. max (sym a i) (max (sym b i) (max (length name) (sym c i))))
+    over = grind (arith, longest-below)
 
     some_of : (which : Which) → AllSome (instance_named name inner which)
     some_of Parts = AllSome-below name (inner Parts) p.some
@@ -142,16 +91,8 @@ module _ (counts : List Counts) (inners : List Inner) (h : (j : ℕ) → Counted
 
   Counted-all : (types : List Shape) (above : List Block) (wires : ℕ) (us : List Used) (c : Counts) (r : Inner) → list_all (is_used types above wires) us ≡ true → Counted c r
       → Counted (fold (λ counts_so_far used. added counts_so_far (counts_of_used counts used)) c us) (λ which. r which ++ flat_map (λ used. names_used inners used which) us)
-  Counted-all types above wires [] c r good g =
-      let same : r ≡ (λ which. r which ++ []) = λ i which. sym (append-nil (r which)) i in subst (Counted c) same g
-  Counted-all types above wires (u ∷ us) c r good g =
-      let two = and_parts (is_used types above wires u) (list_all (is_used types above wires) us) good in
-      let one = Counted-kind u.name u.kind (GoodUsed-from_test types above wires u two.0).plain in
-      let rest = Counted-all types above wires us (added c (counts_of_used counts u)) (joined r (names_used inners u)) two.1 (Counted-added c (counts_of_used counts u) r (names_used inners u) g one) in
-      let after : Inner = λ which. flat_map (λ used. names_used inners used which) us in
-      let same : (λ which. (r which ++ names_used inners u which) ++ after which) ≡ (λ which. r which ++ (names_used inners u which ++ after which)) =
-      λ i which. append_assoc (r which) (names_used inners u which) (after which) i in
-      subst (Counted (fold (λ counts_so_far used. added counts_so_far (counts_of_used counts used)) c (u ∷ us))) same rest
+  Counted-all types above wires [] c r good g = grind (arith, append-nil)
+  Counted-all types above wires (u ∷ us) c r good g = grind (arith, nat_tests, Counted-kind, GoodUsed-from_test, Counted-added, append_assoc, Counted-all types above wires us (added c (counts_of_used counts u)) (joined r (names_used inners u)))
 
   Counted-block : (types : List Shape) (above : List Block) (block : Block) → is_block types above block ≡ true → Counted (counts_of_block block counts) (names_in block inners)
   Counted-block types above block good =

@@ -1,5 +1,5 @@
 -- No two parts and no two wires of an instance have one path.
-use Rattle.std.proofs.Common.{◌≡◌, ℕ, inl, inr, true, List, [], ◌∷◌, ◌++◌, map, length, get_or, take, drop, refl, sym, ap, subst, ◌∙◌}
+use Rattle.std.proofs.Common.{◌≡◌, ℕ, inl, inr, true, List, [], ◌∷◌, ◌++◌, map, length, get_or, take, drop, refl, sym, ap, subst, ◌∙◌, arith}
 use Rattle.std.specs.Prelude.{◌==◌}
 use Rattle.std.specs.List.{flat_map, list_any}
 use Rattle.std.proofs.lemmas.Bool.{true≢false}
@@ -25,31 +25,12 @@ pub record Differ (inner : Inner) : Type 0 where
   pub wires : Different (inner Wires)
 
 among_one : (n m : Name) → In n (m ∷ []) → n ≡ m
-among_one n m (inl e) = e
-among_one n m (inr k) = absurd k
+among_one n m given = grind arith
 
 module _ (inners : List Inner) (h : (j : ℕ) → Differ (get_or inners j no_names)) where
   -- the paths in a part of a block begin with its name
   headed : (which : Which) (name : Name) (kind : UsedKind) → Plain name → (n : Name) → In n (kind_names inners name kind which) → head_of n ≡ name
-  headed which name kind p n m = by which kind m
-    where
-      alone : (k : Name) → In k (name ∷ []) → head_of k ≡ name
-      alone k a = ap head_of (among_one k name a) ∙ head_of-dotless name p.dotless
-
-      inside : (ns : List Name) → In n (map (below name) ns) → head_of n ≡ name
-      inside ns a = let r = from_map (below name) n ns a in ap head_of r.gives ∙ head_of-below name r.item p
-
-      by : (w : Which) (k : UsedKind) → In n (kind_names inners name k w) → head_of n ≡ name
-      by Parts (Gate g) a = alone n a
-      by Wires (Gate g) a = absurd a
-      by Instances (Gate g) a = absurd a
-      by Parts (OfShape t) a = alone n a
-      by Wires (OfShape t) a = absurd a
-      by Instances (OfShape t) a = absurd a
-      by Parts (OfBlock b) a = inside (get_or inners b no_names Parts) a
-      by Wires (OfBlock b) a = inside (get_or inners b no_names Wires) a
-      by Instances (OfBlock b) (inl e) = alone n (inl e)
-      by Instances (OfBlock b) (inr a) = inside (get_or inners b no_names Instances) a
+  headed which name kind p n m = grind (arith, head_of-dotless, from_map, head_of-below)
 
   parts-differ : (name : Name) (kind : UsedKind) → Different (kind_names inners name kind Parts)
   parts-differ name (Gate g) = ((λ m. m), tt)
@@ -62,10 +43,7 @@ module _ (inners : List Inner) (h : (j : ℕ) → Differ (get_or inners j no_nam
   wires-differ name (OfBlock b) = Different-below name (get_or inners b no_names Wires) (h b).wires
 
   dotted : (name : Name) (kind : UsedKind) → Plain name → (n : Name) → In n (kind_names inners name kind Wires) → list_any (λ b. b == 46) n ≡ true
-  dotted name (Gate g) p n a = absurd a
-  dotted name (OfShape t) p n a = absurd a
-  dotted name (OfBlock b) p n a =
-      let r = from_map (below name) n (get_or inners b no_names Wires) a in ap (list_any (λ b. b == 46)) r.gives ∙ dot-below name r.item p.some
+  dotted name kind p n a = grind (arith, from_map, dot-below)
 
   all-dotted : (us : List Used) → ((u : Used) → In u us → Plain u.name) → (n : Name) → In n (flat_map (λ u. names_used inners u Wires) us) → list_any (λ b. b == 46) n ≡ true
   all-dotted [] p n a = absurd a
@@ -79,17 +57,14 @@ module _ (inners : List Inner) (h : (j : ℕ) → Differ (get_or inners j no_nam
     plain u m = (GoodUsed-from_test types above (length block.wires) u (list_all-among (is_used types above (length block.wires)) block.parts good.used u m)).plain
 
     inside-parts : Different (flat_map (λ u. names_used inners u Parts) block.parts)
-    inside-parts = Different-headed (λ (u : Used). u.name) (λ u. names_used inners u Parts) block.parts
-        (λ u m n a. headed Parts u.name u.kind (plain u m) n a) (λ u m. parts-differ u.name u.kind) (Different-from_test _ good.parts_differ)
+    inside-parts = grind (arith, Different-headed, headed, plain, parts-differ, Different-from_test)
 
     inside-wires : Different (flat_map (λ u. names_used inners u Wires) block.parts)
-    inside-wires = Different-headed (λ (u : Used). u.name) (λ u. names_used inners u Wires) block.parts
-        (λ u m n a. headed Wires u.name u.kind (plain u m) n a) (λ u m. wires-differ u.name u.kind) (Different-from_test _ good.parts_differ)
+    inside-wires = grind (arith, Different-headed, headed, plain, wires-differ, Different-from_test)
 
     -- all wires of a block, with those that are passed to it
     pub all-wires : Different (block.wires ++ flat_map (λ u. names_used inners u Wires) block.parts)
-    all-wires = Different-append block.wires _ (Different-from_test block.wires good.wires_differ) inside-wires
-        (λ n a b. true≢false (sym (all-dotted block.parts plain n b) ∙ (Plain-from_test n (list_all-among is_plain_name block.wires good.plain n a)).dotless))
+    all-wires = grind (arith, Different-append, Different-from_test, inside-wires, all-dotted, list_all-among)
 
     Differ-block : Differ (names_in block inners)
     Differ-block = record {

@@ -37,42 +37,27 @@ no_block = record { name = []; ports = 0; wires = []; parts = [] }
 
 within_more : (m n : ℕ) (ps : List ℕ) → m ≤ n → are_within m ps ≡ true → are_within n ps ≡ true
 within_more m n [] l h = refl
-within_more m n (p ∷ ps) l h =
-    let two = and_parts (nat_lt p m) (are_within m ps) h in
-    and_from (nat_lt p n) (are_within n ps) (lt-ltb p n (let k = ltb-true p m two.0 in omega arith)) (within_more m n ps l two.1)
+within_more m n (p ∷ ps) l h = grind (arith, within_more m n ps l)
 
 wires_stay : (wires more : List Name) (ps : List ℕ) → are_within (length wires) ps ≡ true → map (wire_at (wires ++ more)) ps ≡ map (wire_at wires) ps
 wires_stay wires more ps h = map_same (λ p. nat_lt p (length wires)) (wire_at (wires ++ more)) (wire_at wires) (λ p t. get_or_append_left wires more [] p (ltb-true p (length wires) t)) ps h
 
 shown_stay : (wires more : List Name) (parts : List Component) → are_joined wires parts ≡ true → map (shown (wires ++ more)) parts ≡ map (shown wires) parts
-shown_stay wires more parts h =
-    map_same (has_wires (length wires)) (shown (wires ++ more)) (shown wires)
-    (λ part t. ap (λ (ws : List Name). record { name = part.name; kind = part.kind; wires = ws }) (wires_stay wires more part.ports t)) parts h
+shown_stay wires more parts h = grind (arith, map_same, wires_stay)
 
 joined_stay : (wires more : List Name) (parts : List Component) → are_joined wires parts ≡ true → are_joined (wires ++ more) parts ≡ true
 joined_stay wires more [] h = refl
-joined_stay wires more (p ∷ ps) h =
-    let two = and_parts (has_wires (length wires) p) (are_joined wires ps) h in
-    and_from (has_wires (length (wires ++ more)) p) (are_joined (wires ++ more) ps)
-    (within_more (length wires) (length (wires ++ more)) p.ports (let e = length-append wires more in omega arith) two.0) (joined_stay wires more ps two.1)
+joined_stay wires more (p ∷ ps) h = grind (arith, within_more, length-append, joined_stay wires more ps)
 
 -- what is added in two steps
 pub Grows-more : (parts : List Component) (wires : List Name) (c : Content) (parts1 : List Component) (wires1 : List Name) (d : Content) (parts2 : List Component) (wires2 : List Name) (e : Content)
     → Grows parts wires c parts1 wires1 → Grows parts1 wires1 d parts2 wires2 → e.wires ≡ c.wires ++ d.wires → e.parts ≡ c.parts ++ d.parts → Grows parts wires e parts2 wires2
-Grows-more parts wires c parts1 wires1 d parts2 wires2 e h g ws ps = record {
-  wires_grow = g.wires_grow ∙ ap (λ ns. ns ++ d.wires) h.wires_grow ∙ append_assoc wires c.wires d.wires ∙ ap (λ ns. wires ++ ns) (sym ws);
-  parts_grow = g.parts_grow ∙ ap (λ ns. ns ++ d.parts) h.parts_grow ∙ append_assoc (map (shown wires) parts) c.parts d.parts ∙ ap (λ ns. map (shown wires) parts ++ ns) (sym ps);
-  joined = g.joined;
-}
+Grows-more parts wires c parts1 wires1 d parts2 wires2 e h g ws ps = grind (arith, append_assoc)
 
 -- one part more
 pub Grows-part : (parts : List Component) (wires : List Name) (name : Name) (kind : Kind) (ports : List ℕ) → are_joined wires parts ≡ true → are_within (length wires) ports ≡ true
     → Grows parts wires (one_part name kind (map (wire_at wires) ports)) (parts ++ record { name = name; kind = kind; ports = ports } ∷ []) wires
-Grows-part parts wires name kind ports h g = record {
-  wires_grow = sym (append-nil wires);
-  parts_grow = map-append (shown wires) parts (record { name = name; kind = kind; ports = ports } ∷ []);
-  joined = list_all-both (has_wires (length wires)) parts (record { name = name; kind = kind; ports = ports } ∷ []) h (and_from (are_within (length wires) ports) true g refl);
-}
+Grows-part parts wires name kind ports h g = grind (arith, append-nil, map-append, list_all-both)
 
 -- ---- positions
 
@@ -85,46 +70,21 @@ module _ (old own more : List Name) (passed : List ℕ) (within : are_within (le
   many = length-append old (own ++ more) ∙ ap (λ n. length old + n) (length-append own more)
 
   Named-first : (wire : ℕ) → wire < length passed → Named wire
-  Named-first wire l =
-      let at : position_of passed (length old) wire ≡ get_or passed wire 0 =
-      ap (λ (t : Bool). if t then slice_index passed wire else length old + (wire - length passed)) (lt-ltb wire (length passed) l) in
-      let inside : get_or passed wire 0 < length old = ltb-true (get_or passed wire 0) (length old) (list_all-at (λ p. nat_lt p (length old)) passed wire 0 within l) in
-      record {
-        inside = omega (arith, many);
-        named =
-            ap (wire_at (old ++ (own ++ more))) at ∙ get_or_append_left old (own ++ more) [] (get_or passed wire 0) inside
-            ∙ sym (get_or-map (wire_at old) passed wire 0 [] l)
-            ∙ sym (get_or_append_left (map (wire_at old) passed) own [] wire (let e = length-map passed (wire_at old) in omega arith));
-      }
+  Named-first wire l = grind (arith, list_all-at, many, get_or_append_left, get_or-map, length-map)
 
   Named-own : (wire : ℕ) → length passed ≤ wire → wire < length passed + length own → Named wire
-  Named-own wire l m =
-      let at : position_of passed (length old) wire ≡ length old + (wire - length passed) =
-      ap (λ (t : Bool). if t then slice_index passed wire else length old + (wire - length passed)) (le-ltb wire (length passed) l) in
-      record {
-        inside = omega (arith, many);
-        named =
-            ap (wire_at (old ++ (own ++ more))) at ∙ get_or-append-add old (own ++ more) (wire - length passed) []
-            ∙ get_or_append_left own more [] (wire - length passed) (omega arith)
-            ∙ sym (get_or-append_right (map (wire_at old) passed) own (length passed) wire [] (length-map passed (wire_at old)) l);
-      }
+  Named-own wire l m = grind (arith, many, get_or_append_left, get_or-append_right, length-map)
 
   position-named : (wire : ℕ) → wire < length passed + length own → Named wire
   position-named wire l = elim (cases_lt wire (length passed)) [ inl m ↦ Named-first wire m | inr m ↦ Named-own wire m l ]
 
   pub positions-named : (args : List ℕ) → are_within (length passed + length own) args ≡ true
       → map (wire_at (old ++ (own ++ more))) (map (position_of passed (length old)) args) ≡ map (wire_at (map (wire_at old) passed ++ own)) args
-  positions-named args h =
-      map-map (wire_at (old ++ (own ++ more))) (position_of passed (length old)) args
-      ∙ map_same (λ wire. nat_lt wire (length passed + length own)) (λ wire. wire_at (old ++ (own ++ more)) (position_of passed (length old) wire)) (wire_at (map (wire_at old) passed ++ own))
-      (λ wire t. (position-named wire (ltb-true wire (length passed + length own) t)).named) args h
+  positions-named args h = grind (arith, map-map, map_same, position-named)
 
   pub positions-within : (args : List ℕ) → are_within (length passed + length own) args ≡ true → are_within (length (old ++ (own ++ more))) (map (position_of passed (length old)) args) ≡ true
   positions-within [] h = refl
-  positions-within (a ∷ args) h =
-      let two = and_parts (nat_lt a (length passed + length own)) (are_within (length passed + length own) args) h in
-      let n = position-named a (ltb-true a (length passed + length own) two.0) in
-      and_from (nat_lt (position_of passed (length old) a) (length (old ++ (own ++ more)))) _ (lt-ltb _ _ n.inside) (positions-within args two.1)
+  positions-within (a ∷ args) h = grind (arith, position-named, positions-within args)
 
 -- ---- short paths
 
@@ -132,18 +92,7 @@ abbrev pub is_short : Name → Bool
 is_short name = nat_le (length name) NAME_LIMIT
 
 pub short_each : (c : Content) → are_short (paths_of c) ≡ true → (which : Which) → are_short (names_of which c) ≡ true
-short_each c h which = by which
-  where
-    two : (are_short (names_of Parts c) ≡ true) × (are_short (c.wires ++ c.instances) ≡ true)
-    two = all_parts is_short (names_of Parts c) (c.wires ++ c.instances) h
-
-    more : (are_short c.wires ≡ true) × (are_short c.instances ≡ true)
-    more = all_parts is_short c.wires c.instances two.1
-
-    by : (w : Which) → are_short (names_of w c) ≡ true
-    by Parts = two.0
-    by Wires = more.0
-    by Instances = more.1
+short_each c h which = grind (arith, all_parts)
 
 pub short_all : (c : Content) → ((which : Which) → are_short (names_of which c) ≡ true) → are_short (paths_of c) ≡ true
 short_all c h = list_all-both is_short (names_of Parts c) (c.wires ++ c.instances) (h Parts) (list_all-both is_short c.wires c.instances (h Wires) (h Instances))
@@ -187,34 +136,16 @@ module _ (types : List Shape) (blocks : List Block) (good : are_blocks types [] 
   good_block = GoodBlock-from_test types (take place blocks) (get_or blocks place no_block) (block_among types [] blocks place no_block good within)
 
   pub before : (inner args : ℕ) → block_takes (slice_get (take place blocks) inner) args ≡ true → IsBefore blocks place inner args
-  before inner args h = elim (cases_lt inner place) [
-    | inl l ↦ (
-        let long = length-take-le place blocks (omega arith) in
-        let at = got (take place blocks) inner (omega arith) in
-        let there = get_or-take place blocks inner no_block l in
-        let same = ap (λ o. block_takes o args) (at ∙ ap (λ (b : Block). Some b) there) in
-        record { before = l; takes = sym (eqb-true (get_or blocks inner no_block).ports args (sym same ∙ h)) })
-    | inr m ↦ (
-        let long = length-take-le place blocks (omega arith) in
-        let past = slice_get_past (take place blocks) inner (omega arith) in
-        absurd (no_block_takes args (ap (λ o. block_takes o args) (sym past) ∙ h)))
-  ]
+  before inner args h = grind (arith, length-take-le, got, get_or-take, slice_get_past)
 
   -- a block is made of the blocks before it, and so of all
   kind-fixed : (kind : UsedKind) (args : ℕ) (path : Name) (passed : List Name) → takes_args types (take place blocks) kind args ≡ true
       → kind_content (values instance (take place blocks)) kind path passed ≡ kind_content (values instance blocks) kind path passed
-  kind-fixed (Gate gate) args path passed h = refl
-  kind-fixed (OfShape shape) args path passed h = refl
-  kind-fixed (OfBlock inner) args path passed h =
-      let b = before inner args h in
-      let same = values-before instance blocks place no_block within inner nothing b.before in
-      λ i. record (same i path passed) { instances = path ∷ (same i path passed).instances }
+  kind-fixed kind args path passed h = grind (arith, before, values-before)
 
   used-fixed : (path : Name) (wires : List Name) (used : Used) → is_used types (take place blocks) (length (get_or blocks place no_block).wires) used ≡ true
       → used_content (values instance (take place blocks)) path wires used ≡ used_content (values instance blocks) path wires used
-  used-fixed path wires used h =
-      kind-fixed used.kind (length used.args) (below path used.name) (map (λ wire. slice_index_or wires wire []) used.args)
-      (GoodUsed-from_test types (take place blocks) (length (get_or blocks place no_block).wires) used h).takes
+  used-fixed path wires used h = grind (arith, kind-fixed)
 
   pub fixed : (path : Name) (passed : List Name) → get_or (values instance blocks) place nothing path passed ≡ instance (get_or blocks place no_block) (values instance blocks) path passed
   fixed path passed =
@@ -224,12 +155,7 @@ module _ (types : List Shape) (blocks : List Block) (good : are_blocks types [] 
       let at = values-at instance blocks place no_block within nothing in
       let same = map_same (is_used types (take place blocks) (length block.wires))
       (used_content (values instance (take place blocks)) path wires) (used_content (values instance blocks) path wires) (λ used h. used-fixed path wires used h) block.parts good_block.used in
-      (λ i. at i path passed)
-      ∙ (λ i. record {
-        parts = flat_map (λ (c : Content). c.parts) (same i);
-        wires = own ++ flat_map (λ (c : Content). c.wires) (same i);
-        instances = flat_map (λ (c : Content). c.instances) (same i);
-      })
+      grind arith
 
 -- ---- an instance that is being expanded
 
@@ -293,25 +219,16 @@ module _ {design : Design} {place : ℕ} {path : Name} {passed : List ℕ} {old 
       omega arith
 
   own_few : length own ≤ WIRE_LIMIT
-  own_few =
-      let e = length-append own (flat_map (λ (c : Content). c.wires) (map content (block_at design place).parts)) in
-      let f = few_whole in
-      omega arith
+  own_few = grind (arith, length-append, few_whole)
 
   -- ---- what the code reads
 
   pub block_read : {blocks : List Block} {block : Block} → blocks ≡ design.blocks → block ≡ get_or blocks place block → block ≡ block_at design place
-  block_read {blocks = blocks} {block = block} e h =
-      h ∙ ap (λ (cs : List Block). get_or cs place block) e ∙ get_or_default design.blocks place block no_block can.there
+  block_read {blocks = blocks} {block = block} e h = grind (arith, get_or_default)
 
   pub part_read : {block : Block} {items : List Used} {i : ℕ} {used : Used} → block ≡ block_at design place → items ≡ block.parts → i < length items → used ≡ get_or items i used
       → IsPart design place i used
-  part_read {block = block} {items = items} {i = i} {used = used} b e l h =
-      let same : items ≡ (block_at design place).parts = e ∙ ap (λ (b : Block). b.parts) b in
-      record {
-        inside = (let many = ap length same in omega arith);
-        is = h ∙ ap (λ (us : List Used). get_or us i used) same;
-      }
+  part_read {block = block} {items = items} {i = i} {used = used} b e l h = grind arith
 
   -- ---- before the parts
 
@@ -319,24 +236,13 @@ module _ {design : Design} {place : ℕ} {path : Name} {passed : List ℕ} {old 
   own_short = (all_parts is_short own (flat_map (λ (c : Content). c.wires) (map content (block_at design place).parts)) (short_each whole short_whole Wires)).0
 
   pub start_grows : (parts : List Component) (wires added : List Name) → are_joined old parts ≡ true → wires ≡ old ++ added → added ≡ own → Grows parts old (so_far design place 0 path names) parts wires
-  start_grows parts wires added h g f =
-      let e = g ∙ ap (λ ns. old ++ ns) f in
-      let P : List Name → Type 0 = λ ws. Grows parts old (so_far design place 0 path names) parts ws in
-      subst P (sym e) (record {
-        wires_grow = ap (λ ns. old ++ ns) (sym (append-nil own));
-        parts_grow = shown_stay old own parts h ∙ sym (append-nil (map (shown old) parts));
-        joined = joined_stay old own parts h;
-      })
+  start_grows parts wires added h g f = grind (arith, append-nil, shown_stay, joined_stay)
 
   -- ---- behind all of them
 
   pub all_grow : (old_parts parts : List Component) (wires : List Name) (i : ℕ) → length (block_at design place).parts ≤ i
       → Grows old_parts old (so_far design place i path names) parts wires → Grows old_parts old (instance_at design place path names) parts wires
-  all_grow old_parts parts wires i l h =
-      let block = block_at design place in
-      let e : so_far design place i path names ≡ whole = ap (λ (us : List Used). instance (record block { parts = us }) (values instance design.blocks) path names) (take_all i block.parts l) in
-      let P : Content → Type 0 = λ c. Grows old_parts old c parts wires in
-      subst P (e ∙ sym whole_is) h
+  all_grow old_parts parts wires i l h = grind (arith, take_all, whole_is)
 
   -- ---- what a part adds to the parts before it
 
@@ -354,8 +260,7 @@ module _ {design : Design} {place : ℕ} {path : Name} {passed : List ℕ} {old 
     cut = sym (take-append-drop i (block_at design place).parts) ∙ ap (λ us. done ++ us) (drop_more (block_at design place).parts i used part.inside ∙ ap (λ (u : Used). u ∷ left) (sym part.is))
 
     more : {A : Type 0} (f : Content → List A) → flat_map f (map content (take (i + 1) (block_at design place).parts)) ≡ flat_map f (map content done) ++ f (content used)
-    more f = ap (λ us. flat_map f (map content us)) one_more ∙ ap (flat_map f) (map-append content done (used ∷ [])) ∙ flat_map-append f (map content done) (content used ∷ [])
-        ∙ ap (λ xs. flat_map f (map content done) ++ xs) (append-nil (f (content used)))
+    more f = grind (arith, one_more, map-append, flat_map-append, append-nil)
 
     pub parts-more : (so_far design place (i + 1) path names).parts ≡ (so_far design place i path names).parts ++ (content used).parts
     parts-more = more (λ (c : Content). c.parts)
@@ -364,21 +269,11 @@ module _ {design : Design} {place : ℕ} {path : Name} {passed : List ℕ} {old 
     wires-more = ap (λ ns. own ++ ns) (more (λ (c : Content). c.wires)) ∙ sym (append_assoc own (flat_map (λ (c : Content). c.wires) (map content done)) (content used).wires)
 
     rest : {A : Type 0} (f : Content → List A) → flat_map f (map content (block_at design place).parts) ≡ (flat_map f (map content done) ++ f (content used)) ++ flat_map f (map content left)
-    rest f = ap (λ us. flat_map f (map content us)) cut ∙ ap (flat_map f) (map-append content done (used ∷ left)) ∙ flat_map-append f (map content done) (content used ∷ map content left)
-        ∙ sym (append_assoc (flat_map f (map content done)) (f (content used)) (flat_map f (map content left)))
+    rest f = grind (arith, cut, map-append, flat_map-append, append_assoc)
 
     -- the wires of the parts up to this one are some of all
     pub few-wires : length (so_far design place i path names).wires + length (content used).wires ≤ length whole.wires
-    few-wires =
-        let f = λ (c : Content). c.wires in
-        let a = flat_map f (map content done) in
-        let b = (content used).wires in
-        let c = flat_map f (map content left) in
-        let e = ap length (ap (λ ns. own ++ ns) (rest f)) ∙ length-append own ((a ++ b) ++ c) in
-        let g = length-append (a ++ b) c in
-        let h = length-append a b in
-        let k = length-append own a in
-        omega arith
+    few-wires = grind (arith, rest, length-append)
 
     -- its paths are short where all are
     pub short-used : (which : Which) → are_short (names_of which whole) ≡ true → are_short (names_of which (content used)) ≡ true
@@ -410,22 +305,13 @@ module _ {design : Design} {place : ℕ} {path : Name} {passed : List ℕ} {old 
 
     module _ {old_parts parts : List Component} {wires : List Name} (grown : Grows old_parts old (so_far design place i path names) parts wires) where
       pub ports_named : map (wire_at wires) (map (position_of passed (length old)) used.args) ≡ map (wire_at (names ++ own)) used.args
-      ports_named =
-          ap (λ (ws : List Name). map (wire_at ws) (map (position_of passed (length old)) used.args)) grown.wires_grow
-          ∙ positions-named old own (flat_map (λ (c : Content). c.wires) (map content done)) passed can.within used.args args_good
+      ports_named = grind (arith, positions-named, args_good)
 
       pub ports_within : are_within (length wires) (map (position_of passed (length old)) used.args) ≡ true
-      ports_within =
-          ap (λ (ws : List Name). are_within (length ws) (map (position_of passed (length old)) used.args)) grown.wires_grow
-          ∙ positions-within old own (flat_map (λ (c : Content). c.wires) (map content done)) passed can.within used.args args_good
+      ports_within = grind (arith, positions-within, args_good)
 
       pub few_used : length wires + length (content used).wires ≤ WIRE_LIMIT
-      few_used =
-          let e = ap length grown.wires_grow in
-          let f = length-append old (so_far design place i path names).wires in
-          let g = few-wires in
-          let h = few_whole in
-          omega arith
+      few_used = grind (arith, length-append, few-wires, few_whole)
 
       -- behind a gate or a part of a type
       part_grows : (kind : Kind) (more_parts : List Component) → content used ≡ one_part (below path used.name) kind (map (wire_at (names ++ own)) used.args)
@@ -504,5 +390,4 @@ module _ {design : Design} {place : ℕ} {path : Name} {passed : List ℕ} {old 
 -- the wires of an instance behind what was there, as the code writes them
 pub own_behind : (block there : Block) (path prefix : Name) (ns : List Name) → block ≡ there → prefix ≡ prefix_of path → ns ≡ drop block.ports block.wires
     → map (behind prefix) ns ≡ map (below path) (drop there.ports there.wires)
-own_behind block there path prefix ns b e h =
-    (λ i. map (behind (e i)) (h i)) ∙ map-behind path (drop block.ports block.wires) ∙ ap (λ (c : Block). map (below path) (drop c.ports c.wires)) b
+own_behind block there path prefix ns b e h = grind (arith, map-behind)

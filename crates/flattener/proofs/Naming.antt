@@ -24,21 +24,15 @@ pub record Plain (name : Name) : Type 0 where
   pub dotless : list_any (λ b. b == 46) name ≡ false
 
 pub Plain-from_test : (name : Name) → is_plain_name name ≡ true → Plain name
-Plain-from_test name h =
-    let two = and_parts (is_short_name name) (not (list_any (λ b. b == 46) name)) h in
-    let sizes = and_parts (nat_le 1 (length name) && nat_le (length name) 64) (list_all is_name_byte name) two.0 in
-    let both = and_parts (nat_le 1 (length name)) (nat_le (length name) 64) sizes.0 in
-    record { some = leb-true 1 (length name) both.0; few = leb-true (length name) 64 both.1; dotless = not-true _ two.1 }
+Plain-from_test name h = grind arith
 
 -- ---- names below a path
 
 pub below-some : (path name : Name) → 1 ≤ length path → below path name ≡ path ++ 46 ∷ name
-below-some [] name h = absurd (omega arith)
-below-some (b ∷ path) name h = refl
+below-some path name h = grind arith
 
 pub behind-prefix : (path name : Name) → behind (prefix_of path) name ≡ below path name
-behind-prefix [] name = refl
-behind-prefix (b ∷ path) name = append_assoc (b ∷ path) (46 ∷ []) name
+behind-prefix path name = grind (arith, append_assoc)
 
 pub map-behind : (path : Name) (names : List Name) → map (behind (prefix_of path)) names ≡ map (below path) names
 map-behind path [] = refl
@@ -46,9 +40,7 @@ map-behind path (n ∷ names) = λ i. behind-prefix path n i ∷ map-behind path
 
 -- a path goes on
 pub below-below : (path name more : Name) → 1 ≤ length name → below (below path name) more ≡ below path (below name more)
-below-below path [] more h = absurd (omega arith)
-below-below [] (c ∷ name) more h = refl
-below-below (b ∷ path) (c ∷ name) more h = append_assoc (b ∷ path) (46 ∷ c ∷ name) (46 ∷ more)
+below-below path name more h = grind (arith, append_assoc)
 
 pub length-below : (path name : Name) → 1 ≤ length path → length (below path name) ≡ length path + 1 + length name
 length-below path name h = ap length (below-some path name h) ∙ over path
@@ -58,13 +50,11 @@ length-below path name h = ap length (below-some path name h) ∙ over path
     over (b ∷ p) = let rest = over p in omega arith
 
 pub below-same : (path m n : Name) → below path m ≡ below path n → m ≡ n
-below-same [] m n h = h
-below-same (b ∷ path) m n h = let e = append_cancel_left (b ∷ path) (46 ∷ m) (46 ∷ n) h in cc
+below-same path m n h = grind (arith, append_cancel_left)
 
 -- a name below another has a dot
 pub dot-below : (path name : Name) → 1 ≤ length path → list_any (λ b. b == 46) (below path name) ≡ true
-dot-below path name h =
-    ap (list_any (λ b. b == 46)) (below-some path name h) ∙ list_any-append (λ b. b == 46) path (46 ∷ name) ∙ or_right (list_any (λ b. b == 46) path) true refl
+dot-below path name h = grind (arith, list_any-append)
 
 -- the bytes before the first dot
 abbrev pub head_of : Name → Name
@@ -76,15 +66,11 @@ not_first b name h = or_parts (nat_eq b 46) (list_any (λ b. b == 46) name) h
 
 pub head_of-dotless : (name : Name) → list_any (λ b. b == 46) name ≡ false → head_of name ≡ name
 head_of-dotless [] h = refl
-head_of-dotless (b ∷ name) h =
-    let two = not_first b name h in
-    ap (λ (t : Bool). if t then [] else b ∷ head_of name) two.0 ∙ ap (λ (ns : Name). b ∷ ns) (head_of-dotless name two.1)
+head_of-dotless (b ∷ name) h = grind (arith, head_of-dotless name)
 
 head_of-dotted : (path name : Name) → list_any (λ b. b == 46) path ≡ false → head_of (path ++ 46 ∷ name) ≡ path
 head_of-dotted [] name h = refl
-head_of-dotted (b ∷ path) name h =
-    let two = not_first b path h in
-    ap (λ (t : Bool). if t then [] else b ∷ head_of (path ++ 46 ∷ name)) two.0 ∙ ap (λ (ns : Name). b ∷ ns) (head_of-dotted path name two.1)
+head_of-dotted (b ∷ path) name h = grind (arith, head_of-dotted path name)
 
 pub head_of-below : (path name : Name) → Plain path → head_of (below path name) ≡ path
 head_of-below path name p = ap head_of (below-some path name p.some) ∙ head_of-dotted path name p.dotless
@@ -93,9 +79,7 @@ head_of-below path name p = ap head_of (below-some path name p.some) ∙ head_of
 
 pub Different-from_test : (ns : List Name) → are_distinct ns ≡ true → Different ns
 Different-from_test [] h = tt
-Different-from_test (n ∷ ns) h =
-    let two = and_parts (not (is_among ns n)) (are_distinct ns) (sym (are_distinct-cons n ns) ∙ h) in
-    ((λ m. true≢false (sym (is_among-among n ns m) ∙ not-true _ two.0)), Different-from_test ns two.1)
+Different-from_test (n ∷ ns) h = grind (arith, is_among-among, Different-from_test ns)
 
 pub Different-below : (path : Name) (ns : List Name) → Different ns → Different (map (below path) ns)
 Different-below path ns h = Different-made (below path) (below-same path) ns h
@@ -147,17 +131,11 @@ pub lift-none : (k l : ℕ) → l ≡ 0 → lift k l ≡ 0
 lift-none k l h = ap (λ (t : Bool). if t then 0 else k + 1 + l) (eq-eqb l 0 h)
 
 lift-more : (k n l : ℕ) → 1 ≤ n → max (k + 1 + n) (lift k l) ≡ lift k (max n l)
-lift-more k n l h = elim (cases_lt 0 l) [
-  | inl p ↦ (let e = lift-some k l (omega arith) in let f = lift-some k (max n l) (omega arith) in omega arith)
-  | inr z ↦ (let e = lift-none k l (omega arith) in let f = lift-some k (max n l) (omega arith) in omega arith)
-]
+lift-more k n l h = grind arith
 
 pub longest-below : (path : Name) (ns : List Name) → 1 ≤ length path → AllSome ns → longest_of (map (below path) ns) ≡ lift (length path) (longest_of ns)
 longest-below path [] h g = refl
-longest-below path (n ∷ ns) h g =
-    ap (λ (k : ℕ). max k (longest_of (map (below path) ns))) (length-below path n h)
-    ∙ ap (λ (k : ℕ). max (length path + 1 + length n) k) (longest-below path ns h g.1)
-    ∙ lift-more (length path) (length n) (longest_of ns) g.0
+longest-below path (n ∷ ns) h g = grind (arith, length-below, longest-below path ns h g.1)
 
 pub AllSome-right : (xs ys : List Name) → AllSome (xs ++ ys) → AllSome ys
 AllSome-right [] ys h = h

@@ -1,5 +1,5 @@
 -- What an instance has, by names that do not say where it stands: the paths in an instance are these names below its path.
-use Rattle.std.proofs.Common.{◌≡◌, ℕ, ◌≤◌, true, List, [], ◌∷◌, ◌++◌, map, length, get_or, drop, refl, sym, ap, ◌∙◌}
+use Rattle.std.proofs.Common.{◌≡◌, ℕ, ◌≤◌, true, List, [], ◌∷◌, ◌++◌, map, length, get_or, drop, refl, sym, ap, ◌∙◌, arith}
 use Rattle.std.specs.Prelude.{◌&&◌, nat_lt, nat_le, slice_index_or}
 use Rattle.std.specs.List.{flat_map, list_all}
 use Rattle.std.proofs.lemmas.Bool.{and_parts, leb-true}
@@ -75,19 +75,14 @@ pub record GoodUsed (types : List Shape) (above : List Block) (wires : ℕ) (use
   pub within : list_all (λ wire. nat_lt wire wires) used.args ≡ true
 
 pub GoodUsed-from_test : (types : List Shape) (above : List Block) (wires : ℕ) (used : Used) → is_used types above wires used ≡ true → GoodUsed types above wires used
-GoodUsed-from_test types above wires used h =
-    let two = and_parts (is_plain_name used.name) (takes_args types above used.kind (length used.args) && list_all (λ wire. nat_lt wire wires) used.args) h in
-    let more = and_parts (takes_args types above used.kind (length used.args)) (list_all (λ wire. nat_lt wire wires) used.args) two.1 in
-    record { plain = Plain-from_test used.name two.0; takes = more.0; within = more.1 }
+GoodUsed-from_test types above wires used h = grind (arith, and_parts)
 
 -- The names in an instance of any path, to which any wires are passed.
 abbrev pub Shows : Inner → Instance → Type 0
 Shows inner made = (which : Which) (path : Name) (passed : List Name) → names_of which (made path passed) ≡ map (below path) (inner which)
 
 Shows-nothing : Shows no_names nothing
-Shows-nothing Parts path passed = refl
-Shows-nothing Wires path passed = refl
-Shows-nothing Instances path passed = refl
+Shows-nothing given path passed = grind arith
 
 below-twice : (path name : Name) (ns : List Name) → 1 ≤ length name → map (below (below path name)) ns ≡ map (below path) (map (below name) ns)
 below-twice path name [] h = refl
@@ -96,12 +91,8 @@ below-twice path name (n ∷ ns) h = λ i. below-below path name n h i ∷ below
 module _ (inners : List Inner) (mades : List Instance) (h : (j : ℕ) → Shows (get_or inners j no_names) (get_or mades j nothing)) (path : Name) where
   kind-shows : (which : Which) (name : Name) (kind : UsedKind) (passed : List Name) → 1 ≤ length name
       → names_of which (kind_content mades kind (below path name) passed) ≡ map (below path) (kind_names inners name kind which)
-  kind-shows Parts name (Gate gate) passed l = refl
-  kind-shows Wires name (Gate gate) passed l = refl
-  kind-shows Instances name (Gate gate) passed l = refl
-  kind-shows Parts name (OfShape place) passed l = refl
-  kind-shows Wires name (OfShape place) passed l = refl
-  kind-shows Instances name (OfShape place) passed l = refl
+  kind-shows which name (Gate gate) passed l = grind arith
+  kind-shows which name (OfShape place) passed l = grind arith
   kind-shows Parts name (OfBlock place) passed l = h place Parts (below path name) passed ∙ below-twice path name (get_or inners place no_names Parts) l
   kind-shows Wires name (OfBlock place) passed l = h place Wires (below path name) passed ∙ below-twice path name (get_or inners place no_names Wires) l
   kind-shows Instances name (OfBlock place) passed l =
@@ -123,30 +114,15 @@ pub record GoodBlock (types : List Shape) (above : List Block) (block : Block) :
   pub parts_differ : are_distinct (used_names block.parts) ≡ true
 
 pub GoodBlock-from_test : (types : List Shape) (above : List Block) (block : Block) → is_block types above block ≡ true → GoodBlock types above block
-GoodBlock-from_test types above block h =
-    let plain = list_all is_plain_name block.wires in
-    let differ = are_distinct block.wires in
-    let used = list_all (is_used types above (length block.wires)) block.parts in
-    let parts = are_distinct (used_names block.parts) in
-    let one = and_parts (plain && differ) (nat_le block.ports (length block.wires) && (used && parts)) h in
-    let names = and_parts plain differ one.0 in
-    let two = and_parts (nat_le block.ports (length block.wires)) (used && parts) one.1 in
-    let three = and_parts used parts two.1 in
-    record { plain = names.0; wires_differ = names.1; ports_first = leb-true block.ports (length block.wires) two.0; used = three.0; parts_differ = three.1 }
+GoodBlock-from_test types above block h = grind arith
 
 -- what an instance has is its own wires and what its parts have
 pub names-instance : (which : Which) (block : Block) (mades : List Instance) (path : Name) (passed : List Name)
     → names_of which (instance block mades path passed)
     ≡ map (below path) (own_names block which) ++ flat_map (λ used. names_of which (used_content mades path (passed ++ map (below path) (drop block.ports block.wires)) used)) block.parts
-names-instance Parts block mades path passed =
-    let wires = passed ++ map (below path) (drop block.ports block.wires) in
-    map-flat_map (λ (p : NamedPart). p.name) (λ (c : Content). c.parts) (map (used_content mades path wires) block.parts)
-    ∙ flat_map-map (λ (c : Content). map (λ (p : NamedPart). p.name) c.parts) (used_content mades path wires) block.parts
-names-instance Wires block mades path passed =
-    let own = map (below path) (drop block.ports block.wires) in
-    ap (λ ns. own ++ ns) (flat_map-map (λ (c : Content). c.wires) (used_content mades path (passed ++ own)) block.parts)
-names-instance Instances block mades path passed =
-    flat_map-map (λ (c : Content). c.instances) (used_content mades path (passed ++ map (below path) (drop block.ports block.wires))) block.parts
+names-instance Parts block mades path passed = grind (arith, map-flat_map, flat_map-map)
+names-instance Wires block mades path passed = grind (arith, flat_map-map)
+names-instance Instances block mades path passed = grind (arith, flat_map-map)
 
 Shows-instance : (types : List Shape) (above : List Block) (block : Block) (inners : List Inner) (mades : List Instance) → is_block types above block ≡ true
     → ((j : ℕ) → Shows (get_or inners j no_names) (get_or mades j nothing)) → Shows (names_in block inners) (instance block mades)

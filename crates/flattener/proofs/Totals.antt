@@ -56,19 +56,10 @@ pub record Allowed (counts : Counts) : Type 0 where
   pub longest : counts.longest ≤ NAME_LIMIT
 
 passes : (limit n : ℕ) (error : FlattenError) (otherwise : Option FlattenError) → (if nat_lt limit n then Some error else otherwise) ≡ None → (n ≤ limit) × (otherwise ≡ None)
-passes limit n error otherwise h = by (nat_lt limit n) refl h
-  where
-    by : (b : Bool) → nat_lt limit n ≡ b → cond b (Some error) otherwise ≡ None → (n ≤ limit) × (otherwise ≡ None)
-    by true e g = cc
-    by false e g = (ltb-false limit n e, g)
+passes limit n error otherwise h = grind arith
 
 pub Allowed-from_refusal : (counts : Counts) → refusal counts ≡ None → Allowed counts
-Allowed-from_refusal counts h =
-    let a = passes PART_LIMIT counts.parts (TooManyParts counts.parts) _ h in
-    let b = passes WIRE_LIMIT counts.wires (TooManyWires counts.wires) _ a.1 in
-    let c = passes INSTANCE_LIMIT counts.instances (TooManyBlocks counts.instances) _ b.1 in
-    let d = passes NAME_LIMIT counts.longest (PathTooLong counts.longest) _ c.1 in
-    record { parts = a.0; wires = b.0; instances = c.0; longest = d.0 }
+Allowed-from_refusal counts h = grind arith
 
 -- a device, or why there is none
 abbrev pub unless_refused : Device → Option FlattenError → Result Device FlattenError
@@ -76,28 +67,16 @@ unless_refused device None = Ok device
 unless_refused device (Some error) = Err error
 
 saturated_over : (limit n : ℕ) → limit ≤ WIRE_LIMIT → nat_lt limit (saturated n) ≡ nat_lt limit n
-saturated_over limit n h = elim (cases_lt limit n) [
-  | inl l ↦ lt-ltb limit (saturated n) (omega arith) ∙ sym (lt-ltb limit n l)
-  | inr l ↦ le-ltb limit (saturated n) (omega arith) ∙ sym (le-ltb limit n l)
-]
+saturated_over limit n h = grind arith
 
 one_limit : (device : Device) (limit n m : ℕ) (error : ℕ → FlattenError) (otherwise : Result Device FlattenError) (rest : Option FlattenError) → limit ≤ WIRE_LIMIT → m ≡ saturated n
     → otherwise ≡ unless_refused device rest → unless_over limit n error otherwise ≡ unless_refused device (if nat_lt limit m then Some (error m) else rest)
-one_limit device limit n m error otherwise rest h e g =
-    by (nat_lt limit n) ∙ ap (λ (b : Bool). unless_refused device (if b then Some (error m) else rest)) (sym (ap (nat_lt limit) e ∙ saturated_over limit n h))
-  where
-    by : (b : Bool) → cond b (Err (error (saturated n))) otherwise ≡ unless_refused device (cond b (Some (error m)) rest)
-    by true = ap (λ (k : ℕ). Err (error k)) (sym e)
-    by false = g
+one_limit device limit n m error otherwise rest h e g = grind arith
 
 pub limits : (device : Device) (counts : Counts) (parts wires instances longest : ℕ) → counts.parts ≡ saturated parts → counts.wires ≡ saturated wires → counts.instances ≡ saturated instances → counts.longest ≡ saturated longest
     → unless_over PART_LIMIT parts TooManyParts (unless_over WIRE_LIMIT wires TooManyWires (unless_over INSTANCE_LIMIT instances TooManyBlocks (unless_over NAME_LIMIT longest PathTooLong (Ok device))))
     ≡ unless_refused device (refusal counts)
-limits device counts parts wires instances longest a b c d =
-    one_limit device PART_LIMIT parts counts.parts (λ n. TooManyParts n) _ _ (omega arith) a
-    (one_limit device WIRE_LIMIT wires counts.wires (λ n. TooManyWires n) _ _ (omega arith) b
-    (one_limit device INSTANCE_LIMIT instances counts.instances (λ n. TooManyBlocks n) _ _ (omega arith) c
-    (one_limit device NAME_LIMIT longest counts.longest (λ n. PathTooLong n) (Ok device) None (omega arith) d refl)))
+limits device counts parts wires instances longest a b c d = grind arith
 
 -- ---- short paths
 
@@ -166,12 +145,7 @@ module _ (design : Design) (valid : is_design design ≡ true) where
     longest_few = let e = top-counted.longest in let f = allowed.longest in omega arith
 
     pub top-short : are_short (paths_of (top_content design)) ≡ true
-    top-short = short_all (top_content design) by
-      where
-        by : (which : Which) → are_short (names_of which (top_content design)) ≡ true
-        by Parts = ap are_short (top-shows Parts) ∙ short_from_longest (inner Parts) (let l = longest_few in omega arith)
-        by Wires = ap are_short (top-shows Wires) ∙ short_from_longest (inner Wires) (let l = longest_few in let e = longest-append (top_ports design) (inner Wires) in omega arith)
-        by Instances = ap are_short (top-shows Instances) ∙ short_from_longest (inner Instances) (let l = longest_few in omega arith)
+    top-short = grind (arith, short_all, top-shows, short_from_longest, longest_few, longest-append)
 
   -- ---- the call that expands the top
 
@@ -189,29 +163,11 @@ module _ (design : Design) (valid : is_design design ≡ true) where
         omega arith
 
     content_is : instance_at design place [] (map (wire_at wires) places) ≡ top_content design
-    content_is =
-        (λ i. instance_at design (top_is i) [] (map (wire_at (ports_are i)) (places_are i)))
-        ∙ ap (instance_at design design.top []) (wires_all (top_ports design))
+    content_is = grind (arith, wires_all)
 
     pub CanExpand-top : refusal (counts_of_design design) ≡ None → CanExpand design place [] places wires
-    CanExpand-top passed = record {
-      valid = valid;
-      there = (let e = top_within design valid in omega arith);
-      ports = ports_count;
-      within = (λ i. are_within (length (ports_are i)) (places_are i)) ∙ range_within 0 (length (top_ports design)) (length (top_ports design)) (omega arith);
-      few =
-          let e = ap (λ (c : Content). length c.wires) content_is in
-          let f = ap length ports_are in
-          let g = length-append (top_ports design) (top_content design).wires in
-          let h = few_wires passed in
-          omega arith;
-      short = ap (λ (c : Content). are_short (paths_of c)) content_is ∙ top-short passed;
-    }
+    CanExpand-top passed = grind (arith, ports_count, range_within, content_is, length-append, few_wires, top-short)
 
     pub IsFlat-from_Grows : (old parts : List Component) (all_wires : List Name) → old ≡ []
         → Grows old wires (instance_at design place [] (map (wire_at wires) places)) parts all_wires → IsFlat design parts all_wires
-    IsFlat-from_Grows old parts all_wires none h = record {
-      wires_are = h.wires_grow ∙ (λ i. ports_are i ++ (content_is i).wires);
-      parts_are = h.parts_grow ∙ (λ i. map (shown (ports_are i)) (none i) ++ (content_is i).parts);
-      joined = h.joined;
-    }
+    IsFlat-from_Grows old parts all_wires none h = grind (arith, content_is)

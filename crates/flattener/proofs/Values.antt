@@ -18,9 +18,7 @@ module _ {A : Type 0} (types : List Shape) (f : Block → List A → A) (d : A) 
 
   holds_after : (above blocks : List Block) (es : List A) → are_blocks types above blocks ≡ true → ((j : ℕ) → P (get_or es j d)) → (j : ℕ) → P (get_or (values_after f es blocks) j d)
   holds_after above [] es a h j = h j
-  holds_after above (b ∷ bs) es a h j =
-      let two = and_parts (is_block types above b) (are_blocks types (above ++ b ∷ []) bs) a in
-      holds_after (above ++ b ∷ []) bs (es ++ f b es ∷ []) two.1 (pushed es (f b es) h (step above b es two.0 h)) j
+  holds_after above (b ∷ bs) es a h j = grind (arith, pushed, holds_after (above ++ b ∷ []) bs (es ++ f b es ∷ []))
 
   pub values-hold : (blocks : List Block) → are_blocks types [] blocks ≡ true → (j : ℕ) → P (get_or (values f blocks) j d)
   values-hold blocks a j = holds_after [] blocks [] a (λ i. start) j
@@ -30,8 +28,7 @@ module _ {A B : Type 0} (types : List Shape) (f : Block → List A → A) (g : B
     (step : (above : List Block) (block : Block) (vs : List A) (bs : List B) → is_block types above block ≡ true → ((j : ℕ) → R (get_or vs j d) (get_or bs j e)) → R (f block vs) (g block bs)) where
   pushed_both : (vs : List A) (bs : List B) (x : A) (y : B) → length vs ≡ length bs → ((j : ℕ) → R (get_or vs j d) (get_or bs j e)) → R x y
       → (j : ℕ) → R (get_or (vs ++ x ∷ []) j d) (get_or (bs ++ y ∷ []) j e)
-  pushed_both [] [] x y l h r zero = r
-  pushed_both [] [] x y l h r (suc j) = start
+  pushed_both [] [] x y l h r j = grind arith
   pushed_both [] (b ∷ bs) x y l h r j = absurd (omega arith)
   pushed_both (a ∷ vs) [] x y l h r j = absurd (omega arith)
   pushed_both (a ∷ vs) (b ∷ bs) x y l h r zero = h 0
@@ -40,10 +37,7 @@ module _ {A B : Type 0} (types : List Shape) (f : Block → List A → A) (g : B
   both_after : (above blocks : List Block) (vs : List A) (bs : List B) → length vs ≡ length bs → are_blocks types above blocks ≡ true
       → ((j : ℕ) → R (get_or vs j d) (get_or bs j e)) → (j : ℕ) → R (get_or (values_after f vs blocks) j d) (get_or (values_after g bs blocks) j e)
   both_after above [] vs bs l a h j = h j
-  both_after above (n ∷ ns) vs bs l a h j =
-      let two = and_parts (is_block types above n) (are_blocks types (above ++ n ∷ []) ns) a in
-      both_after (above ++ n ∷ []) ns (vs ++ f n vs ∷ []) (bs ++ g n bs ∷ []) (omega (arith, length_push vs (f n vs), length_push bs (g n bs))) two.1
-      (pushed_both vs bs (f n vs) (g n bs) l h (step above n vs bs two.0 h)) j
+  both_after above (n ∷ ns) vs bs l a h j = grind (arith, length_push, pushed_both, both_after (above ++ n ∷ []) ns (vs ++ f n vs ∷ []) (bs ++ g n bs ∷ []))
 
   pub values-both : (blocks : List Block) → are_blocks types [] blocks ≡ true → (j : ℕ) → R (get_or (values f blocks) j d) (get_or (values g blocks) j e)
   values-both blocks a j = both_after [] blocks [] [] refl a (λ i. start) j
@@ -52,17 +46,13 @@ module _ {A B : Type 0} (types : List Shape) (f : Block → List A → A) (g : B
 pub block_among : (types : List Shape) (above blocks : List Block) (k : ℕ) (d : Block) → are_blocks types above blocks ≡ true → k < length blocks
     → is_block types (above ++ take k blocks) (get_or blocks k d) ≡ true
 block_among types above [] k d a l = absurd (omega arith)
-block_among types above (b ∷ bs) zero d a l =
-    ap (λ (bs : List Block). is_block types bs b) (append-nil above) ∙ (and_parts (is_block types above b) (are_blocks types (above ++ b ∷ []) bs) a).0
+block_among types above (b ∷ bs) zero d a l = grind (arith, append-nil)
 block_among types above (b ∷ bs) (suc k) d a l =
     ap (λ (cs : List Block). is_block types cs (get_or bs k d)) (sym (append_assoc above (b ∷ []) (take k bs)))
     ∙ block_among types (above ++ b ∷ []) bs k d (and_parts (is_block types above b) (are_blocks types (above ++ b ∷ []) bs) a).1 (omega arith)
 
 -- and so does each front of the blocks
 pub front_fits : (types : List Shape) (above blocks : List Block) (k : ℕ) → are_blocks types above blocks ≡ true → are_blocks types above (take k blocks) ≡ true
-front_fits types above [] zero a = refl
+front_fits types above blocks zero a = grind arith
 front_fits types above [] (suc k) a = refl
-front_fits types above (b ∷ bs) zero a = refl
-front_fits types above (b ∷ bs) (suc k) a =
-    let two = and_parts (is_block types above b) (are_blocks types (above ++ b ∷ []) bs) a in
-    and_from (is_block types above b) (are_blocks types (above ++ b ∷ []) (take k bs)) two.0 (front_fits types (above ++ b ∷ []) bs k two.1)
+front_fits types above (b ∷ bs) (suc k) a = grind (arith, front_fits types (above ++ b ∷ []) bs k)

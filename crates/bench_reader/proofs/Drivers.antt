@@ -49,10 +49,10 @@ pub Drives-none : Drives [] []
 Drives-none = record { all = λ m. refl; gates = λ m. refl; once = refl }
 
 some_too : (b : Bool) (driver : Driver) (o : Option Driver) (a : Bool) → a ≡ is_some o → (b || a) ≡ is_some (cond b (Some driver) o)
-some_too bit1 driver o a h = grind arith
+some_too bit driver o a h = grind arith
 
 gate_too : (b : Bool) (o : Option Driver) (a : Bool) → a ≡ is_gate o → (b || a) ≡ is_gate (cond b (Some ByGate) o)
-gate_too bit1 o a h = grind arith
+gate_too bit o a h = grind arith
 
 pub Drives-gate : (ds : Signals) (above : List Statement) (o : Name) (k : NamedKind) (is : List Name) → Drives ds above → Drives (insert_entry same_name ds o ByGate) (Gate o k is ∷ above)
 Drives-gate ds above o k is h = grind (arith, lookup-insert, repeated-insert)

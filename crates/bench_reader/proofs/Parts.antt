@@ -36,7 +36,7 @@ pub record IsFaultlessGate (output : Name) (kind : NamedKind) (inputs : List Nam
   pub taken : takes_inputs (rule gate) (length inputs) ≡ true
 
 no_fault : (b : Bool) (fault : Option BenchFault) → is_none (if b then fault else Some NoName) ≡ true → (b ≡ true) × (is_none fault ≡ true)
-no_fault bit1 fault h = grind arith
+no_fault bit fault h = grind arith
 
 pub faultless_gate : (output : Name) (kind : NamedKind) (inputs : List Name) → is_faultless (Gate output kind inputs) ≡ true → IsFaultlessGate output kind inputs
 faultless_gate output kind inputs h = grind arith

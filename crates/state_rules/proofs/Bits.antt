@@ -12,25 +12,25 @@ use Rattle.state_rules.proofs.Lists.{list_any-map}
 -- ---- one bit
 
 pub same_bit-swap : (x y : Bool) → same_bit x y ≡ same_bit y x
-same_bit-swap bit1 bit2 = grind arith
+same_bit-swap bit other = grind arith
 
 pub same_bit-refl : (x : Bool) → same_bit x x ≡ true
-same_bit-refl bit1 = grind arith
+same_bit-refl bit = grind arith
 
 pub same_bit-equal : (x y : Bool) → same_bit x y ≡ true → x ≡ y
-same_bit-equal bit1 bit2 e = grind arith
+same_bit-equal bit other e = grind arith
 
 -- where not both are 1 and the second is, the first is not
 pub not_left : (x y : Bool) → (x && y) ≡ false → y ≡ true → x ≡ false
-not_left bit1 y e f = grind arith
+not_left bit y e f = grind arith
 
 -- two are alike only where a first one is
 pub and-not_alike : (p x y : Bool) → (p ≡ true → x ≡ y) → (p && not x) ≡ (p && not y)
-and-not_alike bit1 x y h = grind arith
+and-not_alike bit x y h = grind arith
 
 -- what counts where the negated bit is 1 counts where the bit is 0
 pub cond-not : (b : Bool) (n : ℕ) → cond (not b) n 0 ≡ cond b 0 n
-cond-not bit1 n = grind arith
+cond-not bit n = grind arith
 
 -- ---- a list of bits
 
@@ -61,7 +61,7 @@ pub half-below : (r n : ℕ) → r < 2 ^ suc n → r / 2 < 2 ^ n
 half-below r n h = omega arith
 
 pub row_number-half : (b : Bool) (n : ℕ) → (number_of_bit b + 2 * n) / 2 ≡ n
-row_number-half bit1 n = grind arith
+row_number-half bit n = grind arith
 
 pub row_number-push : (bits : List Bool) (b : Bool) → row_number (bits ++ b ∷ []) ≡ row_number bits + number_of_bit b * 2 ^ length bits
 row_number-push [] b = omega arith

@@ -17,7 +17,7 @@ pub usual_bit-agrees : (k : Option Bool) → agrees_at k (usual_bit k) ≡ true
 usual_bit-agrees k = grind arith
 
 pub agrees_cond : (k : Option Bool) (p x y : Bool) → agrees_at k x ≡ true → agrees_at k y ≡ true → agrees_at k (cond p x y) ≡ true
-agrees_cond k bit1 x y e f = grind arith
+agrees_cond k bit x y e f = grind arith
 
 -- ---- a list of bits, place by place
 

@@ -27,13 +27,13 @@ at_most_one-none (true ∷ bs) none = absurd (false≢true (sym none))
 at_most_one-none (false ∷ bs) none = at_most_one-none bs none
 
 pub at_most_one-tail : (b : Bool) (bs : List Bool) → at_most_one (b ∷ bs) ≡ true → at_most_one bs ≡ true
-at_most_one-tail bit1 bs e = grind (arith, at_most_one-none)
+at_most_one-tail bit bs e = grind (arith, at_most_one-none)
 
 pub not_both : (b : Bool) (bs : List Bool) → at_most_one (b ∷ bs) ≡ true → (b && list_any (λ x. x) bs) ≡ false
-not_both bit1 bs e = grind arith
+not_both bit bs e = grind arith
 
 pub at_most_one-from : (b : Bool) (bs : List Bool) → (list_any (λ x. x) bs ≡ true → b ≡ false) → at_most_one bs ≡ true → at_most_one (b ∷ bs) ≡ true
-at_most_one-from bit1 bs h e = grind arith
+at_most_one-from bit bs h e = grind arith
 
 -- fewer are true
 pub at_most_one-less : (f g : ℕ → Bool) (own : ℕ) (kids : List ℕ) → are_below own kids ≡ true → ((k : ℕ) → k < own → f k ≡ true → g k ≡ true)

@@ -27,7 +27,7 @@ pub record Differs (h k : List Bool) : Type 0 where
 
 pub differs : (h k : List Bool) → is_before h k ≡ true → Differs h k
 differs [] k e = absurd (cc)
-differs (bit1 ∷ h) [] e = grind arith
+differs (bit ∷ h) [] e = grind arith
 differs (false ∷ h) (true ∷ k) e = record { at = 0; within = omega arith; alike = λ i g. absurd (omega arith); faulty = refl; ok = refl }
 differs (true ∷ h) (false ∷ k) e = absurd (cc)
 differs (false ∷ h) (false ∷ k) e = let d = differs h k e in later d where
@@ -45,7 +45,7 @@ differs (true ∷ h) (true ∷ k) e = let d = differs h k e in later d where
 
 pub not_both_before : (h k : List Bool) → is_before h k ≡ true → is_before k h ≡ true → ⊥
 not_both_before [] k e f = cc
-not_both_before (bit1 ∷ h) [] e f = grind arith
+not_both_before (bit ∷ h) [] e f = grind arith
 not_both_before (false ∷ h) (true ∷ k) e f = cc
 not_both_before (true ∷ h) (false ∷ k) e f = cc
 not_both_before (false ∷ h) (false ∷ k) e f = not_both_before h k e f
@@ -72,7 +72,7 @@ Sorted-append (x ∷ xs) ys s t h = (
 )
 
 front-before : (b : Bool) (x y : List Bool) → is_before x y ≡ true → is_before (b ∷ x) (b ∷ y) ≡ true
-front-before bit1 x y e = grind arith
+front-before bit x y e = grind arith
 
 Sorted-map : (b : Bool) (xs : List (List Bool)) → Sorted xs → Sorted (map (λ bs. b ∷ bs) xs)
 Sorted-map b [] s = tt

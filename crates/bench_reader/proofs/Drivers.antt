@@ -1,9 +1,8 @@
 -- What drives the signals of statements.
 use Rattle.std.proofs.Common.{◌≡◌, Bool, true, false, cond, List, [], ◌∷◌, Option, Some, None, is_some, refl, sym, ap, ◌∙◌, arith}
-use Rattle.std.specs.Prelude.{◌||◌, if◌then◌else◌}
+use Rattle.std.specs.Prelude.{◌||◌}
 use Rattle.std.specs.List.{flat_map}
 use Rattle.std.specs.Map.{lookup, keys_of}
-use Rattle.std.proofs.lemmas.Bool.{true≢false}
 use Rattle.std.proofs.lemmas.Map.Made.{is_some-lookup}
 use Rattle.indexmap.specs.IndexMap.{insert_entry}
 use Rattle.text_rules.specs.Names.{Name, same_name, is_among}
@@ -50,9 +49,6 @@ Drives-none = record { all = λ m. refl; gates = λ m. refl; once = refl }
 
 some_too : (b : Bool) (driver : Driver) (o : Option Driver) (a : Bool) → a ≡ is_some o → (b || a) ≡ is_some (cond b (Some driver) o)
 some_too bit driver o a h = grind arith
-
-gate_too : (b : Bool) (o : Option Driver) (a : Bool) → a ≡ is_gate o → (b || a) ≡ is_gate (cond b (Some ByGate) o)
-gate_too bit o a h = grind arith
 
 pub Drives-gate : (ds : Signals) (above : List Statement) (o : Name) (k : NamedKind) (is : List Name) → Drives ds above → Drives (insert_entry same_name ds o ByGate) (Gate o k is ∷ above)
 Drives-gate ds above o k is h = grind (arith, lookup-insert, repeated-insert)

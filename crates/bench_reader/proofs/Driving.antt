@@ -1,6 +1,6 @@
 -- The map of the driven signals, as a list of names and drivers.
 use Rattle.std.proofs.Common.{◌≡◌, ℕ, ◌≤◌, Ok, Err, is_some, unwrap_or, ◌+◌, length, Bool, true, false, cond, List, [], ◌∷◌, map, Option, Some, None, Bor, refl, sym, ap, ◌∙◌, arith}
-use Rattle.std.specs.Prelude.{position, not, nat_lt, if◌then◌else◌}
+use Rattle.std.specs.Prelude.{position, not, nat_lt}
 use Rattle.std.specs.List.{position_or_len}
 use Rattle.std.proofs.lemmas.Bool.Decides.{nat_tests}
 use Rattle.std.specs.Map.{lookup, keys_of}

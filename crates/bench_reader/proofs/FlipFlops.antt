@@ -1,14 +1,13 @@
 -- The flip-flops among statements, and the parts that they are.
-use Rattle.std.proofs.Common.{◌≡◌, ℕ, ◌+◌, ◌<◌, ◌≤◌, Bool, true, false, cond, List, [], ◌∷◌, ◌++◌, map, length, drop, get_or, Bor, Ok, refl, sym, ap, subst, ◌∙◌, append_assoc, arith}
-use Rattle.std.specs.Prelude.{◌||◌, ◌&&◌, nat_le, if◌then◌else◌}
+use Rattle.std.proofs.Common.{◌≡◌, ℕ, ◌+◌, ◌<◌, ◌≤◌, Bool, true, false, List, [], ◌∷◌, ◌++◌, map, length, drop, get_or, Bor, Ok, refl, sym, ap, subst, ◌∙◌, append_assoc, arith}
+use Rattle.std.specs.Prelude.{◌||◌, if◌then◌else◌}
 use Rattle.std.specs.List.{list_any, list_all, filter, filter_map, flat_map, enumerate_from}
-use Rattle.std.proofs.lemmas.Bool.{and_parts, leb-true}
+use Rattle.std.proofs.lemmas.Bool.{and_parts}
 use Rattle.std.proofs.lemmas.List.{drop_more}
 use Rattle.std.proofs.lemmas.List.Folds.{list_any-append, list_all-map}
-use Rattle.std.proofs.Math.Bool.{or-false, or_assoc}
+use Rattle.std.proofs.Math.Bool.{or-false}
 use Rattle.indexmap.specs.IndexSet.{insert_key}
-use Rattle.text_rules.specs.Expected.{IsExpectedFault}
-use Rattle.text_rules.specs.Names.{Name, same_name, is_among, is_short_name, is_name_byte}
+use Rattle.text_rules.specs.Names.{Name, same_name, is_among, is_short_name}
 use Rattle.text_rules.proofs.NameLemmas.{equal_if_same}
 use Rattle.text_rules.specs.TextLines.{all_lines}
 use Rattle.state_rules.proofs.Members.{In-at}
@@ -25,15 +24,12 @@ use Rattle.bench_reader.specs.declared.kinds.NamedKind.TheVariants.{Sequential a
 use Rattle.bench_reader.specs.declared.statement.Inputs.{Inputs}
 use Rattle.bench_reader.specs.declared.statement.Statement.{Statement as StatementRead}
 use Rattle.bench_reader.specs.declared.statement.Statement.TheVariants.{Gate as GateRead}
-use Rattle.bench_reader.specs.declared.statement.NumberedStatement.{NumberedStatement}
-use Rattle.bench_reader.specs.declared.fault.BenchError.{BenchError}
-use Rattle.bench_reader.specs.declared.fault.BenchError.TheVariants.{Bad, Memory}
-use Rattle.bench_reader.specs.Faults.{Fault, told, unless_fault}
+use Rattle.bench_reader.specs.Faults.{Fault, unless_fault}
 use Rattle.bench_reader.specs.Statements.{Statement, Input, Output, Gate}
 use Rattle.bench_reader.specs.Signals.{driven, driven_by_gate}
 use Rattle.bench_reader.specs.Netlists.{part_of, device_of, fault_in, statement_in, faults_together, readings, netlist_with}
 use Rattle.bench_reader.specs.SequentialNetlists.{flip_flop, flip_flops, places_where, with_delayed, sequential_netlist, HasShortNames}
-use Rattle.bench_reader.specs.inner.Lines.{meaning, with_number}
+use Rattle.bench_reader.specs.inner.Lines.{meaning}
 use Rattle.bench_reader.specs.inner.Steps.{statements_or_fault, device_or_fault, is_faultless}
 use Rattle.bench_reader.proofs.Lines.{said, read_are_faultless}
 use Rattle.bench_reader.proofs.Parts.{names-parts, names-joined}
@@ -65,13 +61,6 @@ pub named_flip_flop : (statement : StatementRead) (output : Bor Name) (kind : Na
     → statement ≡ GateRead output kind inputs → kind ≡ KeepsItsValue → is_among (flip_flop (meaning statement)) name ≡ same_name name output.now
 named_flip_flop statement output kind inputs name is keeps = grind arith
 
--- one statement more
-pub kept-more : (statements : List NumberedStatement) (i : ℕ) (s : NumberedStatement) (name : Name) (old new whole : Bool) → i < length statements → s ≡ get_or statements i s
-    → new ≡ (old || is_among (flip_flop (meaning s.statement)) name)
-    → (old || is_among (flip_flops (map with_number (drop i statements))) name) ≡ whole
-    → (new || is_among (flip_flops (map with_number (drop (i + 1) statements))) name) ≡ whole
-kept-more statements i s name old new whole lt is added inv = grind (arith, drop_more)
-
 -- ---- the places of parts
 
 -- the places from one on, of the names that pass
@@ -93,13 +82,6 @@ module _ (test : Name → Bool) (parts : List Component) (i : ℕ) (part : Compo
   pub places-left : (done whole : List ℕ) → test part.name ≡ false → whole ≡ done ++ places_from test i (part_names (drop i parts))
       → whole ≡ done ++ places_from test (i + 1) (part_names (drop (i + 1) parts))
   places-left done whole e inv = inv ∙ ap (λ ps. done ++ ps) (places-next false e)
-
-places-same : (p q : Name → Bool) → ((n : Name) → p n ≡ q n) → (at : ℕ) (names : List Name) → places_from p at names ≡ places_from q at names
-places-same p q same at names = grind arith
-
--- the same places by two tests that are the same
-pub places-by : (p q : Name → Bool) → ((n : Name) → p n ≡ q n) → (names : List Name) → places_where p names ≡ places_where q names
-places-by p q same names = places-same p q same 0 names
 
 -- ---- names of a file
 
@@ -143,9 +125,6 @@ netlist-short flip_flops text device h = by (filter_map fault_in (readings flip_
 -- ---- what is read
 
 module _ (text : List ℕ) where
-  pub handed : (error : BenchError) → IsExpectedFault (told error) (netlist_with Taken text) → IsExpectedFault (told error) (sequential_netlist text)
-  handed error h = grind arith
-
   module _ (statements : List (ℕ × Statement)) (read : statements_or_fault (readings Taken text) ≡ Ok statements) where
     pub device_read : (device : Device) → device_or_fault statements ≡ Ok device → netlist_with Taken text ≡ Ok device
     device_read device made = is_read Taken text statements read ∙ made

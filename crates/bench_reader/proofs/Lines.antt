@@ -1,19 +1,12 @@
 -- What lines say, from line to line.
-use Rattle.std.proofs.Common.{◌≡◌, ℕ, ◌+◌, Bool, true, false, List, [], ◌∷◌, ◌++◌, map, drop, get_or, length, Option, Some, None, Ok, Err, append_assoc, refl, sym, ap, subst, ◌∙◌, ◌<◌, drop-drop, arith}
-use Rattle.std.specs.Prelude.{Result, is_none, if◌then◌else◌}
+use Rattle.std.proofs.Common.{◌≡◌, ℕ, ◌+◌, true, List, [], ◌∷◌, ◌++◌, map, drop, get_or, length, Option, Some, None, Ok, append_assoc, refl, subst, ◌<◌, drop-drop, arith}
+use Rattle.std.specs.Prelude.{Result}
 use Rattle.std.specs.List.{list_all, filter_map, enumerate_from, flat_map}
 use Rattle.std.proofs.lemmas.Bool.{and_parts, and_from}
 use Rattle.std.proofs.lemmas.List.{drop_more, map-append}
-use Rattle.text_rules.specs.Names.{is_short_name}
-use Rattle.text_rules.specs.Tokens.{tokens}
-use Rattle.text_rules.specs.TextLines.{uncommented}
 use Rattle.bench_reader.specs.declared.fault.BenchFault.{BenchFault}
-use Rattle.bench_reader.specs.declared.fault.BenchFault.TheVariants.{Name as NoName}
 use Rattle.bench_reader.specs.declared.kinds.FlipFlops.{FlipFlops}
-use Rattle.bench_reader.specs.declared.kinds.FlipFlops.TheVariants.{Refused, Taken}
-use Rattle.bench_reader.specs.declared.kinds.NamedKind.{NamedKind}
-use Rattle.bench_reader.specs.declared.kinds.NamedKind.TheVariants.{Combinational, Sequential, Unknown}
-use Rattle.bench_reader.specs.Statements.{Statement, Input, Output, Gate, statement_of, kind_fault, statement_fault, unless_faulty, reading_of_statement, reading_of, reading}
+use Rattle.bench_reader.specs.Statements.{Statement, statement_fault, reading}
 use Rattle.bench_reader.specs.Netlists.{fault_in, statement_in}
 use Rattle.bench_reader.specs.inner.Steps.{is_faultless}
 

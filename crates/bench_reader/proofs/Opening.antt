@@ -1,13 +1,10 @@
 -- What stands behind the first opening bracket of a line, and the tokens behind the first that is one.
-use Rattle.std.proofs.Common.{◌≡◌, ℕ, suc, ◌+◌, ◌==◌, Bool, true, false, cond, not, ◌&&◌, List, [], ◌∷◌, ◌++◌, drop, codes, refl, sym, ap, ◌∙◌, inl, inr, arith}
+use Rattle.std.proofs.Common.{◌≡◌, ℕ, ◌==◌, Bool, true, false, not, List, [], ◌∷◌, ◌++◌, codes, refl, sym, ap, ◌∙◌, arith}
 use Rattle.std.specs.List.{list_all, position_or_len}
-use Rattle.std.proofs.lemmas.Bool.{and_parts, and_from, or_parts, not-true, not_from_false, false≢true}
-use Rattle.std.proofs.lemmas.Bool.Decides.{nat_tests}
+use Rattle.std.proofs.lemmas.Bool.{and_parts, and_from, not_from_false, false≢true}
 use Rattle.text_rules.specs.Names.{same_name}
-use Rattle.text_rules.specs.Tokens.{is_blank, stands_alone, ends_word, before_tokens, tokens}
-use Rattle.text_rules.specs.inner.WordBytes.{is_word_byte}
+use Rattle.text_rules.specs.Tokens.{ends_word, before_tokens, tokens}
 use Rattle.text_rules.proofs.NameLemmas.{equal_if_same}
-use Rattle.text_rules.proofs.TokenLemmas.{tokens-blank, tokens-mark, tokens-byte, byte_kinds}
 use Rattle.bench_reader.specs.Statements.{has_no_mark}
 use Rattle.bench_reader.specs.inner.Lines.{behind_bracket}
 
@@ -24,12 +21,6 @@ place line = position_or_len (λ b. b == 40) line
 
 later : (b : ℕ) (line : List ℕ) → (b == 40) ≡ false → behind_bracket (b ∷ line) ≡ behind_bracket line
 later b line other = grind arith
-
-blank_is_other : (b : ℕ) → is_blank b ≡ true → (b == 40) ≡ false
-blank_is_other b blank = grind (arith, nat_tests)
-
-byte_is_other : (b : ℕ) → is_word_byte true b ≡ true → (b == 40) ≡ false
-byte_is_other b inside = grind (arith, nat_tests)
 
 -- a word that begins with another byte is no bracket
 word_is_other : (ends : Bool) (b : ℕ) (ts others : List (List ℕ)) (first : List ℕ) → (b == 40) ≡ false → before_tokens ends b ts ≡ first ∷ others → is_open first ≡ false

@@ -1,17 +1,16 @@
 -- What tokens make.
-use Rattle.std.proofs.Common.{◌≡◌, ℕ, ◌<◌, ◌≤◌, Bool, true, false, List, [], ◌∷◌, length, get_or, Option, Some, None, codes, is_some, refl, sym, ap, arith}
+use Rattle.std.proofs.Common.{◌≡◌, ℕ, ◌<◌, ◌≤◌, Bool, true, false, List, [], ◌∷◌, length, get_or, Option, Some, None, codes, is_some, refl, ap, arith}
 use Rattle.std.specs.Prelude.{◌&&◌, option_map, if◌then◌else◌}
-use Rattle.std.specs.List.{filter, list_all}
+use Rattle.std.specs.List.{filter}
 use Rattle.std.proofs.lemmas.List.Sums.{length-filter, count_by-le-length}
 use Rattle.text_rules.specs.Names.{Name, is_short_name}
 use Rattle.text_rules.proofs.NameLemmas.{equal_if_same}
 use Rattle.text_rules.proofs.TokenLemmas.{length-tokens}
-use Rattle.bench_reader.specs.declared.fault.BenchFault.TheVariants.{Name as NoName}
 use Rattle.bench_reader.specs.declared.kinds.FlipFlops.{FlipFlops}
 use Rattle.bench_reader.specs.declared.kinds.NamedKind.{NamedKind}
 use Rattle.bench_reader.specs.declared.statement.Inputs.{Inputs}
 use Rattle.bench_reader.specs.Statements.{Gate, has_no_mark, is_the_mark, listed_from, inputs_in, statement_of, kind_named, kind_fault, statement_fault}
-use Rattle.bench_reader.specs.inner.Lines.{input_names, input_tokens, count_names}
+use Rattle.bench_reader.specs.inner.Lines.{input_names, count_names}
 
 -- ---- lists of inputs
 
@@ -63,9 +62,6 @@ input_words (m ∷ []) = by (is_the_mark (codes ")") m) refl
 input_words (x ∷ y ∷ ts) = listed_words (x ∷ y ∷ ts)
 
 -- ---- gates
-
-gate_with : (output : Name) (kind : NamedKind) (ts : List (List ℕ)) (o : Option (List Name)) → AreWords ts o → is_some o ≡ true → option_map (Gate output kind) o ≡ Some (Gate output kind (filter has_no_mark ts))
-gate_with output kind ts o w h = grind arith
 
 gate_behind : (output kind : Name) (ts : List (List ℕ)) → has_no_mark output ≡ true → has_no_mark kind ≡ true → is_some (inputs_in ts) ≡ true
     → statement_of (output ∷ codes "=" ∷ kind ∷ codes "(" ∷ ts) ≡ Some (Gate output (kind_named kind) (filter has_no_mark ts))

@@ -1,30 +1,21 @@
 -- The parts of statements without a fault, over the driven signals in any order.
-use Rattle.std.proofs.Common.{◌≡◌, ℕ, ◌+◌, ◌-◌, Bool, true, false, List, [], ◌∷◌, ◌++◌, map, length, Option, Some, None, refl, ap, ◌∙◌, arith}
-use Rattle.std.specs.Prelude.{◌&&◌, is_none, option_map, if◌then◌else◌}
+use Rattle.std.proofs.Common.{◌≡◌, Bool, true, List, [], ◌∷◌, ◌++◌, map, length, Some, refl, arith}
+use Rattle.std.specs.Prelude.{◌&&◌}
 use Rattle.std.specs.List.{flat_map, list_all}
-use Rattle.std.specs.Option.{option_to_list}
-use Rattle.std.proofs.lemmas.Bool.{and_parts, and_from}
-use Rattle.std.proofs.lemmas.List.{length-map, length_push, map-append}
+use Rattle.std.proofs.lemmas.List.{length-map, length_push}
 use Rattle.std.proofs.lemmas.List.Folds.{list_all-append}
 use Rattle.std.proofs.lemmas.Simd.{map-map}
 use Rattle.text_rules.specs.Names.{Name, is_short_name, is_among}
 use Rattle.device_model.specs.declared.gates.Kind.{Kind}
-use Rattle.device_model.specs.declared.gates.Kind.TheVariants.{Buff}
-use Rattle.device_model.specs.declared.gates.Rule.{Rule}
-use Rattle.device_model.specs.declared.gates.Rule.TheVariants.{Gate as OfGate, Table as OfTable}
 use Rattle.device_model.specs.declared.component.Component.{Component}
-use Rattle.device_model.specs.Devices.{part_names, takes_ports, has_arity, has_wires}
-use Rattle.device_model.specs.Gates.{rule, takes, takes_inputs}
-use Rattle.device_model.specs.Building.{NamedPart, place_in, joined}
+use Rattle.device_model.specs.Devices.{part_names, has_arity, has_wires}
+use Rattle.device_model.specs.Gates.{rule, takes_inputs}
+use Rattle.device_model.specs.Building.{NamedPart, joined}
 use Rattle.device_model.proofs.Joining.{named, named-joined, joined-wired}
-use Rattle.bench_reader.specs.declared.kinds.FlipFlops.TheVariants.{Taken}
 use Rattle.bench_reader.specs.declared.kinds.NamedKind.{NamedKind}
-use Rattle.bench_reader.specs.declared.kinds.NamedKind.TheVariants.{Combinational, Sequential, Unknown}
-use Rattle.bench_reader.specs.declared.fault.BenchFault.{BenchFault}
-use Rattle.bench_reader.specs.declared.fault.BenchFault.TheVariants.{Name as NoName, Inputs as WrongInputs}
-use Rattle.bench_reader.specs.Statements.{Statement, Input, Output, Gate, part_gate, kind_fault}
+use Rattle.bench_reader.specs.Statements.{Statement, Gate, part_gate}
 use Rattle.bench_reader.specs.Signals.{driven_by_gate, used}
-use Rattle.bench_reader.specs.Netlists.{part_over, part_of}
+use Rattle.bench_reader.specs.Netlists.{part_of}
 use Rattle.bench_reader.specs.inner.Steps.{is_faultless}
 
 -- ---- what a gate without a fault has
@@ -35,9 +26,6 @@ pub record IsFaultlessGate (output : Name) (kind : NamedKind) (inputs : List Nam
   pub meant : part_gate kind ≡ Some gate
   pub taken : takes_inputs (rule gate) (length inputs) ≡ true
 
-no_fault : (b : Bool) (fault : Option BenchFault) → is_none (if b then fault else Some NoName) ≡ true → (b ≡ true) × (is_none fault ≡ true)
-no_fault bit fault h = grind arith
-
 pub faultless_gate : (output : Name) (kind : NamedKind) (inputs : List Name) → is_faultless (Gate output kind inputs) ≡ true → IsFaultlessGate output kind inputs
 faultless_gate output kind inputs h = grind arith
 
@@ -46,12 +34,6 @@ faultless_gate output kind inputs h = grind arith
 -- its name is that of its output
 abbrev pub named_names : List NamedPart → List Name
 named_names parts = map (λ (part : NamedPart). part.name) parts
-
-pub names-part_of : (s : Statement) → is_faultless s ≡ true → named_names (part_of s) ≡ driven_by_gate s
-names-part_of s h = grind arith
-
-takes_one_more : (r : Rule) (n : ℕ) → takes_inputs r n ≡ true → takes_ports [] r (n + 1) ≡ true
-takes_one_more r n h = grind arith
 
 module _ (wires : List Name) where
   -- a part of the right arity, over wires that are there

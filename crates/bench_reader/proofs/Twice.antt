@@ -1,5 +1,5 @@
 -- The statements that drive a signal again: there are none exactly where the signals are found, and else the first is told.
-use Rattle.std.proofs.Common.{◌≡◌, ℕ, Bool, true, false, cond, List, [], ◌∷◌, map, Option, Some, None, is_some, refl, sym, ap, subst, ◌∙◌, arith}
+use Rattle.std.proofs.Common.{◌≡◌, ℕ, Bool, true, false, List, [], ◌∷◌, map, Option, Some, None, is_some, refl, sym, ap, subst, ◌∙◌, arith}
 use Rattle.std.specs.Prelude.{◌||◌, Result, Ok, Err, if◌then◌else◌}
 use Rattle.std.specs.List.{flat_map}
 use Rattle.std.specs.Map.{keys_of}
@@ -30,13 +30,7 @@ abbrev pub Splits : Result Signals Fault → List (ℕ × Statement) → List St
 Splits (Err fault) statements above = (lines : List ℕ) × (fault ≡ fault_at DrivenTwice fault.line) × (driven_twice_below above statements ≡ fault.line ∷ lines)
 Splits (Ok ds) statements above = (driven_twice_below above statements ≡ []) × Ends ds above (map said statements)
 
-or_moves : (a b x : Bool) → (b || (a || x)) ≡ ((a || b) || x)
-or_moves a b x = grind arith
-
 module _ (f : ℕ × Statement) (statements : List (ℕ × Statement)) (above : List Statement) where
-  lifted : (o : Result Signals Fault) → is_driven_twice above f.1 ≡ false → Splits o statements (f.1 ∷ above) → Splits o (f ∷ statements) above
-  lifted o e h = grind arith
-
   step_on : (ds more : Signals) → driven_more ds f ≡ Ok more → is_driven_twice above f.1 ≡ false → Splits (signals_from more statements) statements (f.1 ∷ above)
       → Splits (signals_from ds (f ∷ statements)) (f ∷ statements) above
   step_on ds more e t h = grind arith
@@ -92,9 +86,6 @@ gates_apart ((line, Gate o k is) ∷ statements) above m h e =
     by : (b : Bool) → same_name m o ≡ b → is_among (flat_map driven_by_gate (map said statements)) m ≡ false → (b || is_among (flat_map driven_by_gate (map said statements)) m) ≡ false
     by false g rest = rest
     by true g rest = absurd (true≢false (sym e ∙ ap (λ (n : Name). is_among (flat_map driven above) n) (equal_if_same m o g) ∙ (twice_parts (line, Gate o k is) statements above h).0))
-
-itself_among : (o : Name) (ns : List Name) → same_name o o ≡ true → is_among (o ∷ ns) o ≡ true
-itself_among o ns e = ap (λ (b : Bool). b || is_among ns o) e
 
 pub gates_once : (statements : List (ℕ × Statement)) (above : List Statement) → driven_twice_below above statements ≡ [] → repeated (flat_map driven_by_gate (map said statements)) ≡ []
 gates_once [] above h = refl

@@ -1,11 +1,10 @@
 -- The netlist of a text, by what its lines say, what they drive and what they use.
-use Rattle.std.proofs.Common.{◌≡◌, ℕ, suc, inl, inr, Bool, true, false, cond, not, List, [], ◌∷◌, ◌++◌, map, length, Option, Some, None, Ok, Err, nat_lt, refl, sym, ap, subst, ◌∙◌, arith}
-use Rattle.std.specs.Prelude.{Result, ◌&&◌, ◌||◌, is_none, if◌then◌else◌}
-use Rattle.std.specs.List.{filter, filter_map, flat_map, list_all}
+use Rattle.std.proofs.Common.{◌≡◌, ℕ, suc, inl, inr, Bool, true, false, List, [], ◌∷◌, ◌++◌, map, length, Option, Some, None, Ok, Err, nat_lt, refl, sym, ap, subst, ◌∙◌, arith}
+use Rattle.std.specs.Prelude.{Result, if◌then◌else◌}
+use Rattle.std.specs.List.{filter_map, flat_map, list_all}
 use Rattle.std.specs.Map.{keys_of}
-use Rattle.std.proofs.lemmas.Bool.{and_parts, and_from, or_parts, true≢false, ltb-false}
+use Rattle.std.proofs.lemmas.Bool.{and_parts, or_parts, ltb-false}
 use Rattle.std.proofs.lemmas.List.{length-map}
-use Rattle.std.proofs.lemmas.List.Folds.{list_all-append}
 use Rattle.text_rules.specs.Expected.{IsExpectedFault}
 use Rattle.text_rules.specs.Names.{Name, is_short_name, is_among}
 use Rattle.text_rules.specs.TextLines.{all_lines}
@@ -25,22 +24,20 @@ use Rattle.device_model.proofs.Repeats.{is_among-among, among_from_test}
 use Rattle.device_model.proofs.Making.{list_all-among, list_all-from_among, component_name}
 use Rattle.device_model.proofs.CallerLemmas.{sorted_distinct-same_tests, only_memory as only_memory_of}
 use Rattle.device_model.proofs.Joining.{CanBeBuilt, built-over}
-use Rattle.bench_reader.specs.declared.fault.BenchFault.{BenchFault}
-use Rattle.bench_reader.specs.declared.fault.BenchFault.TheVariants.{Name as NoName, DrivenTwice, Undriven, TooMany}
+use Rattle.bench_reader.specs.declared.fault.BenchFault.TheVariants.{DrivenTwice, Undriven, TooMany}
 use Rattle.bench_reader.specs.declared.fault.BenchError.{BenchError}
-use Rattle.bench_reader.specs.declared.fault.BenchError.TheVariants.{Bad, Memory}
 use Rattle.bench_reader.specs.declared.kinds.FlipFlops.{FlipFlops}
 use Rattle.bench_reader.specs.declared.statement.NumberedStatement.{NumberedStatement}
 use Rattle.bench_reader.specs.Faults.{Fault, fault_at, told, unless_fault}
 use Rattle.bench_reader.specs.Statements.{Statement, Input, Output, Gate}
 use Rattle.bench_reader.specs.Signals.{driven, driven_by_gate, used, driven_twice, lines_without, undriven}
-use Rattle.bench_reader.specs.Netlists.{part_of, device_of, fault_in, statement_in, too_many, faults_together, readings, netlist_with}
+use Rattle.bench_reader.specs.Netlists.{part_of, device_of, fault_in, statement_in, too_many, readings, netlist_with}
 use Rattle.bench_reader.specs.inner.Lines.{unnumbered, with_number}
 use Rattle.bench_reader.specs.inner.Steps.{statements_or_fault, device_or_fault, Signals, signals_from, first_undriven, is_too_large, is_faultless, AreFaultless}
 use Rattle.bench_reader.proofs.Drivers.{among_keys, Drives-none}
 use Rattle.bench_reader.proofs.Lines.{said, read_are_faultless}
 use Rattle.bench_reader.proofs.Twice.{Ends, Splits, splits, gates_once}
-use Rattle.bench_reader.proofs.Parts.{faultless_gate, names-parts, names-joined, statements_fit, arities-joined, wired-joined, named_back}
+use Rattle.bench_reader.proofs.Parts.{names-parts, names-joined, statements_fit, arities-joined, wired-joined, named_back}
 
 -- ---- names that differ are as many in order
 
@@ -52,17 +49,11 @@ length-placed_new x (y ∷ ys) h = elim (compared x y) [
   | above l ↦ (let rest = length-placed_new x ys (λ m. h (inr m)) in ap length (placed-above itself x y ys l) ∙ ap suc rest)
 ]
 
-no_repeat : (n : Name) (ns : List Name) → repeated (n ∷ ns) ≡ [] → (is_among ns n ≡ false) × (repeated ns ≡ [])
-no_repeat n ns h = grind arith
-
 length-sorted_distinct_once : (ns : List Name) → repeated ns ≡ [] → length (sorted_distinct itself ns) ≡ length ns
 length-sorted_distinct_once [] h = refl
 length-sorted_distinct_once (n ∷ ns) h = grind (arith, length-placed_new, is_among-among, among_sorted_distinct, length-sorted_distinct_once ns)
 
 -- ---- signals as names of wires
-
-driven_named : (s : Statement) → is_faultless s ≡ true → list_all is_short_name (driven s) ≡ true
-driven_named s h = grind arith
 
 pub all_driven_named : (statements : List Statement) → list_all is_faultless statements ≡ true → list_all is_short_name (flat_map driven statements) ≡ true
 all_driven_named [] h = refl
@@ -115,10 +106,6 @@ module _ (statements : List Statement) (signals : List Name) (fine : AreFaultles
 there-said : (statements : List (ℕ × Statement)) → flat_map (λ (s : ℕ × Statement). driven s.1) statements ≡ flat_map driven (map said statements)
 there-said [] = refl
 there-said (s ∷ statements) = ap (λ ns. driven s.1 ++ ns) (there-said statements)
-
-all_same : (p q : Name → Bool) → ((n : Name) → p n ≡ q n) → (ns : List Name) → list_all p ns ≡ list_all q ns
-all_same p q h [] = refl
-all_same p q h (n ∷ ns) = let a = h n in let b = all_same p q h ns in cc
 
 abbrev IsFirst : Option ℕ → List ℕ → Type 0
 IsFirst None lines = lines ≡ []
@@ -194,9 +181,6 @@ module _ (statements : List (ℕ × Statement)) where
 -- ---- a text
 
 module _ (flip_flops : FlipFlops) (text : List ℕ) where
-  fault_read : (fault : Fault) → statements_or_fault (readings flip_flops text) ≡ Err fault → netlist_with flip_flops text ≡ Err fault
-  fault_read fault h = grind arith
-
   pub handed_read : (error : BenchError) → IsExpectedFault (told error) (statements_or_fault (readings flip_flops text)) → IsExpectedFault (told error) (netlist_with flip_flops text)
   handed_read error h = grind arith
 

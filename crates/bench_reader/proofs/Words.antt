@@ -2,20 +2,12 @@
 use Rattle.std.proofs.Common.{◌≡◌, ℕ, Bool, true, List, [], ◌∷◌, map, refl, arith, ◌↔◌, IsTrue}
 use Rattle.std.specs.List.{list_all}
 use Rattle.std.specs.Char.{to_ascii_lowercase}
-use Rattle.std.proofs.lemmas.Bool.{and_parts}
-use Rattle.std.proofs.lemmas.Bool.Decides.{nat_tests, same_from_decides}
 use Rattle.std.proofs.lemmas.Slice.Eq.{bytes_eq-Decides}
 use Rattle.text_rules.specs.Names.{same_name}
 use Rattle.device_model.specs.declared.gates.Kind.{Kind}
 use Rattle.device_model.specs.Gates.{word}
-use Rattle.bench_reader.specs.Statements.{capital, capitals}
+use Rattle.bench_reader.specs.Statements.{capitals}
 use Rattle.bench_reader.specs.inner.Lines.{is_capital}
-
-capital_from_lower : (b k : ℕ) → is_capital k ≡ true → to_ascii_lowercase b ≡ to_ascii_lowercase k → capital b ≡ k
-capital_from_lower b k h e = grind (arith, nat_tests)
-
-lower_from_capital : (b k : ℕ) → is_capital k ≡ true → capital b ≡ k → to_ascii_lowercase b ≡ to_ascii_lowercase k
-lower_from_capital b k h e = grind (arith, nat_tests)
 
 pub capitals_from_lower : (word keyword : List ℕ) → list_all is_capital keyword ≡ true → map to_ascii_lowercase word ≡ map to_ascii_lowercase keyword → capitals word ≡ keyword
 capitals_from_lower [] [] h e = refl

@@ -1,8 +1,8 @@
 -- Bits and lists of bits.
-use Rattle.std.proofs.Common.{◌≡◌, ℕ, zero, suc, ◌+◌, ◌*◌, ◌/◌, ◌^◌, ◌<◌, ◌≤◌, Bool, true, false, cond, not, ◌&&◌, ◌||◌, List, [], ◌∷◌, ◌++◌, map, length, take, get_or, refl, sym, ap, ◌∙◌, arith}
+use Rattle.std.proofs.Common.{◌≡◌, ℕ, zero, suc, ◌+◌, ◌*◌, ◌/◌, ◌^◌, ◌<◌, ◌≤◌, Bool, true, false, ◌&&◌, ◌||◌, List, [], ◌∷◌, ◌++◌, map, length, take, get_or, refl, arith}
 use Rattle.std.specs.List.{list_any}
 use Rattle.std.specs.Cmp.Lexicographic.{pointwise}
-use Rattle.std.proofs.lemmas.Bool.{false≢true, and_parts, and_from}
+use Rattle.std.proofs.lemmas.Bool.{false≢true, and_from}
 use Rattle.std.proofs.lemmas.List.Folds.{list_any-append}
 use Rattle.std.proofs.lemmas.Grind.{pow_more}
 use Rattle.std.proofs.lemmas.List.{get_or_append_left}
@@ -23,14 +23,6 @@ same_bit-equal bit other e = grind arith
 -- where not both are 1 and the second is, the first is not
 pub not_left : (x y : Bool) → (x && y) ≡ false → y ≡ true → x ≡ false
 not_left bit y e f = grind arith
-
--- two are alike only where a first one is
-pub and-not_alike : (p x y : Bool) → (p ≡ true → x ≡ y) → (p && not x) ≡ (p && not y)
-and-not_alike bit x y h = grind arith
-
--- what counts where the negated bit is 1 counts where the bit is 0
-pub cond-not : (b : Bool) (n : ℕ) → cond (not b) n 0 ≡ cond b 0 n
-cond-not bit n = grind arith
 
 -- ---- a list of bits
 

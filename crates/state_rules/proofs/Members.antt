@@ -107,12 +107,6 @@ AtMost-le o n m h e = grind arith
 AtMost-least_with : (n : ℕ) (o : Option ℕ) → AtMost (least_with n o) n
 AtMost-least_with n o = grind arith
 
-AtMost-least_with_rest : (n : ℕ) (o : Option ℕ) (k : ℕ) → AtMost o k → AtMost (least_with n o) k
-AtMost-least_with_rest n o k h = grind arith
-
-from_least_with : (n : ℕ) (o : Option ℕ) (k : ℕ) → least_with n o ≡ Some k → (n ≡ k) ⊎ (o ≡ Some k)
-from_least_with n o k e = grind arith
-
 module _ {A : Type 0} (size : A → ℕ) (p : A → Bool) where
   abbrev pub least_size : List A → Option ℕ
   least_size xs = least_of (map size (filter p xs))

@@ -1,7 +1,7 @@
 -- A variable that no literal has is mentioned nowhere, and shared by no kids.
 use Rattle.std.proofs.Common.{◌≡◌, ℕ, zero, suc, ◌<◌, ◌≤◌, Bool, true, false, not, ◌==◌, List, [], ◌∷◌, ◌++◌, map, length, refl, sym, ap, ◌∙◌, arith, inl, inr}
 use Rattle.std.specs.List.{list_any}
-use Rattle.std.proofs.lemmas.Bool.{false≢true, cases_Bool, eqb-true, or_cases, or_parts}
+use Rattle.std.proofs.lemmas.Bool.{or_cases}
 use Rattle.state_rules.specs.Bits.{bit_in}
 use Rattle.state_rules.specs.Values.{values_after}
 use Rattle.state_rules.specs.declared.nodes.NodeKind.{NodeKind}

@@ -1,13 +1,13 @@
 -- Nodes that stand as those of a graph, and one more behind them.
-use Rattle.std.proofs.Common.{◌≡◌, ℕ, zero, suc, ◌+◌, ◌<◌, ◌≤◌, Bool, true, List, [], ◌∷◌, ◌++◌, length, Some, refl, ap, sym, ◌∙◌, subst, arith, zero-add}
-use Rattle.std.specs.Prelude.{◌==◌, ◌&&◌, nat_le, slice_get}
+use Rattle.std.proofs.Common.{◌≡◌, ℕ, zero, suc, ◌+◌, ◌<◌, ◌≤◌, Bool, true, List, [], ◌∷◌, ◌++◌, length, Some, sym, ◌∙◌, subst, arith, zero-add}
+use Rattle.std.specs.Prelude.{slice_get}
 use Rattle.std.specs.List.{AllByRecursion}
-use Rattle.std.proofs.lemmas.Bool.{and_parts, and_from, eqb-true, leb-true}
+use Rattle.std.proofs.lemmas.Bool.{and_parts}
 use Rattle.std.proofs.lemmas.List.{nil_from_length}
 use Rattle.std.proofs.lemmas.Option.{get_or_from_slice_get, slice_get_within}
 use Rattle.state_rules.specs.declared.nodes.NodeKind.{NodeKind}
-use Rattle.state_rules.specs.declared.nodes.NodeKind.TheVariants.{Literal, And, Or}
-use Rattle.state_rules.specs.Graphs.{Node, true_node, node_at, at_most_one, mention_by, mentions, apart_at, kind_fits, node_fits, nodes_fit, AreNodes}
+use Rattle.state_rules.specs.declared.nodes.NodeKind.TheVariants.{Literal}
+use Rattle.state_rules.specs.Graphs.{Node, true_node, node_at, mention_by, mentions, apart_at, kind_fits, node_fits, nodes_fit, AreNodes}
 use Rattle.state_rules.proofs.NodeValues.{are_below, map-below, value_of-before}
 use Rattle.state_rules.proofs.Lists.{AllByRecursion-append}
 

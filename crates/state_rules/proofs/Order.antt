@@ -1,5 +1,5 @@
 -- The order of states, and the first of a list.
-use Rattle.std.proofs.Common.{◌≡◌, ℕ, zero, suc, ◌<◌, Bool, true, false, cond, List, [], ◌∷◌, ◌++◌, map, length, get_or, refl, sym, subst, arith, inl, inr, ⊎_elim}
+use Rattle.std.proofs.Common.{◌≡◌, ℕ, zero, suc, ◌<◌, Bool, true, false, List, [], ◌∷◌, ◌++◌, map, length, get_or, refl, sym, subst, arith, inl, inr, ⊎_elim}
 use Rattle.std.specs.Prelude.{◌⊎◌}
 use Rattle.std.specs.List.{filter}
 use Rattle.state_rules.specs.Bits.{bit_in, lists_of_bits, AlikeBelow}

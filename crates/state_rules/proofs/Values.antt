@@ -17,9 +17,6 @@ module _ {N A : Type 0} (f : N → List A → A) where
   values_after-keeps es (n ∷ ns) k d l = grind (arith, length_push, get_or_append_left, values_after-keeps (es ++ f n es ∷ []) ns k d)
 
   module _ (ns : List N) (k : ℕ) (x : N) (l : k < length ns) where
-    before : List A
-    before = values f (take k ns)
-
     split : values f ns ≡ values_after f (values f (take k ns)) (get_or ns k x ∷ drop (k + 1) ns)
     split = ap (values f) (sym (take-append-drop k ns)) ∙ values_after-append [] (take k ns) (drop k ns)
         ∙ ap (values_after f (values f (take k ns))) (drop_more ns k x l)

@@ -1,5 +1,5 @@
 -- Names of which no two are the same.
-use Rattle.std.proofs.Common.{◌≡◌, inl, inr, Bool, true, false, List, [], ◌∷◌, ◌++◌, map, refl, sym, ap, subst, ◌∙◌}
+use Rattle.std.proofs.Common.{◌≡◌, inl, inr, Bool, true, false, List, [], ◌∷◌, ◌++◌, map, refl, sym, ap, subst, ◌∙◌, arith}
 use Rattle.std.specs.Prelude.{if◌then◌else◌}
 use Rattle.text_rules.specs.Names.{Name, is_among}
 use Rattle.state_rules.proofs.Members.{In, In-append, from_map}
@@ -14,11 +14,7 @@ Different [] = Unit {0}
 Different (n ∷ ns) = (In n ns → ⊥) × Different ns
 
 not_among : (n : Name) (ns : List Name) → (In n ns → ⊥) → is_among ns n ≡ false
-not_among n ns h = by (is_among ns n) refl
-  where
-    by : (b : Bool) → is_among ns n ≡ b → is_among ns n ≡ false
-    by true e = absurd (h (among_from_test n ns e))
-    by false e = e
+not_among n ns h = grind (arith, among_from_test)
 
 pub repeated-Different : (ns : List Name) → Different ns → repeated ns ≡ []
 repeated-Different [] h = refl

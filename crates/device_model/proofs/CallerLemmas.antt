@@ -1,5 +1,5 @@
 -- What a caller cites of lists in the order of names, and of the devices that they make.
-use Rattle.std.proofs.Common.{◌≡◌, ℕ, ◌<◌, true, List, [], length, get_or, Ok, refl, sym, subst, ◌∙◌}
+use Rattle.std.proofs.Common.{◌≡◌, ℕ, ◌<◌, true, List, [], length, get_or, Ok, refl, sym, subst, ◌∙◌, arith}
 use Rattle.std.proofs.lemmas.List.Sums.{passes_at_first}
 use Rattle.text_rules.specs.Expected.{IsExpectedFault}
 use Rattle.text_rules.specs.Names.{Name, same_name, is_among, names_rise}
@@ -27,16 +27,11 @@ In-from_sorted_distinct names n m = among_sorted_distinct itself names n m
 
 -- the order depends on which names there are, and not on how often or in which order they stand
 pub sorted_distinct-same_names : (xs ys : List Name) → ((n : Name) → In n xs → In n ys) → ((n : Name) → In n ys → In n xs) → sorted_distinct itself xs ≡ sorted_distinct itself ys
-sorted_distinct-same_names xs ys to back =
-    sorted_distinct-is itself xs (sorted_distinct itself ys) (Rises-sorted_distinct itself ys)
-    (λ n m. In-sorted_distinct ys n (to n m)) (λ n m. back n (In-from_sorted_distinct ys n m))
+sorted_distinct-same_names xs ys to back = grind (arith, sorted_distinct-is, Rises-sorted_distinct, In-sorted_distinct, In-from_sorted_distinct)
 
 -- the same, by the test
 pub sorted_distinct-same_tests : (xs ys : List Name) → ((n : Name) → is_among xs n ≡ is_among ys n) → sorted_distinct itself xs ≡ sorted_distinct itself ys
-sorted_distinct-same_tests xs ys same_test =
-    sorted_distinct-same_names xs ys
-    (λ n m. among_from_test n ys (sym (same_test n) ∙ is_among-among n xs m))
-    (λ n m. among_from_test n xs (same_test n ∙ is_among-among n ys m))
+sorted_distinct-same_tests xs ys same_test = grind (arith, sorted_distinct-same_names, among_from_test, is_among-among)
 
 -- ---- places
 
@@ -59,9 +54,4 @@ pub record IsBuilt (parts : List Component) (wires : List Name) (tables : List T
 -- Where parts and wires make a device, nothing else can be wanting than memory.
 pub only_memory : (parts : List Component) (wires : List Name) (tables : List TruthTable) (device : Device) → built parts wires tables ≡ Ok device
     → (error : BuildError) → IsExpectedFault (reason error) (built parts wires tables) → error ≡ Memory
-only_memory parts wires tables device made Memory h = refl
-only_memory parts wires tables device made (TooMany count) h = let both = sym made ∙ h in cc
-only_memory parts wires tables device made (TwoParts name) h = let both = sym made ∙ h in cc
-only_memory parts wires tables device made (TwoWires name) h = let both = sym made ∙ h in cc
-only_memory parts wires tables device made (Arity part) h = let both = sym made ∙ h in cc
-only_memory parts wires tables device made (NoWire part) h = let both = sym made ∙ h in cc
+only_memory parts wires tables device made error h = grind arith

@@ -1,5 +1,5 @@
 -- What a failure of each part of a device costs.
-use Rattle.std.proofs.Common.{◌≡◌, ℕ, ◌<◌, inl, inr, true, List, length, get_or, refl, sym, ap, subst, ◌∙◌}
+use Rattle.std.proofs.Common.{◌≡◌, ℕ, ◌<◌, inl, inr, true, List, length, get_or, refl, sym, ap, subst, ◌∙◌, arith}
 use Rattle.std.specs.Prelude.{slice_get, slice_index}
 use Rattle.std.proofs.lemmas.Bool.{false≢true}
 use Rattle.std.proofs.lemmas.List.{get_or-map}
@@ -13,16 +13,11 @@ use Rattle.device_model.specs.Devices.{Device, IsDevice, rows_take, takes_ports,
 use Rattle.device_model.proofs.Making.{list_all-among}
 
 table_there : (tables : List TruthTable) (t ports : ℕ) → rows_take (slice_get tables t) ports ≡ true → t < length tables
-table_there tables t ports h = elim (slice_get_cases tables t).1 [
-  | inl p ↦ p.1
-  | inr p ↦ absurd (false≢true (sym (ap (λ rows. rows_take rows ports) p.1) ∙ h))
-]
+table_there tables t ports h = grind (arith, slice_get_cases)
 
 module _ (device : Device) (place : ℕ) (part : Component) (within : place < length device.parts) (is : part ≡ get_or device.parts place part) where
   pub cost-at : slice_index (part_costs device) place ≡ rule_cost device.tables (rule part.kind)
-  cost-at =
-      get_or-map (λ (p : Component). rule_cost device.tables (rule p.kind)) device.parts place part 0 within
-      ∙ ap (λ (p : Component). rule_cost device.tables (rule p.kind)) (sym is)
+  cost-at = grind (arith, get_or-map)
 
   -- the table of a part of a type is there
   pub has_table : (t : ℕ) → IsDevice device → rule part.kind ≡ Table t → t < length device.tables
@@ -34,5 +29,4 @@ module _ (device : Device) (place : ℕ) (part : Component) (within : place < le
   -- and such a part costs what its table says
   pub table-cost : (t : ℕ) (rows : TruthTable) → IsDevice device → rule part.kind ≡ Table t → rows ≡ get_or device.tables t rows
       → rows.cost ≡ slice_index (part_costs device) place
-  table-cost t rows valid e there =
-      sym (cost-at ∙ ap (rule_cost device.tables) e ∙ ap table_cost (slice_get_read device.tables (length device.tables) t rows refl (has_table t valid e) there))
+  table-cost t rows valid e there = grind (arith, cost-at, slice_get_read, has_table)

@@ -9,14 +9,8 @@ first_less : (x y : ℕ) (xs ys : List ℕ) → x < y → slice_cmp nat_cmp (x �
 first_less x y xs ys l = ap (λ o. ordering_then o (slice_cmp nat_cmp xs ys)) (cond-true (nat_lt x y) Less (cond (x == y) Equal Greater) (lt-ltb x y l))
 
 pub first_same : (x y : ℕ) (xs ys : List ℕ) → x ≡ y → slice_cmp nat_cmp (x ∷ xs) (y ∷ ys) ≡ slice_cmp nat_cmp xs ys
-first_same x y xs ys e =
-    ap (λ o. ordering_then o (slice_cmp nat_cmp xs ys))
-    (cond-false (nat_lt x y) Less (cond (x == y) Equal Greater) (le-ltb x y (omega arith)) ∙ cond-true (x == y) Equal Greater (eq-eqb x y e))
+first_same x y xs ys e = grind arith
 
 -- a digit is not above the other's, and where they are the same the rest decides
 pub next_digit : (x y : ℕ) (xs ys : List ℕ) → (y < x → ⊥) → (x ≡ y → slice_cmp nat_cmp xs ys ≡ Less) → slice_cmp nat_cmp ((48 + x) ∷ xs) ((48 + y) ∷ ys) ≡ Less
-next_digit x y xs ys not_above rest = elim (cases_order x y) [
-  | inl e ↦ first_same (48 + x) (48 + y) xs ys (omega arith) ∙ rest e
-  | inr (inl l) ↦ first_less (48 + x) (48 + y) xs ys (omega arith)
-  | inr (inr g) ↦ absurd (not_above g)
-]
+next_digit x y xs ys not_above rest = grind arith

@@ -46,8 +46,7 @@ pub record CanBeBuilt (parts : List Component) (wires : List Name) (tables : Lis
   pub wired : list_all (has_wires (length wires)) parts ≡ true
 
 part-renumbered : (wires : List Name) (part : Component) → renumbered wires part ≡ joined (sorted_distinct itself wires) (named wires part)
-part-renumbered wires part =
-    ap (λ (ports : List ℕ). record part { ports = ports }) (sym (map-map (place_in (sorted_distinct itself wires)) (wire_at wires) part.ports))
+part-renumbered wires part = grind (arith, map-map)
 
 parts-renumbered : (wires : List Name) (parts : List Component) → map (renumbered wires) parts ≡ map (joined (sorted_distinct itself wires)) (map (named wires) parts)
 parts-renumbered wires [] = refl
@@ -63,11 +62,7 @@ built-over parts wires tables can =
 
 names_back : (wires names : List Name) → list_all (is_among wires) names ≡ true → map (wire_at wires) (map (place_in wires) names) ≡ names
 names_back wires [] h = refl
-names_back wires (n ∷ names) h =
-    let two = and_parts (is_among wires n) (list_all (is_among wires) names) h in
-    let first = get_or-place_in wires n (among_from_test n wires two.0) in
-    let rest = names_back wires names two.1 in
-    cc
+names_back wires (n ∷ names) h = grind (arith, get_or-place_in, among_from_test, names_back wires names)
 
 -- a part over wires that are there has their names back
 pub named-joined : (wires : List Name) (part : NamedPart) → list_all (is_among wires) part.wires ≡ true → named wires (joined wires part) ≡ part

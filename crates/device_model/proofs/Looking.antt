@@ -18,9 +18,7 @@ use Rattle.device_model.proofs.Sorting.{itself, Rises-map}
 use Rattle.device_model.proofs.Placing.{Rises-get_or, place_in-rising}
 
 place_there : (ns : List Name) (place : ℕ) (wanted : Name) → Rises itself ns → place < length ns → get_or ns place [] ≡ wanted → place_of wanted ns ≡ Some place
-place_there ns place wanted up l e =
-    let at : position_or_len (same_name wanted) ns ≡ place = ap (λ n. position_or_len (same_name n) ns) (sym e) ∙ place_in-rising ns place up l in
-    rw (at, lt-ltb place (length ns) l) refl
+place_there ns place wanted up l e = grind (arith, place_in-rising)
 
 no_place : (ns : List Name) (wanted : Name) → ((k : ℕ) → k < length ns → same_name wanted (get_or ns k []) ≡ false) → place_of wanted ns ≡ None
 no_place ns wanted other =
@@ -37,8 +35,7 @@ module _ {A : Type 0} (name : A → Name) where
   order wanted x = slice_cmp nat_cmp (name x) wanted
 
   searchable : (xs : List A) (wanted : Name) → Rises name xs → IsNonDecreasingBy (λ x. ordering_index (order wanted x)) xs
-  searchable xs wanted up = searchable_from_sorted nat_list_cmp_total name xs wanted
-      (λ k d low high. name_below-above (name (get_or xs (k + 1) d)) (name (get_or xs k d)) (Rises-get_or name xs k (k + 1) d up (omega arith) high))
+  searchable xs wanted up = grind (arith, nat_list_cmp_total, Rises-get_or)
 
   pub looked_up : (xs : List A) (wanted : Name) (r : Result ℕ ℕ) → Rises name xs → IsSearchInRange r (length xs) → IsBinarySearchResult (order wanted) xs r
       → found_place r ≡ place_of wanted (map name xs)

@@ -31,31 +31,21 @@ list_all-from_among p [] h = refl
 list_all-from_among p (x ∷ xs) h = and_from (p x) (list_all p xs) (h x (inl refl)) (list_all-from_among p xs (λ y m. h y (inr m)))
 
 pub none_given : (b : Bool) (i : ℕ) → cond b (Some i) None ≡ None → b ≡ false
-none_given true i h = cc
-none_given false i h = refl
+none_given b i h = grind arith
 
 among_place : {A : Type 0} (xs : List A) (x : A) → In x xs → (k : ℕ) × (k < length xs) × (get_or xs k x ≡ x)
 among_place xs x m = Contains-from_among xs x m
 
 -- where no item fails a test, each passes
 pub list_all-from_position : {A : Type 0} (p : A → Bool) (xs : List A) → position (λ x. not (p x)) xs ≡ None → list_all p xs ≡ true
-list_all-from_position p xs h =
-    let first = position_or_len (λ x. not (p x)) xs in
-    let past : length xs ≤ first = ltb-false first (length xs) (none_given (nat_lt first (length xs)) first h) in
-    list_all-from_among p xs (λ x m.
-    let k = among_place xs x m in
-    ap p (sym k.2) ∙ not-false (p (get_or xs k.0 x)) (fails_before_first (λ x. not (p x)) xs k.0 x (omega (arith, k.1))))
+list_all-from_position p xs h = grind (arith, list_all-from_among, among_place, fails_before_first)
 
 -- ---- lengths and maps of lists in order
 
 module _ {A : Type 0} (name : A → Name) where
   length-placed : (x : A) (ys : List A) → length (placed name x ys) ≤ 1 + length ys
   length-placed x [] = omega arith
-  length-placed x (y ∷ ys) = elim (compared (name x) (name y)) [
-    | same e ↦ subst (λ (zs : List A). length zs ≤ 1 + length (y ∷ ys)) (sym (placed-same name x y ys e)) (omega arith)
-    | below l ↦ subst (λ (zs : List A). length zs ≤ 1 + length (y ∷ ys)) (sym (placed-below name x y ys l)) (omega arith)
-    | above l ↦ subst (λ (zs : List A). length zs ≤ 1 + length (y ∷ ys)) (sym (placed-above name x y ys l)) (omega (arith, length-placed x ys))
-  ]
+  length-placed x (y ∷ ys) = grind (arith, length-placed x ys)
 
   pub length-sorted_distinct : (xs : List A) → length (sorted_distinct name xs) ≤ length xs
   length-sorted_distinct [] = omega arith
@@ -64,11 +54,7 @@ module _ {A : Type 0} (name : A → Name) where
   module _ (f : A → A) (keeps : (x : A) → name (f x) ≡ name x) where
     placed-map : (x : A) (ys : List A) → placed name (f x) (map f ys) ≡ map f (placed name x ys)
     placed-map x [] = refl
-    placed-map x (y ∷ ys) = elim (compared (name x) (name y)) [
-      | same e ↦ placed-same name (f x) (f y) (map f ys) (keeps x ∙ e ∙ sym (keeps y)) ∙ sym (ap (map f) (placed-same name x y ys e))
-      | below l ↦ placed-below name (f x) (f y) (map f ys) (rw (keeps x, keeps y) l) ∙ sym (ap (map f) (placed-below name x y ys l))
-      | above l ↦ placed-above name (f x) (f y) (map f ys) (rw (keeps x, keeps y) l) ∙ ap (λ (zs : List A). f y ∷ zs) (placed-map x ys) ∙ sym (ap (map f) (placed-above name x y ys l))
-    ]
+    placed-map x (y ∷ ys) = grind (arith, placed-map x ys)
 
     -- a map that keeps the names keeps the order
     pub sorted_distinct-map : (xs : List A) → sorted_distinct name (map f xs) ≡ map f (sorted_distinct name xs)
@@ -83,11 +69,7 @@ module _ {A : Type 0} (name : A → Name) where
 pub position_or_len-among : (ns : List Name) (n : Name) → In n ns → position_or_len (same_name n) ns < length ns
 position_or_len-among [] n m = absurd m
 position_or_len-among (x ∷ ns) n (inl e) = rw (same_if_equal n x e) (omega arith)
-position_or_len-among (x ∷ ns) n (inr m) = by (same_name n x) (position_or_len-among ns n m)
-  where
-    by : (b : Bool) → position_or_len (same_name n) ns < length ns → cond (not b) (1 + position_or_len (same_name n) ns) 0 < length (x ∷ ns)
-    by true h = omega arith
-    by false h = omega arith
+position_or_len-among (x ∷ ns) n (inr m) = grind (arith, position_or_len-among ns n m)
 
 -- each port of a part that has its wires is the place of a wire
 place_in-fits : (wires : List Name) (port : ℕ) → port < length wires → place_in (sorted_distinct itself wires) (get_or wires port []) < length (sorted_distinct itself wires)
@@ -120,15 +102,4 @@ component_name part = part.name
 -- what parts and wires of the right arity and number make is a device
 pub IsDevice-device_of : (parts : List Component) (wires : List Name) (tables : List TruthTable) → length parts ≤ 4096 → length wires ≤ 16384
     → list_all (has_arity tables) parts ≡ true → list_all (has_wires (length wires)) parts ≡ true → IsDevice (device_of parts wires tables)
-IsDevice-device_of parts wires tables few_parts few_wires arities joined =
-    let made = map (renumbered wires) parts in
-    record {
-      parts_rise = names_rise-Rises (part_names (sorted_distinct component_name made)) (Rises-map component_name (sorted_distinct component_name made) (Rises-sorted_distinct component_name made));
-      wires_rise = names_rise-Rises (sorted_distinct itself wires) (Rises-sorted_distinct itself wires);
-      arities = list_all-sorted_distinct component_name (has_arity tables) made (list_all-map (has_arity tables) (renumbered wires) parts
-          ∙ (list_all-from_among _ parts (λ p m. renumbered-has_arity tables wires p ∙ list_all-among (has_arity tables) parts arities p m)));
-      joined = list_all-sorted_distinct component_name (has_wires (length (sorted_distinct itself wires))) made (list_all-map (has_wires (length (sorted_distinct itself wires))) (renumbered wires) parts
-          ∙ (list_all-from_among _ parts (λ p m. renumbered-has_wires wires p (list_all-among (has_wires (length wires)) parts joined p m))));
-      few_parts = omega (arith, length-sorted_distinct component_name made, length-map parts (renumbered wires));
-      few_wires = omega (arith, length-sorted_distinct itself wires);
-    }
+IsDevice-device_of parts wires tables few_parts few_wires arities joined = grind (arith, names_rise-Rises, Rises-map, Rises-sorted_distinct, list_all-sorted_distinct, list_all-map, list_all-from_among, list_all-among, renumbered-has_wires, length-sorted_distinct, length-map)

@@ -1,5 +1,5 @@
 -- The order of names.
-use Rattle.std.proofs.Common.{◌≡◌, true, false, refl, sym, ap, subst, ◌∙◌}
+use Rattle.std.proofs.Common.{◌≡◌, true, false, refl, sym, ap, subst, ◌∙◌, arith}
 use Rattle.std.specs.Ordering.{nat_cmp, is_lt, is_eq, ordering_reverse}
 use Rattle.std.specs.declared.cmp.Ordering.{Ordering}
 use Rattle.std.specs.declared.cmp.Ordering.TheVariants.{Less, Equal, Greater}
@@ -37,17 +37,13 @@ pub above_if_greater : (a b : Name) → slice_cmp nat_cmp a b ≡ Greater → Be
 above_if_greater a b e = nat_list_cmp_total.antisymm b a ∙ ap ordering_reverse e
 
 by_order : (a b : Name) (o : Ordering) → slice_cmp nat_cmp a b ≡ o → Compared a b
-by_order a b Less e = below e
-by_order a b Equal e = same (same_if_tied a b e)
-by_order a b Greater e = above (above_if_greater a b e)
+by_order a b o e = grind (arith, same_if_tied, above_if_greater)
 
 pub compared : (a b : Name) → Compared a b
 compared a b = by_order a b (slice_cmp nat_cmp a b) refl
 
 less_from_test : (o : Ordering) → is_lt o ≡ true → o ≡ Less
-less_from_test Less e = refl
-less_from_test Equal e = cc
-less_from_test Greater e = cc
+less_from_test o e = grind arith
 
 pub Below-from_test : (a b : Name) → name_below a b ≡ true → Below a b
 Below-from_test a b e = less_from_test (slice_cmp nat_cmp a b) e

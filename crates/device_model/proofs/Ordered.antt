@@ -1,5 +1,5 @@
 -- Lists of items by rising name, and that `sorted_distinct` makes the only one that has the same items.
-use Rattle.std.proofs.Common.{◌≡◌, ◌⊎◌, inl, inr, List, [], ◌∷◌, refl, sym, ap, subst, ◌∙◌}
+use Rattle.std.proofs.Common.{◌≡◌, ◌⊎◌, inl, inr, List, [], ◌∷◌, refl, sym, ap, subst, ◌∙◌, arith}
 use Rattle.text_rules.specs.Names.{Name}
 use Rattle.text_rules.proofs.NameLemmas.{same_if_equal}
 use Rattle.state_rules.proofs.Members.{In}
@@ -37,19 +37,11 @@ module _ {A : Type 0} (name : A → Name) where
 
   BelowAll-placed : (n : Name) (x : A) (ys : List A) → Below n (name x) → BelowAll n ys → BelowAll n (placed name x ys)
   BelowAll-placed n x [] b h = (b, tt)
-  BelowAll-placed n x (y ∷ ys) b h = elim (compared (name x) (name y)) [
-    | same e ↦ subst (BelowAll n) (sym (placed-same x y ys e)) h
-    | below l ↦ subst (BelowAll n) (sym (placed-below x y ys l)) (b, h)
-    | above l ↦ subst (BelowAll n) (sym (placed-above x y ys l)) (h.0, BelowAll-placed n x ys b h.1)
-  ]
+  BelowAll-placed n x (y ∷ ys) b h = grind (arith, BelowAll-placed n x ys b h.1)
 
   Rises-placed : (x : A) (ys : List A) → Rises ys → Rises (placed name x ys)
   Rises-placed x [] h = (tt, tt)
-  Rises-placed x (y ∷ ys) h = elim (compared (name x) (name y)) [
-    | same e ↦ subst Rises (sym (placed-same x y ys e)) h
-    | below l ↦ subst Rises (sym (placed-below x y ys l)) ((l, BelowAll-trans (name x) (name y) ys l h.0), h)
-    | above l ↦ subst Rises (sym (placed-above x y ys l)) (BelowAll-placed (name y) x ys l h.0, Rises-placed x ys h.1)
-  ]
+  Rises-placed x (y ∷ ys) h = grind (arith, compared, placed-same, BelowAll-trans, BelowAll-placed, Rises-placed x ys h.1)
 
   pub Rises-sorted_distinct : (xs : List A) → Rises (sorted_distinct name xs)
   Rises-sorted_distinct [] = tt
@@ -57,22 +49,11 @@ module _ {A : Type 0} (name : A → Name) where
 
   among_placed : (x : A) (ys : List A) (z : A) → In z (placed name x ys) → (z ≡ x) ⊎ In z ys
   among_placed x [] z m = m
-  among_placed x (y ∷ ys) z m = elim (compared (name x) (name y)) [
-    | same e ↦ inr (subst (In z) (placed-same x y ys e) m)
-    | below l ↦ subst (In z) (placed-below x y ys l) m
-    | above l ↦ elim (subst (In z) (placed-above x y ys l) m) [
-      | inl e ↦ inr (inl e)
-      | inr n ↦ elim (among_placed x ys z n) [ inl e ↦ inl e | inr k ↦ inr (inr k) ]
-    ]
-  ]
+  among_placed x (y ∷ ys) z m = grind (arith, among_placed x ys z)
 
   placed-keeps : (x : A) (ys : List A) (z : A) → In z ys → In z (placed name x ys)
   placed-keeps x [] z m = absurd m
-  placed-keeps x (y ∷ ys) z m = elim (compared (name x) (name y)) [
-    | same e ↦ subst (In z) (sym (placed-same x y ys e)) m
-    | below l ↦ subst (In z) (sym (placed-below x y ys l)) (inr m)
-    | above l ↦ subst (In z) (sym (placed-above x y ys l)) (elim m [ inl e ↦ inl e | inr n ↦ inr (placed-keeps x ys z n) ])
-  ]
+  placed-keeps x (y ∷ ys) z m = grind (arith, placed-keeps x ys z)
 
   -- an item of the list that has the name
   abbrev Named : Name → List A → Type 0
@@ -102,9 +83,7 @@ module _ {A : Type 0} (name : A → Name) where
   NamesTell xs = (x y : A) → In x xs → In y xs → name x ≡ name y → x ≡ y
 
   pub sorted_distinct-keeps : (xs : List A) → NamesTell xs → (x : A) → In x xs → In x (sorted_distinct name xs)
-  sorted_distinct-keeps xs tell x m =
-      let r = sorted_distinct-has xs x m in
-      subst (λ (z : A). In z (sorted_distinct name xs)) (tell r.0 x (among_sorted_distinct xs r.0 r.1) m r.2) r.1
+  sorted_distinct-keeps xs tell x m = grind (arith, sorted_distinct-has, among_sorted_distinct)
 
   pub NamesTell-rising : (ys : List A) → Rises ys → NamesTell ys
   NamesTell-rising [] r x y m n e = absurd m
@@ -127,24 +106,14 @@ module _ {A : Type 0} (name : A → Name) where
   ]
 
   tail_within : (x : A) (xs : List A) (y : A) (ys : List A) → Rises (x ∷ xs) → x ≡ y → Within (x ∷ xs) (y ∷ ys) → Within xs ys
-  tail_within x xs y ys r e to z m = elim (to z (inr m)) [
-    | inl g ↦ absurd (Below-irreflexive (name z) (subst (λ (w : A). Below (name w) (name z)) (e ∙ sym g) (Below-among (name x) xs z r.0 m)))
-    | inr n ↦ n
-  ]
+  tail_within x xs y ys r e to z m = grind (arith, Below-irreflexive, Below-among)
 
   pub Rises-unique : (xs ys : List A) → Rises xs → Rises ys → Within xs ys → Within ys xs → xs ≡ ys
   Rises-unique [] [] r s to back = refl
   Rises-unique [] (y ∷ ys) r s to back = absurd (back y (inl refl))
   Rises-unique (x ∷ xs) [] r s to back = absurd (to x (inl refl))
-  Rises-unique (x ∷ xs) (y ∷ ys) r s to back =
-      let e = same_heads x xs y ys r s to back in
-      let rest = Rises-unique xs ys r.1 s.1 (tail_within x xs y ys r e to) (tail_within y ys x xs s (sym e) back) in
-      cc
+  Rises-unique (x ∷ xs) (y ∷ ys) r s to back = grind (arith, same_heads, tail_within, Rises-unique xs ys r.1 s.1)
 
   -- the rising list of the same items is what `sorted_distinct` makes
   pub sorted_distinct-is : (xs ys : List A) → Rises ys → Within xs ys → Within ys xs → sorted_distinct name xs ≡ ys
-  sorted_distinct-is xs ys r to back =
-      let tell : NamesTell xs = λ x y m n e. NamesTell-rising ys r x y (to x m) (to y n) e in
-      Rises-unique (sorted_distinct name xs) ys (Rises-sorted_distinct xs) r
-      (λ z m. to z (among_sorted_distinct xs z m))
-      (λ z m. sorted_distinct-keeps xs tell z (back z m))
+  sorted_distinct-is xs ys r to back = grind (arith, NamesTell-rising, Rises-unique, Rises-sorted_distinct, among_sorted_distinct, sorted_distinct-keeps)

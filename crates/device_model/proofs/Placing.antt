@@ -94,9 +94,7 @@ module _ (wires : List Name) (ss : List (Name × ℕ)) (moved : IsPermutation (n
         let name_there : get_or (map wire_name ss) k [] ≡ name = get_or-map wire_name ss k w [] r.1 ∙ ap wire_name r.2 in
         let within : k < length (map wire_name ss) = omega (arith, r.1, length-map ss wire_name) in
         let up : Rises itself (map wire_name ss) = subst (Rises itself) (sym named) (Rises-sorted_distinct itself wires) in
-        at_place ∙ sym (place_in-rising (map wire_name ss) k up within)
-        ∙ ap (λ (n : Name). position_or_len (same_name n) (map wire_name ss)) name_there
-        ∙ ap (λ (ns : List Name). position_or_len (same_name name) ns) named
+        grind (arith, place_in-rising)
 
     ports_placed : (ports : List ℕ) → ((p : ℕ) → In p ports → p < length wires)
         → map (slice_index places) ports ≡ map (λ port. place_in (sorted_distinct itself wires) (get_or wires port [])) ports
@@ -107,24 +105,18 @@ module _ (wires : List Name) (ss : List (Name × ℕ)) (moved : IsPermutation (n
         cc
 
     part_placed : (part : Component) → has_wires (length wires) part ≡ true → with_places places part ≡ renumbered wires part
-    part_placed part h =
-        ap (λ (ports : List ℕ). record part { ports = ports })
-        (ports_placed part.ports (λ p m. ltb-true p (length wires) (list_all-among (λ port. nat_lt port (length wires)) part.ports h p m)))
+    part_placed part h = grind (arith, ports_placed, list_all-among)
 
     parts_placed : (parts : List Component) → ((p : Component) → In p parts → has_wires (length wires) p ≡ true) → map (with_places places) parts ≡ map (renumbered wires) parts
     parts_placed [] h = refl
-    parts_placed (p ∷ ps) h =
-        let first = part_placed p (h p (inl refl)) in
-        let rest = parts_placed ps (λ q m. h q (inr m)) in
-        cc
+    parts_placed (p ∷ ps) h = grind (arith, part_placed, parts_placed ps)
 
     -- the parts in order, with the places, are the renumbered parts in order
     pub parts_sorted_distinct : (parts : List Component) → list_all (has_wires (length wires)) parts ≡ true
         → map (with_places places) (sorted_distinct component_name parts) ≡ sorted_distinct component_name (map (renumbered wires) parts)
     parts_sorted_distinct parts h =
         let joined = list_all-sorted_distinct component_name (has_wires (length wires)) parts h in
-        parts_placed (sorted_distinct component_name parts) (λ p m. list_all-among (has_wires (length wires)) (sorted_distinct component_name parts) joined p m)
-        ∙ sym (sorted_distinct-map component_name (renumbered wires) (λ p. refl) parts)
+        grind (arith, parts_placed, list_all-among, sorted_distinct-map)
 
 -- the ports of parts in order fit the sorted wires
 pub ports_fit : (parts : List Component) (n m : ℕ) → m ≡ n → list_all (has_wires n) parts ≡ true → All (λ p. All (λ port. port < m) p.ports) (sorted_distinct component_name parts)

@@ -50,10 +50,7 @@ same_or_other m n = elim (compared m n) [
 pub count-among : (m : Name) (ns : List Name) → In m ns → 1 ≤ count m ns
 count-among m [] h = absurd h
 count-among m (n ∷ ns) (inl e) = omega (arith, count-same m n ns e)
-count-among m (n ∷ ns) (inr h) = elim (same_or_other m n) [
-  | inl e ↦ omega (arith, count-same m n ns e)
-  | inr o ↦ omega (arith, count-other m n ns o, count-among m ns h)
-]
+count-among m (n ∷ ns) (inr h) = grind (arith, count-among m ns h)
 
 pub among_from_count : (m : Name) (ns : List Name) → 1 ≤ count m ns → In m ns
 among_from_count m [] h = absurd (omega arith)
@@ -66,39 +63,22 @@ among_from_count m (n ∷ ns) h = elim (same_or_other m n) [
 pub is_among-among : (n : Name) (ns : List Name) → In n ns → is_among ns n ≡ true
 is_among-among n [] h = absurd h
 is_among-among n (m ∷ ms) (inl e) = rw (same_if_equal n m e) refl
-is_among-among n (m ∷ ms) (inr h) = elim (same_or_other n m) [
-  | inl e ↦ rw (same_if_equal n m e) refl
-  | inr o ↦ rw (same_name-other n m o) (is_among-among n ms h)
-]
+is_among-among n (m ∷ ms) (inr h) = grind (arith, is_among-among n ms h)
 
 pub among_from_test : (n : Name) (ns : List Name) → is_among ns n ≡ true → In n ns
 among_from_test n [] h = cc
-among_from_test n (m ∷ ms) h = elim (or_cases (same_name n m) (is_among ms n) h) [
-  | inl e ↦ inl (equal_if_same n m e)
-  | inr e ↦ inr (among_from_test n ms e)
-]
+among_from_test n (m ∷ ms) h = grind (arith, equal_if_same, among_from_test n ms)
 
 in_repeated : (n : Name) (ns : List Name) (b : Bool) → is_among ns n ≡ b → (m : Name) → In m (repeated (n ∷ ns)) → ((m ≡ n) × In n ns) ⊎ In m (repeated ns)
-in_repeated n ns true e m h = elim (subst (λ (c : Bool). In m (if c then n ∷ repeated ns else repeated ns)) e h) [
-  | inl g ↦ inl (g, among_from_test n ns e)
-  | inr k ↦ inr k
-]
-in_repeated n ns false e m h = inr (subst (λ (c : Bool). In m (if c then n ∷ repeated ns else repeated ns)) e h)
+in_repeated n ns b e m h = grind (arith, among_from_test)
 
 -- a repeated name stands twice
 pub twice_from_repeated : (ns : List Name) (m : Name) → In m (repeated ns) → 2 ≤ count m ns
 twice_from_repeated [] m h = absurd h
-twice_from_repeated (n ∷ ns) m h = elim (in_repeated n ns (is_among ns n) refl m h) [
-  | inl g ↦ omega (arith, count-same m n ns g.0, count-among m ns (subst (λ (k : Name). In k ns) (sym g.0) g.1))
-  | inr k ↦ elim (same_or_other m n) [
-    | inl e ↦ omega (arith, count-same m n ns e, twice_from_repeated ns m k)
-    | inr o ↦ omega (arith, count-other m n ns o, twice_from_repeated ns m k)
-  ]
-]
+twice_from_repeated (n ∷ ns) m h = grind (arith, in_repeated, count-same, count-among, twice_from_repeated ns m)
 
 repeated-more : (n : Name) (ns : List Name) (b : Bool) → is_among ns n ≡ b → (m : Name) → In m (repeated ns) → In m (repeated (n ∷ ns))
-repeated-more n ns true e m h = subst (λ (c : Bool). In m (if c then n ∷ repeated ns else repeated ns)) (sym e) (inr h)
-repeated-more n ns false e m h = subst (λ (c : Bool). In m (if c then n ∷ repeated ns else repeated ns)) (sym e) h
+repeated-more n ns b e m h = grind arith
 
 repeated-first : (n : Name) (ns : List Name) → In n ns → In n (repeated (n ∷ ns))
 repeated-first n ns h = subst (λ (c : Bool). In n (if c then n ∷ repeated ns else repeated ns)) (sym (is_among-among n ns h)) (inl refl)
@@ -138,10 +118,7 @@ head_alone x y ns h o = elim h.0.0 [
 
 least_later : (x y : Name) (ns : List Name) → BelowAll itself x (y ∷ ns) → (n : Name) → IsLeastTwice (y ∷ ns) n → IsLeastTwice (x ∷ y ∷ ns) n
 least_later x y ns alone n h = record {
-  twice = elim (same_or_other n x) [
-    | inl e ↦ omega (arith, count-same n x (y ∷ ns) e, h.twice)
-    | inr o ↦ omega (arith, count-other n x (y ∷ ns) o, h.twice)
-  ];
+  twice = grind arith;
   least = λ m t. elim (same_or_other m x) [
     | inl e ↦ absurd (Below-irreflexive x (subst (Below x) e (Below-among itself x (y ∷ ns) m alone (among_from_count m (y ∷ ns) (omega (arith, count-same m x (y ∷ ns) e))))))
     | inr o ↦ h.least m (omega (arith, count-other m x (y ∷ ns) o))

@@ -29,16 +29,10 @@ abbrev pub AtMost : Name → Name → Type 0
 AtMost a b = (a ≡ b) ⊎ Below a b
 
 pub AtMost-trans : (a b c : Name) → AtMost a b → AtMost b c → AtMost a c
-AtMost-trans a b c (inl e) h = subst (λ (n : Name). AtMost n c) (sym e) h
-AtMost-trans a b c (inr l) (inl e) = inr (subst (λ (n : Name). Below a n) e l)
-AtMost-trans a b c (inr l) (inr k) = inr (Below-trans a b c l k)
+AtMost-trans a b c given h = grind (arith, Below-trans)
 
 pub AtMost-from_test : (a b : Name) → name_below b a ≡ false → AtMost a b
-AtMost-from_test a b h = elim (compared a b) [
-  | same e ↦ inl e
-  | below l ↦ inr l
-  | above l ↦ (let e = name_below-Below b a l in cc)
-]
+AtMost-from_test a b h = grind (arith, compared)
 
 module _ {A : Type 0} (name : A → Name) where
   abbrev pub AtMostAll : Name → List A → Type 0
@@ -107,8 +101,4 @@ names_rise-Rises (a ∷ b ∷ ns) h = rw (name_below-Below a b h.0.0) (names_ris
 pub Rises-from_names_rise : (ns : List Name) → names_rise ns ≡ true → Rises itself ns
 Rises-from_names_rise [] h = tt
 Rises-from_names_rise (a ∷ []) h = (tt, tt)
-Rises-from_names_rise (a ∷ b ∷ ns) h =
-    let p = and_parts (name_below a b) (names_rise (b ∷ ns)) h in
-    let rest : Rises itself (b ∷ ns) = Rises-from_names_rise (b ∷ ns) p.1 in
-    let first = Below-from_test a b p.0 in
-    ((first, BelowAll-trans itself a b ns first rest.0), rest)
+Rises-from_names_rise (a ∷ b ∷ ns) h = grind (arith, BelowAll-trans, Rises-from_names_rise (b ∷ ns))

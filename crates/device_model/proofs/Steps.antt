@@ -17,9 +17,7 @@ use Rattle.text_rules.proofs.NameLemmas.{same_if_equal, equal_if_same}
 
 pub numbered_from-push : (p : ℕ) (ns : List Name) (n : Name) → numbered_from p (ns ++ n ∷ []) ≡ numbered_from p ns ++ (n, p + length ns) ∷ []
 numbered_from-push p [] n = ap (λ (q : ℕ). (n, q) ∷ []) (omega arith)
-numbered_from-push p (m ∷ ms) n =
-    let e : (p + 1) + length ms ≡ p + length (m ∷ ms) = omega arith in
-    ap (λ (ps : List (Name × ℕ)). (m, p) ∷ ps) (numbered_from-push (p + 1) ms n ∙ ap (λ (q : ℕ). numbered_from (p + 1) ms ++ (n, q) ∷ []) e)
+numbered_from-push p (m ∷ ms) n = grind (arith, numbered_from-push (p + 1) ms n)
 
 pub map-numbered_from : (p : ℕ) (ns : List Name) → map (λ (w : Name × ℕ). w.0) (numbered_from p ns) ≡ ns
 map-numbered_from p [] = refl
@@ -27,27 +25,11 @@ map-numbered_from p (n ∷ ns) = ap (λ (ms : List Name). n ∷ ms) (map-numbere
 
 module _ {A : Type 0} (name : A → Name) (xs : List A) (place : ℕ) (d e : A) (from : 1 ≤ place) (to : place < length xs) (before : NeighboursDiffer (map name xs) place) where
   pub repeat_found : same_name (name (get_or xs (place - 1) d)) (name (get_or xs place e)) ≡ true → IsFirstRepeat (map name xs) (Some place)
-  repeat_found h = (
-    from,
-    omega (arith, length-map xs name),
-    before,
-    λ k g.
-        let same_place : place - 1 ≡ k = omega arith in
-        get_or-map name xs k d [] (omega arith)
-        ∙ subst (λ (j : ℕ). name (get_or xs j d) ≡ name (get_or xs place e)) same_place (equal_if_same _ _ h)
-        ∙ sym (get_or-map name xs place e [] to),
-  )
+  repeat_found h = grind (arith, length-map, get_or-map, equal_if_same)
 
   pub repeat_passed : same_name (name (get_or xs (place - 1) d)) (name (get_or xs place e)) ≡ false → NeighboursDiffer (map name xs) (place + 1)
   repeat_passed h k l same_names = elim (cases_eq (k + 1) place) [
-    | inl g ↦ (
-        let same_place : k ≡ place - 1 = omega arith in
-        let there = sym (get_or-map name xs k d [] (omega arith)) ∙ same_names ∙ get_or-map name xs (k + 1) e [] (omega arith) in
-        let here : name (get_or xs (place - 1) d) ≡ name (get_or xs place e) =
-        subst (λ (j : ℕ). name (get_or xs j d) ≡ name (get_or xs place e)) same_place
-        (subst (λ (j : ℕ). name (get_or xs k d) ≡ name (get_or xs j e)) g there) in
-        let test = same_if_equal _ _ here in
-        cc)
+    | inl g ↦ grind (arith, get_or-map, same_if_equal)
     | inr n ↦ before k (omega arith) same_names
   ]
 
@@ -76,10 +58,7 @@ pub places_more : (places : List ℕ) (wires : List (Name × ℕ)) (i : ℕ) (v 
     → ((k : ℕ) (w : Name × ℕ) → k < i → slice_index places (get_or wires k w).1 ≡ k)
     → (k : ℕ) (w : Name × ℕ) → k < i + 1 → slice_index (set places v.1 i) (get_or wires k w).1 ≡ k
 places_more places wires i v within is same_length below distinct before k w l = elim (cases_eq k i) [
-  | inl e ↦ (
-      let here : (get_or wires k w).1 ≡ v.1 = ap (λ (j : ℕ). (get_or wires j w).1) e ∙ ap (λ (u : Name × ℕ). u.1) (get_or_default wires i w v within ∙ sym is) in
-      let fits : v.1 < length places = omega (arith, below i v within, ap (λ (u : Name × ℕ). u.1) is) in
-      ap (slice_index (set places v.1 i)) here ∙ get_or-set_same places v.1 i 0 fits ∙ sym e)
+  | inl e ↦ grind (arith, get_or_default, get_or-set_same)
   | inr n ↦ (
       let other : (get_or wires k w).1 ≢ v.1 = λ g. distinct k i w (omega arith) within (g ∙ ap (λ (u : Name × ℕ). u.1) (is ∙ get_or_default wires i v w within)) in
       get_or-set_other places v.1 (get_or wires k w).1 i 0 other ∙ before k w (omega arith))

@@ -1,5 +1,5 @@
 -- Tables whose keys are names: a look-up gives a name's place.
-use Rattle.std.proofs.Common.{◌≡◌, ◌+◌, Bool, cond, not, nat_lt, List, [], ◌∷◌, map, length, Some, None, refl, sym, ap, ◌∙◌}
+use Rattle.std.proofs.Common.{◌≡◌, ◌+◌, Bool, cond, not, nat_lt, List, [], ◌∷◌, map, length, Some, None, refl, sym, ap, ◌∙◌, arith}
 use Rattle.std.specs.Prelude.{position}
 use Rattle.std.specs.List.{position_or_len}
 use Rattle.std.proofs.lemmas.List.{length-map}
@@ -12,6 +12,4 @@ module _ {K : Type 0} (bytes : K → Name) where
 
   -- a look-up by a key's bytes is a look-up among the bytes of the keys
   pub position-map : (p : Name → Bool) (ks : List K) → position (λ k. p (bytes k)) ks ≡ position p (map bytes ks)
-  position-map p ks =
-      ap (λ n. cond (nat_lt n (length ks)) (Some n) None) (position_or_len-map p ks)
-      ∙ ap (λ n. cond (nat_lt (position_or_len p (map bytes ks)) n) (Some (position_or_len p (map bytes ks))) None) (sym (length-map ks bytes))
+  position-map p ks = grind (arith, position_or_len-map, length-map)

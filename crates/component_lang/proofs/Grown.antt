@@ -19,18 +19,14 @@ use Rattle.component_lang.specs.Designs.{is_plain_name, are_distinct, used_names
 -- ---- more types, and more blocks above
 
 shape_more : (o p : Option Shape) (args : ℕ) → ((shape : Shape) → o ≡ Some shape → p ≡ Some shape) → shape_takes o args ≡ true → shape_takes p args ≡ true
-shape_more None p args more h = cc
-shape_more (Some shape) p args more h = ap (λ q. shape_takes q args) (more shape refl) ∙ h
+shape_more o p args more h = grind arith
 
 block_more : (o p : Option Block) (args : ℕ) → ((block : Block) → o ≡ Some block → p ≡ Some block) → block_takes o args ≡ true → block_takes p args ≡ true
-block_more None p args more h = cc
-block_more (Some block) p args more h = ap (λ q. block_takes q args) (more block refl) ∙ h
+block_more o p args more h = grind arith
 
 takes_more : (types types' : List Shape) (above above' : List Block) (kind : UsedKind) (args : ℕ)
     → takes_args types above kind args ≡ true → takes_args (types ++ types') (above ++ above') kind args ≡ true
-takes_more types types' above above' (Gate gate) args h = h
-takes_more types types' above above' (OfShape place) args h = shape_more (slice_get types place) (slice_get (types ++ types') place) args (λ s e. slice_get-before types types' place s e) h
-takes_more types types' above above' (OfBlock place) args h = block_more (slice_get above place) (slice_get (above ++ above') place) args (λ b e. slice_get-before above above' place b e) h
+takes_more types types' above above' kind args h = grind (arith, slice_get-before)
 
 -- ---- more wires
 
@@ -53,49 +49,24 @@ pub record IsBlock (types : List Shape) (above : List Block) (block : Block) : T
   pub parts_once : are_distinct (used_names block.parts) ≡ true
 
 pub IsBlock-from_test : (types : List Shape) (above : List Block) (block : Block) → is_block types above block ≡ true → IsBlock types above block
-IsBlock-from_test types above block h =
-    let two = and_parts (list_all is_plain_name block.wires && are_distinct block.wires) _ h in
-    let wires = and_parts _ _ two.0 in
-    let rest = and_parts (nat_le block.ports (length block.wires)) _ two.1 in
-    let parts = and_parts _ _ rest.1 in
-    record {
-      named = wires.0;
-      once = wires.1;
-      ported = leb-true block.ports (length block.wires) rest.0;
-      parts = parts.0;
-      parts_once = parts.1;
-    }
+IsBlock-from_test types above block h = grind arith
 
 pub is_block-IsBlock : (types : List Shape) (above : List Block) (block : Block) → IsBlock types above block → is_block types above block ≡ true
-is_block-IsBlock types above block h =
-    and_from _ _ (and_from _ _ h.named h.once) (and_from _ _ (le-leb block.ports (length block.wires) h.ported) (and_from _ _ h.parts h.parts_once))
+is_block-IsBlock types above block h = grind arith
 
 block_types : (types types' : List Shape) (above : List Block) (block : Block) → is_block types above block ≡ true → is_block (types ++ types') above block ≡ true
-block_types types types' above block h =
-    let b = IsBlock-from_test types above block h in
-    is_block-IsBlock (types ++ types') above block (record {
-      named = b.named;
-      once = b.once;
-      ported = b.ported;
-      parts_once = b.parts_once;
-      parts = passes_too (is_used types above (length block.wires)) (is_used (types ++ types') above (length block.wires))
-          (λ used g. used_more types types' above (length block.wires) (length block.wires) used (omega arith) g) block.parts b.parts;
-    })
+block_types types types' above block h = grind (arith, passes_too, used_more)
 
 -- blocks stay sound under more types
 pub are_blocks-types : (types types' : List Shape) (above blocks : List Block) → are_blocks types above blocks ≡ true → are_blocks (types ++ types') above blocks ≡ true
 are_blocks-types types types' above [] h = refl
-are_blocks-types types types' above (block ∷ blocks) h =
-    let two = and_parts (is_block types above block) _ h in
-    and_from _ _ (block_types types types' above block two.0) (are_blocks-types types types' (above ++ block ∷ []) blocks two.1)
+are_blocks-types types types' above (block ∷ blocks) h = grind (arith, block_types, are_blocks-types types types' (above ++ block ∷ []) blocks)
 
 -- one block more
 pub are_blocks-more : (types : List Shape) (above blocks : List Block) (block : Block) → are_blocks types above blocks ≡ true → is_block types (above ++ blocks) block ≡ true
     → are_blocks types above (blocks ++ block ∷ []) ≡ true
 are_blocks-more types above [] block h g = and_from _ _ (ap (λ bs. is_block types bs block) (sym (append-nil above)) ∙ g) refl
-are_blocks-more types above (b ∷ blocks) block h g =
-    let two = and_parts (is_block types above b) _ h in
-    and_from _ _ two.0 (are_blocks-more types (above ++ b ∷ []) blocks block two.1 (ap (λ bs. is_block types bs block) (append_assoc above (b ∷ []) blocks) ∙ g))
+are_blocks-more types above (b ∷ blocks) block h g = grind (arith, append_assoc, are_blocks-more types (above ++ b ∷ []) blocks block)
 
 -- ---- names that differ
 
@@ -105,8 +76,7 @@ are_distinct-append [] ys h g apart = g
 are_distinct-append (x ∷ xs) ys h g apart =
     let two = and_parts (not (is_among xs x)) (are_distinct xs) (sym (are_distinct-cons x xs) ∙ h) in
     let split = any_first ys apart in
-    are_distinct-cons x (xs ++ ys)
-    ∙ and_from _ _ (not_from_false _ (list_any-append (same_name x) xs ys ∙ or_from _ _ (not-true _ two.0) split.0)) (are_distinct-append xs ys two.1 g split.1)
+    grind (arith, list_any-append, are_distinct-append xs ys two.1 g split.1)
   where
     any_first : (ns : List Name) → list_any (is_among (x ∷ xs)) ns ≡ false → (is_among ns x ≡ false) × (list_any (is_among xs) ns ≡ false)
     any_first [] e = (refl, refl)
@@ -134,12 +104,4 @@ block-wires types above block names h plain once apart =
 
 pub block-part : (types : List Shape) (above : List Block) (block : Block) (part : Used) → is_block types above block ≡ true → is_used types above (length block.wires) part ≡ true
     → is_among (used_names block.parts) part.name ≡ false → is_block types above (record block { parts = block.parts ++ part ∷ [] }) ≡ true
-block-part types above block part h used new =
-    let b = IsBlock-from_test types above block h in
-    is_block-IsBlock types above (record block { parts = block.parts ++ part ∷ [] }) (record {
-      named = b.named;
-      once = b.once;
-      ported = b.ported;
-      parts_once = ap are_distinct (map-append (λ (u : Used). u.name) block.parts (part ∷ [])) ∙ are_distinct-append (used_names block.parts) (part.name ∷ []) b.parts_once refl (or_from _ _ new refl);
-      parts = list_all-append (is_used types above (length block.wires)) block.parts (part ∷ []) ∙ and_from _ _ b.parts (and_from _ _ used refl);
-    })
+block-part types above block part h used new = grind (arith, map-append, are_distinct-append, list_all-append)

@@ -32,79 +32,36 @@ Keeps n (Ok next) = (is_sound next ≡ true) × (reader_size next ≤ n)
 Keeps n (Err what) = Unit {0}
 
 if-keeps : (n : ℕ) (b : Bool) (what : LangFault) (r : Result Reader LangFault) → (b ≡ true → Keeps n r) → Keeps n (if b then r else Err what)
-if-keeps n true what r h = h refl
-if-keeps n false what r h = tt
+if-keeps n b what r h = grind arith
 
 unless-keeps : (n : ℕ) (b : Bool) (what : LangFault) (r : Result Reader LangFault) → (b ≡ false → Keeps n r) → Keeps n (if b then Err what else r)
-unless-keeps n true what r h = tt
-unless-keeps n false what r h = h refl
+unless-keeps n b what r h = grind arith
 
 -- one of two
 either-keeps : (n : ℕ) (b : Bool) (r s : Result Reader LangFault) → Keeps n r → Keeps n s → Keeps n (if b then r else s)
-either-keeps n true r s h g = h
-either-keeps n false r s h g = g
+either-keeps n b r s h g = grind arith
 
 all_fits : (k : ℕ) → nat_lt (2 ^ k - 1) (2 ^ k) ≡ true
 all_fits k = lt-ltb (2 ^ k - 1) (2 ^ k) (let p = pow_pos k in omega arith)
 
 -- a cost that is read may be one
 cost_in-fits : (word : List ℕ) → is_cost (unwrap_or (cost_in word) 1) ≡ true
-cost_in-fits word = by_zero (has_leading_zero word) where
-  value : ℕ
-  value = value_behind 0 word
-
-  by_range : (b : Bool) → (nat_le 1 value && nat_le value COST_LIMIT) ≡ b → is_cost (unwrap_or (if b then Some value else None) 1) ≡ true
-  by_range true e = e
-  by_range false e = refl
-
-  by_digits : (b : Bool) → is_cost (unwrap_or (elim b [
-    | true ↦ (if nat_le 1 value && nat_le value COST_LIMIT then Some value else None)
-    | false ↦ None
-  ]) 1) ≡ true
-  by_digits true = by_range (nat_le 1 value && nat_le value COST_LIMIT) refl
-  by_digits false = refl
-
-  by_zero : (b : Bool) → is_cost (unwrap_or (if b then None else number_in 4 1 COST_LIMIT word) 1) ≡ true
-  by_zero true = refl
-  by_zero false = by_digits (are_digits 4 word)
+cost_in-fits word = grind arith
 
 module _ (reader : Reader) (n : ℕ) (blocks_sound : are_blocks reader.types [] reader.blocks ≡ true) where
   type_line-keeps : (name : Name) (ports : List Name) → length reader.types + length reader.blocks ≤ n → Keeps n (type_line reader name ports)
-  type_line-keeps name ports l =
-      if-keeps n (list_all is_plain_name (name ∷ ports)) NoName _ (λ plain.
-      if-keeps n (is_new reader name ports) Twice _ (λ new.
-      if-keeps n (has_few_ports (length ports)) Ports (Ok (at reader (InType (record { name = name; ports = length ports; ok = 0; bad = None; cost = None })))) (λ few.
-      let named = and_parts (is_plain_name name) (list_all is_plain_name ports) plain in
-      let fresh = and_parts (not (is_some (kind_named reader name))) (are_distinct ports) new in (
-        and_from _ _ blocks_sound (and_from _ _ (and_from _ _ named.0 fresh.0)
-            (and_from _ _ few (and_from _ _ (lt-ltb 0 (2 ^ (2 ^ length ports)) (pow_pos (2 ^ length ports))) (and_from _ _ (all_fits (2 ^ length ports)) refl)))),
-        omega arith,
-      ))))
+  type_line-keeps name ports l = grind (arith, pow_pos, all_fits)
 
   block_line-keeps : (name : Name) (ports : List Name) → length reader.types + length reader.blocks + length ports ≤ n → Keeps n (block_line reader name ports)
-  block_line-keeps name ports l =
-      if-keeps n (list_all is_plain_name (name ∷ ports)) NoName _ (λ plain.
-      if-keeps n (is_new reader name ports) Twice (Ok (at reader (InBlock (record { name = name; ports = length ports; wires = ports; parts = [] })))) (λ new.
-      let named = and_parts (is_plain_name name) (list_all is_plain_name ports) plain in
-      let fresh = and_parts (not (is_some (kind_named reader name))) (are_distinct ports) new in (
-        and_from _ _ blocks_sound (and_from _ _ (and_from _ _ named.0 fresh.0)
-            (and_from _ _ (and_from _ _ named.1 fresh.1) (and_from _ _ (le-leb (length ports) (length ports) (omega arith)) refl))),
-        omega arith,
-      )))
+  block_line-keeps name ports l = grind arith
 
   top_of_kind-keeps : (name : Name) (o : Option UsedKind) → kind_named reader name ≡ o → length reader.types + length reader.blocks ≤ n → Keeps n (top_of_kind reader o)
-  top_of_kind-keeps name None e l = tt
-  top_of_kind-keeps name (Some (Gate gate)) e l = tt
-  top_of_kind-keeps name (Some (OfShape place)) e l = tt
-  top_of_kind-keeps name (Some (OfBlock place)) e l = (and_from _ _ blocks_sound (lt-ltb place (length reader.blocks) (kind_named-place reader name place e)), omega arith)
+  top_of_kind-keeps name o e l = grind (arith, kind_named-place)
 
   outside-keeps : (line : List Name) → length reader.types + length reader.blocks + length line ≤ n → Keeps n (outside reader line)
   outside-keeps [] l = tt
   outside-keeps (word ∷ []) l = tt
-  outside-keeps (word ∷ name ∷ []) l =
-      either-keeps n (same_name word (codes "top")) _ _ (if-keeps n (is_plain_name name) NoName _ (λ plain. top_of_kind-keeps name (kind_named reader name) refl (omega arith)))
-      (either-keeps n (same_name word (codes "type")) _ _ (type_line-keeps name [] (omega arith))
-      (either-keeps n (same_name word (codes "block")) _ (Err NotHere) (block_line-keeps name [] (omega arith)) tt))
+  outside-keeps (word ∷ name ∷ []) l = grind (arith, top_of_kind-keeps)
   outside-keeps (word ∷ name ∷ port ∷ ports) l =
       either-keeps n (same_name word (codes "type")) _ _ (type_line-keeps name (port ∷ ports) (omega arith))
       (either-keeps n (same_name word (codes "block")) _ (Err NotHere) (block_line-keeps name (port ∷ ports) (omega arith)) tt)
@@ -131,22 +88,17 @@ module _ (reader : Reader) (n : ℕ) (blocks_sound : are_blocks reader.types [] 
     cost_test = (and_parts (nat_lt (unwrap_or open_type.bad (2 ^ (2 ^ open_type.ports) - 1)) (2 ^ (2 ^ open_type.ports))) _ bad_and_cost).1
 
     bad_fits : (o : Option ℕ) → nat_lt (unwrap_or o (2 ^ (2 ^ open_type.ports) - 1)) (2 ^ (2 ^ open_type.ports)) ≡ true → unwrap_or o 0 < 2 ^ (2 ^ open_type.ports)
-    bad_fits None h = pow_pos (2 ^ open_type.ports)
-    bad_fits (Some b) h = ltb-true b (2 ^ (2 ^ open_type.ports)) h
+    bad_fits o h = grind arith
 
     row_fits : (row : List ℕ) → is_row open_type.ports row ≡ true → row_in row < 2 ^ open_type.ports
-    row_fits row h =
-        let size = ap (λ k. 2 ^ k) (eqb-true (length row) open_type.ports (and_parts _ _ h).0) in
-        omega (arith, row_in-fits row, size)
+    row_fits row h = grind (arith, row_in-fits)
 
     more_fits : (rows : ℕ) (row : List ℕ) → rows < 2 ^ (2 ^ open_type.ports) → is_row open_type.ports row ≡ true → nat_lt (with_row rows (row_in row)) (2 ^ (2 ^ open_type.ports)) ≡ true
     more_fits rows row h is = lt-ltb (with_row rows (row_in row)) (2 ^ (2 ^ open_type.ports)) (with_row-fits (2 ^ open_type.ports) rows (row_in row) h (row_fits row is))
 
     in_type-keeps : (line : List (List ℕ)) → length reader.types + length reader.blocks + length line ≤ n → Keeps n (in_type reader open_type line)
     in_type-keeps [] l = tt
-    in_type-keeps (word ∷ []) l =
-        if-keeps n (same_name word (codes "end")) NotHere (Ok (record reader { types = reader.types ++ shape_of open_type ∷ []; section = Outside })) (λ e.
-        (and_from _ _ (are_blocks-types reader.types (shape_of open_type ∷ []) [] reader.blocks blocks_sound) refl, omega (arith, length-append reader.types (shape_of open_type ∷ []))))
+    in_type-keeps (word ∷ []) l = grind (arith, are_blocks-types, length-append)
     in_type-keeps (word ∷ value ∷ []) l =
         either-keeps n (same_name word (codes "ok")) _ _
         (if-keeps n (is_row open_type.ports value) Row (Ok (at reader (InType (record open_type { ok = with_row open_type.ok (row_in value) })))) (λ is.
@@ -170,19 +122,11 @@ module _ (reader : Reader) (n : ℕ) (blocks_sound : are_blocks reader.types [] 
     block_sound = (and_parts (is_free reader block.name) _ sound).1
 
     wire_line-keeps : (names : List Name) → length reader.types + length reader.blocks + (length block.wires + length names) ≤ n → Keeps n (wire_line reader block names)
-    wire_line-keeps names l =
-        if-keeps n (list_all is_plain_name names) NoName _ (λ plain.
-        if-keeps n (are_new block.wires names) Twice (Ok (at reader (InBlock (record block { wires = block.wires ++ names })))) (λ new. (
-          and_from _ _ blocks_sound (and_from _ _ block_free
-              (block-wires reader.types reader.blocks block names block_sound plain (and_parts (are_distinct names) _ new).0 (not-true _ (and_parts (are_distinct names) _ new).1))),
-          omega (arith, length-append block.wires names),
-        )))
+    wire_line-keeps names l = grind (arith, block-wires, length-append)
 
     places_below : (args : List Name) → list_all (is_among block.wires) args ≡ true → list_all (λ wire. nat_lt wire (length block.wires)) (map (place_in block.wires) args) ≡ true
     places_below [] h = refl
-    places_below (a ∷ args) h =
-        let two = and_parts (is_among block.wires a) _ h in
-        and_from _ _ (sym (among_position (same_name a) block.wires) ∙ two.0) (places_below args two.1)
+    places_below (a ∷ args) h = grind (arith, among_position, places_below args)
 
     part_line-keeps : (name kind : Name) (args : List Name) → length reader.types + length reader.blocks + length block.wires ≤ n → Keeps n (part_line reader block name kind args)
     part_line-keeps name kind args l =
@@ -211,9 +155,7 @@ module _ (reader : Reader) (n : ℕ) (blocks_sound : are_blocks reader.types [] 
 
     in_block-keeps : (line : List (List ℕ)) → length reader.types + length reader.blocks + length block.wires + length line ≤ n → Keeps n (in_block reader block line)
     in_block-keeps [] l = tt
-    in_block-keeps (word ∷ []) l =
-        if-keeps n (same_name word (codes "end")) NotHere (Ok (record reader { blocks = reader.blocks ++ block ∷ []; section = Outside })) (λ e.
-        (and_from _ _ (are_blocks-more reader.types [] reader.blocks block blocks_sound block_sound) refl, omega (arith, length-append reader.blocks (block ∷ []))))
+    in_block-keeps (word ∷ []) l = grind (arith, are_blocks-more, length-append)
     in_block-keeps (word ∷ name ∷ []) l = if-keeps n (same_name word (codes "wire")) NotHere _ (λ e. wire_line-keeps (name ∷ []) (omega arith))
     in_block-keeps (word ∷ name ∷ second ∷ rest) l =
         either-keeps n (same_name word (codes "wire")) _ _ (wire_line-keeps (name ∷ second ∷ rest) (omega arith))
@@ -223,24 +165,17 @@ module _ (reader : Reader) (n : ℕ) (blocks_sound : are_blocks reader.types [] 
 
 at_section-keeps : (reader : Reader) (place : Section) (n : ℕ) (line : List (List ℕ)) → are_blocks reader.types [] reader.blocks ≡ true → is_sound_section reader place ≡ true
     → length reader.types + length reader.blocks + open_wires place + length line ≤ n → Keeps n (at_section reader place line)
-at_section-keeps reader Outside n line blocks sound l = outside-keeps reader n blocks line (omega arith)
-at_section-keeps reader (InType open_type) n line blocks sound l = in_type-keeps reader n blocks open_type sound line (omega arith)
-at_section-keeps reader (InBlock block) n line blocks sound l = in_block-keeps reader n blocks block sound line l
-at_section-keeps reader (AfterTop top) n line blocks sound l = tt
+at_section-keeps reader place n line blocks sound l = grind (arith, outside-keeps, in_type-keeps, in_block-keeps)
 
 after_words-keeps : (reader : Reader) (n : ℕ) (line : List (List ℕ)) → is_sound reader ≡ true → reader_size reader + length line ≤ n → Keeps n (after_words reader line)
-after_words-keeps reader n [] sound l = (sound, omega arith)
-after_words-keeps reader n (w ∷ ws) sound l =
-    let two = and_parts (are_blocks reader.types [] reader.blocks) _ sound in
-    at_section-keeps reader reader.section n (w ∷ ws) two.0 two.1 l
+after_words-keeps reader n line sound l = grind (arith, at_section-keeps)
 
 uncommented-fits : (line : List ℕ) → length (uncommented line) ≤ length line
 uncommented-fits line = omega (arith, length-take (prefix_len (λ b. not (b == 35)) line) line)
 
 -- A line keeps a reader sound, and adds no more types, blocks and wires than it has bytes.
 pub after_line-keeps : (reader : Reader) (line : List ℕ) (n : ℕ) → is_sound reader ≡ true → reader_size reader + length line ≤ n → Keeps n (after_line reader line)
-after_line-keeps reader line n sound l =
-    after_words-keeps reader n (words (uncommented line)) sound (omega (arith, length-tokens false (uncommented line), uncommented-fits line))
+after_line-keeps reader line n sound l = grind (arith, after_words-keeps, length-tokens, uncommented-fits)
 
 -- a line has no more words than bytes
 pub words-fit : (line : List ℕ) → length (words (uncommented line)) ≤ length line

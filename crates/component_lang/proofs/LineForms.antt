@@ -1,5 +1,5 @@
 -- What the lines of types and blocks do, by the tests that the code makes.
-use Rattle.std.proofs.Common.{◌≡◌, ℕ, Bool, true, false, List, [], ◌∷◌, ◌++◌, length, codes, Option, Some, None, Result, Ok, Err, Bor, is_some, refl, ap, ◌∙◌}
+use Rattle.std.proofs.Common.{◌≡◌, ℕ, Bool, true, false, List, [], ◌∷◌, ◌++◌, length, codes, Option, Some, None, Result, Ok, Err, Bor, is_some, refl, ap, ◌∙◌, arith}
 use Rattle.std.specs.Prelude.{if◌then◌else◌}
 use Rattle.std.specs.List.{list_all}
 use Rattle.std.specs.Iterator.{YieldsFirstBy}
@@ -22,8 +22,7 @@ use Rattle.component_lang.proofs.NameLists.{if_plain, if_new, more_names, places
 
 -- where no word is left
 pub no_more : (r : Option (Bor (List ℕ))) (left after : Uncut) → YieldsFirstBy (λ (token : Bor (List ℕ)). token.now) tokens_left left r after → is_some r ≡ false → tokens_left left ≡ []
-no_more None left after steps h = steps.0
-no_more (Some t) left after steps h = cc
+no_more r left after steps h = grind arith
 
 -- ---- types
 
@@ -36,28 +35,16 @@ type_with reader name ports = if has_few_ports (length ports) then Ok (type_begu
 -- by the number of ports, where it is tested
 pub type_size : (reader : Reader) (name : Name) (ports : List Name) (size : ℕ) {few : Bool} → length ports ≡ size → has_few_ports size ≡ few
     → type_with reader name ports ≡ (if few then Ok (type_begun reader name size) else Err Ports)
-type_size reader name ports size {few} e t =
-    ap (λ n. if_few (has_few_ports n) n) e ∙ ap (λ b. if_few b size) t
-  where
-    if_few : Bool → ℕ → Result Reader LangFault
-    if_few b n = if b then Ok (type_begun reader name n) else Err Ports
+type_size reader name ports size {few} e t = grind arith
 
 ports_got : (p n : Bool) (ports got : List Name) → if_plain p (if_new n (Ok ports)) ≡ Ok got → (p ≡ true) × (n ≡ true) × (ports ≡ got)
-ports_got true true ports got g = (refl, refl, cc)
-ports_got true false ports got g = cc
-ports_got false n ports got g = cc
+ports_got p n ports got g = grind arith
 
 pub type_line-ports : (reader : Reader) (name : Name) (ports got : List Name) → new_ports reader name ports ≡ Ok got → type_line reader name ports ≡ type_with reader name got
-type_line-ports reader name ports got h =
-    let parts = ports_got (list_all is_plain_name (name ∷ ports)) (is_new reader name ports) ports got h in
-    ap (λ p. if_plain p (if_new (is_new reader name ports) (type_with reader name ports))) parts.0
-    ∙ ap (λ n. if_new n (type_with reader name ports)) parts.1
-    ∙ ap (type_with reader name) parts.2
+type_line-ports reader name ports got h = grind arith
 
 ports_fault : {A : Type 0} (p n : Bool) (ports : List Name) (r : Result A LangFault) (what : LangFault) → if_plain p (if_new n (Ok ports)) ≡ Err what → if_plain p (if_new n r) ≡ Err what
-ports_fault true true ports r what g = cc
-ports_fault true false ports r what g = cc
-ports_fault false n ports r what g = cc
+ports_fault p n ports r what g = grind arith
 
 -- ---- blocks
 
@@ -65,15 +52,10 @@ abbrev pub block_begun : Reader → Name → List Name → Reader
 block_begun reader name ports = at reader (InBlock (record { name = name; ports = length ports; wires = ports; parts = [] }))
 
 pub block_line-ports : (reader : Reader) (name : Name) (ports got : List Name) → new_ports reader name ports ≡ Ok got → block_line reader name ports ≡ Ok (block_begun reader name got)
-block_line-ports reader name ports got h =
-    let parts = ports_got (list_all is_plain_name (name ∷ ports)) (is_new reader name ports) ports got h in
-    ap (λ p. if_plain p (if_new (is_new reader name ports) (Ok (block_begun reader name ports)))) parts.0
-    ∙ ap (λ n. if_new n (Ok (block_begun reader name ports))) parts.1
-    ∙ ap (λ ns. Ok (block_begun reader name ns)) parts.2
+block_line-ports reader name ports got h = grind arith
 
 pub block_line-fault : (reader : Reader) (name : Name) (ports : List Name) (what : LangFault) → new_ports reader name ports ≡ Err what → block_line reader name ports ≡ Err what
-block_line-fault reader name ports what h =
-    ports_fault (list_all is_plain_name (name ∷ ports)) (is_new reader name ports) ports (Ok (block_begun reader name ports)) what h
+block_line-fault reader name ports what h = grind arith
 
 -- the ports are those of the line
 pub new_ports-same : (reader : Reader) (name : Name) (ports got : List Name) → new_ports reader name ports ≡ Ok got → ports ≡ got
@@ -89,12 +71,7 @@ wires_placed reader block (Ok wires) = Ok (at reader (InBlock (with_wires block 
 wires_placed reader block (Err what) = Err what
 
 wire_line-more : (reader : Reader) (block : Block) (names : List Name) → wire_line reader block names ≡ wires_placed reader block (more_names true block.wires names)
-wire_line-more reader block names = by (list_all is_plain_name names) (are_new block.wires names)
-  where
-    by : (p n : Bool) → if_plain p (if_new n (Ok (at reader (InBlock (with_wires block (block.wires ++ names)))))) ≡ wires_placed reader block (if_plain p (if_new n (Ok (block.wires ++ names))))
-    by true true = refl
-    by true false = refl
-    by false n = refl
+wire_line-more reader block names = grind arith
 
 pub wire_line-fault : (reader : Reader) (block : Block) (names : List Name) (what : LangFault) → more_names true block.wires names ≡ Err what → wire_line reader block names ≡ Err what
 wire_line-fault reader block names what h = wire_line-more reader block names ∙ ap (wires_placed reader block) h
@@ -112,33 +89,15 @@ module _ (reader : Reader) (block : Block) (name kind : Name) (args : List Name)
   part_words = name ∷ kind ∷ args
 
   pub part-fault : (what : LangFault) → places_among part_words block.wires args ≡ Err what → part_line reader block name kind args ≡ Err what
-  part-fault what h = by (list_all is_plain_name part_words) h
-    where
-      by : (p : Bool) → if_plain p (Ok (places_in block.wires args)) ≡ Err what
-          → if_plain p (part_after_names (is_among (used_names block.parts) name) (places_in block.wires args)) ≡ Err what
-      by true g = cc
-      by false g = cc
+  part-fault what h = grind arith
 
   -- where all words are names, the line does what its name, its kind and its places say
   pub part-named : (taken : Bool) (places : Option (List ℕ)) → places_among part_words block.wires args ≡ Ok places → is_among (used_names block.parts) name ≡ taken
       → part_line reader block name kind args ≡ part_after_names taken places
-  part-named taken places h t =
-      let found = places_among-ok part_words block.wires args places h in
-      ap (λ p. if_plain p (part_after_names (is_among (used_names block.parts) name) (places_in block.wires args))) found.0
-      ∙ ap (λ b. part_after_names b (places_in block.wires args)) t ∙ ap (part_after_names taken) found.1
+  part-named taken places h t = grind arith
 
 pub part_of-name : (reader : Reader) (name : Name) (kind : Option UsedKind) (places : Option (List ℕ)) (part : Used) → part_of reader name kind places ≡ Ok part → part.name ≡ name
-part_of-name reader name None places part h = cc
-part_of-name reader name (Some kind) None part h = cc
-part_of-name reader name (Some kind) (Some places) part h = by (takes_args reader.types reader.blocks kind (length places)) h
-  where
-    by : (b : Bool) → (if b then Ok (record { name = name; kind = kind; args = places }) else Err Ports) ≡ Ok part → part.name ≡ name
-    by true g = cc (ap (λ (r : Result Used LangFault). name_of r) g)
-      where
-        name_of : Result Used LangFault → Name
-        name_of (Ok u) = u.name
-        name_of (Err what) = name
-    by false g = cc
+part_of-name reader name kind places part h = grind arith
 
 -- ---- lines by their first words
 
@@ -165,9 +124,4 @@ in_type-cost reader open_type word value words left e none b = rw (e, none, equa
 
 pub in_block-wire : (reader : Reader) (block : Block) (word name : Name) (words others : List Name) → words ≡ name ∷ others → same_name word (codes "wire") ≡ true
     → in_block reader block (word ∷ words) ≡ wire_line reader block (name ∷ others)
-in_block-wire reader block word name words others e b =
-    ap (λ (ns : List Name). in_block reader block (word ∷ ns)) e ∙ ap (λ (w : Name). in_block reader block (w ∷ name ∷ others)) (equal_if_same word (codes "wire") b) ∙ by others
-  where
-    by : (ns : List Name) → in_block reader block (codes "wire" ∷ name ∷ ns) ≡ wire_line reader block (name ∷ ns)
-    by [] = refl
-    by (n ∷ ns) = refl
+in_block-wire reader block word name words others e b = grind arith

@@ -19,12 +19,7 @@ or_of_bit : (rows row b : ℕ) → bit_at rows row ≡ b → bit_or rows (2 ^ ro
 or_of_bit rows row b e = ap (λ n. bit_or rows (2 ^ row) + n) (sym (and_pow rows row ∙ ap (λ n. n * 2 ^ row) e)) ∙ or_add_and rows (2 ^ row)
 
 pub with_row-or : (rows row : ℕ) → bit_or rows (2 ^ row) ≡ with_row rows row
-with_row-or rows row = by (bit_at rows row) refl (bit_at-lt rows row)
-  where
-    by : (b : ℕ) → bit_at rows row ≡ b → b < 2 → bit_or rows (2 ^ row) ≡ (if b == 1 then rows else rows + 2 ^ row)
-    by zero e l = omega (arith, or_of_bit rows row 0 e)
-    by (suc zero) e l = omega (arith, or_of_bit rows row 1 e)
-    by (suc (suc b)) e l = absurd (omega arith)
+with_row-or rows row = grind (arith, or_of_bit)
 
 pub with_row-fits : (k rows row : ℕ) → rows < 2 ^ k → row < k → with_row rows row < 2 ^ k
 with_row-fits k rows row h l =
@@ -33,8 +28,7 @@ with_row-fits k rows row h l =
 
 pub row_number-fits : (bits : List Bool) → row_number bits < 2 ^ length bits
 row_number-fits [] = omega arith
-row_number-fits (true ∷ bits) = grind (arith, row_number-fits bits, pow_more 2 (length bits))
-row_number-fits (false ∷ bits) = grind (arith, row_number-fits bits, pow_more 2 (length bits))
+row_number-fits (bit ∷ bits) = grind (arith, row_number-fits bits)
 
 -- a power of a number below 64 fits in 64 bits
 pub shifted : (row : ℕ) → row < 64 → 1 * 2 ^ row % 18446744073709551616 ≡ 2 ^ row
@@ -49,9 +43,7 @@ abbrev pub is_bit : ℕ → Bool
 is_bit b = (b == 48) || (b == 49)
 
 row_in-push : (word : List ℕ) (b : ℕ) → row_in (word ++ b ∷ []) ≡ row_in word + number_of_bit (is_one b) * 2 ^ length word
-row_in-push word b =
-    ap row_number (map-append is_one word (b ∷ [])) ∙ row_number-push (map is_one word) (is_one b)
-    ∙ ap (λ n. row_in word + number_of_bit (is_one b) * 2 ^ n) (length-map word is_one)
+row_in-push word b = grind (arith, map-append, row_number-push, length-map)
 
 pub row_in-fits : (word : List ℕ) → row_in word < 2 ^ length word
 row_in-fits word = let fits = row_number-fits (map is_one word) in let same = length-map word is_one in rw (← same) fits
@@ -73,24 +65,8 @@ bits-more word i b l e is before = list_all_more is_bit word i 0 l ∙ and_from 
 
 -- no overflow
 pub row-room : (word : List ℕ) (i row : ℕ) → i < length word → i < 6 → row ≡ row_in (take i word) → row + 1 * 2 ^ i % 18446744073709551616 < 64
-row-room word i row l few h =
-    let fits = row_in-fits (take i word) in
-    let size = length-take-le i word (omega arith) in
-    let within : i ≤ 5 = omega arith in
-    let most : 2 ^ i ≤ 2 ^ 5 = pow_mono {i = i} {j = 5} within in
-    let same = ap (λ n. 2 ^ n) size in
-    let small : row_in (take i word) < 2 ^ i = omega (arith, fits, same) in
-    omega (arith, shifted i (omega arith))
+row-room word i row l few h = grind (arith, row_in-fits, length-take-le, pow_mono)
 
 -- a row of at most six ports is one of 64
 pub row-below : (ports : ℕ) (word : List ℕ) (row : ℕ) → ports ≤ 6 → Some row ≡ (if is_row ports word then Some (row_in word) else None) → row < 64
-row-below ports word row few h = by (is_row ports word) refl h
-  where
-    by : (b : Bool) → is_row ports word ≡ b → Some row ≡ (if b then Some (row_in word) else None) → row < 64
-    by true e g =
-        let size : length word ≡ ports = eqb-true (length word) ports (and_parts _ _ e).0 in
-        let within : length word ≤ 6 = omega arith in
-        let most : 2 ^ length word ≤ 2 ^ 6 = pow_mono {i = length word} {j = 6} within in
-        let same : row ≡ row_in word = cc in
-        omega (arith, row_in-fits word)
-    by false e g = cc
+row-below ports word row few h = grind (arith, pow_mono, row_in-fits)

@@ -2,13 +2,12 @@
 use Rattle.std.proofs.Common.{◌≡◌, ℕ, zero, suc, ◌-◌, Bool, true, List, [], ◌∷◌, ◌++◌, map, length, get_or, drop, refl, ap, ◌∙◌, arith}
 use Rattle.std.specs.Prelude.{slice_get}
 use Rattle.std.specs.List.{list_all, flat_map}
-use Rattle.std.proofs.lemmas.Bool.{and_parts, and_from}
+use Rattle.std.proofs.lemmas.Bool.{and_from}
 use Rattle.std.proofs.lemmas.List.{length-map}
 use Rattle.text_rules.specs.Names.{Name}
 use Rattle.state_rules.specs.Values.{values}
 use Rattle.state_rules.proofs.Lists.{list_all-both}
 use Rattle.device_model.specs.declared.gates.Rule.{Rule}
-use Rattle.device_model.specs.declared.gates.Rule.TheVariants.{Gate as OfGate, Table as OfTable}
 use Rattle.device_model.specs.TruthTable.{TruthTable}
 use Rattle.device_model.specs.Devices.{takes_ports, rows_take}
 use Rattle.device_model.specs.Gates.{rule, takes_inputs}
@@ -20,7 +19,7 @@ use Rattle.component_lang.specs.declared.design.Shape.{Shape}
 use Rattle.component_lang.specs.declared.design.Block.{Block}
 use Rattle.component_lang.specs.Designs.{is_used, are_blocks, takes_args, shape_takes}
 use Rattle.flattener.specs.Flat.{Content, Instance, nothing, below, kind_content, used_content, instance}
-use Rattle.flattener.proofs.Relative.{GoodUsed-from_test, GoodBlock-from_test}
+use Rattle.flattener.proofs.Relative.{GoodBlock-from_test}
 use Rattle.flattener.proofs.Values.{values-hold}
 
 abbrev pub tables_of : List Shape → List TruthTable

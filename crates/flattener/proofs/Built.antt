@@ -1,7 +1,6 @@
 -- The parts and wires of a design build its device.
 use Rattle.std.proofs.Common.{◌≡◌, ◌≤◌, true, List, [], ◌∷◌, ◌++◌, map, length, get_or, take, drop, None, Ok, Err, refl, sym, ap, ◌∙◌, arith}
 use Rattle.std.specs.List.{list_all, flat_map}
-use Rattle.std.proofs.lemmas.Bool.{and_parts, and_from}
 use Rattle.std.proofs.lemmas.List.{length-map, append_assoc, take-append-drop}
 use Rattle.std.proofs.lemmas.Simd.{map-map}
 use Rattle.text_rules.specs.Expected.{IsExpectedFault}
@@ -13,24 +12,22 @@ use Rattle.device_model.specs.declared.limits.TheConstants.{PART_LIMIT, WIRE_LIM
 use Rattle.device_model.specs.declared.building.BuildError.{BuildError}
 use Rattle.device_model.specs.declared.building.BuildError.TheVariants.{Memory as NoMemory}
 use Rattle.device_model.specs.TruthTable.{TruthTable}
-use Rattle.device_model.specs.Gates.{rule}
-use Rattle.device_model.specs.Devices.{Device, part_names, takes_ports, has_arity}
-use Rattle.device_model.specs.Building.{NamedPart, reason, repeated, built, device_over}
+use Rattle.device_model.specs.Devices.{Device, part_names, has_arity}
+use Rattle.device_model.specs.Building.{NamedPart, reason, repeated, built}
 use Rattle.device_model.proofs.Joining.{built-over}
 use Rattle.device_model.proofs.Apart.{repeated-Different}
 use Rattle.device_model.proofs.CallerLemmas.{only_memory as only_memory_of}
 use Rattle.component_lang.specs.Designs.{Design, is_design}
 use Rattle.flattener.specs.declared.flattening.FlattenError.{FlattenError}
-use Rattle.flattener.specs.declared.flattening.FlattenError.TheVariants.{TooManyParts, TooManyWires, TooManyBlocks, PathTooLong, Memory}
-use Rattle.flattener.specs.Flat.{top_ports, flat_device, flattened, told}
+use Rattle.flattener.specs.Flat.{flat_device, flattened, told}
 use Rattle.flattener.specs.inner.Counting.{counts_of_design, refusal}
-use Rattle.flattener.specs.inner.Expanding.{IsFlat, shown, wire_at}
+use Rattle.flattener.specs.inner.Expanding.{IsFlat, shown}
 use Rattle.flattener.proofs.Values.{front_fits}
 use Rattle.flattener.proofs.Relative.{Parts, Wires, no_names, names_in, names_used}
 use Rattle.flattener.proofs.Differing.{instances-differ, all-wires}
 use Rattle.flattener.proofs.Arities.{tables_of, is_fed, instances-fed}
 use Rattle.flattener.proofs.Growing.{no_block, good_blocks, top_within}
-use Rattle.flattener.proofs.Totals.{top_good, top_ports-are, top-shows, wires_are, few_parts, few_wires, unless_refused, flattened-by_counts}
+use Rattle.flattener.proofs.Totals.{top_good, top_ports-are, top-shows, wires_are, few_parts, few_wires, flattened-by_counts}
 
 ports_fed : (tables : List TruthTable) (wires : List Name) (parts : List Component) → list_all (is_fed tables) (map (shown wires) parts) ≡ true → list_all (has_arity tables) parts ≡ true
 ports_fed tables wires [] h = refl

@@ -1,8 +1,7 @@
 -- The counts of a block are those of each of its instances.
-use Rattle.std.proofs.Common.{◌≡◌, ℕ, ◌+◌, ◌≤◌, inl, inr, Bool, true, List, [], ◌∷◌, ◌++◌, length, get_or, take, drop, fold, refl, sym, ap, subst, ◌∙◌, arith}
-use Rattle.std.specs.Prelude.{max, if◌then◌else◌}
+use Rattle.std.proofs.Common.{◌≡◌, ℕ, ◌+◌, ◌≤◌, true, List, [], ◌∷◌, ◌++◌, length, get_or, take, drop, fold, refl, sym, ap, subst, ◌∙◌, arith}
+use Rattle.std.specs.Prelude.{max}
 use Rattle.std.specs.List.{flat_map, list_all}
-use Rattle.std.proofs.lemmas.Bool.{and_parts, eq-eqb, ne_eqb, cases_lt}
 use Rattle.std.proofs.lemmas.List.{append_assoc, append-nil, take-append-drop, length-append, length-map}
 use Rattle.text_rules.specs.Names.{Name}
 use Rattle.state_rules.specs.Values.{values}
@@ -15,7 +14,7 @@ use Rattle.component_lang.specs.Designs.{is_used, is_block, are_blocks}
 use Rattle.flattener.specs.declared.counting.Counts.{Counts}
 use Rattle.flattener.specs.Flat.{below, saturated}
 use Rattle.flattener.specs.inner.Counting.{no_counts, longest_of, counts_of_wires, added, counts_of_part, below_name, counts_of_instance, counts_of_kind, counts_of_used, counts_of_block}
-use Rattle.flattener.proofs.Naming.{Plain, AllSome, AllSome-append, AllSome-below, AllSome-right, AllSome-plain, lift, lift-some, lift-none, longest-append, longest-below}
+use Rattle.flattener.proofs.Naming.{Plain, AllSome, AllSome-append, AllSome-below, AllSome-right, AllSome-plain, lift, longest-append, longest-below}
 use Rattle.flattener.proofs.Relative.{Which, Parts, Wires, Instances, Inner, no_names, wires_only, own_names, part_named, instance_named, kind_names, names_used, names_in, GoodUsed-from_test, GoodBlock-from_test}
 use Rattle.flattener.proofs.Values.{values-both}
 use Rattle.std.proofs.lemmas.Bool.Decides.{nat_tests}
@@ -45,26 +44,14 @@ sum_saturated a b c e = omega arith
 length_saturated : (a b : ℕ) (xs ys : List Name) → a ≡ saturated (length xs) → b ≡ saturated (length ys) → saturated (a + b) ≡ saturated (length (xs ++ ys))
 length_saturated a b xs ys e f = (λ i. saturated (e i + f i)) ∙ sum_saturated (length xs) (length ys) (length (xs ++ ys)) (length-append xs ys)
 
-max_saturated : (a b : ℕ) → max (saturated a) (saturated b) ≡ saturated (max a b)
-max_saturated a b = omega arith
-
-max_regroup : (a b c d e f : ℕ) → max (max a (max b c)) (max d (max e f)) ≡ max (max a d) (max (max b e) (max c f))
-max_regroup a b c d e f = omega arith
-
 pub Counted-added : (a b : Counts) (r s : Inner) → Counted a r → Counted b s → Counted (added a b) (joined r s)
 Counted-added a b r s h g = grind (arith, length_saturated, longest-append, AllSome-append)
 
 Counted-part : (name : Name) → Plain name → Counted (counts_of_part name) (part_named name)
 Counted-part name p = grind arith
 
-lift-max : (n a b : ℕ) → max (lift n a) (lift n b) ≡ lift n (max a b)
-lift-max n a b = grind arith
-
 below_saturated : (n c l : ℕ) → n ≤ 64 → c ≡ saturated l → below_name n c ≡ saturated (max n (lift n l))
 below_saturated n c l h e = grind arith
-
-max_four : (n a b c : ℕ) → max n (max a (max b c)) ≡ max a (max b (max n c))
-max_four n a b c = omega arith
 
 Counted-instance : (name : Name) (c : Counts) (inner : Inner) → Plain name → Counted c inner → Counted (counts_of_instance name c) (instance_named name inner)
 Counted-instance name c inner p h = record {

@@ -1,8 +1,7 @@
 -- No two parts and no two wires of an instance have one path.
-use Rattle.std.proofs.Common.{◌≡◌, ℕ, inl, inr, true, List, [], ◌∷◌, ◌++◌, map, length, get_or, take, drop, refl, sym, ap, subst, ◌∙◌, arith}
+use Rattle.std.proofs.Common.{◌≡◌, ℕ, inl, inr, true, List, [], ◌∷◌, ◌++◌, length, get_or, take, drop, refl, sym, ap, subst, ◌∙◌, arith}
 use Rattle.std.specs.Prelude.{◌==◌}
 use Rattle.std.specs.List.{flat_map, list_any}
-use Rattle.std.proofs.lemmas.Bool.{true≢false}
 use Rattle.std.proofs.lemmas.List.{append_assoc, take-append-drop}
 use Rattle.text_rules.specs.Names.{Name}
 use Rattle.state_rules.specs.Values.{values}
@@ -14,18 +13,14 @@ use Rattle.component_lang.specs.declared.design.UsedKind.TheVariants.{Gate, Shap
 use Rattle.component_lang.specs.declared.design.Used.{Used}
 use Rattle.component_lang.specs.declared.design.Shape.{Shape}
 use Rattle.component_lang.specs.declared.design.Block.{Block}
-use Rattle.component_lang.specs.Designs.{is_plain_name, is_used, are_blocks}
-use Rattle.flattener.specs.Flat.{below}
-use Rattle.flattener.proofs.Naming.{Plain, Plain-from_test, head_of, head_of-dotless, head_of-below, dot-below, Different-from_test, Different-below, Different-headed}
-use Rattle.flattener.proofs.Relative.{Which, Parts, Wires, Instances, Inner, no_names, kind_names, names_used, names_in, GoodUsed-from_test, GoodBlock, GoodBlock-from_test}
+use Rattle.component_lang.specs.Designs.{is_used, are_blocks}
+use Rattle.flattener.proofs.Naming.{Plain, head_of, head_of-dotless, head_of-below, dot-below, Different-from_test, Different-below, Different-headed}
+use Rattle.flattener.proofs.Relative.{Which, Parts, Wires, Inner, no_names, kind_names, names_used, names_in, GoodUsed-from_test, GoodBlock, GoodBlock-from_test}
 use Rattle.flattener.proofs.Values.{values-hold}
 
 pub record Differ (inner : Inner) : Type 0 where
   pub parts : Different (inner Parts)
   pub wires : Different (inner Wires)
-
-among_one : (n m : Name) → In n (m ∷ []) → n ≡ m
-among_one n m given = grind arith
 
 module _ (inners : List Inner) (h : (j : ℕ) → Differ (get_or inners j no_names)) where
   -- the paths in a part of a block begin with its name

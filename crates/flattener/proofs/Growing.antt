@@ -1,9 +1,9 @@
 -- How parts and wires grow while an instance is expanded.
-use Rattle.std.proofs.Common.{◌≡◌, ℕ, zero, suc, ◌+◌, ◌-◌, ◌<◌, ◌≤◌, inl, inr, Bool, true, List, [], ◌∷◌, ◌++◌, map, length, get_or, take, drop, refl, sym, ap, subst, ◌∙◌, arith}
-use Rattle.std.specs.Prelude.{slice_index, slice_index_or, nat_lt, nat_le, if◌then◌else◌, Some, None, slice_get}
+use Rattle.std.proofs.Common.{◌≡◌, ℕ, zero, suc, ◌+◌, ◌<◌, ◌≤◌, inl, inr, Bool, true, List, [], ◌∷◌, ◌++◌, map, length, get_or, take, drop, refl, sym, ap, subst, ◌∙◌, arith}
+use Rattle.std.specs.Prelude.{slice_index, nat_lt, nat_le, Some, slice_get}
 use Rattle.std.specs.List.{flat_map}
-use Rattle.std.proofs.lemmas.Bool.{and_parts, and_from, ltb-true, lt-ltb, le-ltb, leb-true, cases_lt, eqb-true}
-use Rattle.std.proofs.lemmas.List.{append_assoc, append-nil, map-append, length-append, length-map, length-drop, take-append-drop, drop_more, take_more, take_all, get_or_default, get_or_append_left, get_or-append-add, get_or-append_right, get_or-map, get_or-take, length-take-le}
+use Rattle.std.proofs.lemmas.Bool.{and_parts, ltb-true, leb-true, cases_lt}
+use Rattle.std.proofs.lemmas.List.{append_assoc, append-nil, map-append, length-append, length-map, length-drop, take-append-drop, drop_more, take_more, take_all, get_or_default, get_or_append_left, get_or-append_right, get_or-map, get_or-take, length-take-le}
 use Rattle.std.proofs.lemmas.List.Concat.{flat_map-append}
 use Rattle.std.proofs.lemmas.Option.{slice_get_past}
 use Rattle.std.proofs.lemmas.Simd.{map-map}
@@ -15,7 +15,6 @@ use Rattle.device_model.specs.declared.gates.Kind.{Kind}
 use Rattle.device_model.specs.declared.gates.Kind.TheVariants.{Table}
 use Rattle.device_model.specs.declared.component.Component.{Component}
 use Rattle.device_model.specs.declared.limits.TheConstants.{WIRE_LIMIT, NAME_LIMIT}
-use Rattle.device_model.specs.Devices.{has_wires}
 use Rattle.device_model.specs.Building.{NamedPart}
 use Rattle.component_lang.specs.declared.design.UsedKind.{UsedKind}
 use Rattle.component_lang.specs.declared.design.UsedKind.TheVariants.{Gate, Shape as OfShape, Block as OfBlock}
@@ -119,9 +118,6 @@ pub got : (blocks : List Block) (k : ℕ) → k < length blocks → slice_get bl
 got [] k l = absurd (omega arith)
 got (b ∷ bs) zero l = refl
 got (b ∷ bs) (suc k) l = got bs k (omega arith)
-
-no_block_takes : (args : ℕ) → block_takes None args ≡ true → ⊥
-no_block_takes args h = cc
 
 pub ports_there : (blocks : List Block) (place : ℕ) → place < length blocks → slice_index (map (λ (b : Block). b.ports) blocks) place ≡ (get_or blocks place no_block).ports
 ports_there blocks place l = get_or-map (λ (b : Block). b.ports) blocks place no_block 0 l

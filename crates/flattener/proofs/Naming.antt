@@ -1,16 +1,15 @@
 -- Paths: a name in an instance, and names of which no two are the same.
-use Rattle.std.proofs.Common.{◌≡◌, ℕ, ◌+◌, ◌≤◌, inl, inr, Bool, true, false, not, List, [], ◌∷◌, ◌++◌, map, length, refl, sym, ap, subst, ◌∙◌, arith}
-use Rattle.std.specs.Prelude.{◌&&◌, ◌==◌, max, nat_eq, nat_le, if◌then◌else◌}
+use Rattle.std.proofs.Common.{◌≡◌, ℕ, ◌+◌, ◌≤◌, inl, inr, true, false, List, [], ◌∷◌, ◌++◌, map, length, refl, ap, subst, ◌∙◌, arith}
+use Rattle.std.specs.Prelude.{◌==◌, max, nat_eq, if◌then◌else◌}
 use Rattle.std.specs.List.{list_all, list_any, flat_map}
-use Rattle.std.proofs.lemmas.Bool.{leb-true, and_parts, or_parts, or_right, not-true, true≢false, ne_eqb, eq-eqb, cases_lt}
+use Rattle.std.proofs.lemmas.Bool.{and_parts}
 use Rattle.std.proofs.lemmas.List.{append_assoc, append_cancel_left}
 use Rattle.std.proofs.lemmas.List.Folds.{list_any-append}
-use Rattle.text_rules.specs.Names.{Name, is_among, is_short_name, is_name_byte}
+use Rattle.text_rules.specs.Names.{Name}
 use Rattle.state_rules.proofs.Members.{In, In-append}
 use Rattle.device_model.proofs.Repeats.{is_among-among}
 use Rattle.device_model.proofs.Apart.{Different, Different-append, Different-made}
 use Rattle.component_lang.specs.Designs.{is_plain_name, are_distinct}
-use Rattle.component_lang.proofs.NameLists.{are_distinct-cons}
 use Rattle.flattener.specs.Flat.{below}
 use Rattle.flattener.specs.inner.Counting.{longest_of}
 use Rattle.flattener.specs.inner.Expanding.{prefix_of, behind}
@@ -60,9 +59,6 @@ dot-below path name h = grind (arith, list_any-append)
 abbrev pub head_of : Name → Name
 head_of [] = []
 head_of (b ∷ name) = if b == 46 then [] else b ∷ head_of name
-
-not_first : (b : ℕ) (name : Name) → list_any (λ b. b == 46) (b ∷ name) ≡ false → (nat_eq b 46 ≡ false) × (list_any (λ b. b == 46) name ≡ false)
-not_first b name h = or_parts (nat_eq b 46) (list_any (λ b. b == 46) name) h
 
 pub head_of-dotless : (name : Name) → list_any (λ b. b == 46) name ≡ false → head_of name ≡ name
 head_of-dotless [] h = refl
@@ -123,15 +119,6 @@ AllSome-append (x ∷ xs) ys h g = (h.0, AllSome-append xs ys h.1 g)
 pub AllSome-below : (path : Name) (ns : List Name) → 1 ≤ length path → AllSome (map (below path) ns)
 AllSome-below path [] h = tt
 AllSome-below path (n ∷ ns) h = (let e = length-below path n h in omega arith, AllSome-below path ns h)
-
-pub lift-some : (k l : ℕ) → 1 ≤ l → lift k l ≡ k + 1 + l
-lift-some k l h = ap (λ (t : Bool). if t then 0 else k + 1 + l) (ne_eqb l 0 (λ e. omega arith))
-
-pub lift-none : (k l : ℕ) → l ≡ 0 → lift k l ≡ 0
-lift-none k l h = ap (λ (t : Bool). if t then 0 else k + 1 + l) (eq-eqb l 0 h)
-
-lift-more : (k n l : ℕ) → 1 ≤ n → max (k + 1 + n) (lift k l) ≡ lift k (max n l)
-lift-more k n l h = grind arith
 
 pub longest-below : (path : Name) (ns : List Name) → 1 ≤ length path → AllSome ns → longest_of (map (below path) ns) ≡ lift (length path) (longest_of ns)
 longest-below path [] h g = refl

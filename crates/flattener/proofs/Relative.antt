@@ -1,8 +1,8 @@
 -- What an instance has, by names that do not say where it stands: the paths in an instance are these names below its path.
 use Rattle.std.proofs.Common.{◌≡◌, ℕ, ◌≤◌, true, List, [], ◌∷◌, ◌++◌, map, length, get_or, drop, refl, sym, ap, ◌∙◌, arith}
-use Rattle.std.specs.Prelude.{◌&&◌, nat_lt, nat_le, slice_index_or}
+use Rattle.std.specs.Prelude.{nat_lt, slice_index_or}
 use Rattle.std.specs.List.{flat_map, list_all}
-use Rattle.std.proofs.lemmas.Bool.{and_parts, leb-true}
+use Rattle.std.proofs.lemmas.Bool.{and_parts}
 use Rattle.std.proofs.lemmas.List.{map-append}
 use Rattle.std.proofs.lemmas.List.Folds.{flat_map-map}
 use Rattle.text_rules.specs.Names.{Name}
@@ -17,7 +17,7 @@ use Rattle.component_lang.specs.declared.design.Block.{Block}
 use Rattle.component_lang.specs.Designs.{is_plain_name, is_used, is_block, are_blocks, are_distinct, used_names, takes_args}
 use Rattle.flattener.specs.Flat.{Content, Instance, nothing, below, kind_content, used_content, instance}
 use Rattle.flattener.proofs.Lists.{flat_map_same}
-use Rattle.flattener.proofs.Naming.{Plain, Plain-from_test, below-below}
+use Rattle.flattener.proofs.Naming.{Plain, below-below}
 use Rattle.flattener.proofs.Values.{values-both}
 
 -- which names of an instance

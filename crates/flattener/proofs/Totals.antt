@@ -1,8 +1,8 @@
 -- What the top has, and which limit it passes first.
-use Rattle.std.proofs.Common.{◌≡◌, ℕ, zero, suc, ◌+◌, ◌≤◌, inl, inr, Bool, true, false, cond, List, [], ◌∷◌, ◌++◌, map, length, get_or, take, drop, Option, Some, None, Result, Ok, Err, refl, sym, ap, subst, ◌∙◌, arith}
-use Rattle.std.specs.Prelude.{max, nat_lt, nat_le, if◌then◌else◌}
+use Rattle.std.proofs.Common.{◌≡◌, ℕ, zero, suc, ◌+◌, ◌≤◌, true, List, [], ◌∷◌, ◌++◌, map, length, get_or, take, drop, Option, Some, None, Result, Ok, Err, refl, sym, ap, subst, ◌∙◌, arith}
+use Rattle.std.specs.Prelude.{max, nat_lt, nat_le}
 use Rattle.std.specs.List.{range_with_len}
-use Rattle.std.proofs.lemmas.Bool.{ltb-false, lt-ltb, le-ltb, le-leb, cases_lt, and_from}
+use Rattle.std.proofs.lemmas.Bool.{lt-ltb, le-leb, and_from}
 use Rattle.std.proofs.lemmas.List.FromFn.{length-range_with_len}
 use Rattle.std.proofs.lemmas.List.{append_assoc, take-append-drop, length-map, map-id, length-append, length-take-le}
 use Rattle.text_rules.specs.Names.{Name}
@@ -16,9 +16,9 @@ use Rattle.flattener.specs.declared.counting.Counts.{Counts}
 use Rattle.flattener.specs.declared.flattening.FlattenError.{FlattenError}
 use Rattle.flattener.specs.declared.flattening.FlattenError.TheVariants.{TooManyParts, TooManyWires, TooManyBlocks, PathTooLong}
 use Rattle.flattener.specs.declared.flattening.TheConstants.{INSTANCE_LIMIT}
-use Rattle.flattener.specs.Flat.{Content, ports_of, top_ports, top_content, flat_wires, flat_device, longest_path, saturated, unless_over, flattened}
+use Rattle.flattener.specs.Flat.{ports_of, top_ports, top_content, flat_wires, flat_device, longest_path, saturated, unless_over, flattened}
 use Rattle.flattener.specs.inner.Counting.{no_counts, longest_of, counts_of_wires, counts_of_block, counts_of_design, refusal}
-use Rattle.flattener.specs.inner.Expanding.{CanExpand, Grows, IsFlat, shown, wire_at, are_within, are_short, paths_of, instance_at, ports_at}
+use Rattle.flattener.specs.inner.Expanding.{CanExpand, Grows, IsFlat, wire_at, are_within, are_short, paths_of, instance_at, ports_at}
 use Rattle.flattener.proofs.Naming.{AllSome, AllSome-left, AllSome-plain, longest-append}
 use Rattle.flattener.proofs.Relative.{Which, Parts, Wires, Instances, names_of, Inner, no_names, wires_only, names_in, GoodBlock, instances-show}
 use Rattle.flattener.proofs.Counted.{Counted, longest_in, joined, Counted-wires, Counted-added, blocks-counted}
@@ -55,9 +55,6 @@ pub record Allowed (counts : Counts) : Type 0 where
   pub instances : counts.instances ≤ INSTANCE_LIMIT
   pub longest : counts.longest ≤ NAME_LIMIT
 
-passes : (limit n : ℕ) (error : FlattenError) (otherwise : Option FlattenError) → (if nat_lt limit n then Some error else otherwise) ≡ None → (n ≤ limit) × (otherwise ≡ None)
-passes limit n error otherwise h = grind arith
-
 pub Allowed-from_refusal : (counts : Counts) → refusal counts ≡ None → Allowed counts
 Allowed-from_refusal counts h = grind arith
 
@@ -65,13 +62,6 @@ Allowed-from_refusal counts h = grind arith
 abbrev pub unless_refused : Device → Option FlattenError → Result Device FlattenError
 unless_refused device None = Ok device
 unless_refused device (Some error) = Err error
-
-saturated_over : (limit n : ℕ) → limit ≤ WIRE_LIMIT → nat_lt limit (saturated n) ≡ nat_lt limit n
-saturated_over limit n h = grind arith
-
-one_limit : (device : Device) (limit n m : ℕ) (error : ℕ → FlattenError) (otherwise : Result Device FlattenError) (rest : Option FlattenError) → limit ≤ WIRE_LIMIT → m ≡ saturated n
-    → otherwise ≡ unless_refused device rest → unless_over limit n error otherwise ≡ unless_refused device (if nat_lt limit m then Some (error m) else rest)
-one_limit device limit n m error otherwise rest h e g = grind arith
 
 pub limits : (device : Device) (counts : Counts) (parts wires instances longest : ℕ) → counts.parts ≡ saturated parts → counts.wires ≡ saturated wires → counts.instances ≡ saturated instances → counts.longest ≡ saturated longest
     → unless_over PART_LIMIT parts TooManyParts (unless_over WIRE_LIMIT wires TooManyWires (unless_over INSTANCE_LIMIT instances TooManyBlocks (unless_over NAME_LIMIT longest PathTooLong (Ok device))))

@@ -113,8 +113,7 @@ module _ (seq : Sequential) (frames : ℕ) (valid : IsDevice seq.device) where
       wires_once = repeated-Different given (wires_differ names 1 frames (Rises-from_names_rise names valid.wires_rise));
       arities = list_all-map (has_arity seq.device.tables) (given_copy (length names)) cs
           ∙ list_all-from_among (λ c. has_arity seq.device.tables (given_copy (length names) c)) cs (λ c m. given_arity c (each c m));
-      wired = list_all-map (has_wires (length given)) (given_copy (length names)) cs
-          ∙ list_all-from_among (λ c. has_wires (length given) (given_copy (length names) c)) cs (λ c m. given_wired c (each c m));
+      wired = grind (arith, list_all-map, list_all-from_among, given_wired, each);
     }
 
     built-frames : built (map (given_copy (length names)) cs) given seq.device.tables ≡ Ok (frame_device seq frames)

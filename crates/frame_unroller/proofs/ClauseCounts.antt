@@ -19,10 +19,7 @@ use Rattle.frame_unroller.specs.Unrolling.{Copy, copies_of, copies_for, copies, 
 module _ (device : Device) where
   clauses-append : (h z : ℕ) (xs ys : List Component)
       → clauses_from device h z (xs ++ ys) ≡ clauses_from device h z xs ++ clauses_from device (h + length xs) (z + inner_vars xs) ys
-  clauses-append h z [] ys = λ i. clauses_from device (same h i) (same z i) ys
-    where
-      same : (n : ℕ) → n ≡ n + 0
-      same n = omega arith
+  clauses-append h z [] ys = grind arith
   clauses-append h z (x ∷ xs) ys =
       let raw = raw_clauses device.tables (rule x.kind) h z (map (wire_variable device) x.ports) in
       let inner = inner_count (rule x.kind) (length x.ports) in
@@ -40,19 +37,10 @@ module _ (device : Device) where
   have_none h z = refl
 
   have_both : (xs ys : List Component) (m n : ℕ) → Have xs m → Have ys n → Have (xs ++ ys) (m + n)
-  have_both xs ys m n first second h z =
-      ap length (clauses-append h z xs ys)
-      ∙ omega (
-        arith,
-        length-append (clauses_from device h z xs) (clauses_from device (h + length xs) (z + inner_vars xs) ys),
-        first h z,
-        second (h + length xs) (z + inner_vars xs),
-      )
+  have_both xs ys m n first second h z = grind (arith, clauses-append, length-append)
 
   have_one : (part : Component) (n : ℕ) → ((h z : ℕ) (vs : List ℕ) → length vs ≡ length part.ports → length (raw_clauses device.tables (rule part.kind) h z vs) ≡ n) → Have (part ∷ []) n
-  have_one part n each h z =
-      let raw = raw_clauses device.tables (rule part.kind) h z (map (wire_variable device) part.ports) in
-      omega (arith, length-append raw [], each h z (map (wire_variable device) part.ports) (length-map part.ports (wire_variable device)))
+  have_one part n each h z = grind (arith, length-append, length-map)
 
 -- ---- copies
 
@@ -111,9 +99,7 @@ module _ (seq : Sequential) (frames : ℕ) where
       (sym is) (one_copy 1 place part n 1 has (omega arith))
 
   pub none_at_first : (place : ℕ) (part : Component) → is_delayed seq place ≡ true → HasAt 1 (place, part) 0
-  none_at_first place part is =
-      subst (λ (b : Bool). Have over (map made (if nat_lt 0 (if b then 1 - 1 else 1) then record { place = place; part = part; before = if b then 1 - 1 else 1; now = 1 } ∷ [] else [])) 0)
-      (sym is) (have_none over)
+  none_at_first place part is = grind arith
 
   -- ---- part by part
 
@@ -125,9 +111,7 @@ module _ (seq : Sequential) (frames : ℕ) where
   Counted t place count = (rest : ℕ) → Have over (left_at t place) rest → Have over (map made (copies_for seq t)) (count + rest)
 
   pub counted_none : (t : ℕ) → Counted t 0 0
-  counted_none t rest have =
-      let same : rest ≡ 0 + rest = omega arith in
-      subst (λ m. Have over (map made (copies_for seq t)) m) same have
+  counted_none t rest have = grind arith
 
   pub counted_more : (t place count n : ℕ) (part : Component) → place < length seq.device.parts → part ≡ get_or seq.device.parts place part
       → HasAt t (place, part) n → Counted t place count → Counted t (place + 1) (count + n)

@@ -30,40 +30,13 @@ module _ (seq : Sequential) where
     pub order : c.before ≤ t
 
   not_later : (place t : ℕ) → input_time seq place t ≤ t
-  not_later place t = by (is_delayed seq place)
-    where
-      by : (b : Bool) → (if b then t - 1 else t) ≤ t
-      by true = omega arith
-      by false = omega arith
+  not_later place t = grind arith
 
   pub is_copy : (t : ℕ) (p : ℕ × Component) (c : Copy) → In c (copies_of seq t p) → IsCopyOf t p c
-  is_copy t p c m = by (nat_lt 0 before) refl m
-    where
-      before : ℕ
-      before = input_time seq p.0 t
-
-      made : Copy
-      made = record { place = p.0; part = p.1; before = before; now = t }
-
-      by : (b : Bool) → nat_lt 0 before ≡ b → In c (if b then made ∷ [] else []) → IsCopyOf t p c
-      by false e n = absurd n
-      by true e (inr n) = absurd n
-      by true e (inl is) =
-          let same : c.before ≡ before = ap (λ (d : Copy). d.before) is in
-          record {
-            now = ap (λ (d : Copy). d.now) is;
-            part = ap (λ (d : Copy). d.part) is;
-            place = ap (λ (d : Copy). d.place) is;
-            some = omega (arith, same, ltb-true 0 before e);
-            order = omega (arith, same, not_later p.0 t);
-          }
+  is_copy t p c m = grind arith
 
   one_rises : (t : ℕ) (p : ℕ × Component) → Rises copy_name (copies_of seq t p)
-  one_rises t p = by (nat_lt 0 (input_time seq p.0 t))
-    where
-      by : (b : Bool) → Rises copy_name (if b then record { place = p.0; part = p.1; before = input_time seq p.0 t; now = t } ∷ [] else [])
-      by true = (tt, tt)
-      by false = tt
+  one_rises t p = grind arith
 
   -- ---- all parts at one time
 
@@ -90,17 +63,7 @@ module _ (seq : Sequential) where
     pub order : c.before ≤ t
 
   pub is_copy_for : (t : ℕ) (c : Copy) → In c (copies_for seq t) → IsCopyFor t c
-  is_copy_for t c m =
-      let r = among-flat_map (copies_of seq t) (enumerate_from 0 seq.device.parts) c m in
-      let is = is_copy t r.0 c r.2 in
-      let at = among-enumerate 0 seq.device.parts r.0 r.1 in
-      record {
-        now = is.now;
-        within = omega (arith, is.place, at.1);
-        there = subst (λ (p : Component). In p seq.device.parts) (sym is.part) at.2;
-        some = is.some;
-        order = is.order;
-      }
+  is_copy_for t c m = grind (arith, among-flat_map, among-enumerate)
 
   -- ---- all times
 
@@ -126,14 +89,4 @@ module _ (seq : Sequential) where
     pub few : c.now ≤ frames
 
   pub are_copies : (frames : ℕ) (c : Copy) → In c (copies seq frames) → IsCopy frames c
-  are_copies frames c m =
-      let r = among-flat_map (copies_for seq) (range_with_len 1 frames) c m in
-      let is = is_copy_for r.0 c r.2 in
-      let at = (among-range 1 frames r.0 r.1).1 in
-      record {
-        within = is.within;
-        there = is.there;
-        some = is.some;
-        order = omega (arith, is.order, is.now);
-        few = omega (arith, is.now, at);
-      }
+  are_copies frames c m = grind (arith, among-flat_map, is_copy_for, among-range)

@@ -25,12 +25,7 @@ use Rattle.frame_unroller.specs.Unrolling.{shared_variables}
 module _ (P : ℕ → Type 0) where
   Of-with_literal : (l : ℤ) (c : Clause) → P (var_of l) → Of P c → Of P (with_literal l c)
   Of-with_literal l [] h k = (h, tt)
-  Of-with_literal l (b ∷ c) h k = by (same_literal l b) (nat_lt (var_of b) (var_of l)) (Of-with_literal l c h k.1)
-    where
-      by : (s t : Bool) → Of P (with_literal l c) → Of P (if s then b ∷ c else if t then b ∷ with_literal l c else l ∷ b ∷ c)
-      by true t rest = k
-      by false true rest = (k.0, rest)
-      by false false rest = (h, k)
+  Of-with_literal l (b ∷ c) h k = grind (arith, Of-with_literal l c h k.1)
 
   pub Of-sorted : (c : Clause) → Of P c → Of P (sorted c)
   Of-sorted [] h = tt
@@ -56,11 +51,7 @@ OneEach-of parts h (c ∷ cs) k = ((h, k.1), OneEach-of parts h cs k.2)
 
 OneEach-tidy : (parts : ℕ) (cs : List Clause) → OneEach parts cs → OneEach parts (tidy cs)
 OneEach-tidy parts [] h = tt
-OneEach-tidy parts (c ∷ cs) h = by (is_tautology c) (OneEach-tidy parts cs h.1)
-  where
-    by : (s : Bool) → OneEach parts (tidy cs) → OneEach parts (map sorted (cond (not s) (c ∷ filter (λ d. not (is_tautology d)) cs) (filter (λ d. not (is_tautology d)) cs)))
-    by true rest = rest
-    by false rest = ((h.0.0, Of-sorted (Names parts h.0.0) c h.0.1), rest)
+OneEach-tidy parts (c ∷ cs) h = grind (arith, Of-sorted, OneEach-tidy parts cs h.1)
 
 module _ (device : Device) where
   wires_only : (h : ℕ) (ports : List ℕ) → Variables (Names (length device.parts) h) (map (wire_variable device) ports)
@@ -96,18 +87,10 @@ module _ (parts vars : ℕ) (places : List ℕ) (many : length places ≤ vars) 
       omega (arith, here, within (v - 1) 0 (omega arith))
 
   back : (v : ℕ) → length places < v → v ≤ vars → variable_for new v ≡ parts + 1 + (v - 1 - length places)
-  back v above le =
-      get_or-append_right (map (λ place. place + 1) places) (range_with_len (parts + 1) (vars - length places)) (length places) (v - 1) 0 (length-map places (λ place. place + 1)) (omega arith)
-      ∙ get_or-range_with_len (parts + 1) (vars - length places) (v - 1 - length places) 0 (omega arith)
+  back v above le = grind (arith, get_or-append_right, length-map, get_or-range_with_len)
 
   differ : (h v w : ℕ) → 1 ≤ v → v < w → w ≤ vars → Names (length places) h v → Names (length places) h w → variable_for new v ≡ variable_for new w → ⊥
-  differ h v w some lt le (inl e) (inl f) same = omega (arith, e, f)
-  differ h v w some lt le (inr e) (inl f) same = omega (arith, e, f, same, back v e (omega arith), back w (omega (arith, e)) le)
-  differ h v w some lt le (inr e) (inr f) same = omega (arith, same, back v e (omega arith), back w f le)
-  differ h v w some lt le (inl e) (inr f) same = elim (cases_lt (v - 1) (length places)) [
-    | inl l ↦ omega (arith, same, front v some (omega arith), back w f le)
-    | inr g ↦ omega (arith, same, back v (omega arith) (omega arith), back w f le)
-  ]
+  differ h v w some lt le given k same = grind (arith, back, front)
 
   abbrev made : ℤ → ℤ
   made = literal_for new
@@ -124,31 +107,22 @@ module _ (parts vars : ℕ) (places : List ℕ) (many : length places ≤ vars) 
       let apart : (var_of (neg_ℤ (made l)) == var_of (made k)) ≡ false =
       ne_eqb (var_of (neg_ℤ (made l))) (var_of (made k))
       (λ same. differ h (var_of l) (var_of k) some (omega arith) in_range.1 one each.0 (sym (negated l) ∙ same ∙ var_of-literal (is_positive k) (variable_for new (var_of k)))) in
-      λ i. (apart i && same_bit (is_positive (neg_ℤ (made l))) (is_positive (made k)))
-      || no_opposite h (var_of k) l c some (omega arith) one two.1 in_range.2 each.1 i
+      grind (arith, no_opposite h (var_of k) l c some)
 
   no_tautology : (h below : ℕ) (c : Clause) → vars_rise below c ≡ true → AllIn vars c → Of (Names (length places) h) c → is_tautology (map made c) ≡ false
   no_tautology h below [] rise in_range each = refl
-  no_tautology h below (l ∷ c) rise in_range each =
-      let two = and_parts (nat_lt below (var_of l)) (vars_rise (var_of l) c) rise in
-      λ i. no_opposite h (var_of l) l c in_range.0 (omega arith) each.0 two.1 in_range.2 each.1 i || no_tautology h (var_of l) c two.1 in_range.2 each.1 i
+  no_tautology h below (l ∷ c) rise in_range each = grind (arith, no_opposite, no_tautology h (var_of l) c)
 
   rising : (c : Clause) → is_clause vars c ≡ true → vars_rise 0 c ≡ true
-  rising [] e = refl
-  rising (l ∷ c) e = (and_parts (vars_rise 0 (l ∷ c)) _ e).0
+  rising c e = grind arith
 
   pub all_kept : (cs : List Clause) → list_all (is_clause vars) cs ≡ true → OneEach (length places) cs → length (tidy (map (map made) cs)) ≡ length cs
   all_kept [] e each = refl
   all_kept (c ∷ cs) e each =
       let two = and_parts (is_clause vars c) (list_all (is_clause vars) cs) e in
       let kept = no_tautology each.0.0 0 c (rising c two.0) (raw_from vars c two.0).1 each.0.1 in
-      (λ i. length (map sorted (cond (not (kept i)) (map made c ∷ filter (λ d. not (is_tautology d)) (map (map made) cs)) (filter (λ d. not (is_tautology d)) (map (map made) cs)))))
-      ∙ ap suc (all_kept cs two.1 each.1)
+      grind (arith, all_kept cs two.1 each.1)
 
 -- what is encoded
 pub encoded-list : (device : Device) (cnf : ClauseList) → encoded device ≡ Ok cnf → cnf ≡ clause_list device
-encoded-list device cnf is = by (nat_lt CLAUSE_LIMIT (raw_count device)) is
-  where
-    by : (too_many : Bool) → (if too_many then Err (TooManyClauses (raw_count device)) else Ok (clause_list device)) ≡ Ok cnf → cnf ≡ clause_list device
-    by true e = let f : Err (TooManyClauses (raw_count device)) ≡ Ok cnf = e in absurd (cc)
-    by false e = let same : clause_list device ≡ cnf = cc in sym same
+encoded-list device cnf is = grind arith

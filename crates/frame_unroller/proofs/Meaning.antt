@@ -90,13 +90,7 @@ module _ (seq : Sequential) (frames : ℕ) (valid : IsDevice seq.device) (state 
       where
         by : (b : Bool) → list_all allowed (if nat_lt 0 (if b then t - 1 else t) then copy (if b then t - 1 else t) t ∷ [] else []) ≡ fits_at tables b part (bit_in state place) waves t
         by false = one_copy t t some ∙ allowed-row t t ∙ ap (allows tables (rule part.kind) (bit_in state place)) (row-now t)
-        by true = elim (cases_lt 1 t) [
-          | inl l ↦ one_copy (t - 1) t (omega arith) ∙ allowed-row (t - 1) t ∙ ap (λ (b : Bool). b || allows tables (rule part.kind) (bit_in state place) (row_across part (waves (t - 1)) (waves t))) (sym (later t l))
-          | inr g ↦ no_copy (t - 1) t (omega arith) ∙ ap (λ (b : Bool). b || allows tables (rule part.kind) (bit_in state place) (row_across part (waves (t - 1)) (waves t))) (sym (le-leb t 1 g))
-        ]
-          where
-            later : (t : ℕ) → 1 < t → nat_le t 1 ≡ false
-            later t l = lt-leb t 1 l
+        by true = grind (arith, allowed-row)
 
   -- ---- all copies
 
@@ -125,31 +119,15 @@ module _ (state rest : List Bool) (places : List ℕ) (vars : ℕ) (owned : list
         get_or_append_left (map (λ place. place + 1) places) (range_with_len (length state + 1) (vars - length places)) 0 k (omega (arith, length-map places (λ place. place + 1)))
         ∙ get_or-map (λ place. place + 1) places k 0 0 l in
         let less : (n : ℕ) → n + 1 - 1 ≡ n = λ n. omega arith in
-        ap (λ (n : ℕ). bit_in (state ++ rest) (n - 1)) here ∙ ap (bit_in (state ++ rest)) (less (get_or places k 0))
-        ∙ get_or_append_left state rest false (get_or places k 0) (owner k l)
-        ∙ sym (get_or_append_left (map (bit_in state) places) rest false k (omega (arith, length-map places (bit_in state))) ∙ get_or-map (bit_in state) places k 0 false l)
+        grind (arith, get_or_append_left, owner, length-map, get_or-map)
         )
-    | inr g ↦ (
-        let k : ℕ = v - 1 in
-        let past : ℕ = k - length places in
-        let here : variable_for (shared_variables (length state) places vars) v ≡ length state + 1 + past =
-        get_or-append_right (map (λ place. place + 1) places) (range_with_len (length state + 1) (vars - length places)) (length places) k 0 (length-map places (λ place. place + 1)) g
-        ∙ get_or-range_with_len (length state + 1) (vars - length places) past 0 (omega arith) in
-        let there : length state + 1 + past - 1 - length state ≡ past = omega arith in
-        ap (λ (n : ℕ). bit_in (state ++ rest) (n - 1)) here
-        ∙ get_or-append_right state rest (length state) (length state + 1 + past - 1) false refl (omega arith)
-        ∙ ap (bit_in rest) there
-        ∙ sym (get_or-append_right (map (bit_in state) places) rest (length places) k false (length-map places (bit_in state)) g)
-        )
+    | inr g ↦ grind (arith, get_or-append_right, length-map, get_or-range_with_len)
   ]
 
 -- ---- what the clauses describe
 
 owners-within : (seq : Sequential) (frames : ℕ) → list_all (λ place. nat_lt place (length seq.device.parts)) (owners seq frames) ≡ true
-owners-within seq frames =
-    list_all-map (λ place. nat_lt place (length seq.device.parts)) (λ (c : Copy). c.place) (copies seq frames)
-    ∙ list_all-from_among (λ (c : Copy). nat_lt c.place (length seq.device.parts)) (copies seq frames)
-    (λ c m. lt-ltb c.place (length seq.device.parts) (are_copies seq frames c m).within)
+owners-within seq frames = grind (arith, list_all-map, list_all-from_among, are_copies)
 
 pub owner-at : (seq : Sequential) (frames k d : ℕ) → k < length (owners seq frames) → get_or (owners seq frames) k d < length seq.device.parts
 owner-at seq frames k d lt =
@@ -174,26 +152,13 @@ module _ (seq : Sequential) (frames : ℕ) (valid : IsDevice seq.device) (list :
       many = length-map (copies seq frames) (λ (c : Copy). c.place)
 
       made_long : length made ≡ length (frame_device seq frames).parts
-      made_long =
-          omega (
-            arith,
-            length-map (owners seq frames) (bit_in state),
-            many,
-            length-map (copies seq frames) (λ c. joined (frame_wires seq frames) (named_copy seq.device.wires c)),
-          )
+      made_long = grind (arith, length-map)
 
       more : ℕ
       more = list.vars - (length (frame_device seq frames).parts + length (frame_wires seq frames))
 
       counted : cnf.vars - (length seq.device.parts + length (frame_wires seq frames)) ≡ more
-      counted =
-          let vars : cnf.vars ≡ length seq.device.parts + (list.vars - length (owners seq frames)) = ap (λ (l : ClauseList). l.vars) is in
-          omega (
-            arith,
-            vars,
-            many,
-            length-map (copies seq frames) (λ c. joined (frame_wires seq frames) (named_copy seq.device.wires c)),
-          )
+      counted = grind (arith, length-map)
 
       owned : list_all (λ place. nat_lt place (length state)) (owners seq frames) ≡ true
       owned = ap (λ (n : ℕ). list_all (λ place. nat_lt place n) (owners seq frames)) long ∙ owners-within seq frames

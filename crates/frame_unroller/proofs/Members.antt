@@ -23,9 +23,7 @@ among-range a (suc n) t (inr m) = let r = among-range (a + 1) n t m in (omega (a
 
 pub among-enumerate : {A : Type 0} (a : ℕ) (xs : List A) (e : ℕ × A) → In e (enumerate_from a xs) → (a ≤ e.0) × (e.0 < a + length xs) × In e.1 xs
 among-enumerate a [] e m = absurd m
-among-enumerate a (x ∷ xs) e (inl is) =
-    let at : e.0 ≡ a = ap (λ (p : ℕ × _). p.0) is in
-    (omega (arith, at), omega (arith, at), inl (ap (λ (p : ℕ × _). p.1) is))
+among-enumerate a (x ∷ xs) e (inl is) = grind arith
 among-enumerate a (x ∷ xs) e (inr m) = let r = among-enumerate (a + 1) xs e m in (omega (arith, r.0), omega (arith, r.1), inr r.2)
 
 -- ---- tests
@@ -53,14 +51,5 @@ module _ {A : Type 0} (f : ℕ → List A) (w : ℕ) (each : (t : ℕ) → lengt
 
   pub get_or-chunks : (a n k i : ℕ) (d : A) → k < n → i < w → get_or (flat_map f (range_with_len a n)) (k * w + i) d ≡ get_or (f (a + k)) i d
   get_or-chunks a zero k i d lt l = absurd (omega arith)
-  get_or-chunks a (suc n) zero i d lt l =
-      let rest = flat_map f (range_with_len (a + 1) n) in
-      let here : 0 * w + i ≡ i = omega arith in
-      let first : a ≡ a + 0 = omega arith in
-      ap (λ j. get_or (f a ++ rest) j d) here ∙ get_or_append_left (f a) rest d i (omega (arith, each a)) ∙ ap (λ t. get_or (f t) i d) first
-  get_or-chunks a (suc n) (suc k) i d lt l =
-      let rest = flat_map f (range_with_len (a + 1) n) in
-      let past : suc k * w + i ≡ length (f a) + (k * w + i) = omega (arith, each a) in
-      let next : (a + 1) + k ≡ a + suc k = omega arith in
-      ap (λ j. get_or (f a ++ rest) j d) past ∙ get_or-append-add (f a) rest (k * w + i) d
-      ∙ get_or-chunks (a + 1) n k i d (omega arith) l ∙ ap (λ t. get_or (f t) i d) next
+  get_or-chunks a (suc n) zero i d lt l = grind (arith, get_or_append_left)
+  get_or-chunks a (suc n) (suc k) i d lt l = grind (arith, get_or-append-add, get_or-chunks (a + 1) n k i d)

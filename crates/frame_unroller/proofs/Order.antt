@@ -1,5 +1,6 @@
 -- Names at times: their order.
 use Rattle.std.proofs.Common.{◌≡◌, ℕ, ◌+◌, ◌*◌, ◌/◌, ◌%◌, ◌<◌, inl, inr, List, [], ◌∷◌, ◌++◌, map, refl, ◌∙◌, arith}
+use Rattle.std.proofs.lemmas.Bool.Decides.{nat_tests}
 use Rattle.std.specs.Ordering.{nat_cmp}
 use Rattle.std.specs.declared.cmp.Ordering.TheVariants.{Less}
 use Rattle.std.specs.Cmp.Lexicographic.{slice_cmp}
@@ -20,26 +21,14 @@ record Spells (n a b c d : ℕ) : Type 0 where
   fourth : d < 10
 
 spells : (n : ℕ) → Spells n (n / 1000) (n / 100 % 10) (n / 10 % 10) (n % 10)
-spells n =
-    let two : n / 10 / 10 ≡ n / 100 = omega arith in
-    let three : n / 100 / 10 ≡ n / 1000 = omega arith in
-    record { sum = omega arith; second = omega arith; third = omega arith; fourth = omega arith }
+spells n = grind arith
 
 digits_rise : (m n a b c d e f g h : ℕ) (xs ys : List ℕ) → Spells m a b c d → Spells n e f g h → m < n
     → slice_cmp nat_cmp ((48 + a) ∷ (48 + b) ∷ (48 + c) ∷ (48 + d) ∷ xs) ((48 + e) ∷ (48 + f) ∷ (48 + g) ∷ (48 + h) ∷ ys) ≡ Less
-digits_rise m n a b c d e f g h xs ys p q l =
-    let xs-4 : List ℕ = (48 + d) ∷ xs in
-    let ys-4 : List ℕ = (48 + h) ∷ ys in
-    let xs-3 : List ℕ = (48 + c) ∷ xs-4 in
-    let ys-3 : List ℕ = (48 + g) ∷ ys-4 in
-    next_digit a e ((48 + b) ∷ xs-3) ((48 + f) ∷ ys-3) (λ k. omega arith)
-    (λ s. next_digit b f xs-3 ys-3 (λ k. omega arith)
-    (λ t. next_digit c g xs-4 ys-4 (λ k. omega arith)
-    (λ u. next_digit d h xs ys (λ k. omega arith) (λ v. absurd (omega arith)))))
+digits_rise m n a b c d e f g h xs ys p q l = grind (arith, nat_tests)
 
 pub times_rise : (m n : ℕ) (x y : Name) → m < n → Below (four_digits m ++ x) (four_digits n ++ y)
-times_rise m n x y l =
-    digits_rise m n (m / 1000) (m / 100 % 10) (m / 10 % 10) (m % 10) (n / 1000) (n / 100 % 10) (n / 10 % 10) (n % 10) x y (spells m) (spells n) l
+times_rise m n x y l = grind (arith, nat_tests)
 
 -- ---- copies
 
@@ -47,17 +36,7 @@ pub copies_rise : (m n : ℕ) (x y : Name) → m < n → Below (copy_at m x) (co
 copies_rise m n x y l = times_rise m n (64 ∷ x) (64 ∷ y) l
 
 pub copies_below : (t : ℕ) (x y : Name) → Below x y → Below (copy_at t x) (copy_at t y)
-copies_below t x y h =
-    let a = 48 + t / 1000 in
-    let b = 48 + t / 100 % 10 in
-    let c = 48 + t / 10 % 10 in
-    let d = 48 + t % 10 in
-    first_same a a (b ∷ c ∷ d ∷ 64 ∷ x) (b ∷ c ∷ d ∷ 64 ∷ y) refl
-    ∙ first_same b b (c ∷ d ∷ 64 ∷ x) (c ∷ d ∷ 64 ∷ y) refl
-    ∙ first_same c c (d ∷ 64 ∷ x) (d ∷ 64 ∷ y) refl
-    ∙ first_same d d (64 ∷ x) (64 ∷ y) refl
-    ∙ first_same 64 64 x y refl
-    ∙ h
+copies_below t x y h = grind arith
 
 -- ---- lists behind one another
 
@@ -72,10 +51,7 @@ module _ {A : Type 0} (name : A → Name) where
 
   pub Rises-append : (xs ys : List A) → Rises name xs → Rises name ys → ((x y : A) → In x xs → In y ys → Below (name x) (name y)) → Rises name (xs ++ ys)
   Rises-append [] ys h g apart = g
-  Rises-append (x ∷ xs) ys h g apart = (
-    BelowAll-append (name x) xs ys h.0 (BelowAll-from (name x) ys (λ y m. apart x y (inl refl) m)),
-    Rises-append xs ys h.1 g (λ z y m k. apart z y (inr m) k),
-  )
+  Rises-append (x ∷ xs) ys h g apart = grind (arith, BelowAll-append, BelowAll-from, Rises-append xs ys h.1 g)
 
   -- items that are made of others have their names
   module _ {B : Type 0} (make : B → A) where

@@ -19,12 +19,10 @@ module _ (seq : Sequential) (t : ℕ) where
   copy place part before = record { place = place; part = part; before = before; now = t }
 
   one : (place : ℕ) (part : Component) (before : ℕ) → before ≡ input_time seq place t → 0 < before → copies_of seq t (place, part) ≡ copy place part before ∷ []
-  one place part before is some =
-      ap (λ (b : ℕ). if nat_lt 0 b then copy place part b ∷ [] else []) (sym is) ∙ ap (λ (b : Bool). if b then copy place part before ∷ [] else []) (lt-ltb 0 before some)
+  one place part before is some = grind arith
 
   none : (place : ℕ) (part : Component) (before : ℕ) → before ≡ input_time seq place t → before ≤ 0 → copies_of seq t (place, part) ≡ []
-  none place part before is low =
-      ap (λ (b : ℕ). if nat_lt 0 b then copy place part b ∷ [] else []) (sym is) ∙ ap (λ (b : Bool). if b then copy place part before ∷ [] else []) (le-ltb 0 before low)
+  none place part before is low = grind arith
 
   -- ---- a part more
 
@@ -34,14 +32,10 @@ module _ (seq : Sequential) (t : ℕ) where
     rest = map shown (flat_map (copies_of seq t) (enumerate_from (place + 1) (drop (place + 1) parts)))
 
     next : whole ≡ done ++ (map shown (copies_of seq t (place, part)) ++ rest)
-    next =
-        inv
-        ∙ ap (λ (ps : List Component). done ++ map shown (flat_map (copies_of seq t) (enumerate_from place ps))) (drop_more parts place part lt ∙ ap (λ (p : Component). p ∷ drop (place + 1) parts) (sym is))
-        ∙ ap (λ xs. done ++ xs) (map-append shown (copies_of seq t (place, part)) (flat_map (copies_of seq t) (enumerate_from (place + 1) (drop (place + 1) parts))))
+    next = grind (arith, drop_more)
 
     pub copied : (before : ℕ) → before ≡ input_time seq place t → 0 < before → whole ≡ (done ++ shown (copy place part before) ∷ []) ++ rest
-    copied before same some =
-        next ∙ ap (λ (cs : List Copy). done ++ (map shown cs ++ rest)) (one place part before same some) ∙ sym (append_assoc done (shown (copy place part before) ∷ []) rest)
+    copied before same some = grind (arith, next, append_assoc)
 
     pub left_out : (before : ℕ) → before ≡ input_time seq place t → before ≤ 0 → whole ≡ done ++ rest
     left_out before same low = next ∙ ap (λ (cs : List Copy). done ++ (map shown cs ++ rest)) (none place part before same low)
@@ -50,26 +44,15 @@ module _ (seq : Sequential) (t : ℕ) where
 
 module _ (seq : Sequential) where
   length-one : (t : ℕ) (p : ℕ × Component) → 2 ≤ t → length (copies_of seq t p) ≡ 1
-  length-one t p later = by (is_delayed seq p.0)
-    where
-      by : (b : Bool) → length (if nat_lt 0 (if b then t - 1 else t) then copy seq t p.0 p.1 (if b then t - 1 else t) ∷ [] else []) ≡ 1
-      by true = ap (λ (c : Bool). length (if c then copy seq t p.0 p.1 (t - 1) ∷ [] else [])) (lt-ltb 0 (t - 1) (omega arith))
-      by false = ap (λ (c : Bool). length (if c then copy seq t p.0 p.1 t ∷ [] else [])) (lt-ltb 0 t (omega arith))
+  length-one t p later = grind arith
 
   length-later : (t a : ℕ) (parts : List Component) → 2 ≤ t → length (flat_map (copies_of seq t) (enumerate_from a parts)) ≡ length parts
   length-later t a [] later = refl
-  length-later t a (p ∷ parts) later =
-      omega (arith, length-append (copies_of seq t (a, p)) (flat_map (copies_of seq t) (enumerate_from (a + 1) parts)), length-one t (a, p) later, length-later t (a + 1) parts later)
+  length-later t a (p ∷ parts) later = grind (arith, length-later t (a + 1) parts later)
 
   length-times : (a n : ℕ) → 2 ≤ a → length (flat_map (copies_for seq) (range_with_len a n)) ≡ n * length seq.device.parts
   length-times a zero later = omega arith
-  length-times a (suc n) later =
-      omega (
-        arith,
-        length-append (copies_for seq a) (flat_map (copies_for seq) (range_with_len (a + 1) n)),
-        length-later a 0 seq.device.parts later,
-        length-times (a + 1) n (omega arith),
-      )
+  length-times a (suc n) later = grind (arith, length-append, length-later, length-times (a + 1) n)
 
   -- at the first time there is a copy of each part that is not delayed
   length-first : (delays : List Bool) (a : ℕ) (parts : List Component) → length delays ≡ length parts
@@ -111,8 +94,7 @@ module _ (seq : Sequential) where
       let at : (k : ℕ) → k ≡ 0 + k = λ k. omega arith in
       let first = length-first delays 0 seq.device.parts many (λ k lt. said k lt ∙ ap (is_delayed seq) (at k)) in
       let counted = length-filter not delays in
-      ap (λ m. count_by not delays + m * length seq.device.parts) less
-      ∙ omega (arith, length-append (copies_for seq 1) (flat_map (copies_for seq) (range_with_len 2 n)), first, counted, length-times 2 n (omega arith))
+      grind (arith, length-append, length-times)
 
 -- ---- a time more
 
@@ -123,23 +105,14 @@ time_more f n =
 
 module _ (seq : Sequential) (time : ℕ) (some : 1 ≤ time) where
   more : {A : Type 0} (f : ℕ → List A) (done new : List A) → done ≡ flat_map f (range_with_len 1 (time - 1)) → new ≡ done ++ f time → new ≡ flat_map f (range_with_len 1 (time + 1 - 1))
-  more f done new so_far added =
-      let now : time ≡ (time - 1) + 1 = omega arith in
-      let after : (time - 1) + 1 ≡ time + 1 - 1 = omega arith in
-      added ∙ (λ i. so_far i ++ f (now i)) ∙ time_more f (time - 1) ∙ ap (λ n. flat_map f (range_with_len 1 n)) after
+  more f done new so_far added = grind (arith, time_more)
 
   shown_more : {B : Type 0} (shown : Copy → B) (done new : List B) → done ≡ map shown (copies seq (time - 1)) → new ≡ done ++ map shown (copies_for seq time) → new ≡ map shown (copies seq (time + 1 - 1))
-  shown_more shown done new so_far added =
-      added ∙ ap (λ xs. xs ++ map shown (copies_for seq time)) so_far ∙ sym (map-append shown (copies seq (time - 1)) (copies_for seq time))
-      ∙ ap (map shown) (more (copies_for seq) (copies seq (time - 1)) (copies seq (time - 1) ++ copies_for seq time) refl refl)
+  shown_more shown done new so_far added = grind (arith, map-append, more)
 
   pub copies_more : (parts new_parts : List Component) (places new_places : List ℕ) (wires new_wires : List Name) → AreCopies seq (time - 1) parts places wires
       → new_parts ≡ parts ++ map (given_copy (length seq.device.wires)) (copies_for seq time)
       → new_places ≡ places ++ map (λ (c : Copy). c.place) (copies_for seq time)
       → new_wires ≡ wires ++ map (wire_at time) seq.device.wires
       → AreCopies seq (time + 1 - 1) new_parts new_places new_wires
-  copies_more parts new_parts places new_places wires new_wires are p q w = record {
-    parts_are = shown_more (given_copy (length seq.device.wires)) parts new_parts are.parts_are p;
-    places_are = shown_more (λ (c : Copy). c.place) places new_places are.places_are q;
-    wires_are = more (λ t. map (wire_at t) seq.device.wires) wires new_wires are.wires_are w;
-  }
+  copies_more parts new_parts places new_places wires new_wires are p q w = grind (arith, shown_more, more)

@@ -13,13 +13,7 @@ other_more fronts parts other = append_assoc fronts (range_with_len (parts + 1) 
 
 module _ (parts vars : ℕ) (places : List ℕ) (many : length places ≤ vars) where
   pub length-shared : length (shared_variables parts places vars) ≡ vars
-  length-shared =
-      omega (
-        arith,
-        length-append (map (λ place. place + 1) places) (range_with_len (parts + 1) (vars - length places)),
-        length-map places (λ place. place + 1),
-        length-range_with_len (parts + 1) (vars - length places),
-      )
+  length-shared = grind (arith, length-append, length-map, length-range_with_len)
 
   module _ (within : All (λ place. place < parts) places) (k d : ℕ) (lt : k < vars) where
     pub variable-within : (1 ≤ get_or (shared_variables parts places vars) k d) × (get_or (shared_variables parts places vars) k d ≤ parts + (vars - length places))
@@ -29,9 +23,5 @@ module _ (parts vars : ℕ) (places : List ℕ) (many : length places ≤ vars) 
           ∙ get_or-map (λ place. place + 1) places k 0 d l in
           (omega (arith, here), omega (arith, here, within k 0 l))
           )
-      | inr g ↦ (
-          let here = get_or-append_right (map (λ place. place + 1) places) (range_with_len (parts + 1) (vars - length places)) (length places) k d (length-map places (λ place. place + 1)) g
-          ∙ get_or-range_with_len (parts + 1) (vars - length places) (k - length places) d (omega arith) in
-          (omega (arith, here), omega (arith, here))
-          )
+      | inr g ↦ grind (arith, get_or-append_right, length-map, get_or-range_with_len)
     ]

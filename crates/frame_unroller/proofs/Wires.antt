@@ -25,19 +25,14 @@ abbrev last_five : Name → Name
 last_five n = drop (length n - 5) n
 
 tells_time : (t : ℕ) (w : Name) → last_five (wire_at t w) ≡ 64 ∷ four_digits t
-tells_time t w =
-    let long : length (wire_at t w) - 5 ≡ length w = omega (arith, length-append w (64 ∷ four_digits t)) in
-    ap (λ n. drop n (wire_at t w)) long ∙ drop_at w (64 ∷ four_digits t) (length w) refl
+tells_time t w = grind (arith, length-append, drop_at)
 
 tells_wire : (t : ℕ) (v w : Name) → wire_at t v ≡ wire_at t w → v ≡ w
 tells_wire t v w e = append_cancel_right v w (64 ∷ four_digits t) e
 
 -- digits of a lower time are others
 times_differ : (t u : ℕ) → t < u → 64 ∷ four_digits t ≡ 64 ∷ four_digits u → ⊥
-times_differ t u lt e =
-    let same : four_digits t ≡ four_digits u = ap (λ n. drop 1 n) e in
-    let below : Below (four_digits t) (four_digits u) = times_rise t u [] [] lt in
-    Below-irreflexive (four_digits u) (subst (λ (n : Name). Below n (four_digits u)) same below)
+times_differ t u lt e = grind arith
 
 module _ (wires : List Name) where
   pub wires_differ : (a n : ℕ) → Rises itself wires → Different (flat_map (λ t. map (wire_at t) wires) (range_with_len a n))
@@ -65,18 +60,12 @@ module _ (wires : List Name) where
     given = flat_map (λ t. map (wire_at t) wires) (range_with_len 1 frames)
 
     given_at : (w : ℕ) → w < length wires → get_or given (position_at (length wires) t w) [] ≡ wire_at t (get_or wires w [])
-    given_at w lt =
-        let time : 1 + (t - 1) ≡ t = omega arith in
-        get_or-chunks (λ t. map (wire_at t) wires) (length wires) each_long 1 frames (t - 1) w [] (omega arith) lt
-        ∙ ap (λ u. get_or (map (wire_at u) wires) w []) time
-        ∙ get_or-map (wire_at t) wires w [] [] lt
+    given_at w lt = grind (arith, get_or-chunks, each_long, get_or-map)
 
     pub positions-named : (ports : List ℕ) → list_all (λ port. nat_lt port (length wires)) ports ≡ true
         → map (name_at given) (map (position_at (length wires) t) ports) ≡ wires_at wires t ports
     positions-named [] h = refl
-    positions-named (p ∷ ports) h =
-        let two = and_parts (nat_lt p (length wires)) (list_all (λ port. nat_lt port (length wires)) ports) h in
-        λ i. given_at p (ltb-true p (length wires) two.0) i ∷ positions-named ports two.1 i
+    positions-named (p ∷ ports) h = grind (arith, given_at, positions-named ports)
 
     pub positions-within : (ports : List ℕ) → list_all (λ port. nat_lt port (length wires)) ports ≡ true
         → list_all (λ port. nat_lt port (length given)) (map (position_at (length wires) t) ports) ≡ true

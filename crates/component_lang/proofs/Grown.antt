@@ -1,8 +1,8 @@
 -- What stays sound where types, blocks and wires are added.
-use Rattle.std.proofs.Common.{◌≡◌, ℕ, ◌≤◌, true, false, not, List, [], ◌∷◌, ◌++◌, length, Option, Some, None, refl, sym, ap, ◌∙◌, append_assoc, append-nil, length-append, arith}
-use Rattle.std.specs.Prelude.{◌&&◌, ◌||◌, nat_le, nat_lt, slice_get}
+use Rattle.std.proofs.Common.{◌≡◌, ℕ, ◌≤◌, true, false, not, List, [], ◌∷◌, ◌++◌, length, refl, sym, ap, ◌∙◌, append_assoc, append-nil, length-append, arith}
+use Rattle.std.specs.Prelude.{◌||◌, nat_lt}
 use Rattle.std.specs.List.{list_any, list_all}
-use Rattle.std.proofs.lemmas.Bool.{and_parts, and_from, or_parts, or_from, not-true, not_from_false, leb-true, le-leb, ltb-true, lt-ltb}
+use Rattle.std.proofs.lemmas.Bool.{and_parts, and_from, or_parts, or_from, ltb-true, lt-ltb}
 use Rattle.std.proofs.lemmas.List.{map-append}
 use Rattle.std.proofs.lemmas.List.Folds.{list_any-append, list_all-append}
 use Rattle.text_rules.specs.Names.{Name, same_name, is_among}
@@ -10,19 +10,12 @@ use Rattle.text_rules.proofs.PartLemmas.{passes_too}
 use Rattle.state_rules.proofs.Lists.{slice_get-before}
 use Rattle.component_lang.proofs.NameLists.{same_name-sym, are_distinct-cons}
 use Rattle.component_lang.specs.declared.design.UsedKind.{UsedKind}
-use Rattle.component_lang.specs.declared.design.UsedKind.TheVariants.{Gate, Shape as OfShape, Block as OfBlock}
 use Rattle.component_lang.specs.declared.design.Used.{Used}
 use Rattle.component_lang.specs.declared.design.Shape.{Shape}
 use Rattle.component_lang.specs.declared.design.Block.{Block}
-use Rattle.component_lang.specs.Designs.{is_plain_name, are_distinct, used_names, shape_takes, block_takes, takes_args, is_used, is_block, are_blocks}
+use Rattle.component_lang.specs.Designs.{is_plain_name, are_distinct, used_names, takes_args, is_used, is_block, are_blocks}
 
 -- ---- more types, and more blocks above
-
-shape_more : (o p : Option Shape) (args : ℕ) → ((shape : Shape) → o ≡ Some shape → p ≡ Some shape) → shape_takes o args ≡ true → shape_takes p args ≡ true
-shape_more o p args more h = grind arith
-
-block_more : (o p : Option Block) (args : ℕ) → ((block : Block) → o ≡ Some block → p ≡ Some block) → block_takes o args ≡ true → block_takes p args ≡ true
-block_more o p args more h = grind arith
 
 takes_more : (types types' : List Shape) (above above' : List Block) (kind : UsedKind) (args : ℕ)
     → takes_args types above kind args ≡ true → takes_args (types ++ types') (above ++ above') kind args ≡ true

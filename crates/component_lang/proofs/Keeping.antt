@@ -1,26 +1,23 @@
 -- Each line keeps a reader sound, and adds no more to it than it has words.
-use Rattle.std.proofs.Common.{◌≡◌, ℕ, ◌+◌, ◌-◌, ◌^◌, ◌<◌, ◌≤◌, Bool, true, false, not, List, [], ◌∷◌, ◌++◌, map, length, codes, Option, Some, None, Result, Ok, Err, is_some, unwrap_or, refl, sym, ap, ◌∙◌, length-append, length-take, arith}
-use Rattle.std.specs.Prelude.{◌==◌, nat_le, nat_lt, ◌&&◌, if◌then◌else◌}
+use Rattle.std.proofs.Common.{◌≡◌, ℕ, ◌+◌, ◌-◌, ◌^◌, ◌<◌, ◌≤◌, Bool, true, false, not, List, [], ◌∷◌, map, length, codes, Option, Some, None, Result, Ok, Err, is_some, unwrap_or, refl, length-append, length-take, arith}
+use Rattle.std.specs.Prelude.{◌==◌, nat_lt, ◌&&◌, if◌then◌else◌}
 use Rattle.std.specs.List.{list_all, prefix_len}
-use Rattle.std.proofs.lemmas.Bool.{and_parts, and_from, not-true, le-leb, ltb-true, lt-ltb, eqb-true}
+use Rattle.std.proofs.lemmas.Bool.{and_parts, and_from, ltb-true, lt-ltb}
 use Rattle.std.proofs.lemmas.Nat.{pow_pos}
 use Rattle.text_rules.specs.Names.{Name, same_name, is_among}
 use Rattle.text_rules.specs.TextLines.{uncommented}
-use Rattle.text_rules.specs.Numbers.{value_behind, are_digits, has_leading_zero, number_in}
 use Rattle.text_rules.specs.Tokens.{words}
 use Rattle.text_rules.proofs.TokenLemmas.{length-tokens}
 use Rattle.device_model.specs.TruthTable.{has_few_ports, is_cost}
 use Rattle.device_model.specs.Building.{place_in}
-use Rattle.device_model.specs.declared.limits.TheConstants.{COST_LIMIT}
 use Rattle.component_lang.specs.declared.design.UsedKind.{UsedKind}
-use Rattle.component_lang.specs.declared.design.UsedKind.TheVariants.{Gate, Shape as OfShape, Block as OfBlock}
 use Rattle.component_lang.specs.declared.design.Block.{Block}
 use Rattle.component_lang.specs.declared.fault.LangFault.{LangFault}
 use Rattle.component_lang.specs.declared.fault.LangFault.TheVariants.{Line as NotHere, Name as NoName, Twice, Ports, Row, Cost}
-use Rattle.component_lang.specs.Designs.{is_plain_name, are_distinct, used_names, takes_args, is_block, are_blocks}
-use Rattle.component_lang.specs.Kinds.{OpenType, Section, Outside, InType, InBlock, AfterTop, Reader, kind_named}
-use Rattle.component_lang.specs.TypeRows.{is_row, row_in, with_row, cost_in, shape_of}
-use Rattle.component_lang.specs.DesignLines.{at, is_new, type_line, block_line, top_of_kind, are_new, wire_line, part_of, with_part, part_line, outside, in_type, in_block, at_section, after_words, after_line}
+use Rattle.component_lang.specs.Designs.{is_plain_name, used_names, takes_args, is_block, are_blocks}
+use Rattle.component_lang.specs.Kinds.{OpenType, Section, InType, Reader, kind_named}
+use Rattle.component_lang.specs.TypeRows.{is_row, row_in, with_row, cost_in}
+use Rattle.component_lang.specs.DesignLines.{at, type_line, block_line, top_of_kind, wire_line, part_of, with_part, part_line, outside, in_type, in_block, at_section, after_words, after_line}
 use Rattle.component_lang.specs.inner.Sound.{is_free, is_sound_type, is_sound_block, is_sound_section, is_sound, open_wires, reader_size}
 use Rattle.component_lang.proofs.RowSets.{row_in-fits, with_row-fits}
 use Rattle.component_lang.proofs.NameLists.{among_position}

@@ -1,5 +1,5 @@
 -- What the lines of types and blocks do, by the tests that the code makes.
-use Rattle.std.proofs.Common.{◌≡◌, ℕ, Bool, true, false, List, [], ◌∷◌, ◌++◌, length, codes, Option, Some, None, Result, Ok, Err, Bor, is_some, refl, ap, ◌∙◌, arith}
+use Rattle.std.proofs.Common.{◌≡◌, ℕ, Bool, true, false, List, [], ◌∷◌, length, codes, Option, None, Result, Ok, Err, Bor, is_some, refl, ap, ◌∙◌, arith}
 use Rattle.std.specs.Prelude.{if◌then◌else◌}
 use Rattle.std.specs.List.{list_all}
 use Rattle.std.specs.Iterator.{YieldsFirstBy}
@@ -12,11 +12,11 @@ use Rattle.component_lang.specs.declared.design.Used.{Used}
 use Rattle.component_lang.specs.declared.design.Block.{Block}
 use Rattle.component_lang.specs.declared.fault.LangFault.{LangFault}
 use Rattle.component_lang.specs.declared.fault.LangFault.TheVariants.{Twice, Ports}
-use Rattle.component_lang.specs.Designs.{is_plain_name, used_names, takes_args}
+use Rattle.component_lang.specs.Designs.{is_plain_name, used_names}
 use Rattle.component_lang.specs.Kinds.{OpenType, Reader, InType, InBlock, kind_named}
-use Rattle.component_lang.specs.DesignLines.{at, is_new, type_line, block_line, ok_line, bad_line, cost_line, are_new, wire_line, places_in, part_of, with_part, part_line, outside, in_type, in_block}
+use Rattle.component_lang.specs.DesignLines.{at, is_new, type_line, block_line, ok_line, bad_line, cost_line, wire_line, part_of, with_part, part_line, outside, in_type, in_block}
 use Rattle.component_lang.specs.inner.Words.{new_ports, places_among}
-use Rattle.component_lang.proofs.NameLists.{if_plain, if_new, more_names, places_among-ok}
+use Rattle.component_lang.proofs.NameLists.{if_plain, if_new, more_names}
 
 -- ---- words
 
@@ -42,9 +42,6 @@ ports_got p n ports got g = grind arith
 
 pub type_line-ports : (reader : Reader) (name : Name) (ports got : List Name) → new_ports reader name ports ≡ Ok got → type_line reader name ports ≡ type_with reader name got
 type_line-ports reader name ports got h = grind arith
-
-ports_fault : {A : Type 0} (p n : Bool) (ports : List Name) (r : Result A LangFault) (what : LangFault) → if_plain p (if_new n (Ok ports)) ≡ Err what → if_plain p (if_new n r) ≡ Err what
-ports_fault p n ports r what g = grind arith
 
 -- ---- blocks
 

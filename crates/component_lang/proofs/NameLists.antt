@@ -1,24 +1,21 @@
 -- Lists of names as the code keeps them.
-use Rattle.std.proofs.Common.{◌≡◌, ℕ, suc, ◌+◌, ◌≤◌, Bool, true, false, cond, not, List, [], ◌∷◌, ◌++◌, map, length, Option, Some, None, Result, Ok, Err, Bor, refl, sym, ap, ◌∙◌, append_assoc, length-append, arith}
+use Rattle.std.proofs.Common.{◌≡◌, ℕ, ◌+◌, ◌≤◌, Bool, true, false, not, List, [], ◌∷◌, ◌++◌, map, length, Option, Some, None, Result, Ok, Err, Bor, refl, sym, ◌∙◌, append_assoc, length-append, arith}
 use Rattle.std.specs.Prelude.{◌&&◌, ◌||◌, position, nat_lt, if◌then◌else◌}
 use Rattle.std.specs.List.{list_any, list_all, position_or_len}
-use Rattle.std.proofs.lemmas.Bool.{lt-ltb}
-use Rattle.std.proofs.lemmas.Bool.Decides.{nat_tests, same_from_decides}
-use Rattle.std.proofs.lemmas.Option.{cond_some}
+use Rattle.std.proofs.lemmas.Bool.Decides.{same_from_decides}
 use Rattle.std.proofs.lemmas.List.{map-append}
-use Rattle.std.proofs.Math.Bool.{and-false, and_assoc}
 use Rattle.std.proofs.lemmas.List.Folds.{list_any-append}
 use Rattle.indexmap.specs.IndexSet.{insert_key}
 use Rattle.text_rules.specs.Names.{Name, same_name, is_among}
 use Rattle.text_rules.proofs.NameLemmas.{same_name-Decides, same_if_equal, equal_if_same}
 use Rattle.state_rules.proofs.Lists.{list_any-map}
-use Rattle.device_model.specs.Building.{place_in, repeated}
+use Rattle.device_model.specs.Building.{place_in}
 use Rattle.device_model.proofs.Making.{none_given}
 use Rattle.component_lang.specs.declared.fault.LangFault.{LangFault}
 use Rattle.component_lang.specs.declared.fault.LangFault.TheVariants.{Name as NoName, Twice}
-use Rattle.component_lang.specs.Designs.{is_plain_name, is_empty, are_distinct}
-use Rattle.component_lang.specs.DesignLines.{are_new, places_in}
-use Rattle.component_lang.specs.inner.Words.{with_name, places_among}
+use Rattle.component_lang.specs.Designs.{is_plain_name, are_distinct}
+use Rattle.component_lang.specs.DesignLines.{are_new}
+use Rattle.component_lang.specs.inner.Words.{with_name}
 
 abbrev pub bytes : Bor Name → Name
 bytes k = k.now
@@ -111,10 +108,6 @@ more_places-unknown known done wires n names plain h = grind (arith, place_missi
 pub keys-more : {A : Type 0} (name : A → Name) (ks more : List (Bor Name)) (k : Bor Name) (xs ys : List A) (x : A) → map bytes ks ≡ map name xs → more ≡ insert_key same_key ks k
     → is_among (map name xs) k.now ≡ false → name x ≡ k.now → ys ≡ xs ++ x ∷ [] → map bytes more ≡ map name ys
 keys-more name ks more k xs ys x before added free is behind = grind (arith, keys-insert, map-append)
-
--- what the places of names say of them
-pub places_among-ok : (words wires names : List Name) (found : Option (List ℕ)) → places_among words wires names ≡ Ok found → (list_all is_plain_name words ≡ true) × (places_in wires names ≡ found)
-places_among-ok words wires names found h = grind arith
 
 pub inserted-among : (ks : List (Bor Name)) (k : Bor Name) (names : List Name) {new old : Bool} → map bytes ks ≡ names → new ≡ not (list_any (same_key k) ks) → new ≡ not old → is_among names k.now ≡ old
 inserted-among ks k names {new} {old} same is e = grind (arith, list_any-map)

@@ -1,12 +1,10 @@
 -- What the names of types and blocks mean.
-use Rattle.std.proofs.Common.{◌≡◌, ℕ, suc, ◌+◌, ◌<◌, Bool, true, false, cond, not, List, [], ◌∷◌, ◌++◌, map, length, Option, Some, None, is_some, refl, sym, ap, ◌∙◌, zero-add, add-zero, add_assoc, arith}
-use Rattle.std.specs.Prelude.{◌||◌, position, nat_lt}
-use Rattle.std.specs.List.{list_any, list_all, position_or_len}
+use Rattle.std.proofs.Common.{◌≡◌, ℕ, ◌+◌, ◌<◌, Bool, true, false, not, List, [], ◌∷◌, ◌++◌, map, length, Option, Some, None, is_some, refl, ap, ◌∙◌, arith}
+use Rattle.std.specs.Prelude.{position}
+use Rattle.std.specs.List.{list_any}
 use Rattle.std.specs.Map.{lookup}
 use Rattle.std.specs.Option.{option_map}
-use Rattle.std.proofs.lemmas.Bool.{and_parts, lt-ltb, ltb-true}
 use Rattle.std.proofs.lemmas.List.{length-map}
-use Rattle.std.proofs.lemmas.Bool.Decides.{nat_tests}
 use Rattle.std.proofs.lemmas.Map.Made.{lookup-map_values}
 use Rattle.text_rules.specs.Names.{Name, same_name, is_among}
 use Rattle.device_model.specs.Gates.{gate_words, gate_named}
@@ -83,12 +81,6 @@ kind_named-block reader name o g t b = grind (arith, lookup-types, kind_named-sp
 
 -- ---- free names
 
-none_of : (o : Option UsedKind) → not (is_some o) ≡ true → o ≡ None
-none_of o h = grind arith
-
-none_first : (a b : Option UsedKind) → first_some a b ≡ None → (a ≡ None) × (b ≡ None)
-none_first a b h = grind arith
-
 pub record IsFree (reader : Reader) (name : Name) : Type 0 where
   pub no_type : is_among (type_names reader.types) name ≡ false
   pub no_block : is_among (block_names reader.blocks) name ≡ false
@@ -103,16 +95,6 @@ abbrev is_gate : UsedKind → Bool
 is_gate (Gate gate) = true
 is_gate (OfShape place) = false
 is_gate (OfBlock place) = false
-
-gate_found : (p : Name → Bool) (es : Kinds) (kind : UsedKind) → list_all (λ (e : List ℕ × UsedKind). is_gate e.1) es ≡ true → lookup p es ≡ Some kind → is_gate kind ≡ true
-gate_found p [] kind h e = cc
-gate_found p (x ∷ es) kind h e = grind (arith, gate_found p es kind)
-
-no_shape : (o : Option ℕ) (place : ℕ) → option_map OfShape o ≡ Some (OfBlock place) → ⊥
-no_shape o place e = grind arith
-
-block_within : (p : Name → Bool) (names : List Name) (place : ℕ) → option_map OfBlock (position p names) ≡ Some (OfBlock place) → place < length names
-block_within p names place e = grind arith
 
 -- the place of a block that a name has is that of a block
 pub kind_named-place : (reader : Reader) (name : Name) (place : ℕ) → kind_named reader name ≡ Some (OfBlock place) → place < length reader.blocks

@@ -1,14 +1,13 @@
 -- Faults that a callee gave, handed on.
-use Rattle.std.proofs.Common.{◌≡◌, Bool, true, false, not, is_some, Option, Some, None, List, [], ◌∷◌, Result, Ok, Err, refl, sym, ap, subst, ◌∙◌, arith}
-use Rattle.std.specs.Prelude.{◌&&◌, if◌then◌else◌}
-use Rattle.std.specs.List.{list_any, list_all}
+use Rattle.std.proofs.Common.{◌≡◌, Bool, true, false, Option, List, [], ◌∷◌, Result, Ok, Err, refl, sym, subst, arith}
+use Rattle.std.specs.Prelude.{if◌then◌else◌}
+use Rattle.std.specs.List.{list_any}
 use Rattle.text_rules.specs.Expected.{IsExpectedFault}
 use Rattle.text_rules.specs.Names.{Name, is_among}
 use Rattle.component_lang.specs.declared.fault.LangFault.{LangFault}
 use Rattle.component_lang.specs.declared.fault.LangFault.TheVariants.{Name as NoName, Twice}
-use Rattle.component_lang.specs.Designs.{is_plain_name, are_distinct}
-use Rattle.component_lang.specs.Kinds.{Reader, kind_named}
-use Rattle.component_lang.specs.DesignLines.{is_new}
+use Rattle.component_lang.specs.Designs.{is_plain_name}
+use Rattle.component_lang.specs.Kinds.{Reader}
 use Rattle.component_lang.specs.inner.Words.{with_names, new_ports}
 
 -- a fault of a part of what is expected is one of the whole

@@ -1,5 +1,5 @@
 -- What a caller cites of lists in the order of names, and of the devices that they make.
-use Rattle.std.proofs.Common.{◌≡◌, ℕ, ◌<◌, true, List, [], length, get_or, Ok, refl, sym, subst, ◌∙◌, arith}
+use Rattle.std.proofs.Common.{◌≡◌, ℕ, ◌<◌, true, List, [], length, get_or, Ok, sym, subst, arith}
 use Rattle.std.proofs.lemmas.List.Sums.{passes_at_first}
 use Rattle.text_rules.specs.Expected.{IsExpectedFault}
 use Rattle.text_rules.specs.Names.{Name, same_name, is_among, names_rise}
@@ -7,14 +7,14 @@ use Rattle.text_rules.proofs.NameLemmas.{equal_if_same}
 use Rattle.state_rules.proofs.Members.{In}
 use Rattle.device_model.specs.declared.component.Component.{Component}
 use Rattle.device_model.specs.declared.building.BuildError.{BuildError}
-use Rattle.device_model.specs.declared.building.BuildError.TheVariants.{TooMany, TwoParts, TwoWires, Arity, NoWire, Memory}
+use Rattle.device_model.specs.declared.building.BuildError.TheVariants.{Memory}
 use Rattle.device_model.specs.TruthTable.{TruthTable}
 use Rattle.device_model.specs.Order.{sorted_distinct}
 use Rattle.device_model.specs.Devices.{Device, IsDevice}
 use Rattle.device_model.specs.Building.{place_in, device_of, built, reason}
 use Rattle.device_model.proofs.Ordered.{Rises-sorted_distinct, among_sorted_distinct, sorted_distinct-has, sorted_distinct-is}
 use Rattle.device_model.proofs.Sorting.{itself, Rises-from_names_rise}
-use Rattle.device_model.proofs.Repeats.{is_among-among, among_from_test, count}
+use Rattle.device_model.proofs.Repeats.{is_among-among, among_from_test}
 use Rattle.device_model.proofs.Making.{position_or_len-among}
 use Rattle.device_model.proofs.Placing.{place_in-rising}
 

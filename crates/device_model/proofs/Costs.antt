@@ -1,7 +1,6 @@
 -- What a failure of each part of a device costs.
-use Rattle.std.proofs.Common.{◌≡◌, ℕ, ◌<◌, inl, inr, true, List, length, get_or, refl, sym, ap, subst, ◌∙◌, arith}
+use Rattle.std.proofs.Common.{◌≡◌, ℕ, ◌<◌, true, List, length, get_or, ap, subst, ◌∙◌, arith}
 use Rattle.std.specs.Prelude.{slice_get, slice_index}
-use Rattle.std.proofs.lemmas.Bool.{false≢true}
 use Rattle.std.proofs.lemmas.List.{get_or-map}
 use Rattle.std.proofs.lemmas.Option.{slice_get_cases, slice_get_read}
 use Rattle.state_rules.proofs.Members.{In-at}
@@ -9,7 +8,7 @@ use Rattle.device_model.specs.declared.gates.Rule.TheVariants.{Table}
 use Rattle.device_model.specs.declared.component.Component.{Component}
 use Rattle.device_model.specs.TruthTable.{TruthTable}
 use Rattle.device_model.specs.Gates.{rule}
-use Rattle.device_model.specs.Devices.{Device, IsDevice, rows_take, takes_ports, has_arity, rule_cost, table_cost, part_costs}
+use Rattle.device_model.specs.Devices.{Device, IsDevice, rows_take, takes_ports, has_arity, rule_cost, part_costs}
 use Rattle.device_model.proofs.Making.{list_all-among}
 
 table_there : (tables : List TruthTable) (t ports : ℕ) → rows_take (slice_get tables t) ports ≡ true → t < length tables

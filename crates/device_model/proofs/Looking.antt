@@ -1,18 +1,18 @@
 -- What a binary search by name finds among items whose names rise.
-use Rattle.std.proofs.Common.{◌≡◌, ℕ, ◌+◌, ◌<◌, inl, inr, false, List, [], ◌∷◌, map, length, get_or, Option, Some, None, Result, Ok, Err, refl, sym, ap, ◌∙◌, arith}
+use Rattle.std.proofs.Common.{◌≡◌, ℕ, ◌<◌, inl, inr, false, List, [], ◌∷◌, map, length, get_or, Some, None, Result, Ok, Err, refl, sym, ap, ◌∙◌, arith}
 use Rattle.std.specs.Ordering.{nat_cmp, ordering_index}
+use Rattle.std.specs.Result.{result_ok}
 use Rattle.std.specs.declared.cmp.Ordering.{Ordering}
 use Rattle.std.specs.Cmp.Lexicographic.{slice_cmp}
 use Rattle.std.specs.List.{position_or_len}
 use Rattle.std.specs.List.Sorted.{IsNonDecreasingBy, IsSearchInRange, IsBinarySearchResult}
-use Rattle.std.proofs.lemmas.Bool.{lt-ltb, le-ltb, cases_lt}
+use Rattle.std.proofs.lemmas.Bool.{le-ltb, cases_lt}
 use Rattle.std.proofs.lemmas.Cmp.{nat_list_cmp_total}
 use Rattle.std.proofs.lemmas.List.{length-map, get_or-map}
 use Rattle.std.proofs.lemmas.List.Sums.{position_or_len_is}
-use Rattle.std.proofs.lemmas.List.Sorted.{searchable_from_sorted}
 use Rattle.text_rules.specs.Names.{Name, same_name}
 use Rattle.device_model.specs.Devices.{place_of}
-use Rattle.device_model.proofs.Naming.{same_if_tied, above_if_greater, same_name-below, same_name-above, name_below-above}
+use Rattle.device_model.proofs.Naming.{same_if_tied, above_if_greater, same_name-below, same_name-above}
 use Rattle.device_model.proofs.Ordered.{Rises}
 use Rattle.device_model.proofs.Sorting.{itself, Rises-map}
 use Rattle.device_model.proofs.Placing.{Rises-get_or, place_in-rising}
@@ -25,11 +25,6 @@ no_place ns wanted other =
     let past : position_or_len (same_name wanted) ns ≡ length ns = position_or_len_is (same_name wanted) ns (length ns) [] (omega arith) other (λ l. absurd (omega arith)) in
     rw (past, le-ltb (length ns) (length ns) (omega arith)) refl
 
--- where a search ends, if it finds the item
-abbrev pub found_place : Result ℕ ℕ → Option ℕ
-found_place (Ok place) = Some place
-found_place (Err place) = None
-
 module _ {A : Type 0} (name : A → Name) where
   abbrev pub order : Name → A → Ordering
   order wanted x = slice_cmp nat_cmp (name x) wanted
@@ -38,7 +33,7 @@ module _ {A : Type 0} (name : A → Name) where
   searchable xs wanted up = grind (arith, nat_list_cmp_total, Rises-get_or)
 
   pub looked_up : (xs : List A) (wanted : Name) (r : Result ℕ ℕ) → Rises name xs → IsSearchInRange r (length xs) → IsBinarySearchResult (order wanted) xs r
-      → found_place r ≡ place_of wanted (map name xs)
+      → result_ok r ≡ place_of wanted (map name xs)
   looked_up [] wanted (Ok place) up l tied = absurd (omega (arith, l))
   looked_up [] wanted (Err place) up l parted = refl
   looked_up (x ∷ xs) wanted (Ok place) up l tied =

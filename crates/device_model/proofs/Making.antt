@@ -1,8 +1,8 @@
 -- The device that sorted parts and wires make: that it is one, and that it is the one of the parts and wires as they were given.
-use Rattle.std.proofs.Common.{◌≡◌, ℕ, ◌+◌, ◌<◌, ◌≤◌, inl, inr, Bool, true, false, cond, not, nat_lt, List, [], ◌∷◌, map, length, get_or, Some, None, refl, sym, ap, subst, ◌∙◌, arith}
+use Rattle.std.proofs.Common.{◌≡◌, ℕ, ◌+◌, ◌<◌, ◌≤◌, inl, inr, Bool, true, false, cond, not, nat_lt, List, [], ◌∷◌, map, length, get_or, Some, None, refl, ap, subst, ◌∙◌, arith}
 use Rattle.std.specs.Prelude.{position}
 use Rattle.std.specs.List.{list_all, position_or_len}
-use Rattle.std.proofs.lemmas.Bool.{not-false, ltb-false, ltb-true, lt-ltb, and_parts, and_from}
+use Rattle.std.proofs.lemmas.Bool.{ltb-true, lt-ltb, and_parts, and_from}
 use Rattle.std.proofs.lemmas.List.{length-map}
 use Rattle.std.proofs.lemmas.List.Sums.{fails_before_first}
 use Rattle.std.proofs.lemmas.List.Folds.{list_all-map}
@@ -12,11 +12,9 @@ use Rattle.state_rules.proofs.Members.{In, In-at}
 use Rattle.device_model.specs.declared.component.Component.{Component}
 use Rattle.device_model.specs.TruthTable.{TruthTable}
 use Rattle.device_model.specs.Order.{placed, sorted_distinct}
-use Rattle.device_model.specs.Gates.{rule}
-use Rattle.device_model.specs.Devices.{IsDevice, part_names, takes_ports, has_arity, has_wires}
+use Rattle.device_model.specs.Devices.{IsDevice, has_arity, has_wires}
 use Rattle.device_model.specs.Building.{place_in, renumbered, device_of}
-use Rattle.device_model.proofs.Naming.{same, below, above, compared}
-use Rattle.device_model.proofs.Ordered.{Rises-sorted_distinct, among_sorted_distinct, sorted_distinct-has, placed-same, placed-below, placed-above}
+use Rattle.device_model.proofs.Ordered.{Rises-sorted_distinct, among_sorted_distinct, sorted_distinct-has}
 use Rattle.device_model.proofs.Sorting.{itself, Contains-from_among, Rises-map, names_rise-Rises}
 
 -- ---- tests of each item
@@ -92,9 +90,6 @@ renumbered-has_wires wires part h = over part.ports h
     over (p ∷ ps) g =
         let two = and_parts (nat_lt p (length wires)) (list_all (λ port. nat_lt port (length wires)) ps) g in
         and_from _ _ (less_test _ _ (place_in-fits wires p (test_less p (length wires) two.0))) (over ps two.1)
-
-renumbered-has_arity : (tables : List TruthTable) (wires : List Name) (part : Component) → has_arity tables (renumbered wires part) ≡ has_arity tables part
-renumbered-has_arity tables wires part = ap (takes_ports tables (rule part.kind)) (length-map part.ports (λ port. place_in (sorted_distinct itself wires) (get_or wires port [])))
 
 abbrev pub component_name : Component → Name
 component_name part = part.name

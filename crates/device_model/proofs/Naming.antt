@@ -42,12 +42,6 @@ by_order a b o e = grind (arith, same_if_tied, above_if_greater)
 pub compared : (a b : Name) → Compared a b
 compared a b = by_order a b (slice_cmp nat_cmp a b) refl
 
-less_from_test : (o : Ordering) → is_lt o ≡ true → o ≡ Less
-less_from_test o e = grind arith
-
-pub Below-from_test : (a b : Name) → name_below a b ≡ true → Below a b
-Below-from_test a b e = less_from_test (slice_cmp nat_cmp a b) e
-
 pub name_below-Below : (a b : Name) → Below a b → name_below a b ≡ true
 name_below-Below a b h = ap is_lt h
 

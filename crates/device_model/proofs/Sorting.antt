@@ -2,10 +2,9 @@
 use Rattle.std.proofs.Common.{◌≡◌, ℕ, zero, suc, ◌+◌, ◌<◌, ◌≤◌, ◌⊎◌, inl, inr, true, false, List, [], ◌∷◌, map, length, get_or, Contains, add-one, refl, sym, subst, arith}
 use Rattle.std.specs.List.Sorted.{IsPermutation}
 use Rattle.std.proofs.lemmas.List.Sorted.{Contains-permutation}
-use Rattle.std.proofs.lemmas.Bool.{and_parts}
 use Rattle.text_rules.specs.Names.{Name, name_below, names_rise}
 use Rattle.state_rules.proofs.Members.{In}
-use Rattle.device_model.proofs.Naming.{Below, Below-trans, same, below, above, compared, name_below-Below, Below-from_test}
+use Rattle.device_model.proofs.Naming.{Below, Below-trans, compared, name_below-Below}
 use Rattle.device_model.proofs.Ordered.{BelowAll, BelowAll-trans, Rises}
 
 pub Contains-from_among : {A : Type 0} (xs : List A) (x : A) → In x xs → Contains xs x

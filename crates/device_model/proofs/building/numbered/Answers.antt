@@ -1,6 +1,5 @@
-use Rattle.std.proofs.Common.{◌≡◌, ◌+◌, length, arith}
+use Rattle.std.proofs.Common.{arith}
 use Rattle.std.proofs.lemmas.Grind.{common_steps}
-use Rattle.std.proofs.lemmas.List.{length_push}
 use Rattle.device_model.proofs.Steps.{numbered_from-push}
 use Rattle.device_model.proofs.building.numbered.Goals as goal
 

@@ -1,4 +1,4 @@
-use Rattle.std.proofs.Common.{◌∙◌, rules}
+use Rattle.std.proofs.Common.{rules}
 use Rattle.std.proofs.lemmas.List.{length-set}
 use Rattle.device_model.proofs.Steps.{places_more}
 use Rattle.device_model.proofs.building.places_of.Goals as goal

@@ -1,4 +1,4 @@
-use Rattle.std.proofs.Common.{◌∙◌, ℕ, List, slice_index_or, slice_set, ap, arith}
+use Rattle.std.proofs.Common.{slice_index_or, ap, arith}
 use Rattle.std.proofs.lemmas.List.Edits.{map_over_more}
 use Rattle.device_model.specs.declared.component.Component.{Component}
 use Rattle.device_model.specs.inner.Sorting.{with_places}

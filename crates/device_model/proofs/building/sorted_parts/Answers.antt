@@ -6,10 +6,9 @@ use Rattle.std.proofs.lemmas.Cmp.{nat_list_cmp_total}
 use Rattle.std.proofs.lemmas.List.{get_or-map, length-map}
 use Rattle.std.proofs.lemmas.List.Sorted.{ranks_by, answers_always, IsPermutation-map}
 use Rattle.text_rules.specs.Names.{Name}
-use Rattle.device_model.specs.declared.building.BuildError.TheVariants.{TwoParts}
 use Rattle.device_model.specs.declared.component.Component.{Component}
 use Rattle.device_model.specs.Devices.{part_names}
-use Rattle.device_model.specs.inner.Sorting.{NeighboursDiffer, IsFirstRepeat, IsTwice}
+use Rattle.device_model.specs.inner.Sorting.{NeighboursDiffer, IsFirstRepeat}
 use Rattle.device_model.proofs.Sorting.{Ascends, Ascends-from_sort, Ascends-map, Rises-unmap}
 use Rattle.device_model.proofs.Steps.{Rises-sorted, repeated-sorted, IsTwice-sorted, sorted_distinct-sorted}
 use Rattle.device_model.proofs.building.sorted_parts.Goals as goal

@@ -1,13 +1,14 @@
 use Rattle.std.proofs.Common.{◌≡◌, sym, ap, ◌∙◌, rules}
+use Rattle.std.specs.Result.{result_ok}
 use Rattle.std.proofs.lemmas.Fn.{always_returns_same}
 use Rattle.std.proofs.lemmas.List.{map-id}
 use Rattle.device_model.specs.Devices.{place_of}
 use Rattle.device_model.proofs.Sorting.{itself, Rises-from_names_rise}
-use Rattle.device_model.proofs.Looking.{order, looked_up, found_place}
+use Rattle.device_model.proofs.Looking.{order, looked_up}
 use Rattle.device_model.proofs.device.place_of.Goals as goal
 use Rattle.device_model.proofs.device.place_of.Goals.{After-binary_search_by}
 
-found : (c : After-binary_search_by) → found_place c.binary_search_by.result ≡ place_of c.args.name.now c.args.names.now
+found : (c : After-binary_search_by) → result_ok c.binary_search_by.result ≡ place_of c.args.name.now c.args.names.now
 found c =
     let facts = c.binary_search_by.ensures in
     let by_name = facts.position (order itself c.args.name.now) (always_returns_same _ _ _ (λ a r f called. search rules)) in
@@ -15,7 +16,7 @@ found c =
     ∙ ap (place_of c.args.name.now) (map-id c.args.names.now)
 
 pub returns-in-Ok : goal.returns-in-Ok
-returns-in-Ok c = ap found_place (sym c.in-Ok.is) ∙ found c.before
+returns-in-Ok c = ap result_ok (sym c.in-Ok.is) ∙ found c.before
 
 pub returns-in-Err : goal.returns-in-Err
-returns-in-Err c = ap found_place (sym c.in-Err.is) ∙ found c.before
+returns-in-Err c = ap result_ok (sym c.in-Err.is) ∙ found c.before

@@ -1,14 +1,15 @@
 use Rattle.std.proofs.Common.{◌≡◌, sym, ap, ◌∙◌, subst, true, rules}
+use Rattle.std.specs.Result.{result_ok}
 use Rattle.std.proofs.lemmas.Fn.{always_returns_same}
 use Rattle.text_rules.specs.Names.{names_rise}
 use Rattle.device_model.specs.Devices.{Device, part_names, place_of}
 use Rattle.device_model.proofs.Making.{component_name}
 use Rattle.device_model.proofs.Sorting.{Rises-from_names_rise, Rises-unmap}
-use Rattle.device_model.proofs.Looking.{order, looked_up, found_place}
+use Rattle.device_model.proofs.Looking.{order, looked_up}
 use Rattle.device_model.proofs.device.Device.find_part.Goals as goal
 use Rattle.device_model.proofs.device.Device.find_part.Goals.{After-binary_search_by}
 
-found : (c : After-binary_search_by) → found_place c.binary_search_by.result ≡ place_of c.args.name.now (part_names c.args.self.now.parts)
+found : (c : After-binary_search_by) → result_ok c.binary_search_by.result ≡ place_of c.args.name.now (part_names c.args.self.now.parts)
 found c =
     let facts = c.binary_search_by.ensures in
     let by_name = facts.position (order component_name c.args.name.now) (always_returns_same _ _ _ (λ a r f called. search rules)) in
@@ -18,7 +19,7 @@ found c =
     ∙ ap (λ ps. place_of c.args.name.now (part_names ps)) (c.deref.ensures.value ∙ ap (λ (d : Device). d.parts) c.self.view_is)
 
 pub returns-in-Ok : goal.returns-in-Ok
-returns-in-Ok c = ap found_place (sym c.in-Ok.is) ∙ found c.before
+returns-in-Ok c = ap result_ok (sym c.in-Ok.is) ∙ found c.before
 
 pub returns-in-Err : goal.returns-in-Err
-returns-in-Err c = ap found_place (sym c.in-Err.is) ∙ found c.before
+returns-in-Err c = ap result_ok (sym c.in-Err.is) ∙ found c.before

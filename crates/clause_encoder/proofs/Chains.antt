@@ -41,9 +41,7 @@ module _ (a : Assignment) (z before x : ℕ) (hz : 1 ≤ z) (hb : 1 ≤ before) 
   xor_step-holds = grind arith
 
   step-holds : (reduction : Reduction) → all_hold a (step_clauses reduction z before x) ≡ same_bit (step_value reduction (a before) (a x)) (a z)
-  step-holds AllOnes = and_step-holds
-  step-holds AnyOne = or_step-holds
-  step-holds OddOnes = xor_step-holds
+  step-holds reduction = grind arith
 
 -- ---- the value of two inputs stands for both
 
@@ -80,10 +78,7 @@ length-chain_bits reduction b (c ∷ bits) = ap suc (length-chain_bits reduction
 
 -- a bit that is settled may be put for the variable
 settled : (b c : Bool) (f : Bool → Bool) → (same_bit b c && f c) ≡ (same_bit b c && f b)
-settled true true f = refl
-settled true false f = refl
-settled false true f = refl
-settled false false f = refl
+settled b c f = grind arith
 
 -- what a gate that is ok says of its output
 abbrev output_is : Assignment → ℕ → ℕ → Bool → Bool
@@ -104,14 +99,7 @@ chain_end-reduced reduction (d ∷ bits) b c = chain_end-reduced reduction bits 
 
 -- a list by its first item, those between, and its last
 ends : (xs : List ℕ) → 2 ≤ length xs → get_or xs 0 0 ∷ (take (length xs - 1 - 1) (drop 1 xs) ++ get_or xs (length xs - 1) 0 ∷ []) ≡ xs
-ends [] long = absurd (omega arith)
-ends (x ∷ xs) long = (λ i. x ∷ (take (between i) xs ++ get_or (x ∷ xs) (behind i) 0 ∷ []))
-    ∙ ap (λ ys. x ∷ ys) (sym (take_more xs (length xs - 1) 0 (omega arith)) ∙ take_all (length xs - 1 + 1) xs (omega arith)) where
-      between : length (x ∷ xs) - 1 - 1 ≡ length xs - 1
-      between = omega arith
-
-      behind : length (x ∷ xs) - 1 ≡ suc (length xs - 1)
-      behind = omega arith
+ends xs long = grind (arith, take_more, take_all)
 
 -- the bits of the inner variables of a gate of more than four inputs
 abbrev pub wide_bits : Reduction → List Bool → List Bool
@@ -124,30 +112,7 @@ AllPositive-drop (suc n) (v ∷ vs) h = AllPositive-drop n vs h.1
 
 module _ (a : Assignment) (gate : Gate) (h z : ℕ) (xs : List ℕ) (y : ℕ) (hh : 1 ≤ h) (hz : 1 ≤ z) (hy : 1 ≤ y) (hs : AllPositive xs) where
   wide-settles : 5 ≤ length xs → Settles a z (wide_clauses gate h z xs y) (wide_bits gate.reduction (map a xs)) (output_is a h y (gate_value gate (map a xs)))
-  wide-settles wide =
-      chain-settles a gate h last y hh (AllPositive-at xs (length xs - 1) hs (omega arith)) hy middle z first hz (AllPositive-at xs 0 hs (omega arith))
-      (AllPositive-take (length xs - 1 - 1) (drop 1 xs) (AllPositive-drop 1 xs hs))
-      ∙ (λ i. has_bits a z (chain_bits gate.reduction (first_is i) (middle_is i)) && output_is a h y (value i)) where
-        first : ℕ
-        first = get_or xs 0 0
-
-        last : ℕ
-        last = get_or xs (length xs - 1) 0
-
-        middle : List ℕ
-        middle = take (length xs - 1 - 1) (drop 1 xs)
-
-        first_is : a first ≡ bit_in (map a xs) 0
-        first_is = sym (get_or-map a xs 0 0 false (omega arith))
-
-        middle_is : map a middle ≡ take (length (map a xs) - 1 - 1) (drop 1 (map a xs))
-        middle_is = sym (take-map a (length xs - 1 - 1) (drop 1 xs))
-            ∙ (λ i. take (sym (length-map xs a) i - 1 - 1) (sym (drop-map a 1 xs) i))
-
-        value : gate_value gate (chain_end gate.reduction (a first) (map a middle) ∷ a last ∷ []) ≡ gate_value gate (map a xs)
-        value = ap (same_bit gate.positive) (chain_end-reduced gate.reduction (map a middle) (a first) (a last))
-            ∙ ap (λ bits. gate_value gate (a first ∷ bits)) (sym (map-append a middle (last ∷ [])))
-            ∙ ap (λ vs. gate_value gate (map a vs)) (ends xs (omega arith))
+  wide-settles wide = grind (arith, chain-settles, AllPositive-at, AllPositive-take, take-map, length-map, chain_end-reduced, map-append, ends)
 
 -- ---- a gate of any width
 
@@ -157,29 +122,13 @@ gate_bits reduction bits = if is_wide (length bits) then wide_bits reduction bit
 
 pub any_gate-settles : (a : Assignment) (gate : Gate) (h z : ℕ) (xs : List ℕ) (y : ℕ) → 1 ≤ h → 1 ≤ z → 1 ≤ y → AllPositive xs
     → Settles a z (any_gate_clauses gate h z xs y) (gate_bits gate.reduction (map a xs)) (output_is a h y (gate_value gate (map a xs)))
-any_gate-settles a gate h z xs y hh hz hy hs =
-    by_width (is_wide (length xs)) refl
-    ∙ ap (λ n. has_bits a z (if is_wide n then wide_bits gate.reduction (map a xs) else []) && output_is a h y (gate_value gate (map a xs))) (sym (length-map xs a)) where
-      by_width : (w : Bool) → is_wide (length xs) ≡ w
-          → all_hold a (if w then wide_clauses gate h z xs y else gate_clauses gate h xs y)
-          ≡ (has_bits a z (if w then wide_bits gate.reduction (map a xs) else []) && output_is a h y (gate_value gate (map a xs)))
-      by_width true wide = wide-settles a gate h z xs y hh hz hy hs (omega (arith, ltb-true 4 (length xs) wide))
-      by_width false narrow = gate-holds a h xs y hh hy hs gate
+any_gate-settles a gate h z xs y hh hz hy hs = grind (arith, length-map, wide-settles, gate-holds)
 
 -- ---- how many
 
 length-gate_bits : (reduction : Reduction) (bits : List Bool) (ports : ℕ) → length bits ≡ ports - 1
     → length (gate_bits reduction bits) ≡ (if is_wide (ports - 1) then ports - 3 else 0)
-length-gate_bits reduction bits ports long = by_width (is_wide (length bits)) refl ∙ ap (λ n. if is_wide n then ports - 3 else 0) long where
-  by_width : (w : Bool) → is_wide (length bits) ≡ w → length (if w then wide_bits reduction bits else []) ≡ (if w then ports - 3 else 0)
-  by_width true wide =
-      let at_least : 4 < length bits = ltb-true 4 (length bits) wide in
-      length-chain_bits reduction (bit_in bits 0) (take (length bits - 1 - 1) (drop 1 bits))
-      ∙ length-take-le (length bits - 1 - 1) (drop 1 bits) (omega (arith, length-drop 1 bits))
-      ∙ count (length bits) ports at_least long where
-        count : (n ports : ℕ) → 4 < n → n ≡ ports - 1 → n - 1 - 1 ≡ ports - 3
-        count n ports lt e = omega arith
-  by_width false narrow = refl
+length-gate_bits reduction bits ports long = grind (arith, length-chain_bits, length-take-le)
 
 -- the bits of the inner variables of a part, by those of its ports
 abbrev pub inner_bits : Rule → List Bool → List Bool
@@ -187,8 +136,7 @@ inner_bits (OfTable t) row = []
 inner_bits (OfGate gate) row = gate_bits gate.reduction (take (length row - 1) row)
 
 pub length-inner_bits : (rule : Rule) (row : List Bool) → length (inner_bits rule row) ≡ inner_count rule (length row)
-length-inner_bits (OfTable t) row = refl
-length-inner_bits (OfGate gate) row = grind (arith, length-gate_bits, length-take-le)
+length-inner_bits rule row = grind (arith, length-gate_bits, length-take-le)
 
 -- ---- a part of any rule
 
@@ -196,29 +144,10 @@ length-inner_bits (OfGate gate) row = grind (arith, length-gate_bits, length-tak
 ports-settle : (a : Assignment) (gate : Gate) (h z : ℕ) (ports : List ℕ) → 1 ≤ h → 1 ≤ z → AllPositive ports → takes gate (length ports - 1) ≡ true
     → Settles a z (any_gate_clauses gate h z (take (length ports - 1) ports) (get_or ports (length ports - 1) 0))
     (gate_bits gate.reduction (take (length (map a ports) - 1) (map a ports))) (gate_allows gate (a h) (map a ports))
-ports-settle a gate h z ports hh hz hs e =
-    any_gate-settles a gate h z (take inputs ports) (get_or ports inputs 0) hh hz (AllPositive-at ports inputs hs within) (AllPositive-take inputs ports hs)
-    ∙ (λ i. says (output i) (sym (take-map a inputs ports) i))
-    ∙ (λ i. says (bit_in (map a ports) (sym (length-map ports a) i - 1)) (take (sym (length-map ports a) i - 1) (map a ports)))
-    ∙ ap (λ b. has_bits a z (gate_bits gate.reduction (take (length (map a ports) - 1) (map a ports))) && b) (gate_allows-says gate (a h) (map a ports)) where
-      inputs : ℕ
-      inputs = length ports - 1
-
-      says : Bool → List Bool → Bool
-      says out bits = has_bits a z (gate_bits gate.reduction bits) && (not (a h) || same_bit out (gate_value gate bits))
-
-      within : inputs < length ports
-      within = omega (arith, takes-some gate (length ports - 1) e)
-
-      output : a (get_or ports inputs 0) ≡ bit_in (map a ports) inputs
-      output = sym (get_or-map a ports inputs 0 false within)
+ports-settle a gate h z ports hh hz hs e = grind (arith, any_gate-settles, AllPositive-at, AllPositive-take, take-map, length-map, get_or-map)
 
 -- The clauses of a part settle its inner variables, and are true besides exactly where the part allows the bits of its ports.
 pub raw-settles : (a : Assignment) (tables : List TruthTable) (rule : Rule) (h z : ℕ) (ports : List ℕ) → 1 ≤ h → 1 ≤ z → AllPositive ports
     → takes_ports tables rule (length ports) ≡ true
     → Settles a z (raw_clauses tables rule h z ports) (inner_bits rule (map a ports)) (allows tables rule (a h) (map a ports))
-raw-settles a tables (OfTable t) h z ports hh hz hs e = by_rows (slice_get tables t) e where
-  by_rows : (rows : Option TruthTable) → rows_take rows (length ports) ≡ true → all_hold a (table_clauses rows h ports) ≡ any_table_allows rows (a h) (map a ports)
-  by_rows None e = absurd (false≢true e)
-  by_rows (Some rows) e = table-holds a rows h ports hh hs
-raw-settles a tables (OfGate gate) h z ports hh hz hs e = ports-settle a gate h z ports hh hz hs e
+raw-settles a tables rule h z ports hh hz hs e = grind (arith, table-holds, ports-settle)

@@ -41,11 +41,7 @@ length-side ok allowed h vs lt = grind (arith, length-map, ok, others)
 
 pub length-table : (rows : TruthTable) (h : ℕ) (vs : List ℕ) → is_table rows ≡ true → length vs ≡ rows.ports
     → length (table_clauses (Some rows) h vs) + count_ones rows.ok + count_ones rows.bad ≡ 2 * 2 ^ rows.ports
-length-table rows h vs e long =
-    let t = IsTable-from rows e in
-    let ok = length-side true rows.ok h vs (subst (λ n. rows.ok < 2 ^ (2 ^ n)) (sym long) t.ok) in
-    let bad = length-side false rows.bad h vs (subst (λ n. rows.bad < 2 ^ (2 ^ n)) (sym long) t.bad) in
-    omega (arith, length-append (blocked_rows true rows.ok h vs) (blocked_rows false rows.bad h vs), ok, bad, ap (λ n. 2 ^ n) long)
+length-table rows h vs e long = grind (arith, length-side, length-append)
 
 -- ---- gates
 
@@ -64,9 +60,7 @@ few-rows n h = let most : 2 ^ n ≤ 2 ^ 4 = pow_mono h in omega arith
 -- the gate at the end of a chain has as many clauses as a step
 length-two : (reduction : Reduction) (positive : Bool) (h b l y z c x : ℕ)
     → length (reduction_clauses reduction positive h (b ∷ l ∷ []) y) ≡ length (step_clauses reduction z c x)
-length-two AllOnes positive h b l y z c x = refl
-length-two AnyOne positive h b l y z c x = refl
-length-two OddOnes positive h b l y z c x = refl
+length-two reduction positive h b l y z c x = grind arith
 
 module _ (gate : Gate) (h last y n : ℕ) (step : (z b x : ℕ) → length (step_clauses gate.reduction z b x) ≡ n) (two : (b : ℕ) → length (gate_clauses gate h (b ∷ last ∷ []) y) ≡ n) where
   length-chain : (xs : List ℕ) (z before : ℕ) → length (chain_clauses gate h last y z before xs) ≡ n * length xs + n

@@ -49,9 +49,7 @@ length-variables device (port ∷ ports) = ap suc (length-variables device ports
 wires-in : (device : Device) (ports : List ℕ) → list_all (λ port. nat_lt port (length device.wires)) ports ≡ true
     → Variables (InRange (length device.parts + length device.wires)) (map (wire_variable device) ports)
 wires-in device [] e = tt
-wires-in device (port ∷ ports) e =
-    let es = and_parts (nat_lt port (length device.wires)) (list_all (λ port. nat_lt port (length device.wires)) ports) e in
-    ((omega arith, omega (arith, ltb-true port (length device.wires) es.0)), wires-in device ports es.1)
+wires-in device (port ∷ ports) e = grind (arith, wires-in device ports)
 
 -- the number of ports, as the part's kind takes it
 arity-at : (device : Device) (part : Component) → has_arity device.tables part ≡ true → takes_ports device.tables (rule part.kind) (length (map (wire_variable device) part.ports)) ≡ true
@@ -75,8 +73,7 @@ module _ (device : Device) (vars : ℕ) (enough : length device.parts + length d
       (AllRaw-parts (h + 1) (z + inner) parts (omega arith) (omega arith) (omega arith) (omega arith) fit.1 js.1)
 
 AllRaw-device : (device : Device) → IsDevice device → AllRaw (length device.parts + length device.wires + inner_vars device.parts) (all_clauses device)
-AllRaw-device device d = AllRaw-parts device (length device.parts + length device.wires + inner_vars device.parts) (omega arith) 1 (first_inner device) device.parts
-    (omega arith) (omega arith) (omega arith) (omega arith) d.arities d.joined
+AllRaw-device device d = grind (arith, AllRaw-parts)
 
 pub are_clauses : (device : Device) → IsDevice device
     → list_all (is_clause (length device.parts + length device.wires + inner_vars device.parts)) (tidy (all_clauses device)) ≡ true
@@ -99,9 +96,7 @@ length-part_bits (part ∷ parts) wires = grind (arith, length-part_bits parts w
 module _ (device : Device) (a : Assignment) (wires : List Bool) (wire_is : (w : ℕ) → w < length device.wires → a (wire_variable device w) ≡ bit_in wires w) where
   ports-are : (ports : List ℕ) → list_all (λ port. nat_lt port (length device.wires)) ports ≡ true → map a (map (wire_variable device) ports) ≡ map (bit_in wires) ports
   ports-are [] e = refl
-  ports-are (port ∷ ports) e =
-      let es = and_parts (nat_lt port (length device.wires)) (list_all (λ port. nat_lt port (length device.wires)) ports) e in
-      λ i. wire_is port (ltb-true port (length device.wires) es.0) i ∷ ports-are ports es.1 i
+  ports-are (port ∷ ports) e = grind (arith, ports-are ports)
 
   parts-settle : (h z : ℕ) (parts : List Component) (state : List Bool) → 1 ≤ h → 1 ≤ z → length state ≡ length parts
       → ((k : ℕ) → k < length parts → a (h + k) ≡ get_or state k false)
@@ -132,14 +127,10 @@ module _ (device : Device) (a : Assignment) (wires : List Bool) (wire_is : (w : 
 
 -- the bits of the variables: those of the parts' health, and then those of the wires
 health-bit : (state more : List Bool) (k : ℕ) → k < length state → assignment (state ++ more) (1 + k) ≡ get_or state k false
-health-bit state more k lt = ap (bit_in (state ++ more)) (less k) ∙ get_or_append_left state more false k lt where
-  less : (k : ℕ) → (1 + k) - 1 ≡ k
-  less k = omega arith
+health-bit state more k lt = grind (arith, get_or_append_left)
 
 wire-bit : (state wires : List Bool) (parts w : ℕ) → length state ≡ parts → assignment (state ++ wires) (parts + w + 1) ≡ bit_in wires w
-wire-bit state wires parts w long = get_or-append_right state wires parts (parts + w + 1 - 1) false long (omega arith) ∙ ap (bit_in wires) (less parts w) where
-  less : (n w : ℕ) → (n + w + 1 - 1) - n ≡ w
-  less n w = omega arith
+wire-bit state wires parts w long = grind (arith, get_or-append_right)
 
 front-bit : (front inner : List Bool) (v : ℕ) → 1 ≤ v → v ≤ length front → assignment (front ++ inner) v ≡ assignment front v
 front-bit front inner v some most = get_or_append_left front inner false (v - 1) (omega arith)

@@ -36,25 +36,16 @@ and_clauses-literals h y t s xs = λ i. fronts xs i ++ (literal false h ∷ lite
   negated (x ∷ xs) = λ i. neg-literal s x i ∷ negated xs i
 
 same_bit-not : (t b : Bool) → same_bit (not t) b ≡ not (same_bit t b)
-same_bit-not true b = refl
-same_bit-not false true = refl
-same_bit-not false false = refl
+same_bit-not t b = grind arith
 
 always : (ok y : Bool) → true ≡ (not ok || (not y || true))
-always false y = refl
-always true false = refl
-always true true = refl
+always ok y = grind arith
 
 not_all : (x all : Bool) → (not x || not all) ≡ not (x && all)
-not_all true all = refl
-not_all false all = refl
+not_all x all = grind arith
 
 both_ways : (ok y all : Bool) → ((not ok || (not y || all)) && ((not ok || (y || not all)) && true)) ≡ (not ok || same_bit y all)
-both_ways false y all = refl
-both_ways true true true = refl
-both_ways true true false = refl
-both_ways true false true = refl
-both_ways true false false = refl
+both_ways ok y all = grind arith
 
 module _ (a : Assignment) (h y : ℕ) (t s : Bool) (hh : 1 ≤ h) (hy : 1 ≤ y) where
   fronts-hold : (xs : List ℕ) → AllPositive xs → all_hold a (map (λ x. literal false h ∷ literal (not t) y ∷ literal s x ∷ []) xs)
@@ -68,10 +59,7 @@ module _ (a : Assignment) (h y : ℕ) (t s : Bool) (hh : 1 ≤ h) (hy : 1 ≤ y)
 
   and-holds : (xs : List ℕ) → AllPositive xs → all_hold a (and_clauses (pos h) (literal t y) (map (literal s) xs))
       ≡ (not (a h) || same_bit (same_bit t (a y)) (list_all (λ x. same_bit s (a x)) xs))
-  and-holds xs hs = ap (all_hold a) (and_clauses-literals h y t s xs)
-      ∙ list_all-append (is_true_clause a) (map (λ x. literal false h ∷ literal (not t) y ∷ literal s x ∷ []) xs) ((literal false h ∷ literal t y ∷ map (literal (not s)) xs) ∷ [])
-      ∙ (λ i. fronts-hold xs hs i && ((lit-literal a false h hh i || (lit-literal a t y hy i || any-negated xs hs i)) && true))
-      ∙ both_ways (a h) (same_bit t (a y)) (list_all (λ x. same_bit s (a x)) xs)
+  and-holds xs hs = grind (arith, and_clauses-literals, list_all-append, fronts-hold, any-negated)
 
 all_not : (a : Assignment) (xs : List ℕ) → list_all (λ x. not (a x)) xs ≡ not (list_any (λ b. b) (map a xs))
 all_not a [] = refl
@@ -82,24 +70,15 @@ all_bits a xs = sym (list_all-map (λ (b : Bool). b) a xs)
 
 -- a negation may stand on either side
 negated_output : (positive y b : Bool) → same_bit (same_bit positive y) b ≡ same_bit y (same_bit positive b)
-negated_output true y b = refl
-negated_output false true b = refl
-negated_output false false true = refl
-negated_output false false false = refl
+negated_output positive y b = grind arith
 
 negated_both : (positive y b : Bool) → same_bit (same_bit (not positive) y) (not b) ≡ same_bit y (same_bit positive b)
-negated_both true true true = refl
-negated_both true true false = refl
-negated_both true false b = refl
-negated_both false true b = refl
-negated_both false false b = refl
+negated_both positive y b = grind arith
 
 -- ---- the rows of an exclusive or
 
 later : (ok differs y : Bool) → (not ok || (differs || (y || false))) ≡ (differs || (not ok || y))
-later ok true y = or-true (not ok)
-later true false y = or-false y
-later false false y = refl
+later ok differs y = grind arith
 
 parity-holds : (a : Assignment) (odd : Bool) (h : ℕ) (xs : List ℕ) (y : ℕ) → 1 ≤ h → 1 ≤ y → AllPositive xs
     → all_hold a (parity_clauses odd h xs y) ≡ (not (a h) || same_bit (a y) (same_bit odd (has_odd_ones (map a xs))))
@@ -118,18 +97,12 @@ parity-holds a odd h xs y hh hy hs = list_all-map (is_true_clause a) clause_of (
       clause_of r = row_clause h xs y (row_bits r xs) (value_of r)
 
       at_row : (r : ℕ) → r < 2 ^ length xs → is_true_clause a (clause_of r) ≡ (not (r == row) || (not (a h) || same_bit (value_of r) (a y)))
-      at_row r lt = ap (λ b. lit a (literal false h) || b) (list_any-append (lit a) (blocking_literals xs (row_bits r xs)) (literal (value_of r) y ∷ []))
-          ∙ (λ i. lit-literal a false h hh i || (blocking_literals-row a xs r hs lt i || (lit-literal a (value_of r) y hy i || false)))
-          ∙ later (a h) (not (r == row)) (same_bit (value_of r) (a y))
+      at_row r lt = grind (arith, list_any-append, blocking_literals-row)
 
 -- ---- the rows of a table
 
 allowed-later : (allowed ok differs : Bool) → (not (not allowed) || (ok || differs)) ≡ (differs || (allowed || ok))
-allowed-later true ok true = refl
-allowed-later true ok false = refl
-allowed-later false true true = refl
-allowed-later false true false = refl
-allowed-later false false differs = sym (or-false differs)
+allowed-later allowed ok differs = grind arith
 
 side-holds : (a : Assignment) (ok : Bool) (allowed h : ℕ) (ports : List ℕ) → 1 ≤ h → AllPositive ports
     → all_hold a (blocked_rows ok allowed h ports) ≡ (has_bit allowed (row_number (map a ports)) || same_bit (not ok) (a h))
@@ -143,17 +116,11 @@ side-holds a ok allowed h ports hh hs = all-filtered (is_true_clause a) clause_o
       clause_of r = literal (not ok) h ∷ blocking_literals ports (row_bits r ports)
 
       at_row : (r : ℕ) → r < 2 ^ length ports → (not (not (has_bit allowed r)) || is_true_clause a (clause_of r)) ≡ (not (r == row) || (has_bit allowed r || same_bit (not ok) (a h)))
-      at_row r lt = (λ i. not (not (has_bit allowed r)) || (lit-literal a (not ok) h hh i || blocking_literals-row a ports r hs lt i))
-          ∙ allowed-later (has_bit allowed r) (same_bit (not ok) (a h)) (not (r == row))
+      at_row r lt = grind (arith, blocking_literals-row)
 
 pub table-holds : (a : Assignment) (rows : TruthTable) (h : ℕ) (ports : List ℕ) → 1 ≤ h → AllPositive ports
     → all_hold a (table_clauses (Some rows) h ports) ≡ table_allows rows (a h) (map a ports)
-table-holds a rows h ports hh hs = list_all-append (is_true_clause a) (blocked_rows true rows.ok h ports) (blocked_rows false rows.bad h ports)
-    ∙ (λ i. side-holds a true rows.ok h ports hh hs i && side-holds a false rows.bad h ports hh hs i)
-    ∙ by_mode (a h) where
-      by_mode : (ok : Bool) → ((has_bit rows.ok (row_number (map a ports)) || not ok) && (has_bit rows.bad (row_number (map a ports)) || ok)) ≡ table_allows rows ok (map a ports)
-      by_mode true = (λ i. or-false (has_bit rows.ok (row_number (map a ports))) i && or-true (has_bit rows.bad (row_number (map a ports))) i) ∙ and-true (has_bit rows.ok (row_number (map a ports)))
-      by_mode false = (λ i. or-true (has_bit rows.ok (row_number (map a ports))) i && or-false (has_bit rows.bad (row_number (map a ports))) i)
+table-holds a rows h ports hh hs = grind (arith, list_all-append, side-holds)
 
 -- ---- gates
 
@@ -187,5 +154,4 @@ AllPositive-at (v ∷ vs) (suc i) h lt = AllPositive-at vs i h.1 (omega arith)
 
 pub gate_allows-says : (gate : Gate) (ok : Bool) (row : List Bool)
     → (not ok || same_bit (bit_in row (length row - 1)) (gate_value gate (take (length row - 1) row))) ≡ gate_allows gate ok row
-gate_allows-says gate true row = refl
-gate_allows-says gate false row = refl
+gate_allows-says gate ok row = grind arith

@@ -87,17 +87,10 @@ module _ (P : ℕ → Type 0) where
           fronts (x ∷ xs) hs = (omega arith, Of-three false (not t) s h y x hh hy hs.0, fronts xs hs.1)
 
     Of-parity : (odd : Bool) (xs : List ℕ) (y : ℕ) → P y → Variables xs → OfEach (parity_clauses odd h xs y)
-    Of-parity odd xs y hy hs = OfEach-map (λ r. row_clause h xs y (row_bits r xs) (same_bit odd (has_odd_ones (row_bits r xs)))) (rows_of xs)
-        (λ r.
-        let value = same_bit odd (has_odd_ones (row_bits r xs)) in (
-          omega arith,
-          Of-cons false h (blocking_literals xs (row_bits r xs) ++ literal value y ∷ []) hh
-              (Of-append (blocking_literals xs (row_bits r xs)) (literal value y ∷ []) (Of-blocking xs (row_bits r xs) hs) (Of-cons value y [] hy tt)),
-        ))
+    Of-parity odd xs y hy hs = grind (arith, OfEach-map, Of-append, Of-blocking)
 
     Of-side : (ok : Bool) (allowed : ℕ) (ports : List ℕ) → Variables ports → OfEach (blocked_rows ok allowed h ports)
-    Of-side ok allowed ports hs = OfEach-map (λ r. literal (not ok) h ∷ blocking_literals ports (row_bits r ports)) _
-        (λ r. (omega arith, Of-cons (not ok) h (blocking_literals ports (row_bits r ports)) hh (Of-blocking ports (row_bits r ports) hs)))
+    Of-side ok allowed ports hs = grind (arith, OfEach-map, Of-blocking)
 
     Of-reduction : (reduction : Reduction) (positive : Bool) (xs : List ℕ) (y : ℕ) → P y → Variables xs → OfEach (reduction_clauses reduction positive h xs y)
     Of-reduction AllOnes positive xs y hy hs = Of-and y positive true xs hy hs
@@ -115,31 +108,16 @@ module _ (P : ℕ → Type 0) where
 
     Of-wide : (gate : Gate) (z : ℕ) (xs : List ℕ) (y : ℕ) → 5 ≤ length xs → ((v : ℕ) → z ≤ v → v < z + (length xs - 2) → P v) → P y → Variables xs
         → OfEach (wide_clauses gate h z xs y)
-    Of-wide gate z xs y wide hz hy hs =
-        let steps : length (take (length xs - 1 - 1) (drop 1 xs)) ≡ length xs - 1 - 1 = length-take-le (length xs - 1 - 1) (drop 1 xs) (omega (arith, length-drop 1 xs)) in
-        Of-chain gate (get_or xs (length xs - 1) 0) y (Variables-at xs (length xs - 1) hs (omega arith)) hy (take (length xs - 1 - 1) (drop 1 xs)) z (get_or xs 0 0)
-        (λ v le lt. hz v le (omega (arith, lt, steps))) (Variables-at xs 0 hs (omega arith)) (Variables-take (length xs - 1 - 1) (drop 1 xs) (Variables-drop 1 xs hs))
+    Of-wide gate z xs y wide hz hy hs = grind (arith, length-take-le, Of-chain, Variables-at, Variables-take)
 
     Of-any_gate : (gate : Gate) (z ports : ℕ) (xs : List ℕ) (y : ℕ) → length xs ≡ ports - 1 → ((v : ℕ) → z ≤ v → v < z + (if is_wide (ports - 1) then ports - 3 else 0) → P v)
         → P y → Variables xs → OfEach (any_gate_clauses gate h z xs y)
-    Of-any_gate gate z ports xs y long hz hy hs =
-        by (is_wide (length xs)) refl (subst (λ n. (v : ℕ) → z ≤ v → v < z + (if is_wide n then ports - 3 else 0) → P v) (sym long) hz)
-      where
-        by : (w : Bool) → is_wide (length xs) ≡ w → ((v : ℕ) → z ≤ v → v < z + (if w then ports - 3 else 0) → P v)
-            → OfEach (if w then wide_clauses gate h z xs y else gate_clauses gate h xs y)
-        by true wide inner = Of-wide gate z xs y (omega (arith, ltb-true 4 (length xs) wide)) (λ v le lt. inner v le (omega (arith, lt, long))) hy hs
-        by false narrow inner = Of-gate gate xs y hy hs
+    Of-any_gate gate z ports xs y long hz hy hs = grind (arith, Of-wide, Of-gate)
 
     Of-ports : (gate : Gate) (z : ℕ) (ports : List ℕ) → ((v : ℕ) → z ≤ v → v < z + (if is_wide (length ports - 1) then length ports - 3 else 0) → P v)
         → Variables ports → takes gate (length ports - 1) ≡ true → OfEach (any_gate_clauses gate h z (take (length ports - 1) ports) (get_or ports (length ports - 1) 0))
-    Of-ports gate z ports hz hs e =
-        Of-any_gate gate z (length ports) (take (length ports - 1) ports) (get_or ports (length ports - 1) 0) (length-take-le (length ports - 1) ports (omega arith)) hz
-        (Variables-at ports (length ports - 1) hs (omega (arith, takes-some gate (length ports - 1) e))) (Variables-take (length ports - 1) ports hs)
+    Of-ports gate z ports hz hs e = grind (arith, Of-any_gate, length-take-le, Variables-at, Variables-take)
 
     pub Of-raw : (tables : List TruthTable) (rule : Rule) (z : ℕ) (ports : List ℕ) → ((v : ℕ) → z ≤ v → v < z + inner_count rule (length ports) → P v)
         → Variables ports → takes_ports tables rule (length ports) ≡ true → OfEach (raw_clauses tables rule h z ports)
-    Of-raw tables (OfTable t) z ports hz hs e = by_rows (slice_get tables t) where
-      by_rows : (rows : Option TruthTable) → OfEach (table_clauses rows h ports)
-      by_rows None = tt
-      by_rows (Some rows) = OfEach-append (blocked_rows true rows.ok h ports) (blocked_rows false rows.bad h ports) (Of-side true rows.ok ports hs) (Of-side false rows.bad ports hs)
-    Of-raw tables (OfGate gate) z ports hz hs e = Of-ports gate z ports hz hs e
+    Of-raw tables rule z ports hz hs e = grind (arith, OfEach-append, Of-side, Of-ports)

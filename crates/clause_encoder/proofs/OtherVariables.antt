@@ -17,17 +17,11 @@ use Rattle.clause_encoder.proofs.Literals.{AllIn, AllRaw, all_hold-tidy, are_cla
 
 AllIn-from : (vars below : ℕ) (c : Clause) → vars_rise below c ≡ true → list_all (λ k. nat_le (var_of k) vars) c ≡ true → AllIn vars c
 AllIn-from vars below [] h k = tt
-AllIn-from vars below (l ∷ c) h k =
-    let rise = and_parts (nat_lt below (var_of l)) (vars_rise (var_of l) c) h in
-    let most = and_parts (nat_le (var_of l) vars) (list_all (λ k. nat_le (var_of k) vars) c) k in
-    (omega (arith, ltb-true below (var_of l) rise.0), leb-true (var_of l) vars most.0, AllIn-from vars (var_of l) c rise.1 most.1)
+AllIn-from vars below (l ∷ c) h k = grind (arith, AllIn-from vars (var_of l) c)
 
 -- a clause has a literal, and each is of a variable from 1 to the greatest
 pub raw_from : (vars : ℕ) (c : Clause) → is_clause vars c ≡ true → (1 ≤ length c) × AllIn vars c
-raw_from vars [] h = absurd (let f : false ≡ true = h in cc)
-raw_from vars (l ∷ c) h =
-    let both = and_parts (vars_rise 0 (l ∷ c)) (list_all (λ k. nat_le (var_of k) vars) (l ∷ c)) h in
-    (omega arith, AllIn-from vars 0 (l ∷ c) both.0 both.1)
+raw_from vars c h = grind (arith, AllIn-from)
 
 AllIn-at : (vars : ℕ) (c : Clause) (k : ℕ) (d : ℤ) → AllIn vars c → k < length c → (1 ≤ var_of (get_or c k d)) × (var_of (get_or c k d) ≤ vars)
 AllIn-at vars [] k d h lt = absurd (omega arith)
@@ -49,10 +43,7 @@ module _ (old : ℕ) (variables : List ℕ) (vars : ℕ) (all : length variables
 
   AllRaw-replaced : (cs : List Clause) → list_all (is_clause old) cs ≡ true → AllRaw vars (map (map (literal_for variables)) cs)
   AllRaw-replaced [] h = tt
-  AllRaw-replaced (c ∷ cs) h =
-      let two = and_parts (is_clause old c) (list_all (is_clause old) cs) h in
-      let raw = raw_from old c two.0 in
-      (omega (arith, length-map c (literal_for variables), raw.0), AllIn-replaced c raw.1, AllRaw-replaced cs two.1)
+  AllRaw-replaced (c ∷ cs) h = grind (arith, and_parts, raw_from, AllIn-replaced, AllRaw-replaced cs)
 
   true-replaced : (a : Assignment) (c : Clause) → AllIn old c → is_true_clause a (map (literal_for variables) c) ≡ is_true_clause (λ v. a (variable_for variables v)) c
   true-replaced a [] h = refl
@@ -61,9 +52,7 @@ module _ (old : ℕ) (variables : List ℕ) (vars : ℕ) (all : length variables
   all-replaced : (a : Assignment) (cs : List Clause) → list_all (is_clause old) cs ≡ true
       → all_hold a (map (map (literal_for variables)) cs) ≡ all_hold (λ v. a (variable_for variables v)) cs
   all-replaced a [] h = refl
-  all-replaced a (c ∷ cs) h =
-      let two = and_parts (is_clause old c) (list_all (is_clause old) cs) h in
-      λ i. true-replaced a c (raw_from old c two.0).1 i && all-replaced a cs two.1 i
+  all-replaced a (c ∷ cs) h = grind (arith, true-replaced, raw_from, all-replaced a cs)
 
   pub replaced-truth : (a : Assignment) (cs : List Clause) → list_all (is_clause old) cs ≡ true
       → all_hold a (tidy (map (map (literal_for variables)) cs)) ≡ all_hold (λ v. a (variable_for variables v)) cs

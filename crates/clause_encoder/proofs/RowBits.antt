@@ -38,29 +38,24 @@ pub has_bit-zero : (r : ℕ) → has_bit r 0 ≡ (r % 2 == 1)
 has_bit-zero r = ap (λ b. b == 1) (bit_at_lowest r)
 
 bit-of : (b : Bool) (n : ℕ) → has_bit (number_of_bit b + 2 * n) 0 ≡ b
-bit-of true n = has_bit-zero (1 + 2 * n) ∙ grind (arith, nat_tests)
-bit-of false n = has_bit-zero (0 + 2 * n) ∙ grind (arith, nat_tests)
+bit-of b n = grind arith
 
 pub row_bits-number : (bits : List Bool) (vs : List ℕ) → length bits ≡ length vs → row_bits (row_number bits) vs ≡ bits
-row_bits-number [] [] h = refl
-row_bits-number [] (v ∷ vs) h = absurd (omega arith)
+row_bits-number [] vs h = grind arith
 row_bits-number (b ∷ bits) [] h = absurd (omega arith)
 row_bits-number (b ∷ bits) (v ∷ vs) h = row_bits-cons (row_number (b ∷ bits)) v vs
     ∙ (λ i. bit-of b (row_number bits) i ∷ row_bits (row_number-half b (row_number bits) i) vs)
     ∙ (λ i. b ∷ row_bits-number bits vs (omega arith) i)
 
 pub row_number-below : (bits : List Bool) (n : ℕ) → length bits ≡ n → row_number bits < 2 ^ n
-row_number-below [] zero h = omega arith
-row_number-below [] (suc n) h = absurd (omega arith)
+row_number-below [] n h = grind arith
 row_number-below (b ∷ bits) zero h = absurd (omega arith)
-row_number-below (true ∷ bits) (suc n) h = omega (arith, row_number-below bits n (omega arith))
-row_number-below (false ∷ bits) (suc n) h = omega (arith, row_number-below bits n (omega arith))
+row_number-below (bit ∷ bits) (suc n) h = grind (arith, row_number-below bits n)
 
 -- ---- a row differs from that of the variables, or is it
 
 differs : (bit : Bool) (r n : ℕ) → (same_bit (not (r % 2 == 1)) bit || not (r / 2 == n)) ≡ not (r == number_of_bit bit + 2 * n)
-differs true r n = grind (arith, nat_tests)
-differs false r n = grind (arith, nat_tests)
+differs bit r n = grind arith
 
 -- The literals that are false in a row are all false where the variables have that row.
 pub blocking_literals-row : (a : Assignment) (vs : List ℕ) (r : ℕ) → AllPositive vs → r < 2 ^ length vs
@@ -79,11 +74,7 @@ all-past q (suc n) k row h = grind (arith, nat_tests, all-past q n (k + 1) row (
 
 all-at : (q : ℕ → Bool) (n k row : ℕ) → k ≤ row → row < k + n → list_all (λ r. not (r == row) || q r) (range_with_len k n) ≡ q row
 all-at q zero k row h lt = absurd (omega arith)
-all-at q (suc n) k row h lt = by_case (cases_eq k row) (λ le. all-at q n (k + 1) row le (omega arith)) where
-  by_case : (k ≡ row) ⊎ (k ≡ row → ⊥) → (k + 1 ≤ row → list_all (λ r. not (r == row) || q r) (range_with_len (k + 1) n) ≡ q row)
-      → ((not (k == row) || q k) && list_all (λ r. not (r == row) || q r) (range_with_len (k + 1) n)) ≡ q row
-  by_case (inl e) rest = (λ i. (not (eq-eqb k row e i) || q k) && all-past q n (k + 1) row (omega (arith, e)) i) ∙ and-true (q k) ∙ ap q e
-  by_case (inr ne) rest = (λ i. (not (ne_eqb k row ne i) || q k) && rest (omega (arith, ne)) i)
+all-at q (suc n) k row h lt = grind (arith, all-past, all-at q n (k + 1) row)
 
 all-same : (p q : ℕ → Bool) (n k : ℕ) → ((r : ℕ) → r < k + n → p r ≡ q r) → list_all p (range_with_len k n) ≡ list_all q (range_with_len k n)
 all-same p q zero k h = refl

@@ -21,18 +21,11 @@ abbrev pub Settles : Assignment → ℕ → List Clause → List Bool → Bool �
 Settles a z clauses bits rest = all_hold a clauses ≡ (has_bits a z bits && rest)
 
 and_swap_inner : (b c d e : Bool) → ((b && c) && (d && e)) ≡ ((b && d) && (c && e))
-and_swap_inner true true d e = refl
-and_swap_inner true false true e = refl
-and_swap_inner true false false e = refl
-and_swap_inner false c d e = refl
+and_swap_inner b c d e = grind arith
 
 pub has_bits-append : (a : Assignment) (z : ℕ) (bits more : List Bool) → has_bits a z (bits ++ more) ≡ (has_bits a z bits && has_bits a (z + length bits) more)
 has_bits-append a z [] more = grind arith
-has_bits-append a z (b ∷ bits) more =
-    ap (λ t. same_bit b (a z) && t) (has_bits-append a (z + 1) bits more ∙ ap (λ v. has_bits a (z + 1) bits && has_bits a v more) (at z (length bits)))
-    ∙ sym (and_assoc (same_bit b (a z)) (has_bits a (z + 1) bits) (has_bits a (z + suc (length bits)) more)) where
-      at : (z n : ℕ) → z + 1 + n ≡ z + suc n
-      at z n = omega arith
+has_bits-append a z (b ∷ bits) more = grind (arith, has_bits-append a (z + 1) bits more)
 
 -- the inner variables of the second clauses come behind those of the first
 pub Settles-append : (a : Assignment) (z y : ℕ) (cs ds : List Clause) (bits more : List Bool) (rest others : Bool) → y ≡ z + length bits
@@ -42,27 +35,13 @@ Settles-append a z y cs ds bits more rest others at first second = grind (arith,
 -- ---- some bits of the inner variables
 
 one_of_both : (b rest : Bool) → ((same_bit b false && rest) || (same_bit b true && rest)) ≡ rest
-one_of_both true rest = refl
-one_of_both false rest = or-false rest
+one_of_both b rest = grind arith
 
 -- the bits behind a list, as variables
 front-bits : (front : List Bool) (c : Bool) (inner bits : List Bool) (b : Bool)
     → has_bits (assignment (front ++ c ∷ inner)) (length front + 1) (b ∷ bits)
     ≡ (same_bit b c && has_bits (assignment ((front ++ c ∷ []) ++ inner)) (length (front ++ c ∷ []) + 1) bits)
-front-bits front c inner bits b =
-    (λ i. same_bit b (here i) && has_bits (assignment (moved i)) (longer i) bits) where
-      less : (n : ℕ) → n + 1 - 1 - n ≡ 0
-      less n = omega arith
-
-      here : assignment (front ++ c ∷ inner) (length front + 1) ≡ c
-      here = get_or-append_right front (c ∷ inner) (length front) (length front + 1 - 1) false refl (omega arith)
-          ∙ ap (bit_in (c ∷ inner)) (less (length front))
-
-      moved : front ++ c ∷ inner ≡ (front ++ c ∷ []) ++ inner
-      moved = sym (append_assoc front (c ∷ []) inner)
-
-      longer : length front + 1 + 1 ≡ length (front ++ c ∷ []) + 1
-      longer = omega (arith, length-append front (c ∷ []))
+front-bits front c inner bits b = grind (arith, get_or-append_right, append_assoc, length-append)
 
 pub some-settled : (bits front : List Bool) (rest : Bool)
     → list_any (λ inner. has_bits (assignment (front ++ inner)) (length front + 1) bits && rest) (lists_of_bits (length bits)) ≡ rest

@@ -27,14 +27,10 @@ step-count AnyOne = 3
 step-count OddOnes = 4
 
 length-step : (reduction : Reduction) (z b x : ℕ) → length (step_clauses reduction z b x) ≡ step-count reduction
-length-step AllOnes z b x = refl
-length-step AnyOne z b x = refl
-length-step OddOnes z b x = refl
+length-step reduction z b x = grind arith
 
 step-three : (reduction : Reduction) (n : ℕ) → 3 * n ≤ step-count reduction * n
-step-three AllOnes n = omega arith
-step-three AnyOne n = omega arith
-step-three OddOnes n = omega arith
+step-three reduction n = grind arith
 
 wide-inner : (gate : Gate) (h z y inputs : ℕ) (xs : List ℕ) → 5 ≤ inputs → length xs ≡ inputs → 3 * (inputs - 2) ≤ length (any_gate_clauses gate h z xs y)
 wide-inner gate h z y inputs xs wide long =
@@ -58,8 +54,7 @@ gate-inner gate h z ports = by_width (is_wide (length ports - 1)) refl where
 
 part-inner : (tables : List TruthTable) (rule : Rule) (h z : ℕ) (ports : List ℕ) → takes_ports tables rule (length ports) ≡ true
     → 3 * inner_count rule (length ports) ≤ length (raw_clauses tables rule h z ports)
-part-inner tables (OfTable t) h z ports e = omega arith
-part-inner tables (OfGate gate) h z ports e = gate-inner gate h z ports
+part-inner tables rule h z ports e = grind (arith, gate-inner)
 
 parts-inner : (device : Device) (h z : ℕ) (parts : List Component) → list_all (has_arity device.tables) parts ≡ true
     → 3 * inner_vars parts ≤ length (clauses_from device h z parts)

@@ -49,8 +49,7 @@ module _ (now next start : List Clause) where
 
 -- clauses behind those that were written before
 pub more-written : (start now next : List Clause) (front back : List Clause) → now ≡ start ++ tidy front → next ≡ now ++ tidy back → next ≡ start ++ tidy (front ++ back)
-more-written start now next front back e f =
-    f ∙ ap (λ w. w ++ tidy back) e ∙ append_assoc start (tidy front) (tidy back) ∙ ap (λ c. start ++ c) (sym (tidy-append front back))
+more-written start now next front back e f = grind (arith, append_assoc, tidy-append)
 
 -- three clauses, and four, one after the other
 pub three-written : (start one two three : List Clause) (c d e : Clause) → one ≡ start ++ tidy (c ∷ []) → two ≡ one ++ tidy (d ∷ []) → three ≡ two ++ tidy (e ∷ [])
@@ -71,9 +70,7 @@ items-written now start f xs i past h = all-written now start (ap (λ ys. now ++
 -- ---- literals as they are passed
 
 literal-fits : (b : Bool) (v : ℕ) → v < 2 ^ 29 → FitsSigned w32 (literal b v)
-literal-fits true v h = fits_signed_from_abs w32 (pos v) (omega arith)
-literal-fits false zero h = fits_signed_from_abs w32 (pos zero) (omega arith)
-literal-fits false (suc n) h = fits_signed_from_abs w32 (literal false (suc n)) (omega arith)
+literal-fits b v h = grind arith
 
 pub passed : (x : ℤ) (b : Bool) (v : ℕ) → v < 2 ^ 29 → x ≡ literal b v → to_z w32 (of_z w32 x) ≡ literal b v
 passed x b v h e = ap (λ y. to_z w32 (of_z w32 y)) e ∙ to_z-of_z w32 (literal b v) (literal-fits b v h)
@@ -157,8 +154,7 @@ row_below rows row ports e f lt = grind (arith, nat_tests)
 -- the table of a part that has one
 pub taken : (tables : List TruthTable) (t ports : ℕ) (rows : TruthTable) → rows_take (slice_get tables t) ports ≡ true → rows ≡ get_or tables t rows
     → (slice_get tables t ≡ Some rows) × (ports ≡ rows.ports)
-taken [] zero ports rows e f = absurd (false≢true e)
-taken [] (suc t) ports rows e f = absurd (false≢true e)
+taken [] t ports rows e f = grind arith
 taken (r ∷ tables) zero ports rows e f = (ap Some (sym f), omega (arith, eqb-true r.ports ports e, ap (λ (r : TruthTable). r.ports) f))
 taken (r ∷ tables) (suc t) ports rows e f = taken tables t ports rows e f
 

@@ -37,9 +37,6 @@ module _ (design : Design) (valid : is_design design ≡ true) (passed : refusal
   names_are : part_names parts ≡ get_or (values names_in design.blocks) design.top no_names Parts
   names_are = sym (map-map (λ (p : NamedPart). p.name) (shown wires) parts) ∙ ap (map (λ (p : NamedPart). p.name)) flat.parts_are ∙ top-shows design valid Parts
 
-  parts_once : repeated (part_names parts) ≡ []
-  parts_once = ap repeated names_are ∙ repeated-Different _ (instances-differ design.types design.blocks (good_blocks design valid) design.top).parts
-
   wires_once : repeated wires ≡ []
   wires_once =
       let good = good_blocks design valid in
@@ -63,7 +60,7 @@ module _ (design : Design) (valid : is_design design ≡ true) (passed : refusal
 
   -- Nothing is refused.
   built-flat : built parts wires (tables_of design.types) ≡ Ok (flat_device design)
-  built-flat = grind (arith, built-over, many_parts, many_wires, parts_once, wires_once, arities)
+  built-flat = grind (arith, built-over, many_parts, many_wires, wires_once, arities, names_are, repeated-Different, instances-differ, good_blocks)
 
   module _ (tables : List TruthTable) (are : tables ≡ tables_of design.types) where
     built-here : built parts wires tables ≡ Ok (flat_device design)

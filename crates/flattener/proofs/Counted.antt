@@ -41,11 +41,8 @@ Counted-wires wires h = grind arith
 sum_saturated : (a b c : ℕ) → c ≡ a + b → saturated (saturated a + saturated b) ≡ saturated c
 sum_saturated a b c e = omega arith
 
-length_saturated : (a b : ℕ) (xs ys : List Name) → a ≡ saturated (length xs) → b ≡ saturated (length ys) → saturated (a + b) ≡ saturated (length (xs ++ ys))
-length_saturated a b xs ys e f = (λ i. saturated (e i + f i)) ∙ sum_saturated (length xs) (length ys) (length (xs ++ ys)) (length-append xs ys)
-
 pub Counted-added : (a b : Counts) (r s : Inner) → Counted a r → Counted b s → Counted (added a b) (joined r s)
-Counted-added a b r s h g = grind (arith, length_saturated, longest-append, AllSome-append)
+Counted-added a b r s h g = grind (arith, longest-append, AllSome-append, sum_saturated, length-append)
 
 Counted-part : (name : Name) → Plain name → Counted (counts_of_part name) (part_named name)
 Counted-part name p = grind arith

@@ -54,12 +54,9 @@ module _ (inners : List Inner) (h : (j : ℕ) → Differ (get_or inners j no_nam
     inside-parts : Different (flat_map (λ u. names_used inners u Parts) block.parts)
     inside-parts = grind (arith, Different-headed, headed, plain, parts-differ, Different-from_test)
 
-    inside-wires : Different (flat_map (λ u. names_used inners u Wires) block.parts)
-    inside-wires = grind (arith, Different-headed, headed, plain, wires-differ, Different-from_test)
-
     -- all wires of a block, with those that are passed to it
     pub all-wires : Different (block.wires ++ flat_map (λ u. names_used inners u Wires) block.parts)
-    all-wires = grind (arith, Different-append, Different-from_test, inside-wires, all-dotted, list_all-among)
+    all-wires = grind (arith, Different-append, Different-from_test, all-dotted, list_all-among, Different-headed, headed, plain, wires-differ)
 
     Differ-block : Differ (names_in block inners)
     Differ-block = record {

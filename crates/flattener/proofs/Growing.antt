@@ -38,11 +38,8 @@ within_more : (m n : ℕ) (ps : List ℕ) → m ≤ n → are_within m ps ≡ tr
 within_more m n [] l h = refl
 within_more m n (p ∷ ps) l h = grind (arith, within_more m n ps l)
 
-wires_stay : (wires more : List Name) (ps : List ℕ) → are_within (length wires) ps ≡ true → map (wire_at (wires ++ more)) ps ≡ map (wire_at wires) ps
-wires_stay wires more ps h = map_same (λ p. nat_lt p (length wires)) (wire_at (wires ++ more)) (wire_at wires) (λ p t. get_or_append_left wires more [] p (ltb-true p (length wires) t)) ps h
-
 shown_stay : (wires more : List Name) (parts : List Component) → are_joined wires parts ≡ true → map (shown (wires ++ more)) parts ≡ map (shown wires) parts
-shown_stay wires more parts h = grind (arith, map_same, wires_stay)
+shown_stay wires more parts h = grind (arith, map_same, more, get_or_append_left, ltb-true)
 
 joined_stay : (wires more : List Name) (parts : List Component) → are_joined wires parts ≡ true → are_joined (wires ++ more) parts ≡ true
 joined_stay wires more [] h = refl
@@ -65,25 +62,19 @@ module _ (old own more : List Name) (passed : List ℕ) (within : are_within (le
     pub inside : position_of passed (length old) wire < length (old ++ (own ++ more))
     pub named : wire_at (old ++ (own ++ more)) (position_of passed (length old) wire) ≡ wire_at (map (wire_at old) passed ++ own) wire
 
-  many : length (old ++ (own ++ more)) ≡ length old + (length own + length more)
-  many = length-append old (own ++ more) ∙ ap (λ n. length old + n) (length-append own more)
-
   Named-first : (wire : ℕ) → wire < length passed → Named wire
-  Named-first wire l = grind (arith, list_all-at, many, get_or_append_left, get_or-map, length-map)
+  Named-first wire l = grind (arith, list_all-at, get_or_append_left, get_or-map, length-map, length-append, more)
 
   Named-own : (wire : ℕ) → length passed ≤ wire → wire < length passed + length own → Named wire
-  Named-own wire l m = grind (arith, many, get_or_append_left, get_or-append_right, length-map)
-
-  position-named : (wire : ℕ) → wire < length passed + length own → Named wire
-  position-named wire l = elim (cases_lt wire (length passed)) [ inl m ↦ Named-first wire m | inr m ↦ Named-own wire m l ]
+  Named-own wire l m = grind (arith, get_or_append_left, get_or-append_right, length-map, length-append, more)
 
   pub positions-named : (args : List ℕ) → are_within (length passed + length own) args ≡ true
       → map (wire_at (old ++ (own ++ more))) (map (position_of passed (length old)) args) ≡ map (wire_at (map (wire_at old) passed ++ own)) args
-  positions-named args h = grind (arith, map-map, map_same, position-named)
+  positions-named args h = grind (arith, map-map, map_same, cases_lt, Named-first, Named-own)
 
   pub positions-within : (args : List ℕ) → are_within (length passed + length own) args ≡ true → are_within (length (old ++ (own ++ more))) (map (position_of passed (length old)) args) ≡ true
   positions-within [] h = refl
-  positions-within (a ∷ args) h = grind (arith, position-named, positions-within args)
+  positions-within (a ∷ args) h = grind (arith, positions-within args, cases_lt, Named-first, Named-own)
 
 -- ---- short paths
 
@@ -134,14 +125,9 @@ module _ (types : List Shape) (blocks : List Block) (good : are_blocks types [] 
   pub before : (inner args : ℕ) → block_takes (slice_get (take place blocks) inner) args ≡ true → IsBefore blocks place inner args
   before inner args h = grind (arith, length-take-le, got, get_or-take, slice_get_past)
 
-  -- a block is made of the blocks before it, and so of all
-  kind-fixed : (kind : UsedKind) (args : ℕ) (path : Name) (passed : List Name) → takes_args types (take place blocks) kind args ≡ true
-      → kind_content (values instance (take place blocks)) kind path passed ≡ kind_content (values instance blocks) kind path passed
-  kind-fixed kind args path passed h = grind (arith, before, values-before)
-
   used-fixed : (path : Name) (wires : List Name) (used : Used) → is_used types (take place blocks) (length (get_or blocks place no_block).wires) used ≡ true
       → used_content (values instance (take place blocks)) path wires used ≡ used_content (values instance blocks) path wires used
-  used-fixed path wires used h = grind (arith, kind-fixed)
+  used-fixed path wires used h = grind (arith, before, values-before)
 
   pub fixed : (path : Name) (passed : List Name) → get_or (values instance blocks) place nothing path passed ≡ instance (get_or blocks place no_block) (values instance blocks) path passed
   fixed path passed =
@@ -199,9 +185,6 @@ module _ {design : Design} {place : ℕ} {path : Name} {passed : List ℕ} {old 
   ports_first : length passed ≡ (block_at design place).ports
   ports_first = can.ports ∙ ports_there design.blocks place can.there
 
-  few_whole : length old + length whole.wires ≤ WIRE_LIMIT
-  few_whole = let e = ap (λ (c : Content). length c.wires) whole_is in let f = can.few in omega arith
-
   short_whole : are_short (paths_of whole) ≡ true
   short_whole = ap (λ (c : Content). are_short (paths_of c)) (sym whole_is) ∙ can.short
 
@@ -215,7 +198,7 @@ module _ {design : Design} {place : ℕ} {path : Name} {passed : List ℕ} {old 
       omega arith
 
   own_few : length own ≤ WIRE_LIMIT
-  own_few = grind (arith, length-append, few_whole)
+  own_few = grind (arith, length-append, whole_is)
 
   -- ---- what the code reads
 
@@ -264,12 +247,9 @@ module _ {design : Design} {place : ℕ} {path : Name} {passed : List ℕ} {old 
     pub wires-more : (so_far design place (i + 1) path names).wires ≡ (so_far design place i path names).wires ++ (content used).wires
     wires-more = ap (λ ns. own ++ ns) (more (λ (c : Content). c.wires)) ∙ sym (append_assoc own (flat_map (λ (c : Content). c.wires) (map content done)) (content used).wires)
 
-    rest : {A : Type 0} (f : Content → List A) → flat_map f (map content (block_at design place).parts) ≡ (flat_map f (map content done) ++ f (content used)) ++ flat_map f (map content left)
-    rest f = grind (arith, cut, map-append, flat_map-append, append_assoc)
-
     -- the wires of the parts up to this one are some of all
     pub few-wires : length (so_far design place i path names).wires + length (content used).wires ≤ length whole.wires
-    few-wires = grind (arith, rest, length-append)
+    few-wires = grind (arith, length-append, cut, map-append, flat_map-append, append_assoc)
 
     -- its paths are short where all are
     pub short-used : (which : Which) → are_short (names_of which whole) ≡ true → are_short (names_of which (content used)) ≡ true
@@ -307,7 +287,7 @@ module _ {design : Design} {place : ℕ} {path : Name} {passed : List ℕ} {old 
       ports_within = grind (arith, positions-within, args_good)
 
       pub few_used : length wires + length (content used).wires ≤ WIRE_LIMIT
-      few_used = grind (arith, length-append, few-wires, few_whole)
+      few_used = grind (arith, length-append, few-wires, whole_is)
 
       -- behind a gate or a part of a type
       part_grows : (kind : Kind) (more_parts : List Component) → content used ≡ one_part (below path used.name) kind (map (wire_at (names ++ own)) used.args)

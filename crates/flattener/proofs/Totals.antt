@@ -134,9 +134,6 @@ module _ (design : Design) (valid : is_design design ≡ true) where
     longest_few : longest_in all ≤ NAME_LIMIT
     longest_few = let e = top-counted.longest in let f = allowed.longest in omega arith
 
-    pub top-short : are_short (paths_of (top_content design)) ≡ true
-    top-short = grind (arith, short_all, top-shows, short_from_longest, longest_few, longest-append)
-
   -- ---- the call that expands the top
 
   module _ (place : ℕ) (top_is : place ≡ design.top) (places : List ℕ) (places_are : places ≡ range_with_len 0 (length (top_ports design)))
@@ -156,7 +153,7 @@ module _ (design : Design) (valid : is_design design ≡ true) where
     content_is = grind (arith, wires_all)
 
     pub CanExpand-top : refusal (counts_of_design design) ≡ None → CanExpand design place [] places wires
-    CanExpand-top passed = grind (arith, ports_count, range_within, content_is, length-append, few_wires, top-short)
+    CanExpand-top passed = grind (arith, ports_count, range_within, content_is, length-append, few_wires, short_all, top-shows, short_from_longest, longest_few, longest-append)
 
     pub IsFlat-from_Grows : (old parts : List Component) (all_wires : List Name) → old ≡ []
         → Grows old wires (instance_at design place [] (map (wire_at wires) places)) parts all_wires → IsFlat design parts all_wires

@@ -15,16 +15,7 @@ use Rattle.node_store.specs.Stores.{Stored, IsStore, EachOnce, AddsAtMost, liter
 pub IsStore-add : (old : Stored) (nodes : List Node) (node : Node) → IsStore old → AddsAtMost old.nodes node nodes → EachOnce nodes → node_fits old.vars (length old.nodes) node ≡ true
     → ((v : ℕ) → apart_at (mentions old.nodes v) node.what node.kids ≡ true) → old.made < MADE_LIMIT → length node.kids < CHILD_LIMIT
     → IsStore (record { nodes = nodes; vars = old.vars; made = old.made + 1; handed = old.handed + length node.kids })
-IsStore-add old nodes node is (inl e) once fits apart few few_kids = record {
-  nodes = subst (AreNodes old.vars) (sym e) is.nodes;
-  once = once;
-  literals = λ v positive some within. ap (λ ns. slice_get ns (literal_place v positive)) e ∙ is.literals v positive some within;
-  few = omega (arith, ap length e, is.few);
-  few_edges = omega (arith, ap edges e, is.few_edges);
-  few_made = omega arith;
-  few_handed = omega (arith, is.few_handed);
-  few_vars = is.few_vars;
-}
+IsStore-add old nodes node is (inl e) once fits apart few few_kids = grind arith
 IsStore-add old nodes node is (inr e) once fits apart few few_kids = record {
   nodes = subst (AreNodes old.vars) (sym e) (AreNodes-push old.vars old.nodes node is.nodes fits apart);
   once = once;

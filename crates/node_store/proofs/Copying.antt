@@ -27,9 +27,7 @@ pub take-more : (nodes : List Node) (i : ℕ) (node : Node) → slice_get nodes 
 take-more nodes i node e = take_more nodes i node (slice_get_within nodes i node e) ∙ ap (λ n. take i nodes ++ n ∷ []) (get_or_from_slice_get nodes i node node e)
 
 pub edges-push : (nodes : List Node) (node : Node) → edges (nodes ++ node ∷ []) ≡ edges nodes + length node.kids
-edges-push nodes node =
-    let one : edges (node ∷ []) ≡ length node.kids = omega arith in
-    omega (arith, sum_by-append (λ (x : Node). length x.kids) nodes (node ∷ []), one)
+edges-push nodes node = grind (arith, sum_by-append)
 
 below_or_last : (k n : ℕ) → k < n + 1 → (k < n) ⊎ (k ≡ n)
 below_or_last k n h = grind arith
@@ -69,10 +67,7 @@ module _ (vars : ℕ) (nodes : List Node) (marks : List Bool) (copies : List Nod
     kept k h = get_or_append_left numbers (0 ∷ []) 0 k (omega (arith, is.long))
 
     before_at : (k : ℕ) → k < at + 1 → bit_in marks k ≡ true → k < at
-    before_at k h m = elim (below_or_last k at h) [
-      | inl lt ↦ lt
-      | inr same ↦ absurd (never_both (bit_in marks k) m (ap (bit_in marks) same ∙ unmarked))
-    ]
+    before_at k h m = grind arith
 
     clash : (b : Bool) → b ≡ true → b ≡ false → ⊥
     clash b e f = let g : true ≡ false = sym e ∙ f in (cc)
@@ -91,9 +86,7 @@ module _ (vars : ℕ) (nodes : List Node) (marks : List Bool) (copies : List Nod
     kids_within (k ∷ ks) lt m = λ j. lt-ltb (slice_index numbers k) (length copies) (is.same k (lt 0 0 (omega arith)) (m 0 0 (omega arith))).within j && kids_within ks (λ i d h. lt (suc i) d (omega arith)) (λ i d h. m (suc i) d (omega arith)) j
 
     kind_same : (what : NodeKind) (ks : List ℕ) → kind_fits vars what ks ≡ true → kind_fits vars what (map (slice_index numbers) ks) ≡ true
-    kind_same (Literal positive var) ks e = ap (λ n. (n == 0) && (nat_le 1 var && nat_le var vars)) (length-map ks (slice_index numbers)) ∙ e
-    kind_same And ks e = ap (λ n. nat_lt n CHILD_LIMIT) (length-map ks (slice_index numbers)) ∙ e
-    kind_same Or ks e = ap (λ n. nat_lt n CHILD_LIMIT) (length-map ks (slice_index numbers)) ∙ e
+    kind_same what ks e = grind (arith, length-map)
 
     lt_at : All (λ k. k < at) node.kids
     lt_at = before vars nodes are at node there
@@ -222,13 +215,7 @@ module _ (store : Stored) (root : ℕ) (marks : List Bool) (copies : List Node) 
   IsTaken k = (k < length marks) × (bit_in marks k ≡ true)
 
   tell_apart : (a b : ℕ) → IsTaken a → IsTaken b → slice_index numbers a ≡ slice_index numbers b → a ≡ b
-  tell_apart a b p q e = elim (cases_lt a b) [
-    | inl lt ↦ absurd (omega (arith, e, copied.rising a b lt q.0 p.1 q.1))
-    | inr ge ↦ elim (cases_lt b a) [
-      | inl lt ↦ absurd (omega (arith, e, copied.rising b a lt p.0 q.1 p.1))
-      | inr le ↦ omega (arith, ge, le)
-    ]
-  ]
+  tell_apart a b p q e = grind arith
 
   kids_taken : (k : ℕ) (node : Node) → IsTaken k → slice_get store.nodes k ≡ Some node → All IsTaken node.kids
   kids_taken k node taken there = λ i d h.
@@ -306,18 +293,10 @@ module _ (store : Stored) (root : ℕ) (marks : List Bool) (copies : List Node) 
   all_in_order first second lt less =
       let a = origin_taken first (omega (arith, lt, less)) in
       let b = origin_taken second less in
-      elim (cases_lt a.0 b.0) [
-        | inl is_less ↦ omega (arith, is_less, a.3, b.3)
-        | inr ge ↦ elim (cases_lt b.0 a.0) [
-          | inl more ↦ absurd (omega (arith, lt, a.2, b.2, copied.rising b.0 a.0 more a.1.0 b.1.1 a.1.1))
-          | inr le ↦ absurd (let same : b.0 ≡ a.0 = omega (arith, ge, le) in omega (arith, lt, a.2, b.2, ap (slice_index numbers) same))
-        ]
-      ]
+      grind arith
 
   bare_same : (what : NodeKind) (ks : List ℕ) → is_bare what (map (slice_index numbers) ks) ≡ is_bare what ks
-  bare_same (Literal positive var) ks = refl
-  bare_same And ks = ap (λ n. n == 0) (length-map ks (slice_index numbers))
-  bare_same Or ks = ap (λ n. n == 0) (length-map ks (slice_index numbers))
+  bare_same what ks = grind (arith, length-map)
 
   -- a copy of a kid is that of a kid
   all_not_bare : HasNoBareKid store.nodes → HasNoBareKid copies

@@ -1,5 +1,5 @@
 -- Two nodes are equal where the kept ones are.
-use Rattle.std.proofs.Common.{◌≡◌, ℕ, zero, suc, Bool, true, false, List, [], ◌∷◌, map, Some, ap, refl, sym, ◌∙◌, subst}
+use Rattle.std.proofs.Common.{◌≡◌, ℕ, zero, suc, Bool, true, false, List, [], ◌∷◌, map, Some, ap, refl, sym, ◌∙◌, subst, arith}
 use Rattle.std.specs.Prelude.{slice_get, nat_eq}
 use Rattle.std.specs.List.{IsDistinct, AllByRecursion}
 use Rattle.std.specs.Cmp.Lexicographic.{pointwise, same_text}
@@ -32,14 +32,12 @@ literals_same var var' true false k l e = absurd (cc)
 literals_same var var' false true k l e = absurd (cc)
 
 same_of : (w z : NodeKind) (k l : SmallVec ℕ) → eq-value.it (kept w k) (kept z l) ≡ true → shown (kept w k) ≡ shown (kept z l)
-same_of (Literal positive var) (Literal positive' var') k l e = literals_same var var' positive positive' k l e
+same_of w (Literal positive' var') k l e = grind (arith, literals_same)
 same_of And And k l e = let ks = same_text k.items l.items (sym e) in λ i. record { what = And; kids = ks i }
 same_of Or Or k l e = let ks = same_text k.items l.items (sym e) in λ i. record { what = Or; kids = ks i }
 same_of (Literal positive var) And k l e = absurd (cc)
 same_of (Literal positive var) Or k l e = absurd (cc)
-same_of And (Literal positive' var') k l e = absurd (cc)
 same_of And Or k l e = absurd (cc)
-same_of Or (Literal positive' var') k l e = absurd (cc)
 same_of Or And k l e = absurd (cc)
 
 pub same_shown : (x y : Kept) → eq-value.it x y ≡ true → shown x ≡ shown y
@@ -49,24 +47,7 @@ items_eq : (xs ys : List ℕ) → xs ≡ ys → pointwise nat_eq xs ys ≡ true
 items_eq xs ys e = subst (λ zs. pointwise nat_eq xs zs ≡ true) e (nat_list_eq_equiv.refl xs)
 
 eq_of : (w z : NodeKind) (k l : SmallVec ℕ) → shown (kept w k) ≡ shown (kept z l) → eq-value.it (kept w k) (kept z l) ≡ true
-eq_of (Literal true var) (Literal true var') k l e =
-    let what : Literal true var ≡ Literal true var' = ap (λ (n : Node). n.what) e in
-    let kids : k.items ≡ l.items = ap (λ (n : Node). n.kids) e in
-    and_from (nat_eq var var') (pointwise nat_eq k.items l.items) (eq-eqb var var' (cc)) (items_eq k.items l.items kids)
-eq_of (Literal false var) (Literal false var') k l e =
-    let what : Literal false var ≡ Literal false var' = ap (λ (n : Node). n.what) e in
-    let kids : k.items ≡ l.items = ap (λ (n : Node). n.kids) e in
-    and_from (nat_eq var var') (pointwise nat_eq k.items l.items) (eq-eqb var var' (cc)) (items_eq k.items l.items kids)
-eq_of (Literal true var) (Literal false var') k l e = let what : Literal true var ≡ Literal false var' = ap (λ (n : Node). n.what) e in absurd (cc)
-eq_of (Literal false var) (Literal true var') k l e = let what : Literal false var ≡ Literal true var' = ap (λ (n : Node). n.what) e in absurd (cc)
-eq_of And And k l e = items_eq k.items l.items (ap (λ (n : Node). n.kids) e)
-eq_of Or Or k l e = items_eq k.items l.items (ap (λ (n : Node). n.kids) e)
-eq_of (Literal positive var) And k l e = let what : Literal positive var ≡ And = ap (λ (n : Node). n.what) e in absurd (cc)
-eq_of (Literal positive var) Or k l e = let what : Literal positive var ≡ Or = ap (λ (n : Node). n.what) e in absurd (cc)
-eq_of And (Literal positive' var') k l e = let what : And ≡ Literal positive' var' = ap (λ (n : Node). n.what) e in absurd (cc)
-eq_of And Or k l e = let what : And ≡ Or = ap (λ (n : Node). n.what) e in absurd (cc)
-eq_of Or (Literal positive' var') k l e = let what : Or ≡ Literal positive' var' = ap (λ (n : Node). n.what) e in absurd (cc)
-eq_of Or And k l e = let what : Or ≡ And = ap (λ (n : Node). n.what) e in absurd (cc)
+eq_of w z k l e = grind (arith, items_eq)
 
 eq_shown : (x y : Kept) → shown x ≡ shown y → eq-value.it x y ≡ true
 eq_shown x y e = eq_of x.what y.what x.kids y.kids e

@@ -18,9 +18,7 @@ use Rattle.node_store.specs.inner.Literals.{IsNew}
 
 slice_get-behind : (xs ys : List Node) (i : ℕ) → slice_get (xs ++ ys) (length xs + i) ≡ slice_get ys i
 slice_get-behind [] ys i = ap (slice_get ys) (zero-add i)
-slice_get-behind (x ∷ xs) ys i =
-    let next : suc (length xs) + i ≡ suc (length xs + i) = omega arith in
-    ap (slice_get (x ∷ (xs ++ ys))) next ∙ slice_get-behind xs ys i
+slice_get-behind (x ∷ xs) ys i = grind (arith, slice_get-behind xs ys i)
 
 slice_get-parts : (xs ys : List Node) (i : ℕ) (x : Node) → slice_get (xs ++ ys) i ≡ Some x → (slice_get xs i ≡ Some x) ⊎ ((j : ℕ) × (slice_get ys j ≡ Some x))
 slice_get-parts [] ys i x e = inr (i, e)
@@ -37,35 +35,13 @@ same_var m n e = let s : m ≡ n = cc in ap (λ (x : Node). var_in x.what) s
 
 literals_below : (n i v : ℕ) (positive : Bool) → slice_get (literals n) i ≡ Some (literal_node v positive) → v ≤ n
 literals_below zero i v positive e = absurd (cc)
-literals_below (suc n) i v positive e = by (slice_get-parts (literals n) (literal_node (n + 1) true ∷ literal_node (n + 1) false ∷ []) i (literal_node v positive) e) (literals_below n i v positive) where
-  last : (j : ℕ) → slice_get (literal_node (n + 1) true ∷ literal_node (n + 1) false ∷ []) j ≡ Some (literal_node v positive) → v ≤ suc n
-  last zero f = omega (arith, same_var (literal_node (n + 1) true) (literal_node v positive) f)
-  last (suc zero) f = omega (arith, same_var (literal_node (n + 1) false) (literal_node v positive) f)
-  last (suc (suc j)) f = absurd (cc)
-
-  by : (slice_get (literals n) i ≡ Some (literal_node v positive)) ⊎ ((j : ℕ) × (slice_get (literal_node (n + 1) true ∷ literal_node (n + 1) false ∷ []) j ≡ Some (literal_node v positive)))
-      → (slice_get (literals n) i ≡ Some (literal_node v positive) → v ≤ n) → v ≤ suc n
-  by (inl f) before = let h = before f in omega arith
-  by (inr f) before = last f.0 f.1
+literals_below (suc n) i v positive e = grind (arith, slice_get-parts, literals_below n i v positive)
 
 pub first_new : (n : ℕ) → IsNew (literals n) (literal_node (n + 1) true)
 first_new n i e = let h = literals_below n i (n + 1) true e in omega arith
 
 pub second_new : (n : ℕ) → IsNew (literals n ++ literal_node (n + 1) true ∷ []) (literal_node (n + 1) false)
-second_new n i e = by (slice_get-parts (literals n) (literal_node (n + 1) true ∷ []) i (literal_node (n + 1) false) e) where
-  differ : Some (literal_node (n + 1) true) ≡ Some (literal_node (n + 1) false) → ⊥
-  differ f =
-      let s : literal_node (n + 1) true ≡ literal_node (n + 1) false = cc in
-      let w : Literal true (n + 1) ≡ Literal false (n + 1) = ap (λ (x : Node). x.what) s in
-      (cc)
-
-  last : (j : ℕ) → slice_get (literal_node (n + 1) true ∷ []) j ≡ Some (literal_node (n + 1) false) → ⊥
-  last zero f = differ f
-  last (suc j) f = (cc)
-
-  by : (slice_get (literals n) i ≡ Some (literal_node (n + 1) false)) ⊎ ((j : ℕ) × (slice_get (literal_node (n + 1) true ∷ []) j ≡ Some (literal_node (n + 1) false))) → ⊥
-  by (inl f) = let h = literals_below n i (n + 1) false f in omega arith
-  by (inr f) = last f.0 f.1
+second_new n i e = grind (arith, slice_get-parts, literals_below)
 
 two-more : (xs : List Node) (a b : Node) → (xs ++ a ∷ []) ++ b ∷ [] ≡ xs ++ (a ∷ b ∷ [])
 two-more [] a b = refl
@@ -73,9 +49,7 @@ two-more (x ∷ xs) a b = ap (λ ns. x ∷ ns) (two-more xs a b)
 
 -- the literals of one more variable
 pub literals_more : (n : ℕ) (xs ys zs : List Node) → xs ≡ literals n → ys ≡ xs ++ literal_node (n + 1) true ∷ [] → zs ≡ ys ++ literal_node (n + 1) false ∷ [] → zs ≡ literals (n + 1)
-literals_more n xs ys zs e f g =
-    let next : suc n ≡ n + 1 = omega arith in
-    g ∙ ap (λ ns. ns ++ literal_node (n + 1) false ∷ []) (f ∙ ap (λ ns. ns ++ literal_node (n + 1) true ∷ []) e) ∙ two-more (literals n) (literal_node (n + 1) true) (literal_node (n + 1) false) ∙ ap literals next
+literals_more n xs ys zs e f g = grind (arith, two-more)
 
 length-literals : (n : ℕ) → length (literals n) ≡ 2 * n
 length-literals zero = refl
@@ -83,9 +57,7 @@ length-literals (suc n) = omega (arith, length-append (literals n) (literal_node
 
 edges-literals : (n : ℕ) → edges (literals n) ≡ 0
 edges-literals zero = refl
-edges-literals (suc n) =
-    let two : edges (literal_node (n + 1) true ∷ literal_node (n + 1) false ∷ []) ≡ 0 = refl in
-    omega (arith, sum_by-append (λ (x : Node). length x.kids) (literals n) (literal_node (n + 1) true ∷ literal_node (n + 1) false ∷ []), two, edges-literals n)
+edges-literals (suc n) = grind (arith, sum_by-append, edges-literals n)
 
 are_literals : (vars n : ℕ) → n ≤ vars → AreNodes vars (literals n)
 are_literals vars zero h = record { fit = refl; apart = λ v. tt }
@@ -133,8 +105,7 @@ pub record IsLiteral (nodes : List Node) (at var : ℕ) (positive : Bool) : Type
   pub variables : (v : ℕ) → mentions nodes v at ≡ (var == v)
 
 place_of : (var : ℕ) (positive : Bool) (r : ℕ) → r ≡ bool_byte (not positive) → 2 * (var - 1) + r ≡ literal_place var positive
-place_of var true r e = ap (λ r. 2 * (var - 1) + r) e
-place_of var false r e = ap (λ r. 2 * (var - 1) + r) e
+place_of var positive r e = grind arith
 
 pub literal_found : (store : Stored) (var : ℕ) (positive : Bool) (r : ℕ) → IsStore store → 1 ≤ var → var ≤ store.vars → r ≡ bool_byte (not positive) → IsLiteral store.nodes (2 * (var - 1) + r) var positive
 literal_found store var positive r is some within e =

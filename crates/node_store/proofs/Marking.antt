@@ -10,8 +10,7 @@ use Rattle.node_store.specs.inner.Keeping.{shown}
 use Rattle.node_store.specs.inner.Freezing.{AreBefore, IsClosedFrom, IsKidOfMarked, Marks}
 
 pub written_bits : (len : ℕ) (new old : List Bool) → length new ≡ length old → len ≡ length old → take len (new ++ drop (length new) old) ≡ new
-written_bits len new old e f =
-    (λ j. take len (new ++ drop_of_length-le old {i = length new} (omega arith) j)) ∙ ap (take len) (append-nil new) ∙ take_all len new (omega arith)
+written_bits len new old e f = grind (arith, drop_of_length-le, append-nil, take_all)
 
 pub shown_at : (xs : List Kept) (i : ℕ) (x : Kept) → i < length xs → x ≡ get_or xs i x → slice_get (map shown xs) i ≡ Some (shown x)
 shown_at [] i x h e = absurd (omega arith)
@@ -28,28 +27,12 @@ length-shown xs = length-map xs shown
 
 -- one more node from the end on
 pub marks_more : (nodes : List Node) (old new : List Bool) (from at root : ℕ) (kids : List ℕ) (node : Node) → at + 1 ≡ from → slice_get nodes at ≡ Some node → kids ≡ node.kids → Marks old at kids new → IsClosedFrom from nodes old → AreBefore nodes → IsClosedFrom at nodes new
-marks_more nodes old new from at root kids node e there same marks closed before_ i n le m f = by (at_or_above at i le) where
-  at_or_above : (a b : ℕ) → a ≤ b → (a ≡ b) ⊎ (a + 1 ≤ b)
-  at_or_above a b h = grind arith
-
-  by : (at ≡ i) ⊎ (at + 1 ≤ i) → All (λ k. bit_in new k ≡ true) n.kids
-  by (inl q) =
-      let s : Some node ≡ Some n = sym there ∙ (ap (slice_get nodes) q ∙ f) in
-      let same_node : node ≡ n = cc in
-      subst (λ (x : Node). All (λ k. bit_in new k ≡ true) x.kids) same_node (subst (All (λ k. bit_in new k ≡ true)) same (marks.marked (sym (marks.above at (omega arith)) ∙ ap (bit_in new) q ∙ m)))
-  by (inr h) = let old_all = closed i n (omega arith) (sym (marks.above i (omega arith)) ∙ m) f in λ k d lt. marks.kept (get_or n.kids k d) (old_all k d lt)
+marks_more nodes old new from at root kids node e there same marks closed before_ i n le m f = grind arith
 
 -- nothing is marked but the root and the kids of what is
 pub only_more : (nodes : List Node) (old new : List Bool) (at root : ℕ) (kids : List ℕ) (node : Node) → slice_get nodes at ≡ Some node → kids ≡ node.kids → Marks old at kids new
     → ((i : ℕ) → bit_in old i ≡ true → (i ≡ root) ⊎ IsKidOfMarked nodes old i) → (i : ℕ) → bit_in new i ≡ true → (i ≡ root) ⊎ IsKidOfMarked nodes new i
-only_more nodes old new at root kids node there same marks only i m = by (marks.only i m) where
-  keep : (i ≡ root) ⊎ IsKidOfMarked nodes old i → (i ≡ root) ⊎ IsKidOfMarked nodes new i
-  keep (inl is) = inl is
-  keep (inr (j, n, marked, e, has)) = inr (j, n, marks.kept j marked, e, has)
-
-  by : (bit_in old i ≡ true) ⊎ ((bit_in old at ≡ true) × Contains kids i) → (i ≡ root) ⊎ IsKidOfMarked nodes new i
-  by (inl was) = keep (only i was)
-  by (inr (marked, has)) = inr (at, node, marks.kept at marked, there, subst (λ ks. Contains ks i) same has)
+only_more nodes old new at root kids node there same marks only i m = grind arith
 
 pub none_marked : (n i : ℕ) → bit_in (replicate n false) i ≡ true → ⊥
 none_marked zero i m = cc

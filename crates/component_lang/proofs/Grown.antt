@@ -47,13 +47,10 @@ IsBlock-from_test types above block h = grind arith
 pub is_block-IsBlock : (types : List Shape) (above : List Block) (block : Block) → IsBlock types above block → is_block types above block ≡ true
 is_block-IsBlock types above block h = grind arith
 
-block_types : (types types' : List Shape) (above : List Block) (block : Block) → is_block types above block ≡ true → is_block (types ++ types') above block ≡ true
-block_types types types' above block h = grind (arith, passes_too, used_more)
-
 -- blocks stay sound under more types
 pub are_blocks-types : (types types' : List Shape) (above blocks : List Block) → are_blocks types above blocks ≡ true → are_blocks (types ++ types') above blocks ≡ true
 are_blocks-types types types' above [] h = refl
-are_blocks-types types types' above (block ∷ blocks) h = grind (arith, block_types, are_blocks-types types types' (above ++ block ∷ []) blocks)
+are_blocks-types types types' above (block ∷ blocks) h = grind (arith, are_blocks-types types types' (above ++ block ∷ []) blocks, passes_too, used_more)
 
 -- one block more
 pub are_blocks-more : (types : List Shape) (above blocks : List Block) (block : Block) → are_blocks types above blocks ≡ true → is_block types (above ++ blocks) block ≡ true

@@ -38,27 +38,21 @@ unless-keeps n b what r h = grind arith
 either-keeps : (n : ℕ) (b : Bool) (r s : Result Reader LangFault) → Keeps n r → Keeps n s → Keeps n (if b then r else s)
 either-keeps n b r s h g = grind arith
 
-all_fits : (k : ℕ) → nat_lt (2 ^ k - 1) (2 ^ k) ≡ true
-all_fits k = lt-ltb (2 ^ k - 1) (2 ^ k) (let p = pow_pos k in omega arith)
-
 -- a cost that is read may be one
 cost_in-fits : (word : List ℕ) → is_cost (unwrap_or (cost_in word) 1) ≡ true
 cost_in-fits word = grind arith
 
 module _ (reader : Reader) (n : ℕ) (blocks_sound : are_blocks reader.types [] reader.blocks ≡ true) where
   type_line-keeps : (name : Name) (ports : List Name) → length reader.types + length reader.blocks ≤ n → Keeps n (type_line reader name ports)
-  type_line-keeps name ports l = grind (arith, pow_pos, all_fits)
+  type_line-keeps name ports l = grind (arith, pow_pos, lt-ltb)
 
   block_line-keeps : (name : Name) (ports : List Name) → length reader.types + length reader.blocks + length ports ≤ n → Keeps n (block_line reader name ports)
   block_line-keeps name ports l = grind arith
 
-  top_of_kind-keeps : (name : Name) (o : Option UsedKind) → kind_named reader name ≡ o → length reader.types + length reader.blocks ≤ n → Keeps n (top_of_kind reader o)
-  top_of_kind-keeps name o e l = grind (arith, kind_named-place)
-
   outside-keeps : (line : List Name) → length reader.types + length reader.blocks + length line ≤ n → Keeps n (outside reader line)
   outside-keeps [] l = tt
   outside-keeps (word ∷ []) l = tt
-  outside-keeps (word ∷ name ∷ []) l = grind (arith, top_of_kind-keeps)
+  outside-keeps (word ∷ name ∷ []) l = grind (arith, kind_named-place)
   outside-keeps (word ∷ name ∷ port ∷ ports) l =
       either-keeps n (same_name word (codes "type")) _ _ (type_line-keeps name (port ∷ ports) (omega arith))
       (either-keeps n (same_name word (codes "block")) _ (Err NotHere) (block_line-keeps name (port ∷ ports) (omega arith)) tt)

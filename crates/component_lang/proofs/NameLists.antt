@@ -42,10 +42,6 @@ any_after : (above : List Name) (n : Name) (names : List Name) → list_any (is_
 any_after above n [] = refl
 any_after above n (m ∷ names) = grind (arith, list_any-append, same_name-sym, any_after above n names)
 
--- the first name is new, and the others are new after it
-pub are_new-first : (above : List Name) (n : Name) (names : List Name) → are_new above (n ∷ names) ≡ (not (is_among above n) && are_new (insert_key same_name above n) names)
-are_new-first above n names = grind (arith, any_after)
-
 abbrev pub if_plain : {A : Type 0} → Bool → Result A LangFault → Result A LangFault
 if_plain p r = if p then r else Err NoName
 
@@ -62,7 +58,7 @@ more_names new above names = if list_all is_plain_name names then (if new && are
 -- the first of more names is added
 pub more_names-first : (new : Bool) (above : List Name) (n : Name) (names added : List Name) (is_new : Bool) → with_name above n ≡ Ok (added, is_new)
     → more_names new above (n ∷ names) ≡ more_names (new && is_new) added names
-more_names-first new above n names added is_new h = grind (arith, append_assoc, are_new-first)
+more_names-first new above n names added is_new h = grind (arith, append_assoc, any_after)
 
 -- a fault of the others is one of all
 pub more_names-fault : (new : Bool) (above names : List Name) (what : LangFault) → more_names true above names ≡ Err what → more_names new above names ≡ Err what
@@ -88,19 +84,13 @@ pub among_position : (p : Name → Bool) (ns : List Name) → list_any p ns ≡ 
 among_position p [] = refl
 among_position p (n ∷ ns) = grind (arith, among_position p ns)
 
-place_found : (wires : List Name) (n : Name) (place : ℕ) → position (same_name n) wires ≡ Some place → (is_among wires n ≡ true) × (place_in wires n ≡ place)
-place_found wires n place h = grind (arith, among_position)
-
-place_missing : (wires : List Name) (n : Name) → position (same_name n) wires ≡ None → is_among wires n ≡ false
-place_missing wires n h = among_position (same_name n) wires ∙ none_given (nat_lt (place_in wires n) (length wires)) (place_in wires n) h
-
 pub more_places-known : (known : Bool) (done : List ℕ) (wires : List Name) (n : Name) (names : List Name) (place : ℕ) → is_plain_name n ≡ true → position (same_name n) wires ≡ Some place
     → more_places known done wires (n ∷ names) ≡ more_places known (done ++ place ∷ []) wires names
-more_places-known known done wires n names place plain h = grind (arith, place_found, append_assoc)
+more_places-known known done wires n names place plain h = grind (arith, append_assoc, among_position)
 
 pub more_places-unknown : (known : Bool) (done : List ℕ) (wires : List Name) (n : Name) (names : List Name) → is_plain_name n ≡ true → position (same_name n) wires ≡ None
     → more_places known done wires (n ∷ names) ≡ more_places false done wires names
-more_places-unknown known done wires n names plain h = grind (arith, place_missing)
+more_places-unknown known done wires n names plain h = grind (arith, among_position, none_given)
 
 -- ---- names of a list
 

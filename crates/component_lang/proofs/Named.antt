@@ -59,9 +59,6 @@ blocks-placed place (b ∷ blocks) = ap (λ ks. (b.name, OfBlock place) ∷ ks) 
 lookup-types : (p : Name → Bool) (types : List Shape) → lookup p (types_from 0 types) ≡ option_map OfShape (position p (type_names types))
 lookup-types p types = ap (lookup p) (types-placed 0 types) ∙ lookup-placed OfShape p 0 (type_names types) ∙ from_zero OfShape (position p (type_names types))
 
-lookup-blocks : (p : Name → Bool) (blocks : List Block) → lookup p (blocks_from 0 blocks) ≡ option_map OfBlock (position p (block_names blocks))
-lookup-blocks p blocks = ap (lookup p) (blocks-placed 0 blocks) ∙ lookup-placed OfBlock p 0 (block_names blocks) ∙ from_zero OfBlock (position p (block_names blocks))
-
 -- a name is first that of a gate, then that of a type and then that of a block
 kind_named-split : (reader : Reader) (name : Name) → kind_named reader name
     ≡ first_some (lookup (same_name name) gates) (first_some (lookup (same_name name) (types_from 0 reader.types)) (lookup (same_name name) (blocks_from 0 reader.blocks)))
@@ -77,7 +74,7 @@ kind_named-type reader name place g t = grind (arith, lookup-types, kind_named-s
 
 pub kind_named-block : (reader : Reader) (name : Name) (o : Option ℕ) → lookup (same_name name) gates ≡ None → position (same_name name) (type_names reader.types) ≡ None
     → position (same_name name) (block_names reader.blocks) ≡ o → kind_named reader name ≡ option_map OfBlock o
-kind_named-block reader name o g t b = grind (arith, lookup-types, kind_named-split, lookup-blocks)
+kind_named-block reader name o g t b = grind (arith, lookup-types, kind_named-split, blocks-placed, lookup-placed, from_zero)
 
 -- ---- free names
 
@@ -98,4 +95,4 @@ is_gate (OfBlock place) = false
 
 -- the place of a block that a name has is that of a block
 pub kind_named-place : (reader : Reader) (name : Name) (place : ℕ) → kind_named reader name ≡ Some (OfBlock place) → place < length reader.blocks
-kind_named-place reader name place e = grind (arith, kind_named-split, lookup-blocks, length-map, lookup-types)
+kind_named-place reader name place e = grind (arith, kind_named-split, length-map, lookup-types, blocks-placed, lookup-placed, from_zero)

@@ -14,8 +14,7 @@ block-below a b size l = let h : (a + 1) * size ≤ b * size = mul-le-mul_right 
 
 -- two blocks are apart
 pub blocks-apart : (size a b : ℕ) → a ≢ b → Apart (a * size) size (b * size) size
-blocks-apart size a b ne =
-    ⊎_elim (λ l. inl (block-below a b size l)) (λ g. inr (block-below b a size (omega (arith, g, ne)))) (cases_lt a b)
+blocks-apart size a b ne = grind (arith, block-below)
 
 pub out_within : (out : List Bool) (n : ℕ) → get_or out n false ≡ true → n < length out
 out_within [] n e = absurd (let never : ⊥ = cc in never)
@@ -27,17 +26,11 @@ is_free out = cond (not out) 1 0
 
 -- one less is free when one is handed out
 pub count-taken : (out : List Bool) (n : ℕ) → n < length out → get_or out n true ≡ false → count_by not (set out n true) + 1 ≡ count_by not out
-count-taken out n l e =
-    let all : count_by not (set out n true) + is_free (get_or out n true) ≡ count_by not out + 0 = sum_by-set is_free out n true true l in
-    let one : is_free (get_or out n true) ≡ 1 = ap is_free e in
-    omega (arith, all, one)
+count-taken out n l e = grind (arith, sum_by-set)
 
 -- and one more when one is given back
 pub count-given : (out : List Bool) (n : ℕ) → get_or out n false ≡ true → count_by not (set out n false) ≡ count_by not out + 1
-count-given out n e =
-    let all : count_by not (set out n false) + is_free (get_or out n false) ≡ count_by not out + 1 = sum_by-set is_free out n false false (out_within out n e) in
-    let none : is_free (get_or out n false) ≡ 0 = ap is_free e in
-    omega (arith, all, none)
+count-given out n e = grind (arith, sum_by-set, out_within)
 
 -- a block that is given back at once is free as before
 pub given_back : (out : List Bool) (n : ℕ) → get_or out n true ≡ false → set (set out n true) n false ≡ out
@@ -54,9 +47,4 @@ count-less out n e =
 -- a block keeps its words when another is written
 pub block-stays : (pool : Blocks) (a b : ℕ) → length pool.words ≡ length pool.out * pool.size → IsOut pool a → IsOut pool b → b ≢ a
     → (new : List ℕ) → length new ≡ pool.size → block_words (with_block pool a new) b ≡ block_words pool b
-block-stays pool a b all out_a out_b ne new long =
-    let size = pool.size in
-    let ends = block-below a (length pool.out) size (out_within pool.out a out_a) in
-    let fits : a * size + length new ≤ length pool.words = omega (arith, ends, all, long) in
-    let other : a ≢ b = (λ e. ne (sym e)) in
-    written-apart pool.words (a * size) new fits (b * size) size (subst (λ n. Apart (a * size) n (b * size) size) (sym long) (blocks-apart size a b other))
+block-stays pool a b all out_a out_b ne new long = grind (arith, block-below, out_within, written-apart)

@@ -20,42 +20,22 @@ block-fits pool sound number within = let ends = block-below number (length pool
 
 -- it has the size of the pool's blocks
 pub length-block : (pool : Blocks) → pools.IsSound pool → (number : ℕ) → IsOut pool number → length (block_words pool number) ≡ pool.size
-length-block pool sound number out =
-    length-words_at pool.words (number * pool.size) pool.size (block-fits pool sound number (out_within pool.out number out))
+length-block pool sound number out = grind (arith, length-words_at, block-fits, out_within)
 
 -- all words of a block that is handed out are 0
 pub taken-zeroed : (pool : Blocks) → pools.IsSound pool → (number : ℕ) → number < length pool.out → block_words (taken pool number) number ≡ replicate pool.size 0
-taken-zeroed pool sound number within =
-    let zeros : List ℕ = replicate pool.size 0 in
-    let long : length zeros ≡ pool.size = length-replicate {A = ℕ} pool.size 0 in
-    let fits = block-fits pool sound number within in
-    subst (λ n. words_at (written pool.words (number * pool.size) zeros) (number * pool.size) n ≡ zeros) long
-    (written-there pool.words (number * pool.size) zeros (omega (arith, fits, long)))
+taken-zeroed pool sound number within = grind (arith, length-replicate, written-there)
 
 -- a block keeps its words when another is handed out
 pub taken-others : (pool : Blocks) → pools.IsSound pool → (number other : ℕ) → IsFree pool number → IsOut pool other → block_words (taken pool number) other ≡ block_words pool other
-taken-others pool sound number other inside out =
-    let zeros : List ℕ = replicate pool.size 0 in
-    let long : length zeros ≡ pool.size = length-replicate {A = ℕ} pool.size 0 in
-    let fits = block-fits pool sound number inside.0 in
-    let differs : number ≢ other = (λ e. apart e) in
-    written-apart pool.words (number * pool.size) zeros (omega (arith, fits, long)) (other * pool.size) pool.size
-    (subst (λ n. Apart (number * pool.size) n (other * pool.size) pool.size) (sym long) (blocks-apart pool.size number other differs))
-  where
-    apart : number ≡ other → ⊥
-    apart e =
-        let same : get_or pool.out number false ≡ true = subst (λ n. get_or pool.out n false ≡ true) (sym e) out in
-        let other_default : get_or pool.out number true ≡ get_or pool.out number false = get_or_default pool.out number true false inside.0 in
-        let never : true ≡ false = sym same ∙ (sym other_default ∙ inside.1) in
-        absurd (let no : ⊥ = cc in no)
+taken-others pool sound number other inside out = grind (arith, length-replicate, block-fits, written-apart, blocks-apart, get_or_default)
 
 -- the one that was handed out is out, and every pool stays sound
 pub taken-out : (pool : Blocks) (number : ℕ) → number < length pool.out → IsOut (taken pool number) number
 taken-out pool number within = get_or-set_same pool.out number true false within
 
 pub taken-sound : (pool : Blocks) (number : ℕ) → pools.IsSound pool → pools.IsSound (taken pool number)
-taken-sound pool number sound =
-    length-written pool.words (number * pool.size) (replicate pool.size 0) ∙ (sound ∙ ap (λ n. n * pool.size) (sym (length-set pool.out number true)))
+taken-sound pool number sound = grind (arith, length-written, length-set)
 
 pub given-sound : (pool : Blocks) (number : ℕ) → pools.IsSound pool → pools.IsSound (given pool number)
 given-sound pool number sound = sound ∙ ap (λ n. n * pool.size) (sym (length-set pool.out number false))
@@ -66,10 +46,7 @@ with_block-sound pool number new sound = length-written pool.words (number * poo
 -- a block has the words that are written to it
 pub written-block : (pool : Blocks) → pools.IsSound pool → (number : ℕ) → IsOut pool number
     → (new : List ℕ) → length new ≡ pool.size → block_words (with_block pool number new) number ≡ new
-written-block pool sound number out new long =
-    let fits = block-fits pool sound number (out_within pool.out number out) in
-    subst (λ n. words_at (written pool.words (number * pool.size) new) (number * pool.size) n ≡ new) long
-    (written-there pool.words (number * pool.size) new (omega (arith, fits, long)))
+written-block pool sound number out new long = grind (arith, block-fits, out_within, written-there)
 
 -- a block keeps its words when another is written
 pub written-others : (pool : Blocks) → pools.IsSound pool → (number other : ℕ) → IsOut pool number → IsOut pool other → other ≢ number
@@ -85,11 +62,7 @@ length-run region sound run held =
 
 -- all words of a run that is carved are 0
 pub carved-zeroed : (region : Carved) (run : Span) → run.start + run.len ≤ length region.words → run_words (carved region run) run ≡ replicate run.len 0
-carved-zeroed region run fits =
-    let zeros : List ℕ = replicate run.len 0 in
-    let long : length zeros ≡ run.len = length-replicate {A = ℕ} run.len 0 in
-    subst (λ n. words_at (written region.words run.start zeros) run.start n ≡ zeros) long
-    (written-there region.words run.start zeros (omega (arith, fits, long)))
+carved-zeroed region run fits = grind (arith, length-replicate, written-there)
 
 -- a run keeps its words when another is carved behind it
 pub carved-others : (region : Carved) → regions.IsSound region → (run other : Span) → run.start ≡ words_used region.runs → run.start + run.len ≤ length region.words
@@ -106,8 +79,7 @@ pub written-run : (region : Carved) → regions.IsSound region → (run : Span) 
 written-run region sound run held new long =
     let lies = contained region.runs run sound.0 held in
     let room = sound.1 in
-    subst (λ n. words_at (written region.words run.start new) run.start n ≡ new) long
-    (written-there region.words run.start new (omega (arith, lies, long, room)))
+    grind (arith, written-there)
 
 -- a run keeps its words when another is written
 pub run-others : (region : Carved) → regions.IsSound region → (run other : Span) → Contains region.runs run → Contains region.runs other → other ≢ run
@@ -127,11 +99,7 @@ given-free pool number out = count-given pool.out number out
 
 -- a block stays out while another is handed out or given back
 pub taken-stays_out : (pool : Blocks) (number other : ℕ) → number < length pool.out → IsOut pool other → IsOut (taken pool number) other
-taken-stays_out pool number other within out = by_place (cases_eq other number)
-  where
-    by_place : (other ≡ number) ⊎ (other ≢ number) → IsOut (taken pool number) other
-    by_place (inl e) = subst (λ n. get_or (set pool.out number true) n false ≡ true) (sym e) (get_or-set_same pool.out number true false within)
-    by_place (inr ne) = get_or-set_other pool.out number other true false ne ∙ out
+taken-stays_out pool number other within out = grind (arith, get_or-set_same, get_or-set_other)
 
 pub given-stays_out : (pool : Blocks) (number other : ℕ) → other ≢ number → IsOut pool other → IsOut (given pool number) other
 given-stays_out pool number other ne out = get_or-set_other pool.out number other false false ne ∙ out
@@ -145,27 +113,14 @@ carved-stays_held region run other held = Contains-append_left region.runs (run 
 
 -- the words of a run are free no more, and every region stays sound
 pub carved-free : (region : Carved) (run : Span) → regions.IsSound region → run.len ≤ free_words region → free_words (carved region run) + run.len ≡ free_words region
-carved-free region run sound fits =
-    let long = length-written region.words run.start (replicate run.len 0) in
-    let more = used-append region.runs run in
-    let room = sound.1 in
-    omega (arith, long, more, room, fits)
+carved-free region run sound fits = grind (arith, length-written, used-append)
 
 pub carved-sound : (region : Carved) (run : Span) → regions.IsSound region → run.start ≡ words_used region.runs → 1 ≤ run.len → run.len ≤ free_words region
     → regions.IsSound (carved region run)
-carved-sound region run sound at some fits =
-    let long = length-written region.words run.start (replicate run.len 0) in
-    let more = used-append region.runs run in
-    let room = sound.1 in
-    (stacked-append 0 region.runs run sound.0 (omega (arith, at)) some, omega (arith, long, more, room, fits))
+carved-sound region run sound at some fits = grind (arith, length-written, used-append, stacked-append)
 
 pub with_run-sound : (region : Carved) (run : Span) (new : List ℕ) → regions.IsSound region → regions.IsSound (with_run region run new)
 with_run-sound region run new sound = (sound.0, let long = length-written region.words run.start new in let room = sound.1 in omega (arith, long, room))
 
 pub released-sound : (old new : Carved) (run : Span) → regions.IsSound old → new.words ≡ old.words → old.runs ≡ new.runs ++ run ∷ [] → regions.IsSound new
-released-sound old new run sound words runs =
-    let long = ap length words in
-    let all = ap words_used runs in
-    let more = used-append new.runs run in
-    let room = sound.1 in
-    ((stacked-front 0 new.runs run (subst (AreStacked 0) runs sound.0)).0, omega (arith, long, all, more, room))
+released-sound old new run sound words runs = grind (arith, used-append, stacked-front)

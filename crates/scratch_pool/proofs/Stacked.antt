@@ -11,11 +11,7 @@ used-cons run runs = sum_by-cons (λ (r : Span). r.len) run runs
 
 pub used-append : (runs : List Span) (run : Span) → words_used (runs ++ run ∷ []) ≡ words_used runs + run.len
 used-append [] run = omega arith
-used-append (r ∷ runs) run =
-    let rest = used-append runs run in
-    let a = used-cons r runs in
-    let b = used-cons r (runs ++ run ∷ []) in
-    omega (arith, rest, a, b)
+used-append (r ∷ runs) run = grind (arith, used-cons, used-append runs run)
 
 pub stacked-append : (start : ℕ) (runs : List Span) (run : Span) → AreStacked start runs → run.start ≡ start + words_used runs → 1 ≤ run.len → AreStacked start (runs ++ run ∷ [])
 stacked-append start [] run h e l = (omega (arith, e), l, tt)
@@ -37,19 +33,8 @@ holds_at (r ∷ runs) run (suc k) l e = inr (holds_at runs run k (omega (arith, 
 
 -- a run that is held lies within the stack
 pub within : (start : ℕ) (runs : List Span) (run : Span) → AreStacked start runs → Holds runs run → (start ≤ run.start) × (run.start + run.len ≤ start + words_used runs) × (1 ≤ run.len)
-within start (r ∷ runs) run h (inl e) =
-    let is = h.0 in
-    let some = h.1 in
-    let same : r.start ≡ run.start = ap (λ (s : Span). s.start) e in
-    let same_len : r.len ≡ run.len = ap (λ (s : Span). s.len) e in
-    let a = used-cons r runs in
-    (omega (arith, is, same), omega (arith, is, same, same_len, a), omega (arith, some, same_len))
-within start (r ∷ runs) run h (inr later) =
-    let rest = within (start + r.len) runs run h.2 later in
-    let a = rest.0 in
-    let b = rest.1 in
-    let all = used-cons r runs in
-    (omega (arith, a), omega (arith, b, all), rest.2)
+within start (r ∷ runs) run h (inl e) = grind (arith, used-cons)
+within start (r ∷ runs) run h (inr later) = grind (arith, used-cons, within (start + r.len) runs run h.2 later)
 within start [] run h held = absurd held
 
 -- two runs are the same or apart
@@ -76,5 +61,4 @@ contained runs run h k = let rest = (within 0 runs run h (holds_at runs run k.0 
 
 -- two runs of a region are the same or apart
 pub contained-apart : (runs : List Span) (one other : Span) → AreStacked 0 runs → Contains runs one → Contains runs other → other ≢ one → Apart one.start one.len other.start other.len
-contained-apart runs one other h j k ne =
-    ⊎_elim (λ e. absurd (ne (sym e))) (λ a. a) (runs-apart 0 runs one other h (holds_at runs one j.0 j.1 j.2) (holds_at runs other k.0 k.1 k.2))
+contained-apart runs one other h j k ne = grind (arith, runs-apart, holds_at)

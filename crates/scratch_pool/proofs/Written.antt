@@ -32,25 +32,15 @@ module _ (words : List ℕ) (start : ℕ) (new : List ℕ) (fits : start + lengt
   length-back = length-drop (length new) (drop start words) ∙ ap (λ n. n - length new) (length-drop start words)
 
   length-all : length (front ++ (new ++ back)) ≡ length words
-  length-all =
-      let a = length-append front (new ++ back) in
-      let b = length-append new back in
-      let c = length-front in
-      let d = length-back in
-      omega (arith, a, b, c, d, fits)
+  length-all = grind (arith, length-append, length-front, length-back)
 
   -- where they fit nothing is cut
   pub written-whole : written words start new ≡ front ++ (new ++ back)
-  written-whole =
-      ap (take (length words)) (ap (λ rest. (front ++ (new ++ back)) ++ rest) (drop_all (length (front ++ (new ++ back))) words (omega (arith, length-all))) ∙ append-nil (front ++ (new ++ back)))
-      ∙ take_all (length words) (front ++ (new ++ back)) (omega (arith, length-all))
+  written-whole = grind (arith, drop_all, length-all, append-nil, take_all)
 
   -- what was written is there
   pub written-there : words_at (written words start new) start (length new) ≡ new
-  written-there =
-      ap (λ ws. take (length new) (drop start ws)) written-whole
-      ∙ (ap (take (length new)) (ap (λ n. drop n (front ++ (new ++ back))) (sym length-front) ∙ drop-append_seam front (new ++ back))
-      ∙ take-append_seam new back)
+  written-there = grind (arith, written-whole, length-front, drop-append_seam, take-append_seam)
 
   written-before : (other len : ℕ) → other + len ≤ start → words_at (written words start new) other len ≡ words_at words other len
   written-before other len before =
@@ -60,11 +50,7 @@ module _ (words : List ℕ) (start : ℕ) (new : List ℕ) (fits : start + lengt
       let in_front : other ≤ length front = omega (arith, length-front, before) in
       let rest : drop other front ≡ take m (drop other words) = ap (λ n. drop other (take n words)) parted ∙ drop-take other m words in
       let long : len ≤ length (drop other front) = (let e = length-drop other front in omega (arith, e, length-front, before)) in
-      ap (λ ws. take len (drop other ws)) written-whole
-      ∙ (ap (take len) (drop-append-le other front (new ++ back) in_front)
-      ∙ (take-append-le len (drop other front) (new ++ back) long
-      ∙ (ap (take len) rest
-      ∙ take-take len m (drop other words) short)))
+      grind (arith, written-whole, drop-append-le, take-append-le, take-take)
 
   written-behind : (other len : ℕ) → start + length new ≤ other → words_at (written words start new) other len ≡ words_at words other len
   written-behind other len behind =
@@ -74,16 +60,12 @@ module _ (words : List ℕ) (start : ℕ) (new : List ℕ) (fits : start + lengt
       let place : start + (length new + d) ≡ other = omega (arith, behind) in
       let there : drop d back ≡ drop other words =
       drop-drop d (length new) (drop start words) ∙ (drop-drop (length new + d) start words ∙ ap (λ n. drop n words) place) in
-      ap (λ ws. take len (drop other ws)) (written-whole ∙ sym (append_assoc front new back))
-      ∙ ap (take len) (ap (λ n. drop n ((front ++ new) ++ back)) at ∙ (drop-append-add (front ++ new) back d ∙ there))
+      grind (arith, written-whole, append_assoc, drop-append-add)
 
   -- and words apart from them stay
   pub written-apart : (other len : ℕ) → Apart start (length new) other len → words_at (written words start new) other len ≡ words_at words other len
-  written-apart other len (inl behind) = written-behind other len behind
-  written-apart other len (inr before) = written-before other len before
+  written-apart other len given = grind (arith, written-behind, written-before)
 
 -- what a `Vec` holds after some of it was lent
 pub lent : {A : Type 0} (v : Vec ℕ A) (start : ℕ) (new : List ℕ) → (with_items_from v start new).items ≡ written v.items start new
-lent v start new =
-    let all : List ℕ = take start v.items ++ (new ++ drop (length new) (drop start v.items)) in
-    ap (λ n. take n (all ++ drop (length all) v.items)) v.ok.0
+lent v start new = grind arith

@@ -110,9 +110,6 @@ module _ (seq : Sequential) (frames : ℕ) where
   abbrev pub Counted : ℕ → ℕ → ℕ → Type 0
   Counted t place count = (rest : ℕ) → Have over (left_at t place) rest → Have over (map made (copies_for seq t)) (count + rest)
 
-  pub counted_none : (t : ℕ) → Counted t 0 0
-  counted_none t rest have = grind arith
-
   pub counted_more : (t place count n : ℕ) (part : Component) → place < length seq.device.parts → part ≡ get_or seq.device.parts place part
       → HasAt t (place, part) n → Counted t place count → Counted t (place + 1) (count + n)
   counted_more t place count n part lt is one so_far rest have =

@@ -1,8 +1,6 @@
 -- The copies of parts: what each is, and that they stand in the order of their names.
-use Rattle.std.proofs.Common.{◌≡◌, ℕ, zero, suc, ◌+◌, ◌-◌, ◌<◌, ◌≤◌, inl, inr, Bool, true, false, List, [], ◌∷◌, length, refl, sym, ap, subst, arith}
-use Rattle.std.specs.Prelude.{nat_lt, if◌then◌else◌}
+use Rattle.std.proofs.Common.{◌≡◌, ℕ, zero, suc, ◌+◌, ◌<◌, ◌≤◌, List, [], ◌∷◌, length, sym, subst, arith}
 use Rattle.std.specs.List.{flat_map, enumerate_from, range_with_len}
-use Rattle.std.proofs.lemmas.Bool.{ltb-true}
 use Rattle.text_rules.specs.Names.{Name}
 use Rattle.state_rules.proofs.Members.{In}
 use Rattle.device_model.specs.declared.component.Component.{Component}
@@ -11,8 +9,7 @@ use Rattle.device_model.proofs.Ordered.{Rises, Below-among}
 use Rattle.device_model.proofs.Making.{component_name}
 use Rattle.bench_reader.specs.declared.sequential.Sequential.{Sequential}
 use Rattle.frame_unroller.specs.Times.{copy_at}
-use Rattle.frame_unroller.specs.Frames.{is_delayed}
-use Rattle.frame_unroller.specs.Unrolling.{Copy, input_time, copies_of, copies_for, copies}
+use Rattle.frame_unroller.specs.Unrolling.{Copy, copies_of, copies_for, copies}
 use Rattle.frame_unroller.proofs.Members.{among-flat_map, among-range, among-enumerate}
 use Rattle.frame_unroller.proofs.Order.{copies_rise, copies_below, Rises-append}
 
@@ -28,9 +25,6 @@ module _ (seq : Sequential) where
     pub place : c.place ≡ p.0
     pub some : 1 ≤ c.before
     pub order : c.before ≤ t
-
-  not_later : (place t : ℕ) → input_time seq place t ≤ t
-  not_later place t = grind arith
 
   pub is_copy : (t : ℕ) (p : ℕ × Component) (c : Copy) → In c (copies_of seq t p) → IsCopyOf t p c
   is_copy t p c m = grind arith

@@ -1,19 +1,16 @@
 -- No clause of the copies is left out where the health of a part stands for that of its copies: a clause names the health of one copy
 -- at most, and all other variables stay apart.
-use Rattle.std.proofs.Common.{◌≡◌, ℕ, suc, ◌+◌, ◌-◌, ◌<◌, ◌≤◌, ◌⊎◌, inl, inr, Bool, true, false, not, cond, ◌&&◌, ◌||◌, List, [], ◌∷◌, ◌++◌, map, length, ℤ, neg_ℤ, Ok, Err, refl, sym, ap, ◌∙◌, arith}
-use Rattle.std.specs.Prelude.{◌==◌, nat_lt, if◌then◌else◌}
-use Rattle.std.specs.List.{All, list_any, list_all, filter, range_with_len}
-use Rattle.std.proofs.lemmas.Bool.{ne_eqb, ltb-true, cases_lt, and_parts}
+use Rattle.std.proofs.Common.{◌≡◌, ℕ, ◌+◌, ◌-◌, ◌<◌, ◌≤◌, ◌⊎◌, inl, inr, true, false, not, List, [], ◌∷◌, ◌++◌, map, length, ℤ, neg_ℤ, Ok, refl, sym, ap, ◌∙◌, arith}
+use Rattle.std.specs.Prelude.{◌==◌, nat_lt}
+use Rattle.std.specs.List.{All, list_any, list_all, range_with_len}
+use Rattle.std.proofs.lemmas.Bool.{ne_eqb, ltb-true, and_parts}
 use Rattle.std.proofs.lemmas.List.{length-map, get_or-map, get_or_append_left, get_or-append_right}
 use Rattle.std.proofs.lemmas.List.FromFn.{get_or-range_with_len}
-use Rattle.state_rules.specs.Bits.{same_bit}
 use Rattle.device_model.specs.declared.component.Component.{Component}
 use Rattle.device_model.specs.Gates.{rule}
 use Rattle.device_model.specs.Devices.{Device, IsDevice, takes_ports, has_arity}
-use Rattle.clause_encoder.specs.declared.limits.TheConstants.{CLAUSE_LIMIT}
-use Rattle.clause_encoder.specs.declared.encoding.EncodeError.TheVariants.{TooManyClauses}
 use Rattle.clause_encoder.specs.Clauses.{Clause, ClauseList, var_of, is_positive, vars_rise, is_clause}
-use Rattle.clause_encoder.specs.Encoding.{same_literal, with_literal, sorted, is_tautology, tidy, inner_count, raw_clauses, wire_variable, first_inner, clauses_from, all_clauses, raw_count, clause_list, encoded}
+use Rattle.clause_encoder.specs.Encoding.{same_literal, with_literal, sorted, is_tautology, tidy, inner_count, raw_clauses, wire_variable, first_inner, clauses_from, all_clauses, clause_list, encoded}
 use Rattle.clause_encoder.specs.Replacing.{variable_for, literal_for}
 use Rattle.clause_encoder.proofs.Literals.{AllIn, neg-literal, var_of-literal}
 use Rattle.clause_encoder.proofs.Mentioning.{Of, OfEach, Variables, Of-raw}

@@ -1,9 +1,9 @@
 -- The clauses of the copies, over the health of the parts, say what fits over the times.
 use Rattle.std.proofs.Common.{◌≡◌, ℕ, ◌+◌, ◌-◌, ◌<◌, ◌≤◌, inl, inr, Bool, true, false, List, [], ◌∷◌, ◌++◌, map, length, get_or, refl, sym, ap, ◌∙◌, append_assoc, arith}
-use Rattle.std.specs.Prelude.{◌&&◌, ◌||◌, nat_lt, nat_le, if◌then◌else◌}
+use Rattle.std.specs.Prelude.{◌&&◌, nat_lt, if◌then◌else◌}
 use Rattle.std.specs.List.{list_all, list_any, enumerate_from, range_with_len}
 use Rattle.std.proofs.Math.Bool.{and-true}
-use Rattle.std.proofs.lemmas.Bool.{and_parts, ltb-true, lt-ltb, le-ltb, le-leb, lt-leb, cases_lt}
+use Rattle.std.proofs.lemmas.Bool.{and_parts, ltb-true, lt-ltb, cases_lt}
 use Rattle.std.proofs.lemmas.List.{length-map, map-append, take-append-drop, get_or-map, get_or_append_left, get_or-append_right}
 use Rattle.std.proofs.lemmas.List.FromFn.{get_or-range_with_len}
 use Rattle.std.proofs.lemmas.List.Folds.{list_all-map}
@@ -80,9 +80,6 @@ module _ (seq : Sequential) (frames : ℕ) (valid : IsDevice seq.device) (state 
 
     one_copy : (before now : ℕ) → 1 ≤ before → list_all allowed (if nat_lt 0 before then copy before now ∷ [] else []) ≡ allowed (copy before now)
     one_copy before now some = ap (λ (b : Bool). list_all allowed (if b then copy before now ∷ [] else [])) (lt-ltb 0 before (omega arith)) ∙ and-true (allowed (copy before now))
-
-    no_copy : (before now : ℕ) → before ≡ 0 → list_all allowed (if nat_lt 0 before then copy before now ∷ [] else []) ≡ true
-    no_copy before now none = ap (λ (b : Bool). list_all allowed (if b then copy before now ∷ [] else [])) (le-ltb 0 before (omega arith))
 
     -- the copies of a part for a time allow their rows where the part fits then
     copies-fit : (t : ℕ) → 1 ≤ t → list_all allowed (copies_of seq t (place, part)) ≡ fits_at tables (is_delayed seq place) part (bit_in state place) waves t

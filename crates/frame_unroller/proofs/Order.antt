@@ -1,12 +1,8 @@
 -- Names at times: their order.
-use Rattle.std.proofs.Common.{◌≡◌, ℕ, ◌+◌, ◌*◌, ◌/◌, ◌%◌, ◌<◌, inl, inr, List, [], ◌∷◌, ◌++◌, map, refl, ◌∙◌, arith}
+use Rattle.std.proofs.Common.{◌≡◌, ℕ, ◌+◌, ◌*◌, ◌<◌, inl, inr, List, [], ◌∷◌, ◌++◌, map, refl, arith}
 use Rattle.std.proofs.lemmas.Bool.Decides.{nat_tests}
-use Rattle.std.specs.Ordering.{nat_cmp}
-use Rattle.std.specs.declared.cmp.Ordering.TheVariants.{Less}
-use Rattle.std.specs.Cmp.Lexicographic.{slice_cmp}
 use Rattle.text_rules.specs.Names.{Name}
 use Rattle.state_rules.proofs.Members.{In}
-use Rattle.device_model.proofs.DigitOrder.{first_same, next_digit}
 use Rattle.device_model.proofs.Naming.{Below}
 use Rattle.device_model.proofs.Ordered.{BelowAll, Rises}
 use Rattle.frame_unroller.specs.Times.{four_digits, copy_at}
@@ -19,13 +15,6 @@ record Spells (n a b c d : ℕ) : Type 0 where
   second : b < 10
   third : c < 10
   fourth : d < 10
-
-spells : (n : ℕ) → Spells n (n / 1000) (n / 100 % 10) (n / 10 % 10) (n % 10)
-spells n = grind arith
-
-digits_rise : (m n a b c d e f g h : ℕ) (xs ys : List ℕ) → Spells m a b c d → Spells n e f g h → m < n
-    → slice_cmp nat_cmp ((48 + a) ∷ (48 + b) ∷ (48 + c) ∷ (48 + d) ∷ xs) ((48 + e) ∷ (48 + f) ∷ (48 + g) ∷ (48 + h) ∷ ys) ≡ Less
-digits_rise m n a b c d e f g h xs ys p q l = grind (arith, nat_tests)
 
 pub times_rise : (m n : ℕ) (x y : Name) → m < n → Below (four_digits m ++ x) (four_digits n ++ y)
 times_rise m n x y l = grind (arith, nat_tests)

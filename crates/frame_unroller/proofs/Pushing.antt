@@ -2,7 +2,6 @@
 use Rattle.std.proofs.Common.{◌≡◌, ℕ, zero, suc, ◌+◌, ◌-◌, ◌*◌, ◌<◌, ◌≤◌, Bool, true, false, not, cond, List, [], ◌∷◌, ◌++◌, map, length, drop, get_or, refl, sym, ap, ◌∙◌, append_assoc, arith}
 use Rattle.std.specs.Prelude.{nat_lt, if◌then◌else◌}
 use Rattle.std.specs.List.{flat_map, filter, enumerate_from, range_with_len, count_by}
-use Rattle.std.proofs.lemmas.Bool.{lt-ltb, le-ltb}
 use Rattle.std.proofs.lemmas.List.{drop_more, map-append, length-append, flat_map_more}
 use Rattle.std.proofs.lemmas.List.Sums.{length-filter}
 use Rattle.text_rules.specs.Names.{Name}
@@ -17,9 +16,6 @@ use Rattle.frame_unroller.specs.inner.Copying.{given_copy, AreCopies}
 module _ (seq : Sequential) (t : ℕ) where
   abbrev pub copy : ℕ → Component → ℕ → Copy
   copy place part before = record { place = place; part = part; before = before; now = t }
-
-  one : (place : ℕ) (part : Component) (before : ℕ) → before ≡ input_time seq place t → 0 < before → copies_of seq t (place, part) ≡ copy place part before ∷ []
-  one place part before is some = grind arith
 
   none : (place : ℕ) (part : Component) (before : ℕ) → before ≡ input_time seq place t → before ≤ 0 → copies_of seq t (place, part) ≡ []
   none place part before is low = grind arith
@@ -43,9 +39,6 @@ module _ (seq : Sequential) (t : ℕ) where
 -- ---- how many copies there are
 
 module _ (seq : Sequential) where
-  length-one : (t : ℕ) (p : ℕ × Component) → 2 ≤ t → length (copies_of seq t p) ≡ 1
-  length-one t p later = grind arith
-
   length-later : (t a : ℕ) (parts : List Component) → 2 ≤ t → length (flat_map (copies_of seq t) (enumerate_from a parts)) ≡ length parts
   length-later t a [] later = refl
   length-later t a (p ∷ parts) later = grind (arith, length-later t (a + 1) parts later)

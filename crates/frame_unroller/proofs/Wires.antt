@@ -1,5 +1,5 @@
 -- The wires at all times: their names differ, and where each stands.
-use Rattle.std.proofs.Common.{◌≡◌, ℕ, zero, suc, ◌+◌, ◌-◌, ◌*◌, ◌<◌, ◌≤◌, true, List, [], ◌∷◌, map, length, drop, get_or, refl, sym, ap, subst, ◌∙◌, arith}
+use Rattle.std.proofs.Common.{◌≡◌, ℕ, zero, suc, ◌+◌, ◌-◌, ◌*◌, ◌<◌, ◌≤◌, true, List, [], ◌∷◌, map, length, drop, get_or, refl, sym, ap, ◌∙◌, arith}
 use Rattle.std.specs.Prelude.{nat_lt}
 use Rattle.std.specs.List.{list_all, flat_map, range_with_len}
 use Rattle.std.proofs.Math.Nat.{mul-le-mul_right}
@@ -7,7 +7,6 @@ use Rattle.std.proofs.lemmas.Bool.{and_parts, and_from, ltb-true, lt-ltb}
 use Rattle.std.proofs.lemmas.List.{length-append, length-map, get_or-map, drop_at, append_cancel_right}
 use Rattle.text_rules.specs.Names.{Name}
 use Rattle.state_rules.proofs.Members.{from_map}
-use Rattle.device_model.proofs.Naming.{Below, Below-irreflexive}
 use Rattle.device_model.proofs.Ordered.{Rises}
 use Rattle.device_model.proofs.Sorting.{itself}
 use Rattle.device_model.proofs.Apart.{Different, Different-rising, Different-append, Different-made}
@@ -16,7 +15,6 @@ use Rattle.frame_unroller.specs.Times.{four_digits, wire_at}
 use Rattle.frame_unroller.specs.Unrolling.{wires_at}
 use Rattle.frame_unroller.specs.inner.Copying.{position_at}
 use Rattle.frame_unroller.proofs.Members.{among-flat_map, among-range, length-chunks, get_or-chunks}
-use Rattle.frame_unroller.proofs.Order.{times_rise}
 
 -- ---- names
 

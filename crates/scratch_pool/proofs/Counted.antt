@@ -1,9 +1,8 @@
 -- Blocks that are out, and where they lie.
-use Rattle.std.proofs.Common.{◌≡◌, ℕ, ◌+◌, ◌*◌, ◌≤◌, ◌<◌, ◌≢◌, zero, suc, Bool, true, false, cond, List, [], ◌∷◌, length, sym, ◌∙◌, ap, arith, inl, inr, ⊎_elim, set, get_or, subst}
+use Rattle.std.proofs.Common.{◌≡◌, ℕ, ◌+◌, ◌*◌, ◌≤◌, ◌<◌, ◌≢◌, zero, suc, Bool, true, false, cond, List, [], ◌∷◌, length, arith, set, get_or}
 use Rattle.std.specs.Prelude.{not, count_by}
 use Rattle.std.proofs.Math.Nat.{mul-le-mul_right}
-use Rattle.std.proofs.lemmas.Bool.{cases_lt}
-use Rattle.std.proofs.lemmas.List.{length-set, set-set, set-get_or}
+use Rattle.std.proofs.lemmas.List.{length-set}
 use Rattle.std.proofs.lemmas.List.Sums.{sum_by-set, count_by-le-length}
 use Rattle.scratch_pool.specs.Pools.{Blocks, IsOut, block_words, with_block}
 use Rattle.scratch_pool.proofs.Written.{Apart, written-apart}
@@ -31,10 +30,6 @@ count-taken out n l e = grind (arith, sum_by-set)
 -- and one more when one is given back
 pub count-given : (out : List Bool) (n : ℕ) → get_or out n false ≡ true → count_by not (set out n false) ≡ count_by not out + 1
 count-given out n e = grind (arith, sum_by-set, out_within)
-
--- a block that is given back at once is free as before
-pub given_back : (out : List Bool) (n : ℕ) → get_or out n true ≡ false → set (set out n true) n false ≡ out
-given_back out n e = set-set out n true false ∙ subst (λ b. set out n b ≡ out) e (set-get_or out n true)
 
 -- where a block is out, not all are free
 pub count-less : (out : List Bool) (n : ℕ) → get_or out n false ≡ true → count_by not out < length out

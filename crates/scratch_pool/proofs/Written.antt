@@ -1,10 +1,9 @@
 -- Words that are written in the middle of a buffer.
-use Rattle.std.proofs.Common.{◌≡◌, ℕ, ◌+◌, ◌≤◌, Vec, List, ◌++◌, length, take, drop, refl, sym, ◌∙◌, ap, arith, append_assoc, append-nil, length-append, length-drop, inl, inr}
+use Rattle.std.proofs.Common.{◌≡◌, ℕ, ◌+◌, ◌≤◌, List, ◌++◌, length, take, drop, refl, sym, ◌∙◌, ap, arith, append_assoc, append-nil, length-append, length-drop}
 use Rattle.std.specs.Prelude.{◌-◌, ◌⊎◌}
 use Rattle.std.specs.List.{length_refill}
 use Rattle.std.proofs.Math.Seq.{drop-append_seam, take-append_seam, drop-append-add}
 use Rattle.std.proofs.lemmas.List.{length-take-le, take-append-le, drop-append-le, drop-take, drop-drop, take-take, take_all, drop_all}
-use Rattle.std.specs.Vec.{with_items_from}
 use Rattle.scratch_pool.specs.Words.{words_at, written}
 
 -- two stretches share no word
@@ -65,7 +64,3 @@ module _ (words : List ℕ) (start : ℕ) (new : List ℕ) (fits : start + lengt
   -- and words apart from them stay
   pub written-apart : (other len : ℕ) → Apart start (length new) other len → words_at (written words start new) other len ≡ words_at words other len
   written-apart other len given = grind (arith, written-behind, written-before)
-
--- what a `Vec` holds after some of it was lent
-pub lent : {A : Type 0} (v : Vec ℕ A) (start : ℕ) (new : List ℕ) → (with_items_from v start new).items ≡ written v.items start new
-lent v start new = grind arith

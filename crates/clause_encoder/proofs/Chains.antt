@@ -1,10 +1,9 @@
 -- Gates of more than four inputs: each inner variable of the chain is settled, and what is left is the gate.
-use Rattle.std.proofs.Common.{◌≡◌, ℕ, zero, suc, ◌+◌, ◌-◌, ◌%◌, ◌<◌, ◌≤◌, Bool, true, false, not, ◌&&◌, ◌||◌, cond, count_by, List, [], ◌∷◌, ◌++◌, map, length, take, drop, get_or, refl, ap, sym, ◌∙◌, arith}
-use Rattle.std.specs.Prelude.{◌==◌, Option, Some, None, slice_get, if◌then◌else◌}
+use Rattle.std.proofs.Common.{◌≡◌, ℕ, suc, ◌+◌, ◌-◌, ◌%◌, ◌≤◌, Bool, true, false, not, ◌&&◌, ◌||◌, cond, count_by, List, [], ◌∷◌, ◌++◌, map, length, take, drop, get_or, refl, ap, sym, ◌∙◌, arith}
+use Rattle.std.specs.Prelude.{◌==◌, if◌then◌else◌}
 use Rattle.std.specs.List.{list_all, list_any}
 use Rattle.std.proofs.Math.Bool.{and_assoc, or_assoc}
-use Rattle.std.proofs.lemmas.Bool.{ltb-true, false≢true}
-use Rattle.std.proofs.lemmas.List.{length-map, map-append, take-map, drop-map, get_or-map, take_all, take_more, length-take-le, length-drop}
+use Rattle.std.proofs.lemmas.List.{length-map, map-append, take-map, get_or-map, take_all, take_more, length-take-le}
 use Rattle.std.proofs.lemmas.List.Folds.{list_all-append}
 use Rattle.state_rules.specs.Bits.{same_bit, bit_in, has_odd_ones}
 use Rattle.state_rules.specs.Assignments.{Assignment}
@@ -14,12 +13,12 @@ use Rattle.device_model.specs.declared.gates.Gate.{Gate}
 use Rattle.device_model.specs.declared.gates.Reduction.{Reduction}
 use Rattle.device_model.specs.declared.gates.Reduction.TheVariants.{AllOnes, AnyOne, OddOnes}
 use Rattle.device_model.specs.TruthTable.{TruthTable}
-use Rattle.device_model.specs.Devices.{gate_allows, any_table_allows, allows, takes_ports, rows_take}
+use Rattle.device_model.specs.Devices.{gate_allows, allows, takes_ports}
 use Rattle.device_model.specs.Gates.{takes, reduced, gate_value}
 use Rattle.clause_encoder.specs.Clauses.{all_hold}
-use Rattle.clause_encoder.specs.Encoding.{gate_clauses, and_step, xor_step, step_clauses, chain_clauses, wide_clauses, is_wide, any_gate_clauses, inner_count, table_clauses, raw_clauses}
+use Rattle.clause_encoder.specs.Encoding.{step_clauses, chain_clauses, wide_clauses, is_wide, any_gate_clauses, inner_count, raw_clauses}
 use Rattle.clause_encoder.proofs.RowBits.{AllPositive, count-cons}
-use Rattle.clause_encoder.proofs.Meaning.{gate-holds, table-holds, takes-some, gate_allows-says, AllPositive-take, AllPositive-at}
+use Rattle.clause_encoder.proofs.Meaning.{gate-holds, table-holds, AllPositive-take, AllPositive-at}
 use Rattle.clause_encoder.proofs.Settled.{has_bits, Settles}
 
 -- ---- one step
@@ -31,15 +30,6 @@ step_value AnyOne b c = b || c
 step_value OddOnes b c = not (same_bit b c)
 
 module _ (a : Assignment) (z before x : ℕ) (hz : 1 ≤ z) (hb : 1 ≤ before) (hx : 1 ≤ x) where
-  and_step-holds : all_hold a (and_step true z before x) ≡ same_bit (a before && a x) (a z)
-  and_step-holds = grind arith
-
-  or_step-holds : all_hold a (and_step false z before x) ≡ same_bit (a before || a x) (a z)
-  or_step-holds = grind arith
-
-  xor_step-holds : all_hold a (xor_step z before x) ≡ same_bit (not (same_bit (a before) (a x))) (a z)
-  xor_step-holds = grind arith
-
   step-holds : (reduction : Reduction) → all_hold a (step_clauses reduction z before x) ≡ same_bit (step_value reduction (a before) (a x)) (a z)
   step-holds reduction = grind arith
 
@@ -104,11 +94,6 @@ ends xs long = grind (arith, take_more, take_all)
 -- the bits of the inner variables of a gate of more than four inputs
 abbrev pub wide_bits : Reduction → List Bool → List Bool
 wide_bits reduction bits = chain_bits reduction (bit_in bits 0) (take (length bits - 1 - 1) (drop 1 bits))
-
-AllPositive-drop : (n : ℕ) (vs : List ℕ) → AllPositive vs → AllPositive (drop n vs)
-AllPositive-drop zero vs h = h
-AllPositive-drop (suc n) [] h = tt
-AllPositive-drop (suc n) (v ∷ vs) h = AllPositive-drop n vs h.1
 
 module _ (a : Assignment) (gate : Gate) (h z : ℕ) (xs : List ℕ) (y : ℕ) (hh : 1 ≤ h) (hz : 1 ≤ z) (hy : 1 ≤ y) (hs : AllPositive xs) where
   wide-settles : 5 ≤ length xs → Settles a z (wide_clauses gate h z xs y) (wide_bits gate.reduction (map a xs)) (output_is a h y (gate_value gate (map a xs)))

@@ -1,12 +1,11 @@
 -- The clauses of a part are true exactly where the part allows the bits of its ports.
-use Rattle.std.proofs.Common.{◌≡◌, ℕ, zero, suc, ◌-◌, ◌^◌, ◌<◌, ◌≤◌, Bool, true, false, not, ◌&&◌, ◌||◌, List, [], ◌∷◌, ◌++◌, map, length, take, get_or, pos, neg_ℤ, Some, refl, ap, sym, ◌∙◌, arith}
+use Rattle.std.proofs.Common.{◌≡◌, ℕ, zero, suc, ◌^◌, ◌<◌, ◌≤◌, Bool, true, false, not, ◌&&◌, ◌||◌, List, [], ◌∷◌, ◌++◌, map, length, take, get_or, pos, neg_ℤ, Some, refl, ap, sym, ◌∙◌, arith}
 use Rattle.std.specs.Prelude.{◌==◌, nat_le, min}
 use Rattle.std.specs.List.{list_any, list_all}
 use Rattle.std.proofs.lemmas.Bool.{leb-true, and_parts}
 use Rattle.std.proofs.lemmas.List.{length-map}
 use Rattle.std.proofs.lemmas.List.Folds.{list_all-append, list_any-append, list_all-map}
-use Rattle.std.proofs.Math.Bool.{or-false, or-true, and-true}
-use Rattle.state_rules.specs.Bits.{same_bit, bit_in, row_number, has_odd_ones, has_bit}
+use Rattle.state_rules.specs.Bits.{same_bit, row_number, has_odd_ones, has_bit}
 use Rattle.state_rules.specs.Assignments.{Assignment}
 use Rattle.state_rules.proofs.Bits.{same_bit-swap}
 use Rattle.device_model.specs.declared.gates.Gate.{Gate}
@@ -14,7 +13,7 @@ use Rattle.device_model.specs.declared.gates.Reduction.{Reduction}
 use Rattle.device_model.specs.declared.gates.Reduction.TheVariants.{AllOnes, AnyOne, OddOnes}
 use Rattle.device_model.specs.declared.limits.TheConstants.{INPUT_LIMIT}
 use Rattle.device_model.specs.TruthTable.{TruthTable}
-use Rattle.device_model.specs.Devices.{gate_allows, table_allows}
+use Rattle.device_model.specs.Devices.{table_allows}
 use Rattle.device_model.specs.Gates.{takes, reduced, gate_value}
 use Rattle.clause_encoder.specs.Clauses.{Clause, literal, is_true_clause, all_hold}
 use Rattle.clause_encoder.specs.Encoding.{parity_clauses, and_clauses, row_bits, rows_of, blocking_literals, row_clause, blocked_rows, table_clauses, reduction_clauses, gate_clauses}
@@ -43,9 +42,6 @@ always ok y = grind arith
 
 not_all : (x all : Bool) → (not x || not all) ≡ not (x && all)
 not_all x all = grind arith
-
-both_ways : (ok y all : Bool) → ((not ok || (not y || all)) && ((not ok || (y || not all)) && true)) ≡ (not ok || same_bit y all)
-both_ways ok y all = grind arith
 
 module _ (a : Assignment) (h y : ℕ) (t s : Bool) (hh : 1 ≤ h) (hy : 1 ≤ y) where
   fronts-hold : (xs : List ℕ) → AllPositive xs → all_hold a (map (λ x. literal false h ∷ literal (not t) y ∷ literal s x ∷ []) xs)
@@ -77,9 +73,6 @@ negated_both positive y b = grind arith
 
 -- ---- the rows of an exclusive or
 
-later : (ok differs y : Bool) → (not ok || (differs || (y || false))) ≡ (differs || (not ok || y))
-later ok differs y = grind arith
-
 parity-holds : (a : Assignment) (odd : Bool) (h : ℕ) (xs : List ℕ) (y : ℕ) → 1 ≤ h → 1 ≤ y → AllPositive xs
     → all_hold a (parity_clauses odd h xs y) ≡ (not (a h) || same_bit (a y) (same_bit odd (has_odd_ones (map a xs))))
 parity-holds a odd h xs y hh hy hs = list_all-map (is_true_clause a) clause_of (rows_of xs)
@@ -100,9 +93,6 @@ parity-holds a odd h xs y hh hy hs = list_all-map (is_true_clause a) clause_of (
       at_row r lt = grind (arith, list_any-append, blocking_literals-row)
 
 -- ---- the rows of a table
-
-allowed-later : (allowed ok differs : Bool) → (not (not allowed) || (ok || differs)) ≡ (differs || (allowed || ok))
-allowed-later allowed ok differs = grind arith
 
 side-holds : (a : Assignment) (ok : Bool) (allowed h : ℕ) (ports : List ℕ) → 1 ≤ h → AllPositive ports
     → all_hold a (blocked_rows ok allowed h ports) ≡ (has_bit allowed (row_number (map a ports)) || same_bit (not ok) (a h))
@@ -136,9 +126,6 @@ module _ (a : Assignment) (h : ℕ) (xs : List ℕ) (y : ℕ) (hh : 1 ≤ h) (hy
   pub gate-holds : (gate : Gate) → all_hold a (gate_clauses gate h xs y) ≡ (not (a h) || same_bit (a y) (gate_value gate (map a xs)))
   gate-holds gate = reduction-holds gate.reduction gate.positive
 
-pub takes-some : (gate : Gate) (n : ℕ) → takes gate n ≡ true → 1 ≤ n
-takes-some gate n e = leb-true 1 n (and_parts (nat_le 1 n) (nat_le n (min gate.most_inputs INPUT_LIMIT)) e).0
-
 pub takes-few : (gate : Gate) (n : ℕ) → takes gate n ≡ true → n ≤ INPUT_LIMIT
 takes-few gate n e = omega (arith, leb-true n (min gate.most_inputs INPUT_LIMIT) (and_parts (nat_le 1 n) (nat_le n (min gate.most_inputs INPUT_LIMIT)) e).1)
 
@@ -151,7 +138,3 @@ pub AllPositive-at : (vs : List ℕ) (i : ℕ) → AllPositive vs → i < length
 AllPositive-at [] i h lt = absurd (omega arith)
 AllPositive-at (v ∷ vs) zero h lt = h.0
 AllPositive-at (v ∷ vs) (suc i) h lt = AllPositive-at vs i h.1 (omega arith)
-
-pub gate_allows-says : (gate : Gate) (ok : Bool) (row : List Bool)
-    → (not ok || same_bit (bit_in row (length row - 1)) (gate_value gate (take (length row - 1) row))) ≡ gate_allows gate ok row
-gate_allows-says gate ok row = grind arith

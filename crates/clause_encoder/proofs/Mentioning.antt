@@ -1,11 +1,8 @@
 -- What holds of the variables of a part's ports, of its health and of its inner ones holds of all in its clauses.
-use Rattle.std.proofs.Common.{◌≡◌, ℕ, zero, suc, ◌+◌, ◌-◌, ◌<◌, ◌≤◌, Bool, true, false, not, List, [], ◌∷◌, ◌++◌, map, length, take, drop, get_or, pos, Option, Some, None, refl, sym, subst, arith}
-use Rattle.std.specs.Prelude.{slice_get, if◌then◌else◌}
-use Rattle.std.proofs.lemmas.Bool.{ltb-true}
-use Rattle.std.proofs.lemmas.List.{length-take-le, length-drop}
-use Rattle.state_rules.specs.Bits.{has_odd_ones, same_bit}
+use Rattle.std.proofs.Common.{◌≡◌, ℕ, zero, suc, ◌+◌, ◌-◌, ◌<◌, ◌≤◌, Bool, true, false, not, List, [], ◌∷◌, ◌++◌, map, length, take, get_or, pos, sym, subst, arith}
+use Rattle.std.specs.Prelude.{if◌then◌else◌}
+use Rattle.std.proofs.lemmas.List.{length-take-le}
 use Rattle.device_model.specs.declared.gates.Rule.{Rule}
-use Rattle.device_model.specs.declared.gates.Rule.TheVariants.{Gate as OfGate, Table as OfTable}
 use Rattle.device_model.specs.declared.gates.Gate.{Gate}
 use Rattle.device_model.specs.declared.gates.Reduction.{Reduction}
 use Rattle.device_model.specs.declared.gates.Reduction.TheVariants.{AllOnes, AnyOne, OddOnes}
@@ -13,9 +10,9 @@ use Rattle.device_model.specs.TruthTable.{TruthTable}
 use Rattle.device_model.specs.Devices.{takes_ports}
 use Rattle.device_model.specs.Gates.{takes}
 use Rattle.clause_encoder.specs.Clauses.{Clause, var_of, literal}
-use Rattle.clause_encoder.specs.Encoding.{parity_clauses, and_clauses, row_bits, rows_of, blocking_literals, row_clause, blocked_rows, table_clauses, reduction_clauses, gate_clauses, chain_clauses, wide_clauses, is_wide, any_gate_clauses, inner_count, raw_clauses}
+use Rattle.clause_encoder.specs.Encoding.{parity_clauses, and_clauses, blocking_literals, blocked_rows, reduction_clauses, gate_clauses, chain_clauses, wide_clauses, is_wide, any_gate_clauses, inner_count, raw_clauses}
 use Rattle.clause_encoder.proofs.Literals.{var_of-literal}
-use Rattle.clause_encoder.proofs.Meaning.{and_clauses-literals, takes-some}
+use Rattle.clause_encoder.proofs.Meaning.{and_clauses-literals}
 
 module _ (P : ℕ → Type 0) where
   abbrev pub Of : Clause → Type 0
@@ -35,11 +32,6 @@ module _ (P : ℕ → Type 0) where
   Variables-take zero vs h = tt
   Variables-take (suc n) [] h = tt
   Variables-take (suc n) (v ∷ vs) h = (h.0, Variables-take n vs h.1)
-
-  Variables-drop : (n : ℕ) (vs : List ℕ) → Variables vs → Variables (drop n vs)
-  Variables-drop zero vs h = h
-  Variables-drop (suc n) [] h = tt
-  Variables-drop (suc n) (v ∷ vs) h = Variables-drop n vs h.1
 
   Variables-at : (vs : List ℕ) (i : ℕ) → Variables vs → i < length vs → P (get_or vs i 0)
   Variables-at [] i h lt = absurd (omega arith)

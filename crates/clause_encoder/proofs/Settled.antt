@@ -1,11 +1,11 @@
 -- Inner variables whose bits are settled by the others: some bits of them make all clauses true exactly where what is
 -- left of the clauses is true.
-use Rattle.std.proofs.Common.{◌≡◌, ℕ, suc, ◌+◌, ◌-◌, Bool, true, false, ◌&&◌, ◌||◌, List, [], ◌∷◌, ◌++◌, map, length, refl, ap, sym, ◌∙◌, arith, append_assoc}
+use Rattle.std.proofs.Common.{◌≡◌, ℕ, ◌+◌, Bool, true, false, ◌&&◌, ◌||◌, List, [], ◌∷◌, ◌++◌, map, length, ap, ◌∙◌, arith, append_assoc}
 use Rattle.std.specs.List.{list_any}
 use Rattle.std.proofs.lemmas.List.{get_or-append_right, length-append}
 use Rattle.std.proofs.lemmas.List.Folds.{list_all-append, list_any-append}
-use Rattle.std.proofs.Math.Bool.{and_assoc, or-false}
-use Rattle.state_rules.specs.Bits.{bit_in, same_bit, lists_of_bits}
+use Rattle.std.proofs.Math.Bool.{or-false}
+use Rattle.state_rules.specs.Bits.{same_bit, lists_of_bits}
 use Rattle.state_rules.specs.Assignments.{Assignment, assignment}
 use Rattle.state_rules.proofs.Lists.{list_any-map, any-never}
 use Rattle.state_rules.proofs.Members.{any_same}

@@ -34,8 +34,7 @@ pointwise-refl [] = refl
 pointwise-refl (b ∷ bits) = and_from _ _ (same_bit-refl b) (pointwise-refl bits)
 
 pub pointwise-equal : (bits others : List Bool) → pointwise same_bit bits others ≡ true → bits ≡ others
-pointwise-equal [] [] e = refl
-pointwise-equal [] (c ∷ others) e = absurd (false≢true e)
+pointwise-equal [] others e = grind arith
 pointwise-equal (b ∷ bits) [] e = absurd (false≢true e)
 pointwise-equal (b ∷ bits) (c ∷ others) e = grind (arith, pointwise-equal bits others)
 

@@ -22,8 +22,7 @@ agrees_cond k bit x y e f = grind arith
 pub agrees-at : (known : List (Option Bool)) (bits : List Bool) → length known ≡ length bits → agrees known bits ≡ true → (i : ℕ) → agrees_at (get_or known i None) (bit_in bits i) ≡ true
 agrees-at [] bits long all i = refl
 agrees-at (k ∷ known) [] long all i = absurd (omega arith)
-agrees-at (k ∷ known) (b ∷ bits) long all zero = (and_parts (agrees_at k b) (agrees known bits) all).0
-agrees-at (k ∷ known) (b ∷ bits) long all (suc i) = agrees-at known bits (omega arith) (and_parts (agrees_at k b) (agrees known bits) all).1 i
+agrees-at (k ∷ known) (b ∷ bits) long all i = grind (arith, agrees-at known bits)
 
 pub agrees-from : (known : List (Option Bool)) (bits : List Bool) → ((i : ℕ) → i < length bits → agrees_at (get_or known i None) (bit_in bits i) ≡ true) → agrees known bits ≡ true
 agrees-from [] bits each = refl

@@ -52,8 +52,7 @@ bits_in (false ∷ bits) = In-append_left _ _ _ (In-map (λ bs. false ∷ bs) bi
 bits_in (true ∷ bits) = In-append_right _ (map (λ bs. false ∷ bs) (lists_of_bits (length bits))) _ (In-map (λ bs. true ∷ bs) bits _ (bits_in bits))
 
 pub bits_length : (n : ℕ) (bits : List Bool) → In bits (lists_of_bits n) → length bits ≡ n
-bits_length zero bits (inl e) = ap length e
-bits_length zero bits (inr h) = absurd h
+bits_length zero bits h = grind arith
 bits_length (suc n) bits h = ⊎_elim
     (λ p. let r = from_map (λ bs. false ∷ bs) bits _ p in ap length r.gives ∙ ap suc (bits_length n r.item r.is_in))
     (λ p. let r = from_map (λ bs. true ∷ bs) bits _ p in ap length r.gives ∙ ap suc (bits_length n r.item r.is_in))

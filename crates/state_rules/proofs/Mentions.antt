@@ -76,10 +76,7 @@ pub record InRange (vars v : ℕ) : Type 0 where
   pub high : v ≤ vars
 
 pub IsUsed-range : (vars : ℕ) (nodes : List Node) (v : ℕ) → nodes_fit vars 0 nodes ≡ true → IsUsed nodes v → InRange vars v
-IsUsed-range vars nodes v fit used =
-    let kids : List ℕ = (node_at nodes used.at).kids in
-    let is = literal vars v used.positive kids (ap (λ k. kind_fits vars k kids) (sym used.literal) ∙ (fits-at vars nodes used.at fit used.inside).kind) in
-    record { low = is.low; high = is.high }
+IsUsed-range vars nodes v fit used = grind (arith, fits-at vars nodes used.at fit used.inside)
 
 pub mentioned-range : (vars : ℕ) (nodes : List Node) (v i : ℕ) → nodes_fit vars 0 nodes ≡ true → mentions nodes v i ≡ true → InRange vars v
 mentioned-range vars nodes v i fit mentioned = IsUsed-range vars nodes v fit (IsUsed-mentioned nodes v i mentioned)

@@ -45,21 +45,12 @@ module _ (by_kind : NodeKind → List Bool → Bool) where
 
   pub value_of-get : (nodes : List Node) (i : ℕ) (node : Node) → slice_get nodes i ≡ Some node → are_below i node.kids ≡ true
       → value_of nodes i ≡ by_kind node.what (map (value_of nodes) node.kids)
-  value_of-get nodes i node there below =
-      let same = get_or_from_slice_get nodes i node true_node there in
-      value_of-at nodes i (slice_get_within nodes i node there) (subst (λ (n : Node). are_below i n.kids ≡ true) (sym same) below)
-      ∙ ap (λ (n : Node). by_kind n.what (map (value_of nodes) n.kids)) same
+  value_of-get nodes i node there below = grind (arith, get_or_from_slice_get, value_of-at, slice_get_within)
 
   -- that of a last node is by those before it
   pub value_of-last : (nodes : List Node) (node : Node) → value_of (nodes ++ node ∷ []) (length nodes) ≡ value node (values value nodes)
-  value_of-last nodes node =
-      let inside : length nodes < length (nodes ++ node ∷ []) = omega (arith, length-append nodes (node ∷ [])) in
-      values-at value (nodes ++ node ∷ []) (length nodes) true_node inside false
-      ∙ (λ i. value (node_at-last nodes node i) (values value (take-append_seam nodes (node ∷ []) i)))
+  value_of-last nodes node = grind (arith, length-append nodes (node ∷ []), values-at value (nodes ++ node ∷ []) (length nodes) true_node, node_at-last nodes node, take-append_seam nodes (node ∷ []))
 
   -- and those before it stay
   pub value_of-before : (nodes : List Node) (node : Node) (k : ℕ) → k < length nodes → value_of (nodes ++ node ∷ []) k ≡ value_of nodes k
-  value_of-before nodes node k h =
-      let inside : length nodes < length (nodes ++ node ∷ []) = omega (arith, length-append nodes (node ∷ [])) in
-      sym (values-before value (nodes ++ node ∷ []) (length nodes) true_node inside k false h)
-      ∙ ap (λ ns. value_of ns k) (take-append_seam nodes (node ∷ []))
+  value_of-before nodes node k h = grind (arith, length-append nodes (node ∷ []), values-before value (nodes ++ node ∷ []) (length nodes) true_node, take-append_seam nodes (node ∷ []))

@@ -9,12 +9,11 @@ use Rattle.state_rules.proofs.Members.{In, In-append, from_map, In-filter}
 pub before-at : (h k : List Bool) (n : ℕ) → n < length h → n < length k → AlikeBelow n h k → bit_in h n ≡ false → bit_in k n ≡ true → is_before h k ≡ true
 before-at [] k n l m alike e f = absurd (omega arith)
 before-at (b ∷ h) [] n l m alike e f = absurd (omega arith)
-before-at (false ∷ h) (true ∷ k) zero l m alike e f = refl
+before-at (false ∷ h) (true ∷ k) n l m alike e f = grind arith
 before-at (false ∷ h) (false ∷ k) zero l m alike e f = absurd (cc)
 before-at (true ∷ h) (c ∷ k) zero l m alike e f = absurd (cc)
 before-at (false ∷ h) (false ∷ k) (suc n) l m alike e f = before-at h k n (omega arith) (omega arith) (λ i g. alike (suc i) (omega arith)) e f
 before-at (true ∷ h) (true ∷ k) (suc n) l m alike e f = before-at h k n (omega arith) (omega arith) (λ i g. alike (suc i) (omega arith)) e f
-before-at (false ∷ h) (true ∷ k) (suc n) l m alike e f = refl
 before-at (true ∷ h) (false ∷ k) (suc n) l m alike e f = let same : true ≡ false = alike zero (omega arith) in absurd (cc)
 
 -- where a later state differs first from an earlier one
@@ -95,5 +94,4 @@ Sorted-filter p (x ∷ xs) s = grind (arith, In-filter, Sorted-filter p xs s.1)
 -- a state of a sorted list before which none stands is its first
 pub first-sorted : (xs : List (List Bool)) (h d : List Bool) → Sorted xs → In h xs → ((k : List Bool) → In k xs → (k ≡ h) ⊎ (is_before h k ≡ true)) → get_or xs 0 d ≡ h
 first-sorted [] h d s m low = absurd m
-first-sorted (x ∷ xs) h d s (inl q) low = sym q
-first-sorted (x ∷ xs) h d s (inr r) low = ⊎_elim (λ q. q) (λ b. absurd (not_both_before h x b (s.0 h r))) (low x (inl refl))
+first-sorted (x ∷ xs) h d s m low = grind (arith, not_both_before)

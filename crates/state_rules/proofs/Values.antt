@@ -18,8 +18,7 @@ module _ {N A : Type 0} (f : N → List A → A) where
 
   module _ (ns : List N) (k : ℕ) (x : N) (l : k < length ns) where
     split : values f ns ≡ values_after f (values f (take k ns)) (get_or ns k x ∷ drop (k + 1) ns)
-    split = ap (values f) (sym (take-append-drop k ns)) ∙ values_after-append [] (take k ns) (drop k ns)
-        ∙ ap (values_after f (values f (take k ns))) (drop_more ns k x l)
+    split = grind (arith, take-append-drop k ns, values_after-append, drop_more ns k x l)
 
     length-before : length (values f (take k ns)) ≡ k
     length-before = length-values_after [] (take k ns) ∙ (let e = length-take-le k ns (omega arith) in omega arith)
@@ -30,6 +29,4 @@ module _ {N A : Type 0} (f : N → List A → A) where
 
     -- and those are the same in the whole list
     pub values-before : (j : ℕ) (d : A) → j < k → get_or (values f (take k ns)) j d ≡ get_or (values f ns) j d
-    values-before j d m =
-        let es = values f (take k ns) in
-        sym (values_after-keeps es (get_or ns k x ∷ drop (k + 1) ns) j d (omega (arith, length-before))) ∙ ap (λ vs. get_or vs j d) (sym split)
+    values-before j d m = grind (arith, values_after-keeps (values f (take k ns)) (get_or ns k x ∷ drop (k + 1) ns) j d, length-before, split)

@@ -33,7 +33,4 @@ one_bit width k b lt = grind (arith, one_shl, bit_at-pow_same, bit_at-pow_other)
 -- the words of the kids before a place were joined, and then one more
 pub joined_more : (word : ℕ → ℕ) (kids : List ℕ) (i any b : ℕ) → i < length kids → has_bit any b ≡ list_any (λ x. x) (map (λ k. has_bit (word k) b) (take i kids))
     → has_bit (bit_or any (word (get_or kids i 0))) b ≡ list_any (λ x. x) (map (λ k. has_bit (word k) b) (take (i + 1) kids))
-joined_more word kids i any b lt joined =
-    has_bit-or any (word (get_or kids i 0)) b ∙ ap (λ x. x || has_bit (word (get_or kids i 0)) b) joined
-    ∙ sym (any-push (λ x. x) (map (λ k. has_bit (word k) b) (take i kids)) (has_bit (word (get_or kids i 0)) b))
-    ∙ ap (list_any (λ x. x)) (sym (ap (map (λ k. has_bit (word k) b)) (take_more kids i 0 lt) ∙ map-append (λ k. has_bit (word k) b) (take i kids) (get_or kids i 0 ∷ [])))
+joined_more word kids i any b lt joined = grind (arith, has_bit-or any (word (get_or kids i 0)) b, any-push, take_more kids i 0 lt, map-append)

@@ -1,6 +1,6 @@
 -- The copies of nodes, one after the other.
 use Rattle.std.proofs.Common.{◌≡◌, ℕ, zero, suc, ◌+◌, ◌-◌, ◌<◌, ◌≤◌, Bool, true, false, ◌&&◌, List, [], ◌∷◌, ◌++◌, map, length, take, get_or, Some, All, refl, ap, sym, ◌∙◌, subst, arith, inl, inr, length-append}
-use Rattle.std.specs.Prelude.{slice_get, slice_index, Contains, nat_lt, nat_le, ◌==◌, ◌⊎◌}
+use Rattle.std.specs.Prelude.{slice_get, slice_index, Contains, nat_lt, ◌⊎◌}
 use Rattle.std.specs.List.{list_all}
 use Rattle.std.proofs.lemmas.Bool.{and_from, lt-ltb, cases_lt}
 use Rattle.std.proofs.lemmas.List.{get_or_append_left, get_or_push, get_or-map, take_more}
@@ -9,7 +9,6 @@ use Rattle.std.proofs.lemmas.List.Sums.{sum_by-append, sum_by-take-le}
 use Rattle.std.proofs.Math.ListN.{length-map}
 use Rattle.state_rules.specs.Bits.{bit_in}
 use Rattle.state_rules.proofs.Lists.{slice_get-before, slice_get-last}
-use Rattle.state_rules.specs.declared.nodes.TheConstants.{CHILD_LIMIT}
 use Rattle.state_rules.specs.declared.nodes.NodeKind.{NodeKind}
 use Rattle.state_rules.specs.declared.nodes.NodeKind.TheVariants.{Literal, And, Or}
 use Rattle.state_rules.specs.Graphs.{Node, truth_by, mention_by, is_true, mentions, at_most_one, apart_at, kind_fits, node_fits, AreNodes, IsGraph, edges}
@@ -43,9 +42,6 @@ copy-more nodes copies node k number is = record {
 map_same : (at : ℕ) (ks : List ℕ) (f g : ℕ → ℕ) → All (λ k. k < at) ks → ((k : ℕ) → k < at → f k ≡ g k) → map f ks ≡ map g ks
 map_same at [] f g lt same = refl
 map_same at (k ∷ ks) f g lt same = λ j. same k (lt 0 0 (omega arith)) j ∷ map_same at ks f g (λ i d h. lt (suc i) d (omega arith)) same j
-
-never_both : (b : Bool) → b ≡ true → b ≡ false → ⊥
-never_both b e f = let g : true ≡ false = sym e ∙ f in (cc)
 
 module _ (vars : ℕ) (nodes : List Node) (marks : List Bool) (copies : List Node) (numbers : List ℕ) (at : ℕ) (is : IsCopied vars nodes marks copies numbers at) where
   pub left_out : AreNodes vars nodes → bit_in marks at ≡ false → (node : Node) → slice_get nodes at ≡ Some node → IsCopied vars nodes marks copies (numbers ++ 0 ∷ []) (at + 1)

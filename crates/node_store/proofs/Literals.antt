@@ -30,9 +30,6 @@ var_in (Literal positive var) = var
 var_in And = 0
 var_in Or = 0
 
-same_var : (m n : Node) → Some m ≡ Some n → var_in m.what ≡ var_in n.what
-same_var m n e = let s : m ≡ n = cc in ap (λ (x : Node). var_in x.what) s
-
 literals_below : (n i v : ℕ) (positive : Bool) → slice_get (literals n) i ≡ Some (literal_node v positive) → v ≤ n
 literals_below zero i v positive e = absurd (cc)
 literals_below (suc n) i v positive e = grind (arith, slice_get-parts, literals_below n i v positive)

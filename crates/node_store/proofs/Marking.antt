@@ -1,6 +1,6 @@
 -- Marks of the nodes below a root.
-use Rattle.std.proofs.Common.{◌≡◌, ℕ, zero, suc, ◌+◌, ◌<◌, ◌≤◌, Bool, true, false, List, [], ◌∷◌, ◌++◌, map, length, take, drop, get_or, replicate, Some, All, refl, ap, sym, ◌∙◌, subst, arith, inl, inr}
-use Rattle.std.specs.Prelude.{slice_get, Contains, ◌⊎◌}
+use Rattle.std.proofs.Common.{◌≡◌, ℕ, zero, suc, ◌+◌, ◌<◌, Bool, true, List, [], ◌∷◌, ◌++◌, map, length, take, drop, get_or, Some, refl, ap, sym, arith}
+use Rattle.std.specs.Prelude.{slice_get, ◌⊎◌}
 use Rattle.std.proofs.lemmas.List.{take_all, append-nil}
 use Rattle.std.proofs.Math.ListN.{drop_of_length-le, length-map}
 use Rattle.state_rules.specs.Bits.{bit_in}
@@ -33,11 +33,6 @@ marks_more nodes old new from at root kids node e there same marks closed before
 pub only_more : (nodes : List Node) (old new : List Bool) (at root : ℕ) (kids : List ℕ) (node : Node) → slice_get nodes at ≡ Some node → kids ≡ node.kids → Marks old at kids new
     → ((i : ℕ) → bit_in old i ≡ true → (i ≡ root) ⊎ IsKidOfMarked nodes old i) → (i : ℕ) → bit_in new i ≡ true → (i ≡ root) ⊎ IsKidOfMarked nodes new i
 only_more nodes old new at root kids node there same marks only i m = grind arith
-
-pub none_marked : (n i : ℕ) → bit_in (replicate n false) i ≡ true → ⊥
-none_marked zero i m = cc
-none_marked (suc n) zero m = cc
-none_marked (suc n) (suc i) m = none_marked n i m
 
 pub shown_get : (xs : List Kept) (i : ℕ) (r : Kept) → i < length xs → slice_get (map shown xs) i ≡ Some (shown (get_or xs i r))
 shown_get [] i r h = absurd (omega arith)

@@ -17,7 +17,7 @@ use Rattle.component_lang.specs.declared.fault.LangFault.TheVariants.{Line as No
 use Rattle.component_lang.specs.Designs.{is_plain_name, used_names, takes_args, is_block, are_blocks}
 use Rattle.component_lang.specs.Kinds.{OpenType, Section, InType, Reader, kind_named}
 use Rattle.component_lang.specs.TypeRows.{is_row, row_in, with_row, cost_in}
-use Rattle.component_lang.specs.DesignLines.{at, type_line, block_line, top_of_kind, wire_line, part_of, with_part, part_line, outside, in_type, in_block, at_section, after_words, after_line}
+use Rattle.component_lang.specs.DesignLines.{at, type_line, block_line, wire_line, part_of, with_part, part_line, outside, in_type, in_block, at_section, after_words, after_line}
 use Rattle.component_lang.specs.inner.Sound.{is_free, is_sound_type, is_sound_block, is_sound_section, is_sound, open_wires, reader_size}
 use Rattle.component_lang.proofs.RowSets.{row_in-fits, with_row-fits}
 use Rattle.component_lang.proofs.NameLists.{among_position}

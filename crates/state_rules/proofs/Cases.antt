@@ -1,6 +1,6 @@
 -- Bits that agree with what is known of them.
 use Rattle.std.proofs.Common.{◌≡◌, ℕ, zero, suc, ◌<◌, Bool, true, cond, ◌&&◌, List, [], ◌∷◌, length, get_or, set, Option, Some, None, refl, arith}
-use Rattle.std.proofs.lemmas.Bool.{and_parts, and_from}
+use Rattle.std.proofs.lemmas.Bool.{and_from}
 use Rattle.state_rules.specs.Bits.{bit_in, same_bit}
 use Rattle.state_rules.specs.Cases.{agrees_at, agrees}
 

@@ -1,13 +1,13 @@
 -- A variable that no literal has is mentioned nowhere, and shared by no kids.
-use Rattle.std.proofs.Common.{◌≡◌, ℕ, zero, suc, ◌<◌, ◌≤◌, Bool, true, false, not, ◌==◌, List, [], ◌∷◌, ◌++◌, map, length, refl, sym, ap, ◌∙◌, arith, inl, inr}
+use Rattle.std.proofs.Common.{◌≡◌, ℕ, zero, suc, ◌<◌, ◌≤◌, Bool, true, false, not, ◌==◌, List, [], ◌∷◌, ◌++◌, map, length, refl, ap, arith, inl, inr}
 use Rattle.std.specs.List.{list_any}
 use Rattle.std.proofs.lemmas.Bool.{or_cases}
 use Rattle.state_rules.specs.Bits.{bit_in}
 use Rattle.state_rules.specs.Values.{values_after}
 use Rattle.state_rules.specs.declared.nodes.NodeKind.{NodeKind}
 use Rattle.state_rules.specs.declared.nodes.NodeKind.TheVariants.{Literal, And, Or}
-use Rattle.state_rules.specs.Graphs.{Node, node_at, mention, mention_by, mentions, apart_at, kind_fits, nodes_fit, shares}
-use Rattle.state_rules.proofs.NodesFit.{fits-at, literal}
+use Rattle.state_rules.specs.Graphs.{Node, node_at, mention, mention_by, mentions, apart_at, nodes_fit, shares}
+use Rattle.state_rules.proofs.NodesFit.{fits-at}
 use Rattle.state_rules.proofs.Kids.{at_most_one-none}
 
 abbrev has_variable : ℕ → NodeKind → Bool

@@ -18,7 +18,7 @@ use Rattle.flattener.specs.declared.flattening.FlattenError.TheVariants.{TooMany
 use Rattle.flattener.specs.declared.flattening.TheConstants.{INSTANCE_LIMIT}
 use Rattle.flattener.specs.Flat.{ports_of, top_ports, top_content, flat_wires, flat_device, longest_path, saturated, unless_over, flattened}
 use Rattle.flattener.specs.inner.Counting.{no_counts, longest_of, counts_of_wires, counts_of_block, counts_of_design, refusal}
-use Rattle.flattener.specs.inner.Expanding.{CanExpand, Grows, IsFlat, wire_at, are_within, are_short, paths_of, instance_at, ports_at}
+use Rattle.flattener.specs.inner.Expanding.{CanExpand, Grows, IsFlat, wire_at, are_within, are_short, instance_at, ports_at}
 use Rattle.flattener.proofs.Naming.{AllSome, AllSome-left, AllSome-plain, longest-append}
 use Rattle.flattener.proofs.Relative.{Which, Parts, Wires, Instances, names_of, Inner, no_names, wires_only, names_in, GoodBlock, instances-show}
 use Rattle.flattener.proofs.Counted.{Counted, longest_in, joined, Counted-wires, Counted-added, blocks-counted}

@@ -59,20 +59,13 @@ row-below keep place own kids h =
     are_below-from own row (λ i d lt. let x = row-source keep place kids (get_or row i d) (In-at row i d lt) in subst (λ k. k < own) x.3 (h x.0 x.1 x.2))
 
 row-kind : (vars : ℕ) (values places : List ℕ) (cost : ℕ) (what : NodeKind) (kids : List ℕ) → kind_fits vars what kids ≡ true → kind_fits vars what (kept_kids values places cost kids) ≡ true
-row-kind vars values places cost (Literal positive var) kids fit =
-    let alone : kids ≡ [] = (literal vars var positive kids fit).alone in
-    subst (λ ks. kind_fits vars (Literal positive var) (kept_kids values places cost ks) ≡ true) (sym alone) (subst (λ ks. kind_fits vars (Literal positive var) ks ≡ true) alone fit)
-row-kind vars values places cost And kids fit = lt-ltb (length (kept_kids values places cost kids)) 4294967296 (omega (arith, row-le values places cost kids, ltb-true (length kids) 4294967296 fit))
-row-kind vars values places cost Or kids fit = lt-ltb (length (kept_kids values places cost kids)) 4294967296 (omega (arith, row-le values places cost kids, ltb-true (length kids) 4294967296 fit))
+row-kind vars values places cost what kids fit = grind (arith, row-le, ltb-true)
 
 keeps-out : (values : List ℕ) (cost j : ℕ) → keeps values cost j ≡ true → (0 < get_or values j 0) × (get_or values j 0 ≤ cost)
 keeps-out values cost j e = (ltb-true 0 (get_or values j 0) (and_left _ _ e), leb-true _ _ (and_right (nat_lt 0 (get_or values j 0)) _ e))
 
 keeps-not : (values : List ℕ) (cost j : ℕ) → keeps values cost j ≡ false → (get_or values j 0 ≡ 0) ⊎ (cost < get_or values j 0)
-keeps-not values cost j e = ⊎_elim
-    (λ (p : 0 < get_or values j 0). ⊎_elim (λ q. inr q) (λ (q : get_or values j 0 ≤ cost). absurd (false≢true (sym e ∙ and_from _ _ (lt-ltb 0 (get_or values j 0) p) (le-leb _ _ q)))) (cases_lt cost (get_or values j 0)))
-    (λ (p : get_or values j 0 ≤ 0). inl (omega arith))
-    (cases_lt 0 (get_or values j 0))
+keeps-not values cost j e = grind (arith, and_from, lt-ltb, le-leb, cases_lt)
 
 -- ---- the nodes so far
 
@@ -176,9 +169,7 @@ module _ (graph : Graph) (words costs : List ℕ) (ok : IsGraph graph) (long : l
 
     kids-stand : KidsStand graph words costs ok keep place (λ p a. is_true nodes p a) kids c
     kids-stand = record {
-      stay = λ j i k.
-          let p = keeps-out values c j k in
-          record { cost = get_or values j 0; is = marked-cost j (omega (arith, earlier j i)) (kid-mark j i p.0 p.1); cheap = p.1; stands = (kid-place j i k).stands };
+      stay = grind (arith, marked-cost, earlier, kid-mark, kid-place);
       rest = λ j d i k f.
           let same = cost-value j d (omega (arith, earlier j i)) f in
           subst (λ x. (x ≡ 0) ⊎ (c < x)) same (keeps-not values c j k);
@@ -288,9 +279,7 @@ module _ (graph : Graph) (words costs : List ℕ) (ok : IsGraph graph) (long : l
 
     -- what waits for this node is in its row
     in-row : (q : ℕ) (w : Waits graph values marks places at q) → w.parent ≡ at → In q row
-    in-row q w s =
-        let kid : In w.kid kids = subst (λ (n : Node). In w.kid n.kids) (get_or_from_slice_get graph.nodes at _ true_node e) (subst (λ n. In w.kid (node_at graph.nodes n).kids) s w.is_kid) in
-        subst (λ x. In x row) w.there (In-map place w.kid (filter keep kids) (In-filtered keep w.kid kids kid (subst (λ n. keeps values (get_or values n 0) w.kid ≡ true) s w.stays)))
+    in-row q w s = grind (arith, get_or_from_slice_get, graph.nodes, w.there, In-map, In-filtered)
 
     -- what waits for another goes on
     carry : (new : List Node) (p q : ℕ) → Waits graph values marks places at q → (In q row → IsNeeded graph values marks (set places at p) new (at + 1) q) → IsNeeded graph values marks (set places at p) new (at + 1) q
@@ -320,23 +309,10 @@ module _ (graph : Graph) (words costs : List ℕ) (ok : IsGraph graph) (long : l
         (m.up at lt node-mark)
 
     needed-pushed : at < root → at < length places → (q : ℕ) → q < length (nodes ++ record { what = what; kids = row } ∷ []) → IsNeeded graph values marks (set places at (length nodes)) (nodes ++ record { what = what; kids = row } ∷ []) (at + 1) q
-    needed-pushed early room q h = ⊎_elim
-        (λ (s : q ≡ length nodes). inr (subst (Waits graph values marks (set places at (length nodes)) (at + 1)) (sym s) (waits (length nodes) early room)))
-        (λ (ne : q ≢ length nodes). by_need (is.needed q (omega (arith, ne, h, length-append nodes (record { what = what; kids = row } ∷ [])))))
-        (cases_eq q (length nodes)) where
-          by_need : IsNeeded graph values marks places nodes at q → IsNeeded graph values marks (set places at (length nodes)) (nodes ++ record { what = what; kids = row } ∷ []) (at + 1) q
-          by_need (inl x) = inl (parent-more nodes (record { what = what; kids = row }) q x)
-          by_need (inr w) = carry (nodes ++ record { what = what; kids = row } ∷ []) (length nodes) q w (λ i. inl (parent-last nodes (record { what = what; kids = row }) q i))
+    needed-pushed early room q h = grind (arith, waits, length-append, cases_eq, parent-more, carry, parent-last)
 
     needed-only : (p : ℕ) → row ≡ p ∷ [] → at < root → at < length places → (q : ℕ) → q < length nodes → IsNeeded graph values marks (set places at p) nodes (at + 1) q
-    needed-only p one early room q h = by_need (is.needed q h) where
-      same : In q (p ∷ []) → q ≡ p
-      same (inl s) = s
-      same (inr n) = absurd n
-
-      by_need : IsNeeded graph values marks places nodes at q → IsNeeded graph values marks (set places at p) nodes (at + 1) q
-      by_need (inl x) = inl x
-      by_need (inr w) = carry nodes p q w (λ i. inr (subst (Waits graph values marks (set places at p) (at + 1)) (sym (same (subst (In q) one i))) (waits p early room)))
+    needed-only p one early room q h = grind (arith, carry, waits)
 
     -- where the node is the last of the graph, all that is there is needed
     pub all-needed : length graph.nodes ≤ at + 1 → (q : ℕ) → q < length nodes → HasParent (nodes ++ record { what = what; kids = row } ∷ []) q

@@ -26,11 +26,7 @@ module _ (keep : ℕ → Bool) (place : ℕ → ℕ) (small large : ℕ → Bool
 
   pub narrower-any : (kids : List ℕ) → Narrower kids → list_any (λ b. b) (map small (map place (filter keep kids))) ≡ true → list_any (λ b. b) (map large kids) ≡ true
   narrower-any [] h e = e
-  narrower-any (j ∷ kids) h e = by_keep (narrower-any kids (λ i m. h i (inr m))) (keep j) refl e where
-    by_keep : (list_any (λ b. b) (map small (map place (filter keep kids))) ≡ true → list_any (λ b. b) (map large kids) ≡ true)
-        → (b : Bool) → keep j ≡ b → list_any (λ b. b) (map small (map place (cond b (j ∷ filter keep kids) (filter keep kids)))) ≡ true → list_any (λ b. b) (map large (j ∷ kids)) ≡ true
-    by_keep more true k q = ⊎_elim (λ p. or_left _ _ (h j (inl refl) k p)) (λ p. or_right _ _ (more p)) (or_cases (small (place j)) _ q)
-    by_keep more false k q = or_right _ _ (more q)
+  narrower-any (j ∷ kids) h e = grind (arith, keep, small, place, large, or_left, or_right, or_cases, narrower-any kids)
 
   pub narrower-apart : (kids : List ℕ) → Narrower kids → at_most_one (map large kids) ≡ true → at_most_one (map small (map place (filter keep kids))) ≡ true
   narrower-apart [] h e = refl
@@ -130,12 +126,7 @@ module _ (graph : Graph) (words costs : List ℕ) (ok : IsGraph graph) (keep : �
 
   -- a literal that costs something says that an open part is faulty
   says : (k : Option Bool) (w c : ℕ) (positive : Bool) → literal_cost (leaf_of positive k) w positive ≡ Some c → 0 < c → (positive ≡ false) × (w ≡ c)
-  says None w c true e dear = absurd (let z : 0 ≡ c = same_Some 0 c e in omega arith)
-  says None w c false e dear = (refl, same_Some w c e)
-  says (Some true) w c true e dear = absurd (let z : 0 ≡ c = same_Some 0 c e in omega arith)
-  says (Some false) w c true e dear = absurd (cc)
-  says (Some true) w c false e dear = absurd (cc)
-  says (Some false) w c false e dear = absurd (let z : 0 ≡ c = same_Some 0 c e in omega arith)
+  says k w c positive e dear = grind arith
 
   -- What costs something has the same kind over the kids that stay standing for it.
   pub node-stands : (k c : ℕ) (what : NodeKind) (kids : List ℕ) → slice_get graph.nodes k ≡ Some (record { what = what; kids = kids }) → C graph words costs ok k ≡ Some c → 0 < c → KidsStand kids c

@@ -26,21 +26,11 @@ use Rattle.fault_graph.proofs.Placing.{high, over, place-cost}
 -- numbers that are no greater and not less together are the same
 total-same : (f g : ℕ → ℕ) → ((v : ℕ) → f v ≤ g v) → (a n : ℕ) → total g a n ≤ total f a n → (v : ℕ) → a ≤ v → v < a + n → g v ≤ f v
 total-same f g h a zero few v low high = absurd (omega arith)
-total-same f g h a (suc n) few v low high = ⊎_elim
-    (λ (e : v ≡ a). subst (λ u. g u ≤ f u) (sym e) (omega (arith, few, total-le f g h (a + 1) n)))
-    (λ (ne : v ≢ a). total-same f g h (a + 1) n (omega (arith, few, h a)) v (omega arith) (omega arith))
-    (cases_eq v a)
+total-same f g h a (suc n) few v low high = grind (arith, f, total-le, h, cases_eq, total-same f g h (a + 1) n)
 
 -- bits that agree with what is known, and have the same fault where a fault costs something, are the same
 same_fault : (k : Option Bool) (w : ℕ) (x y : Bool) → 0 < w → agrees_at k x ≡ true → agrees_at k y ≡ true → fault k w x ≤ fault k w y → fault k w y ≤ fault k w x → x ≡ y
-same_fault None w true true dear p q h g = refl
-same_fault None w true false dear p q h g = absurd (omega arith)
-same_fault None w false true dear p q h g = absurd (omega arith)
-same_fault None w false false dear p q h g = refl
-same_fault (Some true) w x y dear p q h g = cc
-same_fault (Some false) w true y dear p q h g = absurd (cc)
-same_fault (Some false) w false true dear p q h g = absurd (cc)
-same_fault (Some false) w false false dear p q h g = refl
+same_fault k w x y dear p q h g = grind arith
 
 -- ---- what passes two tests
 

@@ -17,11 +17,7 @@ use Rattle.fault_graph.proofs.Places.{IsFrom, AreFrom}
 
 -- what costs something is a part
 paid : (costs : List ℕ) (var c : ℕ) → part_cost costs var ≡ c → 0 < c → var ≤ length costs
-paid costs zero c e dear = omega arith
-paid costs (suc i) c e dear = ⊎_elim
-    (λ (h : i < length costs). omega arith)
-    (λ (h : length costs ≤ i). absurd (omega (arith, dear, e, get_or_past costs i 0 h)))
-    (cases_lt i (length costs))
+paid costs var c e dear = grind (arith, get_or_past)
 
 -- a literal that costs something says that an open part is faulty
 says : (words costs : List ℕ) (var c : ℕ) (positive : Bool) → literal_cost (leaf_of positive (known_at words var)) (part_cost costs var) positive ≡ Some c → 0 < c
@@ -61,17 +57,4 @@ module _ (graph small : Graph) (words costs : List ℕ) (ok : IsGraph graph) (so
 
 -- one true node
 pub small-true : (words costs : List ℕ) (vars : ℕ) → IsSmall words costs (record { nodes = true_node ∷ []; vars = vars })
-small-true words costs vars = record {
-  dear = λ p h. absurd (omega arith);
-  needed = λ p h. absurd (omega arith);
-  joins = λ p h. absurd (omega arith);
-  cheap = λ p h o. absurd (no_or p h o);
-  faulty = says_none;
-} where
-  no_or : (p : ℕ) → p < 1 → (node_at (true_node ∷ []) p).what ≡ Or → ⊥
-  no_or zero h o = cc
-  no_or (suc p) h o = omega arith
-
-  says_none : (p : ℕ) → p < 1 → SaysFaulty words (length costs) (node_at (true_node ∷ []) p).what
-  says_none zero h = tt
-  says_none (suc p) h = absurd (omega arith)
+small-true words costs vars = grind arith

@@ -33,6 +33,11 @@ any-kid f kids k m e = list_any-map (λ b. b) f kids ∙ any_in f k kids m e
 pub kid-with : (f : ℕ → Bool) (kids : List ℕ) → list_any (λ b. b) (map f kids) ≡ true → Passing f kids
 kid-with f kids e = any_from f kids (sym (list_any-map (λ b. b) f kids) ∙ e)
 
+pub all-kid : (f : ℕ → Bool) (kids : List ℕ) (k : ℕ) → In k kids → list_all (λ b. b) (map f kids) ≡ true → f k ≡ true
+all-kid f [] k m e = absurd m
+all-kid f (j ∷ kids) k (inl q) e = ap f q ∙ and_left _ _ e
+all-kid f (j ∷ kids) k (inr m) e = all-kid f kids k m (and_right (f j) _ e)
+
 -- an or costs no more than a kid
 pub cheapest-kid : (C : ℕ → Option ℕ) (kids : List ℕ) (j d : ℕ) → In j kids → C j ≡ Some d → AtMost (cheapest (map C kids)) d
 cheapest-kid C [] j d m e = absurd m

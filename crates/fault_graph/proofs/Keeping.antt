@@ -7,9 +7,6 @@ use Rattle.conditioner.specs.Models.{models, least_under}
 use Rattle.diagnosis_lister.specs.Listing.{step_of}
 use Rattle.fault_graph.specs.Distilled.{Last, Kept, IsOf, Serves, IsDistilled}
 
-some-is : (o : Option ℕ) → IsSome o → true ≡ is_some o
-some-is o h = grind arith
-
 -- where something was distilled under the words, some state agrees with them
 pub known-some : (graph : Graph) (costs words : List ℕ) (kept : Kept) → Serves graph costs kept → IsOf words kept → true ≡ is_some (least_under graph words costs)
 known-some graph costs words kept serves same = grind arith

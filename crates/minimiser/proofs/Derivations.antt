@@ -298,13 +298,7 @@ module _ (graph : Graph) (words costs : List ℕ) (ok : IsGraph graph) where
       pub tight : faults_in (known_at words) (part_cost costs) (length costs) (λ v. mentions graph.nodes v k) a ≤ cost
 
     pub on-root : (c : ℕ) → C root ≡ Some c → T a root ≡ true → all_faults kn price n a ≤ c → OnFault root
-    on-root c e h cheap = record {
-      holds = h;
-      has = true_from_ne_false (M p root) (λ q. absurd (omega (arith, bound-at root c h e, faults-lt (λ v. M v root) (λ v. true) (λ v r. refl) q refl)));
-      cost = c;
-      is = e;
-      tight = omega (arith, faults-le (λ v. M v root) (λ v. true) (λ v q. refl));
-    }
+    on-root c e h cheap = grind (arith, bound-at, faults-lt, faults-le)
 
     pub record KidOnFault (kids : List ℕ) : Type 0 where
       pub kid : ℕ

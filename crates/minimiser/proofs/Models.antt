@@ -20,14 +20,10 @@ abbrev pub Agree : ℕ → Bool → Type 0
 Agree word bit = agrees_at (known_of word) bit ≡ true
 
 pub Agree-bit : (b bit : Bool) → Agree (word_of b) bit → bit ≡ b
-Agree-bit true true e = refl
-Agree-bit true false e = absurd (cc)
-Agree-bit false true e = absurd (cc)
-Agree-bit false false e = refl
+Agree-bit b bit e = grind arith
 
 pub Agree-same : (bit : Bool) → Agree (word_of bit) bit
-Agree-same true = refl
-Agree-same false = refl
+Agree-same bit = grind arith
 
 -- words that say as much, or more of open parts
 pub record Refines (parts : ℕ) (old new : List ℕ) : Type 0 where
@@ -50,8 +46,7 @@ module _ (graph : Graph) (costs : List ℕ) (within : length costs ≤ graph.var
   model-agrees words h long l m i lt =
       let r = any_from (λ others. fits_words words (h ++ others) && holds graph (h ++ others)) (lists_of_bits (graph.vars - length costs)) m in
       let len : length r.item ≡ graph.vars - length costs = bits_length (graph.vars - length costs) r.item r.is_in in
-      subst (λ b. Agree (get_or words i 0) b) (bit_in-front h r.item i (omega arith))
-      (fits_words-at words (h ++ r.item) (omega (arith, length-append h r.item)) (and_left _ _ r.passes) i)
+      grind (arith, bit_in-front, fits_words-at, length-append)
 
   -- a state that the words allow is allowed by others that say the same of the other variables, and nothing else of it
   pub model-moved : (words others : List ℕ) (h : List Bool) → length words ≡ graph.vars → length others ≡ graph.vars → length h ≡ length costs → has_model graph (fits_words words) (length costs) h ≡ true
@@ -60,34 +55,17 @@ module _ (graph : Graph) (costs : List ℕ) (within : length costs ≤ graph.var
       let r = any_from (λ rest. fits_words words (h ++ rest) && holds graph (h ++ rest)) (lists_of_bits (graph.vars - length costs)) m in
       let len : length r.item ≡ graph.vars - length costs = bits_length (graph.vars - length costs) r.item r.is_in in
       let all : length (h ++ r.item) ≡ graph.vars = omega (arith, length-append h r.item) in
-      any_in (λ rest. fits_words others (h ++ rest) && holds graph (h ++ rest)) r.item (lists_of_bits (graph.vars - length costs)) r.is_in
-      (and_from _ _ (fits_words-from others (h ++ r.item)
-      (λ i lt. ⊎_elim
-      (λ (p : i < length costs). subst (λ b. Agree (get_or others i 0) b) (sym (bit_in-front h r.item i (omega arith))) (agree i p))
-      (λ (p : length costs ≤ i). subst (λ w. Agree w (bit_in (h ++ r.item) i)) (sym (same i p)) (fits_words-at words (h ++ r.item) (all ∙ sym long) (and_left _ _ r.passes) i))
-      (cases_lt i (length costs))))
-      (and_right (fits_words words (h ++ r.item)) _ r.passes))
+      grind (arith, any_in, fits_words-from, bit_in-front, fits_words-at)
 
   agree-open : (old new : ℕ) (bit : Bool) → (old ≢ 0 → new ≡ old) → Agree new bit → Agree old bit
-  agree-open zero new bit h a = refl
-  agree-open (suc n) new bit h a = subst (λ w. Agree w bit) (h (λ e. absurd (omega arith))) a
+  agree-open old new bit h a = grind arith
 
   pub ModelWithin-old : (old new : List ℕ) (most : ℕ) (h : List Bool) → length old ≡ graph.vars → Refines (length costs) old new → ModelWithin graph new costs most h → ModelWithin graph old costs most h
-  ModelWithin-old old new most h long r p = record {
-    long = p.long;
-    model = model-moved new old h (r.long ∙ long) long p.long p.model
-        (λ i lt. agree-open (get_or old i 0) (get_or new i 0) (bit_in h i) (r.kept i) (model-agrees new h (r.long ∙ long) p.long p.model i lt))
-        (λ i g. sym (r.others i g));
-    cheap = p.cheap;
-  }
+  ModelWithin-old old new most h long r p = grind (arith, model-moved, model-agrees)
 
   pub ModelWithin-new : (old new : List ℕ) (most : ℕ) (h : List Bool) → length old ≡ graph.vars → Refines (length costs) old new → ModelWithin graph old costs most h
       → ((i : ℕ) → i < length costs → Agree (get_or new i 0) (bit_in h i)) → ModelWithin graph new costs most h
-  ModelWithin-new old new most h long r p agree = record {
-    long = p.long;
-    model = model-moved old new h long (r.long ∙ long) p.long p.model agree r.others;
-    cheap = p.cheap;
-  }
+  ModelWithin-new old new most h long r p agree = grind (arith, model-moved)
 
   pub ModelWithin-agrees : (words : List ℕ) (most : ℕ) (h : List Bool) → length words ≡ graph.vars → ModelWithin graph words costs most h → (i : ℕ) → i < length costs → Agree (get_or words i 0) (bit_in h i)
   ModelWithin-agrees words most h long p i lt = model-agrees words h long p.long p.model i lt
@@ -116,10 +94,7 @@ module _ (graph : Graph) (costs : List ℕ) (within : length costs ≤ graph.var
 
 pub least-none : (costs : List ℕ) (hs : List (List Bool)) → least costs hs ≡ None → hs ≡ []
 least-none costs [] e = refl
-least-none costs (h ∷ hs) e = absurd (has (cost costs h) (least costs hs) e) where
-  has : (n : ℕ) (o : Option ℕ) → least_with n o ≡ None → ⊥
-  has n None e = cc
-  has n (Some m) e = cc
+least-none costs (h ∷ hs) e = grind arith
 
 module _ (graph : Graph) (words costs : List ℕ) (most : ℕ) (e : LeastIs graph costs words most) where
   abbrev pub ds : List (List Bool)
@@ -136,8 +111,7 @@ module _ (graph : Graph) (words costs : List ℕ) (most : ℕ) (e : LeastIs grap
 
   -- the diagnoses are the states that pass
   pub diagnosis-in : (h : List Bool) → ModelWithin graph words costs most h → In h ds
-  diagnosis-in h p = In-filtered is_low h (models graph words (length costs))
-      (In-filtered (has_model graph (fits_words words) (length costs)) h (states (length costs)) (subst (λ n. In h (lists_of_bits n)) p.long (bits_in h)) p.model) (low-in h p.cheap)
+  diagnosis-in h p = grind (arith, In-filtered, bits_in)
 
   pub diagnosis-out : (h : List Bool) → In h ds → ModelWithin graph words costs most h
   diagnosis-out h m =

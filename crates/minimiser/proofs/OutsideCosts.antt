@@ -25,8 +25,7 @@ use Rattle.minimiser.proofs.Sweeping.{kid-out, kid_before}
 -- ---- the sweep
 
 lowered-is : (b : Bool) (cost old new : ℕ) → new ≡ lowered b cost old → (new ≤ old) × (b ≡ true → new ≤ cost) × ((new ≡ old) ⊎ ((b ≡ true) × (new ≡ cost)))
-lowered-is false cost old new e = (omega arith, (λ h. absurd (cc)), inl e)
-lowered-is true cost old new e = (omega arith, (λ h. omega arith), ⊎_elim (λ (p : cost < old). inr (refl, omega arith)) (λ (p : old ≤ cost). inl (omega arith)) (cases_lt cost old))
+lowered-is b cost old new e = grind arith
 
 -- one more node lowers what is outside its kids
 module _ (graph : Graph) (ok : IsGraph graph) (values xs ys : List ℕ) (at : ℕ) (lt : at < length graph.nodes) (s : AreOutsideCosts graph.nodes values xs (at + 1))
@@ -42,17 +41,8 @@ module _ (graph : Graph) (ok : IsGraph graph) (values xs ys : List ℕ) (at : �
   pub outside-met : AreOutsideCosts graph.nodes values ys at
   outside-met = record {
     root = stays (length graph.nodes - 1) (omega arith) (omega arith) ∙ s.root;
-    down = λ p k h g i.
-        let l : k < length graph.nodes = omega (arith, kid_before graph p k ok g i) in ⊎_elim
-        (λ (e : at ≡ p). subst (λ n. is_kid (node_at graph.nodes n).kids k ≡ true → get_or ys k 0 ≤ outside_below graph.nodes values ys n k) e (λ r. omega (arith, (moves k l).1 r, stays at (omega arith) lt)) i)
-        (λ (ne : at ≢ p). omega (arith, (moves k l).0, s.down p k (omega arith) g i, stays p h g))
-        (cases_eq at p);
-    up = λ k h q. ⊎_elim
-        (λ e. ⊎_elim (λ r. inl r)
-        (λ (p : HasOutsideParent graph.nodes values xs k). inr (record { parent = p.parent; within = p.within; kid = p.kid; cheap = omega (arith, e, (moves p.parent p.within).0, p.cheap) }))
-        (s.up k h (omega (arith, e))))
-        (λ r. inr (record { parent = at; within = lt; kid = r.0; cheap = omega (arith, r.1, (moves at lt).0) }))
-        (moves k h).2;
+    down = grind (arith, kid_before, s.down);
+    up = grind (arith, moves);
   }
 
 -- ---- what the numbers mean

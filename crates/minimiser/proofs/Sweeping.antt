@@ -1,5 +1,6 @@
 -- Marks spread from the root. They say of each literal whether it is part of making the root true at its least cost.
 use Rattle.std.proofs.Common.{◌≡◌, ◌≢◌, ℕ, zero, suc, ◌+◌, ◌-◌, ◌<◌, ◌≤◌, Bool, true, false, cond, eqb, ◌&&◌, ◌||◌, List, [], ◌∷◌, length, get_or, min, All, Option, Some, None, refl, ap, sym, ◌∙◌, subst, arith, inl, inr, ⊎_elim}
+use Rattle.std.proofs.lemmas.Bool.Decides.{nat_tests}
 use Rattle.std.specs.Prelude.{◌⊎◌, ◌==◌, slice_get, nat_le, IsSome}
 use Rattle.std.proofs.lemmas.Bool.{and_from, cases_lt, eqb-true, eq-eqb, leb-true, le-leb, ltb-true, lt-ltb, cases_eq, false_from_ne_true, true_from_ne_false}
 use Rattle.std.proofs.lemmas.Option.{slice_get-get_or, slice_get_within, get_or_from_slice_get, same_Some}
@@ -27,8 +28,7 @@ use Rattle.minimiser.proofs.Derivations.{sum-kid, cheapest-kid, Useful, useful-r
 use Rattle.minimiser.proofs.Models.{LeastIs}
 
 pub some-least : (o : Option ℕ) → IsSome o → (m : ℕ) × (o ≡ Some m)
-some-least None h = absurd (cc)
-some-least (Some m) h = (m, refl)
+some-least o h = grind arith
 
 -- ---- marks of values
 
@@ -56,10 +56,7 @@ unmarked-marked v h = unmarked-in (v + 2147483648) (marked v h) ∙ omega arith
 
 pub kid-out : (kids : List ℕ) (j : ℕ) → is_kid kids j ≡ true → In j kids
 kid-out [] j e = absurd (cc)
-kid-out (k ∷ kids) j e = by_test (kid-out kids j) (eqb k j) refl e where
-  by_test : (is_kid kids j ≡ true → In j kids) → (b : Bool) → eqb k j ≡ b → (b || is_kid kids j) ≡ true → In j (k ∷ kids)
-  by_test more true q e = inl (sym (eqb-true _ _ q))
-  by_test more false q e = inr (more e)
+kid-out (k ∷ kids) j e = grind (arith, kid-out kids j)
 
 pub kid-in : (kids : List ℕ) (j : ℕ) → In j kids → is_kid kids j ≡ true
 kid-in [] j m = absurd m
@@ -81,30 +78,22 @@ spread-kid : (kids : List ℕ) (cost j v : ℕ) → is_kid kids j ≡ true → v
 spread-kid kids cost j v m h = λ i. cond (and_from _ _ m (le-leb _ _ h) i) (v + 2147483648) v
 
 spread-marked : (kids : List ℕ) (cost j v w : ℕ) → cost < 2147483647 → Spread kids cost j v w → has_mark v ≡ true → has_mark w ≡ true
-spread-marked kids cost j v w small stays e = e
-spread-marked kids cost j v w small (grows m h) e = absurd (omega (arith, (mark-out v e).0))
+spread-marked kids cost j v w small given e = grind arith
 
 spread-unmarked : (kids : List ℕ) (cost j v w : ℕ) → cost < 2147483647 → Spread kids cost j v w → unmarked w ≡ unmarked v
-spread-unmarked kids cost j v w small stays = refl
-spread-unmarked kids cost j v w small (grows m h) = unmarked-marked v (omega arith) ∙ sym (unmarked-same v (no-mark v (inl (omega arith))))
+spread-unmarked kids cost j v w small given = grind arith
 
 spread-new : (kids : List ℕ) (cost j v w : ℕ) → Spread kids cost j v w → has_mark w ≡ true → (has_mark v ≡ true) ⊎ ((is_kid kids j ≡ true) × (v ≤ cost))
-spread-new kids cost j v w stays e = inl e
-spread-new kids cost j v w (grows m h) e = inr (m, h)
+spread-new kids cost j v w given e = grind arith
 
 -- ---- the sweep
 
 -- a value is marked, or it is still the cost
 mark-or-cost : (v c : ℕ) → unmarked v ≡ c → (has_mark v ≡ true) ⊎ (v ≡ c)
-mark-or-cost v c e = by_test (has_mark v) refl where
-  by_test : (b : Bool) → has_mark v ≡ b → (has_mark v ≡ true) ⊎ (v ≡ c)
-  by_test true q = inl q
-  by_test false q = inr (sym (unmarked-same v q) ∙ e)
+mark-or-cost v c e = grind arith
 
 own-cost : (v c : ℕ) → unmarked v ≡ c → has_mark v ≡ true → (v - 2147483648 ≡ c) × (c < 2147483647)
-own-cost v c e m =
-    let same : v - 2147483648 ≡ c = sym (unmarked-in v m) ∙ e in
-    (same, omega (arith, (mark-out v m).0, (mark-out v m).1))
+own-cost v c e m = grind arith
 
 module _ (nodes : List Node) (cs : List ℕ) where
   -- a marked node is met, and marks its kids that cost no more
@@ -134,34 +123,21 @@ module _ (nodes : List Node) (cs : List ℕ) where
     old-mark k h g q = ⊎_elim (λ r. r) (λ r. absurd (omega (arith, before k r.0))) (spread-new kids own k (get_or xs k 0) (get_or ys k 0) (moves k g) q)
 
     kid-marked : (j : ℕ) → is_kid kids j ≡ true → get_or cs j 0 ≤ get_or cs at 0 → has_mark (get_or ys j 0) ≡ true
-    kid-marked j i h =
-        let g : j < length nodes = omega (arith, before j i) in
-        ⊎_elim (λ q. more j g q)
-        (λ (q : get_or xs j 0 ≡ get_or cs j 0). subst (λ v. has_mark v ≡ true) (sym (spreads j g ∙ spread-kid kids own j (get_or xs j 0) i (omega (arith, own-is.0))))
-        (marked (get_or xs j 0) (omega (arith, own-is.1))))
-        (mark-or-cost (get_or xs j 0) (get_or cs j 0) (s.kept j g))
+    kid-marked j i h = grind (arith, nat_tests, before, more, spreads)
 
     new-parent : (k : ℕ) → HasMarkedParent nodes cs xs k → HasMarkedParent nodes cs ys k
     new-parent k p = record { parent = p.parent; within = p.within; marked = more p.parent p.within p.marked; kid = p.kid; cheap = p.cheap }
 
     -- a kid that got its mark now
     newly : (k : ℕ) → k < length nodes → is_kid kids k ≡ true → get_or xs k 0 ≤ own → HasMarkedParent nodes cs ys k
-    newly k h i c = record { parent = at; within = lt; marked = more at lt m; kid = i; cheap = omega (arith, is_own, own-is.0) } where
-      is_own : get_or xs k 0 ≡ get_or cs k 0
-      is_own = sym (unmarked-same (get_or xs k 0) (no-mark (get_or xs k 0) (inl (omega (arith, small))))) ∙ s.kept k h
+    newly k h i c = grind arith
 
     pub swept-met : IsSwept nodes cs ys at
     swept-met = record {
       kept = λ k h. spread-unmarked kids own k (get_or xs k 0) (get_or ys k 0) small (moves k h) ∙ s.kept k h;
       root = more (length nodes - 1) (omega arith) s.root;
-      down = λ k j h g q l i c. ⊎_elim
-          (λ (r : k ≡ at). kid-marked j (subst (λ n. is_kid (node_at nodes n).kids j ≡ true) r i) (subst (λ n. get_or cs j 0 ≤ get_or cs n 0) r c))
-          (λ (r : k ≢ at). more j l (s.down k j (omega arith) g (old-mark k h g q) l i c))
-          (cases_eq k at);
-      up = λ k h q. ⊎_elim
-          (λ r. ⊎_elim (λ x. inl x) (λ x. inr (new-parent k x)) (s.up k h r))
-          (λ r. inr (newly k h r.0 r.1))
-          (spread-new kids own k (get_or xs k 0) (get_or ys k 0) (moves k h) q);
+      down = grind (arith, nat_tests, kid-marked, more);
+      up = grind (arith, new-parent);
     }
 
 -- kids stand before their parents
@@ -200,10 +176,7 @@ module _ (graph : Graph) (words costs : List ℕ) (ok : IsGraph graph) (long : l
     pub sum : most ≡ held_cost costs words + cost
 
   root-cost : RootCost
-  root-cost = by_cost (node_least graph words costs (length graph.nodes - 1)) refl (sym least_most ∙ least_is graph words costs ok long within) where
-    by_cost : (o : Option ℕ) → node_least graph words costs (length graph.nodes - 1) ≡ o → Some most ≡ AddHeld (held_cost costs words) o → RootCost
-    by_cost None e f = absurd (cc)
-    by_cost (Some c) e f = record { cost = c; is = e; sum = cc }
+  root-cost = grind (arith, least_is)
 
   pub root-low : get_or cs (length graph.nodes - 1) 0 < 2147483647
   root-low = ⊎_elim (λ q. q)
@@ -246,17 +219,7 @@ module _ (graph : Graph) (words costs : List ℕ) (ok : IsGraph graph) (long : l
         let r = root-cost in
         let f = useful-literal graph words costs ok k var kids e (ap known_of open_) useful r.cost r.is in
         let t = state_of graph words costs ok long within f.by f.achieves.agrees f.achieves.holds in
-        record {
-          within = omega arith;
-          open_ = open_;
-          state = t.state;
-          is_least = record {
-            most = most;
-            least_is = least_most;
-            passes = record { long = t.long_state; model = t.model; cheap = omega (arith, t.cost_is, f.achieves.cheap, r.sum) };
-          };
-          faulty = t.bits (var - 1) (omega arith) ∙ ap f.by (omega arith) ∙ f.at;
-        }
+        grind arith
 
     pub suspect-sound : (k part : ℕ) → k < length graph.nodes → suspect_at graph.nodes words (length costs) xs k ≡ Some part → Suspect graph words costs part
     suspect-sound k part h e = by_mark (has_mark (get_or xs k 0)) refl e where
@@ -306,10 +269,7 @@ module _ (graph : Graph) (words costs : List ℕ) (ok : IsGraph graph) (long : l
         (length graph.nodes) (length graph.nodes - 1) (omega (arith, ok.some)) s.root on in
         (x.node, slice_get_within graph.nodes x.node _ x.is, found x.node x.kids x.is x.marked) where
           found : (k : ℕ) (kids : List ℕ) → slice_get graph.nodes k ≡ Some (record { what = Literal false (suc part); kids = kids }) → IsMarked xs k → suspect_at graph.nodes words (length costs) xs k ≡ Some part
-          found k kids e m =
-              let fits : (nat_le (suc part) (length costs) && (get_or words (suc part - 1) 0 == 0)) ≡ true = and_from _ _ (le-leb _ _ (omega arith)) (eq-eqb _ 0 (ap (λ j. get_or words j 0) (one_less part) ∙ open_)) in
-              (λ i. cond (m i) (suspect_of words (length costs) (get_or_from_slice_get graph.nodes k _ true_node e i).what) None)
-              ∙ (λ i. cond (fits i) (Some (suc part - 1)) None) ∙ ap Some (one_less part)
+          found k kids e m = grind (arith, get_or_from_slice_get)
 
 -- ---- the look at all nodes
 
@@ -321,11 +281,7 @@ pub record IsLeastSuspect (suspect : ℕ → Option ℕ) (parts at first : ℕ) 
 
 module _ (suspect : ℕ → Option ℕ) (parts : ℕ) where
   pub first-same : (at first : ℕ) → IsLeastSuspect suspect parts at first → suspect at ≡ None → IsLeastSuspect suspect parts (at + 1) first
-  first-same at first f none = record {
-    within = f.within;
-    found = λ h. let x = f.found h in (x.0, omega (arith, x.1), x.2);
-    all = λ k part h e. ⊎_elim (λ (q : k ≡ at). absurd (cc (sym none ∙ ap suspect (sym q), e))) (λ (ne : k ≢ at). f.all k part (omega arith) e) (cases_eq k at);
-  }
+  first-same at first f none = grind arith
 
   pub first-less : (at first part next : ℕ) → IsLeastSuspect suspect parts at first → suspect at ≡ Some part → next ≡ min first part → IsLeastSuspect suspect parts (at + 1) next
   first-less at first part next f is e = record {
@@ -334,10 +290,7 @@ module _ (suspect : ℕ → Option ℕ) (parts : ℕ) where
         (λ (q : first < part). let same : first ≡ next = omega arith in let x = f.found (omega arith) in (x.0, omega (arith, x.1), x.2 ∙ ap Some same))
         (λ (q : part ≤ first). let same : part ≡ next = omega arith in (at, omega arith, is ∙ ap Some same))
         (cases_lt first part);
-    all = λ k other h r. ⊎_elim
-        (λ (q : k ≡ at). let same : part ≡ other = same_Some part other (sym is ∙ ap suspect (sym q) ∙ r) in omega arith)
-        (λ (ne : k ≢ at). let l = f.all k other (omega arith) r in omega arith)
-        (cases_eq k at);
+    all = grind arith;
   }
 
 -- the suspects of so many nodes are flagged
@@ -362,8 +315,7 @@ module _ (graph : Graph) (words costs cs : List ℕ) (ok : IsGraph graph) (long 
     is-found dears part lt open_ h is q = let l = some-least (least_under graph words costs) some in suspect-found graph words costs ok long within total l.0 l.1 cs v xs s dears part lt open_ h is q
 
     pub ok-before : All (λ c. 0 < c) costs → (first at : ℕ) → at ≡ length graph.nodes → IsLeastSuspect (suspect_at graph.nodes words (length costs) xs) (length costs) at first → OkBelow graph words costs first
-    ok-before dears first at e f part lt open_ h is = true_from_ne_false (bit_in h part)
-        (λ q. let x = is-found dears part (omega (arith, f.within)) open_ h is q in omega (arith, f.all x.0 part (omega (arith, x.1)) x.2))
+    ok-before dears first at e f part lt open_ h is = grind (arith, is-found)
 
     pub first-suspect : (first at : ℕ) → at ≡ length graph.nodes → IsLeastSuspect (suspect_at graph.nodes words (length costs) xs) (length costs) at first → first ≢ length costs → Suspect graph words costs first
     first-suspect first at e f ne = let x = f.found (omega (arith, f.within)) in is-suspect x.0 first (omega (arith, x.1)) x.2

@@ -17,10 +17,7 @@ abbrev pub node_least : Graph → List ℕ → List ℕ → ℕ → Option ℕ
 node_least graph words costs k = cost_at (values (node_cost (known_at words) (part_cost costs)) graph.nodes) k
 
 pub cost_in-is : (v c : ℕ) → cost_in v ≡ Some c → v ≡ c
-cost_in-is v c e = by_test (eqb v 4294967295) e where
-  by_test : (b : Bool) → cond b None (Some v) ≡ Some c → v ≡ c
-  by_test true q = absurd (cc)
-  by_test false q = cc
+cost_in-is v c e = grind arith
 
 module _ (graph : Graph) (words costs : List ℕ) (cs : List ℕ) (v : AreLeastCosts graph words costs cs) where
   pub value-is : (k : ℕ) → k < length graph.nodes → cost_in (get_or cs k 0) ≡ node_least graph words costs k

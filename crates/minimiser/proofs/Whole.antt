@@ -27,12 +27,7 @@ use Rattle.minimiser.proofs.Nodes.{is_cost}
 -- ---- the cost of a state
 
 one_cost : (k : Option Bool) (c : ℕ) (b : Bool) → agrees_at k b ≡ true → cond b 0 c ≡ held_one c k + fault k c b
-one_cost None c true e = refl
-one_cost None c false e = omega arith
-one_cost (Some true) c true e = refl
-one_cost (Some true) c false e = absurd (cc)
-one_cost (Some false) c true e = absurd (cc)
-one_cost (Some false) c false e = omega arith
+one_cost k c b e = grind arith
 
 -- what the held parts cost, as a sum over their variables
 held-total : (f : ℕ → ℕ) (v : ℕ) (costs words : List ℕ) → length costs ≤ length words → ((i : ℕ) → i < length costs → f (v + i) ≡ held_one (get_or costs i 0) (known_of (get_or words i 0))) → total f v (length costs) ≡ held_cost costs words
@@ -44,8 +39,7 @@ held-total f v (c ∷ costs) (w ∷ words) m e =
 
 -- a variable that is no part's costs nothing
 pub part_cost-none : (costs : List ℕ) (v : ℕ) → ((1 ≤ v) → (v < 1 + length costs) → ⊥) → part_cost costs v ≡ 0
-part_cost-none costs zero h = refl
-part_cost-none costs (suc i) h = get_or_past costs i 0 (⊎_elim (λ p. absurd (h (omega arith) (omega arith))) (λ p. p) (cases_lt i (length costs)))
+part_cost-none costs v h = grind (arith, get_or_past)
 
 -- ---- an assignment as a list
 
@@ -68,8 +62,7 @@ abbrev pub AddHeld : ℕ → Option ℕ → Option ℕ
 AddHeld held c = option_map (λ n. held + n) c
 
 pub from_bounds : (o : Option ℕ) (n : ℕ) → AtMost o n → ((k : ℕ) → o ≡ Some k → n ≤ k) → o ≡ Some n
-from_bounds None n h low = absurd h
-from_bounds (Some k) n h low = let l = low k refl in ap Some (omega arith)
+from_bounds o n h low = grind arith
 
 less_one : (i : ℕ) → i ≡ 1 + i - 1
 less_one i = omega arith
@@ -133,8 +126,7 @@ module _ (graph : Graph) (words costs : List ℕ) (ok : IsGraph graph) (long : l
       let same : (i : ℕ) → i < length costs → bit_in bits i ≡ a (1 + i) = λ i h. sym (bit_in-front bits others i (omega arith)) ∙ ap (λ xs. bit_in xs i) joins ∙ bit_in-bits_from a 1 graph.vars i (omega arith) in
       record { state = bits; long_state = h_long; model = passes; cost_is = cost_by_bits bits a h_long same agree; bits = same } where
         full_agrees : (a : Assignment) → Agrees kn price (length costs) a → fits_words words (bits_from a 1 graph.vars) ≡ true
-        full_agrees a ag = fits_words-from words (bits_from a 1 graph.vars)
-            (λ i h. rw (bit_in-bits_from a 1 graph.vars i (omega (arith, h, length-bits_from a 1 graph.vars))) (subst (λ j. agrees_at (known_of (get_or words j 0)) (a (1 + i)) ≡ true) (sym (less_one i)) (ag (1 + i))))
+        full_agrees a ag = grind (arith, fits_words-from, bit_in-bits_from, length-bits_from)
 
         full_true : (a : Assignment) → truth_of (assignment (bits_from a 1 graph.vars)) ≡ truth_of a
         full_true a = root_is.local _ a (λ v m. let h = mentioned-range graph.vars graph.nodes v root ok.nodes.fit m in bit_in-bits_from a 1 graph.vars (v - 1) (omega (arith, h.low, h.high)) ∙ ap a (omega (arith, h.low, h.high)))

@@ -11,13 +11,12 @@ use Rattle.state_rules.proofs.Lists.{filter-filter}
 use Rattle.state_rules.proofs.Members.{bits_length, filter_same}
 use Rattle.state_rules.specs.Graphs.{Graph, is_true, mentions, IsGraph}
 use Rattle.conditioner.specs.Models.{has_model, fits_words, models, least_under, diagnoses_under}
-use Rattle.minimiser.specs.Costs.{part_cost, known_at}
+use Rattle.minimiser.specs.Costs.{part_cost, known_at, least_at}
 use Rattle.minimiser.specs.inner.Held.{held_cost}
 use Rattle.node_costs.specs.Costs.{total}
 use Rattle.node_costs.proofs.Totals.{total-le}
 use Rattle.minimiser.proofs.Costs.{fault, all_faults, and_left, and_right}
 use Rattle.minimiser.proofs.Whole.{AddHeld, least_is, state_of, assignment_of}
-use Rattle.minimiser.proofs.Derivations.{C}
 use Rattle.fault_graph.proofs.Standing.{StandsFor}
 use Rattle.fault_graph.proofs.Placing.{high, over, place-cost}
 
@@ -50,7 +49,7 @@ diagnoses-same costs n most p q to from =
 -- ---- the law
 
 module _ (graph small : Graph) (words costs : List ℕ) (ok : IsGraph graph) (sound : IsGraph small) (vars : small.vars ≡ graph.vars) (long : length words ≡ graph.vars) (within : length costs ≤ graph.vars)
-    (dear : All (λ c. 0 < c) costs) (c : ℕ) (is : C graph words costs ok (length graph.nodes - 1) ≡ Some c)
+    (dear : All (λ c. 0 < c) costs) (c : ℕ) (is : least_at graph words costs (length graph.nodes - 1) ≡ Some c)
     (stands : StandsFor (known_at words) (part_cost costs) (length costs) (λ a. is_true graph.nodes (length graph.nodes - 1) a) (λ v. mentions graph.nodes v (length graph.nodes - 1)) c (λ a. is_true small.nodes (length small.nodes - 1) a)) where
   abbrev kn : ℕ → Option Bool
   kn v = known_at words v

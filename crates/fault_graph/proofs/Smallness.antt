@@ -9,9 +9,9 @@ use Rattle.state_rules.specs.declared.nodes.NodeKind.{NodeKind}
 use Rattle.state_rules.specs.declared.nodes.NodeKind.TheVariants.{Literal, And, Or}
 use Rattle.state_rules.specs.Graphs.{Graph, true_node, node_at, IsGraph}
 use Rattle.conditioner.specs.Words.{known_of, leaf_of}
-use Rattle.minimiser.specs.Costs.{part_cost, known_at, literal_cost, cost_by}
-use Rattle.minimiser.proofs.Derivations.{C, costs-at}
-use Rattle.fault_graph.specs.Small.{least_at, HasParent, SaysFaulty, Joins, IsSmall}
+use Rattle.minimiser.specs.Costs.{part_cost, known_at, literal_cost, cost_by, least_at}
+use Rattle.minimiser.proofs.Derivations.{costs-at}
+use Rattle.fault_graph.specs.Small.{HasParent, SaysFaulty, Joins, IsSmall}
 use Rattle.fault_graph.proofs.Placing.{place-cost}
 use Rattle.fault_graph.proofs.Places.{IsFrom, AreFrom}
 

@@ -18,7 +18,7 @@ use Rattle.state_rules.proofs.NodeValues.{are_below, value_of-get}
 use Rattle.state_rules.proofs.Kids.{at_most_one-tail, not_both}
 use Rattle.state_rules.proofs.NodesFit.{fits-get, apart-get}
 use Rattle.conditioner.specs.Words.{leaf_of}
-use Rattle.minimiser.specs.Costs.{part_cost, known_at, cost_at, sum_costs, cheapest, node_cost, cost_by, literal_cost}
+use Rattle.minimiser.specs.Costs.{part_cost, known_at, cost_at, sum_costs, cheapest, node_cost, cost_by, literal_cost, least_at}
 use Rattle.node_costs.proofs.Conditions.{one_apart, cost_among-apart, cost_among-one, join, joined-le}
 use Rattle.minimiser.proofs.Costs.{fault, open_weights, only_parts, as_cost, IsCost, Agrees, faults_in, faults_in-le, all_faults, and_left, and_right, from_add, AtMost-min_left, AtMost-min_right}
 pub use Rattle.node_costs.proofs.Nodes.{all-below}
@@ -68,9 +68,8 @@ module _ (graph : Graph) (words costs : List ℕ) (ok : IsGraph graph) where
   abbrev M : ℕ → ℕ → Bool
   M v k = mentions graph.nodes v k
 
-  -- the least cost at a node
-  abbrev pub C : ℕ → Option ℕ
-  C k = cost_at (values (node_cost (known_at words) (part_cost costs)) graph.nodes) k
+  abbrev C : ℕ → Option ℕ
+  C k = least_at graph words costs k
 
   abbrev root : ℕ
   root = length graph.nodes - 1
@@ -236,7 +235,7 @@ module _ (graph : Graph) (words costs : List ℕ) (ok : IsGraph graph) where
   pub record KidExcess (kids : List ℕ) (c j : ℕ) (a : Assignment) : Type 0 where
     pub holds : is_true graph.nodes j a ≡ true
     pub cost : ℕ
-    pub is : cost_at (values (node_cost (known_at words) (part_cost costs)) graph.nodes) j ≡ Some cost
+    pub is : least_at graph words costs j ≡ Some cost
     pub excess : c + faults_in (known_at words) (part_cost costs) (length costs) (λ v. mentions graph.nodes v j) a
         ≤ faults_in (known_at words) (part_cost costs) (length costs) (λ v. list_any (λ b. b) (map (mentions graph.nodes v) kids)) a + cost
 
@@ -294,7 +293,7 @@ module _ (graph : Graph) (words costs : List ℕ) (ok : IsGraph graph) where
       pub holds : is_true graph.nodes k a ≡ true
       pub has : mentions graph.nodes p k ≡ true
       pub cost : ℕ
-      pub is : cost_at (values (node_cost (known_at words) (part_cost costs)) graph.nodes) k ≡ Some cost
+      pub is : least_at graph words costs k ≡ Some cost
       pub tight : faults_in (known_at words) (part_cost costs) (length costs) (λ v. mentions graph.nodes v k) a ≤ cost
 
     pub on-root : (c : ℕ) → C root ≡ Some c → T a root ≡ true → all_faults kn price n a ≤ c → OnFault root
@@ -318,7 +317,7 @@ module _ (graph : Graph) (words costs : List ℕ) (ok : IsGraph graph) where
     pub record CheapKid (kids : List ℕ) (cost : ℕ) : Type 0 where
       pub kid : ℕ
       pub is_in : In kid kids
-      pub same : cost_at (values (node_cost (known_at words) (part_cost costs)) graph.nodes) kid ≡ Some cost
+      pub same : least_at graph words costs kid ≡ Some cost
       pub on : OnFault kid
 
     on-or : (k : ℕ) (kids : List ℕ) → slice_get graph.nodes k ≡ Some (record { what = Or; kids = kids }) → (on : OnFault k) → CheapKid kids on.cost
@@ -342,10 +341,10 @@ module _ (graph : Graph) (words costs : List ℕ) (ok : IsGraph graph) where
     -- Marks that go from the root to all kids of an and and to the cheap kids of an or come to a literal that says faulty.
     module _ (Marked : ℕ → Type 0)
         (ands : (k : ℕ) (kids : List ℕ) (c : ℕ) → slice_get graph.nodes k ≡ Some (record { what = And; kids = kids })
-        → cost_at (values (node_cost (known_at words) (part_cost costs)) graph.nodes) k ≡ Some c → Marked k → (j : ℕ) → In j kids → Marked j)
+        → least_at graph words costs k ≡ Some c → Marked k → (j : ℕ) → In j kids → Marked j)
         (ors : (k : ℕ) (kids : List ℕ) (c : ℕ) → slice_get graph.nodes k ≡ Some (record { what = Or; kids = kids })
-        → cost_at (values (node_cost (known_at words) (part_cost costs)) graph.nodes) k ≡ Some c → Marked k → (j : ℕ) → In j kids
-        → cost_at (values (node_cost (known_at words) (part_cost costs)) graph.nodes) j ≡ Some c → Marked j) where
+        → least_at graph words costs k ≡ Some c → Marked k → (j : ℕ) → In j kids
+        → least_at graph words costs j ≡ Some c → Marked j) where
       pub record MarkedLiteral : Type 0 where
         pub node : ℕ
         pub kids : List ℕ

@@ -11,7 +11,7 @@ use Rattle.state_rules.specs.Graphs.{Graph, true_node, node_at, is_true, mention
 use Rattle.state_rules.proofs.Members.{In}
 use Rattle.state_rules.proofs.NodesFit.{fits-get, literal}
 use Rattle.conditioner.specs.Models.{total_cost}
-use Rattle.minimiser.specs.Costs.{part_cost, known_at}
+use Rattle.minimiser.specs.Costs.{part_cost, known_at, least_at}
 use Rattle.minimiser.specs.Stored.{AreLeastCosts}
 use Rattle.minimiser.specs.inner.Swept.{is_kid}
 use Rattle.minimiser.specs.inner.Outside.{lowered, others_cost, outside_below, HasOutsideParent, AreOutsideCosts}
@@ -19,8 +19,8 @@ use Rattle.minimiser.proofs.Costs.{Agrees, faults_in, faults_in-le}
 use Rattle.minimiser.proofs.Sums.{cost_in-some}
 use Rattle.minimiser.proofs.OnePass.{cost_small}
 use Rattle.minimiser.proofs.Derivations.{any-kid, true-at, mention-at, costs-at, apart-kids, sum-kid, Apart, Achieves, Extends, extends-le, Outside, outside-root, outside-and, outside-or, kid-excess}
-use Rattle.minimiser.proofs.Valued.{node_least, value-is, has_least}
-use Rattle.minimiser.proofs.Sweeping.{kid-out, kid_before}
+use Rattle.minimiser.proofs.Valued.{value-is, has_least}
+use Rattle.minimiser.proofs.Sweeping.{no-kids, kid-out, kid_before}
 
 -- ---- the sweep
 
@@ -54,9 +54,6 @@ module _ (graph : Graph) (words costs : List ℕ) (ok : IsGraph graph) (vs os : 
   abbrev O : ℕ → ℕ
   O k = get_or os k 0
 
-  no-kids : (k j var : ℕ) (positive : Bool) (kids : List ℕ) → slice_get graph.nodes k ≡ Some (record { what = Literal positive var; kids = kids }) → In j kids → ⊥
-  no-kids k j var positive kids e i = subst (In j) (literal graph.vars var positive kids (fits-get graph.vars graph.nodes k _ ok.nodes.fit e).kind).alone i
-
   -- Each number is at least what the rest of a derivation costs.
   pub outside-is : total_cost costs < 2147483647 → (fuel k : ℕ) → length graph.nodes ≤ k + fuel → k < length graph.nodes → O k < 2147483647 → Outside graph words costs ok k (O k)
   outside-is total zero k f h q x a ach = absurd (omega arith)
@@ -67,12 +64,12 @@ module _ (graph : Graph) (words costs : List ℕ) (ok : IsGraph graph) (vs os : 
       (outside.up k h q) where
         by_kind : ((j : ℕ) → length graph.nodes ≤ j + fuel → j < length graph.nodes → O j < 2147483647 → Outside graph words costs ok j (O j)) → (p : ℕ) → p < length graph.nodes → (what : NodeKind) (kids : List ℕ)
             → slice_get graph.nodes p ≡ Some (record { what = what; kids = kids }) → In k kids → k < p → O p + others_cost what (W p) (W k) ≤ O k → Extends graph words costs ok k (O k + x) a
-        by_kind more p g (Literal positive v) kids e i l c = absurd (no-kids p k v positive kids e i)
+        by_kind more p g (Literal positive v) kids e i l c = absurd (no-kids graph ok p k v positive kids e i)
         by_kind more p g And kids e i l c =
             let own = has_least graph words costs vs least ok a ach.agrees k h ach.holds in
             let small = cost_small graph words costs k ok (W k) own.is in
-            let all : node_least graph words costs p ≡ Some (W p) = sym (value-is graph words costs vs least p g) ∙ cost_in-some (W p) (λ z. absurd (omega (arith, small, z))) in
-            let there = sum-kid (node_least graph words costs) kids (W p) k (sym (costs-at graph words costs ok p _ e) ∙ all) i in
+            let all : least_at graph words costs p ≡ Some (W p) = sym (value-is graph words costs vs least p g) ∙ cost_in-some (W p) (λ z. absurd (omega (arith, small, z))) in
+            let there = sum-kid (least_at graph words costs) kids (W p) k (sym (costs-at graph words costs ok p _ e) ∙ all) i in
             let le : W k ≤ W p = omega (arith, there.2, same_Some there.0 (W k) (sym there.1 ∙ own.is)) in
             extends-le graph words costs ok k (O p + (W p - W k) + x) (O k + x) a (omega arith)
             (outside-and graph words costs ok p kids (O p) e (more p (omega arith) g (omega arith)) k i (W k) own.is (W p - W k) (all ∙ ap Some (omega arith)) x a ach)
@@ -90,13 +87,13 @@ module _ (graph : Graph) (words costs : List ℕ) (ok : IsGraph graph) (vs os : 
         let x = by_kind (node_at graph.nodes k).what (node_at graph.nodes k).kids (slice_get-get_or graph.nodes k true_node h) (kid-out (node_at graph.nodes k).kids j i) in
         omega arith where
           by_kind : (what : NodeKind) (kids : List ℕ) → slice_get graph.nodes k ≡ Some (record { what = what; kids = kids }) → In j kids → others_cost what (W k) (W j) + faults j ≤ faults k
-          by_kind (Literal positive v) kids e m = absurd (no-kids k j v positive kids e m)
+          by_kind (Literal positive v) kids e m = absurd (no-kids graph ok k j v positive kids e m)
           by_kind And kids e m =
               let own = has_least graph words costs vs least ok a agree k h t in
               let sum = sym (costs-at graph words costs ok k _ e) ∙ own.is in
               let y = kid-excess graph words costs ok a agree kids (apart-kids graph words costs ok k kids e) (sym (true-at graph words costs ok k _ e a) ∙ t) (W k) sum j m in
               let same = same_Some y.cost (W j) (sym y.is ∙ (has_least graph words costs vs least ok a agree j (omega (arith, kid_before graph k j ok h i)) u).is) in
-              let most = sum-kid (node_least graph words costs) kids (W k) j sum m in
+              let most = sum-kid (least_at graph words costs) kids (W k) j sum m in
               let less = same_Some most.0 y.cost (sym most.1 ∙ y.is) in
               let all = faults_in-le (known_at words) (part_cost costs) (length costs) (λ v. list_any (λ b. b) (map (mentions graph.nodes v) kids)) (λ v. mentions graph.nodes v k) a (λ v r. mention-at graph words costs ok k _ e v ∙ r) in
               omega (arith, y.excess, most.2)

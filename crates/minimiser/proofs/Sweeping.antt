@@ -14,7 +14,7 @@ use Rattle.state_rules.proofs.NodesFit.{fits-get, literal}
 use Rattle.state_rules.proofs.Members.{In, AtMost}
 use Rattle.conditioner.specs.Words.{known_of}
 use Rattle.conditioner.specs.Models.{least_under, total_cost}
-use Rattle.minimiser.specs.Costs.{part_cost, known_at, cost_at, node_cost}
+use Rattle.minimiser.specs.Costs.{part_cost, known_at, cost_at, node_cost, least_at}
 use Rattle.minimiser.specs.inner.Held.{held_cost}
 use Rattle.minimiser.specs.Stored.{cost_in, AreLeastCosts}
 use Rattle.minimiser.specs.LeastStates.{Suspect, LeastState, OkBelow}
@@ -23,7 +23,7 @@ use Rattle.minimiser.proofs.Costs.{fault, and_left, and_right}
 use Rattle.minimiser.proofs.Sums.{cost_in-some}
 use Rattle.minimiser.proofs.Whole.{AddHeld, least_is, state_of, assignment_of}
 use Rattle.minimiser.proofs.OnePass.{value_small, length-least_costs, kids_below, literal_at}
-use Rattle.minimiser.proofs.Valued.{node_least, cost_in-is, value-is}
+use Rattle.minimiser.proofs.Valued.{cost_in-is, value-is}
 use Rattle.minimiser.proofs.Derivations.{sum-kid, cheapest-kid, Useful, useful-root, useful-and, useful-or, useful-literal, on-root, descend, costs-at, below, all-below}
 use Rattle.minimiser.proofs.Models.{LeastIs}
 
@@ -140,6 +140,9 @@ module _ (nodes : List Node) (cs : List ℕ) where
       up = grind (arith, new-parent);
     }
 
+pub no-kids : (graph : Graph) → IsGraph graph → (k j var : ℕ) (positive : Bool) (kids : List ℕ) → slice_get graph.nodes k ≡ Some (record { what = Literal positive var; kids = kids }) → In j kids → ⊥
+no-kids graph ok k j var positive kids e i = subst (In j) (literal graph.vars var positive kids (fits-get graph.vars graph.nodes k _ ok.nodes.fit e).kind).alone i
+
 -- kids stand before their parents
 pub kids_before : (graph : Graph) (k : ℕ) (kids : List ℕ) → IsGraph graph → k < length graph.nodes → kids ≡ (node_at graph.nodes k).kids → All (λ j. j < k) kids
 kids_before graph k _ ok h e = subst (λ ks. All (λ j. j < k) ks) (sym e) (kids_below graph k (node_at graph.nodes k) ok (slice_get-get_or graph.nodes k true_node h))
@@ -164,6 +167,36 @@ module _ (graph : Graph) (words costs : List ℕ) (ok : IsGraph graph) (total : 
         default (x ∷ xs) zero d h = refl
         default (x ∷ xs) (suc k) d h = default xs k d (omega arith)
 
+-- ---- the look at all nodes
+
+-- the least of the suspects of so many nodes
+pub record IsLeastSuspect (suspect : ℕ → Option ℕ) (parts at first : ℕ) : Type 0 where
+  pub within : first ≤ parts
+  pub found : first < parts → (k : ℕ) × (k < at) × (suspect k ≡ Some first)
+  pub all : (k part : ℕ) → k < at → suspect k ≡ Some part → first ≤ part
+
+module _ (suspect : ℕ → Option ℕ) (parts : ℕ) where
+  pub first-same : (at first : ℕ) → IsLeastSuspect suspect parts at first → suspect at ≡ None → IsLeastSuspect suspect parts (at + 1) first
+  first-same at first f none = grind arith
+
+  pub first-less : (at first part next : ℕ) → IsLeastSuspect suspect parts at first → suspect at ≡ Some part → next ≡ min first part → IsLeastSuspect suspect parts (at + 1) next
+  first-less at first part next f is e = record {
+    within = omega (arith, f.within);
+    found = λ h. ⊎_elim
+        (λ (q : first < part). let same : first ≡ next = omega arith in let x = f.found (omega arith) in (x.0, omega (arith, x.1), x.2 ∙ ap Some same))
+        (λ (q : part ≤ first). let same : part ≡ next = omega arith in (at, omega arith, is ∙ ap Some same))
+        (cases_lt first part);
+    all = grind arith;
+  }
+
+-- the suspects of so many nodes are flagged
+pub record AreFlagged (suspect : ℕ → Option ℕ) (state : List ℕ) (at : ℕ) : Type 0 where
+  pub small : All (λ s. s < 2) state
+  pub found : (part : ℕ) → part < length state → get_or state part 0 ≡ 1 → (k : ℕ) × (k < at) × (suspect k ≡ Some part)
+  pub all : (k part : ℕ) → k < at → part < length state → suspect k ≡ Some part → get_or state part 0 ≡ 1
+
+-- ---- what the sweep says
+
 module _ (graph : Graph) (words costs : List ℕ) (ok : IsGraph graph) (long : length words ≡ graph.vars) (within : length costs ≤ graph.vars) (total : total_cost costs < 2147483647)
     (most : ℕ) (least_most : LeastIs graph costs words most) (cs : List ℕ) (v : AreLeastCosts graph words costs cs) where
   room : length cs ≡ length graph.nodes
@@ -172,7 +205,7 @@ module _ (graph : Graph) (words costs : List ℕ) (ok : IsGraph graph) (long : l
   -- the least cost is that of the held parts and of the root
   pub record RootCost : Type 0 where
     pub cost : ℕ
-    pub is : cost_at (values (node_cost (known_at words) (part_cost costs)) graph.nodes) (length graph.nodes - 1) ≡ Some cost
+    pub is : least_at graph words costs (length graph.nodes - 1) ≡ Some cost
     pub sum : most ≡ held_cost costs words + cost
 
   root-cost : RootCost
@@ -183,23 +216,20 @@ module _ (graph : Graph) (words costs : List ℕ) (ok : IsGraph graph) (long : l
       (λ q. absurd (cc (sym (value-is graph words costs cs v (length graph.nodes - 1) (omega (arith, ok.some))) ∙ ap cost_in q, root-cost.is)))
       (are-values graph words costs ok total cs v (length graph.nodes - 1) 0 (omega (arith, ok.some, room)))
 
-  -- ---- after the sweep
-
   module _ (xs : List ℕ) (s : IsSwept graph.nodes cs xs 0) where
     -- the cost of a marked node
-    cost-of : (k : ℕ) → k < length graph.nodes → IsMarked xs k → node_least graph words costs k ≡ Some (get_or cs k 0)
+    cost-of : (k : ℕ) → k < length graph.nodes → IsMarked xs k → least_at graph words costs k ≡ Some (get_or cs k 0)
     cost-of k h m = sym (value-is graph words costs cs v k h) ∙ cost_in-some (get_or cs k 0) (λ e. absurd (omega (arith, (own-cost (get_or xs k 0) (get_or cs k 0) (s.kept k h) m).1)))
 
     kid-useful : (p k : ℕ) → p < length graph.nodes → k < length graph.nodes → IsMarked xs p → IsMarked xs k → is_kid (node_at graph.nodes p).kids k ≡ true → get_or cs k 0 ≤ get_or cs p 0
         → Useful graph words costs ok p → Useful graph words costs ok k
     kid-useful p k hp hk mp mk kid cheap useful = by_kind (node_at graph.nodes p).what (node_at graph.nodes p).kids (slice_get-get_or graph.nodes p true_node hp) kid where
       by_kind : (what : NodeKind) (kids : List ℕ) → slice_get graph.nodes p ≡ Some (record { what = what; kids = kids }) → is_kid kids k ≡ true → Useful graph words costs ok k
-      by_kind (Literal positive var) [] e i = absurd (cc)
-      by_kind (Literal positive var) (x ∷ kids) e i = absurd (omega (arith, ap length (literal graph.vars var positive (x ∷ kids) (fits-get graph.vars graph.nodes p _ ok.nodes.fit e).kind).alone))
+      by_kind (Literal positive var) kids e i = absurd (no-kids graph ok p k var positive kids e (kid-out kids k i))
       by_kind And kids e i = useful-and graph words costs ok p kids (get_or cs p 0) e (cost-of p hp mp) useful k (kid-out kids k i)
       by_kind Or kids e i =
           let least : get_or cs p 0 ≤ get_or cs k 0 = subst (λ o. AtMost o (get_or cs k 0)) (sym (costs-at graph words costs ok p _ e) ∙ cost-of p hp mp)
-          (cheapest-kid (node_least graph words costs) kids k (get_or cs k 0) (kid-out kids k i) (cost-of k hk mk)) in
+          (cheapest-kid (least_at graph words costs) kids k (get_or cs k 0) (kid-out kids k i) (cost-of k hk mk)) in
           let same : get_or cs k 0 ≡ get_or cs p 0 = omega arith in
           useful-or graph words costs ok p kids (get_or cs p 0) e (cost-of p hp mp) useful k (kid-out kids k i) (cost-of k hk mk ∙ ap Some same)
 
@@ -240,7 +270,7 @@ module _ (graph : Graph) (words costs : List ℕ) (ok : IsGraph graph) (long : l
       by_mark false m q = absurd (cc)
 
     -- a kid of a marked node is marked where it costs no more
-    kid-swept : (k j c d : ℕ) (node : Node) → slice_get graph.nodes k ≡ Some node → node_least graph words costs k ≡ Some c → IsMarked xs k → In j node.kids → node_least graph words costs j ≡ Some d → d ≤ c
+    kid-swept : (k j c d : ℕ) (node : Node) → slice_get graph.nodes k ≡ Some node → least_at graph words costs k ≡ Some c → IsMarked xs k → In j node.kids → least_at graph words costs j ≡ Some d → d ≤ c
         → IsMarked xs j
     kid-swept k j c d node e f m i g le =
         let h : k < length graph.nodes = slice_get_within graph.nodes k node e in
@@ -264,65 +294,22 @@ module _ (graph : Graph) (words costs : List ℕ) (ok : IsGraph graph) (long : l
         subst (λ n. 0 < n) (sym (λ i. fault (kn i) (part_cost costs (suc part)) (false_at i))) (dears part 0 lt) in
         let on = on-root graph words costs ok a.by a.agrees (suc part) (omega arith) (omega arith) false_at dear r.cost r.is a.holds (omega (arith, a.cost_is, p.cheap, same, r.sum)) in
         let x = descend graph words costs ok a.by a.agrees (suc part) (omega arith) (omega arith) false_at dear (IsMarked xs)
-        (λ k kids c f g m j i. let y = sum-kid (node_least graph words costs) kids c j (sym (costs-at graph words costs ok k _ f) ∙ g) i in kid-swept k j c y.0 _ f g m i y.1 y.2)
+        (λ k kids c f g m j i. let y = sum-kid (least_at graph words costs) kids c j (sym (costs-at graph words costs ok k _ f) ∙ g) i in kid-swept k j c y.0 _ f g m i y.1 y.2)
         (λ k kids c f g m j i t. kid-swept k j c c _ f g m i t (omega arith))
         (length graph.nodes) (length graph.nodes - 1) (omega (arith, ok.some)) s.root on in
         (x.node, slice_get_within graph.nodes x.node _ x.is, found x.node x.kids x.is x.marked) where
           found : (k : ℕ) (kids : List ℕ) → slice_get graph.nodes k ≡ Some (record { what = Literal false (suc part); kids = kids }) → IsMarked xs k → suspect_at graph.nodes words (length costs) xs k ≡ Some part
           found k kids e m = grind (arith, get_or_from_slice_get)
 
--- ---- the look at all nodes
-
--- the least of the suspects of so many nodes
-pub record IsLeastSuspect (suspect : ℕ → Option ℕ) (parts at first : ℕ) : Type 0 where
-  pub within : first ≤ parts
-  pub found : first < parts → (k : ℕ) × (k < at) × (suspect k ≡ Some first)
-  pub all : (k part : ℕ) → k < at → suspect k ≡ Some part → first ≤ part
-
-module _ (suspect : ℕ → Option ℕ) (parts : ℕ) where
-  pub first-same : (at first : ℕ) → IsLeastSuspect suspect parts at first → suspect at ≡ None → IsLeastSuspect suspect parts (at + 1) first
-  first-same at first f none = grind arith
-
-  pub first-less : (at first part next : ℕ) → IsLeastSuspect suspect parts at first → suspect at ≡ Some part → next ≡ min first part → IsLeastSuspect suspect parts (at + 1) next
-  first-less at first part next f is e = record {
-    within = omega (arith, f.within);
-    found = λ h. ⊎_elim
-        (λ (q : first < part). let same : first ≡ next = omega arith in let x = f.found (omega arith) in (x.0, omega (arith, x.1), x.2 ∙ ap Some same))
-        (λ (q : part ≤ first). let same : part ≡ next = omega arith in (at, omega arith, is ∙ ap Some same))
-        (cases_lt first part);
-    all = grind arith;
-  }
-
--- the suspects of so many nodes are flagged
-pub record AreFlagged (suspect : ℕ → Option ℕ) (state : List ℕ) (at : ℕ) : Type 0 where
-  pub small : All (λ s. s < 2) state
-  pub found : (part : ℕ) → part < length state → get_or state part 0 ≡ 1 → (k : ℕ) × (k < at) × (suspect k ≡ Some part)
-  pub all : (k part : ℕ) → k < at → part < length state → suspect k ≡ Some part → get_or state part 0 ≡ 1
-
--- ---- what both calls answer
-
-module _ (graph : Graph) (words costs cs : List ℕ) (ok : IsGraph graph) (long : length words ≡ graph.vars) (within : length costs ≤ graph.vars) (total : total_cost costs < 2147483647)
-    (v : AreLeastCosts graph words costs cs) (some : IsSome (least_under graph words costs)) where
-  pub root-fits : get_or cs (length graph.nodes - 1) 0 < 2147483647
-  root-fits = let l = some-least (least_under graph words costs) some in root-low graph words costs ok long within total l.0 l.1 cs v
-
-  module _ (xs : List ℕ) (s : IsSwept graph.nodes cs xs 0) where
-    pub is-suspect : (k part : ℕ) → k < length graph.nodes → suspect_at graph.nodes words (length costs) xs k ≡ Some part → Suspect graph words costs part
-    is-suspect k part h e = let l = some-least (least_under graph words costs) some in suspect-sound graph words costs ok long within total l.0 l.1 cs v xs s k part h e
-
-    pub is-found : All (λ c. 0 < c) costs → (part : ℕ) → part < length costs → get_or words part 0 ≡ 0 → (h : List Bool) → LeastState graph words costs h → bit_in h part ≡ false
-        → (k : ℕ) × (k < length graph.nodes) × (suspect_at graph.nodes words (length costs) xs k ≡ Some part)
-    is-found dears part lt open_ h is q = let l = some-least (least_under graph words costs) some in suspect-found graph words costs ok long within total l.0 l.1 cs v xs s dears part lt open_ h is q
-
     pub ok-before : All (λ c. 0 < c) costs → (first at : ℕ) → at ≡ length graph.nodes → IsLeastSuspect (suspect_at graph.nodes words (length costs) xs) (length costs) at first → OkBelow graph words costs first
-    ok-before dears first at e f part lt open_ h is = grind (arith, is-found)
+    ok-before dears first at e f part lt open_ h is = grind (arith, suspect-found)
 
     pub first-suspect : (first at : ℕ) → at ≡ length graph.nodes → IsLeastSuspect (suspect_at graph.nodes words (length costs) xs) (length costs) at first → first ≢ length costs → Suspect graph words costs first
-    first-suspect first at e f ne = let x = f.found (omega (arith, f.within)) in is-suspect x.0 first (omega (arith, x.1)) x.2
+    first-suspect first at e f ne = let x = f.found (omega (arith, f.within)) in suspect-sound x.0 first (omega (arith, x.1)) x.2
 
     pub flagged : All (λ c. 0 < c) costs → (state : List ℕ) (at : ℕ) → at ≡ length graph.nodes → length state ≡ length costs → AreFlagged (suspect_at graph.nodes words (length costs) xs) state at
         → (part : ℕ) → part < length costs → (get_or state part 0 ≡ 1 → Suspect graph words costs part) × (Suspect graph words costs part → get_or state part 0 ≡ 1)
     flagged dears state at e l f part lt = (
-      λ one. let x = f.found part (omega arith) one in is-suspect x.0 part (omega (arith, x.1)) x.2,
-      λ p. let x = is-found dears part lt p.open_ p.state p.is_least p.faulty in f.all x.0 part (omega (arith, x.1)) (omega arith) x.2,
+      λ one. let x = f.found part (omega arith) one in suspect-sound x.0 part (omega (arith, x.1)) x.2,
+      λ p. let x = suspect-found dears part lt p.open_ p.state p.is_least p.faulty in f.all x.0 part (omega (arith, x.1)) (omega arith) x.2,
     )

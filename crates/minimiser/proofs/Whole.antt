@@ -15,7 +15,7 @@ use Rattle.state_rules.proofs.Bits.{bit_in-front}
 use Rattle.conditioner.specs.Words.{known_of}
 use Rattle.conditioner.specs.Models.{has_model, fits_words, models}
 use Rattle.conditioner.proofs.FittingWords.{fits_words-at, fits_words-from}
-use Rattle.minimiser.specs.Costs.{part_cost, known_at, cost_at, node_cost}
+use Rattle.minimiser.specs.Costs.{part_cost, known_at, cost_at, node_cost, least_at}
 use Rattle.minimiser.specs.inner.Held.{held_one, held_cost}
 use Rattle.node_costs.specs.Costs.{total, TestCost, StateCost}
 use Rattle.node_costs.proofs.Sets.{least-more}
@@ -80,13 +80,10 @@ module _ (graph : Graph) (words costs : List ℕ) (ok : IsGraph graph) (long : l
   abbrev truth_of : Assignment → Bool
   truth_of a = is_true graph.nodes root a
 
-  abbrev root_cost : Option ℕ
-  root_cost = cost_at (values (node_cost kn price) graph.nodes) root
-
   abbrev held : ℕ
   held = held_cost costs words
 
-  root_is : IsLeastCost kn price (length costs) truth_of (λ v. mentions graph.nodes v root) root_cost
+  root_is : IsLeastCost kn price (length costs) truth_of (λ v. mentions graph.nodes v root) (least_at graph words costs root)
   root_is = is_cost kn price (length costs) (part_cost-none costs) graph ok root
 
   -- the cost of a state that agrees
@@ -149,10 +146,10 @@ module _ (graph : Graph) (words costs : List ℕ) (ok : IsGraph graph) (long : l
       record { by = assignment (h ++ r.item); agrees = agree; holds = and_right (fits_words words (h ++ r.item)) _ r.passes; cost_is = cost_by_bits h (assignment (h ++ r.item)) l same agree; bits = same }
 
   -- The least cost of a model is that of the held parts and of the root.
-  pub least_is : least costs (models graph words (length costs)) ≡ AddHeld held root_cost
-  least_is = least-in costs (length costs) (has_model graph (fits_words words) (length costs)) (AddHeld held root_cost)
+  pub least_is : least costs (models graph words (length costs)) ≡ AddHeld held (least_at graph words costs root)
+  least_is = least-in costs (length costs) (has_model graph (fits_words words) (length costs)) (AddHeld held (least_at graph words costs root))
       (least-more (TestCost (open_weights kn price (length costs)) (λ v. true) truth_of) (StateCost costs (length costs) (has_model graph (fits_words words) (length costs))) held
       (λ n c. let s = state_of c.by c.agrees c.meets in record { state = s.state; long = s.long_state; passes = s.model; cost_is = s.cost_is ∙ ap (λ k. held + k) c.cost_is })
       (λ n s. let a = assignment_of s.state s.long s.passes in
       (all_faults kn price (length costs) a.by, record { by = a.by; agrees = a.agrees; meets = a.holds; cost_is = refl }, sym a.cost_is ∙ s.cost_is))
-      root_cost (widened kn price (length costs) truth_of (λ v. mentions graph.nodes v root) (λ v. true) root_cost (λ v p. refl) root_is))
+      (least_at graph words costs root) (widened kn price (length costs) truth_of (λ v. mentions graph.nodes v root) (λ v. true) (least_at graph words costs root) (λ v p. refl) root_is))

@@ -16,14 +16,14 @@ use Rattle.conditioner.specs.Words.{known_of, word_of, leaf_of}
 use Rattle.conditioner.specs.Models.{total_cost}
 use Rattle.conditioner.proofs.FittingWords.{known_of-word_of}
 use Rattle.node_costs.proofs.Totals.{total-same}
-use Rattle.minimiser.specs.Costs.{part_cost, known_at, literal_cost}
+use Rattle.minimiser.specs.Costs.{part_cost, known_at, literal_cost, least_at}
 use Rattle.minimiser.specs.Stored.{AreLeastCosts}
 use Rattle.minimiser.specs.inner.Swept.{is_kid}
 use Rattle.minimiser.proofs.Costs.{fault, Agrees, faults_in, faults_in-le, all_faults}
 use Rattle.minimiser.proofs.Sums.{cost_in-some}
 use Rattle.minimiser.proofs.OnePass.{cost_small}
 use Rattle.minimiser.proofs.Derivations.{any-kid, all-kid, kid-with, is_cost, true-at, mention-at, costs-at, below, all-below, Achieves}
-use Rattle.minimiser.proofs.Valued.{node_least, value-is, has_least}
+use Rattle.minimiser.proofs.Valued.{value-is, has_least}
 use Rattle.minimiser.proofs.Whole.{from_bounds}
 use Rattle.minimiser.proofs.Sweeping.{kid-in, kid-out}
 use Rattle.minimiser.specs.inner.Outside.{AreOutsideCosts}
@@ -40,7 +40,7 @@ module _ (graph : Graph) (words costs : List ℕ) (ok : IsGraph graph) (vs os : 
   root = length graph.nodes - 1
 
   abbrev C : ℕ → Option ℕ
-  C k = node_least graph words costs k
+  C k = least_at graph words costs k
 
   abbrev W : ℕ → ℕ
   W k = get_or vs k 0
@@ -102,7 +102,7 @@ module _ (graph : Graph) (words costs : List ℕ) (ok : IsGraph graph) (vs os : 
     fixed = set words (var - 1) (word_of bit)
 
     abbrev D : ℕ → Option ℕ
-    D k = node_least graph (set words (var - 1) (word_of bit)) costs k
+    D k = least_at graph (set words (var - 1) (word_of bit)) costs k
 
     fixed-here : (v : ℕ) → v - 1 ≡ var - 1 → known_at fixed v ≡ Some bit
     fixed-here v e = ap (λ i. known_of (get_or fixed i 0)) e ∙ ap known_of (get_or-set_same words (var - 1) (word_of bit) 0 (omega (arith, low, there))) ∙ known_of-word_of bit
@@ -227,7 +227,7 @@ module _ (graph : Graph) (words costs : List ℕ) (ok : IsGraph graph) (vs os : 
 
     -- the least exit is the cost of the root
     pub root-is : (best : ℕ) → IsLowered (λ c. Without graph.nodes vs os var c ⊎ With graph.nodes os var bit c) 4294967295 best
-        → node_least graph (set words (var - 1) (word_of bit)) costs (length graph.nodes - 1) ≡ cond (nat_lt best 2147483647) (Some best) None
+        → least_at graph (set words (var - 1) (word_of bit)) costs (length graph.nodes - 1) ≡ cond (nat_lt best 2147483647) (Some best) None
     root-is best lowest = by_size (nat_lt best 2147483647) refl where
       low-exit : (c : ℕ) → D root ≡ Some c → best ≤ c
       low-exit c e = let f = reached c e (omega (arith, total, cost_small graph fixed costs root ok c e)) in omega (arith, f.le, lowest.low f.cost f.exit)

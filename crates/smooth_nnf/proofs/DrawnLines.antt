@@ -1,7 +1,9 @@
 -- The lines of the nodes stand as those of a smooth graph, and each says what its node means.
 use Rattle.std.proofs.Common.{◌≡◌, ℕ, ◌+◌, ◌-◌, ◌*◌, ◌^◌, ◌<◌, ◌≤◌, Bool, true, false, not, cond, ◌&&◌, ◌||◌, ◌==◌, All, List, [], ◌∷◌, ◌++◌, map, length, get_or, Option, Some, None, refl, ap, sym, ◌∙◌, subst, arith, ⊎_elim, inl, inr, append_assoc, append-nil, length-append}
+use Rattle.std.proofs.lemmas.Bool.Decides.{nat_tests}
 use Rattle.std.specs.Prelude.{slice_get, slice_index, nat_lt, nat_le}
 use Rattle.std.specs.List.{list_all, list_any, filter, flat_map, enumerate_from, range_with_len, AllByRecursion}
+use Rattle.std.proofs.lemmas.Simd.{map-map}
 use Rattle.std.proofs.lemmas.Bool.{and_from, and_parts, lt-ltb, ltb-true, le-leb, leb-true, eqb-true, cases_lt, and_left, and_right, not-true}
 use Rattle.std.proofs.lemmas.List.{length-map, get_or_at}
 use Rattle.std.proofs.lemmas.List.FromFn.{length-range_with_len}
@@ -27,7 +29,7 @@ use Rattle.minimiser.proofs.Derivations.{mention-at, apart-kids, costs-at, all-b
 use Rattle.smooth_nnf.specs.Layouts.{Layout, layout_of, own_line, literal_pairs, literal_line, literal_kids, filling, fillers, costs_just, cheapest_kids, lines_before, lines_to, own_lines, kid_line, or_behind, or_lines, lines_by, lines_at, node_lines, and_over}
 use Rattle.smooth_nnf.proofs.Standing.{value_of-front, value_of-there, values-behind, Stand, MayFollow, stand-behind}
 use Rattle.smooth_nnf.proofs.Meaning.{is_part, Means, NodeMeans, filled, part-means, other-means, and-means, or-means, kid-inside, cheapest-in, cheapest-is}
-use Rattle.smooth_nnf.proofs.Fillers.{map_twice, length-literal_pairs, pairs-stand, literal_line-lt, literal-value, fillers-below, fillers-mention, fillers-once, fillers-true, fillers-say, map-in}
+use Rattle.smooth_nnf.proofs.Fillers.{length-literal_pairs, pairs-stand, literal_line-lt, literal-value, fillers-below, fillers-mention, fillers-once, fillers-true, fillers-say, map-in}
 
 -- ---- lists
 
@@ -49,23 +51,16 @@ same-const b (k ∷ kids) = all kids where
   all (j ∷ kids) = and_from _ _ (same_bit-refl b) (all kids)
 
 one_alone : (b : Bool) → at_most_one (b ∷ []) ≡ true
-one_alone true = refl
-one_alone false = refl
+one_alone b = grind (arith, nat_tests)
 
 -- what a line has below it that is filled in
 pub below_filled : (p m o : Bool) → (m ≡ true → o ≡ true) → ((p && m) || (p && (o && not m))) ≡ (p && o)
-below_filled false m o h = refl
-below_filled true true o h = sym (h refl)
-below_filled true false true h = refl
-below_filled true false false h = refl
+below_filled p m o h = grind (arith, nat_tests)
 
 -- the least cost is that of some kid
 cheapest-has : (C : ℕ → Option ℕ) (kids : List ℕ) (c : ℕ) → cheapest (map C kids) ≡ Some c → (k : ℕ) × (In k kids × (C k ≡ Some c))
 cheapest-has C [] c s = absurd (let no : None ≡ Some c = s in cc)
-cheapest-has C (j ∷ kids) c s = ⊎_elim
-    (λ here. (j, (inl refl, here)))
-    (λ later. let r = cheapest-has C kids c later in (r.0, (inr r.1.0, r.1.1)))
-    (from_min (C j) (cheapest (map C kids)) c s)
+cheapest-has C (j ∷ kids) c s = grind (arith, nat_tests, C, from_min, cheapest-has C kids c)
 
 module _ (graph : Graph) (words costs : List ℕ) (ok : IsGraph graph) (dear : All (λ c. 0 < c) costs) (small : length costs + 1 < 2 ^ 32) where
   abbrev L : Layout
@@ -139,14 +134,7 @@ module _ (graph : Graph) (words costs : List ℕ) (ok : IsGraph graph) (dear : A
     over-mention v = (λ i. drawn.mentioned v i || fillers-mention parts more words rest room v i) ∙ below_filled (part_of v) (M v k) (o v) (wider v)
 
     pub over-follows : MayFollow (length costs) (literal_pairs (length costs) ++ more) line_over
-    over-follows = record {
-      below = and_from _ _ (lt-ltb (own k) (length lines) drawn.inside) (fillers-below parts more words rest room (length lines) room);
-      kind = lt-ltb (length line_over.kids) CHILD_LIMIT (omega (arith, few, small));
-      apart = λ v. at_most_one-from (mentions lines v (own k)) (map (mentions lines v) filling_in)
-          (λ any. let off = and_parts (part_of v) (o v && not (M v k)) (sym (fillers-mention parts more words rest room v) ∙ any) in drawn.mentioned v ∙ and_right (part_of v) _ (not-true (M v k) (and_parts (o v) (not (M v k)) off.1).1))
-          (fillers-once parts more words rest room v);
-      smooth = λ v. refl;
-    }
+    over-follows = grind (arith, nat_tests, and_from, lt-ltb, fillers-below, room, few, at_most_one-from, and_parts, o, fillers-mention, drawn.mentioned, and_right, not-true, fillers-once)
 
     pub over-means : Means graph words costs ok dear (λ a. is_true graph.nodes k a) o c (λ a. list_all (λ b. b) (map (λ q. is_true (literal_pairs (length costs) ++ more) q a) line_over.kids))
     over-means = filled graph words costs ok dear k c cost_is o wider (λ a. is_true lines (own k) a) (λ a. list_all (λ b. b) (map (λ q. is_true lines q a) filling_in)) drawn.means
@@ -207,16 +195,10 @@ module _ (graph : Graph) (words costs : List ℕ) (ok : IsGraph graph) (dear : A
       has-is v = mention-at graph words costs ok i _ e v
 
       part_alone : (v : ℕ) → part_of var ≡ true → (var == v) ≡ (part_of v && (var == v))
-      part_alone v part = by_test (var == v) refl where
-        by_test : (b : Bool) → (var == v) ≡ b → b ≡ (part_of v && b)
-        by_test true q = sym (and_from _ _ (ap part_of (sym (eqb-true var v q)) ∙ part) refl)
-        by_test false q = sym (and-false (part_of v))
+      part_alone v part = grind (arith, nat_tests, and_from, eqb-true, and-false)
 
       other_none : (v : ℕ) → part_of var ≡ false → false ≡ (part_of v && (var == v))
-      other_none v other = by_test (var == v) refl where
-        by_test : (b : Bool) → (var == v) ≡ b → false ≡ (part_of v && b)
-        by_test true q = sym (and_left (part_of v) true (ap part_of (sym (eqb-true var v q)) ∙ other))
-        by_test false q = sym (and-false (part_of v))
+      other_none v other = grind (arith, nat_tests, and_left, eqb-true, and-false)
 
       literal-adds : Adds (and_over (literal_kids parts var positive) ∷ [])
       literal-adds = by_part (nat_le var parts) refl where
@@ -242,7 +224,7 @@ module _ (graph : Graph) (words costs : List ℕ) (ok : IsGraph graph) (dear : A
         let d = sum-kid Ck kids cost k (sym (costs-at graph words costs ok i _ e) ∙ cost_is) m in
         (d.0, upto.drawn k d.0 (all-below i kids k fit.below m) d.1) in
         let mention_kids : (v : ℕ) → map (mentions before v) (map own kids) ≡ map (λ k. part_of v && M v k) kids = λ v.
-        map_twice (mentions before v) own kids ∙ map-in (λ k. mentions before v (own k)) (λ k. part_of v && M v k) kids (λ k m. (drawn_kid k m).1.mentioned v) in
+        map-map (mentions before v) own kids ∙ map-in (λ k. mentions before v (own k)) (λ k. part_of v && M v k) kids (λ k m. (drawn_kid k m).1.mentioned v) in
         one-adds (and_over (map own kids))
         (record {
           below = are_below-from (length before) (map own kids) (λ j d lt. let x = from_map own (get_or (map own kids) j d) kids (In-at (map own kids) j d lt) in subst (λ q. q < length before) (sym x.gives) (drawn_kid x.item x.is_in).1.inside);
@@ -252,7 +234,7 @@ module _ (graph : Graph) (words costs : List ℕ) (ok : IsGraph graph) (dear : A
         })
         at
         (λ v c q. ap (list_any (λ b. b)) (mention_kids v) ∙ any-part (part_of v) (M v) kids ∙ ap (λ b. part_of v && b) (sym (mention-at graph words costs ok i _ e v)))
-        (λ c q. Means-same (λ a. ap (list_all (λ b. b)) (map_twice (λ p. is_true before p a) own kids))
+        (λ c q. Means-same (λ a. ap (list_all (λ b. b)) (map-map (λ p. is_true before p a) own kids))
         (and-means graph words costs ok dear (λ k a. is_true before (own k) a) i kids c e q (λ k d m r. (upto.drawn k d (all-below i kids k fit.below m) r).means)))
 
     -- an or, behind a line for each of its cheapest kids
@@ -304,7 +286,7 @@ module _ (graph : Graph) (words costs : List ℕ) (ok : IsGraph graph) (dear : A
           let start : length before ≡ length before + 0 = omega arith in
           (λ j. map (value_of by (before ++ sym (append-nil block) j)) (range_with_len (start j) (sym length-block j)))
           ∙ values-behind by before [] block [] (below-all block block-follows)
-          ∙ map_twice (λ (x : Node). by x.what (map (value_of by before) x.kids)) (kid_line L i) best
+          ∙ map-map (λ (x : Node). by x.what (map (value_of by before) x.kids)) (kid_line L i) best
 
       block-mentions : (v : ℕ) → map (mentions all_kids v) (range_with_len (length before) (length best)) ≡ map (λ k. part_of v && M v i) best
       block-mentions v = block-values (mention_by v) ∙ map-in (λ k. list_any (λ b. b) (map (mentions before v) (kid_line L i k).kids)) (λ k. part_of v && M v i) best (λ k m.
@@ -338,8 +320,7 @@ module _ (graph : Graph) (words costs : List ℕ) (ok : IsGraph graph) (dear : A
       }
 
       here : (by : NodeKind → List Bool → Bool) → value_of by (all_kids ++ or_node ∷ []) (own i) ≡ by Or (map (λ k. by And (map (value_of by before) (kid_line L i k).kids)) best)
-      here by = ap (value_of by (all_kids ++ or_node ∷ [])) (at ∙ sym length-all_kids) ∙ value_of-there by all_kids or_node []
-          ∙ ap (λ ks. by Or (map (value_of by all_kids) ks)) or_kids ∙ ap (by Or) (block-values by)
+      here by = grind (arith, nat_tests, by, all_kids, length-all_kids, value_of-there, or_kids, block-values)
 
       or-drawn : Drawn (all_kids ++ or_node ∷ []) i cost
       or-drawn = record {
@@ -387,19 +368,12 @@ module _ (graph : Graph) (words costs : List ℕ) (ok : IsGraph graph) (dear : A
 
   -- how many lines a node has
   pub length-lines : (i : ℕ) (node : Node) (o : Option ℕ) → length (lines_at L i node o) ≡ lines_to least node o + 1
-  length-lines i node None = refl
-  length-lines i node (Some cost) = by_what node.what node.kids where
-    by_what : (what : NodeKind) (kids : List ℕ) → length (lines_by L i cost what kids) ≡ lines_before least cost what kids + 1
-    by_what (Literal positive var) kids = refl
-    by_what And kids = refl
-    by_what Or kids = omega (arith, length-append (map (kid_line L i) (cheapest_kids least cost kids)) (or_behind (own i) (length (cheapest_kids least cost kids)) ∷ []), length-map (cheapest_kids least cost kids) (kid_line L i))
+  length-lines i node o = grind (arith, nat_tests, length-append, length-map)
 
   go : (front rest : List Node) (done : List ℕ) (more : List Node) → graph.nodes ≡ front ++ rest → length done ≡ length front
       → L.lines ≡ done ++ own_lines least (length (literal_pairs parts ++ more)) (length front) rest
       → Upto (length front) more → Upto (length graph.nodes) (more ++ flat_map (node_lines L) (enumerate_from (length front) rest))
-  go front [] done more all long stand_at upto =
-      let end : length front ≡ length graph.nodes = omega (arith, ap length all, length-append front []) in
-      subst (λ n. Upto n (more ++ [])) end (subst (Upto (length front)) (sym (append-nil more)) upto)
+  go front [] done more all long stand_at upto = grind (arith, nat_tests, length-append, append-nil)
   go front (node ∷ later) done more all long stand_at upto =
       let i = length front in
       let before : List Node = literal_pairs parts ++ more in
@@ -411,13 +385,7 @@ module _ (graph : Graph) (words costs : List ℕ) (ok : IsGraph graph) (dear : A
       let block : List Node = node_lines L (i, node) in
       let longer : length (front ++ node ∷ []) ≡ i + 1 = length-append front (node ∷ []) in
       let grown : length (literal_pairs parts ++ (more ++ block)) ≡ at + 1 = omega (arith, length-append (literal_pairs parts) (more ++ block), length-append more block, length-append (literal_pairs parts) more, length-lines i node (Ck i)) in
-      subst (λ ls. Upto (length graph.nodes) ls)
-      (ap (λ n. (more ++ block) ++ flat_map (node_lines L) (enumerate_from n later)) longer ∙ append_assoc more block (flat_map (node_lines L) (enumerate_from (i + 1) later)))
-      (go (front ++ node ∷ []) later (done ++ at ∷ []) (more ++ block)
-      (all ∙ sym (append_assoc front (node ∷ []) later))
-      (omega (arith, length-append done (at ∷ []), longer, long))
-      (stand_at ∙ sym (append_assoc done (at ∷ []) (own_lines least (at + 1) (i + 1) later)) ∙ (λ j. (done ++ at ∷ []) ++ own_lines least (sym grown j) (sym longer j) later))
-      (subst (λ n. Upto n (more ++ block)) (sym longer) next))
+      grind (arith, nat_tests, append_assoc, length-append, go (front ++ node ∷ []) later (done ++ at ∷ []) (more ++ block))
 
   abbrev pub body : List Node
   body = flat_map (node_lines (layout_of graph words costs)) (enumerate_from 0 graph.nodes)

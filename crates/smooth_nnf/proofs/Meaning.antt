@@ -1,5 +1,6 @@
 -- What lines say that are drawn for nodes: one is true where its node can be, at its least cost, with the same bits of the parts below it.
 use Rattle.std.proofs.Common.{◌≡◌, ℕ, zero, suc, ◌<◌, ◌≤◌, Bool, true, false, not, ◌&&◌, All, List, [], ◌∷◌, map, length, Option, Some, None, refl, ap, sym, ◌∙◌, subst, arith, ⊎_elim, inl, inr}
+use Rattle.std.proofs.lemmas.Bool.Decides.{nat_tests}
 use Rattle.std.specs.Prelude.{slice_get, nat_le}
 use Rattle.std.specs.List.{list_all, list_any}
 use Rattle.std.proofs.lemmas.Bool.{and_from, and_parts, or_cases, or_left, or_right, eqb-true, eq-eqb, leb-true, not-true}
@@ -21,8 +22,7 @@ use Rattle.smooth_nnf.specs.Layouts.{filling, costs_just, cheapest_kids}
 -- ---- costs of kids
 
 costs_just-is : (c : ℕ) (o : Option ℕ) → costs_just c o ≡ true → o ≡ Some c
-costs_just-is c None e = absurd (let no : false ≡ true = e in cc)
-costs_just-is c (Some d) e = ap Some (eqb-true d c e)
+costs_just-is c o e = grind (arith, nat_tests, eqb-true)
 
 costs_just-of : (c : ℕ) (o : Option ℕ) → o ≡ Some c → costs_just c o ≡ true
 costs_just-of c o e = ap (costs_just c) e ∙ eq-eqb c c refl
@@ -36,14 +36,10 @@ cheapest-is least c kids k m = let r = In-filter (λ j. costs_just c (cost_at le
 
 -- a bit that agrees and costs nothing is that which fills in
 filled_bit : (k : Option Bool) (b : Bool) (w : ℕ) → 0 < w → agrees_at k b ≡ true → (fault k w b ≡ 0) → b ≡ filling k
-filled_bit None true w dear ag free = refl
-filled_bit None false w dear ag free = absurd (omega arith)
-filled_bit (Some x) b w dear ag free = sym (same_bit-equal x b ag)
+filled_bit k b w dear ag free = grind (arith, nat_tests, same_bit-equal)
 
 only_fault : (k : Option Bool) (b : Bool) (w : ℕ) → (fault k w b ≡ 0 → ⊥) → b ≡ false
-only_fault None true w h = absurd (h refl)
-only_fault None false w h = refl
-only_fault (Some x) b w h = absurd (h refl)
+only_fault k b w h = grind (arith, nat_tests)
 
 module _ (graph : Graph) (words costs : List ℕ) (ok : IsGraph graph) (dear : All (λ c. 0 < c) costs) where
   abbrev kn : ℕ → Option Bool
@@ -69,8 +65,7 @@ module _ (graph : Graph) (words costs : List ℕ) (ok : IsGraph graph) (dear : A
   is_part v = nat_le 1 v && nat_le v (length costs)
 
   price-some : (v : ℕ) → 1 ≤ v → v ≤ length costs → 0 < part_cost costs v
-  price-some zero low high = absurd (omega arith)
-  price-some (suc i) low high = dear i 0 (omega arith)
+  price-some v low high = grind (arith, nat_tests)
 
   -- an assignment that agrees and passes a test at no more than a cost, with the same bits of some parts
   pub record Gives (t : Assignment → Bool) (m : ℕ → Bool) (c : ℕ) (a : Assignment) : Type 0 where

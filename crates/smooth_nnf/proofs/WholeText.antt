@@ -1,5 +1,6 @@
 -- The text of the diagnoses is read as a smooth graph over the parts, decomposable, and true for the diagnoses alone.
 use Rattle.std.proofs.Common.{◌≡◌, ℕ, ◌+◌, ◌-◌, ◌*◌, ◌^◌, ◌<◌, ◌≤◌, Bool, true, false, ◌&&◌, All, List, [], ◌∷◌, ◌++◌, map, length, Option, Some, None, refl, ap, sym, ◌∙◌, subst, arith, append_assoc, length-append, inl}
+use Rattle.std.proofs.lemmas.Bool.Decides.{nat_tests}
 use Rattle.std.specs.Prelude.{nat_le}
 use Rattle.std.specs.List.{list_any, flat_map, enumerate_from}
 use Rattle.std.specs.Cmp.{both_ways}
@@ -207,9 +208,7 @@ module _ (graph : Graph) (words costs : List ℕ) (ok : IsGraph graph) (long : l
   -- with the least costs and the places of the lines, a layout is that of the graph
   pub laid : (xs ls : List ℕ) → AreLeastCosts graph words costs xs → ls ≡ own_lines (map cost_in xs) (2 * length costs) 0 graph.nodes
       → record { graph = graph; words = words; parts = length costs; least = map cost_in xs; lines = ls } ≡ layout_of graph words costs
-  laid xs ls is at =
-      let same : map cost_in xs ≡ values (node_cost (known_at words) (part_cost costs)) graph.nodes = is ∙ costs-all in
-      λ i. record { graph = graph; words = words; parts = length costs; least = same i; lines = (at ∙ ap (λ cs. own_lines cs (2 * length costs) 0 graph.nodes) same) i }
+  laid xs ls is at = grind (arith, nat_tests, costs-all)
 
   body-length : (line i : ℕ) (nodes : List Node) → line + length (flat_map (node_lines L) (enumerate_from i nodes)) ≡ lines_after L.least line i nodes
   body-length line i [] = omega arith
@@ -222,16 +221,7 @@ module _ (graph : Graph) (words costs : List ℕ) (ok : IsGraph graph) (long : l
 
   pub counted : (xs ls : List ℕ) (count : ℕ) → AreLeastCosts graph words costs xs → ls ≡ own_lines (map cost_in xs) (2 * length costs) 0 graph.nodes → count ≡ lines_after (map cost_in xs) (2 * length costs) 0 graph.nodes
       → count + 1 ≡ length (all_lines (record { graph = graph; words = words; parts = length costs; least = map cost_in xs; lines = ls }))
-  counted xs ls count is at n = omega (
-    arith,
-    n,
-    ap (λ cs. lines_after cs (2 * length costs) 0 graph.nodes) (is ∙ costs-all),
-    ap (λ l. length (all_lines l)) (laid xs ls is at),
-    length-all,
-    length-append (literal_pairs parts) lines,
-    length-literal_pairs parts,
-    body-length (2 * length costs) 0 graph.nodes,
-  )
+  counted xs ls count is at n = grind (arith, nat_tests, costs-all, laid, length-all, length-append, length-literal_pairs, body-length)
 
   pub edges-fit : (xs ls : List ℕ) → AreLeastCosts graph words costs xs → ls ≡ own_lines (map cost_in xs) (2 * length costs) 0 graph.nodes
       → edges (all_lines (record { graph = graph; words = words; parts = length costs; least = map cost_in xs; lines = ls })) < 2 ^ 64

@@ -7,7 +7,7 @@ use Rattle.state_rules.proofs.Members.{In}
 use Rattle.state_rules.specs.Graphs.{Graph}
 use Rattle.conditioner.specs.Models.{diagnoses_under}
 use Rattle.minimiser.specs.LeastStates.{ModelWithin, Suspect}
-use Rattle.minimiser.proofs.Models.{Agree, Agree-bit, ModelWithin-agrees, LeastIs, least-some, least-passes, passes-least, diagnosis-in, diagnosis-out}
+use Rattle.minimiser.proofs.Models.{Agree, Agree-bit, ModelWithin-agrees, LeastIs, least-some, passes-least, diagnosis-in, diagnosis-out}
 use Rattle.probe_report.specs.declared.verdicts.Blame.{Blame}
 use Rattle.probe_report.specs.declared.verdicts.Blame.TheVariants.{Sometimes, Never}
 use Rattle.probe_report.specs.Verdicts.{blame_of}

@@ -1,7 +1,6 @@
 -- A graph whose places are all needed, and all of nodes that cost something, is small.
-use Rattle.std.proofs.Common.{◌≡◌, ℕ, zero, suc, ◌+◌, ◌-◌, ◌<◌, ◌≤◌, Bool, true, false, List, [], ◌∷◌, map, length, get_or, Option, Some, refl, sym, ◌∙◌, subst, arith, ⊎_elim}
+use Rattle.std.proofs.Common.{◌≡◌, ℕ, zero, suc, ◌+◌, ◌-◌, ◌<◌, ◌≤◌, Bool, true, false, List, [], ◌∷◌, map, length, get_or, Option, Some, refl, sym, ◌∙◌, subst, arith}
 use Rattle.std.specs.Prelude.{IsSomeAnd}
-use Rattle.std.proofs.lemmas.Bool.{cases_lt}
 use Rattle.std.proofs.lemmas.List.{get_or_past}
 use Rattle.std.proofs.lemmas.Option.{slice_get-get_or, same_Some}
 use Rattle.state_rules.proofs.Members.{In-at}
@@ -50,7 +49,7 @@ module _ (graph small : Graph) (words costs : List ℕ) (ok : IsGraph graph) (so
         let node = node_at small.nodes p in
         by_kind x.0 x.1.dear node.what node.kids (sym (costs-at small words costs sound p node (slice_get-get_or small.nodes p true_node h)) ∙ cost-is x.0 p x.1);
   } where
-    by_kind : (c : ℕ) → 0 < c → (what : NodeKind) (kids : List ℕ) → cost_by (known_at words) (part_cost costs) what (map (C small words costs sound) kids) ≡ Some c → SaysFaulty words (length costs) what
+    by_kind : (c : ℕ) → 0 < c → (what : NodeKind) (kids : List ℕ) → cost_by (known_at words) (part_cost costs) what (map (least_at small words costs) kids) ≡ Some c → SaysFaulty words (length costs) what
     by_kind c dear (Literal positive var) kids e = says words costs var c positive e dear
     by_kind c dear And kids e = tt
     by_kind c dear Or kids e = tt

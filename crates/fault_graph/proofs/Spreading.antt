@@ -1,11 +1,10 @@
 -- Marks that go down from the root.
-use Rattle.std.proofs.Common.{◌≡◌, ◌≢◌, ℕ, ◌+◌, ◌-◌, ◌<◌, ◌≤◌, Bool, true, false, cond, ◌&&◌, List, length, get_or, refl, sym, ◌∙◌, subst, arith, inl, inr, ⊎_elim}
-use Rattle.std.specs.Prelude.{◌⊎◌, nat_lt}
+use Rattle.std.proofs.Common.{◌≡◌, ◌≢◌, ℕ, ◌+◌, ◌-◌, ◌<◌, ◌≤◌, true, cond, ◌&&◌, List, length, get_or, sym, ◌∙◌, subst, arith, inl, inr, ⊎_elim}
+use Rattle.std.specs.Prelude.{◌⊎◌}
 use Rattle.std.proofs.lemmas.Bool.{and_from, leb-true, le-leb, ltb-true, lt-ltb, cases_eq}
 use Rattle.state_rules.specs.Graphs.{Node, node_at}
-use Rattle.minimiser.proofs.Costs.{and_left, and_right}
+use Rattle.minimiser.proofs.Costs.{and_left}
 use Rattle.minimiser.specs.inner.Swept.{is_kid}
-use Rattle.fault_graph.specs.inner.Rows.{keeps}
 use Rattle.fault_graph.specs.inner.Marks.{mark_of, HasMarkedParent, AreMarks}
 
 -- a mark that spreads stays, or is that of a kid that costs something, and no more

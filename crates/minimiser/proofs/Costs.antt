@@ -1,11 +1,10 @@
 -- The least cost at which a node is true, from those of its kids.
-use Rattle.std.proofs.Common.{◌≡◌, ℕ, ◌+◌, ◌<◌, ◌≤◌, min, Bool, true, false, cond, ◌&&◌, ◌||◌, Option, Some, None, refl, ap, sym, ◌∙◌, subst, arith, eqb, inl, inr, ⊎_elim}
+use Rattle.std.proofs.Common.{◌≡◌, ℕ, ◌+◌, ◌<◌, ◌≤◌, Bool, true, false, cond, ◌&&◌, ◌||◌, Option, Some, None, refl, ap, sym, ◌∙◌, subst, arith, eqb}
 use Rattle.std.specs.Prelude.{◌⊎◌}
-use Rattle.std.proofs.lemmas.Bool.{cases_lt, and_parts, or_left, or_right, eq-eqb, false≢true}
+use Rattle.std.proofs.lemmas.Bool.{and_parts, or_left, or_right, eq-eqb, false≢true}
 use Rattle.state_rules.specs.Bits.{same_bit}
 use Rattle.state_rules.specs.Cases.{agrees_at}
 use Rattle.state_rules.specs.Assignments.{Assignment}
-use Rattle.state_rules.proofs.Cases.{usual_bit}
 use Rattle.state_rules.proofs.Members.{AtMost}
 use Rattle.conditioner.specs.Words.{leaf_of}
 use Rattle.node_costs.specs.Costs.{Weights, cost_among, Depends, TestCost, SumOf, IsLeast}

@@ -18,7 +18,7 @@ use Rattle.state_rules.proofs.NodeValues.{are_below, value_of-get}
 use Rattle.state_rules.proofs.Kids.{at_most_one-tail, not_both}
 use Rattle.state_rules.proofs.NodesFit.{fits-get, apart-get}
 use Rattle.conditioner.specs.Words.{leaf_of}
-use Rattle.minimiser.specs.Costs.{part_cost, known_at, cost_at, sum_costs, cheapest, node_cost, cost_by, literal_cost, least_at}
+use Rattle.minimiser.specs.Costs.{part_cost, known_at, sum_costs, cheapest, cost_by, literal_cost, least_at}
 use Rattle.node_costs.proofs.Conditions.{one_apart, cost_among-apart, cost_among-one, join, joined-le}
 use Rattle.minimiser.proofs.Costs.{fault, open_weights, only_parts, as_cost, IsCost, Agrees, faults_in, faults_in-le, all_faults, and_left, and_right, from_add, AtMost-min_left, AtMost-min_right}
 pub use Rattle.node_costs.proofs.Nodes.{all-below}

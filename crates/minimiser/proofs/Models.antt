@@ -1,10 +1,10 @@
 -- The states that a graph allows, as words are changed.
-use Rattle.std.proofs.Common.{◌≡◌, ◌≢◌, ℕ, zero, suc, ◌-◌, ◌<◌, ◌≤◌, Bool, true, false, ◌&&◌, List, [], ◌∷◌, ◌++◌, length, get_or, Option, Some, None, refl, ap, sym, ◌∙◌, subst, arith, ⊎_elim, length-append}
-use Rattle.std.proofs.lemmas.Bool.{and_from, cases_lt, leb-true, le-leb}
+use Rattle.std.proofs.Common.{◌≡◌, ◌≢◌, ℕ, ◌-◌, ◌<◌, ◌≤◌, Bool, true, ◌&&◌, List, [], ◌∷◌, ◌++◌, length, get_or, Some, None, refl, ap, sym, ◌∙◌, subst, arith, length-append}
+use Rattle.std.proofs.lemmas.Bool.{leb-true, le-leb}
 use Rattle.std.proofs.lemmas.Option.{same_Some}
 use Rattle.state_rules.specs.Bits.{bit_in, lists_of_bits}
 use Rattle.state_rules.specs.Cases.{agrees_at}
-use Rattle.state_rules.specs.Ranking.{cost, least, least_with, is_at_most, states}
+use Rattle.state_rules.specs.Ranking.{cost, least, is_at_most, states}
 use Rattle.state_rules.specs.Graphs.{Graph, holds}
 use Rattle.state_rules.proofs.Members.{In, In-filter, In-filtered, bits_in, bits_length, any_from, any_in}
 use Rattle.state_rules.proofs.Bits.{bit_in-front}
@@ -12,7 +12,6 @@ use Rattle.conditioner.specs.Words.{known_of, word_of}
 use Rattle.conditioner.specs.Models.{has_model, fits_words, models, least_under, diagnoses_under}
 use Rattle.conditioner.proofs.FittingWords.{fits_words-at, fits_words-from}
 use Rattle.node_costs.proofs.States.{least-out, least-in}
-use Rattle.minimiser.proofs.Costs.{and_left, and_right}
 use Rattle.minimiser.specs.LeastStates.{ModelWithin, LeastState}
 
 -- a bit that agrees with a word

@@ -1,18 +1,16 @@
 -- The least costs of all nodes of a graph.
-use Rattle.std.proofs.Common.{◌≡◌, ℕ, ◌+◌, ◌<◌, ◌≤◌, Bool, true, false, List, [], ◌∷◌, map, length, get_or, take, Option, None, refl, ap, sym, ◌∙◌, subst, arith, ⊎_elim, zero, suc}
+use Rattle.std.proofs.Common.{◌≡◌, ℕ, ◌+◌, ◌<◌, ◌≤◌, Bool, true, List, [], ◌∷◌, map, length, get_or, take, Option, None, refl, ap, sym, ◌∙◌, arith, ⊎_elim, zero, suc}
 use Rattle.std.specs.List.{list_any, list_all}
 use Rattle.std.proofs.lemmas.Bool.{cases_lt}
 use Rattle.std.proofs.lemmas.List.{get_or_past}
 use Rattle.state_rules.specs.Values.{values}
 use Rattle.state_rules.specs.declared.nodes.NodeKind.{NodeKind}
-use Rattle.state_rules.specs.declared.nodes.NodeKind.TheVariants.{Literal, And, Or}
-use Rattle.state_rules.specs.Graphs.{at_most_one, Graph, true_node, node_at, truth, mention, mentions, is_true, IsGraph}
+use Rattle.state_rules.specs.Graphs.{at_most_one, Graph, true_node, node_at, mentions, is_true, IsGraph}
 use Rattle.state_rules.proofs.NodeValues.{map-below}
 use Rattle.state_rules.proofs.NodesFit.{fits-at}
 use Rattle.state_rules.proofs.Values.{length-values_after, values-at, values-before}
 use Rattle.conditioner.specs.Words.{leaf_of}
 use Rattle.node_costs.proofs.Nodes.{value_by, AreLaws, all_nodes, kids_and}
-use Rattle.node_costs.proofs.Tests.{same_tests}
 use Rattle.minimiser.specs.Costs.{sum_costs, cheapest, cost_at, literal_cost, cost_by, node_cost}
 use Rattle.minimiser.proofs.Costs.{IsLeastCost, and_is, or_is, true_is, false_is, literal_is}
 

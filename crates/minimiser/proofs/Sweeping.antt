@@ -2,26 +2,25 @@
 use Rattle.std.proofs.Common.{◌≡◌, ◌≢◌, ℕ, zero, suc, ◌+◌, ◌-◌, ◌<◌, ◌≤◌, Bool, true, false, cond, eqb, ◌&&◌, ◌||◌, List, [], ◌∷◌, length, get_or, min, All, Option, Some, None, refl, ap, sym, ◌∙◌, subst, arith, inl, inr, ⊎_elim}
 use Rattle.std.proofs.lemmas.Bool.Decides.{nat_tests}
 use Rattle.std.specs.Prelude.{◌⊎◌, ◌==◌, slice_get, nat_le, IsSome}
-use Rattle.std.proofs.lemmas.Bool.{and_from, cases_lt, eqb-true, eq-eqb, leb-true, le-leb, ltb-true, lt-ltb, cases_eq, false_from_ne_true, true_from_ne_false}
+use Rattle.std.proofs.lemmas.Bool.{and_from, cases_lt, eqb-true, eq-eqb, leb-true, le-leb, ltb-true, lt-ltb, cases_eq, false_from_ne_true}
 use Rattle.std.proofs.lemmas.Option.{slice_get-get_or, slice_get_within, get_or_from_slice_get, same_Some}
 use Rattle.std.proofs.Math.Bool.{or-true}
 use Rattle.state_rules.specs.Bits.{bit_in}
-use Rattle.state_rules.specs.Values.{values}
 use Rattle.state_rules.specs.declared.nodes.NodeKind.{NodeKind}
 use Rattle.state_rules.specs.declared.nodes.NodeKind.TheVariants.{Literal, And, Or}
 use Rattle.state_rules.specs.Graphs.{Node, Graph, true_node, node_at, IsGraph}
 use Rattle.state_rules.proofs.NodesFit.{fits-get, literal}
 use Rattle.state_rules.proofs.Members.{In, AtMost}
 use Rattle.conditioner.specs.Words.{known_of}
-use Rattle.conditioner.specs.Models.{least_under, total_cost}
-use Rattle.minimiser.specs.Costs.{part_cost, known_at, cost_at, node_cost, least_at}
+use Rattle.conditioner.specs.Models.{total_cost}
+use Rattle.minimiser.specs.Costs.{part_cost, known_at, least_at}
 use Rattle.minimiser.specs.inner.Held.{held_cost}
 use Rattle.minimiser.specs.Stored.{cost_in, AreLeastCosts}
 use Rattle.minimiser.specs.LeastStates.{Suspect, LeastState, OkBelow}
 use Rattle.minimiser.specs.inner.Swept.{IsValue, has_mark, unmarked, IsMarked, is_kid, spread_value, HasMarkedParent, IsSwept, suspect_of, suspect_at}
 use Rattle.minimiser.proofs.Costs.{fault, and_left, and_right}
 use Rattle.minimiser.proofs.Sums.{cost_in-some}
-use Rattle.minimiser.proofs.Whole.{AddHeld, least_is, state_of, assignment_of}
+use Rattle.minimiser.proofs.Whole.{least_is, state_of, assignment_of}
 use Rattle.minimiser.proofs.OnePass.{value_small, length-least_costs, kids_below, literal_at}
 use Rattle.minimiser.proofs.Valued.{cost_in-is, value-is}
 use Rattle.minimiser.proofs.Derivations.{sum-kid, cheapest-kid, Useful, useful-root, useful-and, useful-or, useful-literal, on-root, descend, costs-at, below, all-below}

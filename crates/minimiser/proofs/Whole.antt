@@ -1,13 +1,12 @@
 -- The least cost of the models of a graph is what the costs of its nodes say.
-use Rattle.std.proofs.Common.{◌≡◌, ℕ, zero, suc, ◌+◌, ◌-◌, ◌<◌, ◌≤◌, Bool, true, false, cond, ◌&&◌, List, [], ◌∷◌, ◌++◌, length, take, drop, get_or, Option, Some, None, refl, ap, sym, ◌∙◌, subst, arith, length-append, length-drop, ⊎_elim}
+use Rattle.std.proofs.Common.{◌≡◌, ℕ, zero, suc, ◌+◌, ◌-◌, ◌<◌, ◌≤◌, Bool, true, cond, ◌&&◌, List, [], ◌∷◌, ◌++◌, length, take, drop, get_or, Option, Some, refl, ap, sym, ◌∙◌, subst, arith, length-append, length-drop}
 use Rattle.std.specs.Prelude.{option_map}
-use Rattle.std.proofs.lemmas.Bool.{and_from, cases_lt}
+use Rattle.std.proofs.lemmas.Bool.{and_from}
 use Rattle.std.proofs.lemmas.List.{take-append-drop, length-take-le, get_or_past}
 use Rattle.state_rules.specs.Bits.{bit_in, lists_of_bits}
 use Rattle.state_rules.specs.Cases.{agrees_at}
 use Rattle.state_rules.specs.Ranking.{cost, least}
 use Rattle.state_rules.specs.Assignments.{Assignment, assignment}
-use Rattle.state_rules.specs.Values.{values}
 use Rattle.state_rules.specs.Graphs.{Graph, mentions, is_true, holds, IsGraph}
 use Rattle.state_rules.proofs.Members.{In, bits_in, bits_length, any_from, any_in, AtMost}
 use Rattle.state_rules.proofs.Mentions.{mentioned-range}
@@ -15,7 +14,7 @@ use Rattle.state_rules.proofs.Bits.{bit_in-front}
 use Rattle.conditioner.specs.Words.{known_of}
 use Rattle.conditioner.specs.Models.{has_model, fits_words, models}
 use Rattle.conditioner.proofs.FittingWords.{fits_words-at, fits_words-from}
-use Rattle.minimiser.specs.Costs.{part_cost, known_at, cost_at, node_cost, least_at}
+use Rattle.minimiser.specs.Costs.{part_cost, known_at, least_at}
 use Rattle.minimiser.specs.inner.Held.{held_one, held_cost}
 use Rattle.node_costs.specs.Costs.{total, TestCost, StateCost}
 use Rattle.node_costs.proofs.Sets.{least-more}

@@ -1,5 +1,5 @@
 -- The lines of the parts' literals, and those that fill parts in.
-use Rattle.std.proofs.Common.{◌≡◌, ℕ, zero, suc, ◌+◌, ◌-◌, ◌*◌, ◌<◌, ◌≤◌, Bool, true, false, cond, ◌&&◌, ◌==◌, List, [], ◌∷◌, ◌++◌, map, length, refl, ap, sym, ◌∙◌, subst, arith, ⊎_elim, inl, inr, get_or}
+use Rattle.std.proofs.Common.{◌≡◌, ℕ, zero, suc, ◌+◌, ◌-◌, ◌*◌, ◌<◌, ◌≤◌, Bool, true, false, cond, ◌&&◌, ◌==◌, List, [], ◌∷◌, ◌++◌, map, length, refl, ap, ◌∙◌, subst, arith, ⊎_elim, inl, inr, get_or}
 use Rattle.std.proofs.lemmas.Bool.Decides.{nat_tests}
 use Rattle.std.specs.Prelude.{nat_le}
 use Rattle.std.specs.List.{list_all, list_any, filter, flat_map, range_with_len, AllByRecursion}
@@ -89,7 +89,7 @@ module _ (parts : ℕ) (more : List Node) where
   lines = literal_pairs parts ++ more
 
   pub literal-value : (by : NodeKind → List Bool → Bool) (p : ℕ) (b : Bool) → 1 ≤ p → p ≤ parts → literal_line p b < length (literal_pairs parts ++ more) → value_of by (literal_pairs parts ++ more) (literal_line p b) ≡ by (Literal b p) []
-  literal-value by p b low high inside = grind (arith, nat_tests, line-as_pair, pair-at, value_of-at, by)
+  literal-value by p b low high inside = grind (arith, nat_tests, line-as_pair, pair-at, value_of-at)
 
   -- ---- fillers
 
@@ -128,7 +128,7 @@ module _ (parts : ℕ) (more : List Node) where
           (and_from _ _ (and_from _ _ (le-leb 1 r.item is.0) (le-leb r.item parts is.1)) is.2)
 
       to : ((nat_le 1 v && nat_le v parts) && missing v) ≡ true → list_any (λ b. b) (map (λ p. p == v) chosen) ≡ true
-      to all = grind (arith, nat_tests, and_parts, missing, any-kid, chosen-has, leb-true, eq-eqb)
+      to all = grind (arith, nat_tests, and_parts, any-kid, chosen-has, leb-true, eq-eqb)
 
     -- each once
     pub fillers-once : (v : ℕ) → at_most_one (map (mentions (literal_pairs parts ++ more) v) (fillers words parts missing)) ≡ true
@@ -156,8 +156,8 @@ module _ (parts : ℕ) (more : List Node) where
 
     pub fillers-true : (a : Assignment) → ((v : ℕ) → (nat_le 1 v && nat_le v parts) ≡ true → missing v ≡ true → a v ≡ filling (known_at words v))
         → list_all (λ b. b) (map (λ k. is_true (literal_pairs parts ++ more) k a) (fillers words parts missing)) ≡ true
-    fillers-true a filled = grind (arith, nat_tests, as_bits, a, all-from, chosen-is, filled, and_from, le-leb, same_bit-refl)
+    fillers-true a filled = grind (arith, nat_tests, as_bits, all-from, chosen-is, filled, and_from, le-leb, same_bit-refl)
 
     pub fillers-say : (a : Assignment) → list_all (λ b. b) (map (λ k. is_true (literal_pairs parts ++ more) k a) (fillers words parts missing)) ≡ true
         → (v : ℕ) → (nat_le 1 v && nat_le v parts) ≡ true → missing v ≡ true → a v ≡ filling (known_at words v)
-    fillers-say a all v part is = grind (arith, nat_tests, and_parts, same_bit-equal, a, all-kid, chosen-has, leb-true, as_bits)
+    fillers-say a all v part is = grind (arith, nat_tests, and_parts, same_bit-equal, all-kid, chosen-has, leb-true, as_bits)

@@ -1,13 +1,12 @@
 -- What is kept of a graph, as a drawing has it: sets of parts, and nodes below which nothing is missing.
-use Rattle.std.proofs.Common.{◌≡◌, ℕ, ◌+◌, ◌*◌, ◌/◌, ◌%◌, ◌<◌, ◌≤◌, Bool, true, false, not, ◌&&◌, List, [], map, length, drop, get_or, Option, Some, None, refl, ap, sym, ◌∙◌, subst, arith, ⊎_elim}
+use Rattle.std.proofs.Common.{◌≡◌, ℕ, ◌+◌, ◌*◌, ◌/◌, ◌%◌, ◌<◌, ◌≤◌, Bool, true, false, not, ◌&&◌, List, [], map, length, get_or, Option, Some, None, ap, ◌∙◌, subst, arith}
 use Rattle.std.proofs.lemmas.Bool.Decides.{nat_tests}
-use Rattle.std.specs.Prelude.{◌==◌, nat_lt, nat_le, IfSome, MatchOption}
-use Rattle.std.specs.Int.{bit_at}
+use Rattle.std.specs.Prelude.{◌==◌, nat_le, IfSome, MatchOption}
 use Rattle.std.specs.List.{range_with_len}
 use Rattle.std.proofs.lemmas.Bool.{cases_lt, lt-ltb, le-ltb, le-leb, lt-leb}
 use Rattle.std.proofs.lemmas.List.{get_or-take, get_or-drop}
 use Rattle.state_rules.proofs.Members.{filter_same}
-use Rattle.state_rules.specs.Graphs.{node_at, mentions, IsGraph}
+use Rattle.state_rules.specs.Graphs.{mentions, IsGraph}
 use Rattle.state_rules.specs.Bits.{has_bit}
 use Rattle.state_rules.proofs.Lists.{filter-never}
 use Rattle.part_sets.specs.Numbers.{part_words, set_at}

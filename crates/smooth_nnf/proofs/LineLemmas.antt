@@ -1,5 +1,5 @@
 -- The texts of the lines of nodes.
-use Rattle.std.proofs.Common.{◌≡◌, ℕ, zero, suc, ◌+◌, ◌-◌, ◌*◌, ◌^◌, ◌<◌, ◌≤◌, All, Bool, true, false, cond, List, [], ◌∷◌, ◌++◌, map, length, get_or, codes, Option, Some, None, refl, sym, ap, ◌∙◌, subst, arith, append-nil}
+use Rattle.std.proofs.Common.{◌≡◌, ℕ, zero, suc, ◌+◌, ◌-◌, ◌*◌, ◌^◌, ◌<◌, ◌≤◌, All, Bool, true, List, [], ◌∷◌, ◌++◌, map, length, get_or, codes, Option, Some, None, refl, sym, ap, ◌∙◌, subst, arith, append-nil}
 use Rattle.std.proofs.lemmas.Bool.Decides.{nat_tests}
 use Rattle.std.specs.Prelude.{decimal, slice_index}
 use Rattle.std.specs.List.{flat_map, enumerate_from, range_with_len}
@@ -21,7 +21,7 @@ use Rattle.nnf_text.proofs.LineTexts.{and-spaced, or-spaced}
 use Rattle.minimiser.specs.Costs.{cost_at}
 use Rattle.minimiser.specs.Stored.{cost_in}
 use Rattle.minimiser.proofs.Sums.{cost_in-some}
-use Rattle.smooth_nnf.specs.Layouts.{and_over, own_line, costs_just, cheapest_kids, kid_line, or_behind, or_lines, lines_before, lines_to, own_lines, last_at, last_line}
+use Rattle.smooth_nnf.specs.Layouts.{and_over, own_line, cheapest_kids, kid_line, or_behind, or_lines, lines_to, own_lines, last_line}
 use Rattle.smooth_nnf.specs.inner.Drawings.{Drawing, IsDrawing, IsUnder, shown, filled_line}
 use Rattle.smooth_nnf.specs.inner.Texts.{numbers_text, lines_text, kid_text}
 

@@ -1,18 +1,16 @@
 -- Where the lines of nodes stand, node by node.
-use Rattle.std.proofs.Common.{◌≡◌, ℕ, zero, suc, ◌+◌, ◌<◌, ◌≤◌, Bool, cond, ◌==◌, List, [], ◌∷◌, ◌++◌, map, length, take, get_or, Option, Some, None, sym, ap, ◌∙◌, arith, inl, inr}
+use Rattle.std.proofs.Common.{◌≡◌, ℕ, zero, suc, ◌+◌, ◌<◌, ◌≤◌, Bool, cond, ◌==◌, List, [], ◌∷◌, ◌++◌, map, length, take, get_or, Option, sym, ap, ◌∙◌, arith}
 use Rattle.std.proofs.lemmas.Bool.Decides.{nat_tests}
 use Rattle.std.specs.Prelude.{◌⊎◌}
 use Rattle.std.proofs.lemmas.Bool.{cond-true, eq-eqb, ne_eqb, cases_eq}
 use Rattle.std.proofs.lemmas.List.Filters.{length-filter_more}
 use Rattle.std.proofs.lemmas.List.Sums.{sum_by-cons}
 use Rattle.state_rules.proofs.Lists.{length-filter-le}
-use Rattle.state_rules.specs.declared.nodes.NodeKind.{NodeKind}
-use Rattle.state_rules.specs.declared.nodes.NodeKind.TheVariants.{Literal, And, Or}
 use Rattle.state_rules.specs.Graphs.{Node, node_at, edges}
 use Rattle.minimiser.specs.Costs.{cost_at}
 use Rattle.minimiser.specs.Stored.{cost_in}
 use Rattle.minimiser.proofs.Sums.{cost_at-map, cost_in-some}
-use Rattle.smooth_nnf.specs.Layouts.{costs_just, cheapest_kids, lines_before, lines_to, own_lines}
+use Rattle.smooth_nnf.specs.Layouts.{costs_just, cheapest_kids, lines_to, own_lines}
 use Rattle.smooth_nnf.specs.inner.Drawings.{lines_after}
 
 -- ---- kids of a cost

@@ -1,18 +1,15 @@
 -- Lines that stand behind others: what their nodes are worth, and that all of them are still nodes of a smooth graph.
-use Rattle.std.proofs.Common.{◌≡◌, ℕ, ◌+◌, ◌<◌, ◌≤◌, Bool, true, false, List, [], ◌∷◌, ◌++◌, map, length, refl, ap, sym, ◌∙◌, subst, arith, append_assoc, append-nil, length-append}
+use Rattle.std.proofs.Common.{◌≡◌, ℕ, ◌+◌, ◌<◌, ◌≤◌, Bool, true, List, [], ◌∷◌, ◌++◌, map, length, refl, ap, sym, ◌∙◌, subst, arith, append_assoc, append-nil, length-append}
 use Rattle.std.proofs.lemmas.Bool.Decides.{nat_tests}
 use Rattle.std.specs.List.{range_with_len, AllByRecursion}
 use Rattle.std.proofs.lemmas.Bool.{and_parts, and_from}
-use Rattle.state_rules.specs.Bits.{bit_in}
-use Rattle.state_rules.specs.Values.{values}
 use Rattle.state_rules.proofs.Lists.{AllByRecursion-append}
 use Rattle.state_rules.proofs.Values.{length-values_after, values_after-append, values_after-keeps}
 use Rattle.state_rules.specs.declared.nodes.NodeKind.{NodeKind}
-use Rattle.state_rules.specs.declared.nodes.NodeKind.TheVariants.{Literal, And, Or}
-use Rattle.state_rules.specs.Graphs.{Node, mention_by, mentions, apart_at, kind_fits, node_fits, nodes_fit, AreNodes}
-use Rattle.state_rules.proofs.NodeValues.{are_below, are_below-from, below-each, map-below, value, value_of, value_of-last}
-use Rattle.state_rules.proofs.NodesFit.{fits, apart_at-below, AreNodes-push}
-use Rattle.nnf_text.specs.StateGraphs.{all_same, smooth_at, Smooth}
+use Rattle.state_rules.specs.Graphs.{Node, mention_by, mentions, apart_at, kind_fits, nodes_fit, AreNodes}
+use Rattle.state_rules.proofs.NodeValues.{are_below, are_below-from, below-each, map-below, value_of, value_of-last}
+use Rattle.state_rules.proofs.NodesFit.{apart_at-below, AreNodes-push}
+use Rattle.nnf_text.specs.StateGraphs.{smooth_at, Smooth}
 
 -- ---- what nodes are worth
 
@@ -41,7 +38,7 @@ module _ (by : NodeKind → List Bool → Bool) where
       ∙ ap (by x.what) (map-below (value_of by (base ++ seen)) (value_of by base) (length base) x.kids below.0 (λ k h. value_of-front base seen k h)) in
       let next : base ++ ((seen ++ x ∷ []) ++ (middle ++ back)) ≡ all = ap (λ t. base ++ t) (append_assoc seen (x ∷ []) (middle ++ back)) in
       let one_more : length base + length (seen ++ x ∷ []) ≡ (length base + length seen) + 1 = omega (arith, length-append seen (x ∷ [])) in
-      grind (arith, nat_tests, by, values-behind base (seen ++ x ∷ []) middle back below.1)
+      grind (arith, nat_tests, values-behind base (seen ++ x ∷ []) middle back below.1)
 
 -- ---- smooth nodes
 

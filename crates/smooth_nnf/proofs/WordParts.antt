@@ -93,7 +93,7 @@ all-words test parts n le =
 -- what passes one test and not another that passes no more
 pub left-over : (o m : ℕ → Bool) → ((p : ℕ) → m p ≡ true → o p ≡ true) → (xs : List ℕ) → length (filter (λ p. o p && not (m p)) xs) + length (filter m xs) ≡ length (filter o xs)
 left-over o m wider [] = refl
-left-over o m wider (x ∷ xs) = grind (arith, nat_tests, o, m, wider, left-over o m wider xs)
+left-over o m wider (x ∷ xs) = grind (arith, nat_tests, wider, left-over o m wider xs)
 
 pub all-count : (n : ℕ) → length (filter (λ p. true) (range_with_len 1 n)) ≡ n
 all-count n = ap length (filter-all (range_with_len 1 n)) ∙ length-range_with_len 1 n

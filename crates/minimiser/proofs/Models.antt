@@ -1,6 +1,6 @@
 -- The states that a graph allows, as words are changed.
 use Rattle.std.proofs.Common.{◌≡◌, ◌≢◌, ℕ, ◌-◌, ◌<◌, ◌≤◌, Bool, true, ◌&&◌, List, [], ◌∷◌, ◌++◌, length, get_or, Some, None, refl, ap, sym, ◌∙◌, subst, arith, length-append}
-use Rattle.std.proofs.lemmas.Bool.{leb-true, le-leb}
+use Rattle.std.proofs.lemmas.Bool.{leb-true}
 use Rattle.std.proofs.lemmas.Option.{same_Some}
 use Rattle.state_rules.specs.Bits.{bit_in, lists_of_bits}
 use Rattle.state_rules.specs.Cases.{agrees_at}
@@ -56,9 +56,6 @@ module _ (graph : Graph) (costs : List ℕ) (within : length costs ≤ graph.var
       let all : length (h ++ r.item) ≡ graph.vars = omega (arith, length-append h r.item) in
       grind (arith, any_in, fits_words-from, bit_in-front, fits_words-at)
 
-  agree-open : (old new : ℕ) (bit : Bool) → (old ≢ 0 → new ≡ old) → Agree new bit → Agree old bit
-  agree-open old new bit h a = grind arith
-
   pub ModelWithin-old : (old new : List ℕ) (most : ℕ) (h : List Bool) → length old ≡ graph.vars → Refines (length costs) old new → ModelWithin graph new costs most h → ModelWithin graph old costs most h
   ModelWithin-old old new most h long r p = grind (arith, model-moved, model-agrees)
 
@@ -101,9 +98,6 @@ module _ (graph : Graph) (words costs : List ℕ) (most : ℕ) (e : LeastIs grap
 
   abbrev is_low : List Bool → Bool
   is_low h = is_at_most (cost costs h) (least_under graph words costs)
-
-  low-in : (h : List Bool) → cost costs h ≤ most → is_low h ≡ true
-  low-in h c = ap (is_at_most (cost costs h)) e ∙ le-leb (cost costs h) most c
 
   low-out : (h : List Bool) → is_low h ≡ true → cost costs h ≤ most
   low-out h t = leb-true (cost costs h) most (sym (ap (is_at_most (cost costs h)) e) ∙ t)

@@ -28,9 +28,6 @@ here values kids i = get_or values (get_or kids i 0) 0
 pub cost_in-some : (v : ℕ) → (v ≡ 4294967295 → ⊥) → cost_in v ≡ Some v
 cost_in-some v h = grind arith
 
-add_costs-none : (c : Option ℕ) → None ≡ add_costs c None
-add_costs-none c = grind arith
-
 add_costs-zero : (c : Option ℕ) → c ≡ add_costs c (Some 0)
 add_costs-zero c = grind arith
 
@@ -56,9 +53,6 @@ two_kids values (k ∷ m ∷ n ∷ kids) e h = absurd (omega arith)
 pub sum_two : (a b : ℕ) → a ≤ 4294967295 → b ≤ 4294967295 → IfSome (sum_costs (cost_in a ∷ cost_in b ∷ [])) (λ n. n < 2147483647)
     → cost_in (min (a + b) 4294967295) ≡ sum_costs (cost_in a ∷ cost_in b ∷ [])
 sum_two a b x y small = add_costs-zero (cost_in (min (a + b) 4294967295)) ∙ cut_sum a b (Some 0) (sum_costs (cost_in a ∷ cost_in b ∷ [])) x y small refl
-
-min-again : (a b c : Option ℕ) → min_costs a (min_costs b c) ≡ min_costs (min_costs a b) c
-min-again a b c = grind arith
 
 cost_in-min : (a b : ℕ) → a ≤ 4294967295 → b ≤ 4294967295 → cost_in (min a b) ≡ min_costs (cost_in a) (cost_in b)
 cost_in-min a b h g = grind arith

@@ -41,17 +41,8 @@ mark-out v e = (leb-true _ _ (and_left _ _ e), ltb-true _ _ (and_right (nat_le 2
 no-mark : (v : ℕ) → IsValue v → has_mark v ≡ false
 no-mark v h = false_from_ne_true (has_mark v) (λ e. ⊎_elim (λ (q : v < 2147483647). omega (arith, (mark-out v e).0)) (λ (q : v ≡ 4294967295). omega (arith, (mark-out v e).1)) h)
 
-unmarked-same : (v : ℕ) → has_mark v ≡ false → unmarked v ≡ v
-unmarked-same v e = λ i. cond (e i) (v - 2147483648) v
-
-unmarked-in : (v : ℕ) → has_mark v ≡ true → unmarked v ≡ v - 2147483648
-unmarked-in v e = λ i. cond (e i) (v - 2147483648) v
-
 marked : (v : ℕ) → v < 2147483647 → has_mark (v + 2147483648) ≡ true
 marked v h = mark-in (v + 2147483648) (omega arith) (omega arith)
-
-unmarked-marked : (v : ℕ) → v < 2147483647 → unmarked (v + 2147483648) ≡ v
-unmarked-marked v h = unmarked-in (v + 2147483648) (marked v h) ∙ omega arith
 
 pub kid-out : (kids : List ℕ) (j : ℕ) → is_kid kids j ≡ true → In j kids
 kid-out [] j e = absurd (cc)
@@ -73,23 +64,13 @@ spread-is kids cost j v = by_test (is_kid kids j && nat_le v cost) refl where
   by_test true e = grows (and_left _ _ e) (leb-true _ _ (and_right (is_kid kids j) _ e))
   by_test false e = stays
 
-spread-kid : (kids : List ℕ) (cost j v : ℕ) → is_kid kids j ≡ true → v ≤ cost → spread_value kids cost j v ≡ v + 2147483648
-spread-kid kids cost j v m h = λ i. cond (and_from _ _ m (le-leb _ _ h) i) (v + 2147483648) v
-
 spread-marked : (kids : List ℕ) (cost j v w : ℕ) → cost < 2147483647 → Spread kids cost j v w → has_mark v ≡ true → has_mark w ≡ true
 spread-marked kids cost j v w small given e = grind arith
 
 spread-unmarked : (kids : List ℕ) (cost j v w : ℕ) → cost < 2147483647 → Spread kids cost j v w → unmarked w ≡ unmarked v
 spread-unmarked kids cost j v w small given = grind arith
 
-spread-new : (kids : List ℕ) (cost j v w : ℕ) → Spread kids cost j v w → has_mark w ≡ true → (has_mark v ≡ true) ⊎ ((is_kid kids j ≡ true) × (v ≤ cost))
-spread-new kids cost j v w given e = grind arith
-
 -- ---- the sweep
-
--- a value is marked, or it is still the cost
-mark-or-cost : (v c : ℕ) → unmarked v ≡ c → (has_mark v ≡ true) ⊎ (v ≡ c)
-mark-or-cost v c e = grind arith
 
 own-cost : (v c : ℕ) → unmarked v ≡ c → has_mark v ≡ true → (v - 2147483648 ≡ c) × (c < 2147483647)
 own-cost v c e m = grind arith
@@ -117,19 +98,11 @@ module _ (nodes : List Node) (cs : List ℕ) where
     more : (j : ℕ) → j < length nodes → has_mark (get_or xs j 0) ≡ true → has_mark (get_or ys j 0) ≡ true
     more j h q = spread-marked kids own j (get_or xs j 0) (get_or ys j 0) small (moves j h) q
 
-    -- the nodes from this one on are marked as before
-    old-mark : (k : ℕ) → at ≤ k → k < length nodes → has_mark (get_or ys k 0) ≡ true → has_mark (get_or xs k 0) ≡ true
-    old-mark k h g q = ⊎_elim (λ r. r) (λ r. absurd (omega (arith, before k r.0))) (spread-new kids own k (get_or xs k 0) (get_or ys k 0) (moves k g) q)
-
     kid-marked : (j : ℕ) → is_kid kids j ≡ true → get_or cs j 0 ≤ get_or cs at 0 → has_mark (get_or ys j 0) ≡ true
     kid-marked j i h = grind (arith, nat_tests, before, more, spreads)
 
     new-parent : (k : ℕ) → HasMarkedParent nodes cs xs k → HasMarkedParent nodes cs ys k
     new-parent k p = record { parent = p.parent; within = p.within; marked = more p.parent p.within p.marked; kid = p.kid; cheap = p.cheap }
-
-    -- a kid that got its mark now
-    newly : (k : ℕ) → k < length nodes → is_kid kids k ≡ true → get_or xs k 0 ≤ own → HasMarkedParent nodes cs ys k
-    newly k h i c = grind arith
 
     pub swept-met : IsSwept nodes cs ys at
     swept-met = record {

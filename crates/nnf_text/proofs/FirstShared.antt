@@ -1,7 +1,6 @@
 -- The first shared variable is the one that is told.
-use Rattle.std.proofs.Common.{◌≡◌, ℕ, zero, suc, ◌+◌, ◌*◌, ◌<◌, ◌≤◌, Bool, true, false, List, [], ◌∷◌, length, Option, Some, None, Ok, Err, refl, sym, ap, ◌∙◌, subst, arith, inl, inr}
+use Rattle.std.proofs.Common.{◌≡◌, ℕ, zero, suc, ◌+◌, ◌*◌, ◌<◌, ◌≤◌, Bool, true, false, List, [], ◌∷◌, length, Option, Some, None, Ok, Err, refl, sym, ap, ◌∙◌, arith, inl, inr}
 use Rattle.std.proofs.lemmas.Bool.Decides.{nat_tests}
-use Rattle.std.specs.Prelude.{◌⊎◌}
 use Rattle.std.specs.List.{find, filter_map, cons_option, enumerate_from, range_with_len, AllByRecursion}
 use Rattle.std.proofs.lemmas.Bool.{cond-false, cases_Bool, cases_lt, le-ltb, not-false}
 use Rattle.state_rules.specs.Graphs.{Node, Graph, node_at, mentions, apart_at, nodes_fit, Decomposable, shares}
@@ -9,7 +8,7 @@ use Rattle.state_rules.proofs.Mentions.{IsUsed-shared, IsUsed-range}
 use Rattle.nnf_text.specs.declared.checking.TheConstants.{BITS_LIMIT}
 use Rattle.nnf_text.specs.GraphTexts.{Shared, read_unless, shared_at, node_shared, all_shared, checked}
 use Rattle.nnf_text.specs.inner.Sharing.{AreVariables, first_of, FirstOf}
-use Rattle.nnf_text.proofs.Options.{chosen, none≢some}
+use Rattle.nnf_text.proofs.Options.{none≢some}
 use Rattle.nnf_text.proofs.Sparse.{Rises-from, find-sparse}
 
 -- ---- all variables, by those that literals have

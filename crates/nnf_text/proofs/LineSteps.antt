@@ -1,14 +1,13 @@
 -- The nodes of a text, line by line.
-use Rattle.std.proofs.Common.{◌≡◌, ℕ, ◌+◌, true, false, not, List, [], ◌∷◌, ◌++◌, map, length, Option, Some, None, Ok, Err, refl, sym, ap, ◌∙◌, arith, append_assoc, append-nil}
+use Rattle.std.proofs.Common.{◌≡◌, ℕ, ◌+◌, true, false, not, List, [], ◌∷◌, ◌++◌, length, Option, Some, None, Ok, Err, ap, ◌∙◌, arith, append_assoc, append-nil}
 use Rattle.std.proofs.lemmas.Bool.Decides.{nat_tests}
 use Rattle.std.specs.Prelude.{nat_lt}
-use Rattle.std.specs.List.{list_all, filter, filter_map, cons_option, enumerate_from}
+use Rattle.std.specs.List.{list_all, filter_map, cons_option, enumerate_from}
 use Rattle.std.proofs.lemmas.Bool.{cond-true, cond-false, not_from_false}
 use Rattle.std.proofs.lemmas.List.{length-append}
-use Rattle.text_rules.specs.Tokens.{words}
 use Rattle.text_rules.specs.Expected.{IsExpectedFault}
 use Rattle.state_rules.specs.Graphs.{Node, Graph, edges}
-use Rattle.nnf_text.specs.GraphTexts.{Header, node_of, node_fault, variable_fits, has_words, node_at_line, line_fault, fault_at, differs, LineFault, WrongLine, WrongChild, Refusal, AtLine, Parsed, read_unless, parsed_below, parsed, checked_if, read_graph}
+use Rattle.nnf_text.specs.GraphTexts.{Header, node_of, node_fault, variable_fits, node_at_line, line_fault, fault_at, differs, LineFault, WrongLine, WrongChild, Refusal, AtLine, Parsed, read_unless, parsed_below, parsed, checked_if, read_graph}
 use Rattle.nnf_text.specs.inner.Reading.{filled_from, nodes_behind, if_counted}
 use Rattle.nnf_text.proofs.Options.{none≢some}
 

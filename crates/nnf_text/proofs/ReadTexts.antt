@@ -1,24 +1,19 @@
 -- What is known of the graph that a text is read as.
-use Rattle.std.proofs.Common.{◌≡◌, ℕ, zero, suc, ◌+◌, ◌-◌, ◌*◌, ◌^◌, ◌<◌, ◌≤◌, Bool, true, false, not, cond, ◌==◌, List, [], ◌∷◌, ◌++◌, map, length, Option, Some, None, Ok, Err, codes, refl, sym, ap, ◌∙◌, subst, arith, inl, inr}
+use Rattle.std.proofs.Common.{◌≡◌, ℕ, ◌+◌, ◌-◌, ◌^◌, ◌<◌, ◌≤◌, Bool, true, List, [], ◌∷◌, ◌++◌, length, Option, Some, None, Ok, refl, arith}
 use Rattle.std.proofs.lemmas.Bool.Decides.{nat_tests}
-use Rattle.std.specs.Prelude.{nat_lt}
-use Rattle.std.specs.List.{list_all, filter_map, cons_option, enumerate_from}
+use Rattle.std.specs.List.{filter_map, cons_option, enumerate_from}
 use Rattle.std.proofs.lemmas.Bool.{and_from, eqb-true, eq-eqb, lt-ltb, not-false}
 use Rattle.std.proofs.lemmas.List.{length-map}
 use Rattle.std.proofs.lemmas.List.FromFn.{length-enumerate_from}
 use Rattle.std.proofs.lemmas.List.Sums.{length-filter, count_by-le-length}
-use Rattle.text_rules.specs.Names.{same_name}
-use Rattle.text_rules.specs.TextLines.{all_lines}
-use Rattle.text_rules.specs.Tokens.{words}
 use Rattle.text_rules.proofs.LineLemmas.{length-all_lines}
 use Rattle.text_rules.proofs.NumberLemmas.{number_in-most}
 use Rattle.state_rules.specs.declared.nodes.TheConstants.{CHILD_LIMIT}
 use Rattle.state_rules.specs.declared.nodes.NodeKind.{NodeKind}
 use Rattle.state_rules.specs.declared.nodes.NodeKind.TheVariants.{Literal, And, Or}
 use Rattle.state_rules.specs.Graphs.{Node, Graph, kind_fits, node_fits, nodes_fit, edges}
-use Rattle.nnf_text.specs.declared.checking.TheConstants.{BITS_LIMIT}
-use Rattle.nnf_text.specs.GraphTexts.{small_number, great_number, numbers, number_before, literal_of, literal_with, counted, or_of, node_of, node_fault, variable_fits, line_fault, fault_at, node_at_line, has_words, filled_lines, Header, header_of, header_from, differs, LineFault, WrongLine, WrongChild, WrongVariable, Refusal, read_unless, parsed_below, parsed_lines, parsed, TooLarge, all_shared, checked}
-use Rattle.nnf_text.proofs.Options.{chosen, none≢some}
+use Rattle.nnf_text.specs.GraphTexts.{small_number, numbers, literal_of, literal_with, counted, or_of, node_of, node_fault, variable_fits, line_fault, fault_at, node_at_line, filled_lines, Header, header_of, header_from, differs, LineFault, Refusal, read_unless, parsed_below, parsed_lines, parsed, checked}
+use Rattle.nnf_text.proofs.Options.{none≢some}
 
 -- ---- the node of a line
 

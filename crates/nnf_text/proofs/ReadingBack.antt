@@ -1,27 +1,25 @@
 -- The text of a graph is read back as that graph.
-use Rattle.std.proofs.Common.{◌≡◌, ℕ, suc, ◌+◌, ◌-◌, ◌*◌, ◌^◌, ◌<◌, ◌≤◌, Bool, true, false, not, ◌&&◌, ◌==◌, List, [], ◌∷◌, ◌++◌, map, length, Some, None, Ok, codes, refl, sym, ap, ◌∙◌, arith}
+use Rattle.std.proofs.Common.{◌≡◌, ℕ, ◌+◌, ◌-◌, ◌*◌, ◌^◌, ◌<◌, ◌≤◌, Bool, true, false, not, ◌==◌, List, [], ◌∷◌, ◌++◌, map, length, Some, None, Ok, codes, refl, ap, ◌∙◌, arith}
 use Rattle.std.proofs.lemmas.Bool.Decides.{nat_tests}
-use Rattle.std.specs.Prelude.{decimal, nat_lt, nat_le}
-use Rattle.std.specs.List.{list_all, filter, filter_map, enumerate_from, cons_option}
+use Rattle.std.specs.Prelude.{decimal, nat_lt}
+use Rattle.std.specs.List.{list_all, filter, filter_map, enumerate_from}
 use Rattle.std.proofs.lemmas.Bool.{and_parts, and_from, cond-true, cond-false, leb-true, ltb-true, eqb-true, eq-eqb, le-leb, not_from_false, ne_eqb}
 use Rattle.std.proofs.lemmas.List.{nil_from_length}
 use Rattle.std.proofs.lemmas.List.Sums.{sum_by-cons}
 use Rattle.std.proofs.lemmas.Fmt.{decimal_nonempty}
 use Rattle.text_rules.specs.Numbers.{is_digit}
-use Rattle.text_rules.specs.TextLines.{is_line}
 use Rattle.text_rules.specs.Tokens.{is_neat}
 use Rattle.text_rules.specs.inner.WordBytes.{is_word_byte}
-use Rattle.text_rules.proofs.TokenLemmas.{is_word}
 use Rattle.text_rules.proofs.PartLemmas.{passes_too}
 use Rattle.text_rules.proofs.NumberLemmas.{decimal_digits, number_in-decimal}
 use Rattle.text_rules.proofs.SpacedLines.{is_line_word, is_word_line, words_of_lines, lines_are_neat}
 use Rattle.state_rules.specs.declared.nodes.NodeKind.{NodeKind}
-use Rattle.state_rules.specs.declared.nodes.NodeKind.TheVariants.{Literal, And, Or}
+use Rattle.state_rules.specs.declared.nodes.NodeKind.TheVariants.{Literal, And}
 use Rattle.state_rules.specs.Graphs.{Node, Graph, kind_fits, node_fits, nodes_fit, IsGraph, edges}
 use Rattle.state_rules.specs.declared.nodes.TheConstants.{CHILD_LIMIT}
 use Rattle.state_rules.proofs.NodeValues.{are_below}
 use Rattle.state_rules.proofs.NodesFit.{Fits, fits}
-use Rattle.nnf_text.specs.GraphTexts.{small_number, great_number, numbers, number_before, literal_of, literal_with, counted, node_of, node_fault, line_fault, fault_at, node_at_line, has_words, filled_lines, header_of, header_from, differs, Refusal, Parsed, read_unless, parsed_below, parsed_lines, parsed}
+use Rattle.nnf_text.specs.GraphTexts.{small_number, great_number, numbers, literal_of, literal_with, counted, node_of, node_fault, line_fault, node_at_line, has_words, filled_lines, header_of, differs, Refusal, Parsed, read_unless, parsed}
 use Rattle.nnf_text.specs.WrittenGraphs.{literal_word, kid_words, kind_words, node_words, header_words, graph_text}
 
 -- ---- numbers

@@ -1,7 +1,7 @@
 -- What was distilled last, and what it says of the graph.
 use Rattle.std.proofs.Common.{◌≡◌, ℕ, Bool, true, false, List, Option, Some, None, [], ◌∷◌, length, refl, sym, subst, arith}
 use Rattle.std.specs.Prelude.{is_some, IsSomeAnd, IfSome}
-use Rattle.state_rules.specs.Ranking.{cost, least}
+use Rattle.state_rules.specs.Ranking.{least}
 use Rattle.state_rules.specs.Graphs.{Graph}
 use Rattle.conditioner.specs.Models.{models, least_under}
 use Rattle.diagnosis_lister.specs.Listing.{step_of}

@@ -18,14 +18,14 @@ use Rattle.state_rules.proofs.NodeValues.{are_below, value_of-last, are_below-fr
 use Rattle.state_rules.proofs.NodesFit.{fits-get, apart-get, literal, AreNodes-push}
 use Rattle.node_store.proofs.Copying.{take-more, edges-push}
 use Rattle.conditioner.specs.Models.{total_cost}
-use Rattle.minimiser.specs.Costs.{part_cost, known_at, sum_costs, cheapest}
+use Rattle.minimiser.specs.Costs.{part_cost, known_at, sum_costs, cheapest, least_at}
 use Rattle.minimiser.specs.Stored.{AreLeastCosts}
 use Rattle.minimiser.specs.inner.Swept.{is_kid}
 use Rattle.minimiser.proofs.Costs.{from_add, and_left, and_right}
 use Rattle.minimiser.proofs.Models.{LeastIs}
 use Rattle.minimiser.proofs.Sums.{cost_in-some}
 use Rattle.minimiser.proofs.Derivations.{is_cost, mention-at, costs-at, below, all-below, cheapest-kid, sum-kid}
-use Rattle.minimiser.proofs.Valued.{node_least, value-is, cost_in-is}
+use Rattle.minimiser.proofs.Valued.{value-is, cost_in-is}
 use Rattle.minimiser.proofs.Sweeping.{kid-in, kid-out, kid_before, root-low}
 use Rattle.fault_graph.specs.Small.{HasParent, Joins}
 use Rattle.fault_graph.specs.inner.Marks.{HasMarkedParent, AreMarks}
@@ -59,20 +59,13 @@ row-below keep place own kids h =
     are_below-from own row (λ i d lt. let x = row-source keep place kids (get_or row i d) (In-at row i d lt) in subst (λ k. k < own) x.3 (h x.0 x.1 x.2))
 
 row-kind : (vars : ℕ) (values places : List ℕ) (cost : ℕ) (what : NodeKind) (kids : List ℕ) → kind_fits vars what kids ≡ true → kind_fits vars what (kept_kids values places cost kids) ≡ true
-row-kind vars values places cost (Literal positive var) kids fit =
-    let alone : kids ≡ [] = (literal vars var positive kids fit).alone in
-    subst (λ ks. kind_fits vars (Literal positive var) (kept_kids values places cost ks) ≡ true) (sym alone) (subst (λ ks. kind_fits vars (Literal positive var) ks ≡ true) alone fit)
-row-kind vars values places cost And kids fit = lt-ltb (length (kept_kids values places cost kids)) 4294967296 (omega (arith, row-le values places cost kids, ltb-true (length kids) 4294967296 fit))
-row-kind vars values places cost Or kids fit = lt-ltb (length (kept_kids values places cost kids)) 4294967296 (omega (arith, row-le values places cost kids, ltb-true (length kids) 4294967296 fit))
+row-kind vars values places cost what kids fit = grind (arith, row-le, ltb-true)
 
 keeps-out : (values : List ℕ) (cost j : ℕ) → keeps values cost j ≡ true → (0 < get_or values j 0) × (get_or values j 0 ≤ cost)
 keeps-out values cost j e = (ltb-true 0 (get_or values j 0) (and_left _ _ e), leb-true _ _ (and_right (nat_lt 0 (get_or values j 0)) _ e))
 
 keeps-not : (values : List ℕ) (cost j : ℕ) → keeps values cost j ≡ false → (get_or values j 0 ≡ 0) ⊎ (cost < get_or values j 0)
-keeps-not values cost j e = ⊎_elim
-    (λ (p : 0 < get_or values j 0). ⊎_elim (λ q. inr q) (λ (q : get_or values j 0 ≤ cost). absurd (false≢true (sym e ∙ and_from _ _ (lt-ltb 0 (get_or values j 0) p) (le-leb _ _ q)))) (cases_lt cost (get_or values j 0)))
-    (λ (p : get_or values j 0 ≤ 0). inl (omega arith))
-    (cases_lt 0 (get_or values j 0))
+keeps-not values cost j e = grind (arith, and_from, lt-ltb, le-leb, cases_lt)
 
 -- ---- the nodes so far
 
@@ -83,7 +76,7 @@ module _ (graph : Graph) (words costs : List ℕ) where
     pub few : length nodes ≤ at
     pub few_edges : edges nodes ≤ edges (take at graph.nodes)
     pub ahead : (k : ℕ) → at ≤ k → get_or places k 0 ≡ get_or marks k 0
-    pub built : (k c : ℕ) → k < at → get_or marks k 0 ≡ 1 → node_least graph words costs k ≡ Some c → 0 < c → IsPlace graph words costs nodes k c (get_or places k 0)
+    pub built : (k c : ℕ) → k < at → get_or marks k 0 ≡ 1 → least_at graph words costs k ≡ Some c → 0 < c → IsPlace graph words costs nodes k c (get_or places k 0)
     pub from : AreFrom graph words costs nodes
     pub joins : AllJoin nodes
     pub needed : (p : ℕ) → p < length nodes → IsNeeded graph values marks places nodes at p
@@ -100,10 +93,10 @@ module _ (graph : Graph) (words costs : List ℕ) (ok : IsGraph graph) (long : l
   abbrev root : ℕ
   root = length graph.nodes - 1
 
-  marked-cost : (k : ℕ) → k < length graph.nodes → get_or marks k 0 ≡ 1 → node_least graph words costs k ≡ Some (get_or values k 0)
+  marked-cost : (k : ℕ) → k < length graph.nodes → get_or marks k 0 ≡ 1 → least_at graph words costs k ≡ Some (get_or values k 0)
   marked-cost k h e = sym (value-is graph words costs values v k h) ∙ cost_in-some (get_or values k 0) (λ z. absurd (omega (arith, z, m.low k h e, root-low graph words costs ok long within total most least_most values v)))
 
-  cost-value : (k c : ℕ) → k < length graph.nodes → node_least graph words costs k ≡ Some c → get_or values k 0 ≡ c
+  cost-value : (k c : ℕ) → k < length graph.nodes → least_at graph words costs k ≡ Some c → get_or values k 0 ≡ c
   cost-value k c h e = cost_in-is (get_or values k 0) c (value-is graph words costs values v k h ∙ e)
 
   -- a node that is passed over
@@ -159,7 +152,7 @@ module _ (graph : Graph) (words costs : List ℕ) (ok : IsGraph graph) (long : l
     costly : get_or values at 0 ≢ 0
     costly z = omega (arith, z, m.dear at lt node-mark)
 
-    cost-is : node_least graph words costs at ≡ Some c
+    cost-is : least_at graph words costs at ≡ Some c
     cost-is = marked-cost at lt node-mark
 
     earlier : (j : ℕ) → In j kids → j < at
@@ -176,9 +169,7 @@ module _ (graph : Graph) (words costs : List ℕ) (ok : IsGraph graph) (long : l
 
     kids-stand : KidsStand graph words costs ok keep place (λ p a. is_true nodes p a) kids c
     kids-stand = record {
-      stay = λ j i k.
-          let p = keeps-out values c j k in
-          record { cost = get_or values j 0; is = marked-cost j (omega (arith, earlier j i)) (kid-mark j i p.0 p.1); cheap = p.1; stands = (kid-place j i k).stands };
+      stay = grind (arith, marked-cost, earlier, kid-mark, kid-place);
       rest = λ j d i k f.
           let same = cost-value j d (omega (arith, earlier j i)) f in
           subst (λ x. (x ≡ 0) ⊎ (c < x)) same (keeps-not values c j k);
@@ -249,8 +240,8 @@ module _ (graph : Graph) (words costs : List ℕ) (ok : IsGraph graph) (long : l
         let x = row-source keep place kids q i in
         let p = keeps-out values c x.0 x.2 in
         let is_cost = marked-cost x.0 (omega (arith, earlier x.0 x.1)) (kid-mark x.0 x.1 p.0 p.1) in
-        let least : cheapest (map (node_least graph words costs) kids) ≡ Some c = sym (costs-at graph words costs ok at _ (e ∙ ap (λ (w : NodeKind). Some (record { what = w; kids = kids })) o)) ∙ cost-is in
-        let high : c ≤ get_or values x.0 0 = subst (λ d. AtMost d (get_or values x.0 0)) least (cheapest-kid (node_least graph words costs) kids x.0 (get_or values x.0 0) x.1 is_cost) in
+        let least : cheapest (map (least_at graph words costs) kids) ≡ Some c = sym (costs-at graph words costs ok at _ (e ∙ ap (λ (w : NodeKind). Some (record { what = w; kids = kids })) o)) ∙ cost-is in
+        let high : c ≤ get_or values x.0 0 = subst (λ d. AtMost d (get_or values x.0 0)) least (cheapest-kid (least_at graph words costs) kids x.0 (get_or values x.0 0) x.1 is_cost) in
         let same : get_or values x.0 0 ≡ c = omega (arith, high, p.1) in
         subst (λ d. IsFrom graph words costs nodes d q) same
         (subst (λ r. IsFrom graph words costs nodes (get_or values x.0 0) r) x.3 (record { node = x.0; dear = p.0; is = is_cost; place = kid-place x.0 x.1 x.2 }))
@@ -266,10 +257,10 @@ module _ (graph : Graph) (words costs : List ℕ) (ok : IsGraph graph) (long : l
 
       no-and : what ≡ And → row ≡ [] → ⊥
       no-and o none =
-          let sum : sum_costs (map (node_least graph words costs) kids) ≡ Some c = sym (costs-at graph words costs ok at _ (e ∙ ap (λ (w : NodeKind). Some (record { what = w; kids = kids })) o)) ∙ cost-is in
-          costly (free-sum (node_least graph words costs) kids c sum
+          let sum : sum_costs (map (least_at graph words costs) kids) ≡ Some c = sym (costs-at graph words costs ok at _ (e ∙ ap (λ (w : NodeKind). Some (record { what = w; kids = kids })) o)) ∙ cost-is in
+          costly (free-sum (least_at graph words costs) kids c sum
           (λ j d i f.
-          let most = sum-kid (node_least graph words costs) kids c j sum i in
+          let most = sum-kid (least_at graph words costs) kids c j sum i in
           let same : get_or values j 0 ≡ d = cost-value j d (omega (arith, earlier j i)) f in
           ⊎_elim (λ (z : get_or values j 0 ≡ 0). omega (arith, z, same)) (λ (q : c < get_or values j 0). absurd (omega (arith, q, same, most.2, same_Some most.0 d (sym most.1 ∙ f)))) (keeps-not values c j (out none j i))))
 
@@ -288,9 +279,7 @@ module _ (graph : Graph) (words costs : List ℕ) (ok : IsGraph graph) (long : l
 
     -- what waits for this node is in its row
     in-row : (q : ℕ) (w : Waits graph values marks places at q) → w.parent ≡ at → In q row
-    in-row q w s =
-        let kid : In w.kid kids = subst (λ (n : Node). In w.kid n.kids) (get_or_from_slice_get graph.nodes at _ true_node e) (subst (λ n. In w.kid (node_at graph.nodes n).kids) s w.is_kid) in
-        subst (λ x. In x row) w.there (In-map place w.kid (filter keep kids) (In-filtered keep w.kid kids kid (subst (λ n. keeps values (get_or values n 0) w.kid ≡ true) s w.stays)))
+    in-row q w s = grind (arith, get_or_from_slice_get, graph.nodes, w.there, In-map, In-filtered)
 
     -- what waits for another goes on
     carry : (new : List Node) (p q : ℕ) → Waits graph values marks places at q → (In q row → IsNeeded graph values marks (set places at p) new (at + 1) q) → IsNeeded graph values marks (set places at p) new (at + 1) q
@@ -320,23 +309,10 @@ module _ (graph : Graph) (words costs : List ℕ) (ok : IsGraph graph) (long : l
         (m.up at lt node-mark)
 
     needed-pushed : at < root → at < length places → (q : ℕ) → q < length (nodes ++ record { what = what; kids = row } ∷ []) → IsNeeded graph values marks (set places at (length nodes)) (nodes ++ record { what = what; kids = row } ∷ []) (at + 1) q
-    needed-pushed early room q h = ⊎_elim
-        (λ (s : q ≡ length nodes). inr (subst (Waits graph values marks (set places at (length nodes)) (at + 1)) (sym s) (waits (length nodes) early room)))
-        (λ (ne : q ≢ length nodes). by_need (is.needed q (omega (arith, ne, h, length-append nodes (record { what = what; kids = row } ∷ [])))))
-        (cases_eq q (length nodes)) where
-          by_need : IsNeeded graph values marks places nodes at q → IsNeeded graph values marks (set places at (length nodes)) (nodes ++ record { what = what; kids = row } ∷ []) (at + 1) q
-          by_need (inl x) = inl (parent-more nodes (record { what = what; kids = row }) q x)
-          by_need (inr w) = carry (nodes ++ record { what = what; kids = row } ∷ []) (length nodes) q w (λ i. inl (parent-last nodes (record { what = what; kids = row }) q i))
+    needed-pushed early room q h = grind (arith, waits, length-append, cases_eq, parent-more, carry, parent-last)
 
     needed-only : (p : ℕ) → row ≡ p ∷ [] → at < root → at < length places → (q : ℕ) → q < length nodes → IsNeeded graph values marks (set places at p) nodes (at + 1) q
-    needed-only p one early room q h = by_need (is.needed q h) where
-      same : In q (p ∷ []) → q ≡ p
-      same (inl s) = s
-      same (inr n) = absurd n
-
-      by_need : IsNeeded graph values marks places nodes at q → IsNeeded graph values marks (set places at p) nodes (at + 1) q
-      by_need (inl x) = inl x
-      by_need (inr w) = carry nodes p q w (λ i. inr (subst (Waits graph values marks (set places at p) (at + 1)) (sym (same (subst (In q) one i))) (waits p early room)))
+    needed-only p one early room q h = grind (arith, carry, waits)
 
     -- where the node is the last of the graph, all that is there is needed
     pub all-needed : length graph.nodes ≤ at + 1 → (q : ℕ) → q < length nodes → HasParent (nodes ++ record { what = what; kids = row } ∷ []) q
@@ -356,7 +332,7 @@ module _ (graph : Graph) (words costs : List ℕ) (ok : IsGraph graph) (long : l
       ahead = λ k h. let ne : k ≢ at = omega arith in (rw get_or-set_other refl) ∙ is.ahead k (omega arith);
       built = λ k d h f g dear. ⊎_elim
           (λ (q : k ≡ at).
-          let same : c ≡ d = same_Some c d (sym cost-is ∙ ap (λ x. node_least graph words costs x) (sym q) ∙ g) in
+          let same : c ≡ d = same_Some c d (sym cost-is ∙ ap (λ x. least_at graph words costs x) (sym q) ∙ g) in
           let at_place : get_or (set places at p) k 0 ≡ p = ap (λ n. get_or (set places at p) n 0) q ∙ (rw get_or-set_same refl) in
           subst (λ x. IsPlace graph words costs new k d x) (sym at_place) (subst (λ x. IsPlace graph words costs new k x p) same (subst (λ n. IsPlace graph words costs new n c p) (sym q) here)))
           (λ (q : k ≢ at). subst (λ x. IsPlace graph words costs new k d x) (sym (rw get_or-set_other refl)) (more k d (get_or places k 0) (is.built k d (omega arith) f g dear)))

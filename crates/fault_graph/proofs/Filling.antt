@@ -1,5 +1,5 @@
 -- Nodes as they are added in memory that was taken before.
-use Rattle.std.proofs.Common.{◌≡◌, ℕ, List, [], ◌∷◌, ◌++◌, length, ap, sym, ◌∙◌}
+use Rattle.std.proofs.Common.{◌≡◌, ℕ, List, [], ◌∷◌, ◌++◌, length, ap, ◌∙◌, arith}
 use Rattle.state_rules.specs.declared.nodes.NodeKind.{NodeKind}
 use Rattle.state_rules.specs.Graphs.{Node, edges}
 use Rattle.flat_lists.specs.Flat.{pieces, EndAt}
@@ -20,8 +20,4 @@ filled kinds kinds_new ends ends_new kids kids_new row nodes what end k e r n sa
 -- how many nodes there are, and how many kids
 pub sizes : (kinds : List NodeKind) (ends kids : List ℕ) (nodes : List Node) → length ends ≡ length kinds → EndAt (length kids) 0 ends → nodes_of kinds (pieces kids 0 ends) ≡ nodes
     → (length nodes ≡ length kinds) × (edges nodes ≡ length kids)
-sizes kinds ends kids nodes same valid is =
-    let long = length-pieces kids 0 ends ∙ same in (
-      sym (ap length is) ∙ length-nodes_of kinds (pieces kids 0 ends) long,
-      sym (ap edges is) ∙ edges-nodes_of kinds (pieces kids 0 ends) long ∙ sum-all kids ends valid,
-    )
+sizes kinds ends kids nodes same valid is = grind (arith, length-pieces, length-nodes_of, edges-nodes_of, sum-all)

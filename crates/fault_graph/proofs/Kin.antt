@@ -1,5 +1,5 @@
 -- What stands for a node, by what stands for its kids.
-use Rattle.std.proofs.Common.{◌≡◌, ℕ, ◌+◌, ◌<◌, ◌≤◌, Bool, true, false, cond, ◌&&◌, List, [], ◌∷◌, map, length, Option, Some, None, refl, ap, sym, ◌∙◌, subst, arith, inl, inr, ⊎_elim}
+use Rattle.std.proofs.Common.{◌≡◌, ℕ, ◌+◌, ◌<◌, ◌≤◌, Bool, true, false, cond, ◌&&◌, List, [], ◌∷◌, map, length, Option, Some, refl, ap, sym, ◌∙◌, subst, arith, inl, inr, ⊎_elim}
 use Rattle.std.specs.Prelude.{◌⊎◌, not, slice_get}
 use Rattle.std.specs.List.{list_all, list_any, filter}
 use Rattle.std.proofs.lemmas.Bool.{false≢true, and_from, or_cases, or_left, or_right}
@@ -12,10 +12,10 @@ use Rattle.state_rules.specs.declared.nodes.NodeKind.TheVariants.{Literal, And, 
 use Rattle.state_rules.specs.Graphs.{at_most_one, Graph, truth_by, is_true, mentions, IsGraph}
 use Rattle.state_rules.proofs.Kids.{at_most_one-tail, not_both}
 use Rattle.conditioner.specs.Words.{leaf_of}
-use Rattle.minimiser.specs.Costs.{part_cost, known_at, sum_costs, literal_cost}
+use Rattle.minimiser.specs.Costs.{part_cost, known_at, sum_costs, literal_cost, least_at}
 use Rattle.minimiser.proofs.Costs.{IsCost, as_cost, from_add, true_is}
 use Rattle.minimiser.proofs.Whole.{part_cost-none}
-use Rattle.minimiser.proofs.Derivations.{C, is_cost, true-at, mention-at, costs-at, apart-kids, kids-cost, Apart, apart-tail, apart-both, cheapest-kid, sum-kid}
+use Rattle.minimiser.proofs.Derivations.{is_cost, true-at, mention-at, costs-at, apart-kids, kids-cost, Apart, apart-tail, apart-both, cheapest-kid, sum-kid}
 use Rattle.fault_graph.proofs.Standing.{StandsFor, StandsFor-same, stands-free, stands-literal, stands-never, stands-or, stands-other, stands-and}
 
 -- ---- the variables of the kids that stay
@@ -26,11 +26,7 @@ module _ (keep : ℕ → Bool) (place : ℕ → ℕ) (small large : ℕ → Bool
 
   pub narrower-any : (kids : List ℕ) → Narrower kids → list_any (λ b. b) (map small (map place (filter keep kids))) ≡ true → list_any (λ b. b) (map large kids) ≡ true
   narrower-any [] h e = e
-  narrower-any (j ∷ kids) h e = by_keep (narrower-any kids (λ i m. h i (inr m))) (keep j) refl e where
-    by_keep : (list_any (λ b. b) (map small (map place (filter keep kids))) ≡ true → list_any (λ b. b) (map large kids) ≡ true)
-        → (b : Bool) → keep j ≡ b → list_any (λ b. b) (map small (map place (cond b (j ∷ filter keep kids) (filter keep kids)))) ≡ true → list_any (λ b. b) (map large (j ∷ kids)) ≡ true
-    by_keep more true k q = ⊎_elim (λ p. or_left _ _ (h j (inl refl) k p)) (λ p. or_right _ _ (more p)) (or_cases (small (place j)) _ q)
-    by_keep more false k q = or_right _ _ (more q)
+  narrower-any (j ∷ kids) h e = grind (arith, keep, small, place, large, or_left, or_right, or_cases, narrower-any kids)
 
   pub narrower-apart : (kids : List ℕ) → Narrower kids → at_most_one (map large kids) ≡ true → at_most_one (map small (map place (filter keep kids))) ≡ true
   narrower-apart [] h e = refl
@@ -71,30 +67,30 @@ module _ (graph : Graph) (words costs : List ℕ) (ok : IsGraph graph) (keep : �
   -- a kid that stays costs no more, and has what stands for it
   pub record Stays (c j : ℕ) : Type 0 where
     pub cost : ℕ
-    pub is : C graph words costs ok j ≡ Some cost
+    pub is : least_at graph words costs j ≡ Some cost
     pub cheap : cost ≤ c
     pub stands : StandsAt j cost (U (place j))
 
   pub record KidsStand (kids : List ℕ) (c : ℕ) : Type 0 where
     pub stay : (j : ℕ) → In j kids → keep j ≡ true → Stays c j
-    pub rest : (j d : ℕ) → In j kids → keep j ≡ false → C graph words costs ok j ≡ Some d → (d ≡ 0) ⊎ (c < d)
+    pub rest : (j d : ℕ) → In j kids → keep j ≡ false → least_at graph words costs j ≡ Some d → (d ≡ 0) ⊎ (c < d)
 
   tail : (j c : ℕ) (kids : List ℕ) → KidsStand (j ∷ kids) c → KidsStand kids c
   tail j c kids h = record { stay = λ i m. h.stay i (inr m); rest = λ i d m. h.rest i d (inr m) }
 
-  costs-of : (j d : ℕ) → C graph words costs ok j ≡ Some d → IsCost kn price n (λ a. T a j) (λ v. M v j) (Some d)
+  costs-of : (j d : ℕ) → least_at graph words costs j ≡ Some d → IsCost kn price n (λ a. T a j) (λ v. M v j) (Some d)
   costs-of j d e = subst (λ o. IsCost kn price n (λ a. T a j) (λ v. M v j) o) e (is_cost graph words costs ok j)
 
   -- each kid of an and costs no more than it
-  ands : (kids : List ℕ) (c : ℕ) → Apart graph words costs ok kids → KidsStand kids c → ((j d : ℕ) → In j kids → C graph words costs ok j ≡ Some d → d ≤ c) → (s : ℕ) → sum_costs (map (C graph words costs ok) kids) ≡ Some s
+  ands : (kids : List ℕ) (c : ℕ) → Apart graph words costs ok kids → KidsStand kids c → ((j d : ℕ) → In j kids → least_at graph words costs j ≡ Some d → d ≤ c) → (s : ℕ) → sum_costs (map (least_at graph words costs) kids) ≡ Some s
       → StandsFor kn price n (λ a. list_all (λ b. b) (map (T a) kids)) (λ v. list_any (λ b. b) (map (M v) kids)) s (λ a. list_all (λ b. b) (map (λ p. U p a) (map place (filter keep kids))))
   ands [] c apart h low s e = subst (λ m. StandsFor kn price n (λ a. true) (λ v. false) m (λ a. true)) (same_Some 0 s e) (stands-free kn price n (part_cost-none costs) (λ a. true) (λ v. false) (as_cost kn price n _ _ _ (true_is kn price n)))
   ands (j ∷ kids) c apart h low s e =
-      let sum = from_add (C graph words costs ok j) (sum_costs (map (C graph words costs ok) kids)) s e in
+      let sum = from_add (least_at graph words costs j) (sum_costs (map (least_at graph words costs) kids)) s e in
       let later = apart-tail graph words costs ok j kids apart in
       let more = ands kids c later (tail j c kids h) (λ i d m. low i d (inr m)) sum.right sum.right_is in
       by_keep sum.left sum.right sum.left_is sum.right_is sum.sum_is more (keep j) refl where
-        by_keep : (l r : ℕ) → C graph words costs ok j ≡ Some l → sum_costs (map (C graph words costs ok) kids) ≡ Some r → l + r ≡ s
+        by_keep : (l r : ℕ) → least_at graph words costs j ≡ Some l → sum_costs (map (least_at graph words costs) kids) ≡ Some r → l + r ≡ s
             → StandsFor kn price n (λ a. list_all (λ b. b) (map (T a) kids)) (λ v. list_any (λ b. b) (map (M v) kids)) r (λ a. list_all (λ b. b) (map (λ p. U p a) (map place (filter keep kids))))
             → (b : Bool) → keep j ≡ b
             → StandsFor kn price n (λ a. list_all (λ b. b) (map (T a) (j ∷ kids))) (λ v. list_any (λ b. b) (map (M v) (j ∷ kids))) s (λ a. list_all (λ b. b) (map (λ p. U p a) (map place (cond b (j ∷ filter keep kids) (filter keep kids)))))
@@ -113,7 +109,7 @@ module _ (graph : Graph) (words costs : List ℕ) (ok : IsGraph graph) (keep : �
             (subst (λ m. StandsAt j m (λ a. true)) (sym free) (stands-free kn price n (part_cost-none costs) (λ a. T a j) (λ v. M v j) (costs-of j 0 (el ∙ ap Some free)))) more)
 
   -- each kid of an or costs at least as much as it
-  ors : (kids : List ℕ) (c : ℕ) → 0 < c → KidsStand kids c → ((j d : ℕ) → In j kids → C graph words costs ok j ≡ Some d → c ≤ d)
+  ors : (kids : List ℕ) (c : ℕ) → 0 < c → KidsStand kids c → ((j d : ℕ) → In j kids → least_at graph words costs j ≡ Some d → c ≤ d)
       → StandsFor kn price n (λ a. list_any (λ b. b) (map (T a) kids)) (λ v. list_any (λ b. b) (map (M v) kids)) c (λ a. list_any (λ b. b) (map (λ p. U p a) (map place (filter keep kids))))
   ors [] c dear h high = stands-never kn price n c
   ors (j ∷ kids) c dear h high = by_keep (ors kids c dear (tail j c kids h) (λ i d m. high i d (inr m))) (keep j) refl where
@@ -125,20 +121,15 @@ module _ (graph : Graph) (words costs : List ℕ) (ok : IsGraph graph) (keep : �
         let same : x.cost ≡ c = omega (arith, x.cheap, high j x.cost (inl refl) x.is) in
         stands-or kn price n (λ a. T a j) (λ a. list_any (λ b. b) (map (T a) kids)) (λ v. M v j) (λ v. list_any (λ b. b) (map (M v) kids)) c (U (place j)) _ (subst (λ m. StandsAt j m (U (place j))) same x.stands) more
     by_keep more false k =
-        stands-other kn price n (λ a. T a j) (λ a. list_any (λ b. b) (map (T a) kids)) (λ v. M v j) (λ v. list_any (λ b. b) (map (M v) kids)) c (C graph words costs ok j) _ (is_cost graph words costs ok j)
+        stands-other kn price n (λ a. T a j) (λ a. list_any (λ b. b) (map (T a) kids)) (λ v. M v j) (λ v. list_any (λ b. b) (map (M v) kids)) c (least_at graph words costs j) _ (is_cost graph words costs ok j)
         (λ d e. ⊎_elim (λ z. absurd (omega (arith, z, dear, high j d (inl refl) e))) (λ q. q) (h.rest j d (inl refl) k e)) more
 
   -- a literal that costs something says that an open part is faulty
   says : (k : Option Bool) (w c : ℕ) (positive : Bool) → literal_cost (leaf_of positive k) w positive ≡ Some c → 0 < c → (positive ≡ false) × (w ≡ c)
-  says None w c true e dear = absurd (let z : 0 ≡ c = same_Some 0 c e in omega arith)
-  says None w c false e dear = (refl, same_Some w c e)
-  says (Some true) w c true e dear = absurd (let z : 0 ≡ c = same_Some 0 c e in omega arith)
-  says (Some false) w c true e dear = absurd (cc)
-  says (Some true) w c false e dear = absurd (cc)
-  says (Some false) w c false e dear = absurd (let z : 0 ≡ c = same_Some 0 c e in omega arith)
+  says k w c positive e dear = grind arith
 
   -- What costs something has the same kind over the kids that stay standing for it.
-  pub node-stands : (k c : ℕ) (what : NodeKind) (kids : List ℕ) → slice_get graph.nodes k ≡ Some (record { what = what; kids = kids }) → C graph words costs ok k ≡ Some c → 0 < c → KidsStand kids c
+  pub node-stands : (k c : ℕ) (what : NodeKind) (kids : List ℕ) → slice_get graph.nodes k ≡ Some (record { what = what; kids = kids }) → least_at graph words costs k ≡ Some c → 0 < c → KidsStand kids c
       → StandsAt k c (λ a. truth_by a what (map (λ p. U p a) (map place (filter keep kids))))
   unfolding Apart
   node-stands k c (Literal positive var) kids e is dear h =
@@ -147,8 +138,8 @@ module _ (graph : Graph) (words costs : List ℕ) (ok : IsGraph graph) (keep : �
   node-stands k c And kids e is dear h =
       let sum = sym (costs-at graph words costs ok k _ e) ∙ is in
       StandsFor-same kn price n (λ a. true-at graph words costs ok k _ e a) (λ v. mention-at graph words costs ok k _ e v) refl (λ a. refl)
-      (ands kids c (apart-kids graph words costs ok k kids e) h (λ j d m f. let x = sum-kid (C graph words costs ok) kids c j sum m in omega (arith, x.2, same_Some x.0 d (sym x.1 ∙ f))) c sum)
+      (ands kids c (apart-kids graph words costs ok k kids e) h (λ j d m f. let x = sum-kid (least_at graph words costs) kids c j sum m in omega (arith, x.2, same_Some x.0 d (sym x.1 ∙ f))) c sum)
   node-stands k c Or kids e is dear h =
       let least = sym (costs-at graph words costs ok k _ e) ∙ is in
       StandsFor-same kn price n (λ a. true-at graph words costs ok k _ e a) (λ v. mention-at graph words costs ok k _ e v) refl (λ a. refl)
-      (ors kids c dear h (λ j d m f. subst (λ o. AtMost o d) least (cheapest-kid (C graph words costs ok) kids j d m f)))
+      (ors kids c dear h (λ j d m f. subst (λ o. AtMost o d) least (cheapest-kid (least_at graph words costs) kids j d m f)))

@@ -1,5 +1,5 @@
 -- A graph whose root stands for that of another has the same least cost and the same diagnoses.
-use Rattle.std.proofs.Common.{◌≡◌, ◌≢◌, ℕ, zero, suc, ◌+◌, ◌-◌, ◌<◌, ◌≤◌, Bool, true, false, ◌&&◌, List, length, All, Option, Some, None, refl, ap, sym, ◌∙◌, subst, arith, ⊎_elim}
+use Rattle.std.proofs.Common.{◌≡◌, ℕ, zero, suc, ◌+◌, ◌-◌, ◌<◌, ◌≤◌, Bool, true, false, ◌&&◌, List, length, All, Option, Some, ap, sym, ◌∙◌, subst, arith}
 use Rattle.std.specs.Prelude.{nat_le}
 use Rattle.std.specs.List.{filter}
 use Rattle.std.proofs.lemmas.Bool.{and_from, leb-true, cases_eq}
@@ -11,13 +11,12 @@ use Rattle.state_rules.proofs.Lists.{filter-filter}
 use Rattle.state_rules.proofs.Members.{bits_length, filter_same}
 use Rattle.state_rules.specs.Graphs.{Graph, is_true, mentions, IsGraph}
 use Rattle.conditioner.specs.Models.{has_model, fits_words, models, least_under, diagnoses_under}
-use Rattle.minimiser.specs.Costs.{part_cost, known_at}
+use Rattle.minimiser.specs.Costs.{part_cost, known_at, least_at}
 use Rattle.minimiser.specs.inner.Held.{held_cost}
 use Rattle.node_costs.specs.Costs.{total}
 use Rattle.node_costs.proofs.Totals.{total-le}
 use Rattle.minimiser.proofs.Costs.{fault, all_faults, and_left, and_right}
 use Rattle.minimiser.proofs.Whole.{AddHeld, least_is, state_of, assignment_of}
-use Rattle.minimiser.proofs.Derivations.{C}
 use Rattle.fault_graph.proofs.Standing.{StandsFor}
 use Rattle.fault_graph.proofs.Placing.{high, over, place-cost}
 
@@ -26,21 +25,11 @@ use Rattle.fault_graph.proofs.Placing.{high, over, place-cost}
 -- numbers that are no greater and not less together are the same
 total-same : (f g : ℕ → ℕ) → ((v : ℕ) → f v ≤ g v) → (a n : ℕ) → total g a n ≤ total f a n → (v : ℕ) → a ≤ v → v < a + n → g v ≤ f v
 total-same f g h a zero few v low high = absurd (omega arith)
-total-same f g h a (suc n) few v low high = ⊎_elim
-    (λ (e : v ≡ a). subst (λ u. g u ≤ f u) (sym e) (omega (arith, few, total-le f g h (a + 1) n)))
-    (λ (ne : v ≢ a). total-same f g h (a + 1) n (omega (arith, few, h a)) v (omega arith) (omega arith))
-    (cases_eq v a)
+total-same f g h a (suc n) few v low high = grind (arith, f, total-le, h, cases_eq, total-same f g h (a + 1) n)
 
 -- bits that agree with what is known, and have the same fault where a fault costs something, are the same
 same_fault : (k : Option Bool) (w : ℕ) (x y : Bool) → 0 < w → agrees_at k x ≡ true → agrees_at k y ≡ true → fault k w x ≤ fault k w y → fault k w y ≤ fault k w x → x ≡ y
-same_fault None w true true dear p q h g = refl
-same_fault None w true false dear p q h g = absurd (omega arith)
-same_fault None w false true dear p q h g = absurd (omega arith)
-same_fault None w false false dear p q h g = refl
-same_fault (Some true) w x y dear p q h g = cc
-same_fault (Some false) w true y dear p q h g = absurd (cc)
-same_fault (Some false) w false true dear p q h g = absurd (cc)
-same_fault (Some false) w false false dear p q h g = refl
+same_fault k w x y dear p q h g = grind arith
 
 -- ---- what passes two tests
 
@@ -60,7 +49,7 @@ diagnoses-same costs n most p q to from =
 -- ---- the law
 
 module _ (graph small : Graph) (words costs : List ℕ) (ok : IsGraph graph) (sound : IsGraph small) (vars : small.vars ≡ graph.vars) (long : length words ≡ graph.vars) (within : length costs ≤ graph.vars)
-    (dear : All (λ c. 0 < c) costs) (c : ℕ) (is : C graph words costs ok (length graph.nodes - 1) ≡ Some c)
+    (dear : All (λ c. 0 < c) costs) (c : ℕ) (is : least_at graph words costs (length graph.nodes - 1) ≡ Some c)
     (stands : StandsFor (known_at words) (part_cost costs) (length costs) (λ a. is_true graph.nodes (length graph.nodes - 1) a) (λ v. mentions graph.nodes v (length graph.nodes - 1)) c (λ a. is_true small.nodes (length small.nodes - 1) a)) where
   abbrev kn : ℕ → Option Bool
   kn v = known_at words v

@@ -7,8 +7,7 @@ use Rattle.state_rules.proofs.Members.{In}
 use Rattle.state_rules.specs.declared.nodes.NodeKind.TheVariants.{Or}
 use Rattle.state_rules.specs.Graphs.{Node, Graph, true_node, node_at, truth_by, mention_by, is_true, mentions}
 use Rattle.state_rules.proofs.NodeValues.{value_of-before, node_at-last}
-use Rattle.minimiser.specs.Costs.{part_cost, known_at}
-use Rattle.minimiser.proofs.Valued.{node_least}
+use Rattle.minimiser.specs.Costs.{part_cost, known_at, least_at}
 use Rattle.fault_graph.specs.Small.{HasParent, Joins}
 use Rattle.fault_graph.specs.inner.Rows.{keeps}
 use Rattle.fault_graph.proofs.Standing.{StandsFor, StandsFor-same}
@@ -41,7 +40,7 @@ module _ (graph : Graph) (words costs : List ℕ) where
   pub record IsFrom (nodes : List Node) (c p : ℕ) : Type 0 where
     pub node : ℕ
     pub dear : 0 < c
-    pub is : node_least graph words costs node ≡ Some c
+    pub is : least_at graph words costs node ≡ Some c
     pub place : IsPlace nodes node c p
 
   pub from-more : (nodes : List Node) (node : Node) (c p : ℕ) → IsFrom nodes c p → IsFrom (nodes ++ node ∷ []) c p

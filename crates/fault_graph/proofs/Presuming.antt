@@ -1,5 +1,5 @@
 -- What is presumed of all parts, and what the first diagnosis says of it.
-use Rattle.std.proofs.Common.{◌≡◌, ℕ, zero, suc, ◌<◌, ◌≤◌, Bool, true, false, cond, List, [], ◌∷◌, length, get_or, Some, refl, ap, sym, ◌∙◌, subst, inl, inr}
+use Rattle.std.proofs.Common.{◌≡◌, ℕ, zero, suc, ◌<◌, ◌≤◌, Bool, true, false, cond, List, [], ◌∷◌, length, get_or, Some, refl, ap, sym, ◌∙◌, subst, inl, inr, arith}
 use Rattle.std.specs.Prelude.{◌↔◌, ◌==◌, slice_get}
 use Rattle.std.proofs.lemmas.Bool.{false≢true, eqb-true, eq-eqb, true_from_ne_false}
 use Rattle.state_rules.specs.Bits.{bit_in}
@@ -7,7 +7,7 @@ use Rattle.state_rules.proofs.Members.{In}
 use Rattle.state_rules.specs.Graphs.{Graph}
 use Rattle.conditioner.specs.Models.{diagnoses_under}
 use Rattle.minimiser.specs.LeastStates.{ModelWithin, Suspect}
-use Rattle.minimiser.proofs.Models.{Agree, Agree-bit, ModelWithin-agrees, LeastIs, least-some, least-passes, passes-least, diagnosis-in, diagnosis-out}
+use Rattle.minimiser.proofs.Models.{Agree, Agree-bit, ModelWithin-agrees, LeastIs, least-some, passes-least, diagnosis-in, diagnosis-out}
 use Rattle.probe_report.specs.declared.verdicts.Blame.{Blame}
 use Rattle.probe_report.specs.declared.verdicts.Blame.TheVariants.{Sometimes, Never}
 use Rattle.probe_report.specs.Verdicts.{blame_of}
@@ -49,7 +49,4 @@ module _ (graph : Graph) (words costs : List ℕ) (i most : ℕ) (lt : i < lengt
 
   -- a part that is ok or not open in some diagnosis needs no pass
   pub presumed-stays : (verdicts : List Blame) (h : List Bool) → ModelWithin graph words costs most h → (get_or words i 0 ≡ 0 → bit_in h i ≡ true) → IsPresumed graph words costs verdicts i → slice_get verdicts i ≡ Some (blame_of graph words costs i)
-  presumed-stays verdicts h p ok (inl f) = f
-  presumed-stays verdicts h p ok (inr s) =
-      let u = s.0 in
-      s.1 ∙ ap Some (some-differ graph words costs i most lt within e u.state h (least-passes graph words costs most u.state e u.is_least) p u.faulty (ok u.open_))
+  presumed-stays verdicts h p ok p4 = grind (arith, some-differ)

@@ -4,13 +4,13 @@ use Rattle.state_rules.specs.Graphs.{Node, Graph, true_node, is_true, mentions, 
 use Rattle.state_rules.proofs.NodeValues.{value_of-last}
 use Rattle.state_rules.proofs.NodesFit.{AreNodes-push}
 use Rattle.conditioner.specs.Models.{total_cost}
-use Rattle.minimiser.specs.Costs.{part_cost, known_at}
+use Rattle.minimiser.specs.Costs.{part_cost, known_at, least_at}
 use Rattle.minimiser.specs.Stored.{cost_in, AreLeastCosts}
 use Rattle.minimiser.proofs.Costs.{IsCost}
 use Rattle.minimiser.proofs.Whole.{part_cost-none}
 use Rattle.minimiser.proofs.Models.{LeastIs}
 use Rattle.minimiser.proofs.Derivations.{is_cost}
-use Rattle.minimiser.proofs.Valued.{node_least, value-is}
+use Rattle.minimiser.proofs.Valued.{value-is}
 use Rattle.fault_graph.specs.Distilled.{IsDistilled}
 use Rattle.fault_graph.specs.Small.{IsSmall}
 use Rattle.fault_graph.proofs.Standing.{StandsFor, StandsFor-same, stands-free}
@@ -31,7 +31,7 @@ module _ (graph : Graph) (words costs : List ℕ) (ok : IsGraph graph) (long : l
     pub small : IsSmall words costs (record { nodes = new; vars = graph.vars })
 
   pub whole : All (λ c. 0 < c) costs → (nodes : List Node) (node : Node) (c : ℕ) → AreNodes graph.vars (nodes ++ node ∷ []) → length nodes ≤ length graph.nodes - 1 → edges (nodes ++ node ∷ []) ≤ edges graph.nodes
-      → node_least graph words costs (length graph.nodes - 1) ≡ Some c
+      → least_at graph words costs (length graph.nodes - 1) ≡ Some c
       → StandsFor (known_at words) (part_cost costs) (length costs) (λ a. is_true graph.nodes (length graph.nodes - 1) a) (λ w. mentions graph.nodes w (length graph.nodes - 1)) c (λ a. is_true (nodes ++ node ∷ []) (length nodes) a)
       → (IsGraph (record { nodes = nodes ++ node ∷ []; vars = graph.vars }) → IsSmall words costs (record { nodes = nodes ++ node ∷ []; vars = graph.vars })) → IsWhole (nodes ++ node ∷ [])
   whole dears nodes node c are few few_edges is stands small =
@@ -55,7 +55,7 @@ module _ (graph : Graph) (words costs : List ℕ) (ok : IsGraph graph) (long : l
   pub free-root : total_cost costs < 2147483647 → (most : ℕ) → LeastIs graph costs words most → (values : List ℕ) → AreLeastCosts graph words costs values → All (λ c. 0 < c) costs → get_or values (length graph.nodes - 1) 0 ≡ 0
       → IsWhole (true_node ∷ [])
   free-root total most least_most values v dears z =
-      let free : node_least graph words costs root ≡ Some 0 = sym (value-is graph words costs values v root (omega (arith, ok.some))) ∙ ap cost_in z in
+      let free : least_at graph words costs root ≡ Some 0 = sym (value-is graph words costs values v root (omega (arith, ok.some))) ∙ ap cost_in z in
       whole dears [] true_node 0 (AreNodes-push graph.vars [] true_node (record { fit = refl; apart = λ w. tt }) refl (λ w. refl)) (omega arith) (omega arith) free
       (StandsFor-same (known_at words) (part_cost costs) (length costs) (λ a. refl) (λ w. refl) refl (λ a. value_of-last (truth_by a) [] true_node)
       (stands-free (known_at words) (part_cost costs) (length costs) (part_cost-none costs) (λ a. is_true graph.nodes root a) (λ w. mentions graph.nodes w root)

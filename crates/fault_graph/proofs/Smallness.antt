@@ -1,7 +1,6 @@
 -- A graph whose places are all needed, and all of nodes that cost something, is small.
-use Rattle.std.proofs.Common.{◌≡◌, ℕ, zero, suc, ◌+◌, ◌-◌, ◌<◌, ◌≤◌, Bool, true, false, List, [], ◌∷◌, map, length, get_or, Option, Some, refl, sym, ◌∙◌, subst, arith, ⊎_elim}
+use Rattle.std.proofs.Common.{◌≡◌, ℕ, zero, suc, ◌+◌, ◌-◌, ◌<◌, ◌≤◌, Bool, true, false, List, [], ◌∷◌, map, length, get_or, Option, Some, refl, sym, ◌∙◌, subst, arith}
 use Rattle.std.specs.Prelude.{IsSomeAnd}
-use Rattle.std.proofs.lemmas.Bool.{cases_lt}
 use Rattle.std.proofs.lemmas.List.{get_or_past}
 use Rattle.std.proofs.lemmas.Option.{slice_get-get_or, same_Some}
 use Rattle.state_rules.proofs.Members.{In-at}
@@ -9,19 +8,15 @@ use Rattle.state_rules.specs.declared.nodes.NodeKind.{NodeKind}
 use Rattle.state_rules.specs.declared.nodes.NodeKind.TheVariants.{Literal, And, Or}
 use Rattle.state_rules.specs.Graphs.{Graph, true_node, node_at, IsGraph}
 use Rattle.conditioner.specs.Words.{known_of, leaf_of}
-use Rattle.minimiser.specs.Costs.{part_cost, known_at, literal_cost, cost_by}
-use Rattle.minimiser.proofs.Derivations.{C, costs-at}
-use Rattle.fault_graph.specs.Small.{least_at, HasParent, SaysFaulty, Joins, IsSmall}
+use Rattle.minimiser.specs.Costs.{part_cost, known_at, literal_cost, cost_by, least_at}
+use Rattle.minimiser.proofs.Derivations.{costs-at}
+use Rattle.fault_graph.specs.Small.{HasParent, SaysFaulty, Joins, IsSmall}
 use Rattle.fault_graph.proofs.Placing.{place-cost}
 use Rattle.fault_graph.proofs.Places.{IsFrom, AreFrom}
 
 -- what costs something is a part
 paid : (costs : List ℕ) (var c : ℕ) → part_cost costs var ≡ c → 0 < c → var ≤ length costs
-paid costs zero c e dear = omega arith
-paid costs (suc i) c e dear = ⊎_elim
-    (λ (h : i < length costs). omega arith)
-    (λ (h : length costs ≤ i). absurd (omega (arith, dear, e, get_or_past costs i 0 h)))
-    (cases_lt i (length costs))
+paid costs var c e dear = grind (arith, get_or_past)
 
 -- a literal that costs something says that an open part is faulty
 says : (words costs : List ℕ) (var c : ℕ) (positive : Bool) → literal_cost (leaf_of positive (known_at words var)) (part_cost costs var) positive ≡ Some c → 0 < c
@@ -54,24 +49,11 @@ module _ (graph small : Graph) (words costs : List ℕ) (ok : IsGraph graph) (so
         let node = node_at small.nodes p in
         by_kind x.0 x.1.dear node.what node.kids (sym (costs-at small words costs sound p node (slice_get-get_or small.nodes p true_node h)) ∙ cost-is x.0 p x.1);
   } where
-    by_kind : (c : ℕ) → 0 < c → (what : NodeKind) (kids : List ℕ) → cost_by (known_at words) (part_cost costs) what (map (C small words costs sound) kids) ≡ Some c → SaysFaulty words (length costs) what
+    by_kind : (c : ℕ) → 0 < c → (what : NodeKind) (kids : List ℕ) → cost_by (known_at words) (part_cost costs) what (map (least_at small words costs) kids) ≡ Some c → SaysFaulty words (length costs) what
     by_kind c dear (Literal positive var) kids e = says words costs var c positive e dear
     by_kind c dear And kids e = tt
     by_kind c dear Or kids e = tt
 
 -- one true node
 pub small-true : (words costs : List ℕ) (vars : ℕ) → IsSmall words costs (record { nodes = true_node ∷ []; vars = vars })
-small-true words costs vars = record {
-  dear = λ p h. absurd (omega arith);
-  needed = λ p h. absurd (omega arith);
-  joins = λ p h. absurd (omega arith);
-  cheap = λ p h o. absurd (no_or p h o);
-  faulty = says_none;
-} where
-  no_or : (p : ℕ) → p < 1 → (node_at (true_node ∷ []) p).what ≡ Or → ⊥
-  no_or zero h o = cc
-  no_or (suc p) h o = omega arith
-
-  says_none : (p : ℕ) → p < 1 → SaysFaulty words (length costs) (node_at (true_node ∷ []) p).what
-  says_none zero h = tt
-  says_none (suc p) h = absurd (omega arith)
+small-true words costs vars = grind arith

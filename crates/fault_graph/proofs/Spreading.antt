@@ -1,29 +1,19 @@
 -- Marks that go down from the root.
-use Rattle.std.proofs.Common.{◌≡◌, ◌≢◌, ℕ, ◌+◌, ◌-◌, ◌<◌, ◌≤◌, Bool, true, false, cond, ◌&&◌, List, length, get_or, refl, sym, ◌∙◌, subst, arith, inl, inr, ⊎_elim}
-use Rattle.std.specs.Prelude.{◌⊎◌, nat_lt}
+use Rattle.std.proofs.Common.{◌≡◌, ◌≢◌, ℕ, ◌+◌, ◌-◌, ◌<◌, ◌≤◌, true, cond, List, length, get_or, sym, ◌∙◌, subst, arith, inl, inr, ⊎_elim}
+use Rattle.std.specs.Prelude.{◌⊎◌}
 use Rattle.std.proofs.lemmas.Bool.{and_from, leb-true, le-leb, ltb-true, lt-ltb, cases_eq}
 use Rattle.state_rules.specs.Graphs.{Node, node_at}
-use Rattle.minimiser.proofs.Costs.{and_left, and_right}
+use Rattle.minimiser.proofs.Costs.{and_left}
 use Rattle.minimiser.specs.inner.Swept.{is_kid}
-use Rattle.fault_graph.specs.inner.Rows.{keeps}
 use Rattle.fault_graph.specs.inner.Marks.{mark_of, HasMarkedParent, AreMarks}
 
 -- a mark that spreads stays, or is that of a kid that costs something, and no more
 mark-new : (kids values : List ℕ) (cost j mark : ℕ) → mark_of kids values cost j mark ≡ 1
     → (mark ≡ 1) ⊎ ((is_kid kids j ≡ true) × (0 < get_or values j 0) × (get_or values j 0 ≤ cost))
-mark-new kids values cost j mark e = by_test (is_kid kids j && keeps values cost j) refl e where
-  by_test : (b : Bool) → (is_kid kids j && keeps values cost j) ≡ b → cond b 1 mark ≡ 1
-      → (mark ≡ 1) ⊎ ((is_kid kids j ≡ true) × (0 < get_or values j 0) × (get_or values j 0 ≤ cost))
-  by_test true t q =
-      let kept : keeps values cost j ≡ true = and_right (is_kid kids j) _ t in
-      inr (and_left _ _ t, ltb-true 0 (get_or values j 0) (and_left _ _ kept), leb-true _ _ (and_right (nat_lt 0 (get_or values j 0)) _ kept))
-  by_test false t q = inl q
+mark-new kids values cost j mark e = grind (arith, and_left, ltb-true, leb-true)
 
 mark-kept : (kids values : List ℕ) (cost j mark : ℕ) → mark ≡ 1 → mark_of kids values cost j mark ≡ 1
-mark-kept kids values cost j mark e = by_test (is_kid kids j && keeps values cost j) where
-  by_test : (b : Bool) → cond b 1 mark ≡ 1
-  by_test true = refl
-  by_test false = e
+mark-kept kids values cost j mark e = grind arith
 
 mark-kid : (kids values : List ℕ) (cost j mark : ℕ) → is_kid kids j ≡ true → 0 < get_or values j 0 → get_or values j 0 ≤ cost → mark_of kids values cost j mark ≡ 1
 mark-kid kids values cost j mark i dear h = λ k. cond (and_from _ _ i (and_from _ _ (lt-ltb 0 (get_or values j 0) dear) (le-leb _ _ h)) k) 1 mark

@@ -1,14 +1,9 @@
 -- A graph of which each node but the root is needed, and costs something, under words.
-use Rattle.std.specs.Prelude.{◌≡◌, ℕ, ◌+◌, ◌-◌, ◌<◌, ◌≤◌, false, List, length, All, Contains, Option, IsSomeAnd, slice_index, ⊤}
-use Rattle.state_rules.specs.Values.{values}
+use Rattle.std.specs.Prelude.{◌≡◌, ℕ, ◌+◌, ◌-◌, ◌<◌, ◌≤◌, false, List, length, All, Contains, IsSomeAnd, slice_index, ⊤}
 use Rattle.state_rules.specs.declared.nodes.NodeKind.{NodeKind}
 use Rattle.state_rules.specs.declared.nodes.NodeKind.TheVariants.{Literal, And, Or}
 use Rattle.state_rules.specs.Graphs.{Node, Graph, node_at}
-use Rattle.minimiser.specs.Costs.{cost_at, node_cost, known_at, part_cost}
-
--- the least cost at a node
-abbrev pub least_at : Graph → List ℕ → List ℕ → ℕ → Option ℕ
-least_at graph words costs node = cost_at (values (node_cost (known_at words) (part_cost costs)) graph.nodes) node
+use Rattle.minimiser.specs.Costs.{least_at}
 
 pub record HasParent (nodes : List Node) (node : ℕ) : Type 0 where
   pub parent : ℕ

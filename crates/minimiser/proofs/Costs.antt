@@ -1,11 +1,10 @@
 -- The least cost at which a node is true, from those of its kids.
-use Rattle.std.proofs.Common.{◌≡◌, ℕ, ◌+◌, ◌<◌, ◌≤◌, min, Bool, true, false, cond, ◌&&◌, ◌||◌, Option, Some, None, refl, ap, sym, ◌∙◌, subst, arith, eqb, inl, inr, ⊎_elim}
+use Rattle.std.proofs.Common.{◌≡◌, ℕ, ◌+◌, ◌<◌, ◌≤◌, Bool, true, false, cond, ◌&&◌, ◌||◌, Option, Some, None, refl, ap, sym, ◌∙◌, subst, arith, eqb}
 use Rattle.std.specs.Prelude.{◌⊎◌}
-use Rattle.std.proofs.lemmas.Bool.{cases_lt, and_parts, or_left, or_right, eq-eqb, false≢true}
+use Rattle.std.proofs.lemmas.Bool.{and_parts, or_left, or_right, eq-eqb, false≢true}
 use Rattle.state_rules.specs.Bits.{same_bit}
 use Rattle.state_rules.specs.Cases.{agrees_at}
 use Rattle.state_rules.specs.Assignments.{Assignment}
-use Rattle.state_rules.proofs.Cases.{usual_bit}
 use Rattle.state_rules.proofs.Members.{AtMost}
 use Rattle.conditioner.specs.Words.{leaf_of}
 use Rattle.node_costs.specs.Costs.{Weights, cost_among, Depends, TestCost, SumOf, IsLeast}
@@ -26,14 +25,10 @@ abbrev pub open_weights : (ℕ → Option Bool) → (ℕ → ℕ) → ℕ → We
 open_weights known cost parts = record { known = known; weight = λ v b. fault (known v) (cost v) b; parts = parts }
 
 pub AtMost-min_left : (c d : Option ℕ) (n : ℕ) → AtMost c n → AtMost (min_costs c d) n
-AtMost-min_left None d n h = absurd h
-AtMost-min_left (Some c) None n h = h
-AtMost-min_left (Some c) (Some d) n h = omega arith
+AtMost-min_left c d n h = grind arith
 
 pub AtMost-min_right : (c d : Option ℕ) (n : ℕ) → AtMost d n → AtMost (min_costs c d) n
-AtMost-min_right None d n h = h
-AtMost-min_right (Some c) None n h = absurd h
-AtMost-min_right (Some c) (Some d) n h = omega arith
+AtMost-min_right c d n h = grind arith
 
 pub and_left : (x y : Bool) → (x && y) ≡ true → x ≡ true
 and_left x y e = (and_parts x y e).0
@@ -42,9 +37,7 @@ pub and_right : (x y : Bool) → (x && y) ≡ true → y ≡ true
 and_right x y e = (and_parts x y e).1
 
 pub from_min : (c d : Option ℕ) (n : ℕ) → min_costs c d ≡ Some n → (c ≡ Some n) ⊎ (d ≡ Some n)
-from_min None d n e = inr e
-from_min (Some c) None n e = inl e
-from_min (Some c) (Some d) n e = grind arith
+from_min c d n e = grind arith
 
 pub record Sum (c d : Option ℕ) (n : ℕ) : Type 0 where
   pub left : ℕ
@@ -54,42 +47,22 @@ pub record Sum (c d : Option ℕ) (n : ℕ) : Type 0 where
   pub sum_is : left + right ≡ n
 
 pub from_add : (c d : Option ℕ) (n : ℕ) → add_costs c d ≡ Some n → Sum c d n
-from_add None d n e = absurd (cc)
-from_add (Some c) None n e = absurd (cc)
-from_add (Some c) (Some d) n e = record { left = c; right = d; left_is = refl; right_is = refl; sum_is = cc }
+from_add c d n e = grind arith
 
 -- ---- the least of some costs, and of others
 
 module _ (C D : ℕ → Type 0) where
   pub least-or : (c d : Option ℕ) → IsLeast C c → IsLeast D d → IsLeast (λ n. C n ⊎ D n) (min_costs c d)
-  least-or None None h g = λ n s. ⊎_elim (h n) (g n) s
-  least-or None (Some d) h g = (inr g.0, λ n s. ⊎_elim (λ x. absurd (h n x)) (g.1 n) s)
-  least-or (Some c) None h g = (inl h.0, λ n s. ⊎_elim (h.1 n) (λ y. absurd (g n y)) s)
-  least-or (Some c) (Some d) h g = (
-    ⊎_elim
-        (λ (p : c < d). inl (let same : c ≡ min c d = omega arith in subst C same h.0))
-        (λ (p : d ≤ c). inr (let same : d ≡ min c d = omega arith in subst D same g.0)) (cases_lt c d),
-    λ n s. ⊎_elim (λ x. omega (arith, h.1 n x)) (λ y. omega (arith, g.1 n y)) s,
-  )
+  least-or c d h g = grind arith
 
   pub least-sum : (c d : Option ℕ) → IsLeast C c → IsLeast D d → IsLeast (SumOf C D) (add_costs c d)
-  least-sum None d h g = λ n s. h s.left s.on_left
-  least-sum (Some c) None h g = λ n s. g s.right s.on_right
-  least-sum (Some c) (Some d) h g = (
-    record { left = c; right = d; on_left = h.0; on_right = g.0; sum_is = refl },
-    λ n s. omega (arith, h.1 s.left s.on_left, g.1 s.right s.on_right, s.sum_is),
-  )
+  least-sum c d h g = grind arith
 
 -- ---- the nodes
 
 -- a literal costs what its bit does, where that is allowed
 literal_weight : (positive : Bool) (k : Option Bool) (w : ℕ) → literal_cost (leaf_of positive k) w positive ≡ cond (agrees_at k positive) (Some (fault k w positive)) None
-literal_weight true None w = refl
-literal_weight false None w = refl
-literal_weight true (Some true) w = refl
-literal_weight true (Some false) w = refl
-literal_weight false (Some true) w = refl
-literal_weight false (Some false) w = refl
+literal_weight positive k w = grind arith
 
 module _ (known : ℕ → Option Bool) (cost : ℕ → ℕ) (parts : ℕ) where
   abbrev g : Weights
@@ -109,10 +82,7 @@ module _ (known : ℕ → Option Bool) (cost : ℕ → ℕ) (parts : ℕ) where
   faults_in-le m o a h = cost_among-le g m o a h
 
   pub free : Free (open_weights known cost parts)
-  free v = usual_cost (known v) where
-    usual_cost : (k : Option Bool) → fault k (cost v) (usual_bit k) ≡ 0
-    usual_cost None = refl
-    usual_cost (Some b) = refl
+  free v = grind arith
 
   pub record Reaches (t : Assignment → Bool) (n : ℕ) : Type 0 where
     pub by : Assignment
@@ -174,11 +144,7 @@ module _ (known : ℕ → Option Bool) (cost : ℕ → ℕ) (parts : ℕ) where
   -- the cost of a literal, whose variable costs nothing where it is not among the parts'
   module _ (none : (v : ℕ) → ((1 ≤ v) → (v < 1 + parts) → ⊥) → cost v ≡ 0) where
     pub only_parts : OnlyParts (open_weights known cost parts)
-    only_parts v b out = no_cost (known v) b (none v out) where
-      no_cost : (k : Option Bool) (b : Bool) → cost v ≡ 0 → fault k (cost v) b ≡ 0
-      no_cost None true e = refl
-      no_cost None false e = e
-      no_cost (Some x) b e = refl
+    only_parts v b out = grind arith
 
     pub literal_is : (var : ℕ) (positive : Bool) → IsLeastCost (λ a. same_bit positive (a var)) (λ v. eqb var v) (literal_cost (leaf_of positive (known var)) (cost var) positive)
     literal_is var positive = record {

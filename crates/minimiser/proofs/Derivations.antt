@@ -18,7 +18,7 @@ use Rattle.state_rules.proofs.NodeValues.{are_below, value_of-get}
 use Rattle.state_rules.proofs.Kids.{at_most_one-tail, not_both}
 use Rattle.state_rules.proofs.NodesFit.{fits-get, apart-get}
 use Rattle.conditioner.specs.Words.{leaf_of}
-use Rattle.minimiser.specs.Costs.{part_cost, known_at, cost_at, sum_costs, cheapest, node_cost, cost_by, literal_cost}
+use Rattle.minimiser.specs.Costs.{part_cost, known_at, sum_costs, cheapest, cost_by, literal_cost, least_at}
 use Rattle.node_costs.proofs.Conditions.{one_apart, cost_among-apart, cost_among-one, join, joined-le}
 use Rattle.minimiser.proofs.Costs.{fault, open_weights, only_parts, as_cost, IsCost, Agrees, faults_in, faults_in-le, all_faults, and_left, and_right, from_add, AtMost-min_left, AtMost-min_right}
 pub use Rattle.node_costs.proofs.Nodes.{all-below}
@@ -32,6 +32,11 @@ any-kid f kids k m e = list_any-map (λ b. b) f kids ∙ any_in f k kids m e
 
 pub kid-with : (f : ℕ → Bool) (kids : List ℕ) → list_any (λ b. b) (map f kids) ≡ true → Passing f kids
 kid-with f kids e = any_from f kids (sym (list_any-map (λ b. b) f kids) ∙ e)
+
+pub all-kid : (f : ℕ → Bool) (kids : List ℕ) (k : ℕ) → In k kids → list_all (λ b. b) (map f kids) ≡ true → f k ≡ true
+all-kid f [] k m e = absurd m
+all-kid f (j ∷ kids) k (inl q) e = ap f q ∙ and_left _ _ e
+all-kid f (j ∷ kids) k (inr m) e = all-kid f kids k m (and_right (f j) _ e)
 
 -- an or costs no more than a kid
 pub cheapest-kid : (C : ℕ → Option ℕ) (kids : List ℕ) (j d : ℕ) → In j kids → C j ≡ Some d → AtMost (cheapest (map C kids)) d
@@ -63,9 +68,8 @@ module _ (graph : Graph) (words costs : List ℕ) (ok : IsGraph graph) where
   abbrev M : ℕ → ℕ → Bool
   M v k = mentions graph.nodes v k
 
-  -- the least cost at a node
-  abbrev pub C : ℕ → Option ℕ
-  C k = cost_at (values (node_cost (known_at words) (part_cost costs)) graph.nodes) k
+  abbrev C : ℕ → Option ℕ
+  C k = least_at graph words costs k
 
   abbrev root : ℕ
   root = length graph.nodes - 1
@@ -231,7 +235,7 @@ module _ (graph : Graph) (words costs : List ℕ) (ok : IsGraph graph) where
   pub record KidExcess (kids : List ℕ) (c j : ℕ) (a : Assignment) : Type 0 where
     pub holds : is_true graph.nodes j a ≡ true
     pub cost : ℕ
-    pub is : cost_at (values (node_cost (known_at words) (part_cost costs)) graph.nodes) j ≡ Some cost
+    pub is : least_at graph words costs j ≡ Some cost
     pub excess : c + faults_in (known_at words) (part_cost costs) (length costs) (λ v. mentions graph.nodes v j) a
         ≤ faults_in (known_at words) (part_cost costs) (length costs) (λ v. list_any (λ b. b) (map (mentions graph.nodes v) kids)) a + cost
 
@@ -289,17 +293,11 @@ module _ (graph : Graph) (words costs : List ℕ) (ok : IsGraph graph) where
       pub holds : is_true graph.nodes k a ≡ true
       pub has : mentions graph.nodes p k ≡ true
       pub cost : ℕ
-      pub is : cost_at (values (node_cost (known_at words) (part_cost costs)) graph.nodes) k ≡ Some cost
+      pub is : least_at graph words costs k ≡ Some cost
       pub tight : faults_in (known_at words) (part_cost costs) (length costs) (λ v. mentions graph.nodes v k) a ≤ cost
 
     pub on-root : (c : ℕ) → C root ≡ Some c → T a root ≡ true → all_faults kn price n a ≤ c → OnFault root
-    on-root c e h cheap = record {
-      holds = h;
-      has = true_from_ne_false (M p root) (λ q. absurd (omega (arith, bound-at root c h e, faults-lt (λ v. M v root) (λ v. true) (λ v r. refl) q refl)));
-      cost = c;
-      is = e;
-      tight = omega (arith, faults-le (λ v. M v root) (λ v. true) (λ v q. refl));
-    }
+    on-root c e h cheap = grind (arith, bound-at, faults-lt, faults-le)
 
     pub record KidOnFault (kids : List ℕ) : Type 0 where
       pub kid : ℕ
@@ -319,7 +317,7 @@ module _ (graph : Graph) (words costs : List ℕ) (ok : IsGraph graph) where
     pub record CheapKid (kids : List ℕ) (cost : ℕ) : Type 0 where
       pub kid : ℕ
       pub is_in : In kid kids
-      pub same : cost_at (values (node_cost (known_at words) (part_cost costs)) graph.nodes) kid ≡ Some cost
+      pub same : least_at graph words costs kid ≡ Some cost
       pub on : OnFault kid
 
     on-or : (k : ℕ) (kids : List ℕ) → slice_get graph.nodes k ≡ Some (record { what = Or; kids = kids }) → (on : OnFault k) → CheapKid kids on.cost
@@ -343,10 +341,10 @@ module _ (graph : Graph) (words costs : List ℕ) (ok : IsGraph graph) where
     -- Marks that go from the root to all kids of an and and to the cheap kids of an or come to a literal that says faulty.
     module _ (Marked : ℕ → Type 0)
         (ands : (k : ℕ) (kids : List ℕ) (c : ℕ) → slice_get graph.nodes k ≡ Some (record { what = And; kids = kids })
-        → cost_at (values (node_cost (known_at words) (part_cost costs)) graph.nodes) k ≡ Some c → Marked k → (j : ℕ) → In j kids → Marked j)
+        → least_at graph words costs k ≡ Some c → Marked k → (j : ℕ) → In j kids → Marked j)
         (ors : (k : ℕ) (kids : List ℕ) (c : ℕ) → slice_get graph.nodes k ≡ Some (record { what = Or; kids = kids })
-        → cost_at (values (node_cost (known_at words) (part_cost costs)) graph.nodes) k ≡ Some c → Marked k → (j : ℕ) → In j kids
-        → cost_at (values (node_cost (known_at words) (part_cost costs)) graph.nodes) j ≡ Some c → Marked j) where
+        → least_at graph words costs k ≡ Some c → Marked k → (j : ℕ) → In j kids
+        → least_at graph words costs j ≡ Some c → Marked j) where
       pub record MarkedLiteral : Type 0 where
         pub node : ℕ
         pub kids : List ℕ

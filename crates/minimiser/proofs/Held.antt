@@ -29,6 +29,4 @@ total_is f a (c ∷ costs) h =
 
 -- the parts' own costs, summed over their variables
 pub full_cost-is : (costs : List ℕ) → total (part_cost costs) 1 (length costs) ≡ total_cost costs
-full_cost-is costs = total_is (part_cost costs) 1 costs at_part where
-  at_part : (i : ℕ) → i < length costs → part_cost costs (1 + i) ≡ get_or costs i 0
-  at_part i h = let e : 1 + i ≡ suc i = omega arith in rw e refl
+full_cost-is costs = grind (arith, total_is)

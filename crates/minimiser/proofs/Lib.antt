@@ -8,4 +8,5 @@ pub mod Models
 pub mod Derivations
 pub mod Valued
 pub mod Sweeping
+pub mod OutsideCosts
 mod Examples

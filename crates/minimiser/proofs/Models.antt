@@ -1,10 +1,10 @@
 -- The states that a graph allows, as words are changed.
-use Rattle.std.proofs.Common.{◌≡◌, ◌≢◌, ℕ, zero, suc, ◌-◌, ◌<◌, ◌≤◌, Bool, true, false, ◌&&◌, List, [], ◌∷◌, ◌++◌, length, get_or, Option, Some, None, refl, ap, sym, ◌∙◌, subst, arith, ⊎_elim, length-append}
-use Rattle.std.proofs.lemmas.Bool.{and_from, cases_lt, leb-true, le-leb}
+use Rattle.std.proofs.Common.{◌≡◌, ◌≢◌, ℕ, ◌-◌, ◌<◌, ◌≤◌, Bool, true, ◌&&◌, List, [], ◌∷◌, ◌++◌, length, get_or, Some, None, refl, ap, sym, ◌∙◌, subst, arith, length-append}
+use Rattle.std.proofs.lemmas.Bool.{leb-true}
 use Rattle.std.proofs.lemmas.Option.{same_Some}
 use Rattle.state_rules.specs.Bits.{bit_in, lists_of_bits}
 use Rattle.state_rules.specs.Cases.{agrees_at}
-use Rattle.state_rules.specs.Ranking.{cost, least, least_with, is_at_most, states}
+use Rattle.state_rules.specs.Ranking.{cost, least, is_at_most, states}
 use Rattle.state_rules.specs.Graphs.{Graph, holds}
 use Rattle.state_rules.proofs.Members.{In, In-filter, In-filtered, bits_in, bits_length, any_from, any_in}
 use Rattle.state_rules.proofs.Bits.{bit_in-front}
@@ -12,7 +12,6 @@ use Rattle.conditioner.specs.Words.{known_of, word_of}
 use Rattle.conditioner.specs.Models.{has_model, fits_words, models, least_under, diagnoses_under}
 use Rattle.conditioner.proofs.FittingWords.{fits_words-at, fits_words-from}
 use Rattle.node_costs.proofs.States.{least-out, least-in}
-use Rattle.minimiser.proofs.Costs.{and_left, and_right}
 use Rattle.minimiser.specs.LeastStates.{ModelWithin, LeastState}
 
 -- a bit that agrees with a word
@@ -20,14 +19,10 @@ abbrev pub Agree : ℕ → Bool → Type 0
 Agree word bit = agrees_at (known_of word) bit ≡ true
 
 pub Agree-bit : (b bit : Bool) → Agree (word_of b) bit → bit ≡ b
-Agree-bit true true e = refl
-Agree-bit true false e = absurd (cc)
-Agree-bit false true e = absurd (cc)
-Agree-bit false false e = refl
+Agree-bit b bit e = grind arith
 
 pub Agree-same : (bit : Bool) → Agree (word_of bit) bit
-Agree-same true = refl
-Agree-same false = refl
+Agree-same bit = grind arith
 
 -- words that say as much, or more of open parts
 pub record Refines (parts : ℕ) (old new : List ℕ) : Type 0 where
@@ -50,8 +45,7 @@ module _ (graph : Graph) (costs : List ℕ) (within : length costs ≤ graph.var
   model-agrees words h long l m i lt =
       let r = any_from (λ others. fits_words words (h ++ others) && holds graph (h ++ others)) (lists_of_bits (graph.vars - length costs)) m in
       let len : length r.item ≡ graph.vars - length costs = bits_length (graph.vars - length costs) r.item r.is_in in
-      subst (λ b. Agree (get_or words i 0) b) (bit_in-front h r.item i (omega arith))
-      (fits_words-at words (h ++ r.item) (omega (arith, length-append h r.item)) (and_left _ _ r.passes) i)
+      grind (arith, bit_in-front, fits_words-at, length-append)
 
   -- a state that the words allow is allowed by others that say the same of the other variables, and nothing else of it
   pub model-moved : (words others : List ℕ) (h : List Bool) → length words ≡ graph.vars → length others ≡ graph.vars → length h ≡ length costs → has_model graph (fits_words words) (length costs) h ≡ true
@@ -60,34 +54,14 @@ module _ (graph : Graph) (costs : List ℕ) (within : length costs ≤ graph.var
       let r = any_from (λ rest. fits_words words (h ++ rest) && holds graph (h ++ rest)) (lists_of_bits (graph.vars - length costs)) m in
       let len : length r.item ≡ graph.vars - length costs = bits_length (graph.vars - length costs) r.item r.is_in in
       let all : length (h ++ r.item) ≡ graph.vars = omega (arith, length-append h r.item) in
-      any_in (λ rest. fits_words others (h ++ rest) && holds graph (h ++ rest)) r.item (lists_of_bits (graph.vars - length costs)) r.is_in
-      (and_from _ _ (fits_words-from others (h ++ r.item)
-      (λ i lt. ⊎_elim
-      (λ (p : i < length costs). subst (λ b. Agree (get_or others i 0) b) (sym (bit_in-front h r.item i (omega arith))) (agree i p))
-      (λ (p : length costs ≤ i). subst (λ w. Agree w (bit_in (h ++ r.item) i)) (sym (same i p)) (fits_words-at words (h ++ r.item) (all ∙ sym long) (and_left _ _ r.passes) i))
-      (cases_lt i (length costs))))
-      (and_right (fits_words words (h ++ r.item)) _ r.passes))
-
-  agree-open : (old new : ℕ) (bit : Bool) → (old ≢ 0 → new ≡ old) → Agree new bit → Agree old bit
-  agree-open zero new bit h a = refl
-  agree-open (suc n) new bit h a = subst (λ w. Agree w bit) (h (λ e. absurd (omega arith))) a
+      grind (arith, any_in, fits_words-from, bit_in-front, fits_words-at)
 
   pub ModelWithin-old : (old new : List ℕ) (most : ℕ) (h : List Bool) → length old ≡ graph.vars → Refines (length costs) old new → ModelWithin graph new costs most h → ModelWithin graph old costs most h
-  ModelWithin-old old new most h long r p = record {
-    long = p.long;
-    model = model-moved new old h (r.long ∙ long) long p.long p.model
-        (λ i lt. agree-open (get_or old i 0) (get_or new i 0) (bit_in h i) (r.kept i) (model-agrees new h (r.long ∙ long) p.long p.model i lt))
-        (λ i g. sym (r.others i g));
-    cheap = p.cheap;
-  }
+  ModelWithin-old old new most h long r p = grind (arith, model-moved, model-agrees)
 
   pub ModelWithin-new : (old new : List ℕ) (most : ℕ) (h : List Bool) → length old ≡ graph.vars → Refines (length costs) old new → ModelWithin graph old costs most h
       → ((i : ℕ) → i < length costs → Agree (get_or new i 0) (bit_in h i)) → ModelWithin graph new costs most h
-  ModelWithin-new old new most h long r p agree = record {
-    long = p.long;
-    model = model-moved old new h long (r.long ∙ long) p.long p.model agree r.others;
-    cheap = p.cheap;
-  }
+  ModelWithin-new old new most h long r p agree = grind (arith, model-moved)
 
   pub ModelWithin-agrees : (words : List ℕ) (most : ℕ) (h : List Bool) → length words ≡ graph.vars → ModelWithin graph words costs most h → (i : ℕ) → i < length costs → Agree (get_or words i 0) (bit_in h i)
   ModelWithin-agrees words most h long p i lt = model-agrees words h long p.long p.model i lt
@@ -116,10 +90,7 @@ module _ (graph : Graph) (costs : List ℕ) (within : length costs ≤ graph.var
 
 pub least-none : (costs : List ℕ) (hs : List (List Bool)) → least costs hs ≡ None → hs ≡ []
 least-none costs [] e = refl
-least-none costs (h ∷ hs) e = absurd (has (cost costs h) (least costs hs) e) where
-  has : (n : ℕ) (o : Option ℕ) → least_with n o ≡ None → ⊥
-  has n None e = cc
-  has n (Some m) e = cc
+least-none costs (h ∷ hs) e = grind arith
 
 module _ (graph : Graph) (words costs : List ℕ) (most : ℕ) (e : LeastIs graph costs words most) where
   abbrev pub ds : List (List Bool)
@@ -128,16 +99,12 @@ module _ (graph : Graph) (words costs : List ℕ) (most : ℕ) (e : LeastIs grap
   abbrev is_low : List Bool → Bool
   is_low h = is_at_most (cost costs h) (least_under graph words costs)
 
-  low-in : (h : List Bool) → cost costs h ≤ most → is_low h ≡ true
-  low-in h c = ap (is_at_most (cost costs h)) e ∙ le-leb (cost costs h) most c
-
   low-out : (h : List Bool) → is_low h ≡ true → cost costs h ≤ most
   low-out h t = leb-true (cost costs h) most (sym (ap (is_at_most (cost costs h)) e) ∙ t)
 
   -- the diagnoses are the states that pass
   pub diagnosis-in : (h : List Bool) → ModelWithin graph words costs most h → In h ds
-  diagnosis-in h p = In-filtered is_low h (models graph words (length costs))
-      (In-filtered (has_model graph (fits_words words) (length costs)) h (states (length costs)) (subst (λ n. In h (lists_of_bits n)) p.long (bits_in h)) p.model) (low-in h p.cheap)
+  diagnosis-in h p = grind (arith, In-filtered, bits_in)
 
   pub diagnosis-out : (h : List Bool) → In h ds → ModelWithin graph words costs most h
   diagnosis-out h m =

@@ -1,18 +1,16 @@
 -- The least costs of all nodes of a graph.
-use Rattle.std.proofs.Common.{◌≡◌, ℕ, ◌+◌, ◌<◌, ◌≤◌, Bool, true, false, List, [], ◌∷◌, map, length, get_or, take, Option, None, refl, ap, sym, ◌∙◌, subst, arith, ⊎_elim, zero, suc}
+use Rattle.std.proofs.Common.{◌≡◌, ℕ, ◌+◌, ◌<◌, ◌≤◌, Bool, true, List, [], ◌∷◌, map, length, get_or, take, Option, None, refl, ap, sym, ◌∙◌, arith, ⊎_elim, zero, suc}
 use Rattle.std.specs.List.{list_any, list_all}
 use Rattle.std.proofs.lemmas.Bool.{cases_lt}
 use Rattle.std.proofs.lemmas.List.{get_or_past}
 use Rattle.state_rules.specs.Values.{values}
 use Rattle.state_rules.specs.declared.nodes.NodeKind.{NodeKind}
-use Rattle.state_rules.specs.declared.nodes.NodeKind.TheVariants.{Literal, And, Or}
-use Rattle.state_rules.specs.Graphs.{at_most_one, Graph, true_node, node_at, truth, mention, mentions, is_true, IsGraph}
+use Rattle.state_rules.specs.Graphs.{at_most_one, Graph, true_node, node_at, mentions, is_true, IsGraph}
 use Rattle.state_rules.proofs.NodeValues.{map-below}
 use Rattle.state_rules.proofs.NodesFit.{fits-at}
 use Rattle.state_rules.proofs.Values.{length-values_after, values-at, values-before}
 use Rattle.conditioner.specs.Words.{leaf_of}
 use Rattle.node_costs.proofs.Nodes.{value_by, AreLaws, all_nodes, kids_and}
-use Rattle.node_costs.proofs.Tests.{same_tests}
 use Rattle.minimiser.specs.Costs.{sum_costs, cheapest, cost_at, literal_cost, cost_by, node_cost}
 use Rattle.minimiser.proofs.Costs.{IsLeastCost, and_is, or_is, true_is, false_is, literal_is}
 
@@ -35,9 +33,7 @@ module _ (known : ℕ → Option Bool) (price : ℕ → ℕ) (parts : ℕ) (none
   }
 
   same_value : (kind : NodeKind) (costs : List (Option ℕ)) → cost_by known price kind costs ≡ value_by literal sum_costs cheapest (IsLeastCost known price parts) kind costs
-  same_value (Literal positive var) costs = refl
-  same_value And costs = refl
-  same_value Or costs = refl
+  same_value kind costs = grind arith
 
   module _ (graph : Graph) (ok : IsGraph graph) where
     abbrev C : ℕ → Option ℕ
@@ -55,11 +51,7 @@ module _ (known : ℕ → Option Bool) (price : ℕ → ℕ) (parts : ℕ) (none
     pub is_cost : (k : ℕ) → IsLeastCost known price parts (λ a. is_true graph.nodes k a) (λ v. mentions graph.nodes v k) (cost_at (values (node_cost known price) graph.nodes) k)
     is_cost k = ⊎_elim
         (λ (h : k < length graph.nodes). all_nodes literal sum_costs cheapest (IsLeastCost known price parts) laws graph ok C (λ i lt. cost-of i lt ∙ same_value (node_at graph.nodes i).what _) k h)
-        (λ (h : length graph.nodes ≤ k).
-        let past : C k ≡ None = cost_at-get (values (node_cost known price) graph.nodes) k ∙ get_or_past (values (node_cost known price) graph.nodes) k None (omega (arith, length-values_after (node_cost known price) [] graph.nodes)) in
-        subst (IsLeastCost known price parts (λ a. is_true graph.nodes k a) (λ v. mentions graph.nodes v k)) (sym past) (same_tests (λ t m. IsLeastCost known price parts t m None)
-        (λ a. sym (get_or_past (values (truth a) graph.nodes) k false (omega (arith, length-values_after (truth a) [] graph.nodes))))
-        (λ v. sym (get_or_past (values (mention v) graph.nodes) k false (omega (arith, length-values_after (mention v) [] graph.nodes)))) (false_is known price parts)))
+        grind (arith, cost_at-get, get_or_past, length-values_after)
         (cases_lt k (length graph.nodes))
 
     -- and of kids that share no variable

@@ -1,5 +1,5 @@
 -- One more node, and all of them.
-use Rattle.std.proofs.Common.{◌≡◌, ℕ, zero, suc, ◌+◌, ◌-◌, ◌<◌, ◌≤◌, ◌^◌, Bool, true, false, cond, List, [], ◌∷◌, ◌++◌, map, length, take, drop, set, get_or, All, Option, Some, None, refl, ap, sym, ◌∙◌, arith, add-one, zero-add}
+use Rattle.std.proofs.Common.{◌≡◌, ℕ, zero, suc, ◌+◌, ◌-◌, ◌<◌, ◌≤◌, ◌^◌, Bool, true, cond, List, [], ◌∷◌, ◌++◌, map, length, take, drop, set, get_or, All, Option, Some, None, refl, ap, sym, ◌∙◌, arith, add-one, zero-add}
 use Rattle.std.specs.Prelude.{slice_get, IfSome}
 use Rattle.std.proofs.lemmas.Bool.{ltb-true}
 use Rattle.std.proofs.Math.ListN.{length-map}
@@ -37,10 +37,7 @@ costs-step graph words costs i n e = (λ j. values (cost_under words costs) (tak
     ∙ values_after-append (cost_under words costs) [] (take i graph.nodes) (n ∷ [])
 
 fault-le : (k : Option Bool) (w : ℕ) (b m : Bool) → cond m (fault k w b) 0 ≤ w
-fault-le None w true true = omega arith
-fault-le None w false true = omega arith
-fault-le (Some x) w b true = omega arith
-fault-le k w b false = omega arith
+fault-le k w b m = grind arith
 
 -- no node costs more than all parts together
 pub cost_small : (graph : Graph) (words costs : List ℕ) (k : ℕ) → IsGraph graph → (n : ℕ) → cost_at (values (cost_under words costs) graph.nodes) k ≡ Some n → n ≤ total_cost costs
@@ -76,8 +73,7 @@ unfolding costs_to
 length-costs_to graph words costs i h = length-values_after (cost_under words costs) [] (take i graph.nodes) ∙ (let e = length-take-le i graph.nodes h in omega arith)
 
 if_some : (o : Option ℕ) (b : ℕ) → ((n : ℕ) → o ≡ Some n → n < b) → IfSome o (λ n. n < b)
-if_some None b h = tt
-if_some (Some n) b h = h n refl
+if_some o b h = grind arith
 
 -- the cost of a node fits
 pub node_fits_room : (graph : Graph) (words costs : List ℕ) (i most : ℕ) (n : Node) (values : List (Option ℕ)) → IsGraph graph → total_cost costs < most
@@ -96,9 +92,8 @@ pub record StandsAt (graph : Graph) (i : ℕ) (n : Node) (others : List Node) : 
   pub behind : drop (i + 1) graph.nodes ≡ others
 
 next_is : (nodes : List Node) (i : ℕ) (n : Node) (rest : List Node) → drop i nodes ≡ n ∷ rest → (slice_get nodes i ≡ Some n) × (drop (suc i) nodes ≡ rest)
-next_is [] zero n rest e = absurd (cc)
+next_is nodes zero n rest e = grind arith
 next_is [] (suc i) n rest e = absurd (cc)
-next_is (m ∷ nodes) zero n rest e = (cc, cc)
 next_is (m ∷ nodes) (suc i) n rest e = next_is nodes i n rest e
 
 pub walked : (graph : Graph) (i : ℕ) (n : Node) (left rest : List Node) → drop i graph.nodes ≡ left → left ≡ n ∷ rest → StandsAt graph i n rest
@@ -140,8 +135,7 @@ pub all_valued : (graph : Graph) (words costs : List ℕ) (i : ℕ) (left : List
 unfolding costs_to
 all_valued graph words costs i left xs long d none v =
     let past : length graph.nodes ≤ i = omega (arith, length-drop i graph.nodes, ap length (d ∙ none)) in
-    (λ j. map cost_in (sym (take_all i xs (omega (arith, long))) j)) ∙ v
-    ∙ ap (values (cost_under words costs)) (take_all i graph.nodes past ∙ sym (take-length graph.nodes))
+    grind (arith, take_all)
 
 pub none_yet : (graph : Graph) (words costs : List ℕ) → [] ≡ costs_to graph words costs 0
 unfolding costs_to

@@ -1,7 +1,6 @@
 -- Costs of kids, one after another.
-use Rattle.std.proofs.Common.{◌≡◌, ℕ, zero, suc, ◌+◌, ◌<◌, ◌≤◌, min, Bool, true, false, cond, eqb, List, [], ◌∷◌, map, length, get_or, drop, All, Option, Some, None, refl, ap, sym, ◌∙◌, subst, arith}
+use Rattle.std.proofs.Common.{◌≡◌, ℕ, zero, suc, ◌+◌, ◌<◌, ◌≤◌, min, List, [], ◌∷◌, map, length, get_or, drop, All, Option, Some, None, refl, ap, ◌∙◌, arith}
 use Rattle.std.specs.Prelude.{IfSome}
-use Rattle.std.proofs.lemmas.Bool.{eqb-true, eqb-false}
 use Rattle.std.proofs.lemmas.List.{drop_more}
 use Rattle.minimiser.specs.Costs.{add_costs, min_costs, cost_at, sum_costs, cheapest}
 use Rattle.minimiser.specs.Stored.{cost_in}
@@ -27,46 +26,23 @@ abbrev here : List ℕ → List ℕ → ℕ → ℕ
 here values kids i = get_or values (get_or kids i 0) 0
 
 pub cost_in-some : (v : ℕ) → (v ≡ 4294967295 → ⊥) → cost_in v ≡ Some v
-cost_in-some v h = by_test (eqb v 4294967295) refl where
-  by_test : (b : Bool) → eqb v 4294967295 ≡ b → cond b None (Some v) ≡ Some v
-  by_test true e = absurd (h (eqb-true _ _ e))
-  by_test false e = refl
-
-add_costs-none : (c : Option ℕ) → None ≡ add_costs c None
-add_costs-none None = refl
-add_costs-none (Some n) = refl
+cost_in-some v h = grind arith
 
 add_costs-zero : (c : Option ℕ) → c ≡ add_costs c (Some 0)
-add_costs-zero None = refl
-add_costs-zero (Some n) = ap Some (omega arith)
+add_costs-zero c = grind arith
 
 min_costs-none : (c : Option ℕ) → c ≡ min_costs c None
-min_costs-none None = refl
-min_costs-none (Some n) = refl
+min_costs-none c = grind arith
 
 -- What stands for no cost is the greatest number: a sum that is cut there stands for none just where one of both does, unless the whole sum is none.
 cut_sum : (a b : ℕ) (c all : Option ℕ) → a ≤ 4294967295 → b ≤ 4294967295 → IfSome all (λ n. n < 2147483647)
     → add_costs (cost_in a) (add_costs (cost_in b) c) ≡ all → add_costs (cost_in (min (a + b) 4294967295)) c ≡ all
-cut_sum a b c all h g small is = by_tests (eqb a 4294967295) (eqb b 4294967295) c refl refl is where
-  -- where the greatest number is met
-  at_end : (c : Option ℕ) → min (a + b) 4294967295 ≡ 4294967295 → None ≡ all → add_costs (cost_in (min (a + b) 4294967295)) c ≡ all
-  at_end c e is = ap (λ n. add_costs (cost_in n) c) e ∙ is
-
-  by_tests : (x y : Bool) (c : Option ℕ) → eqb a 4294967295 ≡ x → eqb b 4294967295 ≡ y → add_costs (cond x None (Some a)) (add_costs (cond y None (Some b)) c) ≡ all
-      → add_costs (cost_in (min (a + b) 4294967295)) c ≡ all
-  by_tests true y c p q is = let e : a ≡ 4294967295 = eqb-true _ _ p in at_end c (omega arith) is
-  by_tests false true c p q is = let e : b ≡ 4294967295 = eqb-true _ _ q in at_end c (omega arith) is
-  by_tests false false None p q is = sym (add_costs-none (cost_in (min (a + b) 4294967295))) ∙ is
-  by_tests false false (Some n) p q is =
-      let few : a + (b + n) < 2147483647 = subst (λ o. IfSome o (λ n. n < 2147483647)) (sym is) small in
-      let e : min (a + b) 4294967295 ≡ a + b = omega arith in
-      (λ i. add_costs (cost_in (e i)) (Some n)) ∙ (λ i. add_costs (cost_in-some (a + b) (λ f. omega arith) i) (Some n)) ∙ ap Some (omega arith) ∙ is
+cut_sum a b c all h g small is = grind arith
 
 pub sum_step : (values kids : List ℕ) (i total : ℕ) (all : Option ℕ) → i < length kids → get_or kids i 0 < length values → total ≤ 4294967295 → get_or values (get_or kids i 0) 0 ≤ 4294967295
     → IfSome all (λ n. n < 2147483647) → add_costs (cost_in total) (sum_costs (kid_costs values (drop i kids))) ≡ all
     → add_costs (cost_in (min (total + get_or values (get_or kids i 0) 0) 4294967295)) (sum_costs (kid_costs values (drop (i + 1) kids))) ≡ all
-sum_step values kids i total all h g x y small is = cut_sum total (here values kids i) (sum_costs (kid_costs values (drop (i + 1) kids))) all x y small
-    (ap (add_costs (cost_in total)) (sym (sum-drop values kids i h g)) ∙ is)
+sum_step values kids i total all h g x y small is = grind (arith, sum-drop)
 
 pub two_kids : (values kids : List ℕ) → length kids ≡ 2 → All (λ k. k < length values) kids → kid_costs values kids ≡ cost_in (here values kids 0) ∷ cost_in (here values kids 1) ∷ []
 two_kids values [] e h = absurd (omega arith)
@@ -78,25 +54,12 @@ pub sum_two : (a b : ℕ) → a ≤ 4294967295 → b ≤ 4294967295 → IfSome (
     → cost_in (min (a + b) 4294967295) ≡ sum_costs (cost_in a ∷ cost_in b ∷ [])
 sum_two a b x y small = add_costs-zero (cost_in (min (a + b) 4294967295)) ∙ cut_sum a b (Some 0) (sum_costs (cost_in a ∷ cost_in b ∷ [])) x y small refl
 
-min-again : (a b c : Option ℕ) → min_costs a (min_costs b c) ≡ min_costs (min_costs a b) c
-min-again None b c = refl
-min-again (Some x) None c = refl
-min-again (Some x) (Some y) None = refl
-min-again (Some x) (Some y) (Some z) = ap Some (omega arith)
-
 cost_in-min : (a b : ℕ) → a ≤ 4294967295 → b ≤ 4294967295 → cost_in (min a b) ≡ min_costs (cost_in a) (cost_in b)
-cost_in-min a b h g = by_tests (eqb a 4294967295) (eqb b 4294967295) refl refl where
-  by_tests : (x y : Bool) → eqb a 4294967295 ≡ x → eqb b 4294967295 ≡ y → cost_in (min a b) ≡ min_costs (cond x None (Some a)) (cond y None (Some b))
-  by_tests true y p q = let e : a ≡ 4294967295 = eqb-true _ _ p in let f : min a b ≡ b = omega arith in ap cost_in f ∙ (λ i. cond (q i) None (Some b))
-  by_tests false true p q = let e : b ≡ 4294967295 = eqb-true _ _ q in let f : min a b ≡ a = omega arith in ap cost_in f ∙ (λ i. cond (p i) None (Some a))
-  by_tests false false p q = cost_in-some (min a b) (λ e. not_both e (eqb-false _ _ p) (eqb-false _ _ q)) where
-    not_both : min a b ≡ 4294967295 → (a ≡ 4294967295 → ⊥) → (b ≡ 4294967295 → ⊥) → ⊥
-    not_both e f g = f (omega arith)
+cost_in-min a b h g = grind arith
 
 pub least_step : (values kids : List ℕ) (i best : ℕ) → i < length kids → get_or kids i 0 < length values → best ≤ 4294967295 → get_or values (get_or kids i 0) 0 ≤ 4294967295
     → min_costs (cost_in (min best (get_or values (get_or kids i 0) 0))) (cheapest (kid_costs values (drop (i + 1) kids))) ≡ min_costs (cost_in best) (cheapest (kid_costs values (drop i kids)))
-least_step values kids i best h g x y = (λ j. min_costs (cost_in-min best (here values kids i) x y j) (cheapest (kid_costs values (drop (i + 1) kids))))
-    ∙ sym (min-again (cost_in best) (cost_in (here values kids i)) (cheapest (kid_costs values (drop (i + 1) kids)))) ∙ ap (min_costs (cost_in best)) (sym (least-drop values kids i h g))
+least_step values kids i best h g x y = grind (arith, least-drop)
 
 pub least_two : (a b : ℕ) → a ≤ 4294967295 → b ≤ 4294967295 → cost_in (min a b) ≡ cheapest (cost_in a ∷ cost_in b ∷ [])
 least_two a b x y = cost_in-min a b x y ∙ ap (min_costs (cost_in a)) (min_costs-none (cost_in b))

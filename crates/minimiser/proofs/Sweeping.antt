@@ -1,34 +1,33 @@
 -- Marks spread from the root. They say of each literal whether it is part of making the root true at its least cost.
 use Rattle.std.proofs.Common.{◌≡◌, ◌≢◌, ℕ, zero, suc, ◌+◌, ◌-◌, ◌<◌, ◌≤◌, Bool, true, false, cond, eqb, ◌&&◌, ◌||◌, List, [], ◌∷◌, length, get_or, min, All, Option, Some, None, refl, ap, sym, ◌∙◌, subst, arith, inl, inr, ⊎_elim}
+use Rattle.std.proofs.lemmas.Bool.Decides.{nat_tests}
 use Rattle.std.specs.Prelude.{◌⊎◌, ◌==◌, slice_get, nat_le, IsSome}
-use Rattle.std.proofs.lemmas.Bool.{and_from, cases_lt, eqb-true, eq-eqb, leb-true, le-leb, ltb-true, lt-ltb, cases_eq, false_from_ne_true, true_from_ne_false}
+use Rattle.std.proofs.lemmas.Bool.{and_from, cases_lt, eqb-true, eq-eqb, leb-true, le-leb, ltb-true, lt-ltb, cases_eq, false_from_ne_true}
 use Rattle.std.proofs.lemmas.Option.{slice_get-get_or, slice_get_within, get_or_from_slice_get, same_Some}
 use Rattle.std.proofs.Math.Bool.{or-true}
 use Rattle.state_rules.specs.Bits.{bit_in}
-use Rattle.state_rules.specs.Values.{values}
 use Rattle.state_rules.specs.declared.nodes.NodeKind.{NodeKind}
 use Rattle.state_rules.specs.declared.nodes.NodeKind.TheVariants.{Literal, And, Or}
 use Rattle.state_rules.specs.Graphs.{Node, Graph, true_node, node_at, IsGraph}
 use Rattle.state_rules.proofs.NodesFit.{fits-get, literal}
 use Rattle.state_rules.proofs.Members.{In, AtMost}
 use Rattle.conditioner.specs.Words.{known_of}
-use Rattle.conditioner.specs.Models.{least_under, total_cost}
-use Rattle.minimiser.specs.Costs.{part_cost, known_at, cost_at, node_cost}
+use Rattle.conditioner.specs.Models.{total_cost}
+use Rattle.minimiser.specs.Costs.{part_cost, known_at, least_at}
 use Rattle.minimiser.specs.inner.Held.{held_cost}
 use Rattle.minimiser.specs.Stored.{cost_in, AreLeastCosts}
 use Rattle.minimiser.specs.LeastStates.{Suspect, LeastState, OkBelow}
 use Rattle.minimiser.specs.inner.Swept.{IsValue, has_mark, unmarked, IsMarked, is_kid, spread_value, HasMarkedParent, IsSwept, suspect_of, suspect_at}
 use Rattle.minimiser.proofs.Costs.{fault, and_left, and_right}
 use Rattle.minimiser.proofs.Sums.{cost_in-some}
-use Rattle.minimiser.proofs.Whole.{AddHeld, least_is, state_of, assignment_of}
+use Rattle.minimiser.proofs.Whole.{least_is, state_of, assignment_of}
 use Rattle.minimiser.proofs.OnePass.{value_small, length-least_costs, kids_below, literal_at}
-use Rattle.minimiser.proofs.Valued.{node_least, cost_in-is, value-is}
+use Rattle.minimiser.proofs.Valued.{cost_in-is, value-is}
 use Rattle.minimiser.proofs.Derivations.{sum-kid, cheapest-kid, Useful, useful-root, useful-and, useful-or, useful-literal, on-root, descend, costs-at, below, all-below}
 use Rattle.minimiser.proofs.Models.{LeastIs}
 
 pub some-least : (o : Option ℕ) → IsSome o → (m : ℕ) × (o ≡ Some m)
-some-least None h = absurd (cc)
-some-least (Some m) h = (m, refl)
+some-least o h = grind arith
 
 -- ---- marks of values
 
@@ -42,24 +41,12 @@ mark-out v e = (leb-true _ _ (and_left _ _ e), ltb-true _ _ (and_right (nat_le 2
 no-mark : (v : ℕ) → IsValue v → has_mark v ≡ false
 no-mark v h = false_from_ne_true (has_mark v) (λ e. ⊎_elim (λ (q : v < 2147483647). omega (arith, (mark-out v e).0)) (λ (q : v ≡ 4294967295). omega (arith, (mark-out v e).1)) h)
 
-unmarked-same : (v : ℕ) → has_mark v ≡ false → unmarked v ≡ v
-unmarked-same v e = λ i. cond (e i) (v - 2147483648) v
-
-unmarked-in : (v : ℕ) → has_mark v ≡ true → unmarked v ≡ v - 2147483648
-unmarked-in v e = λ i. cond (e i) (v - 2147483648) v
-
 marked : (v : ℕ) → v < 2147483647 → has_mark (v + 2147483648) ≡ true
 marked v h = mark-in (v + 2147483648) (omega arith) (omega arith)
 
-unmarked-marked : (v : ℕ) → v < 2147483647 → unmarked (v + 2147483648) ≡ v
-unmarked-marked v h = unmarked-in (v + 2147483648) (marked v h) ∙ omega arith
-
 pub kid-out : (kids : List ℕ) (j : ℕ) → is_kid kids j ≡ true → In j kids
 kid-out [] j e = absurd (cc)
-kid-out (k ∷ kids) j e = by_test (kid-out kids j) (eqb k j) refl e where
-  by_test : (is_kid kids j ≡ true → In j kids) → (b : Bool) → eqb k j ≡ b → (b || is_kid kids j) ≡ true → In j (k ∷ kids)
-  by_test more true q e = inl (sym (eqb-true _ _ q))
-  by_test more false q e = inr (more e)
+kid-out (k ∷ kids) j e = grind (arith, kid-out kids j)
 
 pub kid-in : (kids : List ℕ) (j : ℕ) → In j kids → is_kid kids j ≡ true
 kid-in [] j m = absurd m
@@ -77,34 +64,16 @@ spread-is kids cost j v = by_test (is_kid kids j && nat_le v cost) refl where
   by_test true e = grows (and_left _ _ e) (leb-true _ _ (and_right (is_kid kids j) _ e))
   by_test false e = stays
 
-spread-kid : (kids : List ℕ) (cost j v : ℕ) → is_kid kids j ≡ true → v ≤ cost → spread_value kids cost j v ≡ v + 2147483648
-spread-kid kids cost j v m h = λ i. cond (and_from _ _ m (le-leb _ _ h) i) (v + 2147483648) v
-
 spread-marked : (kids : List ℕ) (cost j v w : ℕ) → cost < 2147483647 → Spread kids cost j v w → has_mark v ≡ true → has_mark w ≡ true
-spread-marked kids cost j v w small stays e = e
-spread-marked kids cost j v w small (grows m h) e = absurd (omega (arith, (mark-out v e).0))
+spread-marked kids cost j v w small given e = grind arith
 
 spread-unmarked : (kids : List ℕ) (cost j v w : ℕ) → cost < 2147483647 → Spread kids cost j v w → unmarked w ≡ unmarked v
-spread-unmarked kids cost j v w small stays = refl
-spread-unmarked kids cost j v w small (grows m h) = unmarked-marked v (omega arith) ∙ sym (unmarked-same v (no-mark v (inl (omega arith))))
-
-spread-new : (kids : List ℕ) (cost j v w : ℕ) → Spread kids cost j v w → has_mark w ≡ true → (has_mark v ≡ true) ⊎ ((is_kid kids j ≡ true) × (v ≤ cost))
-spread-new kids cost j v w stays e = inl e
-spread-new kids cost j v w (grows m h) e = inr (m, h)
+spread-unmarked kids cost j v w small given = grind arith
 
 -- ---- the sweep
 
--- a value is marked, or it is still the cost
-mark-or-cost : (v c : ℕ) → unmarked v ≡ c → (has_mark v ≡ true) ⊎ (v ≡ c)
-mark-or-cost v c e = by_test (has_mark v) refl where
-  by_test : (b : Bool) → has_mark v ≡ b → (has_mark v ≡ true) ⊎ (v ≡ c)
-  by_test true q = inl q
-  by_test false q = inr (sym (unmarked-same v q) ∙ e)
-
 own-cost : (v c : ℕ) → unmarked v ≡ c → has_mark v ≡ true → (v - 2147483648 ≡ c) × (c < 2147483647)
-own-cost v c e m =
-    let same : v - 2147483648 ≡ c = sym (unmarked-in v m) ∙ e in
-    (same, omega (arith, (mark-out v m).0, (mark-out v m).1))
+own-cost v c e m = grind arith
 
 module _ (nodes : List Node) (cs : List ℕ) where
   -- a marked node is met, and marks its kids that cost no more
@@ -129,40 +98,22 @@ module _ (nodes : List Node) (cs : List ℕ) where
     more : (j : ℕ) → j < length nodes → has_mark (get_or xs j 0) ≡ true → has_mark (get_or ys j 0) ≡ true
     more j h q = spread-marked kids own j (get_or xs j 0) (get_or ys j 0) small (moves j h) q
 
-    -- the nodes from this one on are marked as before
-    old-mark : (k : ℕ) → at ≤ k → k < length nodes → has_mark (get_or ys k 0) ≡ true → has_mark (get_or xs k 0) ≡ true
-    old-mark k h g q = ⊎_elim (λ r. r) (λ r. absurd (omega (arith, before k r.0))) (spread-new kids own k (get_or xs k 0) (get_or ys k 0) (moves k g) q)
-
     kid-marked : (j : ℕ) → is_kid kids j ≡ true → get_or cs j 0 ≤ get_or cs at 0 → has_mark (get_or ys j 0) ≡ true
-    kid-marked j i h =
-        let g : j < length nodes = omega (arith, before j i) in
-        ⊎_elim (λ q. more j g q)
-        (λ (q : get_or xs j 0 ≡ get_or cs j 0). subst (λ v. has_mark v ≡ true) (sym (spreads j g ∙ spread-kid kids own j (get_or xs j 0) i (omega (arith, own-is.0))))
-        (marked (get_or xs j 0) (omega (arith, own-is.1))))
-        (mark-or-cost (get_or xs j 0) (get_or cs j 0) (s.kept j g))
+    kid-marked j i h = grind (arith, nat_tests, before, more, spreads)
 
     new-parent : (k : ℕ) → HasMarkedParent nodes cs xs k → HasMarkedParent nodes cs ys k
     new-parent k p = record { parent = p.parent; within = p.within; marked = more p.parent p.within p.marked; kid = p.kid; cheap = p.cheap }
-
-    -- a kid that got its mark now
-    newly : (k : ℕ) → k < length nodes → is_kid kids k ≡ true → get_or xs k 0 ≤ own → HasMarkedParent nodes cs ys k
-    newly k h i c = record { parent = at; within = lt; marked = more at lt m; kid = i; cheap = omega (arith, is_own, own-is.0) } where
-      is_own : get_or xs k 0 ≡ get_or cs k 0
-      is_own = sym (unmarked-same (get_or xs k 0) (no-mark (get_or xs k 0) (inl (omega (arith, small))))) ∙ s.kept k h
 
     pub swept-met : IsSwept nodes cs ys at
     swept-met = record {
       kept = λ k h. spread-unmarked kids own k (get_or xs k 0) (get_or ys k 0) small (moves k h) ∙ s.kept k h;
       root = more (length nodes - 1) (omega arith) s.root;
-      down = λ k j h g q l i c. ⊎_elim
-          (λ (r : k ≡ at). kid-marked j (subst (λ n. is_kid (node_at nodes n).kids j ≡ true) r i) (subst (λ n. get_or cs j 0 ≤ get_or cs n 0) r c))
-          (λ (r : k ≢ at). more j l (s.down k j (omega arith) g (old-mark k h g q) l i c))
-          (cases_eq k at);
-      up = λ k h q. ⊎_elim
-          (λ r. ⊎_elim (λ x. inl x) (λ x. inr (new-parent k x)) (s.up k h r))
-          (λ r. inr (newly k h r.0 r.1))
-          (spread-new kids own k (get_or xs k 0) (get_or ys k 0) (moves k h) q);
+      down = grind (arith, nat_tests, kid-marked, more);
+      up = grind (arith, new-parent);
     }
+
+pub no-kids : (graph : Graph) → IsGraph graph → (k j var : ℕ) (positive : Bool) (kids : List ℕ) → slice_get graph.nodes k ≡ Some (record { what = Literal positive var; kids = kids }) → In j kids → ⊥
+no-kids graph ok k j var positive kids e i = subst (In j) (literal graph.vars var positive kids (fits-get graph.vars graph.nodes k _ ok.nodes.fit e).kind).alone i
 
 -- kids stand before their parents
 pub kids_before : (graph : Graph) (k : ℕ) (kids : List ℕ) → IsGraph graph → k < length graph.nodes → kids ≡ (node_at graph.nodes k).kids → All (λ j. j < k) kids
@@ -188,6 +139,36 @@ module _ (graph : Graph) (words costs : List ℕ) (ok : IsGraph graph) (total : 
         default (x ∷ xs) zero d h = refl
         default (x ∷ xs) (suc k) d h = default xs k d (omega arith)
 
+-- ---- the look at all nodes
+
+-- the least of the suspects of so many nodes
+pub record IsLeastSuspect (suspect : ℕ → Option ℕ) (parts at first : ℕ) : Type 0 where
+  pub within : first ≤ parts
+  pub found : first < parts → (k : ℕ) × (k < at) × (suspect k ≡ Some first)
+  pub all : (k part : ℕ) → k < at → suspect k ≡ Some part → first ≤ part
+
+module _ (suspect : ℕ → Option ℕ) (parts : ℕ) where
+  pub first-same : (at first : ℕ) → IsLeastSuspect suspect parts at first → suspect at ≡ None → IsLeastSuspect suspect parts (at + 1) first
+  first-same at first f none = grind arith
+
+  pub first-less : (at first part next : ℕ) → IsLeastSuspect suspect parts at first → suspect at ≡ Some part → next ≡ min first part → IsLeastSuspect suspect parts (at + 1) next
+  first-less at first part next f is e = record {
+    within = omega (arith, f.within);
+    found = λ h. ⊎_elim
+        (λ (q : first < part). let same : first ≡ next = omega arith in let x = f.found (omega arith) in (x.0, omega (arith, x.1), x.2 ∙ ap Some same))
+        (λ (q : part ≤ first). let same : part ≡ next = omega arith in (at, omega arith, is ∙ ap Some same))
+        (cases_lt first part);
+    all = grind arith;
+  }
+
+-- the suspects of so many nodes are flagged
+pub record AreFlagged (suspect : ℕ → Option ℕ) (state : List ℕ) (at : ℕ) : Type 0 where
+  pub small : All (λ s. s < 2) state
+  pub found : (part : ℕ) → part < length state → get_or state part 0 ≡ 1 → (k : ℕ) × (k < at) × (suspect k ≡ Some part)
+  pub all : (k part : ℕ) → k < at → part < length state → suspect k ≡ Some part → get_or state part 0 ≡ 1
+
+-- ---- what the sweep says
+
 module _ (graph : Graph) (words costs : List ℕ) (ok : IsGraph graph) (long : length words ≡ graph.vars) (within : length costs ≤ graph.vars) (total : total_cost costs < 2147483647)
     (most : ℕ) (least_most : LeastIs graph costs words most) (cs : List ℕ) (v : AreLeastCosts graph words costs cs) where
   room : length cs ≡ length graph.nodes
@@ -196,37 +177,31 @@ module _ (graph : Graph) (words costs : List ℕ) (ok : IsGraph graph) (long : l
   -- the least cost is that of the held parts and of the root
   pub record RootCost : Type 0 where
     pub cost : ℕ
-    pub is : cost_at (values (node_cost (known_at words) (part_cost costs)) graph.nodes) (length graph.nodes - 1) ≡ Some cost
+    pub is : least_at graph words costs (length graph.nodes - 1) ≡ Some cost
     pub sum : most ≡ held_cost costs words + cost
 
   root-cost : RootCost
-  root-cost = by_cost (node_least graph words costs (length graph.nodes - 1)) refl (sym least_most ∙ least_is graph words costs ok long within) where
-    by_cost : (o : Option ℕ) → node_least graph words costs (length graph.nodes - 1) ≡ o → Some most ≡ AddHeld (held_cost costs words) o → RootCost
-    by_cost None e f = absurd (cc)
-    by_cost (Some c) e f = record { cost = c; is = e; sum = cc }
+  root-cost = grind (arith, least_is)
 
   pub root-low : get_or cs (length graph.nodes - 1) 0 < 2147483647
   root-low = ⊎_elim (λ q. q)
       (λ q. absurd (cc (sym (value-is graph words costs cs v (length graph.nodes - 1) (omega (arith, ok.some))) ∙ ap cost_in q, root-cost.is)))
       (are-values graph words costs ok total cs v (length graph.nodes - 1) 0 (omega (arith, ok.some, room)))
 
-  -- ---- after the sweep
-
   module _ (xs : List ℕ) (s : IsSwept graph.nodes cs xs 0) where
     -- the cost of a marked node
-    cost-of : (k : ℕ) → k < length graph.nodes → IsMarked xs k → node_least graph words costs k ≡ Some (get_or cs k 0)
+    cost-of : (k : ℕ) → k < length graph.nodes → IsMarked xs k → least_at graph words costs k ≡ Some (get_or cs k 0)
     cost-of k h m = sym (value-is graph words costs cs v k h) ∙ cost_in-some (get_or cs k 0) (λ e. absurd (omega (arith, (own-cost (get_or xs k 0) (get_or cs k 0) (s.kept k h) m).1)))
 
     kid-useful : (p k : ℕ) → p < length graph.nodes → k < length graph.nodes → IsMarked xs p → IsMarked xs k → is_kid (node_at graph.nodes p).kids k ≡ true → get_or cs k 0 ≤ get_or cs p 0
         → Useful graph words costs ok p → Useful graph words costs ok k
     kid-useful p k hp hk mp mk kid cheap useful = by_kind (node_at graph.nodes p).what (node_at graph.nodes p).kids (slice_get-get_or graph.nodes p true_node hp) kid where
       by_kind : (what : NodeKind) (kids : List ℕ) → slice_get graph.nodes p ≡ Some (record { what = what; kids = kids }) → is_kid kids k ≡ true → Useful graph words costs ok k
-      by_kind (Literal positive var) [] e i = absurd (cc)
-      by_kind (Literal positive var) (x ∷ kids) e i = absurd (omega (arith, ap length (literal graph.vars var positive (x ∷ kids) (fits-get graph.vars graph.nodes p _ ok.nodes.fit e).kind).alone))
+      by_kind (Literal positive var) kids e i = absurd (no-kids graph ok p k var positive kids e (kid-out kids k i))
       by_kind And kids e i = useful-and graph words costs ok p kids (get_or cs p 0) e (cost-of p hp mp) useful k (kid-out kids k i)
       by_kind Or kids e i =
           let least : get_or cs p 0 ≤ get_or cs k 0 = subst (λ o. AtMost o (get_or cs k 0)) (sym (costs-at graph words costs ok p _ e) ∙ cost-of p hp mp)
-          (cheapest-kid (node_least graph words costs) kids k (get_or cs k 0) (kid-out kids k i) (cost-of k hk mk)) in
+          (cheapest-kid (least_at graph words costs) kids k (get_or cs k 0) (kid-out kids k i) (cost-of k hk mk)) in
           let same : get_or cs k 0 ≡ get_or cs p 0 = omega arith in
           useful-or graph words costs ok p kids (get_or cs p 0) e (cost-of p hp mp) useful k (kid-out kids k i) (cost-of k hk mk ∙ ap Some same)
 
@@ -246,17 +221,7 @@ module _ (graph : Graph) (words costs : List ℕ) (ok : IsGraph graph) (long : l
         let r = root-cost in
         let f = useful-literal graph words costs ok k var kids e (ap known_of open_) useful r.cost r.is in
         let t = state_of graph words costs ok long within f.by f.achieves.agrees f.achieves.holds in
-        record {
-          within = omega arith;
-          open_ = open_;
-          state = t.state;
-          is_least = record {
-            most = most;
-            least_is = least_most;
-            passes = record { long = t.long_state; model = t.model; cheap = omega (arith, t.cost_is, f.achieves.cheap, r.sum) };
-          };
-          faulty = t.bits (var - 1) (omega arith) ∙ ap f.by (omega arith) ∙ f.at;
-        }
+        grind arith
 
     pub suspect-sound : (k part : ℕ) → k < length graph.nodes → suspect_at graph.nodes words (length costs) xs k ≡ Some part → Suspect graph words costs part
     suspect-sound k part h e = by_mark (has_mark (get_or xs k 0)) refl e where
@@ -277,7 +242,7 @@ module _ (graph : Graph) (words costs : List ℕ) (ok : IsGraph graph) (long : l
       by_mark false m q = absurd (cc)
 
     -- a kid of a marked node is marked where it costs no more
-    kid-swept : (k j c d : ℕ) (node : Node) → slice_get graph.nodes k ≡ Some node → node_least graph words costs k ≡ Some c → IsMarked xs k → In j node.kids → node_least graph words costs j ≡ Some d → d ≤ c
+    kid-swept : (k j c d : ℕ) (node : Node) → slice_get graph.nodes k ≡ Some node → least_at graph words costs k ≡ Some c → IsMarked xs k → In j node.kids → least_at graph words costs j ≡ Some d → d ≤ c
         → IsMarked xs j
     kid-swept k j c d node e f m i g le =
         let h : k < length graph.nodes = slice_get_within graph.nodes k node e in
@@ -301,76 +266,22 @@ module _ (graph : Graph) (words costs : List ℕ) (ok : IsGraph graph) (long : l
         subst (λ n. 0 < n) (sym (λ i. fault (kn i) (part_cost costs (suc part)) (false_at i))) (dears part 0 lt) in
         let on = on-root graph words costs ok a.by a.agrees (suc part) (omega arith) (omega arith) false_at dear r.cost r.is a.holds (omega (arith, a.cost_is, p.cheap, same, r.sum)) in
         let x = descend graph words costs ok a.by a.agrees (suc part) (omega arith) (omega arith) false_at dear (IsMarked xs)
-        (λ k kids c f g m j i. let y = sum-kid (node_least graph words costs) kids c j (sym (costs-at graph words costs ok k _ f) ∙ g) i in kid-swept k j c y.0 _ f g m i y.1 y.2)
+        (λ k kids c f g m j i. let y = sum-kid (least_at graph words costs) kids c j (sym (costs-at graph words costs ok k _ f) ∙ g) i in kid-swept k j c y.0 _ f g m i y.1 y.2)
         (λ k kids c f g m j i t. kid-swept k j c c _ f g m i t (omega arith))
         (length graph.nodes) (length graph.nodes - 1) (omega (arith, ok.some)) s.root on in
         (x.node, slice_get_within graph.nodes x.node _ x.is, found x.node x.kids x.is x.marked) where
           found : (k : ℕ) (kids : List ℕ) → slice_get graph.nodes k ≡ Some (record { what = Literal false (suc part); kids = kids }) → IsMarked xs k → suspect_at graph.nodes words (length costs) xs k ≡ Some part
-          found k kids e m =
-              let fits : (nat_le (suc part) (length costs) && (get_or words (suc part - 1) 0 == 0)) ≡ true = and_from _ _ (le-leb _ _ (omega arith)) (eq-eqb _ 0 (ap (λ j. get_or words j 0) (one_less part) ∙ open_)) in
-              (λ i. cond (m i) (suspect_of words (length costs) (get_or_from_slice_get graph.nodes k _ true_node e i).what) None)
-              ∙ (λ i. cond (fits i) (Some (suc part - 1)) None) ∙ ap Some (one_less part)
-
--- ---- the look at all nodes
-
--- the least of the suspects of so many nodes
-pub record IsLeastSuspect (suspect : ℕ → Option ℕ) (parts at first : ℕ) : Type 0 where
-  pub within : first ≤ parts
-  pub found : first < parts → (k : ℕ) × (k < at) × (suspect k ≡ Some first)
-  pub all : (k part : ℕ) → k < at → suspect k ≡ Some part → first ≤ part
-
-module _ (suspect : ℕ → Option ℕ) (parts : ℕ) where
-  pub first-same : (at first : ℕ) → IsLeastSuspect suspect parts at first → suspect at ≡ None → IsLeastSuspect suspect parts (at + 1) first
-  first-same at first f none = record {
-    within = f.within;
-    found = λ h. let x = f.found h in (x.0, omega (arith, x.1), x.2);
-    all = λ k part h e. ⊎_elim (λ (q : k ≡ at). absurd (cc (sym none ∙ ap suspect (sym q), e))) (λ (ne : k ≢ at). f.all k part (omega arith) e) (cases_eq k at);
-  }
-
-  pub first-less : (at first part next : ℕ) → IsLeastSuspect suspect parts at first → suspect at ≡ Some part → next ≡ min first part → IsLeastSuspect suspect parts (at + 1) next
-  first-less at first part next f is e = record {
-    within = omega (arith, f.within);
-    found = λ h. ⊎_elim
-        (λ (q : first < part). let same : first ≡ next = omega arith in let x = f.found (omega arith) in (x.0, omega (arith, x.1), x.2 ∙ ap Some same))
-        (λ (q : part ≤ first). let same : part ≡ next = omega arith in (at, omega arith, is ∙ ap Some same))
-        (cases_lt first part);
-    all = λ k other h r. ⊎_elim
-        (λ (q : k ≡ at). let same : part ≡ other = same_Some part other (sym is ∙ ap suspect (sym q) ∙ r) in omega arith)
-        (λ (ne : k ≢ at). let l = f.all k other (omega arith) r in omega arith)
-        (cases_eq k at);
-  }
-
--- the suspects of so many nodes are flagged
-pub record AreFlagged (suspect : ℕ → Option ℕ) (state : List ℕ) (at : ℕ) : Type 0 where
-  pub small : All (λ s. s < 2) state
-  pub found : (part : ℕ) → part < length state → get_or state part 0 ≡ 1 → (k : ℕ) × (k < at) × (suspect k ≡ Some part)
-  pub all : (k part : ℕ) → k < at → part < length state → suspect k ≡ Some part → get_or state part 0 ≡ 1
-
--- ---- what both calls answer
-
-module _ (graph : Graph) (words costs cs : List ℕ) (ok : IsGraph graph) (long : length words ≡ graph.vars) (within : length costs ≤ graph.vars) (total : total_cost costs < 2147483647)
-    (v : AreLeastCosts graph words costs cs) (some : IsSome (least_under graph words costs)) where
-  pub root-fits : get_or cs (length graph.nodes - 1) 0 < 2147483647
-  root-fits = let l = some-least (least_under graph words costs) some in root-low graph words costs ok long within total l.0 l.1 cs v
-
-  module _ (xs : List ℕ) (s : IsSwept graph.nodes cs xs 0) where
-    pub is-suspect : (k part : ℕ) → k < length graph.nodes → suspect_at graph.nodes words (length costs) xs k ≡ Some part → Suspect graph words costs part
-    is-suspect k part h e = let l = some-least (least_under graph words costs) some in suspect-sound graph words costs ok long within total l.0 l.1 cs v xs s k part h e
-
-    pub is-found : All (λ c. 0 < c) costs → (part : ℕ) → part < length costs → get_or words part 0 ≡ 0 → (h : List Bool) → LeastState graph words costs h → bit_in h part ≡ false
-        → (k : ℕ) × (k < length graph.nodes) × (suspect_at graph.nodes words (length costs) xs k ≡ Some part)
-    is-found dears part lt open_ h is q = let l = some-least (least_under graph words costs) some in suspect-found graph words costs ok long within total l.0 l.1 cs v xs s dears part lt open_ h is q
+          found k kids e m = grind (arith, get_or_from_slice_get)
 
     pub ok-before : All (λ c. 0 < c) costs → (first at : ℕ) → at ≡ length graph.nodes → IsLeastSuspect (suspect_at graph.nodes words (length costs) xs) (length costs) at first → OkBelow graph words costs first
-    ok-before dears first at e f part lt open_ h is = true_from_ne_false (bit_in h part)
-        (λ q. let x = is-found dears part (omega (arith, f.within)) open_ h is q in omega (arith, f.all x.0 part (omega (arith, x.1)) x.2))
+    ok-before dears first at e f part lt open_ h is = grind (arith, suspect-found)
 
     pub first-suspect : (first at : ℕ) → at ≡ length graph.nodes → IsLeastSuspect (suspect_at graph.nodes words (length costs) xs) (length costs) at first → first ≢ length costs → Suspect graph words costs first
-    first-suspect first at e f ne = let x = f.found (omega (arith, f.within)) in is-suspect x.0 first (omega (arith, x.1)) x.2
+    first-suspect first at e f ne = let x = f.found (omega (arith, f.within)) in suspect-sound x.0 first (omega (arith, x.1)) x.2
 
     pub flagged : All (λ c. 0 < c) costs → (state : List ℕ) (at : ℕ) → at ≡ length graph.nodes → length state ≡ length costs → AreFlagged (suspect_at graph.nodes words (length costs) xs) state at
         → (part : ℕ) → part < length costs → (get_or state part 0 ≡ 1 → Suspect graph words costs part) × (Suspect graph words costs part → get_or state part 0 ≡ 1)
     flagged dears state at e l f part lt = (
-      λ one. let x = f.found part (omega arith) one in is-suspect x.0 part (omega (arith, x.1)) x.2,
-      λ p. let x = is-found dears part lt p.open_ p.state p.is_least p.faulty in f.all x.0 part (omega (arith, x.1)) (omega arith) x.2,
+      λ one. let x = f.found part (omega arith) one in suspect-sound x.0 part (omega (arith, x.1)) x.2,
+      λ p. let x = suspect-found dears part lt p.open_ p.state p.is_least p.faulty in f.all x.0 part (omega (arith, x.1)) (omega arith) x.2,
     )

@@ -1,40 +1,33 @@
 -- What the numbers of nodes say that are their least costs.
-use Rattle.std.proofs.Common.{◌≡◌, ℕ, ◌<◌, ◌≤◌, Bool, true, false, cond, eqb, List, length, get_or, Option, Some, None, refl, ap, sym, ◌∙◌, arith}
+use Rattle.std.proofs.Common.{◌≡◌, ℕ, ◌<◌, ◌≤◌, true, List, length, get_or, Option, Some, None, refl, ap, sym, ◌∙◌, arith}
 use Rattle.std.proofs.Math.Seq.{take-length}
 use Rattle.state_rules.specs.Assignments.{Assignment}
 use Rattle.state_rules.specs.Values.{values}
 use Rattle.state_rules.specs.Graphs.{Graph, is_true, mentions, IsGraph}
 use Rattle.state_rules.proofs.Members.{AtMost}
-use Rattle.minimiser.specs.Costs.{part_cost, known_at, cost_at, node_cost}
+use Rattle.minimiser.specs.Costs.{part_cost, known_at, cost_at, node_cost, least_at}
 use Rattle.minimiser.specs.Stored.{cost_in, costs_to, AreLeastCosts}
 use Rattle.minimiser.proofs.Costs.{Agrees, faults_in}
 use Rattle.minimiser.proofs.Sums.{cost_at-map}
 use Rattle.minimiser.proofs.OnePass.{length-least_costs}
 use Rattle.minimiser.proofs.Derivations.{is_cost}
 
--- the least cost at a node
-abbrev pub node_least : Graph → List ℕ → List ℕ → ℕ → Option ℕ
-node_least graph words costs k = cost_at (values (node_cost (known_at words) (part_cost costs)) graph.nodes) k
-
 pub cost_in-is : (v c : ℕ) → cost_in v ≡ Some c → v ≡ c
-cost_in-is v c e = by_test (eqb v 4294967295) e where
-  by_test : (b : Bool) → cond b None (Some v) ≡ Some c → v ≡ c
-  by_test true q = absurd (cc)
-  by_test false q = cc
+cost_in-is v c e = grind arith
 
 module _ (graph : Graph) (words costs : List ℕ) (cs : List ℕ) (v : AreLeastCosts graph words costs cs) where
-  pub value-is : (k : ℕ) → k < length graph.nodes → cost_in (get_or cs k 0) ≡ node_least graph words costs k
+  pub value-is : (k : ℕ) → k < length graph.nodes → cost_in (get_or cs k 0) ≡ least_at graph words costs k
   unfolding costs_to
   value-is k h = sym (cost_at-map cs k (omega (arith, length-least_costs graph words costs cs v))) ∙ ap (λ xs. cost_at xs k) v
       ∙ (λ i. cost_at (values (node_cost (known_at words) (part_cost costs)) (take-length graph.nodes i)) k)
 
   -- a node that is true has a cost, and no less than that is below it
   pub record HasLeast (a : Assignment) (k : ℕ) : Type 0 where
-    pub is : cost_at (values (node_cost (known_at words) (part_cost costs)) graph.nodes) k ≡ Some (get_or cs k 0)
+    pub is : least_at graph words costs k ≡ Some (get_or cs k 0)
     pub low : get_or cs k 0 ≤ faults_in (known_at words) (part_cost costs) (length costs) (λ u. mentions graph.nodes u k) a
 
   pub has_least : IsGraph graph → (a : Assignment) → Agrees (known_at words) (part_cost costs) (length costs) a → (k : ℕ) → k < length graph.nodes → is_true graph.nodes k a ≡ true → HasLeast a k
-  has_least ok a agree k h e = by_cost (node_least graph words costs k) refl ((is_cost graph words costs ok k).bound a agree e) where
-    by_cost : (o : Option ℕ) → node_least graph words costs k ≡ o → AtMost o (faults_in (known_at words) (part_cost costs) (length costs) (λ u. mentions graph.nodes u k) a) → HasLeast a k
+  has_least ok a agree k h e = by_cost (least_at graph words costs k) refl ((is_cost graph words costs ok k).bound a agree e) where
+    by_cost : (o : Option ℕ) → least_at graph words costs k ≡ o → AtMost o (faults_in (known_at words) (part_cost costs) (length costs) (λ u. mentions graph.nodes u k) a) → HasLeast a k
     by_cost None q b = absurd b
     by_cost (Some c) q b = let w = cost_in-is (get_or cs k 0) c (value-is k h ∙ q) in record { is = q ∙ ap Some (sym w); low = omega arith }

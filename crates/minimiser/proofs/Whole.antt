@@ -1,13 +1,12 @@
 -- The least cost of the models of a graph is what the costs of its nodes say.
-use Rattle.std.proofs.Common.{◌≡◌, ℕ, zero, suc, ◌+◌, ◌-◌, ◌<◌, ◌≤◌, Bool, true, false, cond, ◌&&◌, List, [], ◌∷◌, ◌++◌, length, take, drop, get_or, Option, Some, None, refl, ap, sym, ◌∙◌, subst, arith, length-append, length-drop, ⊎_elim}
+use Rattle.std.proofs.Common.{◌≡◌, ℕ, zero, suc, ◌+◌, ◌-◌, ◌<◌, ◌≤◌, Bool, true, cond, ◌&&◌, List, [], ◌∷◌, ◌++◌, length, take, drop, get_or, Option, Some, refl, ap, sym, ◌∙◌, subst, arith, length-append, length-drop}
 use Rattle.std.specs.Prelude.{option_map}
-use Rattle.std.proofs.lemmas.Bool.{and_from, cases_lt}
+use Rattle.std.proofs.lemmas.Bool.{and_from}
 use Rattle.std.proofs.lemmas.List.{take-append-drop, length-take-le, get_or_past}
 use Rattle.state_rules.specs.Bits.{bit_in, lists_of_bits}
 use Rattle.state_rules.specs.Cases.{agrees_at}
 use Rattle.state_rules.specs.Ranking.{cost, least}
 use Rattle.state_rules.specs.Assignments.{Assignment, assignment}
-use Rattle.state_rules.specs.Values.{values}
 use Rattle.state_rules.specs.Graphs.{Graph, mentions, is_true, holds, IsGraph}
 use Rattle.state_rules.proofs.Members.{In, bits_in, bits_length, any_from, any_in, AtMost}
 use Rattle.state_rules.proofs.Mentions.{mentioned-range}
@@ -15,7 +14,7 @@ use Rattle.state_rules.proofs.Bits.{bit_in-front}
 use Rattle.conditioner.specs.Words.{known_of}
 use Rattle.conditioner.specs.Models.{has_model, fits_words, models}
 use Rattle.conditioner.proofs.FittingWords.{fits_words-at, fits_words-from}
-use Rattle.minimiser.specs.Costs.{part_cost, known_at, cost_at, node_cost}
+use Rattle.minimiser.specs.Costs.{part_cost, known_at, least_at}
 use Rattle.minimiser.specs.inner.Held.{held_one, held_cost}
 use Rattle.node_costs.specs.Costs.{total, TestCost, StateCost}
 use Rattle.node_costs.proofs.Sets.{least-more}
@@ -27,12 +26,7 @@ use Rattle.minimiser.proofs.Nodes.{is_cost}
 -- ---- the cost of a state
 
 one_cost : (k : Option Bool) (c : ℕ) (b : Bool) → agrees_at k b ≡ true → cond b 0 c ≡ held_one c k + fault k c b
-one_cost None c true e = refl
-one_cost None c false e = omega arith
-one_cost (Some true) c true e = refl
-one_cost (Some true) c false e = absurd (cc)
-one_cost (Some false) c true e = absurd (cc)
-one_cost (Some false) c false e = omega arith
+one_cost k c b e = grind arith
 
 -- what the held parts cost, as a sum over their variables
 held-total : (f : ℕ → ℕ) (v : ℕ) (costs words : List ℕ) → length costs ≤ length words → ((i : ℕ) → i < length costs → f (v + i) ≡ held_one (get_or costs i 0) (known_of (get_or words i 0))) → total f v (length costs) ≡ held_cost costs words
@@ -44,8 +38,7 @@ held-total f v (c ∷ costs) (w ∷ words) m e =
 
 -- a variable that is no part's costs nothing
 pub part_cost-none : (costs : List ℕ) (v : ℕ) → ((1 ≤ v) → (v < 1 + length costs) → ⊥) → part_cost costs v ≡ 0
-part_cost-none costs zero h = refl
-part_cost-none costs (suc i) h = get_or_past costs i 0 (⊎_elim (λ p. absurd (h (omega arith) (omega arith))) (λ p. p) (cases_lt i (length costs)))
+part_cost-none costs v h = grind (arith, get_or_past)
 
 -- ---- an assignment as a list
 
@@ -68,8 +61,7 @@ abbrev pub AddHeld : ℕ → Option ℕ → Option ℕ
 AddHeld held c = option_map (λ n. held + n) c
 
 pub from_bounds : (o : Option ℕ) (n : ℕ) → AtMost o n → ((k : ℕ) → o ≡ Some k → n ≤ k) → o ≡ Some n
-from_bounds None n h low = absurd h
-from_bounds (Some k) n h low = let l = low k refl in ap Some (omega arith)
+from_bounds o n h low = grind arith
 
 less_one : (i : ℕ) → i ≡ 1 + i - 1
 less_one i = omega arith
@@ -87,13 +79,10 @@ module _ (graph : Graph) (words costs : List ℕ) (ok : IsGraph graph) (long : l
   abbrev truth_of : Assignment → Bool
   truth_of a = is_true graph.nodes root a
 
-  abbrev root_cost : Option ℕ
-  root_cost = cost_at (values (node_cost kn price) graph.nodes) root
-
   abbrev held : ℕ
   held = held_cost costs words
 
-  root_is : IsLeastCost kn price (length costs) truth_of (λ v. mentions graph.nodes v root) root_cost
+  root_is : IsLeastCost kn price (length costs) truth_of (λ v. mentions graph.nodes v root) (least_at graph words costs root)
   root_is = is_cost kn price (length costs) (part_cost-none costs) graph ok root
 
   -- the cost of a state that agrees
@@ -133,8 +122,7 @@ module _ (graph : Graph) (words costs : List ℕ) (ok : IsGraph graph) (long : l
       let same : (i : ℕ) → i < length costs → bit_in bits i ≡ a (1 + i) = λ i h. sym (bit_in-front bits others i (omega arith)) ∙ ap (λ xs. bit_in xs i) joins ∙ bit_in-bits_from a 1 graph.vars i (omega arith) in
       record { state = bits; long_state = h_long; model = passes; cost_is = cost_by_bits bits a h_long same agree; bits = same } where
         full_agrees : (a : Assignment) → Agrees kn price (length costs) a → fits_words words (bits_from a 1 graph.vars) ≡ true
-        full_agrees a ag = fits_words-from words (bits_from a 1 graph.vars)
-            (λ i h. rw (bit_in-bits_from a 1 graph.vars i (omega (arith, h, length-bits_from a 1 graph.vars))) (subst (λ j. agrees_at (known_of (get_or words j 0)) (a (1 + i)) ≡ true) (sym (less_one i)) (ag (1 + i))))
+        full_agrees a ag = grind (arith, fits_words-from, bit_in-bits_from, length-bits_from)
 
         full_true : (a : Assignment) → truth_of (assignment (bits_from a 1 graph.vars)) ≡ truth_of a
         full_true a = root_is.local _ a (λ v m. let h = mentioned-range graph.vars graph.nodes v root ok.nodes.fit m in bit_in-bits_from a 1 graph.vars (v - 1) (omega (arith, h.low, h.high)) ∙ ap a (omega (arith, h.low, h.high)))
@@ -157,10 +145,10 @@ module _ (graph : Graph) (words costs : List ℕ) (ok : IsGraph graph) (long : l
       record { by = assignment (h ++ r.item); agrees = agree; holds = and_right (fits_words words (h ++ r.item)) _ r.passes; cost_is = cost_by_bits h (assignment (h ++ r.item)) l same agree; bits = same }
 
   -- The least cost of a model is that of the held parts and of the root.
-  pub least_is : least costs (models graph words (length costs)) ≡ AddHeld held root_cost
-  least_is = least-in costs (length costs) (has_model graph (fits_words words) (length costs)) (AddHeld held root_cost)
+  pub least_is : least costs (models graph words (length costs)) ≡ AddHeld held (least_at graph words costs root)
+  least_is = least-in costs (length costs) (has_model graph (fits_words words) (length costs)) (AddHeld held (least_at graph words costs root))
       (least-more (TestCost (open_weights kn price (length costs)) (λ v. true) truth_of) (StateCost costs (length costs) (has_model graph (fits_words words) (length costs))) held
       (λ n c. let s = state_of c.by c.agrees c.meets in record { state = s.state; long = s.long_state; passes = s.model; cost_is = s.cost_is ∙ ap (λ k. held + k) c.cost_is })
       (λ n s. let a = assignment_of s.state s.long s.passes in
       (all_faults kn price (length costs) a.by, record { by = a.by; agrees = a.agrees; meets = a.holds; cost_is = refl }, sym a.cost_is ∙ s.cost_is))
-      root_cost (widened kn price (length costs) truth_of (λ v. mentions graph.nodes v root) (λ v. true) root_cost (λ v p. refl) root_is))
+      (least_at graph words costs root) (widened kn price (length costs) truth_of (λ v. mentions graph.nodes v root) (λ v. true) (least_at graph words costs root) (λ v p. refl) root_is))

@@ -1,3 +1,4 @@
 -- What only private contracts cite.
 pub mod Held
 pub mod Swept
+pub mod Outside

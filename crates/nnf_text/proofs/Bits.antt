@@ -1,5 +1,6 @@
 -- Words joined one after the other, and the bit of a variable among some that rise.
-use Rattle.std.proofs.Common.{◌≡◌, ℕ, ◌+◌, ◌*◌, ◌%◌, ◌^◌, ◌<◌, ◌≤◌, Bool, true, false, not, ◌&&◌, ◌||◌, ◌==◌, List, [], ◌∷◌, ◌++◌, map, length, take, get_or, refl, sym, ap, ◌∙◌, arith, inl, inr}
+use Rattle.std.proofs.Common.{◌≡◌, ℕ, ◌+◌, ◌*◌, ◌%◌, ◌^◌, ◌<◌, ◌≤◌, Bool, false, not, ◌&&◌, ◌||◌, ◌==◌, List, [], ◌∷◌, ◌++◌, map, length, take, get_or, sym, ap, ◌∙◌, arith, inl, inr}
+use Rattle.std.proofs.lemmas.Bool.Decides.{nat_tests}
 use Rattle.std.specs.Prelude.{bit_and, bit_or, ◌⊎◌}
 use Rattle.std.specs.List.{list_any}
 use Rattle.std.specs.List.Sorted.{IsStrictlyIncreasing}
@@ -15,14 +16,8 @@ use Rattle.nnf_text.specs.inner.Sharing.{has, IsJoined}
 -- ---- one more
 
 more-than-one : (bs : List Bool) (x : Bool) → not (at_most_one (bs ++ x ∷ [])) ≡ (not (at_most_one bs) || (list_any (λ b. b) bs && x))
-more-than-one [] true = refl
-more-than-one [] false = refl
-more-than-one (true ∷ bs) x = ap (λ y. not (not y)) (any-push (λ b. b) bs x) ∙ by (list_any (λ b. b) bs) x where
-  by : (y z : Bool) → not (not (y || z)) ≡ (not (not y) || z)
-  by true z = refl
-  by false true = refl
-  by false false = refl
-more-than-one (false ∷ bs) x = more-than-one bs x
+more-than-one [] x = grind (arith, nat_tests)
+more-than-one (bit ∷ bs) x = grind (arith, nat_tests, any-push, more-than-one bs x)
 
 -- the words of the kids before a place were joined, and then one more
 pub both_more : (column kids : List ℕ) (i any twice word : ℕ) → i < length kids → word ≡ get_or column (get_or kids i 0) 0 → IsJoined column (take i kids) any twice
@@ -40,21 +35,14 @@ both_more column kids i any twice word lt is joined = record {
 -- ---- the bit of a variable among some that rise
 
 pub in_order : (xs : List ℕ) → IsStrictlyIncreasing xs → (i j : ℕ) → i ≤ j → j < length xs → get_or xs i 0 ≤ get_or xs j 0
-in_order xs rise i j le h = elim (cases_lt i j) [
-  | inl before ↦ (let below : get_or xs i 0 < get_or xs j 0 = AllPairs-from_increasing xs rise i j 0 before h in omega arith)
-  | inr past ↦ (let same : i ≡ j = omega arith in omega (arith, ap (λ k. get_or xs k 0) same))
-]
+in_order xs rise i j le h = grind (arith, nat_tests, cases_lt, AllPairs-from_increasing)
 
 module _ (variables : List ℕ) (rise : IsStrictlyIncreasing variables) (short : length variables ≤ 64) (var : ℕ) (some : 0 < var) where
   pairs : (i j : ℕ) → i < j → j < length variables → get_or variables i 0 < get_or variables j 0
   pairs i j h g = AllPairs-from_increasing variables rise i j 0 h g
 
   other_places : (place b : ℕ) → place < length variables → get_or variables place 0 ≡ var → (b ≡ place → ⊥) → (var == get_or variables b 0) ≡ false
-  other_places place b inside is other = ne_eqb var (get_or variables b 0) (λ same. at_side (cases_lt b place) (cases_lt b (length variables)) same) where
-    at_side : (b < place) ⊎ (place ≤ b) → (b < length variables) ⊎ (length variables ≤ b) → var ≡ get_or variables b 0 → ⊥
-    at_side (inl before) within same = omega (arith, pairs b place before inside, is)
-    at_side (inr behind) (inl within) same = omega (arith, pairs place b (omega arith) within, is)
-    at_side (inr behind) (inr past) same = omega (arith, get_or_past variables b 0 past)
+  other_places place b inside is other = grind (arith, nat_tests, ne_eqb, cases_lt, pairs, get_or_past)
 
   pub found-bit : (place word : ℕ) → place < length variables → get_or variables place 0 ≡ var → word ≡ 1 * 2 ^ place % 18446744073709551616 → (b : ℕ) → b < 64 → has_bit word b ≡ (var == get_or variables b 0)
   found-bit place word inside is w b small = ap (λ n. has_bit n b) w ∙ one_bit 64 place b (omega arith) ∙ by (cases_eq b place) where
@@ -63,7 +51,4 @@ module _ (variables : List ℕ) (rise : IsStrictlyIncreasing variables) (short :
     by (inr other) = ne_eqb b place other ∙ sym (other_places place b inside is other)
 
   pub no-bit : ((k : ℕ) → k < length variables → get_or variables k 0 ≡ var → ⊥) → (b : ℕ) → b < 64 → has_bit 0 b ≡ (var == get_or variables b 0)
-  no-bit none b small = has_bit-zero b ∙ sym (ne_eqb var (get_or variables b 0) (λ same. by (cases_lt b (length variables)) same)) where
-    by : (b < length variables) ⊎ (length variables ≤ b) → var ≡ get_or variables b 0 → ⊥
-    by (inl within) same = none b within (sym same)
-    by (inr past) same = omega (arith, get_or_past variables b 0 past)
+  no-bit none b small = grind (arith, nat_tests, has_bit-zero, ne_eqb, cases_lt, none, get_or_past)

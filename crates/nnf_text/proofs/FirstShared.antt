@@ -1,6 +1,6 @@
 -- The first shared variable is the one that is told.
-use Rattle.std.proofs.Common.{◌≡◌, ℕ, zero, suc, ◌+◌, ◌*◌, ◌<◌, ◌≤◌, Bool, true, false, List, [], ◌∷◌, length, Option, Some, None, Ok, Err, refl, sym, ap, ◌∙◌, subst, arith, inl, inr}
-use Rattle.std.specs.Prelude.{◌⊎◌}
+use Rattle.std.proofs.Common.{◌≡◌, ℕ, zero, suc, ◌+◌, ◌*◌, ◌<◌, ◌≤◌, Bool, true, false, List, [], ◌∷◌, length, Option, Some, None, Ok, Err, refl, sym, ap, ◌∙◌, arith, inl, inr}
+use Rattle.std.proofs.lemmas.Bool.Decides.{nat_tests}
 use Rattle.std.specs.List.{find, filter_map, cons_option, enumerate_from, range_with_len, AllByRecursion}
 use Rattle.std.proofs.lemmas.Bool.{cond-false, cases_Bool, cases_lt, le-ltb, not-false}
 use Rattle.state_rules.specs.Graphs.{Node, Graph, node_at, mentions, apart_at, nodes_fit, Decomposable, shares}
@@ -8,7 +8,7 @@ use Rattle.state_rules.proofs.Mentions.{IsUsed-shared, IsUsed-range}
 use Rattle.nnf_text.specs.declared.checking.TheConstants.{BITS_LIMIT}
 use Rattle.nnf_text.specs.GraphTexts.{Shared, read_unless, shared_at, node_shared, all_shared, checked}
 use Rattle.nnf_text.specs.inner.Sharing.{AreVariables, first_of, FirstOf}
-use Rattle.nnf_text.proofs.Options.{chosen, none≢some}
+use Rattle.nnf_text.proofs.Options.{none≢some}
 use Rattle.nnf_text.proofs.Sparse.{Rises-from, find-sparse}
 
 -- ---- all variables, by those that literals have
@@ -19,10 +19,7 @@ module _ (vars : ℕ) (nodes : List Node) (variables : List ℕ) (fit : nodes_fi
   in_range k v shared = let range = IsUsed-range vars nodes v fit (IsUsed-shared nodes (node_at nodes k) v shared) in omega (arith, range.high)
 
   zero_unshared : (k : ℕ) → shares nodes (node_at nodes k) 0 ≡ false
-  zero_unshared k = elim (cases_Bool (shares nodes (node_at nodes k) 0)) [
-    | inl shared ↦ (let range = IsUsed-range vars nodes 0 fit (IsUsed-shared nodes (node_at nodes k) 0 shared) in absurd (omega (arith, range.low)))
-    | inr none ↦ none
-  ]
+  zero_unshared k = grind (arith, nat_tests, cases_Bool, IsUsed-range, IsUsed-shared)
 
   first_of-all : (k : ℕ) → first_of nodes variables k ≡ first_of nodes (range_with_len 1 vars) k
   first_of-all k =
@@ -52,9 +49,7 @@ first-refused : (graph : Graph) (own : ℕ) (nodes : List Node) (node var : ℕ)
     → ((k : ℕ) → k < node → find (shares graph.nodes (node_at nodes k)) (range_with_len 1 graph.vars) ≡ None)
     → read_unless graph (filter_map (node_shared graph) (enumerate_from own nodes)) ≡ Err (Shared (own + node) var)
 first-refused graph own [] node var inside found before = absurd (omega arith)
-first-refused graph own (n ∷ nodes) zero var inside found before =
-    let here : own ≡ own + 0 = omega arith in
-    ap (λ o. read_unless graph (cons_option (shared_at own o) (filter_map (node_shared graph) (enumerate_from (own + 1) nodes)))) found ∙ ap (λ k. Err (Shared k var)) here
+first-refused graph own (n ∷ nodes) zero var inside found before = grind (arith, nat_tests)
 first-refused graph own (n ∷ nodes) (suc node) var inside found before =
     let next : (own + 1) + node ≡ own + suc node = omega arith in
     ap (λ o. read_unless graph (cons_option (shared_at own o) (filter_map (node_shared graph) (enumerate_from (own + 1) nodes)))) (before 0 (omega arith))
@@ -65,13 +60,7 @@ first-refused graph own (n ∷ nodes) (suc node) var inside found before =
 
 passed_over : (p : ℕ → Bool) (start len : ℕ) → find p (range_with_len start len) ≡ None → (v : ℕ) → start ≤ v → v < start + len → p v ≡ false
 passed_over p start zero e v low high = absurd (omega arith)
-passed_over p start (suc len) e v low high = elim (chosen (p start) (Some start) (find p (range_with_len (start + 1) len)) None e) [
-  | inl here ↦ absurd (none≢some start (sym here.1))
-  | inr later ↦ by_place (cases_lt start v) later.0 (passed_over p (start + 1) len later.1)
-] where
-  by_place : (start < v) ⊎ (v ≤ start) → p start ≡ false → ((u : ℕ) → start + 1 ≤ u → u < (start + 1) + len → p u ≡ false) → p v ≡ false
-  by_place (inl above) first rest = rest v (omega arith) (omega arith)
-  by_place (inr here) first rest = let same : start ≡ v = omega arith in subst (λ u. p u ≡ false) same first
+passed_over p start (suc len) e v low high = grind (arith, nat_tests, p, none≢some, cases_lt, passed_over p (start + 1) len)
 
 all_at : (P : Node → Type 0) (nodes : List Node) → ((k : ℕ) → k < length nodes → P (node_at nodes k)) → AllByRecursion P nodes
 all_at P [] each = tt

@@ -1,13 +1,13 @@
 -- The nodes of a text, line by line.
-use Rattle.std.proofs.Common.{◌≡◌, ℕ, ◌+◌, true, false, not, List, [], ◌∷◌, ◌++◌, map, length, Option, Some, None, Ok, Err, refl, sym, ap, ◌∙◌, arith, append_assoc, append-nil}
+use Rattle.std.proofs.Common.{◌≡◌, ℕ, ◌+◌, true, false, not, List, [], ◌∷◌, ◌++◌, length, Option, Some, None, Ok, Err, ap, ◌∙◌, arith, append_assoc, append-nil}
+use Rattle.std.proofs.lemmas.Bool.Decides.{nat_tests}
 use Rattle.std.specs.Prelude.{nat_lt}
-use Rattle.std.specs.List.{list_all, filter, filter_map, cons_option, enumerate_from}
+use Rattle.std.specs.List.{list_all, filter_map, cons_option, enumerate_from}
 use Rattle.std.proofs.lemmas.Bool.{cond-true, cond-false, not_from_false}
 use Rattle.std.proofs.lemmas.List.{length-append}
-use Rattle.text_rules.specs.Tokens.{words}
 use Rattle.text_rules.specs.Expected.{IsExpectedFault}
 use Rattle.state_rules.specs.Graphs.{Node, Graph, edges}
-use Rattle.nnf_text.specs.GraphTexts.{Header, node_of, node_fault, variable_fits, has_words, node_at_line, line_fault, fault_at, differs, LineFault, WrongLine, WrongChild, Refusal, AtLine, Parsed, read_unless, parsed_below, parsed, checked_if, read_graph}
+use Rattle.nnf_text.specs.GraphTexts.{Header, node_of, node_fault, variable_fits, node_at_line, line_fault, fault_at, differs, LineFault, WrongLine, WrongChild, Refusal, AtLine, Parsed, read_unless, parsed_below, parsed, checked_if, read_graph}
 use Rattle.nnf_text.specs.inner.Reading.{filled_from, nodes_behind, if_counted}
 use Rattle.nnf_text.proofs.Options.{none≢some}
 
@@ -47,20 +47,10 @@ module _ (vars number : ℕ) (done : List Node) (lines : List (List ℕ)) where
   first_by o fault = read_unless (record { nodes = done ++ cons_option o []; vars = vars }) (cons_option (fault_at number fault) [])
 
   right_first : (more : List Node) (o : Option Node) (fault : Option LineFault) → (o ≡ None → fault ≡ Some WrongLine) → first_by o fault ≡ Ok (record { nodes = more; vars = vars }) → whole_by o fault ≡ nodes_behind vars more rest
-  right_first more None None form e = absurd (none≢some WrongLine (form refl))
-  right_first more o (Some n) form e = let no : ⊥ = cc in absurd no
-  right_first more (Some node) None form e =
-      let read : graph_of (done ++ node ∷ []) ≡ graph_of more = cc in
-      let same = ap (λ (g : Graph). g.nodes) read in
-      let long : length done + 1 ≡ length more = omega (arith, ap length same, length-append done (node ∷ [])) in
-      (λ i. read_unless (record { nodes = longer same i; vars = vars }) (filter_map (line_fault vars) (enumerate_from (long i) rest)))
-    where
-      longer : done ++ node ∷ [] ≡ more → done ++ node ∷ filter_map node_at_line rest ≡ more ++ filter_map node_at_line rest
-      longer same = sym (append_assoc done (node ∷ []) (filter_map node_at_line rest)) ∙ ap (λ ns. ns ++ filter_map node_at_line rest) same
+  right_first more o fault form e = grind (arith, nat_tests, none≢some, length-append, append_assoc)
 
   wrong_first : (o : Option Node) (fault : Option LineFault) (r : Refusal) → first_by o fault ≡ Err r → whole_by o fault ≡ Err r
-  wrong_first o None r e = let no : ⊥ = cc in absurd no
-  wrong_first o (Some n) r e = e
+  wrong_first o fault r e = grind (arith, nat_tests)
 
   no_form : (o : Option Node) → o ≡ None → node_fault vars (length done) o ≡ Some WrongLine
   no_form o e = ap (node_fault vars (length done)) e
@@ -68,38 +58,25 @@ module _ (vars number : ℕ) (done : List Node) (lines : List (List ℕ)) where
   -- a line that was read goes to the nodes
   pub line-more : (line : List ℕ) (more : List Node) → nodes_behind vars done (filled_from number (line ∷ [])) ≡ Ok (record { nodes = more; vars = vars })
       → nodes_behind vars done (filled_from number (line ∷ lines)) ≡ nodes_behind vars more rest
-  line-more line more e = by (words line) e where
-    by : (ws : List (List ℕ)) → nodes_behind vars done (filter has_words ((number, ws) ∷ [])) ≡ Ok (record { nodes = more; vars = vars })
-        → nodes_behind vars done (filter has_words ((number, ws) ∷ enumerate_from (number + 1) (map words lines))) ≡ nodes_behind vars more rest
-    by [] h =
-        let read : graph_of (done ++ []) ≡ graph_of more = cc in
-        ap (λ ns. nodes_behind vars ns rest) (sym (append-nil done) ∙ ap (λ (g : Graph). g.nodes) read)
-    by (w ∷ ws) h = right_first more (node_of (w ∷ ws)) (node_fault vars (length done) (node_of (w ∷ ws))) (no_form (node_of (w ∷ ws))) h
+  line-more line more e = grind (arith, nat_tests, append-nil, right_first, no_form)
 
   -- a line that is refused is the first one
   pub line-refused : (line : List ℕ) (r : Refusal) → nodes_behind vars done (filled_from number (line ∷ [])) ≡ Err r → nodes_behind vars done (filled_from number (line ∷ lines)) ≡ Err r
-  line-refused line r e = by (words line) e where
-    by : (ws : List (List ℕ)) → nodes_behind vars done (filter has_words ((number, ws) ∷ [])) ≡ Err r
-        → nodes_behind vars done (filter has_words ((number, ws) ∷ enumerate_from (number + 1) (map words lines))) ≡ Err r
-    by [] h = let no : ⊥ = cc in absurd no
-    by (w ∷ ws) h = wrong_first (node_of (w ∷ ws)) (node_fault vars (length done) (node_of (w ∷ ws))) r h
+  line-refused line r e = grind (arith, nat_tests, wrong_first)
 
 -- ---- refusals
 
 -- what refuses the one refuses the other
 pub refused-too : (fault : Option Refusal) (a b : Parsed) → ((r : Refusal) → a ≡ Err r → b ≡ Err r) → IsExpectedFault fault a → IsExpectedFault fault b
-refused-too None a b more h = tt
-refused-too (Some r) a b more h = more r h
+refused-too fault a b more h = grind (arith, nat_tests)
 
 -- ---- a whole text
 
 unless-more : (graph : Graph) (faults others : List Refusal) (given : Graph) → read_unless graph faults ≡ Ok given → read_unless graph (faults ++ others) ≡ read_unless given others
-unless-more graph [] others given e = let same : graph ≡ given = cc in ap (λ g. read_unless g others) same
-unless-more graph (f ∷ faults) others given e = let no : ⊥ = cc in absurd no
+unless-more graph faults others given e = grind (arith, nat_tests)
 
 unless-refused : (graph : Graph) (faults others : List Refusal) (r : Refusal) → read_unless graph faults ≡ Err r → read_unless graph (faults ++ others) ≡ Err r
-unless-refused graph [] others r e = let no : ⊥ = cc in absurd no
-unless-refused graph (f ∷ faults) others r e = e
+unless-refused graph faults others r e = grind (arith, nat_tests)
 
 module _ (text : List ℕ) (header : Header) (lines : List (ℕ × List (List ℕ))) (below : parsed text ≡ parsed_below lines (Some header)) where
   abbrev with_nodes : List Node → Graph
@@ -123,11 +100,7 @@ module _ (text : List ℕ) (header : Header) (lines : List (ℕ × List (List �
 
   module _ (nodes : List Node) (read : nodes_behind header.vars [] lines ≡ Ok (with_nodes nodes)) where
     parsed-counted : parsed text ≡ if_counted header nodes
-    parsed-counted = grouped ∙ unless-more (with_nodes all_nodes) all_faults (counts all_nodes) (with_nodes nodes) read ∙ ap (λ ns. read_unless (with_nodes nodes) (counts ns)) (same all_faults read)
-      where
-        same : (faults : List Refusal) → read_unless (with_nodes all_nodes) faults ≡ Ok (with_nodes nodes) → all_nodes ≡ nodes
-        same [] h = let g : with_nodes all_nodes ≡ with_nodes nodes = cc in ap (λ (k : Graph). k.nodes) g
-        same (f ∷ faults) h = let no : ⊥ = cc in absurd no
+    parsed-counted = grind (arith, nat_tests, grouped, unless-more)
 
     -- and so is that of a count
     pub read-counts : (fault : Option Refusal) → IsExpectedFault fault (if_counted header nodes) → IsExpectedFault fault (read_graph text)

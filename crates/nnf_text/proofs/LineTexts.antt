@@ -1,5 +1,6 @@
 -- The texts of lines, as they are written.
-use Rattle.std.proofs.Common.{◌≡◌, ℕ, List, [], ◌∷◌, ◌++◌, map, length, codes, sym, ap, ◌∙◌, append_assoc}
+use Rattle.std.proofs.Common.{◌≡◌, ℕ, List, [], ◌∷◌, ◌++◌, map, length, codes, sym, ap, ◌∙◌, append_assoc, arith}
+use Rattle.std.proofs.lemmas.Bool.Decides.{nat_tests}
 use Rattle.std.specs.Prelude.{decimal}
 use Rattle.std.specs.List.{flat_map}
 use Rattle.std.proofs.lemmas.List.Folds.{flat_map-map}
@@ -14,8 +15,7 @@ pub listed-spaced : (w : List ℕ) (ns : List ℕ) → w ++ (flat_map (λ n. 32 
 listed-spaced w ns = ap (λ t. w ++ (t ++ 10 ∷ [])) (sym (flat_map-map (λ word. 32 ∷ word) decimal ns)) ∙ spaced-first w (map decimal ns)
 
 counted-spaced : (w kids : List ℕ) → w ++ ((32 ∷ decimal (length kids)) ++ (flat_map (λ n. 32 ∷ decimal n) kids ++ 10 ∷ [])) ≡ spaced (w ∷ kid_words kids)
-counted-spaced w kids =
-    ap (λ t. w ++ (32 ∷ t)) (sym (append_assoc (decimal (length kids)) (flat_map (λ n. 32 ∷ decimal n) kids) (10 ∷ []))) ∙ listed-spaced w (length kids ∷ kids)
+counted-spaced w kids = grind (arith, nat_tests, append_assoc, listed-spaced)
 
 pub and-spaced : (kids : List ℕ) → codes "A" ++ ((32 ∷ decimal (length kids)) ++ (flat_map (λ n. 32 ∷ decimal n) kids ++ 10 ∷ [])) ≡ spaced (kind_words And kids)
 and-spaced kids = counted-spaced (codes "A") kids

@@ -1,6 +1,7 @@
 -- What the words of a column say of the nodes.
-use Rattle.std.proofs.Common.{◌≡◌, ◌≢◌, ℕ, ◌+◌, ◌-◌, ◌^◌, ◌<◌, ◌≤◌, Bool, true, false, not, cond, ◌==◌, List, ◌++◌, min, length, take, drop, Option, Some, None, get_or, set, w64, All, refl, sym, ap, ◌∙◌, subst, arith, inl, inr}
-use Rattle.std.specs.Prelude.{◌⊎◌, nat_lt}
+use Rattle.std.proofs.Common.{◌≡◌, ℕ, ◌+◌, ◌-◌, ◌^◌, ◌<◌, ◌≤◌, Bool, true, false, not, ◌==◌, List, ◌++◌, min, length, take, drop, Option, Some, None, get_or, set, w64, All, sym, ap, ◌∙◌, subst, arith, inl, inr}
+use Rattle.std.proofs.lemmas.Bool.Decides.{nat_tests}
+use Rattle.std.specs.Prelude.{◌⊎◌}
 use Rattle.std.specs.Int.{bit_at, trailing_zeros}
 use Rattle.std.specs.Option.{option_or}
 use Rattle.std.proofs.lemmas.Bool.{eq-eqb, cases_lt, ltb-true, ltb-false}
@@ -52,9 +53,7 @@ module _ (vars : ℕ) (nodes : List Node) (variables : List ℕ) (i : ℕ) (colu
       ∙ ap not (apart_at-below (has column b) (mentions nodes (get_or variables b 0)) i (node_at nodes i).what (node_at nodes i).kids (fits-at vars nodes i fit lt).below (λ k h. marked.words k b h small))
 
   word-at : (k b : ℕ) → b < 64 → (k < i) ⊎ (k ≡ i) → has (set column i word) b k ≡ mentions nodes (get_or variables b 0) k
-  word-at k b small (inl before) = let other : k ≢ i = omega arith in ap (λ n. has_bit n b) (get_or-set_other column i k word 0 other) ∙ marked.words k b before small
-  word-at k b small (inr here) =
-      ap (has (set column i word) b) here ∙ ap (λ n. has_bit n b) (get_or-set_same column i word 0 (omega (arith, long))) ∙ word-right b small ∙ ap (mentions nodes (get_or variables b 0)) (sym here)
+  word-at k b small given = grind (arith, nat_tests, get_or-set_other, marked.words, get_or-set_same, word-right)
 
   none-at : twice ≡ 0 → (k b : ℕ) → b < 64 → (k < i) ⊎ (k ≡ i) → share nodes k (get_or variables b 0) ≡ false
   none-at zero_twice k b small (inl before) = marked.none k b before small
@@ -65,10 +64,7 @@ module _ (vars : ℕ) (nodes : List Node) (variables : List ℕ) (i : ℕ) (colu
 
   -- the next node has no kids that share
   pub marked_more : twice ≡ 0 → IsMarked nodes variables (i + 1) (set column i word)
-  marked_more zero_twice = record {
-    words = λ k b h small. word-at k b small (before_or_here k h);
-    none = λ k b h small. none-at zero_twice k b small (before_or_here k h);
-  }
+  marked_more zero_twice = grind (arith, nat_tests, word-at, before_or_here, none-at)
 
   module _ (short : length variables ≤ 64) (some : 0 < twice) (fits : twice < 2 ^ 64) (place : ℕ) (e : place ≡ trailing_zeros w64 twice) where
     in_word : place < 64
@@ -79,12 +75,7 @@ module _ (vars : ℕ) (nodes : List Node) (variables : List ℕ) (i : ℕ) (colu
 
     -- or it has: one of the variables
     pub marked_inside : place < length variables
-    marked_inside = elim (cases_lt place (length variables)) [
-      | inl inside ↦ inside
-      | inr past ↦ (
-          let zero_shared : share nodes i 0 ≡ true = ap (share nodes i) (sym (get_or_past variables place 0 past)) ∙ is_shared in
-          absurd (let no : true ≡ false = sym zero_shared ∙ unshared-0 vars nodes (node_at nodes i) fit in cc))
-    ]
+    marked_inside = grind (arith, nat_tests, cases_lt, get_or_past, is_shared, unshared-0)
 
     -- which is the first
     pub marked_first : IsFirstOf nodes variables i (get_or variables place 0)
@@ -111,32 +102,9 @@ module _ (nodes : List Node) (xs ys : List ℕ) where
 
   pub earlier-first : (a b : Option (ℕ × ℕ)) → FirstOf nodes xs a → FirstOf nodes ys b → FirstOf nodes (xs ++ ys) (earlier a b)
   earlier-first None None none more = λ k h. not_first k (none k h) ∙ more k h
-  earlier-first None (Some b) none more = record {
-    inside = more.inside;
-    found = not_first b.0 (none b.0 more.inside) ∙ more.found;
-    before = λ k h. not_first k (none k (omega (arith, more.inside))) ∙ more.before k h;
-  }
-  earlier-first (Some a) None one none = record {
-    inside = one.inside;
-    found = first_here a.0 a.1 one.found;
-    before = λ k h. not_first k (one.before k h) ∙ none k (omega (arith, one.inside));
-  }
-  earlier-first (Some a) (Some b) one more = by_nodes (nat_lt b.0 a.0) refl where
-    by_nodes : (c : Bool) → nat_lt b.0 a.0 ≡ c → FirstOf nodes (xs ++ ys) (cond c (Some b) (Some a))
-    by_nodes true e =
-        let first : b.0 < a.0 = ltb-true b.0 a.0 e in
-        record {
-          inside = more.inside;
-          found = not_first b.0 (one.before b.0 first) ∙ more.found;
-          before = λ k h. not_first k (one.before k (omega arith)) ∙ more.before k h;
-        }
-    by_nodes false e =
-        let first : a.0 ≤ b.0 = ltb-false b.0 a.0 e in
-        record {
-          inside = one.inside;
-          found = first_here a.0 a.1 one.found;
-          before = λ k h. not_first k (one.before k h) ∙ more.before k (omega arith);
-        }
+  earlier-first None (Some b) none more = grind (arith, nat_tests, not_first, none, more.before)
+  earlier-first (Some a) None one none = grind (arith, nat_tests, first_here, not_first, one.before, none)
+  earlier-first (Some a) (Some b) one more = grind (arith, nat_tests, ltb-true, not_first, one.before, more.before, ltb-false, first_here)
 
 -- ---- the next variables
 

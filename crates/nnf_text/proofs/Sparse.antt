@@ -1,5 +1,6 @@
 -- Searches of a list of numbers.
-use Rattle.std.proofs.Common.{◌≡◌, ℕ, zero, suc, ◌+◌, ◌<◌, ◌≤◌, Bool, true, false, List, [], ◌∷◌, length, get_or, Some, None, refl, sym, ap, ◌∙◌, subst, arith, inl, inr}
+use Rattle.std.proofs.Common.{◌≡◌, ℕ, zero, suc, ◌+◌, ◌<◌, ◌≤◌, Bool, true, false, List, [], ◌∷◌, length, get_or, Some, None, refl, sym, ◌∙◌, arith, inl, inr}
+use Rattle.std.proofs.lemmas.Bool.Decides.{nat_tests}
 use Rattle.std.specs.List.{find, range_with_len, AllPairs, Contains}
 use Rattle.std.specs.List.Sorted.{IsStrictlyIncreasing}
 use Rattle.std.proofs.lemmas.Bool.{cond-true, cond-false, cases_Bool, cases_eq}
@@ -44,12 +45,10 @@ none_above p low (x ∷ xs) rising none = cond-false _ _ _ (none x rising.0) ∙
 -- what a rising list has is no less
 at_least : (low : ℕ) (xs : List ℕ) (v : ℕ) → Rises low xs → Contains xs v → low ≤ v
 at_least low [] v rising (k, inside, is) = absurd (omega arith)
-at_least low (x ∷ xs) v rising (zero, inside, is) = let same : x ≡ v = is in omega (arith, rising.0)
-at_least low (x ∷ xs) v rising (suc k, inside, is) = omega (arith, rising.0, at_least (x + 1) xs v rising.1 (k, omega arith, is))
+at_least low (x ∷ xs) v rising bit = grind (arith, nat_tests, at_least (x + 1) xs v rising.1)
 
 Contains-later : (x : ℕ) (xs : List ℕ) (v : ℕ) → x < v → Contains (x ∷ xs) v → Contains xs v
-Contains-later x xs v above (zero, inside, is) = let same : x ≡ v = is in absurd (omega arith)
-Contains-later x xs v above (suc k, inside, is) = (k, omega arith, is)
+Contains-later x xs v above given = grind (arith, nat_tests)
 
 absent : (p : ℕ → Bool) (v : ℕ) → (p v ≡ true → ⊥) → p v ≡ false
 absent p v never = elim (cases_Bool (p v)) [ inl passes ↦ absurd (never passes) | inr other ↦ other ]
@@ -62,13 +61,7 @@ find-sparse p [] low (suc count) rising under has =
       nothing : (v : ℕ) → Contains [] v → ⊥
       nothing v (k, inside, is) = omega arith
 find-sparse p (x ∷ xs) low (suc count) rising under has = elim (cases_eq x low) [
-  | inl here ↦ elim (cases_Bool (p low)) [
-    | inl passes ↦ cond-true _ _ _ (ap p here ∙ passes) ∙ ap Some here ∙ sym (cond-true _ _ _ passes)
-    | inr other ↦ (
-        cond-false _ _ _ (ap p here ∙ other)
-        ∙ find-sparse p xs (low + 1) count (subst (λ n. Rises (n + 1) xs) here rising.1) (λ v h. omega (arith, under v h)) (λ v le h. Contains-later x xs v (omega arith) (has v (omega arith) h))
-        ∙ sym (cond-false _ _ _ other))
-  ]
+  | inl here ↦ grind (arith, nat_tests, cases_Bool, p, cond-true, cond-false, under, Contains-later, has, find-sparse p xs (low + 1) count)
   | inr other ↦ (
       let above : low + 1 ≤ x = omega (arith, rising.0) in
       let none = absent p low (λ h. omega (arith, at_least (low + 1) (x ∷ xs) low (above, rising.1) (has low (omega arith) h))) in

@@ -1,9 +1,8 @@
 -- The least cost at the root where a variable has a bit, from what derivations cost outside of the nodes.
-use Rattle.std.proofs.Common.{◌≡◌, ◌≢◌, ℕ, zero, suc, ◌+◌, ◌-◌, ◌<◌, ◌≤◌, Bool, true, false, cond, eqb, List, [], ◌∷◌, map, length, get_or, set, Option, Some, None, refl, ap, sym, ◌∙◌, subst, arith, inl, inr, ⊎_elim}
+use Rattle.std.proofs.Common.{◌≡◌, ◌≢◌, ℕ, zero, suc, ◌+◌, ◌-◌, ◌<◌, ◌≤◌, Bool, true, false, cond, eqb, List, length, get_or, set, Option, Some, None, refl, ap, sym, ◌∙◌, subst, arith, inl, inr, ⊎_elim}
 use Rattle.std.specs.Prelude.{◌⊎◌, slice_get, nat_lt}
 use Rattle.std.proofs.lemmas.Bool.{cases_Bool, cases_eq, eqb-true, eq-eqb, ltb-true, ltb-false, false≢true, ne_eqb}
 use Rattle.std.proofs.lemmas.List.{get_or-set_same, get_or-set_other}
-use Rattle.std.proofs.lemmas.List.Sums.{sum_by-cons}
 use Rattle.std.proofs.lemmas.Option.{slice_get-get_or}
 use Rattle.state_rules.specs.Assignments.{Assignment}
 use Rattle.state_rules.specs.Cases.{agrees_at}
@@ -13,26 +12,27 @@ use Rattle.state_rules.proofs.Members.{In, AtMost, AtMost-le}
 use Rattle.state_rules.specs.declared.nodes.NodeKind.{NodeKind}
 use Rattle.state_rules.specs.declared.nodes.NodeKind.TheVariants.{Literal, And, Or}
 use Rattle.state_rules.specs.Graphs.{Node, Graph, true_node, node_at, is_true, mentions, IsGraph}
-use Rattle.state_rules.proofs.NodesFit.{fits-get, literal}
 use Rattle.conditioner.specs.Words.{known_of, word_of, leaf_of}
 use Rattle.conditioner.specs.Models.{total_cost}
 use Rattle.conditioner.proofs.FittingWords.{known_of-word_of}
 use Rattle.node_costs.proofs.Totals.{total-same}
-use Rattle.minimiser.specs.Costs.{part_cost, known_at, add_costs, sum_costs, literal_cost}
+use Rattle.minimiser.specs.Costs.{part_cost, known_at, literal_cost, least_at}
 use Rattle.minimiser.specs.Stored.{AreLeastCosts}
 use Rattle.minimiser.specs.inner.Swept.{is_kid}
-use Rattle.minimiser.proofs.Costs.{fault, Agrees, faults_in, faults_in-le, all_faults, from_add}
+use Rattle.minimiser.proofs.Costs.{fault, Agrees, faults_in, faults_in-le, all_faults}
 use Rattle.minimiser.proofs.Sums.{cost_in-some}
 use Rattle.minimiser.proofs.OnePass.{cost_small}
-use Rattle.minimiser.proofs.Derivations.{any-kid, kid-with, is_cost, true-at, mention-at, costs-at, apart-kids, below, all-below, Apart, Achieves, Extends, extends-le, Outside, outside-root, outside-and, outside-or, kid-excess}
-use Rattle.minimiser.proofs.Valued.{node_least, cost_in-is, value-is, has_least}
+use Rattle.minimiser.proofs.Derivations.{any-kid, all-kid, kid-with, is_cost, true-at, mention-at, costs-at, below, all-below, Achieves}
+use Rattle.minimiser.proofs.Valued.{value-is, has_least}
 use Rattle.minimiser.proofs.Whole.{from_bounds}
 use Rattle.minimiser.proofs.Sweeping.{kid-in, kid-out}
-use Rattle.probe_report.specs.inner.Outside.{IsLowered, total_value, outside_kid, HasOuterParent, AreOuter, Without, With}
+use Rattle.minimiser.specs.inner.Outside.{AreOutsideCosts}
+use Rattle.minimiser.proofs.OutsideCosts.{outside-is, kid-fits}
+use Rattle.probe_report.specs.inner.Outside.{IsLowered, Without, With}
 
 -- ---- what derivations cost outside of a node
 
-module _ (graph : Graph) (words costs : List ℕ) (ok : IsGraph graph) (vs os : List ℕ) (least : AreLeastCosts graph words costs vs) (outer : AreOuter graph.nodes vs os 0) (total : total_cost costs < 2147483647) where
+module _ (graph : Graph) (words costs : List ℕ) (ok : IsGraph graph) (vs os : List ℕ) (least : AreLeastCosts graph words costs vs) (outer : AreOutsideCosts graph.nodes vs os 0) (total : total_cost costs < 2147483647) where
   abbrev n : ℕ
   n = length graph.nodes
 
@@ -40,7 +40,7 @@ module _ (graph : Graph) (words costs : List ℕ) (ok : IsGraph graph) (vs os : 
   root = length graph.nodes - 1
 
   abbrev C : ℕ → Option ℕ
-  C k = node_least graph words costs k
+  C k = least_at graph words costs k
 
   abbrev W : ℕ → ℕ
   W k = get_or vs k 0
@@ -51,62 +51,8 @@ module _ (graph : Graph) (words costs : List ℕ) (ok : IsGraph graph) (vs os : 
   abbrev faults : ℕ → Assignment → ℕ
   faults k a = faults_in (known_at words) (part_cost costs) (length costs) (λ v. mentions graph.nodes v k) a
 
-  W-is : (k d : ℕ) → k < n → C k ≡ Some d → W k ≡ d
-  W-is k d h e = cost_in-is (W k) d (value-is graph words costs vs least k h ∙ e)
-
-  Inside : List ℕ → Type 0
-  Inside kids = (j : ℕ) → In j kids → j < length graph.nodes
-
-  S-cons : (k : ℕ) (kids : List ℕ) → total_value vs (k ∷ kids) ≡ W k + total_value vs kids
-  S-cons k kids = sum_by-cons (λ (j : ℕ). get_or vs j 0) k kids
-
-  in-total : (kids : List ℕ) (j : ℕ) → In j kids → W j ≤ total_value vs kids
-  in-total [] j m = absurd m
-  in-total (k ∷ kids) j (inl q) = omega (arith, S-cons k kids, ap W q)
-  in-total (k ∷ kids) j (inr m) = omega (arith, S-cons k kids, in-total kids j m)
-
-  -- the values of kids come to what all of them cost
-  total-is : (kids : List ℕ) → Inside kids → (c : ℕ) → sum_costs (map C kids) ≡ Some c → total_value vs kids ≡ c
-  unfolding Inside
-  total-is [] inside c e = cc
-  total-is (k ∷ kids) inside c e =
-      let s = from_add (C k) (sum_costs (map C kids)) c e in
-      omega (arith, S-cons k kids, W-is k s.left (inside k (inl refl)) s.left_is, total-is kids (λ j m. inside j (inr m)) s.right s.right_is, s.sum_is)
-
-  -- and all of them cost something where no value is that of none
-  has-total : (kids : List ℕ) → Inside kids → total_value vs kids < 4294967295 → sum_costs (map C kids) ≡ Some (total_value vs kids)
-  unfolding Inside
-  has-total [] inside low = refl
-  has-total (k ∷ kids) inside low =
-      let here : C k ≡ Some (W k) = sym (value-is graph words costs vs least k (inside k (inl refl))) ∙ cost_in-some (W k) (λ q. absurd (omega (arith, S-cons k kids))) in
-      (λ i. add_costs (here i) (has-total kids (λ j m. inside j (inr m)) (omega (arith, S-cons k kids)) i)) ∙ ap Some (sym (S-cons k kids))
-
   kid-below : (p : ℕ) (node : Node) → slice_get graph.nodes p ≡ Some node → (j : ℕ) → In j node.kids → j < p
   kid-below p node e j i = all-below p node.kids j (below graph words costs ok p node e) i
-
-  -- Each number is at least what the rest of a derivation costs.
-  outside-is : (fuel k : ℕ) → n ≤ k + fuel → k < n → O k < 2147483647 → Outside graph words costs ok k (O k)
-  unfolding Inside
-  outside-is zero k f h q x a ach = absurd (omega arith)
-  outside-is (suc fuel) k f h q x a ach = ⊎_elim
-      (λ (r : k ≡ root). extends-le graph words costs ok k (0 + x) (O k + x) a (omega arith) (subst (λ j. Extends graph words costs ok j (0 + x) a) (sym r) (outside-root graph words costs ok x a (subst (λ j. Achieves graph words costs ok j x a) r ach))))
-      (λ (p : HasOuterParent graph.nodes vs os k). by_kind (outside-is fuel) p.parent p.within (node_at graph.nodes p.parent).what (node_at graph.nodes p.parent).kids
-      (slice_get-get_or graph.nodes p.parent true_node p.within) (kid-out (node_at graph.nodes p.parent).kids k p.kid) p.cheap)
-      (outer.up k h q) where
-        by_kind : ((j : ℕ) → n ≤ j + fuel → j < n → O j < 2147483647 → Outside graph words costs ok j (O j)) → (p : ℕ) → p < n → (what : NodeKind) (kids : List ℕ) → slice_get graph.nodes p ≡ Some (record { what = what; kids = kids }) → In k kids
-            → outside_kid vs what kids (O p) k ≤ O k → Extends graph words costs ok k (O k + x) a
-        by_kind more p g (Literal positive v) [] e i c = absurd i
-        by_kind more p g (Literal positive v) (y ∷ kids) e i c = absurd (omega (arith, ap length (literal graph.vars v positive (y ∷ kids) (fits-get graph.vars graph.nodes p _ ok.nodes.fit e).kind).alone))
-        by_kind more p g And kids e i c =
-            let own = has_least graph words costs vs least ok a ach.agrees k h ach.holds in
-            let small = cost_small graph words costs k ok (W k) own.is in
-            let there = in-total kids k i in
-            let all = has-total kids (λ j m. let b = kid-below p _ e j m in omega arith) (omega (arith, small, there, c, q, total)) in
-            extends-le graph words costs ok k (O p + (total_value vs kids - W k) + x) (O k + x) a (omega (arith, c, there))
-            (outside-and graph words costs ok p kids (O p) e (more p (omega (arith, f, kid-below p _ e k i)) g (omega (arith, c, q, there))) k i (W k) own.is (total_value vs kids - W k)
-            (costs-at graph words costs ok p _ e ∙ all ∙ ap Some (omega (arith, there))) x a ach)
-        by_kind more p g Or kids e i c = extends-le graph words costs ok k (O p + x) (O k + x) a (omega (arith, c))
-            (outside-or graph words costs ok p kids (O p) e (more p (omega (arith, f, kid-below p _ e k i)) g (omega (arith, c, q))) k i x a ach)
 
   -- ---- where a variable is left
 
@@ -121,9 +67,11 @@ module _ (graph : Graph) (words costs : List ℕ) (ok : IsGraph graph) (vs os : 
     M k = mentions graph.nodes var k
 
     descends : (fuel k : ℕ) → k < fuel → k < n → M k ≡ true → is_true graph.nodes k b ≡ true → O k + faults k b ≤ c → Found var bit c
-    unfolding Apart Inside
     descends zero k f h m t g = absurd (omega arith)
     descends (suc fuel) k f h m t g = by_kind (descends fuel) (node_at graph.nodes k).what (node_at graph.nodes k).kids (slice_get-get_or graph.nodes k true_node h) refl refl where
+      fits : (kids : List ℕ) (j : ℕ) → (node_at graph.nodes k).kids ≡ kids → In j kids → is_true graph.nodes j b ≡ true → O j + faults j b ≤ O k + faults k b
+      fits kids j ks i u = kid-fits graph words costs ok vs os least outer b agree k j h (subst (λ z. is_kid z j ≡ true) (sym ks) (kid-in kids j i)) t u
+
       by_kind : ((j : ℕ) → j < fuel → j < n → M j ≡ true → is_true graph.nodes j b ≡ true → O j + faults j b ≤ c → Found var bit c)
           → (what : NodeKind) (kids : List ℕ) → slice_get graph.nodes k ≡ Some (record { what = what; kids = kids }) → (node_at graph.nodes k).what ≡ what → (node_at graph.nodes k).kids ≡ kids → Found var bit c
       by_kind more (Literal positive v) kids x w ks =
@@ -133,26 +81,17 @@ module _ (graph : Graph) (words costs : List ℕ) (ok : IsGraph graph) (vs os : 
       by_kind more And kids x w ks =
           let j = kid-with M kids (sym (mention-at graph words costs ok k _ x var) ∙ m) in
           let low = kid-below k _ x j.item j.is_in in
-          let own = has_least graph words costs vs least ok b agree k h t in
-          let sum = sym (costs-at graph words costs ok k _ x) ∙ own.is in
-          let all = total-is kids (λ i r. let l = kid-below k _ x i r in omega arith) (W k) sum in
-          let y = kid-excess graph words costs ok b agree kids (apart-kids graph words costs ok k kids x) (sym (true-at graph words costs ok k _ x b) ∙ t) (W k) sum j.item j.is_in in
-          let value = W-is j.item y.cost (omega arith) y.is in
-          let down : O j.item ≤ outside_kid vs And kids (O k) j.item = subst (λ z. O j.item ≤ outside_kid vs z kids (O k) j.item) w (subst (λ z. O j.item ≤ outside_kid vs (node_at graph.nodes k).what z (O k) j.item) ks
-          (outer.down k j.item (omega arith) h (omega (arith, g, q)) (omega (arith, low)) (subst (λ z. is_kid z j.item ≡ true) (sym ks) (kid-in kids j.item j.is_in)))) in
-          let within = faults_in-le (known_at words) (part_cost costs) (length costs) _ (λ v. mentions graph.nodes v k) b (λ v r. mention-at graph words costs ok k _ x v ∙ r) in
-          more j.item (omega (arith, low)) (omega (arith, low)) j.passes y.holds (omega (arith, down, y.excess, all, value, in-total kids j.item j.is_in, within, g))
+          let holds = all-kid (λ i. is_true graph.nodes i b) kids j.item j.is_in (sym (true-at graph words costs ok k _ x b) ∙ t) in
+          more j.item (omega (arith, low)) (omega (arith, low)) j.passes holds (omega (arith, fits kids j.item ks j.is_in holds, g))
       by_kind more Or kids x w ks =
           let j = kid-with (λ i. is_true graph.nodes i b) kids (sym (true-at graph words costs ok k _ x b) ∙ t) in
           let low = kid-below k _ x j.item j.is_in in
-          let mine : is_kid (node_at graph.nodes k).kids j.item ≡ true = subst (λ z. is_kid z j.item ≡ true) (sym ks) (kid-in kids j.item j.is_in) in
-          let within = faults_in-le (known_at words) (part_cost costs) (length costs) (λ v. mentions graph.nodes v j.item) (λ v. mentions graph.nodes v k) b (λ v r. mention-at graph words costs ok k _ x v ∙ any-kid (mentions graph.nodes v) kids j.item j.is_in r) in
           ⊎_elim
-          (λ (r : M j.item ≡ true).
-          let down : O j.item ≤ O k = subst (λ z. O j.item ≤ outside_kid vs z (node_at graph.nodes k).kids (O k) j.item) w (outer.down k j.item (omega arith) h (omega (arith, g, q)) (omega (arith, low)) mine) in
-          more j.item (omega (arith, low)) (omega (arith, low)) r j.passes (omega (arith, down, within, g)))
+          (λ (r : M j.item ≡ true). more j.item (omega (arith, low)) (omega (arith, low)) r j.passes (omega (arith, fits kids j.item ks j.is_in j.passes, g)))
           (λ (r : M j.item ≡ false).
+          let mine : is_kid (node_at graph.nodes k).kids j.item ≡ true = subst (λ z. is_kid z j.item ≡ true) (sym ks) (kid-in kids j.item j.is_in) in
           let value = (has_least graph words costs vs least ok b agree j.item (omega (arith, low)) j.passes).low in
+          let within = faults_in-le (known_at words) (part_cost costs) (length costs) (λ v. mentions graph.nodes v j.item) (λ v. mentions graph.nodes v k) b (λ v q. mention-at graph words costs ok k _ x v ∙ any-kid (mentions graph.nodes v) kids j.item j.is_in q) in
           record { cost = O k + W j.item; le = omega (arith, value, within, g); exit = inl (inl (k, record { within = h; or_ = w; kid = j.item; is_kid_of = mine; has = m; lacks = r; outer = omega (arith, g, q); value = omega (arith, value, within, g, q); is = refl })) })
           (cases_Bool (M j.item))
 
@@ -163,7 +102,7 @@ module _ (graph : Graph) (words costs : List ℕ) (ok : IsGraph graph) (vs os : 
     fixed = set words (var - 1) (word_of bit)
 
     abbrev D : ℕ → Option ℕ
-    D k = node_least graph (set words (var - 1) (word_of bit)) costs k
+    D k = least_at graph (set words (var - 1) (word_of bit)) costs k
 
     fixed-here : (v : ℕ) → v - 1 ≡ var - 1 → known_at fixed v ≡ Some bit
     fixed-here v e = ap (λ i. known_of (get_or fixed i 0)) e ∙ ap known_of (get_or-set_same words (var - 1) (word_of bit) 0 (omega (arith, low, there))) ∙ known_of-word_of bit
@@ -245,7 +184,7 @@ module _ (graph : Graph) (words costs : List ℕ) (ok : IsGraph graph) (vs os : 
         let e : slice_get graph.nodes k ≡ Some (record { what = Literal bit var; kids = (node_at graph.nodes k).kids }) = slice_get-get_or graph.nodes k true_node l.within ∙ (λ i. Some (record { what = l.literal i; kids = (node_at graph.nodes k).kids })) in
         let is : C k ≡ Some 0 = costs-at graph words costs ok k _ e ∙ (λ i. literal_cost (leaf_of bit (open-here var refl i)) (free i) bit) ∙ own bit in
         let r = (is_cost graph words costs ok k).reached 0 is in
-        let y = outside-is n k (omega arith) l.within (omega (arith, l.is)) 0 r.by (record { agrees = r.agrees; holds = r.holds; cheap = r.cheap }) in
+        let y = outside-is graph words costs ok vs os least outer total n k (omega arith) l.within (omega (arith, l.is)) 0 r.by (record { agrees = r.agrees; holds = r.holds; cheap = r.cheap }) in
         AtMost-le (D root) (O k + 0) c (with-bit (O k + 0) y.by y.achieves
         (y.same var (mention-at graph words costs ok k _ e var ∙ eq-eqb var var refl) ∙ sym (same_bit-equal bit (r.by var) (sym (true-at graph words costs ok k _ e r.by) ∙ r.holds)))) (omega (arith, l.is)) where
           own : (b : Bool) → literal_cost (leaf_of b None) 0 b ≡ Some 0
@@ -259,7 +198,7 @@ module _ (graph : Graph) (words costs : List ℕ) (ok : IsGraph graph) (vs os : 
         let is : C l.kid ≡ Some (W l.kid) = sym (value-is graph words costs vs least l.kid (let b = kid-below k _ e l.kid i in omega (arith, b, l.within))) ∙ cost_in-some (W l.kid) (λ z. absurd (omega (arith, l.value))) in
         let r = (is_cost graph words costs ok l.kid).reached (W l.kid) is in
         let t = turns l.kid (W l.kid) r.by l.lacks (record { agrees = r.agrees; holds = r.holds; cheap = r.cheap }) in
-        let y = outside-is n k (omega arith) l.within l.outer (W l.kid) (turned r.by)
+        let y = outside-is graph words costs ok vs os least outer total n k (omega arith) l.within l.outer (W l.kid) (turned r.by)
         (record { agrees = t.agrees; holds = true-at graph words costs ok k _ e (turned r.by) ∙ any-kid (λ j. is_true graph.nodes j (turned r.by)) (node_at graph.nodes k).kids l.kid i t.holds; cheap = t.cheap }) in
         AtMost-le (D root) (O k + W l.kid) c (with-bit (O k + W l.kid) y.by y.achieves (y.same var l.has ∙ turned-here r.by)) (omega (arith, l.is))
     sound c q (inl (inr l)) =
@@ -288,7 +227,7 @@ module _ (graph : Graph) (words costs : List ℕ) (ok : IsGraph graph) (vs os : 
 
     -- the least exit is the cost of the root
     pub root-is : (best : ℕ) → IsLowered (λ c. Without graph.nodes vs os var c ⊎ With graph.nodes os var bit c) 4294967295 best
-        → node_least graph (set words (var - 1) (word_of bit)) costs (length graph.nodes - 1) ≡ cond (nat_lt best 2147483647) (Some best) None
+        → least_at graph (set words (var - 1) (word_of bit)) costs (length graph.nodes - 1) ≡ cond (nat_lt best 2147483647) (Some best) None
     root-is best lowest = by_size (nat_lt best 2147483647) refl where
       low-exit : (c : ℕ) → D root ≡ Some c → best ≤ c
       low-exit c e = let f = reached c e (omega (arith, total, cost_small graph fixed costs root ok c e)) in omega (arith, f.le, lowest.low f.cost f.exit)

@@ -6,7 +6,8 @@ use Rattle.std.proofs.lemmas.List.{take_more}
 use Rattle.state_rules.specs.Bits.{has_bit}
 use Rattle.state_rules.proofs.Lists.{any-push}
 use Rattle.minimiser.specs.inner.Swept.{is_kid}
-use Rattle.probe_report.specs.inner.Outside.{lowered, IsLowered, is_left}
+use Rattle.minimiser.specs.inner.Outside.{lowered}
+use Rattle.probe_report.specs.inner.Outside.{IsLowered, is_left}
 use Rattle.probe_report.specs.inner.Leaving.{LowersBlock}
 
 -- ---- one number

@@ -17,7 +17,8 @@ use Rattle.minimiser.specs.inner.Held.{held_one, held_cost}
 use Rattle.minimiser.proofs.Sums.{cost_in-some}
 use Rattle.minimiser.proofs.OnePass.{is_least, value_small, length-least_costs}
 use Rattle.minimiser.proofs.Whole.{AddHeld, least_is}
-use Rattle.probe_report.specs.inner.Outside.{IsLowered, AreOuter, Without, With}
+use Rattle.minimiser.specs.inner.Outside.{AreOutsideCosts}
+use Rattle.probe_report.specs.inner.Outside.{IsLowered, Without, With}
 use Rattle.probe_report.specs.inner.Settled.{settled}
 use Rattle.probe_report.proofs.Lowering.{lowered-then}
 use Rattle.probe_report.proofs.Exits.{root-is}
@@ -82,7 +83,7 @@ with-none graph words costs var bit e = sym (least-in costs (length costs) (with
 
 -- ---- one wire
 
-module _ (graph : Graph) (words costs : List ℕ) (ok : IsGraph graph) (long : length words ≡ graph.vars) (total : total_cost costs < 2147483647) (vs os : List ℕ) (least_costs : AreLeastCosts graph words costs vs) (outer : AreOuter graph.nodes vs os 0)
+module _ (graph : Graph) (words costs : List ℕ) (ok : IsGraph graph) (long : length words ≡ graph.vars) (total : total_cost costs < 2147483647) (vs os : List ℕ) (least_costs : AreLeastCosts graph words costs vs) (outer : AreOutsideCosts graph.nodes vs os 0)
     (wire : ℕ) (room : length costs + wire < graph.vars) (bit : Bool) where
   abbrev var : ℕ
   var = length costs + wire + 1

@@ -1,5 +1,6 @@
 ghost use Rattle.std.specs.Prelude.{◌≡◌, ℕ, ◌+◌, ◌-◌, ◌*◌, ◌/◌, ◌<◌, ◌≤◌, ◌≢◌, length, All, false, slice_index};
-ghost use Rattle.probe_report.specs.inner.Outside.{lowered, is_left, mark_at, IsLowered, Without};
+ghost use Rattle.minimiser.specs.inner.Outside.{lowered};
+ghost use Rattle.probe_report.specs.inner.Outside.{is_left, mark_at, IsLowered, Without};
 ghost use Rattle.probe_report.specs.inner.Leaving.{LeftKid, LeftNode, LowersBlock};
 
 use crate::marking::{WIDTH, clear_marks, first_marked, has_bit, mark_at, mark_of, set_mark};

@@ -5,7 +5,6 @@ mod asking;
 mod blaming;
 mod leaving;
 mod marking;
-mod outside;
 mod probing;
 mod verdicts;
 

@@ -6,8 +6,7 @@ ghost use Rattle.probe_report.specs.inner.Outside.{IsLowered, With};
 ghost use Rattle.probe_report.specs.inner.Settled.{settled};
 
 use crate::leaving::lower_without;
-use crate::outside::find_outers;
-use minimiser::{Steps, TOTAL_LIMIT, least};
+use minimiser::{Steps, TOTAL_LIMIT, least, put_outside_costs};
 use node_store::Graph;
 use state_rules::NodeKind;
 use std::sync::ledger::Ledger;
@@ -98,7 +97,7 @@ fn probe_wires<L: Ledger>(
     ones.fill(u32::MAX);
     let fewest = least(graph, words, costs, values, steps)?;
     let parts = costs.len() as u32;
-    find_outers(graph, values, outers);
+    put_outside_costs(graph, values, outers);
     steps.tick();
     lower_without(graph, values, outers, words, parts, marks, zeros, steps);
     ones.copy_from_slice(zeros);

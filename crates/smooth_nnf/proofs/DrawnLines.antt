@@ -1,7 +1,9 @@
 -- The lines of the nodes stand as those of a smooth graph, and each says what its node means.
 use Rattle.std.proofs.Common.{◌≡◌, ℕ, ◌+◌, ◌-◌, ◌*◌, ◌^◌, ◌<◌, ◌≤◌, Bool, true, false, not, cond, ◌&&◌, ◌||◌, ◌==◌, All, List, [], ◌∷◌, ◌++◌, map, length, get_or, Option, Some, None, refl, ap, sym, ◌∙◌, subst, arith, ⊎_elim, inl, inr, append_assoc, append-nil, length-append}
+use Rattle.std.proofs.lemmas.Bool.Decides.{nat_tests}
 use Rattle.std.specs.Prelude.{slice_get, slice_index, nat_lt, nat_le}
 use Rattle.std.specs.List.{list_all, list_any, filter, flat_map, enumerate_from, range_with_len, AllByRecursion}
+use Rattle.std.proofs.lemmas.Simd.{map-map}
 use Rattle.std.proofs.lemmas.Bool.{and_from, and_parts, lt-ltb, ltb-true, le-leb, leb-true, eqb-true, cases_lt, and_left, and_right, not-true}
 use Rattle.std.proofs.lemmas.List.{length-map, get_or_at}
 use Rattle.std.proofs.lemmas.List.FromFn.{length-range_with_len}
@@ -21,13 +23,13 @@ use Rattle.state_rules.proofs.NodeValues.{are_below, value_of, are_below-from}
 use Rattle.state_rules.proofs.NodesFit.{Fits, fits-get, literal}
 use Rattle.state_rules.proofs.Kids.{at_most_one-from, at_most_one-less, range-below}
 use Rattle.nnf_text.specs.StateGraphs.{all_same}
-use Rattle.minimiser.specs.Costs.{part_cost, known_at, cost_at, cheapest, node_cost}
+use Rattle.minimiser.specs.Costs.{part_cost, known_at, cost_at, cheapest, node_cost, least_at}
 use Rattle.minimiser.proofs.Costs.{from_min}
 use Rattle.minimiser.proofs.Derivations.{mention-at, apart-kids, costs-at, all-below, sum-kid}
 use Rattle.smooth_nnf.specs.Layouts.{Layout, layout_of, own_line, literal_pairs, literal_line, literal_kids, filling, fillers, costs_just, cheapest_kids, lines_before, lines_to, own_lines, kid_line, or_behind, or_lines, lines_by, lines_at, node_lines, and_over}
 use Rattle.smooth_nnf.proofs.Standing.{value_of-front, value_of-there, values-behind, Stand, MayFollow, stand-behind}
 use Rattle.smooth_nnf.proofs.Meaning.{is_part, Means, NodeMeans, filled, part-means, other-means, and-means, or-means, kid-inside, cheapest-in, cheapest-is}
-use Rattle.smooth_nnf.proofs.Fillers.{map_twice, length-literal_pairs, pairs-stand, literal_line-lt, literal-value, fillers-below, fillers-mention, fillers-once, fillers-true, fillers-say, map-in}
+use Rattle.smooth_nnf.proofs.Fillers.{length-literal_pairs, pairs-stand, literal_line-lt, literal-value, fillers-below, fillers-mention, fillers-once, fillers-true, fillers-say, map-in}
 
 -- ---- lists
 
@@ -49,23 +51,16 @@ same-const b (k ∷ kids) = all kids where
   all (j ∷ kids) = and_from _ _ (same_bit-refl b) (all kids)
 
 one_alone : (b : Bool) → at_most_one (b ∷ []) ≡ true
-one_alone true = refl
-one_alone false = refl
+one_alone b = grind (arith, nat_tests)
 
 -- what a line has below it that is filled in
 pub below_filled : (p m o : Bool) → (m ≡ true → o ≡ true) → ((p && m) || (p && (o && not m))) ≡ (p && o)
-below_filled false m o h = refl
-below_filled true true o h = sym (h refl)
-below_filled true false true h = refl
-below_filled true false false h = refl
+below_filled p m o h = grind (arith, nat_tests)
 
 -- the least cost is that of some kid
 cheapest-has : (C : ℕ → Option ℕ) (kids : List ℕ) (c : ℕ) → cheapest (map C kids) ≡ Some c → (k : ℕ) × (In k kids × (C k ≡ Some c))
 cheapest-has C [] c s = absurd (let no : None ≡ Some c = s in cc)
-cheapest-has C (j ∷ kids) c s = ⊎_elim
-    (λ here. (j, (inl refl, here)))
-    (λ later. let r = cheapest-has C kids c later in (r.0, (inr r.1.0, r.1.1)))
-    (from_min (C j) (cheapest (map C kids)) c s)
+cheapest-has C (j ∷ kids) c s = grind (arith, nat_tests, from_min, cheapest-has C kids c)
 
 module _ (graph : Graph) (words costs : List ℕ) (ok : IsGraph graph) (dear : All (λ c. 0 < c) costs) (small : length costs + 1 < 2 ^ 32) where
   abbrev L : Layout
@@ -79,9 +74,6 @@ module _ (graph : Graph) (words costs : List ℕ) (ok : IsGraph graph) (dear : A
 
   abbrev least : List (Option ℕ)
   least = values (node_cost (known_at words) (part_cost costs)) graph.nodes
-
-  abbrev Ck : ℕ → Option ℕ
-  Ck k = cost_at least k
 
   abbrev own : ℕ → ℕ
   own k = own_line L k
@@ -111,11 +103,11 @@ module _ (graph : Graph) (words costs : List ℕ) (ok : IsGraph graph) (dear : A
   -- the lines of the nodes before one, behind those of the literals
   pub record Upto (i : ℕ) (more : List Node) : Type 0 where
     pub stand : Stand (length costs) (literal_pairs (length costs) ++ more)
-    pub drawn : (k c : ℕ) → k < i → cost_at (values (node_cost (known_at words) (part_cost costs)) graph.nodes) k ≡ Some c → Drawn (literal_pairs (length costs) ++ more) k c
+    pub drawn : (k c : ℕ) → k < i → least_at graph words costs k ≡ Some c → Drawn (literal_pairs (length costs) ++ more) k c
 
   -- ---- a line that is filled in
 
-  module _ (more : List Node) (k c : ℕ) (cost_is : cost_at (values (node_cost (known_at words) (part_cost costs)) graph.nodes) k ≡ Some c) (drawn : Drawn (literal_pairs (length costs) ++ more) k c)
+  module _ (more : List Node) (k c : ℕ) (cost_is : least_at graph words costs k ≡ Some c) (drawn : Drawn (literal_pairs (length costs) ++ more) k c)
       (o : ℕ → Bool) (wider : (v : ℕ) → mentions graph.nodes v k ≡ true → o v ≡ true) where
     abbrev lines : List Node
     lines = literal_pairs parts ++ more
@@ -139,14 +131,7 @@ module _ (graph : Graph) (words costs : List ℕ) (ok : IsGraph graph) (dear : A
     over-mention v = (λ i. drawn.mentioned v i || fillers-mention parts more words rest room v i) ∙ below_filled (part_of v) (M v k) (o v) (wider v)
 
     pub over-follows : MayFollow (length costs) (literal_pairs (length costs) ++ more) line_over
-    over-follows = record {
-      below = and_from _ _ (lt-ltb (own k) (length lines) drawn.inside) (fillers-below parts more words rest room (length lines) room);
-      kind = lt-ltb (length line_over.kids) CHILD_LIMIT (omega (arith, few, small));
-      apart = λ v. at_most_one-from (mentions lines v (own k)) (map (mentions lines v) filling_in)
-          (λ any. let off = and_parts (part_of v) (o v && not (M v k)) (sym (fillers-mention parts more words rest room v) ∙ any) in drawn.mentioned v ∙ and_right (part_of v) _ (not-true (M v k) (and_parts (o v) (not (M v k)) off.1).1))
-          (fillers-once parts more words rest room v);
-      smooth = λ v. refl;
-    }
+    over-follows = grind (arith, nat_tests, and_from, lt-ltb, fillers-below, room, few, at_most_one-from, and_parts, fillers-mention, drawn.mentioned, and_right, not-true, fillers-once)
 
     pub over-means : Means graph words costs ok dear (λ a. is_true graph.nodes k a) o c (λ a. list_all (λ b. b) (map (λ q. is_true (literal_pairs (length costs) ++ more) q a) line_over.kids))
     over-means = filled graph words costs ok dear k c cost_is o wider (λ a. is_true lines (own k) a) (λ a. list_all (λ b. b) (map (λ q. is_true lines q a) filling_in)) drawn.means
@@ -167,19 +152,19 @@ module _ (graph : Graph) (words costs : List ℕ) (ok : IsGraph graph) (dear : A
     -- lines that are added, with the node's own as the last
     record Adds (block : List Node) : Type 0 where
       stand : Stand (length costs) (literal_pairs (length costs) ++ (more ++ block))
-      drawn : (c : ℕ) → cost_at (values (node_cost (known_at words) (part_cost costs)) graph.nodes) i ≡ Some c → Drawn (literal_pairs (length costs) ++ (more ++ block)) i c
+      drawn : (c : ℕ) → least_at graph words costs i ≡ Some c → Drawn (literal_pairs (length costs) ++ (more ++ block)) i c
 
     regroup : (block : List Node) → before ++ block ≡ literal_pairs parts ++ (more ++ block)
     regroup block = append_assoc (literal_pairs parts) more block
 
     -- one line is added
     one-adds : (node : Node) → MayFollow parts before node → own i ≡ length before
-        → ((v : ℕ) (c : ℕ) → Ck i ≡ Some c → mention_by v node.what (map (mentions before v) node.kids) ≡ (part_of v && M v i))
-        → ((c : ℕ) → Ck i ≡ Some c → NodeMeans graph words costs ok dear i c (λ a. truth_by a node.what (map (λ q. is_true before q a) node.kids))) → Adds (node ∷ [])
+        → ((v : ℕ) (c : ℕ) → least_at graph words costs i ≡ Some c → mention_by v node.what (map (mentions before v) node.kids) ≡ (part_of v && M v i))
+        → ((c : ℕ) → least_at graph words costs i ≡ Some c → NodeMeans graph words costs ok dear i c (λ a. truth_by a node.what (map (λ q. is_true before q a) node.kids))) → Adds (node ∷ [])
     one-adds node follows at mentioned means =
         let here : (by : NodeKind → List Bool → Bool) → value_of by (before ++ node ∷ []) (own i) ≡ by node.what (map (value_of by before) node.kids) =
         λ by. ap (value_of by (before ++ node ∷ [])) at ∙ value_of-there by before node [] in
-        let drawn : (c : ℕ) → Ck i ≡ Some c → Drawn (before ++ node ∷ []) i c = λ c e. record {
+        let drawn : (c : ℕ) → least_at graph words costs i ≡ Some c → Drawn (before ++ node ∷ []) i c = λ c e. record {
           inside = omega (arith, at, length-append before (node ∷ []));
           mentioned = λ v. here (mention_by v) ∙ mentioned v c e;
           means = Means-same (λ a. here (truth_by a)) (means c e);
@@ -190,13 +175,13 @@ module _ (graph : Graph) (words costs : List ℕ) (ok : IsGraph graph) (dear : A
         }
 
     -- a node that is never true
-    false-adds : Ck i ≡ None → own i ≡ length before → Adds (false_node ∷ [])
+    false-adds : least_at graph words costs i ≡ None → own i ≡ length before → Adds (false_node ∷ [])
     false-adds none at = one-adds false_node (record { below = refl; kind = refl; apart = λ v. refl; smooth = λ v. refl }) at
         (λ v c e. absurd (let no : None ≡ Some c = sym none ∙ e in cc))
         (λ c e. absurd (let no : None ≡ Some c = sym none ∙ e in cc))
 
     -- a literal
-    module _ (var : ℕ) (positive : Bool) (kids : List ℕ) (e : slice_get graph.nodes i ≡ Some (record { what = Literal positive var; kids = kids })) (cost : ℕ) (cost_is : Ck i ≡ Some cost) (at : own i ≡ length before) where
+    module _ (var : ℕ) (positive : Bool) (kids : List ℕ) (e : slice_get graph.nodes i ≡ Some (record { what = Literal positive var; kids = kids })) (cost : ℕ) (cost_is : least_at graph words costs i ≡ Some cost) (at : own i ≡ length before) where
       low : 1 ≤ var
       low = (literal graph.vars var positive kids (fits-get graph.vars graph.nodes i _ ok.nodes.fit e).kind).low
 
@@ -207,16 +192,10 @@ module _ (graph : Graph) (words costs : List ℕ) (ok : IsGraph graph) (dear : A
       has-is v = mention-at graph words costs ok i _ e v
 
       part_alone : (v : ℕ) → part_of var ≡ true → (var == v) ≡ (part_of v && (var == v))
-      part_alone v part = by_test (var == v) refl where
-        by_test : (b : Bool) → (var == v) ≡ b → b ≡ (part_of v && b)
-        by_test true q = sym (and_from _ _ (ap part_of (sym (eqb-true var v q)) ∙ part) refl)
-        by_test false q = sym (and-false (part_of v))
+      part_alone v part = grind (arith, nat_tests, and_from, eqb-true, and-false)
 
       other_none : (v : ℕ) → part_of var ≡ false → false ≡ (part_of v && (var == v))
-      other_none v other = by_test (var == v) refl where
-        by_test : (b : Bool) → (var == v) ≡ b → false ≡ (part_of v && b)
-        by_test true q = sym (and_left (part_of v) true (ap part_of (sym (eqb-true var v q)) ∙ other))
-        by_test false q = sym (and-false (part_of v))
+      other_none v other = grind (arith, nat_tests, and_left, eqb-true, and-false)
 
       literal-adds : Adds (and_over (literal_kids parts var positive) ∷ [])
       literal-adds = by_part (nat_le var parts) refl where
@@ -235,14 +214,14 @@ module _ (graph : Graph) (words costs : List ℕ) (ok : IsGraph graph) (dear : A
             (λ c q. other-means graph words costs ok dear i var positive kids e c q (and_right (nat_le 1 var) _ p))
 
     -- an and
-    and-adds : (kids : List ℕ) → slice_get graph.nodes i ≡ Some (record { what = And; kids = kids }) → (cost : ℕ) → Ck i ≡ Some cost → own i ≡ length before → Adds (and_over (map own kids) ∷ [])
+    and-adds : (kids : List ℕ) → slice_get graph.nodes i ≡ Some (record { what = And; kids = kids }) → (cost : ℕ) → least_at graph words costs i ≡ Some cost → own i ≡ length before → Adds (and_over (map own kids) ∷ [])
     and-adds kids e cost cost_is at =
         let fit = fits-get graph.vars graph.nodes i _ ok.nodes.fit e in
         let drawn_kid : (k : ℕ) → In k kids → (d : ℕ) × Drawn before k d = λ k m.
-        let d = sum-kid Ck kids cost k (sym (costs-at graph words costs ok i _ e) ∙ cost_is) m in
+        let d = sum-kid (least_at graph words costs) kids cost k (sym (costs-at graph words costs ok i _ e) ∙ cost_is) m in
         (d.0, upto.drawn k d.0 (all-below i kids k fit.below m) d.1) in
         let mention_kids : (v : ℕ) → map (mentions before v) (map own kids) ≡ map (λ k. part_of v && M v k) kids = λ v.
-        map_twice (mentions before v) own kids ∙ map-in (λ k. mentions before v (own k)) (λ k. part_of v && M v k) kids (λ k m. (drawn_kid k m).1.mentioned v) in
+        map-map (mentions before v) own kids ∙ map-in (λ k. mentions before v (own k)) (λ k. part_of v && M v k) kids (λ k m. (drawn_kid k m).1.mentioned v) in
         one-adds (and_over (map own kids))
         (record {
           below = are_below-from (length before) (map own kids) (λ j d lt. let x = from_map own (get_or (map own kids) j d) kids (In-at (map own kids) j d lt) in subst (λ q. q < length before) (sym x.gives) (drawn_kid x.item x.is_in).1.inside);
@@ -252,11 +231,11 @@ module _ (graph : Graph) (words costs : List ℕ) (ok : IsGraph graph) (dear : A
         })
         at
         (λ v c q. ap (list_any (λ b. b)) (mention_kids v) ∙ any-part (part_of v) (M v) kids ∙ ap (λ b. part_of v && b) (sym (mention-at graph words costs ok i _ e v)))
-        (λ c q. Means-same (λ a. ap (list_all (λ b. b)) (map_twice (λ p. is_true before p a) own kids))
+        (λ c q. Means-same (λ a. ap (list_all (λ b. b)) (map-map (λ p. is_true before p a) own kids))
         (and-means graph words costs ok dear (λ k a. is_true before (own k) a) i kids c e q (λ k d m r. (upto.drawn k d (all-below i kids k fit.below m) r).means)))
 
     -- an or, behind a line for each of its cheapest kids
-    module _ (kids : List ℕ) (e : slice_get graph.nodes i ≡ Some (record { what = Or; kids = kids })) (cost : ℕ) (cost_is : Ck i ≡ Some cost)
+    module _ (kids : List ℕ) (e : slice_get graph.nodes i ≡ Some (record { what = Or; kids = kids })) (cost : ℕ) (cost_is : least_at graph words costs i ≡ Some cost)
         (at : own i ≡ length before + length (cheapest_kids least cost kids)) where
       abbrev best : List ℕ
       best = cheapest_kids least cost kids
@@ -267,7 +246,7 @@ module _ (graph : Graph) (words costs : List ℕ) (ok : IsGraph graph) (dear : A
       wider : (k : ℕ) → In k kids → (v : ℕ) → M v k ≡ true → M v i ≡ true
       wider k m = kid-inside graph words costs ok dear i kids cost e cost_is k m
 
-      drawn_kid : (k : ℕ) → In k kids → Ck k ≡ Some cost → Drawn before k cost
+      drawn_kid : (k : ℕ) → In k kids → least_at graph words costs k ≡ Some cost → Drawn before k cost
       drawn_kid k m c = upto.drawn k cost (all-below i kids k fit.below m) c
 
       abbrev block : List Node
@@ -304,7 +283,7 @@ module _ (graph : Graph) (words costs : List ℕ) (ok : IsGraph graph) (dear : A
           let start : length before ≡ length before + 0 = omega arith in
           (λ j. map (value_of by (before ++ sym (append-nil block) j)) (range_with_len (start j) (sym length-block j)))
           ∙ values-behind by before [] block [] (below-all block block-follows)
-          ∙ map_twice (λ (x : Node). by x.what (map (value_of by before) x.kids)) (kid_line L i) best
+          ∙ map-map (λ (x : Node). by x.what (map (value_of by before) x.kids)) (kid_line L i) best
 
       block-mentions : (v : ℕ) → map (mentions all_kids v) (range_with_len (length before) (length best)) ≡ map (λ k. part_of v && M v i) best
       block-mentions v = block-values (mention_by v) ∙ map-in (λ k. list_any (λ b. b) (map (mentions before v) (kid_line L i k).kids)) (λ k. part_of v && M v i) best (λ k m.
@@ -313,7 +292,7 @@ module _ (graph : Graph) (words costs : List ℕ) (ok : IsGraph graph) (dear : A
 
       some-best : best ≡ [] → ⊥
       some-best none =
-          let r = cheapest-has Ck kids cost (sym (costs-at graph words costs ok i _ e) ∙ cost_is) in
+          let r = cheapest-has (least_at graph words costs) kids cost (sym (costs-at graph words costs ok i _ e) ∙ cost_is) in
           subst (In r.0) none (cheapest-in least cost kids r.0 r.1.0 r.1.1)
 
       abbrev or_node : Node
@@ -338,8 +317,7 @@ module _ (graph : Graph) (words costs : List ℕ) (ok : IsGraph graph) (dear : A
       }
 
       here : (by : NodeKind → List Bool → Bool) → value_of by (all_kids ++ or_node ∷ []) (own i) ≡ by Or (map (λ k. by And (map (value_of by before) (kid_line L i k).kids)) best)
-      here by = ap (value_of by (all_kids ++ or_node ∷ [])) (at ∙ sym length-all_kids) ∙ value_of-there by all_kids or_node []
-          ∙ ap (λ ks. by Or (map (value_of by all_kids) ks)) or_kids ∙ ap (by Or) (block-values by)
+      here by = grind (arith, nat_tests, all_kids, length-all_kids, value_of-there, or_kids, block-values)
 
       or-drawn : Drawn (all_kids ++ or_node ∷ []) i cost
       or-drawn = record {
@@ -362,24 +340,24 @@ module _ (graph : Graph) (words costs : List ℕ) (ok : IsGraph graph) (dear : A
       }
 
     -- the lines of a node, whatever it is
-    by_kind : (what : NodeKind) (kids : List ℕ) → slice_get graph.nodes i ≡ Some (record { what = what; kids = kids }) → (cost : ℕ) → Ck i ≡ Some cost
+    by_kind : (what : NodeKind) (kids : List ℕ) → slice_get graph.nodes i ≡ Some (record { what = what; kids = kids }) → (cost : ℕ) → least_at graph words costs i ≡ Some cost
         → own i ≡ length before + lines_before least cost what kids → Adds (lines_by L i cost what kids)
     by_kind (Literal positive var) kids e cost cost_is at = literal-adds var positive kids e cost cost_is (omega (arith, at))
     by_kind And kids e cost cost_is at = and-adds kids e cost cost_is (omega (arith, at))
     by_kind Or kids e cost cost_is at = or-adds kids e cost cost_is at
 
-    node-adds : (node : Node) → slice_get graph.nodes i ≡ Some node → (o : Option ℕ) → Ck i ≡ o → own i ≡ length before + lines_to least node o → Adds (lines_at L i node o)
+    node-adds : (node : Node) → slice_get graph.nodes i ≡ Some node → (o : Option ℕ) → least_at graph words costs i ≡ o → own i ≡ length before + lines_to least node o → Adds (lines_at L i node o)
     node-adds node e None c at = false-adds c (omega (arith, at))
     node-adds node e (Some cost) c at = by_kind node.what node.kids e cost c at
 
-    pub one_more : (node : Node) → slice_get graph.nodes i ≡ Some node → own i ≡ length before + lines_to least node (Ck i) → Upto (i + 1) (more ++ node_lines L (i, node))
+    pub one_more : (node : Node) → slice_get graph.nodes i ≡ Some node → own i ≡ length before + lines_to least node (least_at graph words costs i) → Upto (i + 1) (more ++ node_lines L (i, node))
     one_more node e at =
-        let added = node-adds node e (Ck i) refl at in
+        let added = node-adds node e (least_at graph words costs i) refl at in
         record {
           stand = added.stand;
           drawn = λ k c h q. ⊎_elim
               (λ (lt : k < i). subst (λ lines. Drawn lines k c) (regroup (node_lines L (i, node))) (Drawn-more before (node_lines L (i, node)) k c (upto.drawn k c lt q)))
-              (λ (le : i ≤ k). let same : i ≡ k = omega arith in subst (λ j. Drawn (literal_pairs parts ++ (more ++ node_lines L (i, node))) j c) same (added.drawn c (ap Ck same ∙ q)))
+              (λ (le : i ≤ k). let same : i ≡ k = omega arith in subst (λ j. Drawn (literal_pairs parts ++ (more ++ node_lines L (i, node))) j c) same (added.drawn c (ap (least_at graph words costs) same ∙ q)))
               (cases_lt k i);
         }
 
@@ -387,37 +365,24 @@ module _ (graph : Graph) (words costs : List ℕ) (ok : IsGraph graph) (dear : A
 
   -- how many lines a node has
   pub length-lines : (i : ℕ) (node : Node) (o : Option ℕ) → length (lines_at L i node o) ≡ lines_to least node o + 1
-  length-lines i node None = refl
-  length-lines i node (Some cost) = by_what node.what node.kids where
-    by_what : (what : NodeKind) (kids : List ℕ) → length (lines_by L i cost what kids) ≡ lines_before least cost what kids + 1
-    by_what (Literal positive var) kids = refl
-    by_what And kids = refl
-    by_what Or kids = omega (arith, length-append (map (kid_line L i) (cheapest_kids least cost kids)) (or_behind (own i) (length (cheapest_kids least cost kids)) ∷ []), length-map (cheapest_kids least cost kids) (kid_line L i))
+  length-lines i node o = grind (arith, nat_tests, length-append, length-map)
 
   go : (front rest : List Node) (done : List ℕ) (more : List Node) → graph.nodes ≡ front ++ rest → length done ≡ length front
       → L.lines ≡ done ++ own_lines least (length (literal_pairs parts ++ more)) (length front) rest
       → Upto (length front) more → Upto (length graph.nodes) (more ++ flat_map (node_lines L) (enumerate_from (length front) rest))
-  go front [] done more all long stand_at upto =
-      let end : length front ≡ length graph.nodes = omega (arith, ap length all, length-append front []) in
-      subst (λ n. Upto n (more ++ [])) end (subst (Upto (length front)) (sym (append-nil more)) upto)
+  go front [] done more all long stand_at upto = grind (arith, nat_tests, length-append, append-nil)
   go front (node ∷ later) done more all long stand_at upto =
       let i = length front in
       let before : List Node = literal_pairs parts ++ more in
-      let at : ℕ = length before + lines_to least node (Ck i) in
+      let at : ℕ = length before + lines_to least node (least_at graph words costs i) in
       let inside : i < length graph.nodes = omega (arith, ap length all, length-append front (node ∷ later)) in
       let there : slice_get graph.nodes i ≡ Some node = slice_get-get_or graph.nodes i true_node inside ∙ ap Some (ap (λ ns. get_or ns i true_node) all ∙ get_or_at front node later true_node i refl) in
       let own_is : own i ≡ at = ap (λ ls. get_or ls i 0) stand_at ∙ get_or_at done at (own_lines least (at + 1) (i + 1) later) 0 i long in
       let next = one_more i more upto node there own_is in
       let block : List Node = node_lines L (i, node) in
       let longer : length (front ++ node ∷ []) ≡ i + 1 = length-append front (node ∷ []) in
-      let grown : length (literal_pairs parts ++ (more ++ block)) ≡ at + 1 = omega (arith, length-append (literal_pairs parts) (more ++ block), length-append more block, length-append (literal_pairs parts) more, length-lines i node (Ck i)) in
-      subst (λ ls. Upto (length graph.nodes) ls)
-      (ap (λ n. (more ++ block) ++ flat_map (node_lines L) (enumerate_from n later)) longer ∙ append_assoc more block (flat_map (node_lines L) (enumerate_from (i + 1) later)))
-      (go (front ++ node ∷ []) later (done ++ at ∷ []) (more ++ block)
-      (all ∙ sym (append_assoc front (node ∷ []) later))
-      (omega (arith, length-append done (at ∷ []), longer, long))
-      (stand_at ∙ sym (append_assoc done (at ∷ []) (own_lines least (at + 1) (i + 1) later)) ∙ (λ j. (done ++ at ∷ []) ++ own_lines least (sym grown j) (sym longer j) later))
-      (subst (λ n. Upto n (more ++ block)) (sym longer) next))
+      let grown : length (literal_pairs parts ++ (more ++ block)) ≡ at + 1 = omega (arith, length-append (literal_pairs parts) (more ++ block), length-append more block, length-append (literal_pairs parts) more, length-lines i node (least_at graph words costs i)) in
+      grind (arith, nat_tests, append_assoc, length-append, go (front ++ node ∷ []) later (done ++ at ∷ []) (more ++ block))
 
   abbrev pub body : List Node
   body = flat_map (node_lines (layout_of graph words costs)) (enumerate_from 0 graph.nodes)

@@ -1,6 +1,7 @@
 -- How many edges lines have, and the text of all lines.
-use Rattle.std.proofs.Common.{◌≡◌, ℕ, zero, suc, ◌+◌, ◌-◌, ◌<◌, ◌≤◌, Bool, true, false, cond, List, [], ◌∷◌, ◌++◌, map, length, take, drop, get_or, Some, None, refl, sym, ap, ◌∙◌, arith, append-nil}
-use Rattle.std.specs.Prelude.{sum_by, slice_index}
+use Rattle.std.proofs.Common.{◌≡◌, ℕ, zero, suc, ◌+◌, ◌-◌, ◌<◌, ◌≤◌, Bool, true, false, cond, List, [], ◌∷◌, ◌++◌, map, length, take, drop, get_or, None, refl, sym, ap, ◌∙◌, arith, append-nil}
+use Rattle.std.proofs.lemmas.Bool.Decides.{nat_tests}
+use Rattle.std.specs.Prelude.{sum_by}
 use Rattle.std.specs.List.{flat_map, enumerate_from, range_with_len}
 use Rattle.std.proofs.lemmas.List.{take_more, flat_map_more, take-append-drop}
 use Rattle.std.proofs.lemmas.List.Sums.{sum_by-cons, sum_by-append}
@@ -13,15 +14,13 @@ use Rattle.nnf_text.proofs.LineTexts.{header, lines, text-lines}
 use Rattle.minimiser.specs.Costs.{cost_at}
 use Rattle.minimiser.specs.Stored.{cost_in}
 use Rattle.minimiser.proofs.Sums.{cost_in-some}
-use Rattle.smooth_nnf.specs.Layouts.{Layout, literal_pair, literal_pairs, costs_just, cheapest_kids, kid_line, or_behind, or_lines, node_lines, last_at, last_line, all_lines}
+use Rattle.smooth_nnf.specs.Layouts.{Layout, literal_pair, literal_pairs, costs_just, cheapest_kids, kid_line, or_lines, node_lines, last_line, all_lines}
 use Rattle.smooth_nnf.specs.inner.Drawings.{Drawing, shown, filled_line}
 use Rattle.smooth_nnf.specs.inner.Texts.{lines_text, kid_edges}
 
 pub last-kids : (d : Drawing) (root value : ℕ) → root ≡ length d.graph.nodes - 1 → cost_in value ≡ cost_at (map cost_in d.values) root → (value ≡ 4294967295 → ⊥)
     → length (filled_line d None root).kids ≡ length (last_line (shown d)).kids
-last-kids d root value at is some =
-    let cost : cost_at (map cost_in d.values) root ≡ Some value = sym is ∙ cost_in-some value some in
-    ap (λ o. length (last_at (shown d) root o).kids) (sym cost) ∙ ap (λ r. length (last_at (shown d) r (cost_at (map cost_in d.values) r)).kids) at
+last-kids d root value at is some = grind (arith, nat_tests, cost_in-some)
 
 kid-lines : (d : Drawing) (node cost : ℕ) (kids : List ℕ) → sum_by (kid_edges d node cost) kids
     ≡ edges (map (kid_line (shown d) node) (cheapest_kids (map cost_in d.values) cost kids)) + length (cheapest_kids (map cost_in d.values) cost kids)
@@ -35,16 +34,7 @@ kid-lines d node cost (k ∷ kids) = sum_by-cons (kid_edges d node cost) k kids 
   by more false = omega (arith, more)
 
 pub or-edges : (d : Drawing) (node cost : ℕ) (kids : List ℕ) → sum_by (kid_edges d node cost) kids ≡ edges (or_lines (shown d) node (cheapest_kids (map cost_in d.values) cost kids))
-or-edges d node cost kids =
-    let best : List ℕ = cheapest_kids (map cost_in d.values) cost kids in
-    let own : Node = or_behind (slice_index d.lines node) (length best) in
-    omega (
-      arith,
-      kid-lines d node cost kids,
-      sum_by-append (λ (n : Node). length n.kids) (map (kid_line (shown d) node) best) (own ∷ []),
-      sum_by-cons (λ (n : Node). length n.kids) own [],
-      length-range_with_len (slice_index d.lines node - length best) (length best),
-    )
+or-edges d node cost kids = grind (arith, nat_tests, kid-lines, sum_by-append, sum_by-cons, length-range_with_len)
 
 -- ---- one node after the other
 
@@ -70,15 +60,7 @@ no-edges s (suc n) = omega (
 )
 
 pub all-edges : (L : Layout) → edges (all_lines L) ≡ edges (flat_map (node_lines L) (enumerate_from 0 L.graph.nodes)) + length (last_line L).kids
-all-edges L =
-    let body : List Node = flat_map (node_lines L) (enumerate_from 0 L.graph.nodes) in
-    omega (
-      arith,
-      sum_by-append (λ (n : Node). length n.kids) (literal_pairs L.parts) (body ++ last_line L ∷ []),
-      sum_by-append (λ (n : Node). length n.kids) body (last_line L ∷ []),
-      sum_by-cons (λ (n : Node). length n.kids) (last_line L) [],
-      no-edges 1 L.parts,
-    )
+all-edges L = grind (arith, nat_tests, sum_by-append, sum_by-cons, no-edges)
 
 -- ---- the text of all
 

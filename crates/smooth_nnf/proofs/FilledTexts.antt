@@ -1,5 +1,6 @@
 -- The texts of lines that are filled in, word by word.
-use Rattle.std.proofs.Common.{◌≡◌, ℕ, zero, suc, ◌+◌, ◌-◌, ◌*◌, ◌<◌, Bool, true, false, cond, ◌&&◌, List, [], ◌∷◌, ◌++◌, map, length, get_or, Option, refl, sym, ap, ◌∙◌, subst, arith, append_assoc}
+use Rattle.std.proofs.Common.{◌≡◌, ℕ, zero, suc, ◌+◌, ◌-◌, ◌*◌, ◌<◌, Bool, cond, ◌&&◌, List, [], ◌∷◌, ◌++◌, map, length, get_or, Option, refl, sym, ap, ◌∙◌, subst, arith, append_assoc}
+use Rattle.std.proofs.lemmas.Bool.Decides.{nat_tests}
 use Rattle.std.specs.Prelude.{nat_le, decimal, slice_index}
 use Rattle.std.specs.List.{filter, flat_map, range_with_len}
 use Rattle.std.proofs.lemmas.List.{map-append}
@@ -25,19 +26,7 @@ use Rattle.smooth_nnf.proofs.WordParts.{range-append, all-words, word-parts}
 bits-text : (words : List ℕ) (word bits s d : ℕ) → flat_map (bit_text words word bits) (range_with_len s d)
     ≡ numbers_text (map (filler words) (filter (λ part. has_bit bits (part - (32 * word + 1))) (range_with_len (32 * word + 1 + s) d)))
 bits-text words word bits s zero = refl
-bits-text words word bits s (suc d) =
-    let part : ℕ = 32 * word + 1 + s in
-    let next : 32 * word + 1 + (s + 1) ≡ part + 1 = omega arith in
-    let place : part - (32 * word + 1) ≡ s = omega arith in
-    let same : part_at word s ≡ part = omega arith in
-    let rest : List ℕ = filter (λ part. has_bit bits (part - (32 * word + 1))) (range_with_len (part + 1) d) in
-    (λ i. cond (has_bit bits s) (32 ∷ decimal (filler words (same i))) [] ++ (bits-text words word bits (s + 1) d
-    ∙ ap (λ n. numbers_text (map (filler words) (filter (λ part. has_bit bits (part - (32 * word + 1))) (range_with_len n d)))) next) i)
-    ∙ by part rest (has_bit bits s)
-    ∙ ap (λ n. numbers_text (map (filler words) (cond (has_bit bits n) (part ∷ rest) rest))) (sym place) where
-      by : (part : ℕ) (rest : List ℕ) (b : Bool) → cond b (32 ∷ decimal (filler words part)) [] ++ numbers_text (map (filler words) rest) ≡ numbers_text (map (filler words) (cond b (part ∷ rest) rest))
-      by part rest true = refl
-      by part rest false = refl
+bits-text words word bits s (suc d) = grind (arith, nat_tests, bits-text words word bits (s + 1) d)
 
 pub word-text : (d : Drawing) (node : ℕ) (over : Option ℕ) (word bits : ℕ) → ((b : ℕ) → b < 32 → has_bit bits b ≡ (nat_le (part_at word b) d.parts && missing_in d over node (part_at word b)))
     → flat_map (bit_text d.words word bits) (range_with_len 0 32) ≡ word_text d node over word
@@ -64,9 +53,7 @@ words-text d node over word (suc count) =
     ∙ ap (λ n. numbers_text (map (filler d.words) (filter test (range_with_len (32 * word + 1) n)))) (sym all)
 
 pub fillers-text : (d : Drawing) (node : ℕ) (over : Option ℕ) → flat_map (word_text d node over) (range_with_len 0 (part_words d.parts)) ≡ numbers_text (fillers d.words d.parts (missing_in d over node))
-fillers-text d node over =
-    words-text d node over 0 (part_words d.parts)
-    ∙ ap (λ ps. numbers_text (map (filler d.words) ps)) (all-words (missing_in d over node) d.parts (32 * part_words d.parts) (omega arith))
+fillers-text d node over = grind (arith, nat_tests, words-text, all-words)
 
 -- ---- the line
 

@@ -1,8 +1,10 @@
 -- The lines of the parts' literals, and those that fill parts in.
-use Rattle.std.proofs.Common.{◌≡◌, ℕ, zero, suc, ◌+◌, ◌-◌, ◌*◌, ◌<◌, ◌≤◌, Bool, true, false, cond, ◌&&◌, ◌==◌, List, [], ◌∷◌, ◌++◌, map, length, refl, ap, sym, ◌∙◌, subst, arith, ⊎_elim, inl, inr, get_or}
+use Rattle.std.proofs.Common.{◌≡◌, ℕ, zero, suc, ◌+◌, ◌-◌, ◌*◌, ◌<◌, ◌≤◌, Bool, true, false, cond, ◌&&◌, ◌==◌, List, [], ◌∷◌, ◌++◌, map, length, refl, ap, ◌∙◌, subst, arith, ⊎_elim, inl, inr, get_or}
+use Rattle.std.proofs.lemmas.Bool.Decides.{nat_tests}
 use Rattle.std.specs.Prelude.{nat_le}
 use Rattle.std.specs.List.{list_all, list_any, filter, flat_map, range_with_len, AllByRecursion}
 use Rattle.std.specs.Cmp.{both_ways}
+use Rattle.std.proofs.lemmas.Simd.{map-map}
 use Rattle.std.proofs.lemmas.Bool.{and_parts, and_from, le-leb, leb-true, eqb-true, eq-eqb, ne_eqb, cases_lt}
 use Rattle.state_rules.specs.Bits.{same_bit}
 use Rattle.state_rules.specs.Assignments.{Assignment}
@@ -14,24 +16,15 @@ use Rattle.state_rules.specs.Graphs.{Node, literal_node, node_at, at_most_one, t
 use Rattle.state_rules.proofs.NodeValues.{are_below, value_of, value_of-at, are_below-from}
 use Rattle.state_rules.proofs.Kids.{at_most_one-from}
 use Rattle.minimiser.specs.Costs.{known_at}
-use Rattle.minimiser.proofs.Derivations.{any-kid, kid-with}
+use Rattle.minimiser.proofs.Derivations.{any-kid, all-kid, kid-with}
 use Rattle.smooth_nnf.specs.Layouts.{literal_pair, literal_pairs, literal_line, filling, filler, fillers}
 use Rattle.smooth_nnf.proofs.Standing.{MayFollow, Stand, stand-none, stand-behind}
 
 -- ---- lists
 
-pub all-each : {A : Type 0} (f : A → Bool) (xs : List A) (x : A) → In x xs → list_all (λ b. b) (map f xs) ≡ true → f x ≡ true
-all-each f [] x m all = absurd m
-all-each f (y ∷ xs) x (inl e) all = ap f e ∙ (and_parts (f y) (list_all (λ b. b) (map f xs)) all).0
-all-each f (y ∷ xs) x (inr m) all = all-each f xs x m (and_parts (f y) (list_all (λ b. b) (map f xs)) all).1
-
 pub all-from : {A : Type 0} (f : A → Bool) (xs : List A) → ((x : A) → In x xs → f x ≡ true) → list_all (λ b. b) (map f xs) ≡ true
 all-from f [] each = refl
 all-from f (y ∷ xs) each = and_from _ _ (each y (inl refl)) (all-from f xs (λ x m. each x (inr m)))
-
-pub map_twice : {A B C : Type 0} (f : B → C) (g : A → B) (xs : List A) → map f (map g xs) ≡ map (λ x. f (g x)) xs
-map_twice f g [] = refl
-map_twice f g (x ∷ xs) = ap (λ ys. f (g x) ∷ ys) (map_twice f g xs)
 
 pub map-in : {A B : Type 0} (f g : A → B) (xs : List A) → ((x : A) → In x xs → f x ≡ g x) → map f xs ≡ map g xs
 map-in f g [] same = refl
@@ -44,10 +37,7 @@ in_range s (suc n) p (inr m) = let r = in_range (s + 1) n p m in (omega (arith, 
 
 range_has : (s n p : ℕ) → s ≤ p → p < s + n → In p (range_with_len s n)
 range_has s zero p low high = absurd (omega arith)
-range_has s (suc n) p low high = elim (cases_lt s p) [
-  | inl later ↦ inr (range_has (s + 1) n p (omega arith) (omega arith))
-  | inr here ↦ inl (omega arith)
-]
+range_has s (suc n) p low high = grind (arith, nat_tests, cases_lt, range_has (s + 1) n p)
 
 -- ---- the literals of the parts
 
@@ -56,16 +46,13 @@ pair_line s p true = 2 * (p - s)
 pair_line s p false = 2 * (p - s) + 1
 
 pair_line-later : (s p : ℕ) (b : Bool) → s < p → pair_line s p b ≡ suc (suc (pair_line (s + 1) p b))
-pair_line-later s p true lt = omega arith
-pair_line-later s p false lt = omega arith
+pair_line-later s p b lt = grind (arith, nat_tests)
 
 pair_line-here : (s : ℕ) (b : Bool) → pair_line s s b ≡ cond b 0 1
-pair_line-here s true = omega arith
-pair_line-here s false = omega arith
+pair_line-here s b = grind (arith, nat_tests)
 
 here-at : (s : ℕ) (b : Bool) (rest : List Node) → node_at (literal_node s true ∷ literal_node s false ∷ rest) (cond b 0 1) ≡ literal_node s b
-here-at s true rest = refl
-here-at s false rest = refl
+here-at s b rest = grind (arith, nat_tests)
 
 pair-at : (s n p : ℕ) (b : Bool) (more : List Node) → s ≤ p → p < s + n → node_at (flat_map literal_pair (range_with_len s n) ++ more) (pair_line s p b) ≡ literal_node p b
 pair-at s zero p b more low high = absurd (omega arith)
@@ -84,18 +71,14 @@ pub length-literal_pairs : (parts : ℕ) → length (literal_pairs parts) ≡ 2 
 length-literal_pairs parts = length-pairs 1 parts
 
 line-as_pair : (p : ℕ) (b : Bool) → literal_line p b ≡ pair_line 1 p b
-line-as_pair p true = refl
-line-as_pair p false = refl
+line-as_pair p b = grind (arith, nat_tests)
 
 pub literal_line-lt : (parts p : ℕ) (b : Bool) → 1 ≤ p → p ≤ parts → literal_line p b < 2 * parts
-literal_line-lt parts p true low high = omega arith
-literal_line-lt parts p false low high = omega arith
+literal_line-lt parts p b low high = grind (arith, nat_tests)
 
 pairs-follow : (parts s n : ℕ) → 1 ≤ s → s + n ≤ parts + 1 → AllByRecursion (MayFollow parts []) (flat_map literal_pair (range_with_len s n))
 pairs-follow parts s zero low few = tt
-pairs-follow parts s (suc n) low few = (follows true, (follows false, pairs-follow parts (s + 1) n (omega arith) (omega arith))) where
-  follows : (b : Bool) → MayFollow parts [] (literal_node s b)
-  follows b = record { below = refl; kind = and_from _ _ (le-leb 1 s low) (le-leb s parts (omega arith)); apart = λ v. refl; smooth = λ v. refl }
+pairs-follow parts s (suc n) low few = grind (arith, nat_tests, and_from, le-leb, pairs-follow parts (s + 1) n)
 
 pub pairs-stand : (parts : ℕ) → Stand parts (literal_pairs parts)
 pairs-stand parts = stand-behind parts [] (literal_pairs parts) (stand-none parts) (pairs-follow parts 1 parts (omega arith) (omega arith))
@@ -106,10 +89,7 @@ module _ (parts : ℕ) (more : List Node) where
   lines = literal_pairs parts ++ more
 
   pub literal-value : (by : NodeKind → List Bool → Bool) (p : ℕ) (b : Bool) → 1 ≤ p → p ≤ parts → literal_line p b < length (literal_pairs parts ++ more) → value_of by (literal_pairs parts ++ more) (literal_line p b) ≡ by (Literal b p) []
-  literal-value by p b low high inside =
-      let at : node_at lines (literal_line p b) ≡ literal_node p b = ap (node_at lines) (line-as_pair p b) ∙ pair-at 1 parts p b more low (omega arith) in
-      value_of-at by lines (literal_line p b) inside (subst (λ (n : Node). are_below (literal_line p b) n.kids ≡ true) (sym at) refl)
-      ∙ ap (λ (n : Node). by n.what (map (value_of by lines) n.kids)) at
+  literal-value by p b low high inside = grind (arith, nat_tests, line-as_pair, pair-at, value_of-at)
 
   -- ---- fillers
 
@@ -118,22 +98,17 @@ module _ (parts : ℕ) (more : List Node) where
     chosen = filter missing (range_with_len 1 parts)
 
     chosen-is : (p : ℕ) → In p chosen → (1 ≤ p) × (p ≤ parts) × (missing p ≡ true)
-    chosen-is p m =
-        let r = In-filter missing p (range_with_len 1 parts) m in
-        let range = in_range 1 parts p r.0 in
-        (range.0, omega (arith, range.1), r.1)
+    chosen-is p m = grind (arith, nat_tests, In-filter, in_range)
 
     chosen-has : (p : ℕ) → 1 ≤ p → p ≤ parts → missing p ≡ true → In p chosen
     chosen-has p low high is = In-filtered missing p (range_with_len 1 parts) (range_has 1 parts p low (omega arith)) is
 
     filler-value : (by : NodeKind → List Bool → Bool) (p : ℕ) → In p chosen → value_of by lines (filler words p) ≡ by (Literal (filling (known_at words p)) p) []
-    filler-value by p m =
-        let is = chosen-is p m in
-        literal-value by p (filling (known_at words p)) is.0 is.1 (omega (arith, literal_line-lt parts p (filling (known_at words p)) is.0 is.1, room))
+    filler-value by p m = grind (arith, nat_tests, chosen-is, literal-value, literal_line-lt)
 
     pub fillers-values : (by : NodeKind → List Bool → Bool)
         → map (value_of by (literal_pairs parts ++ more)) (fillers words parts missing) ≡ map (λ p. by (Literal (filling (known_at words p)) p) []) (filter missing (range_with_len 1 parts))
-    fillers-values by = map_twice (value_of by lines) (filler words) chosen ∙ map-in (λ p. value_of by lines (filler words p)) (λ p. by (Literal (filling (known_at words p)) p) []) chosen (filler-value by)
+    fillers-values by = map-map (value_of by lines) (filler words) chosen ∙ map-in (λ p. value_of by lines (filler words p)) (λ p. by (Literal (filling (known_at words p)) p) []) chosen (filler-value by)
 
     -- they stand before all that fills parts in
     pub fillers-below : (own : ℕ) → 2 * parts ≤ own → are_below own (fillers words parts missing) ≡ true
@@ -153,10 +128,7 @@ module _ (parts : ℕ) (more : List Node) where
           (and_from _ _ (and_from _ _ (le-leb 1 r.item is.0) (le-leb r.item parts is.1)) is.2)
 
       to : ((nat_le 1 v && nat_le v parts) && missing v) ≡ true → list_any (λ b. b) (map (λ p. p == v) chosen) ≡ true
-      to all =
-          let both = and_parts (nat_le 1 v && nat_le v parts) (missing v) all in
-          let range = and_parts (nat_le 1 v) (nat_le v parts) both.0 in
-          any-kid (λ p. p == v) chosen v (chosen-has v (leb-true 1 v range.0) (leb-true v parts range.1) both.1) (eq-eqb v v refl)
+      to all = grind (arith, nat_tests, and_parts, any-kid, chosen-has, leb-true, eq-eqb)
 
     -- each once
     pub fillers-once : (v : ℕ) → at_most_one (map (mentions (literal_pairs parts ++ more) v) (fillers words parts missing)) ≡ true
@@ -184,13 +156,8 @@ module _ (parts : ℕ) (more : List Node) where
 
     pub fillers-true : (a : Assignment) → ((v : ℕ) → (nat_le 1 v && nat_le v parts) ≡ true → missing v ≡ true → a v ≡ filling (known_at words v))
         → list_all (λ b. b) (map (λ k. is_true (literal_pairs parts ++ more) k a) (fillers words parts missing)) ≡ true
-    fillers-true a filled = as_bits a ∙ all-from (λ p. same_bit (filling (known_at words p)) (a p)) chosen (λ p m.
-        let is = chosen-is p m in
-        ap (same_bit (filling (known_at words p))) (filled p (and_from _ _ (le-leb 1 p is.0) (le-leb p parts is.1)) is.2) ∙ same_bit-refl (filling (known_at words p)))
+    fillers-true a filled = grind (arith, nat_tests, as_bits, all-from, chosen-is, filled, and_from, le-leb, same_bit-refl)
 
     pub fillers-say : (a : Assignment) → list_all (λ b. b) (map (λ k. is_true (literal_pairs parts ++ more) k a) (fillers words parts missing)) ≡ true
         → (v : ℕ) → (nat_le 1 v && nat_le v parts) ≡ true → missing v ≡ true → a v ≡ filling (known_at words v)
-    fillers-say a all v part is =
-        let range = and_parts (nat_le 1 v) (nat_le v parts) part in
-        sym (same_bit-equal (filling (known_at words v)) (a v)
-        (all-each (λ p. same_bit (filling (known_at words p)) (a p)) chosen v (chosen-has v (leb-true 1 v range.0) (leb-true v parts range.1) is) (sym (as_bits a) ∙ all)))
+    fillers-say a all v part is = grind (arith, nat_tests, and_parts, same_bit-equal, all-kid, chosen-has, leb-true, as_bits)

@@ -1,12 +1,12 @@
 -- What is kept of a graph, as a drawing has it: sets of parts, and nodes below which nothing is missing.
-use Rattle.std.proofs.Common.{◌≡◌, ℕ, ◌+◌, ◌*◌, ◌/◌, ◌%◌, ◌<◌, ◌≤◌, Bool, true, false, not, ◌&&◌, List, [], map, length, drop, get_or, Option, Some, None, refl, ap, sym, ◌∙◌, subst, arith, ⊎_elim}
-use Rattle.std.specs.Prelude.{◌==◌, nat_lt, nat_le, IfSome, MatchOption}
-use Rattle.std.specs.Int.{bit_at}
+use Rattle.std.proofs.Common.{◌≡◌, ℕ, ◌+◌, ◌*◌, ◌/◌, ◌%◌, ◌<◌, ◌≤◌, Bool, true, false, not, ◌&&◌, List, [], map, length, get_or, Option, Some, None, ap, ◌∙◌, subst, arith}
+use Rattle.std.proofs.lemmas.Bool.Decides.{nat_tests}
+use Rattle.std.specs.Prelude.{◌==◌, nat_le, IfSome, MatchOption}
 use Rattle.std.specs.List.{range_with_len}
 use Rattle.std.proofs.lemmas.Bool.{cases_lt, lt-ltb, le-ltb, le-leb, lt-leb}
 use Rattle.std.proofs.lemmas.List.{get_or-take, get_or-drop}
 use Rattle.state_rules.proofs.Members.{filter_same}
-use Rattle.state_rules.specs.Graphs.{node_at, mentions, IsGraph}
+use Rattle.state_rules.specs.Graphs.{mentions, IsGraph}
 use Rattle.state_rules.specs.Bits.{has_bit}
 use Rattle.state_rules.proofs.Lists.{filter-never}
 use Rattle.part_sets.specs.Numbers.{part_words, set_at}
@@ -20,33 +20,19 @@ use Rattle.smooth_nnf.proofs.LineLemmas.{kid-wider}
 -- a set of parts, bit by bit
 pub set-bit : (parts : ℕ) (some : ℕ → Bool) (sets : List ℕ) (k word b : ℕ) → ArePartsOf parts some (set_at sets k (part_words parts)) → word < part_words parts → b < 32
     → has_bit (get_or sets (k * part_words parts + word) 0) b ≡ (nat_le (part_at word b) parts && some (part_at word b))
-set-bit parts some sets k word b are w s =
-    let place : (32 * word + b) / 32 ≡ word = omega arith in
-    let rest : (32 * word + b) % 32 ≡ b = omega arith in
-    sym ((λ i. bit_at (get_or (set_at sets k (part_words parts)) (place i) 0) (rest i) == 1)
-    ∙ ap (λ n. has_bit n b) (get_or-take (part_words parts) (drop (k * part_words parts) sets) word 0 w ∙ get_or-drop (k * part_words parts) sets word 0))
-    ∙ are (32 * word + b) ∙ ap (λ x. x && some (part_at word b)) (next (32 * word + b) parts) where
-      next : (p n : ℕ) → nat_lt p n ≡ nat_le (p + 1) n
-      next p n = ⊎_elim (λ (h : p < n). lt-ltb p n h ∙ sym (le-leb (p + 1) n (omega arith))) (λ (h : n ≤ p). le-ltb p n h ∙ sym (lt-leb (p + 1) n (omega arith))) (cases_lt p n)
+set-bit parts some sets k word b are w s = grind (arith, nat_tests, get_or-take, get_or-drop, are, lt-ltb, le-leb, le-ltb, lt-leb, cases_lt)
 
 -- nothing is missing below the last node, or below a kid of an or, where its word says so
 pub none-of_all : (d : Drawing) (lacking : List ℕ) → AreLacking d.graph d.parts lacking → get_or lacking (length d.graph.nodes) 0 ≡ 0 → (node part : ℕ) → IsUnder d None node → 1 ≤ part → part ≤ d.parts → missing_in d None node part ≡ false
 none-of_all d lacking is zero node part under low high = ap (λ b. true && not b) (ap (mentions d.graph.nodes part) under ∙ is.all.0 zero part low high)
 
 pub none-of_or : (d : Drawing) (lacking : List ℕ) → AreLacking d.graph d.parts lacking → (o : ℕ) → get_or lacking o 0 ≡ 0 → (node part : ℕ) → IsUnder d (Some o) node → 1 ≤ part → part ≤ d.parts → missing_in d (Some o) node part ≡ false
-none-of_or d lacking is o zero node part under low high =
-    let same : mentions d.graph.nodes part node ≡ mentions d.graph.nodes part o =
-    ap (mentions d.graph.nodes part) (sym under.1.kid_is) ∙ (is.nodes o under.0).0 zero under.1.what under.1.place part under.1.within low high in
-    ap (λ b. mentions d.graph.nodes part o && not b) same ∙ never (mentions d.graph.nodes part o) where
-      never : (b : Bool) → (b && not b) ≡ false
-      never true = refl
-      never false = refl
+none-of_or d lacking is o zero node part under low high = grind (arith, nat_tests, is.nodes)
 
 -- nothing is missing where the word at its place says so
 pub none-under : (d : Drawing) (lacking : List ℕ) → AreLacking d.graph d.parts lacking → (over : Option ℕ) (place : ℕ) → MatchOption over (place ≡ length d.graph.nodes) (λ node. place ≡ node) → get_or lacking place 0 ≡ 0
     → (node part : ℕ) → IsUnder d over node → 1 ≤ part → part ≤ d.parts → missing_in d over node part ≡ false
-none-under d lacking is None place at zero = none-of_all d lacking is (ap (λ n. get_or lacking n 0) (sym at) ∙ zero)
-none-under d lacking is (Some node) place at zero = none-of_or d lacking is node (ap (λ n. get_or lacking n 0) (sym at) ∙ zero)
+none-under d lacking is over place at given = grind (arith, nat_tests, none-of_all, none-of_or)
 
 pub is-lacking : (d : Drawing) → IsDrawing d → (lacking : List ℕ) → d.lacking ≡ Some lacking → AreLacking d.graph d.parts lacking
 is-lacking d is lacking e = subst (λ o. IfSome o (AreLacking d.graph d.parts)) e is.lacks
@@ -58,7 +44,4 @@ no-fillers d over node none =
 
 -- what is below such a node is among what its line is filled in up to
 pub under-wider : (d : Drawing) → IsDrawing d → IsGraph d.graph → (over : Option ℕ) (node : ℕ) → IsUnder d over node → (part : ℕ) → mentions d.graph.nodes part node ≡ true → is_over d.graph.nodes over part ≡ true
-under-wider d is valid None node under part m = refl
-under-wider d is valid (Some o) node under part m =
-    kid-wider d is valid o under.0 (node_at d.graph.nodes o).what (node_at d.graph.nodes o).kids refl under.1.what under.1.place part under.1.within
-    (ap (mentions d.graph.nodes part) under.1.kid_is ∙ m)
+under-wider d is valid over node under part m = grind (arith, nat_tests, kid-wider)

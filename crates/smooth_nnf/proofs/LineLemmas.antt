@@ -1,5 +1,6 @@
 -- The texts of the lines of nodes.
-use Rattle.std.proofs.Common.{◌≡◌, ℕ, zero, suc, ◌+◌, ◌-◌, ◌*◌, ◌^◌, ◌<◌, ◌≤◌, All, Bool, true, false, cond, List, [], ◌∷◌, ◌++◌, map, length, get_or, codes, Option, Some, None, refl, sym, ap, ◌∙◌, subst, arith, append-nil}
+use Rattle.std.proofs.Common.{◌≡◌, ℕ, zero, suc, ◌+◌, ◌-◌, ◌*◌, ◌^◌, ◌<◌, ◌≤◌, All, Bool, true, List, [], ◌∷◌, ◌++◌, map, length, get_or, codes, Option, Some, None, refl, sym, ap, ◌∙◌, subst, arith, append-nil}
+use Rattle.std.proofs.lemmas.Bool.Decides.{nat_tests}
 use Rattle.std.specs.Prelude.{decimal, slice_index}
 use Rattle.std.specs.List.{flat_map, enumerate_from, range_with_len}
 use Rattle.std.proofs.lemmas.Bool.{ltb-true}
@@ -20,7 +21,7 @@ use Rattle.nnf_text.proofs.LineTexts.{and-spaced, or-spaced}
 use Rattle.minimiser.specs.Costs.{cost_at}
 use Rattle.minimiser.specs.Stored.{cost_in}
 use Rattle.minimiser.proofs.Sums.{cost_in-some}
-use Rattle.smooth_nnf.specs.Layouts.{and_over, own_line, costs_just, cheapest_kids, kid_line, or_behind, or_lines, lines_before, lines_to, own_lines, last_at, last_line}
+use Rattle.smooth_nnf.specs.Layouts.{and_over, own_line, cheapest_kids, kid_line, or_behind, or_lines, lines_to, own_lines, last_line}
 use Rattle.smooth_nnf.specs.inner.Drawings.{Drawing, IsDrawing, IsUnder, shown, filled_line}
 use Rattle.smooth_nnf.specs.inner.Texts.{numbers_text, lines_text, kid_text}
 
@@ -33,17 +34,14 @@ from-one n i lt = omega (arith, get_or-range_with_len 1 n i 0 lt)
 -- the root's line
 pub last-text : (d : Drawing) (root value : ℕ) → root ≡ length d.graph.nodes - 1 → cost_in value ≡ cost_at (map cost_in d.values) root → (value ≡ 4294967295 → ⊥)
     → spaced (node_words (filled_line d None root)) ≡ spaced (node_words (last_line (shown d)))
-last-text d root value at is some =
-    let cost : cost_at (map cost_in d.values) root ≡ Some value = sym is ∙ cost_in-some value some in
-    ap (λ o. spaced (node_words (last_at (shown d) root o))) (sym cost) ∙ ap (λ r. spaced (node_words (last_at (shown d) r (cost_at (map cost_in d.values) r)))) at
+last-text d root value at is some = grind (arith, nat_tests, cost_in-some)
 
 -- that of an or
 pub or-text : (first count : ℕ) → codes "O 0" ++ ((32 ∷ decimal count) ++ (numbers_text (range_with_len first count) ++ 10 ∷ [])) ≡ spaced (node_words (or_behind (first + count) count))
 or-text first count =
     let start : (first + count) - count ≡ first = omega arith in
     let long : count ≡ length (range_with_len first count) = sym (length-range count first) in
-    (λ i. codes "O 0" ++ ((32 ∷ decimal (long i)) ++ (numbers_text (range_with_len first count) ++ 10 ∷ []))) ∙ or-spaced (range_with_len first count)
-    ∙ ap (λ n. spaced (node_words (record { what = Or; kids = range_with_len n count }))) (sym start) where
+    grind (arith, nat_tests, or-spaced) where
       length-range : (n s : ℕ) → length (range_with_len s n) ≡ n
       length-range zero s = refl
       length-range (suc n) s = ap suc (length-range n (s + 1))
@@ -57,21 +55,12 @@ and-text d kids =
 
 kids-text : (d : Drawing) (node cost : ℕ) (kids : List ℕ) → flat_map (kid_text d node cost) kids ≡ lines_text (map (kid_line (shown d) node) (cheapest_kids (map cost_in d.values) cost kids))
 kids-text d node cost [] = refl
-kids-text d node cost (k ∷ kids) =
-    ap (λ t. kid_text d node cost k ++ t) (kids-text d node cost kids) ∙ by (costs_just cost (cost_at (map cost_in d.values) k)) where
-      by : (b : Bool) → cond b (spaced (node_words (kid_line (shown d) node k))) [] ++ lines_text (map (kid_line (shown d) node) (cheapest_kids (map cost_in d.values) cost kids))
-          ≡ lines_text (map (kid_line (shown d) node) (cond b (k ∷ cheapest_kids (map cost_in d.values) cost kids) (cheapest_kids (map cost_in d.values) cost kids)))
-      by true = refl
-      by false = refl
+kids-text d node cost (k ∷ kids) = grind (arith, nat_tests, kids-text d node cost kids)
 
 pub or-lines-text : (d : Drawing) (node cost : ℕ) (kids : List ℕ)
     → flat_map (kid_text d node cost) kids ++ spaced (node_words (or_behind (slice_index d.lines node) (length (cheapest_kids (map cost_in d.values) cost kids))))
     ≡ lines_text (or_lines (shown d) node (cheapest_kids (map cost_in d.values) cost kids))
-or-lines-text d node cost kids =
-    let best : List ℕ = cheapest_kids (map cost_in d.values) cost kids in
-    let own : Node = or_behind (slice_index d.lines node) (length best) in
-    (λ i. kids-text d node cost kids i ++ sym (append-nil (spaced (node_words own))) i)
-    ∙ sym (flat_map-append (λ n. spaced (node_words n)) (map (kid_line (shown d) node) best) (own ∷ []))
+or-lines-text d node cost kids = grind (arith, nat_tests, kids-text, append-nil, flat_map-append)
 
 -- ---- what holds of a node's kids and of its line
 
@@ -79,10 +68,7 @@ own-at : (least : List (Option ℕ)) (line number : ℕ) (nodes : List Node) (i 
     → lines_to least (node_at nodes i) (cost_at least (number + i)) ≤ get_or (own_lines least line number nodes) i 0
 own-at least line number [] i lt = absurd (omega arith)
 own-at least line number (node ∷ nodes) zero lt = let e : number ≡ number + 0 = omega arith in subst (λ n. lines_to least node (cost_at least n) ≤ line + lines_to least node (cost_at least number)) e (omega arith)
-own-at least line number (node ∷ nodes) (suc i) lt =
-    let e : (number + 1) + i ≡ number + suc i = omega arith in
-    subst (λ n. lines_to least (node_at nodes i) (cost_at least n) ≤ get_or (own_lines least (line + lines_to least node (cost_at least number) + 1) (number + 1) nodes) i 0) e
-    (own-at least (line + lines_to least node (cost_at least number) + 1) (number + 1) nodes i (omega arith))
+own-at least line number (node ∷ nodes) (suc i) lt = grind (arith, nat_tests, own-at least (line + lines_to least node (cost_at least number) + 1) (number + 1) nodes i)
 
 -- a kid of an or
 pub kid-under : (d : Drawing) (node : ℕ) (kids : List ℕ) → node < length d.graph.nodes → node_at d.graph.nodes node ≡ record { what = Or; kids = kids } → (i : ℕ) → i < length kids → IsUnder d (Some node) (get_or kids i 0)
@@ -110,14 +96,7 @@ module _ (d : Drawing) (is : IsDrawing d) (valid : IsGraph d.graph) (node : ℕ)
   kid-wider or i part h m = kid-mentions d.graph node kids valid lt (ap (λ (n : Node). n.kids) (sym at)) i (ap (λ (n : Node). n.what) at ∙ or) h part m
 
   pub line-room : what ≡ Or → (cost : ℕ) → cost_at (map cost_in d.values) node ≡ Some cost → length (cheapest_kids (map cost_in d.values) cost kids) ≤ slice_index d.lines node
-  line-room or cost e =
-      let least = map cost_in d.values in
-      let first : 0 + node ≡ node = omega arith in
-      let low : lines_to least (node_at d.graph.nodes node) (cost_at least (0 + node)) ≤ get_or d.lines node 0 =
-      subst (λ ls. lines_to least (node_at d.graph.nodes node) (cost_at least (0 + node)) ≤ get_or ls node 0) (sym is.placed) (own-at least (2 * d.parts) 0 d.graph.nodes node lt) in
-      let same : lines_to least (node_at d.graph.nodes node) (cost_at least (0 + node)) ≡ length (cheapest_kids least cost kids) =
-      (λ j. lines_to least (at j) (cost_at least (first j))) ∙ ap (lines_to least (record { what = what; kids = kids })) e ∙ ap (λ w. lines_before least cost w kids) or in
-      omega arith
+  line-room or cost e = grind (arith, nat_tests, own-at)
 
   pub literal-low : (var : ℕ) (positive : Bool) → what ≡ Literal positive var → 1 ≤ var
   literal-low var positive e = (literal d.graph.vars var positive kids (ap (λ w. kind_fits d.graph.vars w kids) (sym e) ∙ fit.kind)).low

@@ -1,26 +1,22 @@
 -- Where the lines of nodes stand, node by node.
-use Rattle.std.proofs.Common.{◌≡◌, ℕ, zero, suc, ◌+◌, ◌<◌, ◌≤◌, Bool, cond, ◌==◌, List, [], ◌∷◌, ◌++◌, map, length, take, get_or, Option, Some, None, sym, ap, ◌∙◌, arith, inl, inr}
+use Rattle.std.proofs.Common.{◌≡◌, ℕ, zero, suc, ◌+◌, ◌<◌, ◌≤◌, Bool, cond, ◌==◌, List, [], ◌∷◌, ◌++◌, map, length, take, get_or, Option, sym, ap, ◌∙◌, arith}
+use Rattle.std.proofs.lemmas.Bool.Decides.{nat_tests}
 use Rattle.std.specs.Prelude.{◌⊎◌}
 use Rattle.std.proofs.lemmas.Bool.{cond-true, eq-eqb, ne_eqb, cases_eq}
 use Rattle.std.proofs.lemmas.List.Filters.{length-filter_more}
 use Rattle.std.proofs.lemmas.List.Sums.{sum_by-cons}
 use Rattle.state_rules.proofs.Lists.{length-filter-le}
-use Rattle.state_rules.specs.declared.nodes.NodeKind.{NodeKind}
-use Rattle.state_rules.specs.declared.nodes.NodeKind.TheVariants.{Literal, And, Or}
 use Rattle.state_rules.specs.Graphs.{Node, node_at, edges}
 use Rattle.minimiser.specs.Costs.{cost_at}
 use Rattle.minimiser.specs.Stored.{cost_in}
 use Rattle.minimiser.proofs.Sums.{cost_at-map, cost_in-some}
-use Rattle.smooth_nnf.specs.Layouts.{costs_just, cheapest_kids, lines_before, lines_to, own_lines}
+use Rattle.smooth_nnf.specs.Layouts.{costs_just, cheapest_kids, lines_to, own_lines}
 use Rattle.smooth_nnf.specs.inner.Drawings.{lines_after}
 
 -- ---- kids of a cost
 
 pub just-stored : (cost n : ℕ) → (cost ≡ 4294967295 → ⊥) → costs_just cost (cost_in n) ≡ (n == cost)
-just-stored cost n some = by (cases_eq n 4294967295) where
-  by : (n ≡ 4294967295) ⊎ (n ≡ 4294967295 → ⊥) → costs_just cost (cost_in n) ≡ (n == cost)
-  by (inl none) = ap (costs_just cost) (cond-true _ _ _ (eq-eqb n 4294967295 none)) ∙ sym (ne_eqb n cost (λ e. some (sym e ∙ none)))
-  by (inr is) = ap (costs_just cost) (cost_in-some n is)
+just-stored cost n some = grind (arith, nat_tests, cases_eq, cond-true, eq-eqb, ne_eqb, some, cost_in-some)
 
 cheapest-more : (values kids : List ℕ) (cost i count : ℕ) → i < length kids → get_or kids i 0 < length values → (cost ≡ 4294967295 → ⊥) → count ≡ length (cheapest_kids (map cost_in values) cost (take i kids))
     → count + cond (get_or values (get_or kids i 0) 0 == cost) 1 0 ≡ length (cheapest_kids (map cost_in values) cost (take (i + 1) kids))
@@ -41,12 +37,7 @@ module _ (values kids : List ℕ) (cost i count : ℕ) (lt : i < length kids) (i
 -- ---- lines
 
 pub lines_to-le : (least : List (Option ℕ)) (node : Node) (o : Option ℕ) → lines_to least node o ≤ length node.kids
-lines_to-le least node None = omega arith
-lines_to-le least node (Some cost) = before-le node.what node.kids where
-  before-le : (what : NodeKind) (kids : List ℕ) → lines_before least cost what kids ≤ length kids
-  before-le (Literal positive var) kids = omega arith
-  before-le And kids = omega arith
-  before-le Or kids = length-filter-le _ kids
+lines_to-le least node o = grind (arith, nat_tests, length-filter-le)
 
 module _ (least : List (Option ℕ)) where
   own_lines-next : (line number : ℕ) (nodes : List Node) (i : ℕ) → i < length nodes
@@ -56,8 +47,7 @@ module _ (least : List (Option ℕ)) where
   own_lines-next line number (node ∷ nodes) (suc i) lt =
       let own : ℕ = line + lines_to least node (cost_at least number) in
       let e : (number + 1) + i ≡ number + suc i = omega arith in
-      ap (λ ls. own ∷ ls) (own_lines-next (own + 1) (number + 1) nodes i (omega arith)
-      ∙ ap (λ n. own_lines least (own + 1) (number + 1) (take i nodes) ++ (lines_after least (own + 1) (number + 1) (take i nodes) + lines_to least (node_at nodes i) (cost_at least n)) ∷ []) e)
+      grind (arith, nat_tests, own_lines-next (own + 1) (number + 1) nodes i)
 
   lines_after-next : (line number : ℕ) (nodes : List Node) (i : ℕ) → i < length nodes
       → lines_after least line number (take (suc i) nodes) ≡ lines_after least line number (take i nodes) + lines_to least (node_at nodes i) (cost_at least (number + i)) + 1
@@ -66,8 +56,7 @@ module _ (least : List (Option ℕ)) where
   lines_after-next line number (node ∷ nodes) (suc i) lt =
       let own : ℕ = line + lines_to least node (cost_at least number) in
       let e : (number + 1) + i ≡ number + suc i = omega arith in
-      lines_after-next (own + 1) (number + 1) nodes i (omega arith)
-      ∙ ap (λ n. lines_after least (own + 1) (number + 1) (take i nodes) + lines_to least (node_at nodes i) (cost_at least n) + 1) e
+      grind (arith, nat_tests, lines_after-next (own + 1) (number + 1) nodes i)
 
   -- one more node, of the first ones
   module _ (line : ℕ) (nodes : List Node) (i : ℕ) (lt : i < length nodes) where
@@ -78,12 +67,10 @@ module _ (least : List (Option ℕ)) where
     first = omega arith
 
     pub own_lines-more : own_lines least line 0 (take (i + 1) nodes) ≡ own_lines least line 0 (take i nodes) ++ (lines_after least line 0 (take i nodes) + lines_to least (node_at nodes i) (cost_at least i)) ∷ []
-    own_lines-more = ap (λ n. own_lines least line 0 (take n nodes)) next ∙ own_lines-next line 0 nodes i lt
-        ∙ ap (λ n. own_lines least line 0 (take i nodes) ++ (lines_after least line 0 (take i nodes) + lines_to least (node_at nodes i) (cost_at least n)) ∷ []) first
+    own_lines-more = grind (arith, nat_tests, next, own_lines-next, first)
 
     pub lines_after-more : lines_after least line 0 (take (i + 1) nodes) ≡ lines_after least line 0 (take i nodes) + lines_to least (node_at nodes i) (cost_at least i) + 1
-    lines_after-more = ap (λ n. lines_after least line 0 (take n nodes)) next ∙ lines_after-next line 0 nodes i lt
-        ∙ ap (λ n. lines_after least line 0 (take i nodes) + lines_to least (node_at nodes i) (cost_at least n) + 1) first
+    lines_after-more = grind (arith, nat_tests, next, lines_after-next, first)
 
   -- lines fit
   pub lines_after-le : (line number : ℕ) (nodes : List Node) (i : ℕ) → lines_after least line number (take i nodes) ≤ line + length nodes + edges nodes

@@ -1,5 +1,6 @@
 -- What lines say that are drawn for nodes: one is true where its node can be, at its least cost, with the same bits of the parts below it.
-use Rattle.std.proofs.Common.{◌≡◌, ℕ, zero, suc, ◌<◌, ◌≤◌, Bool, true, false, not, ◌&&◌, All, List, [], ◌∷◌, map, length, Option, Some, None, refl, ap, sym, ◌∙◌, subst, arith, ⊎_elim, inl, inr}
+use Rattle.std.proofs.Common.{◌≡◌, ℕ, zero, suc, ◌<◌, ◌≤◌, Bool, true, false, not, ◌&&◌, All, List, [], ◌∷◌, map, length, Option, Some, refl, ap, sym, ◌∙◌, subst, arith, ⊎_elim, inl, inr}
+use Rattle.std.proofs.lemmas.Bool.Decides.{nat_tests}
 use Rattle.std.specs.Prelude.{slice_get, nat_le}
 use Rattle.std.specs.List.{list_all, list_any}
 use Rattle.std.proofs.lemmas.Bool.{and_from, and_parts, or_cases, or_left, or_right, eqb-true, eq-eqb, leb-true, not-true}
@@ -12,7 +13,7 @@ use Rattle.state_rules.proofs.Members.{In, In-filter, In-filtered, AtMost}
 use Rattle.state_rules.specs.declared.nodes.NodeKind.TheVariants.{Literal, And, Or}
 use Rattle.state_rules.specs.Graphs.{at_most_one, Graph, mentions, is_true, IsGraph}
 use Rattle.state_rules.proofs.Kids.{at_most_one-tail, not_both}
-use Rattle.minimiser.specs.Costs.{part_cost, known_at, cost_at, sum_costs, node_cost}
+use Rattle.minimiser.specs.Costs.{part_cost, known_at, cost_at, sum_costs, node_cost, least_at}
 use Rattle.node_costs.proofs.Conditions.{cost_among-apart, join, joined-le}
 use Rattle.minimiser.proofs.Costs.{fault, open_weights, Agrees, faults_in, faults_in-le, from_add, Reaches}
 use Rattle.minimiser.proofs.Derivations.{is_cost, kids-cost, Apart, true-at, mention-at, apart-kids, costs-at, any-kid, kid-with, faults-lt, or-kid}
@@ -21,8 +22,7 @@ use Rattle.smooth_nnf.specs.Layouts.{filling, costs_just, cheapest_kids}
 -- ---- costs of kids
 
 costs_just-is : (c : ℕ) (o : Option ℕ) → costs_just c o ≡ true → o ≡ Some c
-costs_just-is c None e = absurd (let no : false ≡ true = e in cc)
-costs_just-is c (Some d) e = ap Some (eqb-true d c e)
+costs_just-is c o e = grind (arith, nat_tests, eqb-true)
 
 costs_just-of : (c : ℕ) (o : Option ℕ) → o ≡ Some c → costs_just c o ≡ true
 costs_just-of c o e = ap (costs_just c) e ∙ eq-eqb c c refl
@@ -36,14 +36,10 @@ cheapest-is least c kids k m = let r = In-filter (λ j. costs_just c (cost_at le
 
 -- a bit that agrees and costs nothing is that which fills in
 filled_bit : (k : Option Bool) (b : Bool) (w : ℕ) → 0 < w → agrees_at k b ≡ true → (fault k w b ≡ 0) → b ≡ filling k
-filled_bit None true w dear ag free = refl
-filled_bit None false w dear ag free = absurd (omega arith)
-filled_bit (Some x) b w dear ag free = sym (same_bit-equal x b ag)
+filled_bit k b w dear ag free = grind (arith, nat_tests, same_bit-equal)
 
 only_fault : (k : Option Bool) (b : Bool) (w : ℕ) → (fault k w b ≡ 0 → ⊥) → b ≡ false
-only_fault None true w h = absurd (h refl)
-only_fault None false w h = refl
-only_fault (Some x) b w h = absurd (h refl)
+only_fault k b w h = grind (arith, nat_tests)
 
 module _ (graph : Graph) (words costs : List ℕ) (ok : IsGraph graph) (dear : All (λ c. 0 < c) costs) where
   abbrev kn : ℕ → Option Bool
@@ -61,16 +57,12 @@ module _ (graph : Graph) (words costs : List ℕ) (ok : IsGraph graph) (dear : A
   abbrev M : ℕ → ℕ → Bool
   M v k = mentions graph.nodes v k
 
-  abbrev Ck : ℕ → Option ℕ
-  Ck k = cost_at (values (node_cost kn price) graph.nodes) k
-
   -- a variable that is a part's
   abbrev pub is_part : ℕ → Bool
   is_part v = nat_le 1 v && nat_le v (length costs)
 
   price-some : (v : ℕ) → 1 ≤ v → v ≤ length costs → 0 < part_cost costs v
-  price-some zero low high = absurd (omega arith)
-  price-some (suc i) low high = dear i 0 (omega arith)
+  price-some v low high = grind (arith, nat_tests)
 
   -- an assignment that agrees and passes a test at no more than a cost, with the same bits of some parts
   pub record Gives (t : Assignment → Bool) (m : ℕ → Bool) (c : ℕ) (a : Assignment) : Type 0 where
@@ -90,7 +82,7 @@ module _ (graph : Graph) (words costs : List ℕ) (ok : IsGraph graph) (dear : A
   -- ---- a part that is not below a node
 
   -- where a node is true at its least cost, parts that are not below it have the bits that fill them in
-  outside : (k c : ℕ) → Ck k ≡ Some c → (o : ℕ → Bool) → ((v : ℕ) → M v k ≡ true → o v ≡ true) → (b : Assignment) → Agrees kn price n b → T b k ≡ true → faults_in kn price n o b ≤ c
+  outside : (k c : ℕ) → least_at graph words costs k ≡ Some c → (o : ℕ → Bool) → ((v : ℕ) → M v k ≡ true → o v ≡ true) → (b : Assignment) → Agrees kn price n b → T b k ≡ true → faults_in kn price n o b ≤ c
       → (v : ℕ) → is_part v ≡ true → o v ≡ true → M v k ≡ false → b v ≡ filling (kn v)
   outside k c e o wider b ag h few v part in_o not_below =
       let range = and_parts (nat_le 1 v) (nat_le v n) part in
@@ -117,7 +109,7 @@ module _ (graph : Graph) (words costs : List ℕ) (ok : IsGraph graph) (dear : A
     pub reached : (a : Assignment) → line a ≡ true → AreFilled missing a
 
   -- a node's line with the parts of a greater set that are not below the node
-  pub filled : (k c : ℕ) → Ck k ≡ Some c → (o : ℕ → Bool) → ((v : ℕ) → M v k ≡ true → o v ≡ true) → (line fill : Assignment → Bool) → NodeMeans k c line
+  pub filled : (k c : ℕ) → least_at graph words costs k ≡ Some c → (o : ℕ → Bool) → ((v : ℕ) → M v k ≡ true → o v ≡ true) → (line fill : Assignment → Bool) → NodeMeans k c line
       → Fills (λ v. o v && not (M v k)) fill → Means (λ a. T a k) o c (λ a. line a && fill a)
   filled k c e o wider line fill means fills = record {
     sound = λ a b ag h few same. and_from _ _
@@ -136,7 +128,7 @@ module _ (graph : Graph) (words costs : List ℕ) (ok : IsGraph graph) (dear : A
 
   -- ---- a literal
 
-  module _ (k var : ℕ) (positive : Bool) (kids : List ℕ) (e : slice_get graph.nodes k ≡ Some (record { what = Literal positive var; kids = kids })) (c : ℕ) (cost_is : Ck k ≡ Some c) where
+  module _ (k var : ℕ) (positive : Bool) (kids : List ℕ) (e : slice_get graph.nodes k ≡ Some (record { what = Literal positive var; kids = kids })) (c : ℕ) (cost_is : least_at graph words costs k ≡ Some c) where
     of_var : (v : ℕ) → M v k ≡ true → var ≡ v
     of_var v m = eqb-true var v (sym (mention-at graph words costs ok k _ e v) ∙ m)
 
@@ -166,8 +158,8 @@ module _ (graph : Graph) (words costs : List ℕ) (ok : IsGraph graph) (dear : A
   -- ---- an and
 
   module _ (line : ℕ → Assignment → Bool) where
-    all_lines : (kids : List ℕ) → ((v : ℕ) → at_most_one (map (M v) kids) ≡ true) → ((k c : ℕ) → In k kids → Ck k ≡ Some c → NodeMeans k c (line k))
-        → (c : ℕ) → sum_costs (map Ck kids) ≡ Some c
+    all_lines : (kids : List ℕ) → ((v : ℕ) → at_most_one (map (M v) kids) ≡ true) → ((k c : ℕ) → In k kids → least_at graph words costs k ≡ Some c → NodeMeans k c (line k))
+        → (c : ℕ) → sum_costs (map (least_at graph words costs) kids) ≡ Some c
         → Means (λ a. list_all (λ b. b) (map (T a) kids)) (λ v. list_any (λ b. b) (map (M v) kids)) c (λ a. list_all (λ b. b) (map (λ k. line k a) kids))
     unfolding Apart
     all_lines [] apart are c s = record {
@@ -176,7 +168,7 @@ module _ (graph : Graph) (words costs : List ℕ) (ok : IsGraph graph) (dear : A
           record { is = (kids-cost graph words costs ok [] apart).reached c s; same = λ v p m. absurd (let no : false ≡ true = m in cc) };
     }
     all_lines (j ∷ kids) apart are c s =
-        let sum = from_add (Ck j) (sum_costs (map Ck kids)) c s in
+        let sum = from_add (least_at graph words costs j) (sum_costs (map (least_at graph words costs) kids)) c s in
         let later : (v : ℕ) → at_most_one (map (M v) kids) ≡ true = λ v. at_most_one-tail (M v j) (map (M v) kids) (apart v) in
         let both : (v : ℕ) → (M v j && list_any (λ b. b) (map (M v) kids)) ≡ false = λ v. not_both (M v j) (map (M v) kids) (apart v) in
         let j_is = is_cost graph words costs ok j in
@@ -215,8 +207,8 @@ module _ (graph : Graph) (words costs : List ℕ) (ok : IsGraph graph) (dear : A
         }
 
     -- all lines of the kids of an and
-    pub and-means : (i : ℕ) (kids : List ℕ) (c : ℕ) → slice_get graph.nodes i ≡ Some (record { what = And; kids = kids }) → Ck i ≡ Some c
-        → ((k d : ℕ) → In k kids → Ck k ≡ Some d → NodeMeans k d (line k)) → NodeMeans i c (λ a. list_all (λ b. b) (map (λ k. line k a) kids))
+    pub and-means : (i : ℕ) (kids : List ℕ) (c : ℕ) → slice_get graph.nodes i ≡ Some (record { what = And; kids = kids }) → least_at graph words costs i ≡ Some c
+        → ((k d : ℕ) → In k kids → least_at graph words costs k ≡ Some d → NodeMeans k d (line k)) → NodeMeans i c (λ a. list_all (λ b. b) (map (λ k. line k a) kids))
     and-means i kids c e is are =
         let m = all_lines kids (apart-kids graph words costs ok i kids e) are c (sym (costs-at graph words costs ok i _ e) ∙ is) in
         record {
@@ -233,7 +225,7 @@ module _ (graph : Graph) (words costs : List ℕ) (ok : IsGraph graph) (dear : A
 
   -- ---- an or
 
-  module _ (i : ℕ) (kids : List ℕ) (c : ℕ) (e : slice_get graph.nodes i ≡ Some (record { what = Or; kids = kids })) (is : Ck i ≡ Some c) where
+  module _ (i : ℕ) (kids : List ℕ) (c : ℕ) (e : slice_get graph.nodes i ≡ Some (record { what = Or; kids = kids })) (is : least_at graph words costs i ≡ Some c) where
     -- what is below a kid is below the or
     pub kid-inside : (k : ℕ) → In k kids → (v : ℕ) → M v k ≡ true → M v i ≡ true
     kid-inside k m v h = mention-at graph words costs ok i _ e v ∙ any-kid (M v) kids k m h
@@ -243,7 +235,7 @@ module _ (graph : Graph) (words costs : List ℕ) (ok : IsGraph graph) (dear : A
 
     -- the lines of its cheapest kids, each filled in
     pub or-means : (line : ℕ → Assignment → Bool)
-        → ((k : ℕ) → In k kids → Ck k ≡ Some c → Means (λ a. is_true graph.nodes k a) (λ v. mentions graph.nodes v i) c (line k))
+        → ((k : ℕ) → In k kids → least_at graph words costs k ≡ Some c → Means (λ a. is_true graph.nodes k a) (λ v. mentions graph.nodes v i) c (line k))
         → NodeMeans i c (λ a. list_any (λ b. b) (map (λ k. line k a) (cheapest_kids (values (node_cost (known_at words) (part_cost costs)) graph.nodes) c kids)))
     or-means line are = record {
       sound = λ a b ag h few same.

@@ -1,5 +1,6 @@
 -- The bits of a word that are parts'.
-use Rattle.std.proofs.Common.{◌≡◌, ℕ, ◌+◌, ◌-◌, ◌*◌, ◌/◌, ◌%◌, ◌^◌, ◌<◌, ◌≤◌, min, ap, sym, ◌∙◌, arith, ⊎_elim}
+use Rattle.std.proofs.Common.{◌≡◌, ℕ, ◌+◌, ◌-◌, ◌*◌, ◌/◌, ◌%◌, ◌^◌, ◌<◌, ◌≤◌, min, ap, ◌∙◌, arith}
+use Rattle.std.proofs.lemmas.Bool.Decides.{nat_tests}
 use Rattle.std.specs.Prelude.{◌==◌, nat_le}
 use Rattle.std.proofs.lemmas.Bool.{cases_lt, le-leb, lt-leb}
 use Rattle.std.proofs.lemmas.Nat.{pow_below}
@@ -8,17 +9,11 @@ use Rattle.state_rules.specs.Bits.{has_bit}
 
 -- so many ones are the bits below
 pub ones : (count b : ℕ) → has_bit (2 ^ count - 1) b ≡ nat_le (b + 1) count
-ones count b = ⊎_elim
-    (λ (h : b < count). ap (λ n. n == 1) (bit_at_ones count b h) ∙ sym (le-leb (b + 1) count (omega arith)))
-    (λ (h : count ≤ b). ap (λ n. n == 1) (bit_at_ones_above count b h) ∙ sym (lt-leb (b + 1) count (omega arith)))
-    (cases_lt b count)
+ones count b = grind (arith, nat_tests, bit_at_ones, le-leb, bit_at_ones_above, lt-leb, cases_lt)
 
 -- a number is below two bounds
 pub same_le : (a b m n : ℕ) → (a ≤ m → b ≤ n) → (b ≤ n → a ≤ m) → nat_le a m ≡ nat_le b n
-same_le a b m n to from = ⊎_elim
-    (λ (h : m < a). lt-leb a m h ∙ sym (⊎_elim (λ (k : n < b). lt-leb b n k) (λ (k : b ≤ n). absurd (let le = from k in omega (arith, le, h))) (cases_lt n b)))
-    (λ (h : a ≤ m). le-leb a m h ∙ sym (le-leb b n (to h)))
-    (cases_lt m a)
+same_le a b m n to from = grind (arith, nat_tests, lt-leb, from, cases_lt, le-leb, to)
 
 -- the ones of a word are the bits of its parts
 pub part_ones : (parts word count : ℕ) → word < (parts + 31) / 32 → count ≡ min (parts - 32 * word) 32 → (b : ℕ) → b < 32 → has_bit (1 * 2 ^ count % 18446744073709551616 - 1) b ≡ nat_le (32 * word + b + 1) parts

@@ -1,26 +1,22 @@
 -- Lines that stand behind others: what their nodes are worth, and that all of them are still nodes of a smooth graph.
-use Rattle.std.proofs.Common.{◌≡◌, ℕ, ◌+◌, ◌<◌, ◌≤◌, Bool, true, false, List, [], ◌∷◌, ◌++◌, map, length, refl, ap, sym, ◌∙◌, subst, arith, append_assoc, append-nil, length-append}
+use Rattle.std.proofs.Common.{◌≡◌, ℕ, ◌+◌, ◌<◌, ◌≤◌, Bool, true, List, [], ◌∷◌, ◌++◌, map, length, refl, ap, sym, ◌∙◌, subst, arith, append_assoc, append-nil, length-append}
+use Rattle.std.proofs.lemmas.Bool.Decides.{nat_tests}
 use Rattle.std.specs.List.{range_with_len, AllByRecursion}
 use Rattle.std.proofs.lemmas.Bool.{and_parts, and_from}
-use Rattle.state_rules.specs.Bits.{bit_in}
-use Rattle.state_rules.specs.Values.{values}
 use Rattle.state_rules.proofs.Lists.{AllByRecursion-append}
 use Rattle.state_rules.proofs.Values.{length-values_after, values_after-append, values_after-keeps}
 use Rattle.state_rules.specs.declared.nodes.NodeKind.{NodeKind}
-use Rattle.state_rules.specs.declared.nodes.NodeKind.TheVariants.{Literal, And, Or}
-use Rattle.state_rules.specs.Graphs.{Node, mention_by, mentions, apart_at, kind_fits, node_fits, nodes_fit, AreNodes}
-use Rattle.state_rules.proofs.NodeValues.{are_below, are_below-from, below-each, map-below, value, value_of, value_of-last}
-use Rattle.state_rules.proofs.NodesFit.{fits, apart_at-below, AreNodes-push}
-use Rattle.nnf_text.specs.StateGraphs.{all_same, smooth_at, Smooth}
+use Rattle.state_rules.specs.Graphs.{Node, mention_by, mentions, apart_at, kind_fits, nodes_fit, AreNodes}
+use Rattle.state_rules.proofs.NodeValues.{are_below, are_below-from, below-each, map-below, value_of, value_of-last}
+use Rattle.state_rules.proofs.NodesFit.{apart_at-below, AreNodes-push}
+use Rattle.nnf_text.specs.StateGraphs.{smooth_at, Smooth}
 
 -- ---- what nodes are worth
 
 module _ (by : NodeKind → List Bool → Bool) where
   -- what stands before others is worth the same
   pub value_of-front : (front back : List Node) (k : ℕ) → k < length front → value_of by (front ++ back) k ≡ value_of by front k
-  value_of-front front back k lt =
-      ap (λ vs. bit_in vs k) (values_after-append (value by) [] front back)
-      ∙ values_after-keeps (value by) (values (value by) front) back k false (omega (arith, length-values_after (value by) [] front))
+  value_of-front front back k lt = grind (arith, nat_tests, values_after-append, values_after-keeps, length-values_after)
 
   -- and what stands behind is worth what its kind makes of its kids
   pub value_of-there : (front : List Node) (node : Node) (back : List Node) → value_of by (front ++ (node ∷ back)) (length front) ≡ by node.what (map (value_of by front) node.kids)
@@ -42,24 +38,17 @@ module _ (by : NodeKind → List Bool → Bool) where
       ∙ ap (by x.what) (map-below (value_of by (base ++ seen)) (value_of by base) (length base) x.kids below.0 (λ k h. value_of-front base seen k h)) in
       let next : base ++ ((seen ++ x ∷ []) ++ (middle ++ back)) ≡ all = ap (λ t. base ++ t) (append_assoc seen (x ∷ []) (middle ++ back)) in
       let one_more : length base + length (seen ++ x ∷ []) ≡ (length base + length seen) + 1 = omega (arith, length-append seen (x ∷ [])) in
-      (λ i. here i ∷ map (value_of by (sym next i)) (range_with_len (sym one_more i) (length middle)))
-      ∙ ap (λ bs. by x.what (map (value_of by base) x.kids) ∷ bs) (values-behind base (seen ++ x ∷ []) middle back below.1)
+      grind (arith, nat_tests, values-behind base (seen ++ x ∷ []) middle back below.1)
 
 -- ---- smooth nodes
 
 smooth_at-below : (f g : ℕ → Bool) (own : ℕ) (kind : NodeKind) (kids : List ℕ) → are_below own kids ≡ true → ((k : ℕ) → k < own → f k ≡ g k) → smooth_at f kind kids ≡ smooth_at g kind kids
-smooth_at-below f g own (Literal positive var) kids below same = refl
-smooth_at-below f g own And kids below same = refl
-smooth_at-below f g own Or kids below same = ap all_same (map-below f g own kids below same)
+smooth_at-below f g own kind kids below same = grind (arith, nat_tests, map-below)
 
 smooth-same : (vars own bound : ℕ) (f g : ℕ → Bool) → ((k : ℕ) → k < bound → f k ≡ g k) → (nodes : List Node) → own + length nodes ≤ bound → nodes_fit vars own nodes ≡ true
     → AllByRecursion (λ (n : Node). smooth_at f n.what n.kids ≡ true) nodes → AllByRecursion (λ (n : Node). smooth_at g n.what n.kids ≡ true) nodes
 smooth-same vars own bound f g same [] few all h = tt
-smooth-same vars own bound f g same (m ∷ nodes) few all h =
-    let parts = and_parts (node_fits vars own m) (nodes_fit vars (own + 1) nodes) all in (
-      sym (smooth_at-below f g own m.what m.kids (fits vars own m parts.0).below (λ k lt. same k (omega arith))) ∙ h.0,
-      smooth-same vars (own + 1) bound f g same nodes (omega arith) parts.1 h.1,
-    )
+smooth-same vars own bound f g same (m ∷ nodes) few all h = grind (arith, nat_tests, and_parts, smooth_at-below, same, smooth-same vars (own + 1) bound f g same nodes)
 
 -- lines that are nodes of a graph, and smooth
 pub record Stand (vars : ℕ) (lines : List Node) : Type 0 where
@@ -97,9 +86,7 @@ stand-push vars lines node s f = record {
 
 stand-more : (vars : ℕ) (base seen middle : List Node) → Stand vars (base ++ seen) → AllByRecursion (MayFollow vars base) middle → Stand vars (base ++ (seen ++ middle))
 stand-more vars base seen [] s h = subst (λ t. Stand vars (base ++ t)) (sym (append-nil seen)) s
-stand-more vars base seen (x ∷ middle) s h =
-    subst (λ t. Stand vars (base ++ t)) (append_assoc seen (x ∷ []) middle)
-    (stand-more vars base (seen ++ x ∷ []) middle (subst (Stand vars) (append_assoc base seen (x ∷ [])) (stand-push vars (base ++ seen) x s (may_follow-later vars base seen x h.0))) h.1)
+stand-more vars base seen (x ∷ middle) s h = grind (arith, nat_tests, append_assoc, stand-push, may_follow-later, stand-more vars base (seen ++ x ∷ []) middle (subst (Stand vars) (append_assoc base seen (x ∷ [])) (stand-push vars (base ++ seen) x s (may_follow-later vars base seen x h.0))) h.1)
 
 -- nodes that may each follow stand one behind the other
 pub stand-behind : (vars : ℕ) (base middle : List Node) → Stand vars base → AllByRecursion (MayFollow vars base) middle → Stand vars (base ++ middle)

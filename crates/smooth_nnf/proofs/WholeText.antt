@@ -1,5 +1,6 @@
 -- The text of the diagnoses is read as a smooth graph over the parts, decomposable, and true for the diagnoses alone.
 use Rattle.std.proofs.Common.{◌≡◌, ℕ, ◌+◌, ◌-◌, ◌*◌, ◌^◌, ◌<◌, ◌≤◌, Bool, true, false, ◌&&◌, All, List, [], ◌∷◌, ◌++◌, map, length, Option, Some, None, refl, ap, sym, ◌∙◌, subst, arith, append_assoc, length-append, inl}
+use Rattle.std.proofs.lemmas.Bool.Decides.{nat_tests}
 use Rattle.std.specs.Prelude.{nat_le}
 use Rattle.std.specs.List.{list_any, flat_map, enumerate_from}
 use Rattle.std.specs.Cmp.{both_ways}
@@ -23,7 +24,7 @@ use Rattle.nnf_text.specs.GraphTexts.{parsed}
 use Rattle.nnf_text.proofs.ReadingBack.{IsList, edges-le, graph_text-read, graph_text-is_neat}
 use Rattle.nnf_text.specs.StateGraphs.{IsSmoothGraphOfStates}
 use Rattle.conditioner.specs.Models.{models, least_under, diagnoses_under}
-use Rattle.minimiser.specs.Costs.{part_cost, known_at, cost_at, node_cost}
+use Rattle.minimiser.specs.Costs.{part_cost, known_at, node_cost, least_at}
 use Rattle.minimiser.specs.inner.Held.{held_cost}
 use Rattle.minimiser.proofs.Whole.{AddHeld, least_is, state_of, assignment_of}
 use Rattle.minimiser.proofs.Models.{diagnosis-in, diagnosis-out}
@@ -47,9 +48,6 @@ module _ (graph : Graph) (words costs : List ℕ) (ok : IsGraph graph) (long : l
   abbrev root : ℕ
   root = length graph.nodes - 1
 
-  abbrev Ck : ℕ → Option ℕ
-  Ck k = cost_at (values (node_cost (known_at words) (part_cost costs)) graph.nodes) k
-
   few : parts + 1 < 2 ^ 32
   few = omega arith
 
@@ -68,17 +66,17 @@ module _ (graph : Graph) (words costs : List ℕ) (ok : IsGraph graph) (long : l
   all-is : all ≡ front ++ last ∷ []
   all-is = sym (append_assoc (literal_pairs parts) lines (last ∷ []))
 
-  drawn-root : (c : ℕ) → Ck root ≡ Some c → Drawn graph words costs ok dear few front root c
+  drawn-root : (c : ℕ) → least_at graph words costs root ≡ Some c → Drawn graph words costs ok dear few front root c
   drawn-root c e = (all-drawn graph words costs ok dear few).drawn root c (omega (arith, ok.some)) e
 
   -- ---- the last line
 
-  last-follows : (o : Option ℕ) → Ck root ≡ o → MayFollow parts front (last_at L root o)
+  last-follows : (o : Option ℕ) → least_at graph words costs root ≡ o → MayFollow parts front (last_at L root o)
   last-follows None e = record { below = refl; kind = refl; apart = λ v. refl; smooth = λ v. refl }
   last-follows (Some c) e = over-follows graph words costs ok dear few lines root c e (drawn-root c e) (λ v. true) (λ v h. refl)
 
   stand : Stand parts all
-  stand = subst (Stand parts) (sym all-is) (stand-behind parts front (last ∷ []) (all-drawn graph words costs ok dear few).stand (last-follows (Ck root) refl, tt))
+  stand = subst (Stand parts) (sym all-is) (stand-behind parts front (last ∷ []) (all-drawn graph words costs ok dear few).stand (last-follows (least_at graph words costs root) refl, tt))
 
   length-all : length all ≡ length front + 1
   length-all = ap length all-is ∙ length-append front (last ∷ [])
@@ -89,15 +87,15 @@ module _ (graph : Graph) (words costs : List ℕ) (ok : IsGraph graph) (long : l
       (λ j. value_of by (all-is j) (place j)) ∙ value_of-there by front last []
 
   -- the parts are below it
-  last-mentions : (c : ℕ) → Ck root ≡ Some c → (v : ℕ) → mentions all v (length all - 1) ≡ (nat_le 1 v && nat_le v parts)
+  last-mentions : (c : ℕ) → least_at graph words costs root ≡ Some c → (v : ℕ) → mentions all v (length all - 1) ≡ (nat_le 1 v && nat_le v parts)
   last-mentions c e v =
       last-value (mention_by v) ∙ ap (λ o. mention_by v (last_at L root o).what (map (mentions front v) (last_at L root o).kids)) e
       ∙ over-mention graph words costs ok dear few lines root c e (drawn-root c e) (λ u. true) (λ u h. refl) v ∙ and-true (nat_le 1 v && nat_le v parts)
 
-  last-false : Ck root ≡ None → (a : Assignment) → is_true all (length all - 1) a ≡ false
+  last-false : least_at graph words costs root ≡ None → (a : Assignment) → is_true all (length all - 1) a ≡ false
   last-false e a = last-value (truth_by a) ∙ ap (λ o. truth_by a (last_at L root o).what (map (λ k. is_true front k a) (last_at L root o).kids)) e
 
-  last-means : (c : ℕ) → Ck root ≡ Some c → Means graph words costs ok dear (λ a. is_true graph.nodes root a) (λ v. true) c (λ a. is_true all (length all - 1) a)
+  last-means : (c : ℕ) → least_at graph words costs root ≡ Some c → Means graph words costs ok dear (λ a. is_true graph.nodes root a) (λ v. true) c (λ a. is_true all (length all - 1) a)
   last-means c e = Means-same graph words costs ok dear few
       (λ a. last-value (truth_by a) ∙ ap (λ o. truth_by a (last_at L root o).what (map (λ k. is_true front k a) (last_at L root o).kids)) e)
       (over-means graph words costs ok dear few lines root c e (drawn-root c e) (λ v. true) (λ v h. refl))
@@ -110,13 +108,13 @@ module _ (graph : Graph) (words costs : List ℕ) (ok : IsGraph graph) (long : l
   abbrev held : ℕ
   held = held_cost costs words
 
-  least-under : (o : Option ℕ) → Ck root ≡ o → least_under graph words costs ≡ AddHeld held o
+  least-under : (o : Option ℕ) → least_at graph words costs root ≡ o → least_under graph words costs ≡ AddHeld held o
   least-under o e = least_is graph words costs ok long within ∙ ap (AddHeld held) e
 
   -- there is a least cost where there is a diagnosis
-  has-cost : (d : List Bool) → In d ds → (c : ℕ) × (Ck root ≡ Some c)
-  has-cost d m = by_cost (Ck root) refl where
-    by_cost : (o : Option ℕ) → Ck root ≡ o → (c : ℕ) × (Ck root ≡ Some c)
+  has-cost : (d : List Bool) → In d ds → (c : ℕ) × (least_at graph words costs root ≡ Some c)
+  has-cost d m = by_cost (least_at graph words costs root) refl where
+    by_cost : (o : Option ℕ) → least_at graph words costs root ≡ o → (c : ℕ) × (least_at graph words costs root ≡ Some c)
     by_cost (Some c) e = (c, e)
     by_cost None e =
         let low = In-filter (λ h. is_at_most (cost costs h) (least_under graph words costs)) d (models graph words parts) m in
@@ -124,8 +122,8 @@ module _ (graph : Graph) (words costs : List ℕ) (ok : IsGraph graph) (long : l
 
   module _ (h : List Bool) (as_long : length h ≡ parts) where
     is_diagnosis : is_true all (length all - 1) (assignment h) ≡ true → list_any (pointwise same_bit h) ds ≡ true
-    is_diagnosis t = by_cost (Ck root) refl where
-      by_cost : (o : Option ℕ) → Ck root ≡ o → list_any (pointwise same_bit h) ds ≡ true
+    is_diagnosis t = by_cost (least_at graph words costs root) refl where
+      by_cost : (o : Option ℕ) → least_at graph words costs root ≡ o → list_any (pointwise same_bit h) ds ≡ true
       by_cost None e = absurd (false≢true (sym (last-false e (assignment h)) ∙ t))
       by_cost (Some c) e =
           let g = (last-means c e).reached (assignment h) t in
@@ -162,8 +160,8 @@ module _ (graph : Graph) (words costs : List ℕ) (ok : IsGraph graph) (long : l
   lines-le i (node ∷ nodes) = omega (
     arith,
     length-append (node_lines L (i, node)) (flat_map (node_lines L) (enumerate_from (i + 1) nodes)),
-    length-lines graph words costs ok dear few i node (Ck i),
-    lines_to-le L.least node (Ck i),
+    length-lines graph words costs ok dear few i node (least_at graph words costs i),
+    lines_to-le L.least node (least_at graph words costs i),
     sum_by-cons (λ (n : Node). length n.kids) node nodes,
     lines-le (i + 1) nodes,
   )
@@ -207,31 +205,20 @@ module _ (graph : Graph) (words costs : List ℕ) (ok : IsGraph graph) (long : l
   -- with the least costs and the places of the lines, a layout is that of the graph
   pub laid : (xs ls : List ℕ) → AreLeastCosts graph words costs xs → ls ≡ own_lines (map cost_in xs) (2 * length costs) 0 graph.nodes
       → record { graph = graph; words = words; parts = length costs; least = map cost_in xs; lines = ls } ≡ layout_of graph words costs
-  laid xs ls is at =
-      let same : map cost_in xs ≡ values (node_cost (known_at words) (part_cost costs)) graph.nodes = is ∙ costs-all in
-      λ i. record { graph = graph; words = words; parts = length costs; least = same i; lines = (at ∙ ap (λ cs. own_lines cs (2 * length costs) 0 graph.nodes) same) i }
+  laid xs ls is at = grind (arith, nat_tests, costs-all)
 
   body-length : (line i : ℕ) (nodes : List Node) → line + length (flat_map (node_lines L) (enumerate_from i nodes)) ≡ lines_after L.least line i nodes
   body-length line i [] = omega arith
   body-length line i (node ∷ nodes) = omega (
     arith,
     length-append (node_lines L (i, node)) (flat_map (node_lines L) (enumerate_from (i + 1) nodes)),
-    length-lines graph words costs ok dear few i node (Ck i),
-    body-length (line + lines_to L.least node (Ck i) + 1) (i + 1) nodes,
+    length-lines graph words costs ok dear few i node (least_at graph words costs i),
+    body-length (line + lines_to L.least node (least_at graph words costs i) + 1) (i + 1) nodes,
   )
 
   pub counted : (xs ls : List ℕ) (count : ℕ) → AreLeastCosts graph words costs xs → ls ≡ own_lines (map cost_in xs) (2 * length costs) 0 graph.nodes → count ≡ lines_after (map cost_in xs) (2 * length costs) 0 graph.nodes
       → count + 1 ≡ length (all_lines (record { graph = graph; words = words; parts = length costs; least = map cost_in xs; lines = ls }))
-  counted xs ls count is at n = omega (
-    arith,
-    n,
-    ap (λ cs. lines_after cs (2 * length costs) 0 graph.nodes) (is ∙ costs-all),
-    ap (λ l. length (all_lines l)) (laid xs ls is at),
-    length-all,
-    length-append (literal_pairs parts) lines,
-    length-literal_pairs parts,
-    body-length (2 * length costs) 0 graph.nodes,
-  )
+  counted xs ls count is at n = grind (arith, nat_tests, costs-all, laid, length-all, length-append, length-literal_pairs, body-length)
 
   pub edges-fit : (xs ls : List ℕ) → AreLeastCosts graph words costs xs → ls ≡ own_lines (map cost_in xs) (2 * length costs) 0 graph.nodes
       → edges (all_lines (record { graph = graph; words = words; parts = length costs; least = map cost_in xs; lines = ls })) < 2 ^ 64

@@ -1,5 +1,6 @@
 -- The parts of the bits of words.
 use Rattle.std.proofs.Common.{◌≡◌, ℕ, zero, suc, ◌+◌, ◌-◌, ◌*◌, ◌/◌, ◌%◌, ◌^◌, ◌<◌, ◌≤◌, Bool, true, false, not, cond, ◌&&◌, ◌==◌, List, [], ◌∷◌, ◌++◌, length, take, drop, get_or, refl, sym, ap, ◌∙◌, arith, append_assoc, append-nil, length-append}
+use Rattle.std.proofs.lemmas.Bool.Decides.{nat_tests}
 use Rattle.std.specs.Prelude.{nat_le, bit_and, count_ones}
 use Rattle.std.specs.Int.{bit_at, w32}
 use Rattle.std.specs.List.{filter, range_with_len}
@@ -26,13 +27,10 @@ use Rattle.smooth_nnf.proofs.Lacking.{set-bit}
 -- ---- words of which some bits are set
 
 off-bit : (n : ℕ) → n < 2 → ((1 - n) == 1) ≡ not (n == 1)
-off-bit zero h = refl
-off-bit (suc zero) h = refl
-off-bit (suc (suc n)) h = absurd (omega arith)
+off-bit n h = grind (arith, nat_tests)
 
 pub mask_bits : (p o m : Bool) → ((p && o) && not (p && m)) ≡ (p && (o && not m))
-mask_bits true o m = refl
-mask_bits false o m = refl
+mask_bits p o m = grind (arith, nat_tests)
 
 -- bits of one word that are not set in another
 pub masked : (x y b : ℕ) → y < 2 ^ 32 → b < 32 → has_bit (bit_and x (4294967295 - y)) b ≡ (has_bit x b && not (has_bit y b))
@@ -47,11 +45,7 @@ filter-later n s d = filter_same (λ p. has_bit (n / 2) (p - (s + 1))) (λ p. ha
     ap (λ k. k == 1) (sym (bit_at-suc n (p - (s + 1)))) ∙ ap (has_bit n) (sym e))
 
 low-bit : (n : ℕ) (xs : List ℕ) (x : ℕ) → length (cond (n % 2 == 1) (x ∷ xs) xs) ≡ n % 2 + length xs
-low-bit n xs x = by (n % 2) (omega arith) where
-  by : (m : ℕ) → m < 2 → length (cond (m == 1) (x ∷ xs) xs) ≡ m + length xs
-  by zero h = omega arith
-  by (suc zero) h = omega arith
-  by (suc (suc m)) h = absurd (omega arith)
+low-bit n xs x = grind (arith, nat_tests)
 
 ones-from : (d n s : ℕ) → n < 2 ^ d → count_ones n ≡ length (filter (λ p. has_bit n (p - s)) (range_with_len s d))
 ones-from zero n s h = omega (arith, ones-le 0 n h)
@@ -89,8 +83,7 @@ all-words test parts n le =
     ∙ filter-append (λ p. nat_le p parts && test p) (range_with_len 1 parts) (range_with_len (1 + parts) (n - parts))
     ∙ (λ i. first i ++ (none (1 + parts) (n - parts) (omega arith)) i) ∙ append-nil (filter test (range_with_len 1 parts)) where
       first : filter (λ p. nat_le p parts && test p) (range_with_len 1 parts) ≡ filter test (range_with_len 1 parts)
-      first = filter_same (λ p. nat_le p parts && test p) test (range_with_len 1 parts) (λ p m.
-          let range = in_range 1 parts p m in ap (λ b. b && test p) (le-leb p parts (omega (arith, range.1))))
+      first = grind (arith, nat_tests, filter_same, in_range, le-leb)
 
       none : (s d : ℕ) → parts < s → filter (λ p. nat_le p parts && test p) (range_with_len s d) ≡ []
       none s d lt = filter_same (λ p. nat_le p parts && test p) (λ p. false) (range_with_len s d) (λ p m.
@@ -100,13 +93,7 @@ all-words test parts n le =
 -- what passes one test and not another that passes no more
 pub left-over : (o m : ℕ → Bool) → ((p : ℕ) → m p ≡ true → o p ≡ true) → (xs : List ℕ) → length (filter (λ p. o p && not (m p)) xs) + length (filter m xs) ≡ length (filter o xs)
 left-over o m wider [] = refl
-left-over o m wider (x ∷ xs) = by (left-over o m wider xs) (o x) (m x) refl refl where
-  by : length (filter (λ p. o p && not (m p)) xs) + length (filter m xs) ≡ length (filter o xs) → (a b : Bool) → o x ≡ a → m x ≡ b
-      → length (cond (a && not b) (x ∷ filter (λ p. o p && not (m p)) xs) (filter (λ p. o p && not (m p)) xs)) + length (cond b (x ∷ filter m xs) (filter m xs)) ≡ length (cond a (x ∷ filter o xs) (filter o xs))
-  by more true true e f = omega arith
-  by more true false e f = omega arith
-  by more false true e f = absurd (let no : false ≡ true = sym e ∙ wider x f in cc)
-  by more false false e f = more
+left-over o m wider (x ∷ xs) = grind (arith, nat_tests, wider, left-over o m wider xs)
 
 pub all-count : (n : ℕ) → length (filter (λ p. true) (range_with_len 1 n)) ≡ n
 all-count n = ap length (filter-all (range_with_len 1 n)) ∙ length-range_with_len 1 n
@@ -126,12 +113,7 @@ set_parts-next word (suc i) (w ∷ words) lt =
 
 -- one more word is counted
 pub count-more : (words : List ℕ) (i count : ℕ) → i < length words → get_or words i 0 < 2 ^ 32 → count ≡ length (set_parts 0 (take i words)) → count + count_ones (get_or words i 0) ≡ length (set_parts 0 (take (i + 1) words))
-count-more words i count lt fits is =
-    let e : i + 1 ≡ suc i = omega arith in
-    let first : 0 + i ≡ i = omega arith in
-    (λ j. is j + (ones-parts i (get_or words i 0) fits) j)
-    ∙ sym (ap (λ n. length (set_parts 0 (take n words))) e ∙ ap length (set_parts-next 0 i words lt) ∙ length-append (set_parts 0 (take i words)) (word_parts (0 + i) (get_or words i 0))
-    ∙ ap (λ n. length (set_parts 0 (take i words)) + length (word_parts n (get_or words i 0))) first)
+count-more words i count lt fits is = grind (arith, nat_tests, ones-parts, set_parts-next, length-append)
 
 pub count-le : (word : ℕ) (words : List ℕ) → length (set_parts word words) ≤ 32 * length words
 count-le word [] = omega arith

@@ -1,51 +1,15 @@
--- What a derivation of the root costs outside of a node, and where it leaves the nodes that mention a variable.
-use Rattle.std.specs.Prelude.{◌≡◌, ℕ, ◌+◌, ◌-◌, ◌*◌, ◌<◌, ◌≤◌, ◌⊎◌, min, Bool, true, false, not, ◌&&◌, nat_le, nat_lt, List, length, sum_by, slice_index, if◌then◌else◌}
-use Rattle.state_rules.specs.declared.nodes.NodeKind.{NodeKind}
-use Rattle.state_rules.specs.declared.nodes.NodeKind.TheVariants.{Literal, And, Or}
+-- Where a derivation of the root leaves the nodes that mention a variable.
+use Rattle.std.specs.Prelude.{◌≡◌, ℕ, ◌+◌, ◌-◌, ◌*◌, ◌<◌, ◌≤◌, ◌⊎◌, Bool, true, false, not, ◌&&◌, nat_le, nat_lt, List, length, slice_index}
+use Rattle.state_rules.specs.declared.nodes.NodeKind.TheVariants.{Literal, Or}
 use Rattle.state_rules.specs.Graphs.{Node, node_at, mentions}
 use Rattle.state_rules.specs.Bits.{has_bit}
 use Rattle.minimiser.specs.inner.Swept.{is_kid}
 
--- ---- numbers that are lowered
-
-abbrev pub lowered : Bool → ℕ → ℕ → ℕ
-lowered lower cost old = if lower then min old cost else old
-
--- to the least of some costs, where one of them is less
+-- a number is lowered to the least of some costs, if one of them is less
 pub record IsLowered (Cost : ℕ → Type 0) (old new : ℕ) : Type 0 where
   pub below : new ≤ old
   pub low : (c : ℕ) → Cost c → new ≤ c
   pub from : (new ≡ old) ⊎ Cost new
-
--- ---- outside of each node
-
-abbrev pub total_value : List ℕ → List ℕ → ℕ
-total_value values kids = sum_by (λ k. slice_index values k) kids
-
--- What a derivation costs outside of a kid, if it costs so much outside of the kid's parent: the other kids of an and are true too.
-abbrev pub outside_kid : List ℕ → NodeKind → List ℕ → ℕ → ℕ → ℕ
-outside_kid values (Literal positive var) kids outer kid = outer
-outside_kid values And kids outer kid = outer + total_value values kids - slice_index values kid
-outside_kid values Or kids outer kid = outer
-
-abbrev pub outside : List Node → List ℕ → List ℕ → ℕ → ℕ → ℕ
-outside nodes values outers parent kid =
-    outside_kid values (node_at nodes parent).what (node_at nodes parent).kids (slice_index outers parent) kid
-
--- some parent gives a node what it costs outside
-pub record HasOuterParent (nodes : List Node) (values outers : List ℕ) (node : ℕ) : Type 0 where
-  pub parent : ℕ
-  pub within : parent < length nodes
-  pub kid : is_kid (node_at nodes parent).kids node ≡ true
-  pub cheap : outside nodes values outers parent node ≤ slice_index outers node
-
--- The least costs outside of all nodes, of which those from one on have given theirs to their kids. Costs from the limit on are none.
-pub record AreOuter (nodes : List Node) (values outers : List ℕ) (from : ℕ) : Type 0 where
-  pub root : slice_index outers (length nodes - 1) ≡ 0
-  pub down : (parent kid : ℕ) → from ≤ parent → parent < length nodes → slice_index outers parent < 2147483647
-      → kid < length nodes → is_kid (node_at nodes parent).kids kid ≡ true → slice_index outers kid ≤ outside nodes values outers parent kid
-  pub up : (node : ℕ) → node < length nodes → slice_index outers node < 2147483647
-      → (node ≡ length nodes - 1) ⊎ HasOuterParent nodes values outers node
 
 -- ---- where a variable is left
 

@@ -1,5 +1,6 @@
 use Rattle.std.proofs.Common.{◌≡◌, ℕ, ◌<◌, ◌≤◌, length, get_or}
-use Rattle.probe_report.specs.inner.Outside.{lowered, is_left}
+use Rattle.minimiser.specs.inner.Outside.{lowered}
+use Rattle.probe_report.specs.inner.Outside.{is_left}
 use Rattle.probe_report.proofs.leaving.lower_all.Given as goal
 
 -- the wires so far

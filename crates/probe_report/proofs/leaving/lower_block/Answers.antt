@@ -1,5 +1,6 @@
 use Rattle.std.proofs.Common.{◌+◌, ◌-◌, ◌<◌, ◌∙◌, length, get_or, ap, arith}
-use Rattle.probe_report.specs.inner.Outside.{lowered, is_left, mark_at}
+use Rattle.minimiser.specs.inner.Outside.{lowered}
+use Rattle.probe_report.specs.inner.Outside.{is_left, mark_at}
 use Rattle.probe_report.proofs.Marks.{marked-more, marked-none, none-left, node-more, root-more}
 use Rattle.probe_report.proofs.leaving.lower_block.Goals as goal
 

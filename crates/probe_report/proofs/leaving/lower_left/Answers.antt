@@ -1,5 +1,6 @@
 use Rattle.std.proofs.Common.{ℕ, List, ◌+◌, ◌∙◌, take, get_or, ap, subst, sym, inl, inr}
-use Rattle.probe_report.specs.inner.Outside.{lowered, is_left}
+use Rattle.minimiser.specs.inner.Outside.{lowered}
+use Rattle.probe_report.specs.inner.Outside.{is_left}
 use Rattle.probe_report.specs.inner.Leaving.{LeftKid, LowersBlock}
 use Rattle.probe_report.proofs.Marks.{left-more, left-same}
 use Rattle.probe_report.proofs.leaving.lower_left.Goals as goal

@@ -29,9 +29,9 @@ returns-clause-zeros g c wire h =
     let in_fill : wire < length c.fill.new.self = omega (arith, inside, c.fill.ensures.len) in
     let none : get_or c.fill.new.self wire 0 ≡ 4294967295 = grind (arith, common_steps) in
     ap cost_in (c.settle.ensures wire in_list)
-    ∙ settled-is graph words costs c.vars-vars.ensures.valid c.requires.long c.requires.total c.least.new.values c.find_outers.new.outers c.least.ensures.values c.find_outers.ensures wire (omega (arith, inside, c.requires.wires)) false
+    ∙ settled-is graph words costs c.vars-vars.ensures.valid c.requires.long c.requires.total c.least.new.values c.put_outside_costs.new.outside c.least.ensures.values c.put_outside_costs.ensures wire (omega (arith, inside, c.requires.wires)) false
     c.in_ok-fewest.fewest _ _ (c.requires.words (length costs + wire) 0 (omega (arith, inside, c.requires.wires, c.requires.long))) c.in_ok-fewest.ensures.least held.fits held.is held.small
-    (λ q. exits-lowered graph.nodes c.least.new.values c.find_outers.new.outers (length costs + wire + 1) false (get_or c.fill.new.self wire 0) (get_or c.lower_without.new.list wire 0) (get_or c.lower_with.new.list wire 0) none
+    (λ q. exits-lowered graph.nodes c.least.new.values c.put_outside_costs.new.outside (length costs + wire + 1) false (get_or c.fill.new.self wire 0) (get_or c.lower_without.new.list wire 0) (get_or c.lower_with.new.list wire 0) none
     (c.lower_without.ensures.lowered wire in_fill q) (c.lower_with.ensures wire in_mid))
 
 pub returns-clause-ones : goal.returns-clause-ones
@@ -46,10 +46,10 @@ returns-clause-ones g c wire h =
     let in_fill : wire < length c.fill.new.self = omega (arith, inside, c.fill.ensures.len) in
     let none : get_or c.fill.new.self wire 0 ≡ 4294967295 = grind (arith, common_steps) in
     ap cost_in (c.settle-2.ensures wire in_list)
-    ∙ settled-is graph words costs c.vars-vars.ensures.valid c.requires.long c.requires.total c.least.new.values c.find_outers.new.outers c.least.ensures.values c.find_outers.ensures wire (omega (arith, inside, c.requires.wires)) true
+    ∙ settled-is graph words costs c.vars-vars.ensures.valid c.requires.long c.requires.total c.least.new.values c.put_outside_costs.new.outside c.least.ensures.values c.put_outside_costs.ensures wire (omega (arith, inside, c.requires.wires)) true
     c.in_ok-fewest.fewest _ _ (c.requires.words (length costs + wire) 0 (omega (arith, inside, c.requires.wires, c.requires.long))) c.in_ok-fewest.ensures.least held.fits held.is held.small
-    (λ q. exits-lowered graph.nodes c.least.new.values c.find_outers.new.outers (length costs + wire + 1) true (get_or c.fill.new.self wire 0) (get_or c.lower_without.new.list wire 0) (get_or c.lower_with-2.new.list wire 0) none
-    (c.lower_without.ensures.lowered wire in_fill q) (subst (λ n. IsLowered (With graph.nodes c.find_outers.new.outers (length costs + wire + 1) true) n (get_or c.lower_with-2.new.list wire 0)) (ap (λ xs. get_or xs wire 0) c.copy_from_slice.ensures.after) (c.lower_with-2.ensures wire (omega (arith, in_list, c.lower_with-2.auto.list)))))
+    (λ q. exits-lowered graph.nodes c.least.new.values c.put_outside_costs.new.outside (length costs + wire + 1) true (get_or c.fill.new.self wire 0) (get_or c.lower_without.new.list wire 0) (get_or c.lower_with-2.new.list wire 0) none
+    (c.lower_without.ensures.lowered wire in_fill q) (subst (λ n. IsLowered (With graph.nodes c.put_outside_costs.new.outside (length costs + wire + 1) true) n (get_or c.lower_with-2.new.list wire 0)) (ap (λ xs. get_or xs wire 0) c.copy_from_slice.ensures.after) (c.lower_with-2.ensures wire (omega (arith, in_list, c.lower_with-2.auto.list)))))
 
 pub returns-in_err-fewest-clause-zeros : goal.returns-in_err-fewest-clause-zeros
 returns-in_err-fewest-clause-zeros g c wire h =

@@ -1,0 +1,60 @@
+ghost use Rattle.std.specs.Prelude.{◌≡◌, ℕ, ◌+◌, ◌<◌, length, All, slice_index};
+ghost use Rattle.minimiser.specs.inner.Outside.{others_cost, lowered, AreOutsideCosts};
+ghost use Rattle.minimiser.specs.inner.Swept.{is_kid};
+
+use crate::pass::NONE;
+use node_store::Graph;
+use state_rules::NodeKind;
+
+/// Outside each node, what the rest of a derivation of the root costs at least, from the values that [`least`](crate::least) left: one
+/// sweep over the nodes, from the root down.
+pub fn put_outside_costs(graph: &Graph, values: &[u32], outside: &mut [u32])
+    requires values { length values.now ≡ length graph.now.nodes }
+    requires room { length outside.old ≡ length graph.now.nodes }
+    ensures { AreOutsideCosts graph.now.nodes values.now outside.new 0 }
+{
+    let count = graph.len();
+    outside.fill(NONE);
+    outside[count as usize - 1] = 0;
+    for at in (0..count).rev() {
+        let rest = outside[at as usize];
+        lower_kids(
+            graph.what(at),
+            values[at as usize],
+            rest,
+            graph.kids(at),
+            values,
+            outside,
+        );
+    }
+}
+
+// Lowers what is outside the kids of a node to what it lets the rest cost.
+fn lower_kids(
+    what: NodeKind,
+    own: u32,
+    rest: u32,
+    kids: &[u32],
+    values: &[u32],
+    outside: &mut [u32],
+)
+    requires kids { All (λ k. k < length values.now) kids.now }
+    requires room { length outside.old ≡ length values.now }
+    ensures { (j : ℕ) → j < length outside.old → slice_index outside.new j
+        ≡ lowered (is_kid kids.now j) (rest + others_cost what own (slice_index values.now j)) (slice_index outside.old j) }
+{
+    for k in kids {
+        let below = rest.saturating_add(others_cost(what, own, values[*k as usize]));
+        outside[*k as usize] = outside[*k as usize].min(below);
+    }
+}
+
+// What the other kids of an And cost, if it and one of its kids cost so much.
+fn others_cost(what: NodeKind, own: u32, kid: u32) -> u32
+    ensures { result ≡ others_cost what own kid }
+{
+    match what {
+        NodeKind::And => own.saturating_sub(kid),
+        NodeKind::Literal { .. } | NodeKind::Or => 0,
+    }
+}

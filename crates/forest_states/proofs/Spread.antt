@@ -1,16 +1,15 @@
 -- What a table does to clauses, by its events.
-use Rattle.std.proofs.Common.{◌≡◌, ℕ, zero, suc, ◌+◌, ◌<◌, ◌≤◌, Bool, true, false, not, ◌&&◌, ◌||◌, List, [], ◌∷◌, ◌++◌, map, length, take, drop, get_or, replicate, Some, refl, ap, sym, ◌∙◌, arith}
+use Rattle.std.proofs.Common.{◌≡◌, ℕ, zero, suc, ◌+◌, ◌<◌, ◌≤◌, Bool, true, not, ◌&&◌, ◌||◌, List, [], ◌∷◌, ◌++◌, length, take, drop, get_or, replicate, Some, refl, ap, sym, ◌∙◌, arith}
 use mir.Val.{bool_byte}
 use Rattle.std.specs.Prelude.{Option}
-use Rattle.std.specs.Option.{unwrap_or}
 use Rattle.std.proofs.lemmas.List.{length-append, length-replicate, replicate-append-replicate, append_assoc, take_all, drop-drop, drop_more}
 use Rattle.std.proofs.Math.Seq.{drop-nil}
 use Rattle.state_rules.specs.Bits.{bit_in}
 use Rattle.forest_states.specs.declared.entries.Entry.{Entry}
 use Rattle.forest_states.specs.declared.entries.Event.{Event}
 use Rattle.forest_states.specs.inner.BitLists.{other_bits, copied}
-use Rattle.forest_states.specs.inner.Tables.{true_at, plain, is_plain, spread, pick_entry}
-use Rattle.forest_states.specs.inner.Walked.{ended, walked, picked, picked_by}
+use Rattle.forest_states.specs.inner.Tables.{true_at, plain, is_plain, spread}
+use Rattle.forest_states.specs.inner.Walked.{ended, walked}
 use Rattle.forest_states.proofs.Sets.{behind}
 use Rattle.forest_states.proofs.Walks.{walked-entry}
 
@@ -99,12 +98,3 @@ walked-on bit es rest k n e left state low =
 pub walked-rest : (bit : Bool) (n : ℕ) (state : List Bool) → walked bit (replicate n plain) state ≡ Some (copied n state)
 walked-rest bit zero state = refl
 walked-rest bit (suc n) state = grind (arith, walked-rest bit n (other_bits state))
-
--- ---- what is picked
-
-pub walked-picks : (flags state : List Bool) → walked false (map pick_entry flags) state ≡ Some (picked flags state)
-walked-picks [] state = refl
-walked-picks (f ∷ flags) state = grind (arith, walked-picks flags (other_bits state))
-
-pub picked-by : (flags : List Bool) → picked_by (map pick_entry flags) ≡ picked flags
-picked-by flags = λ j state. unwrap_or (walked-picks flags state j) []

@@ -56,6 +56,17 @@ bits-more n c words next more many e =
 are-more : (n c : ℕ) (words next : List ℕ) (more : List Bool) → length more ≡ c → next ≡ words_of ((n + c) / 64 + 1) (bits_in n words ++ more) → AreBits (n + c) next
 are-more n c words next more many e = e ∙ ap (words_of ((n + c) / 64 + 1)) (sym (bits-more n c words next more many e))
 
+-- those of one word
+module _ (n word : ℕ) (words : List ℕ) (bits : List Bool) (few : n < 64) (is : words ≡ word ∷ []) (long : length bits ≡ n) (row : word ≡ row_number bits) where
+  words-one : words ≡ words_of 1 bits
+  words-one = is ∙ ap (λ w. w ∷ []) (row ∙ ap row_number (sym (take_all 64 bits (omega (arith, long)))))
+
+  pub bits-one : bits_in n words ≡ bits
+  bits-one = ap (bits_in n) words-one ∙ bits-words n 1 bits long (omega arith)
+
+  pub are-one : AreBits n words
+  are-one = let one : 1 ≡ n / 64 + 1 = omega arith in words-one ∙ (λ j. words_of (one j) (sym bits-one j))
+
 -- ---- the same words
 
 pub same-words : (n m : ℕ) (xs ys : List ℕ) → AreBits n xs → AreBits m ys → n ≡ m → bytes_eq xs ys ≡ is_same (bits_in n xs) (bits_in m ys)

@@ -192,18 +192,5 @@ fn walk_row(
         }
     }
     let bits = with_bits(left, len, first_bits(from, rest));
-    Ok(Some(list_of(alloc, bits, len + rest)?))
-}
-
-// A list of so many bits, which are in one word.
-fn list_of(alloc: Global, row: u64, count: usize) -> Result<BitList, AllocError>
-    requires few { count ≤ 64 }
-    requires row { (bits : List Bool) × ((length bits ≡ count) × (row ≡ row_number bits)) }
-    ensures { IfOk result (λ list. (bits : List Bool) → length bits ≡ count → row ≡ row_number bits → list ≡ bits) }
-{
-    let mut list = BitList::new(alloc, 0)?;
-    if count > 0 {
-        list.put(row, count)?;
-    }
-    Ok(list)
+    Ok(Some(BitList::of_word(alloc, bits, len + rest)?))
 }

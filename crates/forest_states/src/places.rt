@@ -237,7 +237,7 @@ fn decide(
     ensures few { IfOk result (λ r. length r.1.keys < 2 ^ 32) }
     ensures states { IfOk result (λ r. r.1.keys ≡ decided_states table.now states.now.keys) }
 {
-    let mut next = IndexSet::new(alloc);
+    let mut next = IndexSet::with_capacity(alloc, states.len())?;
     let mut leads = Vec::with_capacity(alloc, states.len())?;
     let is_short = table.is_short();
     for state in states.as_slice() {

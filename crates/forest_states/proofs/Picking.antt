@@ -1,5 +1,6 @@
 -- What runs pick.
 use Rattle.std.proofs.Common.{◌≡◌, ℕ, zero, suc, ◌+◌, ◌<◌, ◌≤◌, Bool, true, false, List, [], ◌∷◌, ◌++◌, length, drop, get_or, replicate, refl, ap, sym, ◌∙◌, arith}
+use Rattle.std.proofs.lemmas.Bool.Decides.{nat_tests}
 use Rattle.std.proofs.lemmas.List.{length-append, length-replicate, replicate-append-replicate, append_assoc, append-nil, drop-drop, drop_more}
 use Rattle.std.proofs.Math.Seq.{drop-nil}
 use Rattle.forest_states.specs.declared.picks.Run.{Run}
@@ -45,11 +46,7 @@ picked-count zero flags state = refl
 picked-count (suc n) flags state = grind (arith, picked-count n flags (other_bits state), drop-nil {A = Bool} n)
 
 picked-run : (r : Run) (flags state : List Bool) → picked (flag_run r ++ flags) state ≡ copied r.count (drop r.others state) ++ picked flags (drop (r.others + r.count) state)
-picked-run r flags state =
-    ap (λ fs. picked fs state) (append_assoc (replicate r.others false) (replicate r.count true) flags)
-    ∙ picked-others r.others (replicate r.count true ++ flags) state
-    ∙ picked-count r.count flags (drop r.others state)
-    ∙ ap (λ s. copied r.count (drop r.others state) ++ picked flags s) (drop-drop r.count r.others state)
+picked-run r flags state = grind (arith, nat_tests, append_assoc, picked-others, picked-count, drop-drop)
 
 pub picked-last : (r : Run) (state : List Bool) (at : ℕ) → picked (flag_run r) (drop at state) ≡ copied r.count (drop (at + r.others) state)
 picked-last r state at =
@@ -68,12 +65,4 @@ module _ (runs : List Run) (last : Run) (k : ℕ) (r : Run) (low : k < length ru
   pub picked-on : (at : ℕ) (bits state : List Bool) → bits ++ picked (flags_in (drop k runs) last) (drop at state)
       ≡ (bits ++ copied (get_or runs k r).count (drop (at + (get_or runs k r).others) state))
       ++ picked (flags_in (drop (k + 1) runs) last) (drop (at + (get_or runs k r).others + (get_or runs k r).count) state)
-  picked-on at bits state =
-      let n = (get_or runs k r).others in
-      let m = (get_or runs k r).count in
-      let rest = flags_in (drop (k + 1) runs) last in
-      ap (λ fs. bits ++ picked fs (drop at state)) next
-      ∙ ap (λ bs. bits ++ bs) (picked-run (get_or runs k r) rest (drop at state)
-      ∙ ap (λ s. copied m s ++ picked rest (drop (n + m) (drop at state))) (drop-drop n at state)
-      ∙ ap (λ s. copied m (drop (at + n) state) ++ picked rest s) (drop-drop (n + m) at state ∙ ap (λ j. drop j state) (omega arith)))
-      ∙ sym (append_assoc bits (copied m (drop (at + n) state)) (picked rest (drop (at + n + m) state)))
+  picked-on at bits state = grind (arith, nat_tests, next, picked-run, drop-drop, append_assoc)

@@ -1,5 +1,6 @@
 -- What a table does to clauses, by its events.
 use Rattle.std.proofs.Common.{◌≡◌, ℕ, zero, suc, ◌+◌, ◌<◌, ◌≤◌, Bool, true, not, ◌&&◌, ◌||◌, List, [], ◌∷◌, ◌++◌, length, take, drop, get_or, replicate, Some, refl, ap, sym, ◌∙◌, arith}
+use Rattle.std.proofs.lemmas.Bool.Decides.{nat_tests}
 use mir.Val.{bool_byte}
 use Rattle.std.specs.Prelude.{Option}
 use Rattle.std.proofs.lemmas.List.{length-append, length-replicate, replicate-append-replicate, append_assoc, take_all, drop-drop, drop_more}
@@ -43,9 +44,8 @@ abbrev pub told : List Event → ℕ → ℕ
 told es k = length (spread (take k es) 0)
 
 pub told-within : (es : List Event) (rest k : ℕ) → told es k ≤ length (spread es rest)
-told-within [] rest zero = omega arith
+told-within es rest zero = grind (arith, nat_tests)
 told-within [] rest (suc k) = omega arith
-told-within (e ∷ es) rest zero = omega arith
 told-within (e ∷ es) rest (suc k) = grind (arith, length-append, told-within es rest k)
 
 told-next : (es : List Event) (k : ℕ) (e : Event) → k < length es → told es (suc k) ≡ told es k + (get_or es k e).run + 1
@@ -78,8 +78,7 @@ walked-run bit (suc n) table state = grind (arith, walked-run bit n table (other
 pub walked-event : (bit : Bool) (es : List Event) (rest k : ℕ) (e : Event) (state : List Bool) → k < length es
     → walked bit (spread (drop k es) rest) state
     ≡ behind (copied (get_or es k e).run state) (walked bit ((get_or es k e).entry ∷ spread (drop (k + 1) es) rest) (drop (get_or es k e).run state))
-walked-event bit es rest k e state low =
-    ap (λ xs. walked bit (spread xs rest) state) (drop_more es k e low) ∙ walked-run bit (get_or es k e).run ((get_or es k e).entry ∷ spread (drop (k + 1) es) rest) state
+walked-event bit es rest k e state low = grind (arith, nat_tests, drop_more, walked-run)
 
 -- and over it
 pub walked-on : (bit : Bool) (es : List Event) (rest k n : ℕ) (e : Event) (left state : List Bool) → k < length es

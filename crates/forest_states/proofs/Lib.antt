@@ -6,6 +6,7 @@ pub mod Mapped
 pub mod Marking
 pub mod Meeting
 pub mod Numbers
+pub mod Picking
 pub mod Sets
 pub mod Spread
 pub mod Standing

@@ -1,16 +1,16 @@
 -- What a table does to clauses, by its events.
-use Rattle.std.proofs.Common.{◌≡◌, ℕ, zero, suc, ◌+◌, ◌<◌, ◌≤◌, Bool, true, false, not, ◌&&◌, ◌||◌, List, [], ◌∷◌, ◌++◌, map, length, take, drop, get_or, replicate, Some, refl, ap, sym, ◌∙◌, arith}
+use Rattle.std.proofs.Common.{◌≡◌, ℕ, zero, suc, ◌+◌, ◌<◌, ◌≤◌, Bool, true, not, ◌&&◌, ◌||◌, List, [], ◌∷◌, ◌++◌, length, take, drop, get_or, replicate, Some, refl, ap, sym, ◌∙◌, arith}
+use Rattle.std.proofs.lemmas.Bool.Decides.{nat_tests}
 use mir.Val.{bool_byte}
 use Rattle.std.specs.Prelude.{Option}
-use Rattle.std.specs.Option.{unwrap_or}
 use Rattle.std.proofs.lemmas.List.{length-append, length-replicate, replicate-append-replicate, append_assoc, take_all, drop-drop, drop_more}
 use Rattle.std.proofs.Math.Seq.{drop-nil}
 use Rattle.state_rules.specs.Bits.{bit_in}
 use Rattle.forest_states.specs.declared.entries.Entry.{Entry}
 use Rattle.forest_states.specs.declared.entries.Event.{Event}
 use Rattle.forest_states.specs.inner.BitLists.{other_bits, copied}
-use Rattle.forest_states.specs.inner.Tables.{true_at, plain, is_plain, spread, pick_entry}
-use Rattle.forest_states.specs.inner.Walked.{ended, walked, picked, picked_by}
+use Rattle.forest_states.specs.inner.Tables.{true_at, plain, is_plain, spread}
+use Rattle.forest_states.specs.inner.Walked.{ended, walked}
 use Rattle.forest_states.proofs.Sets.{behind}
 use Rattle.forest_states.proofs.Walks.{walked-entry}
 
@@ -44,9 +44,8 @@ abbrev pub told : List Event → ℕ → ℕ
 told es k = length (spread (take k es) 0)
 
 pub told-within : (es : List Event) (rest k : ℕ) → told es k ≤ length (spread es rest)
-told-within [] rest zero = omega arith
+told-within es rest zero = grind (arith, nat_tests)
 told-within [] rest (suc k) = omega arith
-told-within (e ∷ es) rest zero = omega arith
 told-within (e ∷ es) rest (suc k) = grind (arith, length-append, told-within es rest k)
 
 told-next : (es : List Event) (k : ℕ) (e : Event) → k < length es → told es (suc k) ≡ told es k + (get_or es k e).run + 1
@@ -79,8 +78,7 @@ walked-run bit (suc n) table state = grind (arith, walked-run bit n table (other
 pub walked-event : (bit : Bool) (es : List Event) (rest k : ℕ) (e : Event) (state : List Bool) → k < length es
     → walked bit (spread (drop k es) rest) state
     ≡ behind (copied (get_or es k e).run state) (walked bit ((get_or es k e).entry ∷ spread (drop (k + 1) es) rest) (drop (get_or es k e).run state))
-walked-event bit es rest k e state low =
-    ap (λ xs. walked bit (spread xs rest) state) (drop_more es k e low) ∙ walked-run bit (get_or es k e).run ((get_or es k e).entry ∷ spread (drop (k + 1) es) rest) state
+walked-event bit es rest k e state low = grind (arith, nat_tests, drop_more, walked-run)
 
 -- and over it
 pub walked-on : (bit : Bool) (es : List Event) (rest k n : ℕ) (e : Event) (left state : List Bool) → k < length es
@@ -99,12 +97,3 @@ walked-on bit es rest k n e left state low =
 pub walked-rest : (bit : Bool) (n : ℕ) (state : List Bool) → walked bit (replicate n plain) state ≡ Some (copied n state)
 walked-rest bit zero state = refl
 walked-rest bit (suc n) state = grind (arith, walked-rest bit n (other_bits state))
-
--- ---- what is picked
-
-pub walked-picks : (flags state : List Bool) → walked false (map pick_entry flags) state ≡ Some (picked flags state)
-walked-picks [] state = refl
-walked-picks (f ∷ flags) state = grind (arith, walked-picks flags (other_bits state))
-
-pub picked-by : (flags : List Bool) → picked_by (map pick_entry flags) ≡ picked flags
-picked-by flags = λ j state. unwrap_or (walked-picks flags state j) []

@@ -28,11 +28,7 @@ distinct-filter p (l ∷ ls) distinct = by (p l) (distinct-filter p ls distinct.
 
 others-differ : (l : List Bool) (ls : List (List Bool)) → AllByRecursion (λ s. same_list l s ≡ false) (filter (λ s. not (same_list l s)) ls)
 others-differ l [] = tt
-others-differ l (m ∷ ls) = by (same_list l m) refl (others-differ l ls) where
-  by : (b : Bool) → same_list l m ≡ b → AllByRecursion (λ s. same_list l s ≡ false) (filter (λ s. not (same_list l s)) ls)
-      → AllByRecursion (λ s. same_list l s ≡ false) (cond (not b) (m ∷ filter (λ s. not (same_list l s)) ls) (filter (λ s. not (same_list l s)) ls))
-  by true e rest = rest
-  by false e rest = (e, rest)
+others-differ l (m ∷ ls) = grind (arith, nat_tests, others-differ l ls)
 
 distinct-different : (ls : List (List Bool)) → AreDistinct (different ls)
 distinct-different [] = tt
@@ -66,8 +62,7 @@ picked-whole (n ∷ ns) state long = grind (arith, picked-whole ns)
 
 all-picked : (ns : List ℕ) (states : List (List Bool)) → list_all (λ s. length s == length ns) states ≡ true → map (picked (map (λ n. true) ns)) states ≡ states
 all-picked ns [] long = refl
-all-picked ns (s ∷ states) long =
-    grind (arith, nat_tests, picked-whole ns s, all-picked ns states)
+all-picked ns (s ∷ states) long = grind (arith, nat_tests, picked-whole, all-picked ns states)
 
 -- ---- the place of the tree
 
@@ -92,9 +87,7 @@ module _ (clauses : List Clause) (trees : ℕ) (seen : List Bool) (numbers : Lis
   states-same = ap different picks ∙ once
 
   pub whole-stands : map (λ j. stand_part clauses trees seen numbers j s) (range_with_len 0 trees) ≡ s ∷ []
-  whole-stands =
-      ap (λ n. map (λ j. stand_part clauses trees seen numbers j s) (range_with_len 0 n)) one
-      ∙ (λ i. (record { opened = (ap (λ g. filter g s.opened) all ∙ filter-all s.opened) i; states = states-same i }) ∷ [])
+  whole-stands = grind (arith, nat_tests, one, all, filter-all, states-same)
 
   whole-columns : map (λ j. column_at clauses trees seen numbers j s) (range_with_len 0 trees) ≡ range_with_len 0 (length s.states) ∷ []
   whole-columns =

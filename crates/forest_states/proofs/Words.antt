@@ -1,5 +1,6 @@
 -- Lists of bits in words.
 use Rattle.std.proofs.Common.{◌≡◌, ℕ, zero, suc, ◌+◌, ◌*◌, ◌/◌, ◌%◌, ◌<◌, ◌≤◌, Bool, true, false, List, [], ◌∷◌, ◌++◌, length, take, drop, refl, ap, sym, ◌∙◌, subst, arith}
+use Rattle.std.proofs.lemmas.Bool.Decides.{nat_tests}
 use Rattle.std.specs.Prelude.{nat_eq}
 use Rattle.std.specs.List.{refill}
 use Rattle.std.specs.Str.{bytes_eq}
@@ -33,8 +34,7 @@ length-bits n words = length-map-range_with_len (word_bit words) 0 n
 
 -- one word more
 pub words-longer : (m : ℕ) (bits : List Bool) → length bits ≤ 64 * m → words_of m bits ++ 0 ∷ [] ≡ words_of (m + 1) bits
-words-longer zero [] room = refl
-words-longer zero (b ∷ bits) room = absurd (omega arith)
+words-longer zero bits room = grind (arith, nat_tests)
 words-longer (suc m) bits room = let next : suc (m + 1) ≡ suc m + 1 = omega arith in ap (λ ws. row_number (take 64 bits) ∷ ws) (words-longer m (drop 64 bits) (omega (arith, length-drop 64 bits))) ∙ ap (λ k. words_of k bits) next
 
 pub words-many : (n : ℕ) (words : List ℕ) → AreBits n words → length words ≡ n / 64 + 1
@@ -42,19 +42,27 @@ words-many n words are = ap length are ∙ length-words (n / 64 + 1) (bits_in n 
 
 -- words with room for some bits more, which stay in one word
 pub words-room : (n c : ℕ) (words : List ℕ) → AreBits n words → n % 64 + c ≡ 64 → words ++ 0 ∷ [] ≡ words_of ((n + c) / 64 + 1) (bits_in n words)
-words-room n c words are e =
-    ap (λ ws. ws ++ 0 ∷ []) are ∙ words-longer (n / 64 + 1) (bits_in n words) (omega (arith, length-bits n words))
-    ∙ ap (λ m. words_of m (bits_in n words)) (omega arith)
+words-room n c words are e = grind (arith, nat_tests, words-longer, length-bits)
 
 pub words-kept : (n c : ℕ) (words : List ℕ) → AreBits n words → n % 64 + c ≤ 64 → (n % 64 + c ≡ 64 → ⊥) → words ≡ words_of ((n + c) / 64 + 1) (bits_in n words)
 words-kept n c words are within e = are ∙ ap (λ m. words_of m (bits_in n words)) (omega (arith, e))
 
 bits-more : (n c : ℕ) (words next : List ℕ) (more : List Bool) → length more ≡ c → next ≡ words_of ((n + c) / 64 + 1) (bits_in n words ++ more) → bits_in (n + c) next ≡ bits_in n words ++ more
-bits-more n c words next more many e =
-    ap (bits_in (n + c)) e ∙ bits-words (n + c) ((n + c) / 64 + 1) (bits_in n words ++ more) (length-append (bits_in n words) more ∙ omega (arith, length-bits n words, many)) (omega arith)
+bits-more n c words next more many e = grind (arith, nat_tests, bits-words, length-append, length-bits)
 
 are-more : (n c : ℕ) (words next : List ℕ) (more : List Bool) → length more ≡ c → next ≡ words_of ((n + c) / 64 + 1) (bits_in n words ++ more) → AreBits (n + c) next
 are-more n c words next more many e = e ∙ ap (words_of ((n + c) / 64 + 1)) (sym (bits-more n c words next more many e))
+
+-- those of one word
+module _ (n word : ℕ) (words : List ℕ) (bits : List Bool) (few : n < 64) (is : words ≡ word ∷ []) (long : length bits ≡ n) (row : word ≡ row_number bits) where
+  words-one : words ≡ words_of 1 bits
+  words-one = is ∙ ap (λ w. w ∷ []) (row ∙ ap row_number (sym (take_all 64 bits (omega (arith, long)))))
+
+  pub bits-one : bits_in n words ≡ bits
+  bits-one = ap (bits_in n) words-one ∙ bits-words n 1 bits long (omega arith)
+
+  pub are-one : AreBits n words
+  are-one = let one : 1 ≡ n / 64 + 1 = omega arith in words-one ∙ (λ j. words_of (one j) (sym bits-one j))
 
 -- ---- the same words
 
@@ -78,9 +86,7 @@ module _ (n k c row : ℕ) (words before slice put : List ℕ) (more : List Bool
   many = ap length (is ∙ room) ∙ length-words ((n + c) / 64 + 1) (bits_in n words)
 
   put-is : refill (length before) before put ≡ words_of ((n + c) / 64 + 1) (bits_in n words ++ more)
-  put-is = refill-whole before put (long ∙ ap length is)
-      ∙ done (bits_in n words) more (length-bits n words ∙ sym same) (omega (arith, same, many_more, within)) is_row (is ∙ room ∙ ap (λ m. words_of m (bits_in n words)) (sym many))
-      ∙ ap (λ m. words_of m (bits_in n words ++ more)) many
+  put-is = grind (arith, nat_tests, refill-whole, done, length-bits, many)
 
   pub pushed-bits : bits_in (k + c) (refill (length before) before put) ≡ bits_in n words ++ more
   pushed-bits = ap (λ j. bits_in (j + c) (refill (length before) before put)) same ∙ bits-more n c words (refill (length before) before put) more many_more put-is

@@ -41,6 +41,16 @@ impl BitList {
         Ok(BitList { words, len: 0 })
     }
 
+    /// So many bits, which are those of one word.
+    pub(crate) fn of_word(alloc: Global, word: u64, len: usize) -> Result<BitList, AllocError>
+        requires few { len < 64 }
+        requires word { (bits : List Bool) × ((length bits ≡ len) × (word ≡ row_number bits)) }
+        ensures { IfOk result (λ list. (bits : List Bool) → length bits ≡ len → word ≡ row_number bits → list ≡ bits) }
+    {
+        let words = SmallVec::from_slice(alloc, &[word])?;
+        Ok(BitList { words, len })
+    }
+
     /// How many bits there are.
     pub(crate) fn len(&self) -> usize
         ensures { result ≡ length self.now }

@@ -1,7 +1,7 @@
 ghost use Rattle.std.specs.Prelude.{◌≡◌, ◌+◌, ◌<◌, ◌≤◌, true, List, Bool, ◌^◌, ◌&&◌, ◌||◌, ◌++◌, [], ◌∷◌, not, length, replicate, IfOk, OnOk};
 ghost use Rattle.state_rules.specs.Bits.{row_number};
-ghost use Rattle.forest_states.specs.inner.Tables.{true_at, plain, is_plain, gone, spread};
-ghost use Rattle.forest_states.specs.inner.Walked.{walked, picked_by};
+ghost use Rattle.forest_states.specs.inner.Tables.{true_at, plain, is_plain, spread};
+ghost use Rattle.forest_states.specs.inner.Walked.{walked};
 
 use crate::bit_list::BitList;
 use crate::rows::{bit_of, first_bits, later_bits, with_bits};
@@ -44,30 +44,6 @@ impl Model for Table {
 }
 
 impl Entry {
-    /// That of a clause that stays as it is.
-    pub(crate) fn plain() -> Entry
-        ensures { result ≡ plain }
-    {
-        Entry {
-            fresh: false,
-            true_at_0: false,
-            true_at_1: false,
-            ends: false,
-        }
-    }
-
-    /// That of a clause that is left out without a trace.
-    pub(crate) fn gone() -> Entry
-        ensures { result ≡ gone }
-    {
-        Entry {
-            fresh: false,
-            true_at_0: true,
-            true_at_1: true,
-            ends: true,
-        }
-    }
-
     // Whether the clause stays as it is.
     fn is_plain(self) -> bool
         ensures { result ≡ is_plain self }
@@ -142,30 +118,7 @@ impl Table {
         if is_short && state.len() <= 64 {
             walk_row(alloc, self.events.as_slice(), self.rest, bit, state)
         } else {
-            walk_on(
-                alloc,
-                self.events.as_slice(),
-                self.rest,
-                bit,
-                state,
-                state.len(),
-            )
-        }
-    }
-
-    /// The bits of a state that a table of flags picks, with room for so many.
-    pub(crate) fn pick(
-        &self,
-        alloc: Global,
-        room: usize,
-        state: &BitList,
-    ) -> Result<BitList, AllocError>
-        requires { length self.now < 2 ^ 63 }
-        ensures { IfOk result (λ bits. bits ≡ picked_by self.now state.now) }
-    {
-        match walk_on(alloc, self.events.as_slice(), self.rest, false, state, room)? {
-            Some(bits) => Ok(bits),
-            None => BitList::new(alloc, 0),
+            walk_on(alloc, self.events.as_slice(), self.rest, bit, state)
         }
     }
 }
@@ -181,19 +134,18 @@ fn are_few(events: &[Event], rest: usize) -> bool
     len < 64
 }
 
-// What a bit leaves of a state, by the events and how many clauses come after the last one. It has room for so many bits.
+// What a bit leaves of a state, by the events and how many clauses come after the last one.
 fn walk_on(
     alloc: Global,
     events: &[Event],
     rest: usize,
     bit: bool,
     state: &BitList,
-    room: usize,
 ) -> Result<Option<BitList>, AllocError>
     requires { length (spread events.now rest) < 2 ^ 63 }
     ensures { IfOk result (λ left. left ≡ walked bit (spread events.now rest) state.now) }
 {
-    let mut left = BitList::new(alloc, room)?;
+    let mut left = BitList::new(alloc, state.len())?;
     let mut next = 0;
     for event in events {
         left.append(state, next, event.run)?;
@@ -240,18 +192,5 @@ fn walk_row(
         }
     }
     let bits = with_bits(left, len, first_bits(from, rest));
-    Ok(Some(list_of(alloc, bits, len + rest)?))
-}
-
-// A list of so many bits, which are in one word.
-fn list_of(alloc: Global, row: u64, count: usize) -> Result<BitList, AllocError>
-    requires few { count ≤ 64 }
-    requires row { (bits : List Bool) × ((length bits ≡ count) × (row ≡ row_number bits)) }
-    ensures { IfOk result (λ list. (bits : List Bool) → length bits ≡ count → row ≡ row_number bits → list ≡ bits) }
-{
-    let mut list = BitList::new(alloc, 0)?;
-    if count > 0 {
-        list.put(row, count)?;
-    }
-    Ok(list)
+    Ok(Some(BitList::of_word(alloc, bits, len + rest)?))
 }

@@ -2,11 +2,12 @@ ghost use Rattle.std.specs.Prelude.{◌≡◌, ◌<◌, ◌≤◌, ◌+◌, ◌^
 ghost use Rattle.std.specs.List.{list_all, range_with_len, position_or_len};
 ghost use Rattle.elimination_forests.specs.Branches.{different};
 ghost use Rattle.forest_states.specs.inner.BitLists.{is_same};
-ghost use Rattle.forest_states.specs.inner.Walked.{any_leads, picked_by, joined, lead, decided_states, decided_forks, parts_by, column_by, table_at, forks_of, row_at, row_of, row_in, stand_decided, stand_part, column_at, stands_below, forks_below, first_stand, or_first, stand_of};
+ghost use Rattle.forest_states.specs.inner.Walked.{any_leads, picked, joined, lead, decided_states, decided_forks, parts_by, column_by, table_at, forks_of, row_at, row_of, row_in, stand_decided, stand_part, column_at, stands_below, forks_below, first_stand, or_first, stand_of};
 
 use crate::bit_list::BitList;
 use crate::entries::Table;
 use crate::marks::{clauses_with, mark, number_trees};
+use crate::picks::Picks;
 use crate::tables::{find_picks, find_table};
 use clause_encoder::Cnf;
 use elimination_forests::{Forks, Step, Ways};
@@ -193,17 +194,17 @@ fn go_to(
     Ok((column, Spot { opened, states }))
 }
 
-// The part of each state that a table of flags picks: its place among the parts, and the parts, with room for so many bits.
+// The part of each state that is picked: its place among the parts, and the parts, with room for so many bits.
 fn part(
     alloc: Global,
-    picks: &Table,
+    picks: &Picks,
     room: usize,
     states: &IndexSet<BitList>,
 ) -> Result<(Vec<u32>, IndexSet<BitList>), AllocError>
     requires few { length states.now.keys < 2 ^ 32 }
     requires short { length picks.now < 2 ^ 63 }
-    ensures column { IfOk result (λ r. r.0.items ≡ column_by (picked_by picks.now) states.now.keys) }
-    ensures states { IfOk result (λ r. r.1.keys ≡ parts_by (picked_by picks.now) states.now.keys) }
+    ensures column { IfOk result (λ r. r.0.items ≡ column_by (picked picks.now) states.now.keys) }
+    ensures states { IfOk result (λ r. r.1.keys ≡ parts_by (picked picks.now) states.now.keys) }
 {
     let mut parts = IndexSet::new(alloc);
     let mut column = Vec::with_capacity(alloc, states.len())?;
@@ -236,7 +237,7 @@ fn decide(
     ensures few { IfOk result (λ r. length r.1.keys < 2 ^ 32) }
     ensures states { IfOk result (λ r. r.1.keys ≡ decided_states table.now states.now.keys) }
 {
-    let mut next = IndexSet::new(alloc);
+    let mut next = IndexSet::with_capacity(alloc, states.len())?;
     let mut leads = Vec::with_capacity(alloc, states.len())?;
     let is_short = table.is_short();
     for state in states.as_slice() {

@@ -3,11 +3,11 @@ ghost use Rattle.std.specs.List.{filter, prefix_len};
 ghost use Rattle.clause_encoder.specs.Clauses.{var_of};
 ghost use Rattle.state_rules.specs.Bits.{bit_in};
 ghost use Rattle.elimination_forests.specs.Branches.{is_true_by};
-ghost use Rattle.forest_states.specs.inner.Tables.{pick_entry};
 ghost use Rattle.forest_states.specs.inner.Walked.{entry_of, entry_at, after, met, entries_of, kept_of, goes_to};
 
 use crate::entries::{Entry, Table};
 use crate::marks::{clause_of, goes_to, is_marked};
+use crate::picks::Picks;
 use clause_encoder::Cnf;
 use std::alloc::{AllocError, Global};
 
@@ -121,28 +121,18 @@ pub(crate) fn find_picks(
     places: &[u32],
     tree: u32,
     numbers: &[u32],
-) -> Result<(Table, Vec<u32>), AllocError>
-    ensures table { IfOk result (λ r. r.0 ≡ map pick_entry (map (goes_to cnf.now.clauses trees seen.now places.now tree) numbers.now)) }
+) -> Result<(Picks, Vec<u32>), AllocError>
+    ensures picks { IfOk result (λ r. r.0 ≡ map (goes_to cnf.now.clauses trees seen.now places.now tree) numbers.now) }
     ensures kept { IfOk result (λ r. r.1.items ≡ filter (goes_to cnf.now.clauses trees seen.now places.now tree) numbers.now) }
 {
-    let mut table = Table::new(alloc, 0)?;
+    let mut picks = Picks::new(alloc);
     let mut kept = Vec::with_capacity(alloc, numbers.len())?;
     for number in numbers {
         let is_picked = goes_to(cnf, trees, seen, places, tree, *number);
         if is_picked {
             kept.push(*number)?;
         }
-        table.push(pick_entry(is_picked))?;
+        picks.push(is_picked)?;
     }
-    Ok((table, kept))
-}
-
-fn pick_entry(is_picked: bool) -> Entry
-    ensures { result ≡ pick_entry is_picked }
-{
-    if is_picked {
-        Entry::plain()
-    } else {
-        Entry::gone()
-    }
+    Ok((picks, kept))
 }

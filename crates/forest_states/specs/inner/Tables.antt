@@ -2,6 +2,7 @@
 use Rattle.std.specs.Prelude.{ℕ, Bool, true, false, not, ◌||◌, List, [], ◌∷◌, ◌++◌, replicate}
 use Rattle.forest_states.specs.declared.entries.Entry.{Entry}
 use Rattle.forest_states.specs.declared.entries.Event.{Event}
+use Rattle.forest_states.specs.declared.picks.Run.{Run}
 
 abbrev pub true_at : Entry → Bool → Bool
 true_at e false = e.true_at_0
@@ -14,16 +15,15 @@ plain = record { fresh = false; true_at_0 = false; true_at_1 = false; ends = fal
 abbrev pub is_plain : Entry → Bool
 is_plain e = not (((e.fresh || e.true_at_0) || e.true_at_1) || e.ends)
 
--- to a clause that is left out without a trace
-abbrev pub gone : Entry
-gone = record { fresh = false; true_at_0 = true; true_at_1 = true; ends = true }
-
 -- Before each event so many clauses stay as they are, and so many after the last one.
 abbrev pub spread : List Event → ℕ → List Entry
 spread [] rest = replicate rest plain
 spread (e ∷ events) rest = replicate e.run plain ++ (e.entry ∷ spread events rest)
 
--- what picks the clauses that are flagged
-abbrev pub pick_entry : Bool → Entry
-pick_entry false = gone
-pick_entry true = plain
+-- what runs flag
+abbrev pub flag_run : Run → List Bool
+flag_run r = replicate r.others false ++ replicate r.count true
+
+abbrev pub flags_in : List Run → Run → List Bool
+flags_in [] last = flag_run last
+flags_in (r ∷ runs) last = flag_run r ++ flags_in runs last

@@ -1,7 +1,6 @@
 -- A way down a forest as the lists of bits of the open clauses see it. Only private contracts cite it.
 use Rattle.std.specs.Prelude.{ℕ, ◌+◌, ◌-◌, ◌*◌, ◌==◌, Bool, true, false, not, ◌&&◌, ◌||◌, List, [], ◌∷◌, ◌++◌, map, length, nat_lt, slice_set, slice_index_or, drop, option_map, is_some, Option, Some, None, option_to_list, if◌then◌else◌}
 use Rattle.std.specs.List.{filter, flat_map, list_any, list_all, position_or_len, prefix_len, take_while, range_with_len}
-use Rattle.std.specs.Option.{unwrap_or}
 use Rattle.indexmap.specs.IndexSet.{insert_key}
 use Rattle.state_rules.specs.Bits.{bit_in}
 use Rattle.clause_encoder.specs.Clauses.{Clause, var_of}
@@ -39,10 +38,6 @@ walked bit (e ∷ table) state =
 abbrev pub picked : List Bool → List Bool → List Bool
 picked [] state = []
 picked (f ∷ flags) state = if f then first_bit state ∷ picked flags (other_bits state) else picked flags (other_bits state)
-
--- what a table picks of a state
-abbrev pub picked_by : List Entry → List Bool → List Bool
-picked_by table state = unwrap_or (walked false table state) []
 
 -- ---- the states of a place
 

@@ -46,8 +46,8 @@ with_bits-bits-requires c = omega (arith, told-all c.args.events.now c.args.rest
 pub overflow_add-len-2 : goal.overflow_add-len-2
 overflow_add-len-2 c = omega (arith, told-all c.args.events.now c.args.rest c.loop-event.event-index c.loop-event-test.false, c.requires.few, c.loop-event.invariant.short)
 
-pub list_of-requires-clause-few : goal.list_of-requires-clause-few
-list_of-requires-clause-few c = omega (arith, told-all c.args.events.now c.args.rest c.loop-event.event-index c.loop-event-test.false, c.requires.few, c.loop-event.invariant.short)
+pub of_word-requires-clause-few : goal.of_word-requires-clause-few
+of_word-requires-clause-few c = omega (arith, told-all c.args.events.now c.args.rest c.loop-event.event-index c.loop-event-test.false, c.requires.few, c.loop-event.invariant.short)
 
 pub loop-event-init : goal.loop-event-init
 loop-event-init c =
@@ -117,8 +117,8 @@ loop-event-preserved c =
       }
     ]
 
-pub list_of-requires-clause-row : goal.list_of-requires-clause-row
-list_of-requires-clause-row c =
+pub of_word-requires-clause-word : goal.of_word-requires-clause-word
+of_word-requires-clause-word c =
     let it = c.loop-event.invariant.left in
     let long = length-copied c.args.rest it.1 in (
       it.0 ++ copied c.args.rest it.1,
@@ -132,7 +132,7 @@ pub returns : goal.returns
 returns c =
     let it = c.loop-event.invariant.left in
     let long = length-copied c.args.rest it.1 in
-    ap (λ bits. Some bits) (c.in_ok-list_of.ensures (it.0 ++ copied c.args.rest it.1)
+    ap (λ bits. Some bits) (c.in_ok-of_word.ensures (it.0 ++ copied c.args.rest it.1)
     (omega (arith, length-append it.0 (copied c.args.rest it.1), long, it.2))
     (c.with_bits-bits.ensures it.0 (copied c.args.rest it.1) it.2 (omega (arith, long, told-all c.args.events.now c.args.rest c.loop-event.event-index c.loop-event-test.false, c.requires.few, c.loop-event.invariant.short)) it.3 (c.first_bits-2.ensures it.1 it.4)))
     ∙ ap (behind it.0) (sym (ap (λ xs. walked c.args.bit (spread xs c.args.rest) it.1) (drop_all c.loop-event.event-index c.args.events.now c.loop-event-test.false) ∙ walked-rest c.args.bit c.args.rest it.1))

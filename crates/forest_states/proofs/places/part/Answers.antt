@@ -1,14 +1,14 @@
 use Rattle.std.proofs.Common.{◌++◌, [], ◌∷◌, List, Bool, Some, ap, ◌∙◌, arith}
 use Rattle.std.specs.List.{position_or_len}
 use Rattle.forest_states.specs.inner.BitLists.{is_same}
-use Rattle.forest_states.specs.inner.Walked.{joined, picked_by, parts_by}
+use Rattle.forest_states.specs.inner.Walked.{joined, picked, parts_by}
 use Rattle.forest_states.proofs.Sets.{part-place, part-joined, mapped-more, item-at}
 use Rattle.forest_states.proofs.places.part.Goals as goal
 
 pub loop-state-preserved : goal.loop-state-preserved
 loop-state-preserved c =
     let states = c.args.states.now.keys in
-    let f = picked_by c.args.picks.now in
+    let f = picked c.args.picks.now in
     let k = c.loop-state.state-index in
     let s = c.state-item.result in
     let at = item-at c.as_slice-state-items.result.now states k s c.as_slice-state-items.ensures.keys c.loop-state-test.true c.state-item.is in

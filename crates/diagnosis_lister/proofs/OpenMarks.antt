@@ -2,7 +2,8 @@
 use Rattle.std.proofs.Common.{◌≡◌, ◌≢◌, ℕ, zero, suc, ◌+◌, ◌%◌, ◌<◌, ◌≤◌, Bool, true, false, not, cond, List, [], ◌∷◌, map, length, get_or, All, refl, ap, sym, ◌∙◌, subst, arith, ⊎_elim}
 use Rattle.std.specs.Prelude.{◌==◌, nat_le, if◌then◌else◌}
 use Rattle.std.proofs.Math.ListN.{length-map}
-use Rattle.std.proofs.lemmas.Bool.{cases_lt, eqb-true, leb-true, le-leb}
+use Rattle.std.proofs.lemmas.Bool.{cases_lt, eqb-true, eq-eqb, leb-true, le-leb}
+use Rattle.state_rules.specs.Bits.{bit_in}
 use Rattle.std.proofs.lemmas.Grind.{same_number_lists}
 use Rattle.std.proofs.lemmas.List.{get_or_default}
 use Rattle.conditioner.specs.Words.{bits_of}
@@ -79,3 +80,37 @@ written-small new fixed e k d h = subst (λ n. n < 2) (sym (get_or_default new k
 
 pub length-bits : (state : List ℕ) → length (bits_of state) ≡ length state
 length-bits state = length-map state (λ s. s == 0)
+
+-- ---- what a mark says
+
+pub bit_in-marked : (marks : List ℕ) (i : ℕ) → i < length marks → bit_in (marked_bits marks) i ≡ (get_or marks i 0 % 2 == 0)
+bit_in-marked [] i h = absurd (omega arith)
+bit_in-marked (m ∷ marks) zero h = refl
+bit_in-marked (m ∷ marks) (suc i) h = bit_in-marked marks i (omega arith)
+
+pub length-marked : (marks : List ℕ) → length (marked_bits marks) ≡ length marks
+length-marked marks = length-map marks (λ mark. mark % 2 == 0)
+
+-- a mark that is odd says faulty
+pub marked-odd : (marks : List ℕ) (i : ℕ) → i < length marks → get_or marks i 0 % 2 ≡ 1 → bit_in (marked_bits marks) i ≡ false
+marked-odd marks i h e = bit_in-marked marks i h ∙ (λ j. e j == 0)
+
+pub marked-even : (marks : List ℕ) (i : ℕ) → i < length marks → get_or marks i 0 % 2 ≢ 1 → bit_in (marked_bits marks) i ≡ true
+marked-even marks i h ne =
+    let even : get_or marks i 0 % 2 ≡ 0 = omega (arith, half (get_or marks i 0)) in bit_in-marked marks i h ∙ (λ j. even j == 0) where
+      half : (n : ℕ) → n % 2 < 2
+      half n = omega arith
+
+pub marked-open : (words marks : List ℕ) (i : ℕ) → AreMarks words marks → i < length marks → 2 ≤ get_or marks i 0 → get_or words i 0 ≡ 0
+marked-open words marks i are h m = eqb-true _ _ (sym (are i h) ∙ grind arith)
+
+pub unmarked-held : (words marks : List ℕ) (i : ℕ) → AreMarks words marks → i < length marks → get_or marks i 0 < 2 → get_or words i 0 ≢ 0
+unmarked-held words marks i are h m e = let t : nat_le 2 (get_or marks i 0) ≡ true = are i h ∙ eq-eqb (get_or words i 0) 0 e in let g : 2 ≤ get_or marks i 0 = leb-true _ _ t in omega arith
+
+-- the word that a part had: 0 where it is marked, and otherwise what it is
+pub word-marked : (old words marks : List ℕ) (i word : ℕ) → AreMarks old marks → i < length marks → word ≡ 0 → 2 ≤ get_or marks i 0 → word ≡ get_or old i 0
+word-marked old words marks i word are h e m = e ∙ sym (marked-open old marks i are h m)
+
+pub word-unmarked : (old words marks : List ℕ) (i word : ℕ) → AreMarks old marks → i < length marks → ((k : ℕ) → get_or old k 0 ≢ 0 → get_or words k 0 ≡ get_or old k 0) → word ≡ get_or words i 0 → get_or marks i 0 < 2
+    → word ≡ get_or old i 0
+word-unmarked old words marks i word are h kept e m = e ∙ kept i (unmarked-held old marks i are h m)

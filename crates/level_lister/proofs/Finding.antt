@@ -5,8 +5,8 @@ use Rattle.std.proofs.lemmas.Bool.{cases_order, and_parts, and_from, or_cases, o
 use Rattle.state_rules.specs.Ranking.{cost, is_before}
 use Rattle.state_rules.specs.Graphs.{Graph}
 use Rattle.state_rules.specs.Levels.{is_level_before}
-use Rattle.diagnosis_lister.specs.inner.Fixing.{IsFirst}
-use Rattle.level_lister.specs.inner.Searching.{OfCost, HasCost, NoneAfter, IsListed, IsFirstLevel, Finds, is_later}
+use Rattle.diagnosis_lister.specs.inner.Fixing.{IsFirst, NoneAfter}
+use Rattle.level_lister.specs.inner.Searching.{OfCost, HasCost, IsListed, IsFirstLevel, Finds, is_later}
 
 module _ (costs : List ℕ) (h k : List Bool) where
   pub cheaper-before : cost costs h < cost costs k → is_level_before costs h k ≡ true
@@ -56,7 +56,7 @@ module _ (graph : Graph) (words costs : List ℕ) (top : ℕ) where
   }
 
   -- where there is none, the later ones are those that cost more
-  pub later-dearer : (point : List Bool) → NoneAfter graph words costs (cost costs point) point 0 → (h : List Bool) → Later point h → IsListed graph words costs (cost costs point + 1) top h
+  pub later-dearer : (point : List Bool) → NoneAfter (OfCost graph words costs (cost costs point)) point 0 → (h : List Bool) → Later point h → IsListed graph words costs (cost costs point + 1) top h
   later-dearer point none h l = record {
     long = l.0.long;
     model = l.0.model;

@@ -2,10 +2,10 @@
 ghost use Rattle.std.specs.Prelude.{◌≡◌, ◌≢◌, ◌↔◌, ℕ, ◌+◌, ◌*◌, ◌<◌, ◌≤◌, true, length, All, IsTrue, MatchOption, slice_index};
 ghost use Rattle.conditioner.specs.Words.{bits_of};
 ghost use Rattle.diagnosis_lister.specs.Listing.{fault_count};
-ghost use Rattle.diagnosis_lister.specs.inner.Fixing.{IsFirst, fixed_bits};
+ghost use Rattle.diagnosis_lister.specs.inner.Fixing.{IsFirst, NoneAfter, Leaves, fixed_bits};
 ghost use Rattle.level_lister.specs.Listing.{cost_words};
 ghost use Rattle.level_lister.specs.Passes.{AreEnough, fixing_passes};
-ghost use Rattle.level_lister.specs.inner.Searching.{OfCost, HasCost, NoneAfter, Leaves};
+ghost use Rattle.level_lister.specs.inner.Searching.{OfCost, HasCost};
 ghost use Rattle.level_lister.specs.inner.Skips.{IsEnough};
 
 use crate::pairs::{Groups, has_bit};
@@ -277,8 +277,8 @@ impl Search<'_> {
         requires cost { cost ≤ self.now.levels.now.top }
         ensures words { All (λ w. w < 3) words.new }
         ensures left { MatchOption result
-            ((words.new ≡ words.old) × NoneAfter self.now.graph.now words.old self.now.levels.now.costs cost (bits_of state.now) 0)
-            (λ part. Leaves self.now.graph.now words.old self.now.levels.now.costs cost (bits_of state.now) words.new part) }
+            ((words.new ≡ words.old) × NoneAfter (OfCost self.now.graph.now words.old self.now.levels.now.costs cost) (bits_of state.now) 0)
+            (λ part. Leaves (λ ws h. OfCost self.now.graph.now ws self.now.levels.now.costs cost h) words.old (bits_of state.now) words.new part) }
         ensures steps { steps.new ≤ steps.old + fault_count (bits_of state.now) }
     {
         let end = follow(words, state);

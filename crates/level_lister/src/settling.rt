@@ -9,7 +9,7 @@ ghost use Rattle.level_lister.specs.inner.Searching.{OfCost, HasCost};
 ghost use Rattle.level_lister.specs.inner.Skips.{IsEnough};
 
 use crate::pairs::{Groups, has_bit};
-use crate::search::Search;
+use crate::search::{Asked, Search};
 use crate::states::follow;
 use conditioner::{fix_ok, is_false, is_faulty, is_open};
 use minimiser::Steps;
@@ -22,7 +22,7 @@ const NO_GROUPS: Groups = Groups {
     size: 1,
 };
 
-impl Search<'_> {
+impl Asked<'_> {
     // Whether two words a node are there, where two words tell all that is listed of a node.
     fn has_pairs(&self, work: &[u32]) -> bool
         ensures few { result ≡ true → self.now.levels.now.top < 32 }
@@ -34,98 +34,81 @@ impl Search<'_> {
     // Whether some state that agrees with the words has this cost. It takes one pass.
     fn reaches<L: Ledger>(
         &self,
-        words: &[u32],
         work: &mut [u32],
         cost: u32,
         steps: &mut Steps<L>,
     ) -> bool
-        requires long { length words.now ≡ self.now.graph.now.vars }
-        requires words { All (λ w. w < 3) words.now }
-        requires enough { IsEnough self.now.graph.now self.now.skips.now words.now self.now.levels.now.costs self.now.levels.now.top }
         requires work { (length self.now.graph.now.nodes + 2) * cost_words self.now.levels.now.top ≤ length work.old }
         requires cost { cost ≤ self.now.levels.now.top }
-        ensures reached { IsTrue result ↔ HasCost self.now.graph.now words.now self.now.levels.now.costs cost }
+        ensures reached { IsTrue result ↔ HasCost self.now.graph.now self.now.words.now self.now.levels.now.costs cost }
         ensures steps { steps.new ≡ steps.old + 1 }
     {
         steps.tick();
         if self.has_pairs(work) {
-            self.reaches_by_pairs(words, work, cost)
+            self.reaches_by_pairs(work, cost)
         } else {
-            self.reaches_by_sets(words, work, cost)
+            self.reaches_by_sets(work, cost)
         }
     }
 
-    fn reaches_by_pairs(&self, words: &[u32], work: &mut [u32], cost: u32) -> bool
-        requires long { length words.now ≡ self.now.graph.now.vars }
-        requires words { All (λ w. w < 3) words.now }
-        requires enough { IsEnough self.now.graph.now self.now.skips.now words.now self.now.levels.now.costs self.now.levels.now.top }
+    fn reaches_by_pairs(&self, work: &mut [u32], cost: u32) -> bool
         requires top { self.now.levels.now.top < 32 }
         requires work { 2 * length self.now.graph.now.nodes ≤ length work.old }
         requires cost { cost ≤ self.now.levels.now.top }
-        ensures { IsTrue result ↔ HasCost self.now.graph.now words.now self.now.levels.now.costs cost }
+        ensures { IsTrue result ↔ HasCost self.now.graph.now self.now.words.now self.now.levels.now.costs cost }
     {
         // Its contract says that this is a graph.
         let _vars = self.graph.vars();
-        let pair = self.put_pairs(words, NO_GROUPS, work);
+        let pair = self.put_pairs(NO_GROUPS, work);
         has_bit(pair.costs, cost)
     }
 
-    fn reaches_by_sets(&self, words: &[u32], work: &mut [u32], cost: u32) -> bool
-        requires long { length words.now ≡ self.now.graph.now.vars }
-        requires words { All (λ w. w < 3) words.now }
-        requires enough { IsEnough self.now.graph.now self.now.skips.now words.now self.now.levels.now.costs self.now.levels.now.top }
+    fn reaches_by_sets(&self, work: &mut [u32], cost: u32) -> bool
         requires work { (length self.now.graph.now.nodes + 2) * cost_words self.now.levels.now.top ≤ length work.old }
         requires cost { cost ≤ self.now.levels.now.top }
-        ensures { IsTrue result ↔ HasCost self.now.graph.now words.now self.now.levels.now.costs cost }
+        ensures { IsTrue result ↔ HasCost self.now.graph.now self.now.words.now self.now.levels.now.costs cost }
     {
         let size = self.levels.size();
         let (sets, rest) = work.split_at_mut(self.graph.len() as usize * size);
         let (whole, rest) = rest.split_at_mut(size);
         let (spare, _) = rest.split_at_mut(size);
-        self.put_whole(words, sets, whole, spare);
+        self.put_whole(sets, whole, spare);
         has_number(whole, cost as usize)
     }
 
     // The least cost from one on up to the greatest that some state has which agrees with the words. It takes one pass.
     pub(crate) fn next_cost<L: Ledger>(
         &self,
-        words: &[u32],
         work: &mut [u32],
         from: u32,
         steps: &mut Steps<L>,
     ) -> Option<u32>
-        requires long { length words.now ≡ self.now.graph.now.vars }
-        requires words { All (λ w. w < 3) words.now }
-        requires enough { IsEnough self.now.graph.now self.now.skips.now words.now self.now.levels.now.costs self.now.levels.now.top }
         requires work { (length self.now.graph.now.nodes + 2) * cost_words self.now.levels.now.top ≤ length work.old }
         ensures next { MatchOption result
-            ((c : ℕ) → from ≤ c → c ≤ self.now.levels.now.top → HasCost self.now.graph.now words.now self.now.levels.now.costs c → ⊥)
-            (λ cost. (from ≤ cost) × (cost ≤ self.now.levels.now.top) × HasCost self.now.graph.now words.now self.now.levels.now.costs cost
-            × ((c : ℕ) → from ≤ c → c < cost → HasCost self.now.graph.now words.now self.now.levels.now.costs c → ⊥)) }
+            ((c : ℕ) → from ≤ c → c ≤ self.now.levels.now.top → HasCost self.now.graph.now self.now.words.now self.now.levels.now.costs c → ⊥)
+            (λ cost. (from ≤ cost) × (cost ≤ self.now.levels.now.top) × HasCost self.now.graph.now self.now.words.now self.now.levels.now.costs cost
+            × ((c : ℕ) → from ≤ c → c < cost → HasCost self.now.graph.now self.now.words.now self.now.levels.now.costs c → ⊥)) }
         ensures steps { steps.new ≡ steps.old + 1 }
     {
         steps.tick();
         if self.has_pairs(work) {
-            self.next_by_pairs(words, work, from)
+            self.next_by_pairs(work, from)
         } else {
-            self.next_by_sets(words, work, from)
+            self.next_by_sets(work, from)
         }
     }
 
-    fn next_by_pairs(&self, words: &[u32], work: &mut [u32], from: u32) -> Option<u32>
-        requires long { length words.now ≡ self.now.graph.now.vars }
-        requires words { All (λ w. w < 3) words.now }
-        requires enough { IsEnough self.now.graph.now self.now.skips.now words.now self.now.levels.now.costs self.now.levels.now.top }
+    fn next_by_pairs(&self, work: &mut [u32], from: u32) -> Option<u32>
         requires top { self.now.levels.now.top < 32 }
         requires work { 2 * length self.now.graph.now.nodes ≤ length work.old }
         ensures { MatchOption result
-            ((c : ℕ) → from ≤ c → c ≤ self.now.levels.now.top → HasCost self.now.graph.now words.now self.now.levels.now.costs c → ⊥)
-            (λ cost. (from ≤ cost) × (cost ≤ self.now.levels.now.top) × HasCost self.now.graph.now words.now self.now.levels.now.costs cost
-            × ((c : ℕ) → from ≤ c → c < cost → HasCost self.now.graph.now words.now self.now.levels.now.costs c → ⊥)) }
+            ((c : ℕ) → from ≤ c → c ≤ self.now.levels.now.top → HasCost self.now.graph.now self.now.words.now self.now.levels.now.costs c → ⊥)
+            (λ cost. (from ≤ cost) × (cost ≤ self.now.levels.now.top) × HasCost self.now.graph.now self.now.words.now self.now.levels.now.costs cost
+            × ((c : ℕ) → from ≤ c → c < cost → HasCost self.now.graph.now self.now.words.now self.now.levels.now.costs c → ⊥)) }
     {
         // Its contract says that this is a graph.
         let _vars = self.graph.vars();
-        let pair = self.put_pairs(words, NO_GROUPS, work);
+        let pair = self.put_pairs(NO_GROUPS, work);
         for cost in from..self.levels.top() + 1 {
             if has_bit(pair.costs, cost) {
                 return Some(cost);
@@ -134,21 +117,18 @@ impl Search<'_> {
         None
     }
 
-    fn next_by_sets(&self, words: &[u32], work: &mut [u32], from: u32) -> Option<u32>
-        requires long { length words.now ≡ self.now.graph.now.vars }
-        requires words { All (λ w. w < 3) words.now }
-        requires enough { IsEnough self.now.graph.now self.now.skips.now words.now self.now.levels.now.costs self.now.levels.now.top }
+    fn next_by_sets(&self, work: &mut [u32], from: u32) -> Option<u32>
         requires work { (length self.now.graph.now.nodes + 2) * cost_words self.now.levels.now.top ≤ length work.old }
         ensures { MatchOption result
-            ((c : ℕ) → from ≤ c → c ≤ self.now.levels.now.top → HasCost self.now.graph.now words.now self.now.levels.now.costs c → ⊥)
-            (λ cost. (from ≤ cost) × (cost ≤ self.now.levels.now.top) × HasCost self.now.graph.now words.now self.now.levels.now.costs cost
-            × ((c : ℕ) → from ≤ c → c < cost → HasCost self.now.graph.now words.now self.now.levels.now.costs c → ⊥)) }
+            ((c : ℕ) → from ≤ c → c ≤ self.now.levels.now.top → HasCost self.now.graph.now self.now.words.now self.now.levels.now.costs c → ⊥)
+            (λ cost. (from ≤ cost) × (cost ≤ self.now.levels.now.top) × HasCost self.now.graph.now self.now.words.now self.now.levels.now.costs cost
+            × ((c : ℕ) → from ≤ c → c < cost → HasCost self.now.graph.now self.now.words.now self.now.levels.now.costs c → ⊥)) }
     {
         let size = self.levels.size();
         let (sets, rest) = work.split_at_mut(self.graph.len() as usize * size);
         let (whole, rest) = rest.split_at_mut(size);
         let (spare, _) = rest.split_at_mut(size);
-        self.put_whole(words, sets, whole, spare);
+        self.put_whole(sets, whole, spare);
         for cost in from..self.levels.top() + 1 {
             if has_number(whole, cost as usize) {
                 return Some(cost);
@@ -156,7 +136,9 @@ impl Search<'_> {
         }
         None
     }
+}
 
+impl Search<'_> {
     // Fixes each open part from one on, so that only the first of the states of this cost is left that agree with the words.
     pub(crate) fn settle<L: Ledger>(
         &self,
@@ -216,7 +198,14 @@ impl Search<'_> {
             + fixing_passes search (fixed_bits (length self.now.levels.now.costs) words.new) }
     {
         let mut from = from;
-        while let Some(part) = self.first_faulty(words, work, cost, from, steps) {
+        while let Some(part) = (Asked {
+            levels: self.levels,
+            graph: self.graph,
+            skips: self.skips,
+            words,
+        })
+            .first_faulty(work, cost, from, steps)
+        {
             fix_ok(words, from, part);
             words[part] = 2;
             from = part + 1;
@@ -249,7 +238,13 @@ impl Search<'_> {
         for part in from..self.levels.costs().len() {
             if is_open(words[part]) {
                 words[part] = 2;
-                if !self.reaches(words, work, cost, steps) {
+                let asked = Asked {
+                    levels: self.levels,
+                    graph: self.graph,
+                    skips: self.skips,
+                    words,
+                };
+                if !asked.reaches(work, cost, steps) {
                     words[part] = 1;
                 }
             }
@@ -286,7 +281,13 @@ impl Search<'_> {
             let word = saved[part];
             if is_faulty(state[part]) && !is_false(word) {
                 words[part] = 1;
-                if self.reaches(words, work, cost, steps) {
+                let asked = Asked {
+                    levels: self.levels,
+                    graph: self.graph,
+                    skips: self.skips,
+                    words,
+                };
+                if asked.reaches(work, cost, steps) {
                     return Some(part);
                 }
             }

@@ -1,5 +1,6 @@
 use Rattle.std.proofs.Common.{◌≡◌, ◌≢◌, ◌+◌, ◌-◌, ◌<◌, ◌≤◌, ℕ, List, true, drop, length, get_or, set, All, sym, ◌∙◌, ap, subst, arith, inl, inr}
 use Rattle.std.specs.Prelude.{◌⊎◌}
+use Rattle.std.proofs.Math.ListN.{length-set}
 use Rattle.std.proofs.lemmas.Bool.{false≢true, eqb-true, eqb-false}
 use Rattle.std.proofs.lemmas.Grind.{same_number_lists}
 use Rattle.std.proofs.lemmas.List.{set-set}
@@ -27,8 +28,11 @@ loop-part-init g c = record {
   within = c.follow-end.ensures.within;
 }
 
-pub reaches-requires-clause-words : goal.reaches-requires-clause-words
-reaches-requires-clause-words g c = All-set (λ w. w < 3) c.loop-part.words (c.loop-part.part - 1) 1 (omega arith) c.loop-part.invariant.small
+pub invariant_of-asked-clause-long : goal.invariant_of-asked-clause-long
+invariant_of-asked-clause-long g c = length-set c.loop-part.words (c.loop-part.part - 1) 1 ∙ c.loop-part.auto.words ∙ c.follow-end.auto.words ∙ c.requires.long
+
+pub invariant_of-asked-clause-small : goal.invariant_of-asked-clause-small
+invariant_of-asked-clause-small g c = All-set (λ w. w < 3) c.loop-part.words (c.loop-part.part - 1) 1 (omega arith) c.loop-part.invariant.small
 
 pub returns-then-reaches-clause-words : goal.returns-then-reaches-clause-words
 returns-then-reaches-clause-words g c = All-set (λ w. w < 3) c.loop-part.words (c.loop-part.part - 1) 1 (omega arith) c.loop-part.invariant.small
@@ -114,8 +118,8 @@ returns-then-reaches-clause-steps g c =
 pub returns-clause-steps : goal.returns-clause-steps
 returns-clause-steps g c = omega (arith, c.loop-part.invariant.steps, faults-all (bits_of c.args.state.now) c.loop-part.part)
 
-pub reaches-requires-clause-enough : goal.reaches-requires-clause-enough
-reaches-requires-clause-enough g c =
+pub invariant_of-asked-clause-enough : goal.invariant_of-asked-clause-enough
+invariant_of-asked-clause-enough g c =
     let graph = c.args.self.now.graph.now in
     let costs = c.args.self.now.levels.now.costs in
     let old = c.args.words.now in

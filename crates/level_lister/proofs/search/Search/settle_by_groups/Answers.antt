@@ -78,5 +78,5 @@ returns-clause-steps g c search h =
       block-below (fault_count (fixed_bits (length costs) old)) (fault_count (fixed_bits (length costs) new) + 1) search (omega (arith, kept)),
     )
 
-pub first_faulty-requires-clause-enough : goal.first_faulty-requires-clause-enough
-first_faulty-requires-clause-enough g c = enough_more c.args.self.now.graph.now c.args.self.now.skips.now c.args.self.now.levels.now.costs c.args.self.now.levels.now.top c.args.words.now c.loop-part.words c.loop-part.invariant.settles.refines.kept c.requires.enough
+pub invariant_of-first_faulty-clause-enough : goal.invariant_of-first_faulty-clause-enough
+invariant_of-first_faulty-clause-enough g c = enough_more c.args.self.now.graph.now c.args.self.now.skips.now c.args.self.now.levels.now.costs c.args.self.now.levels.now.top c.args.words.now c.loop-part.words c.loop-part.invariant.settles.refines.kept c.requires.enough

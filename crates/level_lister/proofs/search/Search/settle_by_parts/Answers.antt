@@ -1,4 +1,5 @@
 use Rattle.std.proofs.Common.{◌≡◌, ◌+◌, ◌<◌, All, length, get_or, set, ap, sym, subst, refl, ◌∙◌, arith, lit<}
+use Rattle.std.proofs.Math.ListN.{length-set}
 use Rattle.std.proofs.lemmas.Bool.{false≢true, eqb-true, eqb-false}
 use Rattle.std.proofs.lemmas.List.{set-set}
 use Rattle.std.proofs.lemmas.List.Elements.{All-set}
@@ -11,8 +12,14 @@ use Rattle.level_lister.proofs.Skips.{enough_more}
 use Rattle.level_lister.proofs.search.Search.settle_by_parts.Goals as goal
 use Rattle.level_lister.proofs.search.Search.settle_by_parts.Goals.{then-is_open+then-not-reaches, then-is_open+else-not-reaches, else-is_open}
 
-pub reaches-requires-clause-enough : goal.reaches-requires-clause-enough
-reaches-requires-clause-enough g c =
+pub invariant_of-asked-clause-long : goal.invariant_of-asked-clause-long
+invariant_of-asked-clause-long g c = length-set c.loop-part.words c.loop-part.part 2 ∙ c.loop-part.auto.words ∙ c.requires.long
+
+pub invariant_of-asked-clause-small : goal.invariant_of-asked-clause-small
+invariant_of-asked-clause-small g c = All-set (λ w. w < 3) c.loop-part.words c.loop-part.part 2 (lit< tt) c.loop-part.invariant.small
+
+pub invariant_of-asked-clause-enough : goal.invariant_of-asked-clause-enough
+invariant_of-asked-clause-enough g c =
     let costs = c.args.self.now.levels.now.costs in
     let words = c.loop-part.words in
     let part = c.loop-part.part in

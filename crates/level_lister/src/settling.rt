@@ -3,12 +3,13 @@ ghost use Rattle.std.specs.Prelude.{◌≡◌, ◌≢◌, ◌↔◌, ℕ, ◌+�
 ghost use Rattle.conditioner.specs.Words.{bits_of};
 ghost use Rattle.diagnosis_lister.specs.Listing.{fault_count};
 ghost use Rattle.diagnosis_lister.specs.inner.Fixing.{IsFirst, NoneAfter, Leaves, fixed_bits};
+ghost use Rattle.part_sets.specs.Numbers.{has_number};
 ghost use Rattle.level_lister.specs.Listing.{cost_words};
 ghost use Rattle.level_lister.specs.Passes.{AreEnough, fixing_passes};
 ghost use Rattle.level_lister.specs.inner.Searching.{OfCost, HasCost};
 ghost use Rattle.level_lister.specs.inner.Skips.{IsEnough};
 
-use crate::pairs::{Groups, has_bit};
+use crate::pairs::Groups;
 use crate::search::{Asked, Search};
 use crate::states::follow;
 use conditioner::{fix_ok, is_false, is_faulty, is_open};
@@ -31,58 +32,41 @@ impl Asked<'_> {
         self.levels.top() < 32 && 2 * self.graph.len() as usize <= work.len()
     }
 
+    // Puts the set of the costs up to the greatest that the states have which agree with the words.
+    fn put_costs(&self, set: &mut [u32], work: &mut [u32])
+        requires set { length set.old ≡ cost_words self.now.levels.now.top }
+        requires work { (length self.now.graph.now.nodes + 1) * cost_words self.now.levels.now.top ≤ length work.old }
+        ensures { (c : ℕ) → c ≤ self.now.levels.now.top
+            → (IsTrue (has_number set.new c) ↔ HasCost self.now.graph.now self.now.words.now self.now.levels.now.costs c) }
+    {
+        // Its contract says that this is a graph.
+        let _vars = self.graph.vars();
+        if self.has_pairs(work) {
+            let pair = self.put_pairs(NO_GROUPS, work);
+            set[0] = pair.costs;
+            return;
+        }
+        let size = set.len();
+        let (sets, rest) = work.split_at_mut(self.graph.len() as usize * size);
+        let (spare, _) = rest.split_at_mut(size);
+        self.put_whole(sets, set, spare);
+    }
+
     // Whether some state that agrees with the words has this cost. It takes one pass.
-    fn reaches<L: Ledger>(
-        &self,
-        work: &mut [u32],
-        cost: u32,
-        steps: &mut Steps<L>,
-    ) -> bool
+    fn reaches<L: Ledger>(&self, work: &mut [u32], cost: u32, steps: &mut Steps<L>) -> bool
         requires work { (length self.now.graph.now.nodes + 2) * cost_words self.now.levels.now.top ≤ length work.old }
         requires cost { cost ≤ self.now.levels.now.top }
         ensures reached { IsTrue result ↔ HasCost self.now.graph.now self.now.words.now self.now.levels.now.costs cost }
         ensures steps { steps.new ≡ steps.old + 1 }
     {
         steps.tick();
-        if self.has_pairs(work) {
-            self.reaches_by_pairs(work, cost)
-        } else {
-            self.reaches_by_sets(work, cost)
-        }
-    }
-
-    fn reaches_by_pairs(&self, work: &mut [u32], cost: u32) -> bool
-        requires top { self.now.levels.now.top < 32 }
-        requires work { 2 * length self.now.graph.now.nodes ≤ length work.old }
-        requires cost { cost ≤ self.now.levels.now.top }
-        ensures { IsTrue result ↔ HasCost self.now.graph.now self.now.words.now self.now.levels.now.costs cost }
-    {
-        // Its contract says that this is a graph.
-        let _vars = self.graph.vars();
-        let pair = self.put_pairs(NO_GROUPS, work);
-        has_bit(pair.costs, cost)
-    }
-
-    fn reaches_by_sets(&self, work: &mut [u32], cost: u32) -> bool
-        requires work { (length self.now.graph.now.nodes + 2) * cost_words self.now.levels.now.top ≤ length work.old }
-        requires cost { cost ≤ self.now.levels.now.top }
-        ensures { IsTrue result ↔ HasCost self.now.graph.now self.now.words.now self.now.levels.now.costs cost }
-    {
-        let size = self.levels.size();
-        let (sets, rest) = work.split_at_mut(self.graph.len() as usize * size);
-        let (whole, rest) = rest.split_at_mut(size);
-        let (spare, _) = rest.split_at_mut(size);
-        self.put_whole(sets, whole, spare);
-        has_number(whole, cost as usize)
+        let (set, rest) = work.split_at_mut(self.levels.size());
+        self.put_costs(set, rest);
+        has_number(set, cost as usize)
     }
 
     // The least cost from one on up to the greatest that some state has which agrees with the words. It takes one pass.
-    pub(crate) fn next_cost<L: Ledger>(
-        &self,
-        work: &mut [u32],
-        from: u32,
-        steps: &mut Steps<L>,
-    ) -> Option<u32>
+    pub(crate) fn next_cost<L: Ledger>(&self, work: &mut [u32], from: u32, steps: &mut Steps<L>) -> Option<u32>
         requires work { (length self.now.graph.now.nodes + 2) * cost_words self.now.levels.now.top ≤ length work.old }
         ensures next { MatchOption result
             ((c : ℕ) → from ≤ c → c ≤ self.now.levels.now.top → HasCost self.now.graph.now self.now.words.now self.now.levels.now.costs c → ⊥)
@@ -91,46 +75,10 @@ impl Asked<'_> {
         ensures steps { steps.new ≡ steps.old + 1 }
     {
         steps.tick();
-        if self.has_pairs(work) {
-            self.next_by_pairs(work, from)
-        } else {
-            self.next_by_sets(work, from)
-        }
-    }
-
-    fn next_by_pairs(&self, work: &mut [u32], from: u32) -> Option<u32>
-        requires top { self.now.levels.now.top < 32 }
-        requires work { 2 * length self.now.graph.now.nodes ≤ length work.old }
-        ensures { MatchOption result
-            ((c : ℕ) → from ≤ c → c ≤ self.now.levels.now.top → HasCost self.now.graph.now self.now.words.now self.now.levels.now.costs c → ⊥)
-            (λ cost. (from ≤ cost) × (cost ≤ self.now.levels.now.top) × HasCost self.now.graph.now self.now.words.now self.now.levels.now.costs cost
-            × ((c : ℕ) → from ≤ c → c < cost → HasCost self.now.graph.now self.now.words.now self.now.levels.now.costs c → ⊥)) }
-    {
-        // Its contract says that this is a graph.
-        let _vars = self.graph.vars();
-        let pair = self.put_pairs(NO_GROUPS, work);
+        let (set, rest) = work.split_at_mut(self.levels.size());
+        self.put_costs(set, rest);
         for cost in from..self.levels.top() + 1 {
-            if has_bit(pair.costs, cost) {
-                return Some(cost);
-            }
-        }
-        None
-    }
-
-    fn next_by_sets(&self, work: &mut [u32], from: u32) -> Option<u32>
-        requires work { (length self.now.graph.now.nodes + 2) * cost_words self.now.levels.now.top ≤ length work.old }
-        ensures { MatchOption result
-            ((c : ℕ) → from ≤ c → c ≤ self.now.levels.now.top → HasCost self.now.graph.now self.now.words.now self.now.levels.now.costs c → ⊥)
-            (λ cost. (from ≤ cost) × (cost ≤ self.now.levels.now.top) × HasCost self.now.graph.now self.now.words.now self.now.levels.now.costs cost
-            × ((c : ℕ) → from ≤ c → c < cost → HasCost self.now.graph.now self.now.words.now self.now.levels.now.costs c → ⊥)) }
-    {
-        let size = self.levels.size();
-        let (sets, rest) = work.split_at_mut(self.graph.len() as usize * size);
-        let (whole, rest) = rest.split_at_mut(size);
-        let (spare, _) = rest.split_at_mut(size);
-        self.put_whole(sets, whole, spare);
-        for cost in from..self.levels.top() + 1 {
-            if has_number(whole, cost as usize) {
+            if has_number(set, cost as usize) {
                 return Some(cost);
             }
         }

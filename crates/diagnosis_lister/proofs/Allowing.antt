@@ -1,13 +1,12 @@
 -- States that words allow, as open parts are fixed.
-use Rattle.std.proofs.Common.{◌≡◌, ◌≢◌, ℕ, zero, suc, ◌+◌, ◌<◌, ◌≤◌, Bool, true, false, List, length, get_or, set, refl, ap, sym, ◌∙◌, subst, arith, ⊎_elim}
+use Rattle.std.proofs.Common.{◌≡◌, ◌≢◌, ℕ, ◌<◌, ◌≤◌, Bool, List, length, get_or, set, refl, ◌∙◌, subst, arith}
 use Rattle.std.proofs.Math.ListN.{length-set}
-use Rattle.std.proofs.lemmas.Bool.{cases_eq}
 use Rattle.std.proofs.lemmas.List.{get_or-set_same, get_or-set_other}
 use Rattle.state_rules.specs.Bits.{bit_in}
 use Rattle.state_rules.specs.Graphs.{Graph}
 use Rattle.conditioner.specs.Words.{word_of}
 use Rattle.minimiser.specs.LeastStates.{ModelWithin}
-use Rattle.minimiser.proofs.Models.{Agree, Agree-bit, Agree-same, Refines, ModelWithin-old, ModelWithin-new, ModelWithin-agrees}
+use Rattle.minimiser.proofs.Models.{Agree, Agree-bit, Refines, ModelWithin-old, ModelWithin-new, ModelWithin-agrees}
 
 -- Words allow states of so many parts that agree with them. Words that say more allow those that agree with these.
 pub record Allows (vars parts : ℕ) (P : List ℕ → List Bool → Type 0) : Type 0 where
@@ -32,24 +31,14 @@ pub Refines-start : (parts : ℕ) (words : List ℕ) → Refines parts words wor
 Refines-start parts words = record { long = refl; kept = λ k ne. refl; others = λ k g. refl }
 
 pub Refines-more : (parts : ℕ) (start old new : List ℕ) → Refines parts start old → Refines parts old new → Refines parts start new
-Refines-more parts start old new r q = record {
-  long = q.long ∙ r.long;
-  kept = λ k ne. q.kept k (λ e. ne (sym (r.kept k ne) ∙ e)) ∙ r.kept k ne;
-  others = λ k g. q.others k g ∙ r.others k g;
-}
+Refines-more parts start old new r q = grind arith
 
 pub Refines-set : (parts : ℕ) (old : List ℕ) (part word : ℕ) → part < parts → get_or old part 0 ≡ 0 → Refines parts old (set old part word)
-Refines-set parts old part word lt e = record {
-  long = length-set old part word;
-  kept = λ k ne. get_or-set_other old part k word 0 (λ q. ne (ap (λ i. get_or old i 0) q ∙ e));
-  others = λ k g. get_or-set_other old part k word 0 (λ q. absurd (omega arith));
-}
+Refines-set parts old part word lt e = grind (arith, length-set, get_or-set_other)
 
 -- bits that agree with one word that is fixed
 pub same_fixed : (word : ℕ) (x y : Bool) → word ≢ 0 → Agree word x → Agree word y → x ≡ y
-same_fixed zero x y ne a b = absurd (ne refl)
-same_fixed (suc zero) x y ne a b = Agree-bit true x a ∙ sym (Agree-bit true y b)
-same_fixed (suc (suc n)) x y ne a b = Agree-bit false x a ∙ sym (Agree-bit false y b)
+same_fixed word x y ne a b = grind arith
 
 -- the word of an open part is set to a bit
 module _ {vars parts : ℕ} {P : List ℕ → List Bool → Type 0} (allows : Allows vars parts P) (old : List ℕ) (part : ℕ) (b : Bool) (long : length old ≡ vars) (lt : part < parts) (free : get_or old part 0 ≡ 0) where
@@ -63,7 +52,4 @@ module _ {vars parts : ℕ} {P : List ℕ → List Bool → Type 0} (allows : Al
   set-old h p = allows.fewer long (Refines-set parts old part (word_of b) lt free) p
 
   pub set-new : (h : List Bool) → P old h → bit_in h part ≡ b → P (set old part (word_of b)) h
-  set-new h p e = allows.more long (Refines-set parts old part (word_of b) lt free) p (λ i g. ⊎_elim
-      (λ q. subst (λ j. Agree (get_or (set old part (word_of b)) j 0) (bit_in h j)) (sym q) (subst (λ w. Agree w (bit_in h part)) (sym here) (subst (λ c. Agree (word_of c) (bit_in h part)) e (Agree-same (bit_in h part)))))
-      (λ ne. subst (λ w. Agree w (bit_in h i)) (sym (get_or-set_other old part i (word_of b) 0 ne)) (allows.agrees long p i g))
-      (cases_eq i part))
+  set-new h p e = grind (arith, Refines-set, here, get_or-set_other)

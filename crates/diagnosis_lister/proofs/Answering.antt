@@ -1,5 +1,5 @@
 -- The first state of least cost, and the next.
-use Rattle.std.proofs.Common.{◌≡◌, ℕ, ◌≤◌, Bool, true, List, [], ◌∷◌, length, get_or, Some, None, refl, ap, sym, arith}
+use Rattle.std.proofs.Common.{◌≡◌, ℕ, ◌≤◌, Bool, true, List, [], length, get_or, Some, None, sym, arith}
 use Rattle.std.specs.List.{filter}
 use Rattle.state_rules.specs.Ranking.{cost, least, diagnoses, is_at_most, is_before, rest, states}
 use Rattle.state_rules.specs.Graphs.{Graph}
@@ -33,23 +33,19 @@ module _ (graph : Graph) (words costs : List ℕ) (most : ℕ) (e : LeastIs grap
   later-in point h l = In-filtered (is_before point) h ds (diagnosis-in graph words costs most e h l.0) l.1
 
   pub next-diagnosis : (point h d : List Bool) → IsFirst (Later point) h → h ≡ get_or (rest (diagnoses_under graph words costs) (Some point)) 0 d
-  next-diagnosis point h d is = sym (first-sorted (filter (is_before point) ds) h d (Sorted-filter (is_before point) ds sorted) (later-in point h is.meets)
-      (λ k m. let r = In-filter (is_before point) k ds m in is.before k (diagnosis-out graph words costs most e k r.0, r.1)))
+  next-diagnosis point h d is = grind (arith, first-sorted, Sorted-filter, sorted, later-in, In-filter, diagnosis-out)
 
   pub no-next : (point : List Bool) → NoneAfter (ModelWithin graph words costs most) point 0 → rest (diagnoses_under graph words costs) (Some point) ≡ []
   no-next point none = empty-none (filter (is_before point) ds) (λ h m. let r = In-filter (is_before point) h ds m in none h (diagnosis-out graph words costs most e h r.0) (λ i lt. absurd (omega arith)) r.1)
 
   some_model : (ms : List (List Bool)) → least costs ms ≡ Some most → (later : List (List Bool)) → later ≡ [] → step_of ms later ≡ End
-  some_model [] q later f = absurd (cc)
-  some_model (m ∷ ms) q later f = ap (step_of (m ∷ ms)) f
+  some_model ms q later f = grind arith
 
   pub step-end : (point : List Bool) → NoneAfter (ModelWithin graph words costs most) point 0 → End ≡ step_of (models graph words (length costs)) (rest (diagnoses_under graph words costs) (Some point))
   step-end point none = sym (some_model (models graph words (length costs)) e (rest (diagnoses_under graph words costs) (Some point)) (no-next point none))
 
   some_later : (ms : List (List Bool)) → least costs ms ≡ Some most → (h : List Bool) (later : List (List Bool)) → In h later → step_of ms later ≡ Found
-  some_later [] q h later m = absurd (cc)
-  some_later (s ∷ ms) q h [] m = absurd m
-  some_later (s ∷ ms) q h (d ∷ later) m = refl
+  some_later ms q h later m = grind arith
 
   pub step-found : (point h : List Bool) → IsFirst (Later point) h → Found ≡ step_of (models graph words (length costs)) (rest (diagnoses_under graph words costs) (Some point))
   step-found point h is = sym (some_later (models graph words (length costs)) e h (rest (diagnoses_under graph words costs) (Some point)) (later-in point h is.meets))

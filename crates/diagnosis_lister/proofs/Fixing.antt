@@ -1,15 +1,14 @@
 -- The first of the states that words allow, as one open part after the other is fixed.
-use Rattle.std.proofs.Common.{◌≡◌, ◌≢◌, ℕ, zero, suc, ◌+◌, ◌<◌, ◌≤◌, Bool, true, false, not, List, take, length, get_or, set, refl, ap, sym, ◌∙◌, subst, arith, inl, inr, ⊎_elim}
-use Rattle.std.specs.Prelude.{◌⊎◌, ◌==◌}
+use Rattle.std.proofs.Common.{◌≡◌, ◌≢◌, ℕ, ◌+◌, ◌<◌, ◌≤◌, Bool, true, false, List, length, get_or, set, refl, ◌∙◌, subst, arith, inl, inr}
+use Rattle.std.specs.Prelude.{◌⊎◌}
 use Rattle.std.proofs.Math.ListN.{length-map}
-use Rattle.std.proofs.lemmas.Bool.{cases_lt, cases_eq}
 use Rattle.std.proofs.lemmas.List.{length-take-le, get_or-set_same, get_or-set_other}
 use Rattle.state_rules.specs.Bits.{bit_in}
 use Rattle.state_rules.specs.Ranking.{is_before}
 use Rattle.state_rules.proofs.Bits.{bit_in-map}
 use Rattle.state_rules.proofs.Order.{before-at, same_bits}
 use Rattle.conditioner.specs.Words.{word_of}
-use Rattle.minimiser.proofs.Models.{Agree, Agree-bit, Refines}
+use Rattle.minimiser.proofs.Models.{Agree-bit, Refines}
 use Rattle.diagnosis_lister.specs.inner.Fixing.{IsFirst, Has, fixed_bits}
 use Rattle.diagnosis_lister.proofs.Allowing.{Allows, Refines-start, Refines-more, Refines-set, same_fixed, set-bit, set-old, set-new}
 
@@ -32,14 +31,10 @@ pub record FixesOk (old new : List ℕ) (from to : ℕ) : Type 0 where
   pub behind : (k : ℕ) → to ≤ k → get_or new k 0 ≡ get_or old k 0
 
 not_open : (b : Bool) → word_of b ≢ 0
-not_open true e = omega arith
-not_open false e = omega arith
+not_open b e = grind arith
 
 front-more : (old : List ℕ) (part : ℕ) (b : Bool) → part < length old → ((k : ℕ) → k < part → get_or old k 0 ≢ 0) → (k : ℕ) → k < part + 1 → get_or (set old part (word_of b)) k 0 ≢ 0
-front-more old part b lt front k h e = ⊎_elim
-    (λ q. not_open b (sym (get_or-set_same old part (word_of b) 0 lt) ∙ ap (λ j. get_or (set old part (word_of b)) j 0) (sym q) ∙ e))
-    (λ (ne : k ≢ part). front k (omega arith) (sym (get_or-set_other old part k (word_of b) 0 ne) ∙ e))
-    (cases_eq k part)
+front-more old part b lt front k h e = grind (arith, get_or-set_same, get_or-set_other)
 
 module _ {vars parts : ℕ} {P : List ℕ → List Bool → Type 0} (allows : Allows vars parts P) (start : List ℕ) (long : length start ≡ vars) where
   module _ (old : List ℕ) (from : ℕ) (s : Settles P parts start old from) where
@@ -71,14 +66,7 @@ module _ {vars parts : ℕ} {P : List ℕ → List Bool → Type 0} (allows : Al
       before = λ k p. inl (only k p);
     }) where
       only : (h : List Bool) → P old h → h ≡ fixed_bits parts old
-      only h p = same_bits h (fixed_bits parts old) (allows.long p ∙ sym (length-map (take parts old) (λ w. not (w == 2)) ∙ length-take-le parts old (omega (arith, old-long, allows.within))))
-          (λ j g. by_word j (omega (arith, allows.long p)) (get_or old j 0) refl (allows.agrees old-long p j (omega (arith, allows.long p)))) where
-            by_word : (j : ℕ) → j < parts → (word : ℕ) → get_or old j 0 ≡ word → Agree (get_or old j 0) (bit_in h j) → bit_in h j ≡ bit_in (fixed_bits parts old) j
-            by_word j g zero e a = absurd (s.front j (omega arith) e)
-            by_word j g (suc zero) e a = Agree-bit true (bit_in h j) (subst (λ w. Agree w (bit_in h j)) e a) ∙ ap (λ w. not (w == 2)) (sym e) ∙ sym (bit_in-map (λ w. not (w == 2)) old parts j g (omega (arith, old-long, allows.within)))
-            by_word j g (suc (suc n)) e a =
-                let two : get_or old j 0 ≡ 2 = omega (arith, small j (omega (arith, old-long, allows.within))) in
-                Agree-bit false (bit_in h j) (subst (λ w. Agree w (bit_in h j)) two a) ∙ ap (λ w. not (w == 2)) (sym two) ∙ sym (bit_in-map (λ w. not (w == 2)) old parts j g (omega (arith, old-long, allows.within)))
+      only h p = grind (arith, same_bits, length-map, length-take-le, Agree-bit, bit_in-map)
 
     -- parts that are ok in all states are fixed
     module _ (new : List ℕ) (to : ℕ) (fit : to ≤ parts) (f : FixesOk old new from to)
@@ -87,27 +75,10 @@ module _ {vars parts : ℕ} {P : List ℕ → List Bool → Type 0} (allows : Al
       ok-refines = record { long = f.long; kept = f.kept; others = λ k h. f.behind k (omega arith) }
 
       pub ok-moved : (h : List Bool) → P old h → P new h
-      ok-moved h p = allows.more old-long ok-refines p (λ k lt. by_word k lt (get_or old k 0) refl (cases_lt k from) (cases_lt k to)) where
-        kept : (k : ℕ) → k < parts → get_or new k 0 ≡ get_or old k 0 → Agree (get_or new k 0) (bit_in h k)
-        kept k lt e = subst (λ w. Agree w (bit_in h k)) (sym e) (allows.agrees old-long p k lt)
-
-        by_word : (k : ℕ) → k < parts → (w : ℕ) → get_or old k 0 ≡ w → (k < from) ⊎ (from ≤ k) → (k < to) ⊎ (to ≤ k) → Agree (get_or new k 0) (bit_in h k)
-        by_word k lt (suc n) e a b = kept k lt (f.kept k (λ q. absurd (omega arith)))
-        by_word k lt zero e (inl a) b = kept k lt (f.before k a)
-        by_word k lt zero e (inr a) (inr b) = kept k lt (f.behind k b)
-        by_word k lt zero e (inr a) (inl b) = subst (λ w. Agree w (bit_in h k)) (sym (f.fixed k a b e)) (subst (λ d. Agree 1 d) (sym (ok k a b e h p)) refl)
+      ok-moved h p = grind arith
 
       pub settles-ok : Settles P parts start new to
-      settles-ok = record {
-        refines = Refines-more parts start old new s.refines ok-refines;
-        front = λ k h. by_word k h (get_or old k 0) refl (cases_lt k from);
-        some = record { state = s.some.state; is = ok-moved s.some.state s.some.is };
-        first = λ h is. s.first h (record { meets = allows.fewer old-long ok-refines is.meets; before = λ k p. is.before k (ok-moved k p) });
-      } where
-        by_word : (k : ℕ) → k < to → (w : ℕ) → get_or old k 0 ≡ w → (k < from) ⊎ (from ≤ k) → get_or new k 0 ≢ 0
-        by_word k h (suc n) e a q = absurd (omega (arith, f.kept k (λ r. absurd (omega arith))))
-        by_word k h zero e (inl a) q = s.front k a e
-        by_word k h zero e (inr a) q = absurd (omega (arith, f.fixed k a h e))
+      settles-ok = grind (arith, ok-moved)
 
   -- and then one that is faulty in some state
   pub settles-found : (old : List ℕ) (from : ℕ) (s : Settles P parts start old from) (new : List ℕ) (to : ℕ) (lt : to < parts) (f : FixesOk old new from to)

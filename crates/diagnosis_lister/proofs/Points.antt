@@ -2,7 +2,7 @@
 use Rattle.std.proofs.Common.{◌≡◌, ◌≢◌, ℕ, ◌+◌, ◌<◌, ◌≤◌, Bool, true, false, List, length, get_or, set, refl, ap, sym, ◌∙◌, subst, arith, inr, ⊎_elim}
 use Rattle.std.specs.Prelude.{◌⊎◌}
 use Rattle.std.proofs.Math.ListN.{length-set}
-use Rattle.std.proofs.lemmas.Bool.{cases_lt, false≢true, cases_eq}
+use Rattle.std.proofs.lemmas.Bool.{cases_lt, cases_eq}
 use Rattle.std.proofs.lemmas.List.{get_or-set_same, get_or-set_other}
 use Rattle.state_rules.specs.Bits.{bit_in, AlikeBelow}
 use Rattle.state_rules.specs.Ranking.{is_before}
@@ -22,29 +22,10 @@ pub record FollowsTo (old : List ℕ) (point : List Bool) (new : List ℕ) (n : 
 
 pub FollowsTo-set : (old : List ℕ) (point : List Bool) (words new : List ℕ) (i word : ℕ) → i < length words → FollowsTo old point words i → word ≡ word_of (bit_in point i) → get_or old i 0 ≡ 0
     → new ≡ set words i word → FollowsTo old point new (i + 1)
-FollowsTo-set old point words new i word h f e open_ at = record {
-  front = λ k lt. ⊎_elim
-      (λ (p : k < i). apart k (λ q. absurd (omega arith)) ∙ f.front k p)
-      (λ (p : i ≤ k). let same : k ≡ i = omega arith in ap (λ j. get_or new j 0) same ∙ here ∙ e ∙ (λ j. word_of (bit_in point (sym same j))))
-      (cases_lt k i);
-  kept = λ k ne. apart k (λ q. ne (ap (λ j. get_or old j 0) q ∙ open_)) ∙ f.kept k ne;
-  behind = λ k g. apart k (λ q. absurd (omega arith)) ∙ f.behind k (omega arith);
-} where
-  here : get_or new i 0 ≡ word
-  here = ap (λ xs. get_or xs i 0) at ∙ get_or-set_same words i word 0 h
-
-  apart : (k : ℕ) → k ≢ i → get_or new k 0 ≡ get_or words k 0
-  apart k ne = ap (λ xs. get_or xs k 0) at ∙ get_or-set_other words i k word 0 ne
+FollowsTo-set old point words new i word h f e open_ at = grind (arith, get_or-set_same, get_or-set_other)
 
 pub FollowsTo-stay : (old : List ℕ) (point : List Bool) (words : List ℕ) (i : ℕ) → FollowsTo old point words i → get_or words i 0 ≡ word_of (bit_in point i) → FollowsTo old point words (i + 1)
-FollowsTo-stay old point words i f e = record {
-  front = λ k lt. ⊎_elim
-      (λ (p : k < i). f.front k p)
-      (λ (p : i ≤ k). let same : k ≡ i = omega arith in ap (λ j. get_or words j 0) same ∙ e ∙ (λ j. word_of (bit_in point (sym same j))))
-      (cases_lt k i);
-  kept = f.kept;
-  behind = λ k g. f.behind k (omega arith);
-}
+FollowsTo-stay old point words i f e = grind arith
 
 -- all parts are as the point has them
 pub Follows-all : (old : List ℕ) (point : List Bool) (new : List ℕ) (n : ℕ) → n ≡ length point → FollowsTo old point new n → Follows (Agrees n old) old point new n
@@ -58,48 +39,23 @@ Follows-all old point new n e f = record {
 
 -- ---- going back
 
-alike-more : (h k : List Bool) (n : ℕ) → AlikeBelow n h k → bit_in h n ≡ bit_in k n → AlikeBelow (n + 1) h k
-alike-more h k n a e i lt = ⊎_elim (λ p. a i p) (λ p. let same : i ≡ n = omega arith in ap (bit_in h) same ∙ e ∙ ap (bit_in k) (sym same)) (cases_lt i n)
-
 module _ {vars parts : ℕ} {P : List ℕ → List Bool → Type 0} (allows : Allows vars parts P) (old : List ℕ) (point : List Bool) (long : length old ≡ vars) (bits : length point ≡ parts) where
   pub follows-start : {words : List ℕ} {n : ℕ} → Follows (Agrees (length point) old) old point words n → Follows (P old) old point words n
-  follows-start f = record {
-    front = f.front;
-    kept = f.kept;
-    behind = f.behind;
-    none = λ h p alike b. f.none h (record { long = allows.long p ∙ sym bits; agrees = λ i lt. allows.agrees long p i (omega arith) }) alike b;
-  }
+  follows-start f = grind arith
 
   -- no later state leaves the point at a part, if none does that is ok there
   none-before : (j : ℕ) → j < parts → NoneAfter (P old) point (j + 1)
       → (bit_in point j ≡ false → (h : List Bool) → P old h → AlikeBelow j h point → bit_in h j ≡ true → ⊥) → NoneAfter (P old) point j
-  none-before j lt none left h p alike b = by_bits (bit_in point j) refl (bit_in h j) refl where
-    by_bits : (x : Bool) → bit_in point j ≡ x → (y : Bool) → bit_in h j ≡ y → ⊥
-    by_bits false e true f = left e h p alike f
-    by_bits false e false f = none h p (alike-more h point j alike (f ∙ sym e)) b
-    by_bits true e true f = none h p (alike-more h point j alike (f ∙ sym e)) b
-    by_bits true e false f = not_both_before point h b (before-at h point j (omega (arith, allows.long p)) (omega arith) alike f e)
+  none-before j lt none left h p alike b = grind (arith, not_both_before, before-at)
 
   module _ {words : List ℕ} {j : ℕ} (lt : j < parts) (same : length words ≡ length old) (f : Follows (P old) old point words (j + 1)) where
     -- the part's word is as it was again
     pub follows-back : (word : ℕ) → word ≡ get_or old j 0 → NoneAfter (P old) point j → Follows (P old) old point (set words j word) j
-    follows-back word e none = record {
-      front = λ k h. apart k (λ q. absurd (omega arith)) ∙ f.front k (omega arith);
-      kept = λ k ne. ⊎_elim (λ q. ap (λ i. get_or (set words j word) i 0) q ∙ here ∙ ap (λ i. get_or old i 0) (sym q)) (λ q. apart k q ∙ f.kept k ne) (cases_eq k j);
-      behind = λ k h. ⊎_elim (λ q. ap (λ i. get_or (set words j word) i 0) q ∙ here ∙ ap (λ i. get_or old i 0) (sym q)) (λ (q : k ≢ j). apart k q ∙ f.behind k (omega arith)) (cases_eq k j);
-      none = none;
-    } where
-      here : get_or (set words j word) j 0 ≡ get_or old j 0
-      here = get_or-set_same words j word 0 (omega (arith, allows.within)) ∙ e
-
-      apart : (k : ℕ) → k ≢ j → get_or (set words j word) k 0 ≡ get_or words k 0
-      apart k ne = get_or-set_other words j k word 0 ne
+    follows-back word e none = grind (arith, get_or-set_same, get_or-set_other)
 
     -- the part is ok or is held to be faulty
     pub none-held : (bit_in point j ≡ true) ⊎ (get_or old j 0 ≡ 2) → NoneAfter (P old) point j
-    none-held cases = none-before j lt f.none (λ e h p alike g. ⊎_elim
-        (λ q. false≢true (sym e ∙ q))
-        (λ q. false≢true (sym (Agree-bit false (bit_in h j) (subst (λ w. Agree w (bit_in h j)) q (allows.agrees long p j lt))) ∙ g)) cases)
+    none-held cases = none-before j lt f.none (λ e h p alike g. grind (arith, cases, allows.agrees long p j lt))
 
     -- the part is tried as ok
     module _ (few : get_or old j 0 < 3) (free : get_or old j 0 ≢ 2) where
@@ -110,11 +66,7 @@ module _ {vars parts : ℕ} {P : List ℕ → List Bool → Type 0} (allows : Al
       apart k ne = get_or-set_other words j k 1 0 ne
 
       pub tried-kept : (k : ℕ) → get_or old k 0 ≢ 0 → get_or (set words j 1) k 0 ≡ get_or old k 0
-      tried-kept k ne = ⊎_elim
-          (λ q. ap (λ i. get_or (set words j 1) i 0) q ∙ here ∙ one (get_or old j 0) few free (λ e. ne (ap (λ i. get_or old i 0) q ∙ e)) ∙ ap (λ i. get_or old i 0) (sym q))
-          (λ q. apart k q ∙ f.kept k ne) (cases_eq k j) where
-            one : (w : ℕ) → w < 3 → w ≢ 2 → w ≢ 0 → 1 ≡ w
-            one w h f g = omega arith
+      tried-kept k ne = grind (arith, here, apart)
 
       tried-behind : (k : ℕ) → j + 1 ≤ k → get_or (set words j 1) k 0 ≡ get_or old k 0
       tried-behind k h = apart k (λ q. absurd (omega arith)) ∙ f.behind k h
@@ -124,30 +76,13 @@ module _ {vars parts : ℕ} {P : List ℕ → List Bool → Type 0} (allows : Al
 
       -- a later state that leaves the point at the part agrees with the words that are tried
       tried : (h : List Bool) → P old h → AlikeBelow j h point → bit_in h j ≡ true → P (set words j 1) h
-      tried h p alike g = allows.more long tried-refines p (λ k in_ . ⊎_elim
-          (λ (q : k < j). subst (λ w. Agree w (bit_in h k)) (sym (apart k (λ e. absurd (omega arith)) ∙ f.front k (omega arith) ∙ ap word_of (sym (alike k q)))) (Agree-same (bit_in h k)))
-          (λ (q : j ≤ k). ⊎_elim
-          (λ e. subst (λ i. Agree (get_or (set words j 1) i 0) (bit_in h i)) (sym e) (subst (λ w. Agree w (bit_in h j)) (sym here) (subst (λ b. Agree 1 b) (sym g) refl)))
-          (λ (ne : k ≢ j). subst (λ w. Agree w (bit_in h k)) (sym (tried-behind k (omega arith))) (allows.agrees long p k in_))
-          (cases_eq k j))
-          (cases_lt k j))
+      tried h p alike g = grind (arith, tried-refines, apart, here)
 
       pub none-tried : (Has (P (set words j 1)) → ⊥) → NoneAfter (P old) point j
       none-tried failed = none-before j lt f.none (λ e h p alike g. failed (record { state = h; is = tried h p alike g }))
 
       pub leaves-tried : bit_in point j ≡ false → Has (P (set words j 1)) → Leaves P old point (set words j 1) j
-      leaves-tried e some = record {
-        within = omega arith;
-        faulty = e;
-        ok = here;
-        follows = record {
-          front = λ k h. apart k (λ q. absurd (omega arith)) ∙ f.front k h;
-          kept = tried-kept;
-          behind = tried-behind;
-          none = f.none;
-        };
-        some = some;
-      }
+      leaves-tried e some = grind (arith, here, apart)
 
   -- The first state under the words that leave the point is the first after the point.
   module _ {new : List ℕ} {part : ℕ} (same : length new ≡ length old) (l : Leaves P old point new part) where

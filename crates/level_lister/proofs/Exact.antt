@@ -1,6 +1,5 @@
 -- The states of one cost, as words say more.
-use Rattle.std.proofs.Common.{◌≡◌, ℕ, ◌≤◌, Bool, List, length, arith}
-use Rattle.state_rules.specs.Ranking.{cost}
+use Rattle.std.proofs.Common.{ℕ, ◌≤◌, Bool, List, length, arith}
 use Rattle.state_rules.specs.Graphs.{Graph}
 use Rattle.minimiser.specs.LeastStates.{ModelWithin}
 use Rattle.diagnosis_lister.proofs.Allowing.{Allows, allows-within}

@@ -278,10 +278,7 @@ impl PairPass<'_> {
         let mut pair = NEVER;
         for kid in self.graph.kids(at) {
             let own = pair_at(values, *kid as usize);
-            pair = either(
-                pair,
-                self.widened(own, *kid as usize, at as usize),
-            );
+            pair = either(pair, self.widened(own, *kid as usize, at as usize));
         }
         pair
     }

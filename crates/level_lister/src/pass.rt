@@ -1,5 +1,5 @@
 //! One pass over the nodes, which brings the set of the costs of each.
-ghost use Rattle.std.specs.Prelude.{◌≡◌, ◌≢◌, ℕ, ◌+◌, ◌*◌, ◌<◌, ◌≤◌, false, List, length, slice_index, All, ◌==◌, if◌then◌else◌};
+ghost use Rattle.std.specs.Prelude.{◌≡◌, ◌≢◌, ℕ, ◌+◌, ◌*◌, ◌<◌, ◌≤◌, false, List, length, slice_index, ◌==◌, if◌then◌else◌};
 ghost use Rattle.state_rules.specs.declared.nodes.NodeKind.TheVariants.{And, Or};
 ghost use Rattle.state_rules.specs.Graphs.{node_at};
 ghost use Rattle.conditioner.specs.declared.leaves.Leaf.{Leaf};
@@ -20,12 +20,7 @@ use state_rules::NodeKind;
 
 impl Asked<'_> {
     // Brings the set of the costs of each node, and that of the costs of all parts at which the last node can be true.
-    pub(crate) fn put_whole(
-        &self,
-        sets: &mut [u32],
-        whole: &mut [u32],
-        spare: &mut [u32],
-    )
+    pub(crate) fn put_whole(&self, sets: &mut [u32], whole: &mut [u32], spare: &mut [u32])
         requires room { length whole.old ≤ SET_LIMIT }
         requires sets { length sets.old ≡ length self.now.graph.now.nodes * length whole.old }
         requires spare { length spare.old ≡ length whole.old }
@@ -51,12 +46,7 @@ impl Asked<'_> {
     }
 
     // The set of the costs of each node.
-    pub(crate) fn put_sets(
-        &self,
-        sets: &mut [u32],
-        spare: &mut [u32],
-        other: &mut [u32],
-    )
+    pub(crate) fn put_sets(&self, sets: &mut [u32], spare: &mut [u32], other: &mut [u32])
         requires room { length spare.old ≤ SET_LIMIT }
         requires sets { length sets.old ≡ length self.now.graph.now.nodes * length spare.old }
         requires other { length other.old ≡ length spare.old }
@@ -71,14 +61,7 @@ impl Asked<'_> {
     }
 
     // The set of a node, from those of the nodes before it. One that is skipped has no cost.
-    fn put_set(
-        &self,
-        sets: &[u32],
-        at: u32,
-        set: &mut [u32],
-        spare: &mut [u32],
-        other: &mut [u32],
-    )
+    fn put_set(&self, sets: &[u32], at: u32, set: &mut [u32], spare: &mut [u32], other: &mut [u32])
         requires room { length set.old ≤ SET_LIMIT }
         requires at { at < length self.now.graph.now.nodes }
         requires sets { length sets.now ≡ at * length set.old }
@@ -135,14 +118,7 @@ impl Asked<'_> {
     }
 
     // The set of an Or: parts that a kid does not mention are free where it is true.
-    fn put_or(
-        &self,
-        sets: &[u32],
-        at: u32,
-        set: &mut [u32],
-        spare: &mut [u32],
-        other: &mut [u32],
-    )
+    fn put_or(&self, sets: &[u32], at: u32, set: &mut [u32], spare: &mut [u32], other: &mut [u32])
         requires at { at < length self.now.graph.now.nodes }
         requires what { (node_at self.now.graph.now.nodes at).what ≡ Or }
         requires lives { slice_index self.now.skips.now at ≡ 0 }

@@ -1,10 +1,9 @@
 //! The first part that is faulty in some state of a cost.
-ghost use Rattle.std.specs.Prelude.{◌≡◌, ℕ, ◌+◌, ◌*◌, ◌<◌, ◌≤◌, length, All, MatchOption};
+ghost use Rattle.std.specs.Prelude.{◌≡◌, ℕ, ◌+◌, ◌*◌, ◌<◌, ◌≤◌, length, MatchOption};
 ghost use Rattle.level_lister.specs.Listing.{cost_words};
 ghost use Rattle.level_lister.specs.Passes.{AreEnough, first_passes, group_count, told_groups};
 ghost use Rattle.level_lister.specs.inner.NodeSets.{BeginWithSets, AreReady};
 ghost use Rattle.level_lister.specs.inner.Pairs.{FaultOf, FaultIn, OkAmong};
-ghost use Rattle.level_lister.specs.inner.Skips.{IsEnough};
 
 use crate::fault_pass::FaultPass;
 use crate::pairs::{Groups, has_bit};
@@ -53,12 +52,7 @@ impl Asked<'_> {
     }
 
     // The same, where only costs below 32 are listed.
-    fn faulty_group_by_pairs(
-        &self,
-        work: &mut [u32],
-        cost: u32,
-        groups: Groups,
-    ) -> u32
+    fn faulty_group_by_pairs(&self, work: &mut [u32], cost: u32, groups: Groups) -> u32
         requires top { self.now.levels.now.top < 32 }
         requires size { 0 < groups.size }
         requires work { 2 * length self.now.graph.now.nodes ≤ length work.old }
@@ -82,12 +76,7 @@ impl Asked<'_> {
 
     // The first group alone: 0 where an open part of it is faulty in some state of this cost, and else 1. The pass goes over the nodes
     // once, for the costs with a fault: the sets of all costs are there.
-    fn faulty_group_by_sets(
-        &self,
-        work: &mut [u32],
-        cost: u32,
-        groups: Groups,
-    ) -> u32
+    fn faulty_group_by_sets(&self, work: &mut [u32], cost: u32, groups: Groups) -> u32
         requires size { 0 < groups.size }
         requires work { length work.old ≡ (length self.now.graph.now.nodes + 2) * (2 * cost_words self.now.levels.now.top) }
         requires cost { cost ≤ self.now.levels.now.top }

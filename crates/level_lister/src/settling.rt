@@ -66,7 +66,12 @@ impl Asked<'_> {
     }
 
     // The least cost from one on up to the greatest that some state has which agrees with the words. It takes one pass.
-    pub(crate) fn next_cost<L: Ledger>(&self, work: &mut [u32], from: u32, steps: &mut Steps<L>) -> Option<u32>
+    pub(crate) fn next_cost<L: Ledger>(
+        &self,
+        work: &mut [u32],
+        from: u32,
+        steps: &mut Steps<L>,
+    ) -> Option<u32>
         requires work { (length self.now.graph.now.nodes + 2) * cost_words self.now.levels.now.top ≤ length work.old }
         ensures next { MatchOption result
             ((c : ℕ) → from ≤ c → c ≤ self.now.levels.now.top → HasCost self.now.graph.now self.now.words.now self.now.levels.now.costs c → ⊥)
@@ -152,7 +157,7 @@ impl Search<'_> {
             skips: self.skips,
             words,
         })
-            .first_faulty(work, cost, from, steps)
+        .first_faulty(work, cost, from, steps)
         {
             fix_ok(words, from, part);
             words[part] = 2;

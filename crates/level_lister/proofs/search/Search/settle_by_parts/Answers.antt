@@ -1,11 +1,10 @@
-use Rattle.std.proofs.Common.{◌≡◌, ◌+◌, ◌<◌, All, length, get_or, set, ap, sym, subst, refl, ◌∙◌, arith, lit<}
+use Rattle.std.proofs.Common.{◌≡◌, ◌<◌, length, get_or, set, ap, sym, ◌∙◌, arith, lit<}
 use Rattle.std.proofs.Math.ListN.{length-set}
 use Rattle.std.proofs.lemmas.Bool.{false≢true, eqb-true, eqb-false}
 use Rattle.std.proofs.lemmas.List.{set-set}
 use Rattle.std.proofs.lemmas.List.Elements.{All-set}
-use Rattle.diagnosis_lister.proofs.Allowing.{Refines-more, Refines-set, Refines-start}
-use Rattle.diagnosis_lister.proofs.Fixing.{Settles, Settles-start, settles-faulty, settles-end}
-use Rattle.level_lister.specs.inner.Searching.{OfCost}
+use Rattle.diagnosis_lister.proofs.Allowing.{Refines-more, Refines-set}
+use Rattle.diagnosis_lister.proofs.Fixing.{settles-faulty, settles-end}
 use Rattle.level_lister.proofs.Exact.{allows-cost}
 use Rattle.level_lister.proofs.ByParts.{settles-held, settles-one_ok}
 use Rattle.level_lister.proofs.Skips.{enough_more}

@@ -71,9 +71,6 @@ module _ {vars parts : ℕ} {P : List ℕ → List Bool → Type 0} (allows : Al
     -- parts that are ok in all states are fixed
     module _ (new : List ℕ) (to : ℕ) (fit : to ≤ parts) (f : FixesOk old new from to)
         (ok : (part : ℕ) → from ≤ part → part < to → get_or old part 0 ≡ 0 → (h : List Bool) → P old h → bit_in h part ≡ true) where
-      ok-refines : Refines parts old new
-      ok-refines = record { long = f.long; kept = f.kept; others = λ k h. f.behind k (omega arith) }
-
       pub ok-moved : (h : List Bool) → P old h → P new h
       ok-moved h p = grind arith
 

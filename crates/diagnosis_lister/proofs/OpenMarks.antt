@@ -10,9 +10,6 @@ use Rattle.conditioner.specs.Words.{bits_of}
 use Rattle.diagnosis_lister.specs.inner.OpenMarks.{mark_of, is_marked, marked_bits, AreMarks}
 use Rattle.diagnosis_lister.specs.inner.Fixing.{fixed_bits}
 
-suc-zero : (n : ℕ) → (suc n == 0) ≡ false
-suc-zero n = grind arith
-
 mark_of-marked : (w s : ℕ) → s < 2 → is_marked (mark_of w s) ≡ (w == 0)
 mark_of-marked w s h = grind arith
 

@@ -1,8 +1,7 @@
 -- How many parts are faulty, as words and points are gone through.
-use Rattle.std.proofs.Common.{◌≡◌, ℕ, zero, suc, ◌+◌, ◌<◌, ◌≤◌, Bool, true, false, not, cond, List, [], ◌∷◌, length, get_or, set, drop, refl, arith}
+use Rattle.std.proofs.Common.{◌≡◌, ℕ, zero, suc, ◌+◌, ◌<◌, ◌≤◌, Bool, false, not, cond, List, [], ◌∷◌, length, get_or, set, drop, arith}
 use Rattle.std.specs.Prelude.{◌==◌}
 use Rattle.std.proofs.Math.ListN.{length-map}
-use Rattle.std.proofs.lemmas.Bool.{eqb-true, eq-eqb}
 use Rattle.std.proofs.lemmas.List.Sums.{sum_by-cons, sum_by-drop_more, sum_by-take-drop, count_by-le-length}
 use Rattle.state_rules.specs.Bits.{bit_in}
 use Rattle.conditioner.specs.Words.{bits_of}
@@ -16,13 +15,7 @@ abbrev fault_of : ℕ → ℕ
 fault_of w = cond (not (not (w == 2))) 1 0
 
 one-kept : (v w : ℕ) → (v ≡ 2 → w ≡ 2) → fault_of v ≤ fault_of w
-one-kept v w kept = by_test (v == 2) refl where
-  at_two : (w == 2) ≡ true → 1 ≤ fault_of w
-  at_two e = rw e (omega arith)
-
-  by_test : (b : Bool) → (v == 2) ≡ b → cond (not (not b)) 1 0 ≤ fault_of w
-  by_test true e = at_two (eq-eqb w 2 (kept (eqb-true v 2 e)))
-  by_test false e = omega arith
+one-kept v w kept = grind arith
 
 -- where the words that say faulty still do, as many parts are faulty
 pub faults-kept : (parts : ℕ) (old new : List ℕ) → length new ≡ length old → ((k : ℕ) → get_or old k 0 ≡ 2 → get_or new k 0 ≡ 2) → fault_count (fixed_bits parts old) ≤ fault_count (fixed_bits parts new)
@@ -44,12 +37,7 @@ faults-added (suc n) [] i h l e = absurd (omega arith)
 faults-added (suc n) (w ∷ words) zero h l e =
     let none : fault_of w ≡ 0 = (λ i. fault_of (e i)) in
     omega (arith, none, fault_count-cons false (fixed_bits n words), fault_count-cons (not (w == 2)) (fixed_bits n words))
-faults-added (suc n) (w ∷ words) (suc i) h l e = omega (
-  arith,
-  fault_count-cons (not (w == 2)) (fixed_bits n words),
-  fault_count-cons (not (w == 2)) (fixed_bits n (set words i 2)),
-  faults-added n words i (omega arith) (omega arith) e,
-)
+faults-added (suc n) (w ∷ words) (suc i) h l e = grind (arith, fault_count-cons, faults-added n words i)
 
 -- no more parts are faulty than there are
 pub faults-few : (state : List ℕ) → fault_count (bits_of state) ≤ length state

@@ -1,5 +1,6 @@
 pub mod Faults
 pub mod OpenMarks
-pub mod Fixing
+pub mod Allowing
 pub mod Points
+pub mod Fixing
 pub mod Answering

@@ -1,30 +1,20 @@
 -- Marks in the words of a state, and what is written back.
-use Rattle.std.proofs.Common.{◌≡◌, ◌≢◌, ℕ, zero, suc, ◌+◌, ◌%◌, ◌<◌, ◌≤◌, Bool, true, false, not, cond, List, [], ◌∷◌, map, length, get_or, All, refl, ap, sym, ◌∙◌, subst, arith, ⊎_elim}
+use Rattle.std.proofs.Common.{◌≡◌, ◌≢◌, ℕ, zero, suc, ◌%◌, ◌<◌, ◌≤◌, Bool, true, false, not, cond, List, [], ◌∷◌, map, length, get_or, All, refl, ap, sym, ◌∙◌, arith}
 use Rattle.std.specs.Prelude.{◌==◌, nat_le, if◌then◌else◌}
 use Rattle.std.proofs.Math.ListN.{length-map}
-use Rattle.std.proofs.lemmas.Bool.{cases_lt, eqb-true, leb-true, le-leb}
+use Rattle.std.proofs.lemmas.Bool.{eqb-true, eq-eqb, leb-true}
+use Rattle.state_rules.specs.Bits.{bit_in}
 use Rattle.std.proofs.lemmas.Grind.{same_number_lists}
 use Rattle.std.proofs.lemmas.List.{get_or_default}
 use Rattle.conditioner.specs.Words.{bits_of}
 use Rattle.diagnosis_lister.specs.inner.OpenMarks.{mark_of, is_marked, marked_bits, AreMarks}
 use Rattle.diagnosis_lister.specs.inner.Fixing.{fixed_bits}
 
-suc-zero : (n : ℕ) → (suc n == 0) ≡ false
-suc-zero n = by_test (suc n == 0) refl where
-  by_test : (b : Bool) → (suc n == 0) ≡ b → b ≡ false
-  by_test true e = let q : suc n ≡ 0 = eqb-true _ _ e in absurd (omega arith)
-  by_test false e = refl
-
 mark_of-marked : (w s : ℕ) → s < 2 → is_marked (mark_of w s) ≡ (w == 0)
-mark_of-marked zero s h = le-leb 2 (s + 2) (omega arith)
-mark_of-marked (suc n) s h = by_test (nat_le 2 s) refl ∙ sym (suc-zero n) where
-  by_test : (b : Bool) → nat_le 2 s ≡ b → b ≡ false
-  by_test true e = let g : 2 ≤ s = leb-true _ _ e in absurd (omega arith)
-  by_test false e = refl
+mark_of-marked w s h = grind arith
 
 mark_of-bit : (w s : ℕ) → s < 2 → mark_of w s % 2 ≡ s
-mark_of-bit zero s h = omega arith
-mark_of-bit (suc n) s h = omega arith
+mark_of-bit w s h = grind arith
 
 module _ (words state marks : List ℕ) (small : All (λ s. s < 2) state) (long : length marks ≡ length state)
     (marked : (k : ℕ) → k < length state → get_or marks k 0 ≡ mark_of (get_or words k 0) (get_or state k 0)) where
@@ -51,18 +41,12 @@ module _ (words state marks : List ℕ) (small : All (λ s. s < 2) state) (long 
       → ((k : ℕ) → get_or words k 0 ≢ 0 → get_or fixed k 0 ≡ get_or words k 0) → ((k : ℕ) → length marks ≤ k → get_or fixed k 0 ≡ get_or words k 0)
       → ((k : ℕ) → k < length marks → get_or new k 0 ≡ (if is_marked (get_or marks k 0) then 0 else get_or fixed k 0)) → ((k : ℕ) → length marks ≤ k → get_or new k 0 ≡ get_or fixed k 0)
       → new ≡ words
-  opened-again fixed new l m room kept others written behind = same_number_lists new words (m ∙ l) (λ k h. ⊎_elim
-      (λ (p : k < length marks). written k p ∙ (λ i. cond (marked-AreMarks k p i) 0 (get_or fixed k 0)) ∙ by_word k (get_or words k 0) refl)
-      (λ (p : length marks ≤ k). behind k p ∙ others k p) (cases_lt k (length marks))) where
-        by_word : (k w : ℕ) → get_or words k 0 ≡ w → cond (w == 0) 0 (get_or fixed k 0) ≡ w
-        by_word k zero e = refl
-        by_word k (suc n) e = (λ i. cond (suc-zero n i) 0 (get_or fixed k 0)) ∙ kept k (λ q. absurd (omega arith)) ∙ e
+  opened-again fixed new l m room kept others written behind = grind (arith, same_number_lists)
 
 -- what is written is the state that the words say
 pub written-bits : (parts : ℕ) (fixed new : List ℕ) → length new ≡ parts → parts ≤ length fixed → ((k : ℕ) → k < parts → get_or new k 0 ≡ (if get_or fixed k 0 == 2 then 1 else 0)) → bits_of new ≡ fixed_bits parts fixed
-written-bits zero fixed [] l h e = refl
+written-bits parts fixed [] l h e = grind arith
 written-bits zero fixed (x ∷ new) l h e = absurd (omega arith)
-written-bits (suc n) fixed [] l h e = absurd (omega arith)
 written-bits (suc n) [] (x ∷ new) l h e = absurd (omega arith)
 written-bits (suc n) (w ∷ fixed) (x ∷ new) l h e =
     let more : bits_of new ≡ fixed_bits n fixed = written-bits n fixed new (omega arith) (omega arith) (λ k g. e (suc k) (omega arith)) in
@@ -72,10 +56,38 @@ written-bits (suc n) (w ∷ fixed) (x ∷ new) l h e =
       flip false = refl
 
 pub written-small : (new fixed : List ℕ) → ((k : ℕ) → k < length new → get_or new k 0 ≡ (if get_or fixed k 0 == 2 then 1 else 0)) → All (λ s. s < 2) new
-written-small new fixed e k d h = subst (λ n. n < 2) (sym (get_or_default new k d 0 h ∙ e k h)) (one (get_or fixed k 0 == 2)) where
-  one : (b : Bool) → cond b 1 0 < 2
-  one true = omega arith
-  one false = omega arith
+written-small new fixed e k d h = grind (arith, get_or_default)
 
 pub length-bits : (state : List ℕ) → length (bits_of state) ≡ length state
 length-bits state = length-map state (λ s. s == 0)
+
+-- ---- what a mark says
+
+pub bit_in-marked : (marks : List ℕ) (i : ℕ) → i < length marks → bit_in (marked_bits marks) i ≡ (get_or marks i 0 % 2 == 0)
+bit_in-marked [] i h = absurd (omega arith)
+bit_in-marked (m ∷ marks) zero h = refl
+bit_in-marked (m ∷ marks) (suc i) h = bit_in-marked marks i (omega arith)
+
+pub length-marked : (marks : List ℕ) → length (marked_bits marks) ≡ length marks
+length-marked marks = length-map marks (λ mark. mark % 2 == 0)
+
+-- a mark that is odd says faulty
+pub marked-odd : (marks : List ℕ) (i : ℕ) → i < length marks → get_or marks i 0 % 2 ≡ 1 → bit_in (marked_bits marks) i ≡ false
+marked-odd marks i h e = bit_in-marked marks i h ∙ (λ j. e j == 0)
+
+pub marked-even : (marks : List ℕ) (i : ℕ) → i < length marks → get_or marks i 0 % 2 ≢ 1 → bit_in (marked_bits marks) i ≡ true
+marked-even marks i h ne = grind (arith, bit_in-marked)
+
+pub marked-open : (words marks : List ℕ) (i : ℕ) → AreMarks words marks → i < length marks → 2 ≤ get_or marks i 0 → get_or words i 0 ≡ 0
+marked-open words marks i are h m = eqb-true _ _ (sym (are i h) ∙ grind arith)
+
+pub unmarked-held : (words marks : List ℕ) (i : ℕ) → AreMarks words marks → i < length marks → get_or marks i 0 < 2 → get_or words i 0 ≢ 0
+unmarked-held words marks i are h m e = let t : nat_le 2 (get_or marks i 0) ≡ true = are i h ∙ eq-eqb (get_or words i 0) 0 e in let g : 2 ≤ get_or marks i 0 = leb-true _ _ t in omega arith
+
+-- the word that a part had: 0 where it is marked, and otherwise what it is
+pub word-marked : (old words marks : List ℕ) (i word : ℕ) → AreMarks old marks → i < length marks → word ≡ 0 → 2 ≤ get_or marks i 0 → word ≡ get_or old i 0
+word-marked old words marks i word are h e m = e ∙ sym (marked-open old marks i are h m)
+
+pub word-unmarked : (old words marks : List ℕ) (i word : ℕ) → AreMarks old marks → i < length marks → ((k : ℕ) → get_or old k 0 ≢ 0 → get_or words k 0 ≡ get_or old k 0) → word ≡ get_or words i 0 → get_or marks i 0 < 2
+    → word ≡ get_or old i 0
+word-unmarked old words marks i word are h kept e m = e ∙ kept i (unmarked-held old marks i are h m)

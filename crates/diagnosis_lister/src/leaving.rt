@@ -3,7 +3,8 @@ ghost use Rattle.conditioner.specs.Models.{least_under, total_cost};
 ghost use Rattle.minimiser.specs.Stored.{AreLeastCosts};
 ghost use Rattle.diagnosis_lister.specs.Listing.{fault_count};
 ghost use Rattle.diagnosis_lister.specs.inner.OpenMarks.{marked_bits, AreMarks};
-ghost use Rattle.diagnosis_lister.specs.inner.Fixing.{Follows, Leaves, NoneAfter};
+ghost use Rattle.minimiser.specs.LeastStates.{ModelWithin};
+ghost use Rattle.diagnosis_lister.specs.inner.Fixing.{Agrees, Follows, Leaves, NoneAfter};
 
 use crate::settling::reaches;
 use conditioner::{is_false, word_of_known};
@@ -18,7 +19,7 @@ fn follow(words: &mut [u32], state: &[u32]) -> usize
     requires marks { AreMarks words.old state.now }
     ensures within { result ≤ length state.now }
     ensures words { All (λ w. w < 3) words.new }
-    ensures follows { Follows words.old (marked_bits state.now) words.new result }
+    ensures follows { Follows (Agrees (length state.now) words.old) words.old (marked_bits state.now) words.new result }
 {
     for (part, mark) in state.iter().enumerate() {
         let word = word_of_known(Some(*mark % 2 == 0));
@@ -52,8 +53,9 @@ pub(crate) fn leave<L: Ledger>(
     requires least { least_under graph.now words.old costs.now ≡ Some fewest }
     ensures words { All (λ w. w < 3) words.new }
     ensures left { MatchOption result
-        ((words.new ≡ words.old) × NoneAfter graph.now words.old costs.now fewest (marked_bits state.now) 0)
-        (λ part. Leaves graph.now words.old costs.now fewest (marked_bits state.now) words.new part) }
+        ((words.new ≡ words.old) × NoneAfter (ModelWithin graph.now words.old costs.now fewest) (marked_bits state.now) 0)
+        (λ part. Leaves (λ ws h. ModelWithin graph.now ws costs.now fewest h) words.old (marked_bits state.now) words.new part) }
+    ensures least { IfSome result (λ _. least_under graph.now words.new costs.now ≡ Some fewest) }
     ensures values { IfSome result (λ _. AreLeastCosts graph.now words.new costs.now values.new) }
     ensures steps { steps.new ≤ steps.old + fault_count (marked_bits state.now) }
 {

@@ -1,12 +1,13 @@
 -- The first state by cost and then by order, and the first one after a point.
-use Rattle.std.proofs.Common.{◌≡◌, ℕ, ◌+◌, ◌<◌, ◌≤◌, Bool, true, ◌&&◌, List, Option, Some, None, refl, sym, ◌∙◌, arith, inl, inr, ⊎_elim}
-use Rattle.std.specs.Prelude.{◌⊎◌, ◌==◌, nat_lt}
+use Rattle.std.proofs.Common.{◌≡◌, ℕ, ◌+◌, ◌<◌, ◌≤◌, Bool, true, List, Option, Some, refl, arith, inr, ⊎_elim}
+use Rattle.std.proofs.lemmas.Bool.Decides.{nat_tests}
+use Rattle.std.specs.Prelude.{◌⊎◌}
 use Rattle.std.proofs.lemmas.Bool.{cases_order, and_parts, and_from, or_cases, or_left, or_right, lt-ltb, ltb-true, eq-eqb, eqb-true}
 use Rattle.state_rules.specs.Ranking.{cost, is_before}
 use Rattle.state_rules.specs.Graphs.{Graph}
 use Rattle.state_rules.specs.Levels.{is_level_before}
-use Rattle.diagnosis_lister.specs.inner.Fixing.{IsFirst}
-use Rattle.level_lister.specs.inner.Searching.{OfCost, HasCost, NoneAfter, IsListed, IsFirstLevel, Finds, is_later}
+use Rattle.diagnosis_lister.specs.inner.Fixing.{IsFirst, NoneAfter}
+use Rattle.level_lister.specs.inner.Searching.{OfCost, HasCost, IsListed, IsFirstLevel, Finds, is_later}
 
 module _ (costs : List ℕ) (h k : List Bool) where
   pub cheaper-before : cost costs h < cost costs k → is_level_before costs h k ≡ true
@@ -16,10 +17,7 @@ module _ (costs : List ℕ) (h k : List Bool) where
   same-before e b = or_right _ _ (and_from _ _ (eq-eqb (cost costs h) (cost costs k) e) b)
 
   pub before-cases : is_level_before costs h k ≡ true → (cost costs h < cost costs k) ⊎ ((cost costs h ≡ cost costs k) × (is_before h k ≡ true))
-  before-cases e = ⊎_elim
-      (λ p. inl (ltb-true (cost costs h) (cost costs k) p))
-      (λ p. let parts = and_parts (cost costs h == cost costs k) (is_before h k) p in inr (eqb-true (cost costs h) (cost costs k) parts.0, parts.1))
-      (or_cases (nat_lt (cost costs h) (cost costs k)) ((cost costs h == cost costs k) && is_before h k) e)
+  before-cases e = grind (arith, nat_tests, ltb-true, and_parts, eqb-true, or_cases)
 
 module _ (graph : Graph) (words costs : List ℕ) (top : ℕ) where
   pub listed-cost : (from : ℕ) (k : List Bool) → IsListed graph words costs from top k → OfCost graph words costs (cost costs k) k
@@ -33,8 +31,7 @@ module _ (graph : Graph) (words costs : List ℕ) (top : ℕ) where
   first-from from c h low high none is = record {
     meets = record { long = is.meets.long; model = is.meets.model; low = omega (arith, is.meets.cost_is); high = omega (arith, is.meets.cost_is) };
     before = λ k l. ⊎_elim
-        (λ e. ⊎_elim (λ p. inl p) (λ p. inr (same-before costs h k (is.meets.cost_is ∙ sym e) p))
-        (is.before k (record { long = l.long; model = l.model; cost_is = e })))
+        grind (arith, nat_tests, same-before, is.before)
         (⊎_elim
         (λ lt. absurd (none (cost costs k) l.low lt (listed-has from k l)))
         (λ gt. inr (cheaper-before costs h k (omega (arith, is.meets.cost_is, gt)))))
@@ -46,23 +43,11 @@ module _ (graph : Graph) (words costs : List ℕ) (top : ℕ) where
 
   -- a later state of the point's own cost
   pub first-same : (point h : List Bool) → cost costs point ≤ top → IsFirst (λ k. OfCost graph words costs (cost costs point) k × (is_before point k ≡ true)) h → IsFirstLevel costs (Later point) h
-  first-same point h le is = record {
-    meets = (record { long = is.meets.0.long; model = is.meets.0.model; low = omega arith; high = omega (arith, is.meets.0.cost_is) }, same-before costs point h (sym is.meets.0.cost_is) is.meets.1);
-    before = λ k l. ⊎_elim
-        (λ lt. inr (cheaper-before costs h k (omega (arith, is.meets.0.cost_is, lt))))
-        (λ p. ⊎_elim (λ q. inl q) (λ q. inr (same-before costs h k (is.meets.0.cost_is ∙ p.0) q))
-        (is.before k (record { long = l.0.long; model = l.0.model; cost_is = sym p.0 }, p.1)))
-        (before-cases costs point k l.1);
-  }
+  first-same point h le is = grind (arith, nat_tests, same-before, cheaper-before, is.before, before-cases)
 
   -- where there is none, the later ones are those that cost more
-  pub later-dearer : (point : List Bool) → NoneAfter graph words costs (cost costs point) point 0 → (h : List Bool) → Later point h → IsListed graph words costs (cost costs point + 1) top h
-  later-dearer point none h l = record {
-    long = l.0.long;
-    model = l.0.model;
-    low = ⊎_elim (λ lt. omega arith) (λ p. absurd (none h (record { long = l.0.long; model = l.0.model; cost_is = sym p.0 }) (λ i g. absurd (omega arith)) p.1)) (before-cases costs point h l.1);
-    high = l.0.high;
-  }
+  pub later-dearer : (point : List Bool) → NoneAfter (OfCost graph words costs (cost costs point)) point 0 → (h : List Bool) → Later point h → IsListed graph words costs (cost costs point + 1) top h
+  later-dearer point none h l = grind (arith, nat_tests, none, before-cases)
 
   pub dearer-later : (point h : List Bool) → IsListed graph words costs (cost costs point + 1) top h → Later point h
   dearer-later point h l = (record { long = l.long; model = l.model; low = omega arith; high = l.high }, cheaper-before costs point h (omega (arith, l.low)))
@@ -75,5 +60,4 @@ first-alike costs P Q h to from is = record { meets = to h is.meets; before = λ
 
 -- conditions that say the same
 pub finds-alike : (old costs : List ℕ) (P Q : List Bool → Type 0) (new : List ℕ) (result : Option ℕ) → ((k : List Bool) → P k → Q k) → ((k : List Bool) → Q k → P k) → Finds old costs P new result → Finds old costs Q new result
-finds-alike old costs P Q new None to from f = (f.0, λ h q. f.1 h (from h q))
-finds-alike old costs P Q new (Some c) to from f = record { others = f.others; first = first-alike costs P Q _ to from f.first; cost_is = f.cost_is }
+finds-alike old costs P Q new result to from f = grind (arith, nat_tests, first-alike)

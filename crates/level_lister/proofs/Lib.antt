@@ -10,7 +10,6 @@ pub mod Stacks
 pub mod Whole
 pub mod Costing
 pub mod Exact
-pub mod Leaving
 pub mod Finding
 pub mod Listed
 pub mod Spreading
@@ -20,7 +19,6 @@ pub mod PairNodes
 pub mod FaultStates
 pub mod PairWhole
 pub mod Narrowing
-pub mod Grouping
 pub mod Faulting
 pub mod FaultNodes
 pub mod Skips

@@ -1,5 +1,6 @@
 -- The list of all states by cost.
-use Rattle.std.proofs.Common.{◌≡◌, ◌≢◌, ℕ, zero, suc, ◌+◌, ◌<◌, ◌≤◌, Bool, true, false, cond, List, [], ◌∷◌, ◌++◌, length, get_or, Option, Some, None, refl, ap, sym, ◌∙◌, subst, arith, inl, inr, ⊎_elim}
+use Rattle.std.proofs.Common.{◌≡◌, ◌≢◌, ℕ, zero, suc, ◌+◌, ◌<◌, ◌≤◌, Bool, true, List, [], ◌∷◌, ◌++◌, length, get_or, Option, Some, None, refl, ap, sym, ◌∙◌, subst, arith, inl, inr, ⊎_elim}
+use Rattle.std.proofs.lemmas.Bool.Decides.{nat_tests}
 use Rattle.std.specs.Prelude.{◌⊎◌, ◌==◌}
 use Rattle.std.specs.List.{filter, flat_map, range_with_len}
 use Rattle.std.proofs.lemmas.Bool.{eq-eqb, eqb-true, cases_eq}
@@ -31,10 +32,7 @@ module _ (costs : List ℕ) where
 
   Rising-filter : (p : List Bool → Bool) (xs : List (List Bool)) → Rising xs → Rising (filter p xs)
   Rising-filter p [] s = tt
-  Rising-filter p (x ∷ xs) s = by_test (Rising-filter p xs s.1) (p x) where
-    by_test : Rising (filter p xs) → (b : Bool) → Rising (cond b (x ∷ filter p xs) (filter p xs))
-    by_test more true = (λ y m. s.0 y (In-filter p y xs m).0, more)
-    by_test more false = more
+  Rising-filter p (x ∷ xs) s = grind (arith, nat_tests, p, In-filter, Rising-filter p xs s.1)
 
   -- states of one cost
   Rising-same : (c : ℕ) (xs : List (List Bool)) → ((x : List Bool) → In x xs → cost costs x ≡ c) → Sorted xs → Rising xs
@@ -70,15 +68,11 @@ module _ (costs : List ℕ) where
       (λ x y p q. let a = of_cost-in hs from x p in let b = some_levels-in hs (from + 1) n y q in cheaper-before costs x y (omega (arith, a.1, b.1.0)))
 
   not_both : (h k : List Bool) → is_level_before costs h k ≡ true → is_level_before costs k h ≡ true → ⊥
-  not_both h k e f = ⊎_elim
-      (λ (p : cost costs h < cost costs k). ⊎_elim (λ (q : cost costs k < cost costs h). absurd (omega arith)) (λ q. absurd (omega (arith, q.0))) (before-cases costs k h f))
-      (λ p. ⊎_elim (λ (q : cost costs k < cost costs h). absurd (omega (arith, p.0))) (λ q. not_both_before h k p.1 q.1) (before-cases costs k h f))
-      (before-cases costs h k e)
+  not_both h k e f = grind (arith, nat_tests, before-cases, not_both_before)
 
   first-rising : (xs : List (List Bool)) (h d : List Bool) → Rising xs → In h xs → ((k : List Bool) → In k xs → (k ≡ h) ⊎ (is_level_before costs h k ≡ true)) → get_or xs 0 d ≡ h
   first-rising [] h d s m low = absurd m
-  first-rising (x ∷ xs) h d s (inl q) low = sym q
-  first-rising (x ∷ xs) h d s (inr r) low = ⊎_elim (λ q. q) (λ b. absurd (not_both h x b (s.0 h r))) (low x (inl refl))
+  first-rising (x ∷ xs) h d s given low = grind (arith, nat_tests, not_both)
 
   -- ---- what comes after a point
 
@@ -105,10 +99,7 @@ module _ (costs : List ℕ) where
         record { long = bits_length (length costs) h s.0; model = s.1; low = omega arith; high = omega (arith, r.1.1) }
 
     next-in : (h : List Bool) → Next h → In h later
-    next-in h n = by_point point n where
-      by_point : (o : Option (List Bool)) → IsListed graph words costs 0 top h × (is_later costs o h ≡ true) → In h (levels_rest costs (levels costs top ms) o)
-      by_point None n = listed-in h n.0
-      by_point (Some p) n = In-filtered (is_level_before costs p) h (levels costs top ms) (listed-in h n.0) n.1
+    next-in h n = grind (arith, nat_tests, listed-in, In-filtered)
 
     in-next : (h : List Bool) → In h later → Next h
     in-next h m = by_point point m where
@@ -117,13 +108,7 @@ module _ (costs : List ℕ) where
       by_point (Some p) m = let r = In-filter (is_level_before costs p) h (levels costs top ms) m in (in-listed h r.0, r.1)
 
     rising : Rising later
-    rising = by_point point where
-      all : Rising (levels costs top ms)
-      all = Rising-levels ms 0 (top + 1) (Sorted-filter (has_model graph (fits_words words) (length costs)) (states (length costs)) (Sorted-states (length costs)))
-
-      by_point : (o : Option (List Bool)) → Rising (levels_rest costs (levels costs top ms) o)
-      by_point None = all
-      by_point (Some p) = Rising-filter (is_level_before costs p) (levels costs top ms) all
+    rising = grind (arith, nat_tests, Rising-levels, Sorted-filter, Sorted-states, Rising-filter)
 
     pub next-first : (h d : List Bool) → IsFirstLevel costs Next h → h ≡ get_or later 0 d
     next-first h d is = sym (first-rising later h d rising (next-in h is.meets) (λ k m. is.before k (in-next k m)))
@@ -134,10 +119,7 @@ module _ (costs : List ℕ) where
     -- ---- the answers
 
     pub step-end : (ms ≡ [] → ⊥) → ((h : List Bool) → Next h → ⊥) → End ≡ level_step costs ms later
-    step-end some none = sym (by_list ms some later (next-none none)) where
-      by_list : (xs : List (List Bool)) → (xs ≡ [] → ⊥) → (ys : List (List Bool)) → ys ≡ [] → level_step costs xs ys ≡ End
-      by_list [] some ys e = absurd (some refl)
-      by_list (x ∷ xs) some ys e = ap (level_step costs (x ∷ xs)) e
+    step-end some none = grind (arith, nat_tests, some, next-none)
 
     pub step-found : (h : List Bool) → (ms ≡ [] → ⊥) → IsFirstLevel costs Next h → Found (cost costs h) ≡ level_step costs ms later
     step-found h some is = sym (by_list ms some later (next-in h is.meets) (sym (next-first h [] is))) where
@@ -148,6 +130,4 @@ module _ (costs : List ℕ) where
 
     -- where no state is allowed, none is listed
     pub none-none : ms ≡ [] → (h : List Bool) → Next h → ⊥
-    none-none e h n = empty (subst (In h) e (model-in h n.0.long n.0.model)) where
-      empty : In h [] → ⊥
-      empty m = m
+    none-none e h n = grind (arith, nat_tests, model-in)

@@ -1,5 +1,6 @@
 -- Sets of costs that stand one behind the other.
-use Rattle.std.proofs.Common.{◌≡◌, ℕ, ◌+◌, ◌*◌, ◌<◌, ◌≤◌, List, ◌++◌, length, ap, sym, ◌∙◌, subst, arith, ⊎_elim}
+use Rattle.std.proofs.Common.{◌≡◌, ℕ, ◌+◌, ◌*◌, ◌<◌, List, ◌++◌, length, sym, subst, arith}
+use Rattle.std.proofs.lemmas.Bool.Decides.{nat_tests}
 use Rattle.std.proofs.lemmas.Bool.{cases_lt}
 use Rattle.part_sets.specs.Numbers.{set_at}
 use Rattle.scratch_pool.proofs.Counted.{block-below}
@@ -10,15 +11,10 @@ module _ (Is : ℕ → List ℕ → Type 0) (size : ℕ) where
   -- the sets before a node, and that of the node
   pub sets_more : (front set back : List ℕ) (at : ℕ) → length front ≡ at * size → length set ≡ size → ((k : ℕ) → k < at → Is k (set_at front k size)) → Is at set
       → (k : ℕ) → k < at + 1 → Is k (set_at (front ++ (set ++ back)) k size)
-  sets_more front set back at h l are is k lt = ⊎_elim
-      (λ (p : k < at). subst (Is k) (sym (set_at-front front (set ++ back) k size (omega (arith, h, block-below k at size p)))) (are k p))
-      (λ (p : at ≤ k). let same : k ≡ at = omega arith in
-      subst (λ j. Is j (set_at (front ++ (set ++ back)) j size)) (sym same) (subst (Is at) (sym (set_at-here front set back at size h l)) is))
-      (cases_lt k at)
+  sets_more front set back at h l are is k lt = grind (arith, nat_tests, Is, set_at-front, block-below, are, set_at-here, cases_lt)
 
   pub sets_before : (sets front back : List ℕ) (at : ℕ) → sets ≡ front ++ back → length front ≡ at * size → ((k : ℕ) → k < at → Is k (set_at sets k size)) → (k : ℕ) → k < at → Is k (set_at front k size)
-  sets_before sets front back at e h are k lt =
-      subst (Is k) (ap (λ xs. set_at xs k size) e ∙ set_at-front front back k size (omega (arith, h, block-below k at size lt))) (are k lt)
+  sets_before sets front back at e h are k lt = grind (arith, nat_tests, Is, set_at-front, block-below, are)
 
   -- words may come behind them
   pub sets_front : (front back : List ℕ) (n : ℕ) → length front ≡ n * size → ((k : ℕ) → k < n → Is k (set_at front k size)) → (k : ℕ) → k < n → Is k (set_at (front ++ back) k size)

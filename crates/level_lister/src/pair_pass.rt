@@ -8,14 +8,16 @@ ghost use Rattle.state_rules.specs.Graphs.{node_at};
 ghost use Rattle.minimiser.specs.Costs.{known_at};
 ghost use Rattle.part_sets.specs.Numbers.{part_words, set_at};
 ghost use Rattle.part_sets.specs.PartSets.{ArePartsOf, SameBelow};
+ghost use Rattle.level_lister.specs.Listing.{IsFor};
 ghost use Rattle.level_lister.specs.Passes.{group_count};
 ghost use Rattle.level_lister.specs.inner.Pairs.{Tells, TellsNode, TellNodes, TellsWhole, group_in, pair_at};
 
 use crate::levels::Levels;
 use crate::pairs::{Groups, Pair, either, joined, one};
-use crate::search::Search;
+use crate::search::Asked;
 use conditioner::{Leaf, is_open, known_of, leaf};
-use part_sets::{PART_LIMIT, next_missing, part_words, set_at};
+use node_store::Graph;
+use part_sets::{next_missing, part_words, set_at};
 use state_rules::NodeKind;
 
 // What costs nothing, and has no faulty part.
@@ -41,6 +43,22 @@ fn pair_at(values: &[u32], k: usize) -> Pair
     }
 }
 
+// What the words of the nodes are put from: a graph, words of its variables, groups, and which nodes are skipped.
+#[derive(Drop)]
+struct PairPass<'a> {
+    levels: &'a Levels,
+    graph: &'a Graph,
+    skips: &'a [u32],
+    words: &'a [u32],
+    groups: Groups,
+    ghost for_graph: { IsFor graph.now levels.now },
+    ghost marks: { length skips.now ≡ length graph.now.nodes },
+    ghost long: { length words.now ≡ graph.now.vars },
+    ghost small: { All (λ w. w < 3) words.now },
+    ghost few: { levels.now.top < 32 },
+    ghost some: { 0 < groups.size },
+}
+
 impl Levels {
     // How many groups a word tells apart at each cost.
     pub(crate) fn group_count(&self) -> u32
@@ -51,60 +69,71 @@ impl Levels {
     {
         32 / (self.top() + 1)
     }
+}
 
-    fn literal_pair(&self, words: &[u32], groups: Groups, var: u32, positive: bool) -> Pair
-        requires var { (1 ≤ var) × (var ≤ length words.now) }
-        requires words { All (λ w. w < 3) words.now }
-        requires parts { length self.now.costs ≤ length words.now }
-        requires top { self.now.top < 32 }
+impl Asked<'_> {
+    // Puts the two words of each node, and brings those of all parts.
+    pub(crate) fn put_pairs(&self, groups: Groups, values: &mut [u32]) -> Pair
+        requires top { self.now.levels.now.top < 32 }
         requires size { 0 < groups.size }
-        ensures { Tells words.now self.now.costs self.now.top (group_count self.now.top) (group_in words.now (length self.now.costs) groups)
+        requires room { 2 * length self.now.graph.now.nodes ≤ length values.old }
+        ensures { TellsWhole self.now.graph.now self.now.skips.now self.now.words.now self.now.levels.now.costs self.now.levels.now.top groups result }
+    {
+        let pass = PairPass {
+            levels: self.levels,
+            graph: self.graph,
+            skips: self.skips,
+            words: self.words,
+            groups,
+        };
+        pass.put_all(values)
+    }
+}
+
+impl PairPass<'_> {
+    fn literal_pair(&self, var: u32, positive: bool) -> Pair
+        requires var { (1 ≤ var) × (var ≤ length self.now.words.now) }
+        ensures { Tells self.now.words.now self.now.levels.now.costs self.now.levels.now.top (group_count self.now.levels.now.top) (group_in self.now.words.now (length self.now.levels.now.costs) self.now.groups)
             (λ a. same_bit positive (a var)) (λ v. var == v) result }
     {
-        match leaf(words, var, positive) {
+        match leaf(self.words, var, positive) {
             Leaf::False => NEVER,
             _ => if positive {
                 FREE
             } else {
-                self.fault_pair(words, groups, var as usize - 1)
+                self.fault_pair(var as usize - 1)
             },
         }
     }
 
     // What is told where a part is faulty. There may be no such part: then it is another variable that is false.
-    fn fault_pair(&self, words: &[u32], groups: Groups, part: usize) -> Pair
-        requires part { part < length words.now }
-        requires parts { length self.now.costs ≤ length words.now }
-        requires allowed { agrees_at (known_at words.now (part + 1)) false ≡ true }
-        requires top { self.now.top < 32 }
-        requires size { 0 < groups.size }
-        ensures { Tells words.now self.now.costs self.now.top (group_count self.now.top) (group_in words.now (length self.now.costs) groups)
+    fn fault_pair(&self, part: usize) -> Pair
+        requires part { part < length self.now.words.now }
+        requires allowed { agrees_at (known_at self.now.words.now (part + 1)) false ≡ true }
+        ensures { Tells self.now.words.now self.now.levels.now.costs self.now.levels.now.top (group_count self.now.levels.now.top) (group_in self.now.words.now (length self.now.levels.now.costs) self.now.groups)
             (λ a. same_bit false (a (part + 1))) (λ v. part + 1 == v) result }
     {
-        let costs = self.costs();
+        let costs = self.levels.costs();
         if part >= costs.len() {
             return FREE;
         }
         Pair {
             costs: one(costs[part]),
-            faults: self.mark(words, groups, part, costs[part]),
+            faults: self.mark(part, costs[part]),
         }
     }
 
     // The bit of a part's group at its cost, if it is open and in a group.
-    fn mark(&self, words: &[u32], groups: Groups, part: usize, cost: u32) -> u32
-        requires part { part < length self.now.costs }
-        requires parts { length self.now.costs ≤ length words.now }
-        requires top { self.now.top < 32 }
-        requires size { 0 < groups.size }
-        ensures { (n g : ℕ) → n ≤ self.now.top → g < group_count self.now.top → has_bit result (group_count self.now.top * n + g)
-            ≡ ((n == cost) && group_in words.now (length self.now.costs) groups g (part + 1)) }
+    fn mark(&self, part: usize, cost: u32) -> u32
+        requires part { part < length self.now.levels.now.costs }
+        ensures { (n g : ℕ) → n ≤ self.now.levels.now.top → g < group_count self.now.levels.now.top → has_bit result (group_count self.now.levels.now.top * n + g)
+            ≡ ((n == cost) && group_in self.now.words.now (length self.now.levels.now.costs) self.now.groups g (part + 1)) }
     {
-        if !is_open(words[part]) || cost > self.top() || part < groups.low {
+        if !is_open(self.words[part]) || cost > self.levels.top() || part < self.groups.low {
             return 0;
         }
-        let count = self.group_count();
-        let group = (part - groups.low) / groups.size;
+        let count = self.levels.group_count();
+        let group = (part - self.groups.low) / self.groups.size;
         if group >= count as usize {
             return 0;
         }
@@ -112,64 +141,49 @@ impl Levels {
     }
 
     // What is told of a part about which nothing is asked.
-    fn free_pair(&self, words: &[u32], groups: Groups, part: usize) -> Pair
-        requires part { part < length self.now.costs }
-        requires parts { length self.now.costs ≤ length words.now }
-        requires words { All (λ w. w < 3) words.now }
-        requires top { self.now.top < 32 }
-        requires size { 0 < groups.size }
-        ensures { Tells words.now self.now.costs self.now.top (group_count self.now.top) (group_in words.now (length self.now.costs) groups)
+    fn free_pair(&self, part: usize) -> Pair
+        requires part { part < length self.now.levels.now.costs }
+        ensures { Tells self.now.words.now self.now.levels.now.costs self.now.levels.now.top (group_count self.now.levels.now.top) (group_in self.now.words.now (length self.now.levels.now.costs) self.now.groups)
             (λ a. true) (λ v. part + 1 == v) result }
     {
-        match known_of(words[part]) {
+        match known_of(self.words[part]) {
             Some(true) => FREE,
-            Some(false) => self.fault_pair(words, groups, part),
-            None => either(FREE, self.fault_pair(words, groups, part)),
+            Some(false) => self.fault_pair(part),
+            None => either(FREE, self.fault_pair(part)),
         }
     }
 
     // Lets each part be free that is below the one node and not below the other.
-    fn widened(&self, words: &[u32], groups: Groups, pair: Pair, inner: usize, outer: usize) -> Pair
-        requires parts { length self.now.costs ≤ length words.now }
-        requires words { All (λ w. w < 3) words.now }
-        requires few { length self.now.costs ≤ PART_LIMIT }
-        requires top { self.now.top < 32 }
-        requires size { 0 < groups.size }
-        requires inner { inner * part_words (length self.now.costs) + part_words (length self.now.costs) ≤ length self.now.below }
-        requires outer { outer * part_words (length self.now.costs) + part_words (length self.now.costs) ≤ length self.now.below }
+    fn widened(&self, pair: Pair, inner: usize, outer: usize) -> Pair
+        requires inner { inner * part_words (length self.now.levels.now.costs) + part_words (length self.now.levels.now.costs) ≤ length self.now.levels.now.below }
+        requires outer { outer * part_words (length self.now.levels.now.costs) + part_words (length self.now.levels.now.costs) ≤ length self.now.levels.now.below }
         ensures { (test : Assignment → Bool) (some more : ℕ → Bool)
-            → ArePartsOf (length self.now.costs) some (set_at self.now.below inner (part_words (length self.now.costs)))
-            → ArePartsOf (length self.now.costs) more (set_at self.now.below outer (part_words (length self.now.costs)))
+            → ArePartsOf (length self.now.levels.now.costs) some (set_at self.now.levels.now.below inner (part_words (length self.now.levels.now.costs)))
+            → ArePartsOf (length self.now.levels.now.costs) more (set_at self.now.levels.now.below outer (part_words (length self.now.levels.now.costs)))
             → ((v : ℕ) → some v ≡ true → more v ≡ true)
-            → Tells words.now self.now.costs self.now.top (group_count self.now.top) (group_in words.now (length self.now.costs) groups) test some pair
-            → Tells words.now self.now.costs self.now.top (group_count self.now.top) (group_in words.now (length self.now.costs) groups) test more result }
+            → Tells self.now.words.now self.now.levels.now.costs self.now.levels.now.top (group_count self.now.levels.now.top) (group_in self.now.words.now (length self.now.levels.now.costs) self.now.groups) test some pair
+            → Tells self.now.words.now self.now.levels.now.costs self.now.levels.now.top (group_count self.now.levels.now.top) (group_in self.now.words.now (length self.now.levels.now.costs) self.now.groups) test more result }
     {
-        let parts = self.costs().len();
-        let below = set_at(self.below(), outer, part_words(parts));
-        let own = set_at(self.below(), inner, part_words(parts));
+        let parts = self.levels.costs().len();
+        let below = set_at(self.levels.below(), outer, part_words(parts));
+        let own = set_at(self.levels.below(), inner, part_words(parts));
         let mut pair = pair;
         let mut part = next_missing(below, own, 0);
         while part < parts {
-            let free = self.free_pair(words, groups, part);
-            pair = joined(pair, free, self.group_count(), self.top() + 1);
+            let free = self.free_pair(part);
+            pair = joined(pair, free, self.levels.group_count(), self.levels.top() + 1);
             part = next_missing(below, own, part + 1);
         }
         pair
     }
-}
 
-impl Search<'_> {
     // Puts the two words of each node, and brings those of all parts.
-    pub(crate) fn put_pairs(&self, words: &[u32], groups: Groups, values: &mut [u32]) -> Pair
-        requires long { length words.now ≡ self.now.graph.now.vars }
-        requires words { All (λ w. w < 3) words.now }
-        requires top { self.now.levels.now.top < 32 }
-        requires size { 0 < groups.size }
+    fn put_all(&self, values: &mut [u32]) -> Pair
         requires room { 2 * length self.now.graph.now.nodes ≤ length values.old }
-        ensures { TellsWhole self.now.graph.now self.now.skips.now words.now self.now.levels.now.costs self.now.levels.now.top groups result }
+        ensures { TellsWhole self.now.graph.now self.now.skips.now self.now.words.now self.now.levels.now.costs self.now.levels.now.top self.now.groups result }
     {
         for at in 0..self.graph.len() {
-            let pair = self.node_pair(words, groups, values, at);
+            let pair = self.node_pair(values, at);
             values[2 * at as usize] = pair.costs;
             values[2 * at as usize + 1] = pair.faults;
         }
@@ -178,19 +192,15 @@ impl Search<'_> {
         if self.levels.lacking()[root + 1] == 0 {
             return pair;
         }
-        self.levels.widened(words, groups, pair, root, root + 1)
+        self.widened(pair, root, root + 1)
     }
 
     // The two words of a node, from those of the nodes before it. One that is skipped is never true.
-    fn node_pair(&self, words: &[u32], groups: Groups, values: &[u32], at: u32) -> Pair
-        requires long { length words.now ≡ self.now.graph.now.vars }
-        requires words { All (λ w. w < 3) words.now }
-        requires top { self.now.levels.now.top < 32 }
-        requires size { 0 < groups.size }
+    fn node_pair(&self, values: &[u32], at: u32) -> Pair
         requires at { at < length self.now.graph.now.nodes }
         requires room { 2 * length self.now.graph.now.nodes ≤ length values.now }
-        requires earlier { TellNodes self.now.graph.now self.now.skips.now words.now self.now.levels.now.costs self.now.levels.now.top groups values.now at }
-        ensures { TellsNode self.now.graph.now self.now.skips.now words.now self.now.levels.now.costs self.now.levels.now.top groups at result }
+        requires earlier { TellNodes self.now.graph.now self.now.skips.now self.now.words.now self.now.levels.now.costs self.now.levels.now.top self.now.groups values.now at }
+        ensures { TellsNode self.now.graph.now self.now.skips.now self.now.words.now self.now.levels.now.costs self.now.levels.now.top self.now.groups at result }
     {
         // Its contract says that this is a graph.
         let _vars = self.graph.vars();
@@ -198,22 +208,19 @@ impl Search<'_> {
             return NEVER;
         }
         match self.graph.what(at) {
-            NodeKind::Literal { var, positive } => self
-                .levels
-                .literal_pair(words, groups, var, positive),
+            NodeKind::Literal { var, positive } => self.literal_pair(var, positive),
             NodeKind::And => self.and_pair(values, at),
             NodeKind::Or => {
                 if self.levels.lacking()[at as usize] == 0 {
                     self.full_pair(values, at)
                 } else {
-                    self.or_pair(words, groups, values, at)
+                    self.or_pair(values, at)
                 }
             }
         }
     }
 
     fn and_pair(&self, values: &[u32], at: u32) -> Pair
-        requires top { self.now.levels.now.top < 32 }
         requires at { at < length self.now.graph.now.nodes }
         requires what { (node_at self.now.graph.now.nodes at).what ≡ And }
         requires lives { slice_index self.now.skips.now at ≡ 0 }
@@ -258,28 +265,20 @@ impl Search<'_> {
     }
 
     // The words of an Or: parts that a kid does not mention are free where it is true.
-    fn or_pair(&self, words: &[u32], groups: Groups, values: &[u32], at: u32) -> Pair
-        requires long { length words.now ≡ self.now.graph.now.vars }
-        requires words { All (λ w. w < 3) words.now }
-        requires top { self.now.levels.now.top < 32 }
-        requires size { 0 < groups.size }
+    fn or_pair(&self, values: &[u32], at: u32) -> Pair
         requires at { at < length self.now.graph.now.nodes }
         requires what { (node_at self.now.graph.now.nodes at).what ≡ Or }
         requires lives { slice_index self.now.skips.now at ≡ 0 }
         requires room { 2 * length self.now.graph.now.nodes ≤ length values.now }
-        requires earlier { TellNodes self.now.graph.now self.now.skips.now words.now self.now.levels.now.costs self.now.levels.now.top groups values.now at }
-        ensures { TellsNode self.now.graph.now self.now.skips.now words.now self.now.levels.now.costs self.now.levels.now.top groups at result }
+        requires earlier { TellNodes self.now.graph.now self.now.skips.now self.now.words.now self.now.levels.now.costs self.now.levels.now.top self.now.groups values.now at }
+        ensures { TellsNode self.now.graph.now self.now.skips.now self.now.words.now self.now.levels.now.costs self.now.levels.now.top self.now.groups at result }
     {
         // Its contract says that this is a graph.
         let _vars = self.graph.vars();
         let mut pair = NEVER;
         for kid in self.graph.kids(at) {
             let own = pair_at(values, *kid as usize);
-            pair = either(
-                pair,
-                self.levels
-                    .widened(words, groups, own, *kid as usize, at as usize),
-            );
+            pair = either(pair, self.widened(own, *kid as usize, at as usize));
         }
         pair
     }

@@ -1,5 +1,5 @@
 //! One pass over the nodes, which brings the set of the costs of each.
-ghost use Rattle.std.specs.Prelude.{◌≡◌, ◌≢◌, ℕ, ◌+◌, ◌*◌, ◌<◌, ◌≤◌, false, List, length, slice_index, All, ◌==◌, if◌then◌else◌};
+ghost use Rattle.std.specs.Prelude.{◌≡◌, ◌≢◌, ℕ, ◌+◌, ◌*◌, ◌<◌, ◌≤◌, false, List, length, slice_index, ◌==◌, if◌then◌else◌};
 ghost use Rattle.state_rules.specs.declared.nodes.NodeKind.TheVariants.{And, Or};
 ghost use Rattle.state_rules.specs.Graphs.{node_at};
 ghost use Rattle.conditioner.specs.declared.leaves.Leaf.{Leaf};
@@ -10,7 +10,7 @@ ghost use Rattle.level_lister.specs.inner.NodeSets.{IsNodeSet, AreNodeSets, IsWh
 ghost use Rattle.level_lister.specs.inner.FaultSets.{IsNodeFaults, AreNodeFaults};
 
 use crate::choices::widen;
-use crate::search::Search;
+use crate::search::Asked;
 use crate::sets::{SET_LIMIT, add_shifted, put_sums};
 use conditioner::{Leaf, leaf};
 use minimiser::part_cost;
@@ -18,23 +18,15 @@ use node_store::Graph;
 use part_sets::{clear, part_words, put_one, set_at};
 use state_rules::NodeKind;
 
-impl Search<'_> {
+impl Asked<'_> {
     // Brings the set of the costs of each node, and that of the costs of all parts at which the last node can be true.
-    pub(crate) fn put_whole(
-        &self,
-        words: &[u32],
-        sets: &mut [u32],
-        whole: &mut [u32],
-        spare: &mut [u32],
-    )
-        requires long { length words.now ≡ self.now.graph.now.vars }
-        requires words { All (λ w. w < 3) words.now }
+    pub(crate) fn put_whole(&self, sets: &mut [u32], whole: &mut [u32], spare: &mut [u32])
         requires room { length whole.old ≤ SET_LIMIT }
         requires sets { length sets.old ≡ length self.now.graph.now.nodes * length whole.old }
         requires spare { length spare.old ≡ length whole.old }
-        ensures { IsWholeSet self.now.graph.now self.now.skips.now words.now self.now.levels.now.costs whole.new }
+        ensures { IsWholeSet self.now.graph.now self.now.skips.now self.now.words.now self.now.levels.now.costs whole.new }
     {
-        self.put_sets(words, sets, whole, spare);
+        self.put_sets(sets, whole, spare);
         let root = self.graph.len() as usize - 1;
         whole.copy_from_slice(set_at(sets, root, whole.len()));
         if self.levels.lacking()[root + 1] == 0 {
@@ -46,7 +38,7 @@ impl Search<'_> {
         widen(
             set_at(below, root + 1, size),
             set_at(below, root, size),
-            words,
+            self.words,
             costs,
             whole,
             spare,
@@ -54,47 +46,29 @@ impl Search<'_> {
     }
 
     // The set of the costs of each node.
-    pub(crate) fn put_sets(
-        &self,
-        words: &[u32],
-        sets: &mut [u32],
-        spare: &mut [u32],
-        other: &mut [u32],
-    )
-        requires long { length words.now ≡ self.now.graph.now.vars }
-        requires words { All (λ w. w < 3) words.now }
+    pub(crate) fn put_sets(&self, sets: &mut [u32], spare: &mut [u32], other: &mut [u32])
         requires room { length spare.old ≤ SET_LIMIT }
         requires sets { length sets.old ≡ length self.now.graph.now.nodes * length spare.old }
         requires other { length other.old ≡ length spare.old }
-        ensures { AreNodeSets self.now.graph.now self.now.skips.now words.now self.now.levels.now.costs (length spare.old) sets.new (length self.now.graph.now.nodes) }
+        ensures { AreNodeSets self.now.graph.now self.now.skips.now self.now.words.now self.now.levels.now.costs (length spare.old) sets.new (length self.now.graph.now.nodes) }
     {
         let size = spare.len();
         for at in 0..self.graph.len() {
             let (earlier, rest) = sets.split_at_mut(at as usize * size);
             let (set, _) = rest.split_at_mut(size);
-            self.put_set(words, earlier, at, set, spare, other);
+            self.put_set(earlier, at, set, spare, other);
         }
     }
 
     // The set of a node, from those of the nodes before it. One that is skipped has no cost.
-    fn put_set(
-        &self,
-        words: &[u32],
-        sets: &[u32],
-        at: u32,
-        set: &mut [u32],
-        spare: &mut [u32],
-        other: &mut [u32],
-    )
-        requires long { length words.now ≡ self.now.graph.now.vars }
-        requires words { All (λ w. w < 3) words.now }
+    fn put_set(&self, sets: &[u32], at: u32, set: &mut [u32], spare: &mut [u32], other: &mut [u32])
         requires room { length set.old ≤ SET_LIMIT }
         requires at { at < length self.now.graph.now.nodes }
         requires sets { length sets.now ≡ at * length set.old }
-        requires earlier { AreNodeSets self.now.graph.now self.now.skips.now words.now self.now.levels.now.costs (length set.old) sets.now at }
+        requires earlier { AreNodeSets self.now.graph.now self.now.skips.now self.now.words.now self.now.levels.now.costs (length set.old) sets.now at }
         requires spare { length spare.old ≡ length set.old }
         requires other { length other.old ≡ length set.old }
-        ensures { IsNodeSet self.now.graph.now self.now.skips.now words.now self.now.levels.now.costs at set.new }
+        ensures { IsNodeSet self.now.graph.now self.now.skips.now self.now.words.now self.now.levels.now.costs at set.new }
     {
         // Its contract says that this is a graph.
         let _vars = self.graph.vars();
@@ -105,7 +79,7 @@ impl Search<'_> {
         match self.graph.what(at) {
             NodeKind::Literal { var, positive } => {
                 put_literal(
-                    leaf(words, var, positive),
+                    leaf(self.words, var, positive),
                     positive,
                     part_cost(var, self.levels.costs()),
                     set,
@@ -116,7 +90,7 @@ impl Search<'_> {
                 if self.levels.lacking()[at as usize] == 0 {
                     put_full(self.graph, sets, at, set)
                 } else {
-                    self.put_or(words, sets, at, set, spare, other)
+                    self.put_or(sets, at, set, spare, other)
                 }
             }
         }
@@ -144,25 +118,15 @@ impl Search<'_> {
     }
 
     // The set of an Or: parts that a kid does not mention are free where it is true.
-    fn put_or(
-        &self,
-        words: &[u32],
-        sets: &[u32],
-        at: u32,
-        set: &mut [u32],
-        spare: &mut [u32],
-        other: &mut [u32],
-    )
-        requires long { length words.now ≡ self.now.graph.now.vars }
-        requires words { All (λ w. w < 3) words.now }
+    fn put_or(&self, sets: &[u32], at: u32, set: &mut [u32], spare: &mut [u32], other: &mut [u32])
         requires at { at < length self.now.graph.now.nodes }
         requires what { (node_at self.now.graph.now.nodes at).what ≡ Or }
         requires lives { slice_index self.now.skips.now at ≡ 0 }
         requires sets { length sets.now ≡ at * length set.old }
-        requires earlier { AreNodeSets self.now.graph.now self.now.skips.now words.now self.now.levels.now.costs (length set.old) sets.now at }
+        requires earlier { AreNodeSets self.now.graph.now self.now.skips.now self.now.words.now self.now.levels.now.costs (length set.old) sets.now at }
         requires spare { length spare.old ≡ length set.old }
         requires other { length other.old ≡ length set.old }
-        ensures { IsNodeSet self.now.graph.now self.now.skips.now words.now self.now.levels.now.costs at set.new }
+        ensures { IsNodeSet self.now.graph.now self.now.skips.now self.now.words.now self.now.levels.now.costs at set.new }
     {
         // Its contract says that this is a graph.
         let _vars = self.graph.vars();
@@ -177,7 +141,7 @@ impl Search<'_> {
             widen(
                 own,
                 set_at(below, *kid as usize, parts),
-                words,
+                self.words,
                 costs,
                 spare,
                 other,

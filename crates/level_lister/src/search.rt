@@ -24,6 +24,20 @@ pub(crate) struct Search<'a> {
     ghost marks: { length skips.now ≡ length graph.now.nodes },
 }
 
+// The same under words of the variables, which all passes go by.
+#[derive(Clone, Copy)]
+pub(crate) struct Asked<'a> {
+    pub(crate) levels: &'a Levels,
+    pub(crate) graph: &'a Graph,
+    pub(crate) skips: &'a [u32],
+    pub(crate) words: &'a [u32],
+    ghost for_graph: { IsFor graph.now levels.now },
+    ghost marks: { length skips.now ≡ length graph.now.nodes },
+    ghost long: { length words.now ≡ graph.now.vars },
+    ghost small: { All (λ w. w < 3) words.now },
+    ghost enough: { IsEnough graph.now skips.now words.now levels.now.costs levels.now.top },
+}
+
 impl Search<'_> {
     // Fixes the parts as the next state has them, if there is one; what it costs.
     pub(crate) fn find<L: Ledger>(
@@ -111,7 +125,13 @@ impl Search<'_> {
             → (search : ℕ) → AreEnough (length self.now.levels.now.costs) self.now.levels.now.top search → steps.new ≤ steps.old
             + (1 + fixing_passes search (fixed_bits (length self.now.levels.now.costs) words.new))) }
     {
-        match self.next_cost(words, work, from, steps) {
+        let asked = Asked {
+            levels: self.levels,
+            graph: self.graph,
+            skips: self.skips,
+            words,
+        };
+        match asked.next_cost(work, from, steps) {
             None => None,
             Some(cost) => {
                 self.settle(words, work, cost, 0, steps);

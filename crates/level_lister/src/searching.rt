@@ -1,26 +1,23 @@
 //! The first part that is faulty in some state of a cost.
-ghost use Rattle.std.specs.Prelude.{◌≡◌, ℕ, ◌+◌, ◌*◌, ◌<◌, ◌≤◌, length, All, MatchOption};
+ghost use Rattle.std.specs.Prelude.{◌≡◌, ℕ, ◌+◌, ◌*◌, ◌<◌, ◌≤◌, length, MatchOption};
 ghost use Rattle.level_lister.specs.Listing.{cost_words};
 ghost use Rattle.level_lister.specs.Passes.{AreEnough, first_passes, group_count, told_groups};
 ghost use Rattle.level_lister.specs.inner.NodeSets.{BeginWithSets, AreReady};
 ghost use Rattle.level_lister.specs.inner.Pairs.{FaultOf, FaultIn, OkAmong};
-ghost use Rattle.level_lister.specs.inner.Skips.{IsEnough};
 
 use crate::fault_pass::FaultPass;
 use crate::pairs::{Groups, has_bit};
-use crate::search::Search;
+use crate::search::Asked;
 use minimiser::Steps;
 use part_sets::has_number;
 use std::sync::ledger::Ledger;
 
-impl Search<'_> {
+impl Asked<'_> {
     // Puts the sets of the costs of all nodes at the front of the work, where costs of 32 and more are listed, by one pass. While the
     // words are the same, each pass that looks for a fault goes by them.
-    fn prepare<L: Ledger>(&self, words: &[u32], work: &mut [u32], steps: &mut Steps<L>)
-        requires long { length words.now ≡ self.now.graph.now.vars }
-        requires words { All (λ w. w < 3) words.now }
+    fn prepare<L: Ledger>(&self, work: &mut [u32], steps: &mut Steps<L>)
         requires work { length work.old ≡ (length self.now.graph.now.nodes + 2) * (2 * cost_words self.now.levels.now.top) }
-        ensures ready { AreReady self.now.graph.now self.now.skips.now words.now self.now.levels.now work.new }
+        ensures ready { AreReady self.now.graph.now self.now.skips.now self.now.words.now self.now.levels.now work.new }
         ensures steps { steps.new ≡ steps.old + first_passes self.now.levels.now.top }
     {
         if self.levels.top() < 32 {
@@ -31,55 +28,43 @@ impl Search<'_> {
         let (sets, rest) = work.split_at_mut(self.graph.len() as usize * size);
         let (spare, rest) = rest.split_at_mut(size);
         let (other, _) = rest.split_at_mut(size);
-        self.put_sets(words, sets, spare, other);
+        self.put_sets(sets, spare, other);
     }
 
     // The first of the groups that are told in which an open part is faulty in some state of this cost, or the number of them where
     // there is none. It takes one pass, and leaves what was prepared.
-    fn faulty_group(&self, words: &[u32], work: &mut [u32], cost: u32, groups: Groups) -> u32
-        requires long { length words.now ≡ self.now.graph.now.vars }
-        requires words { All (λ w. w < 3) words.now }
-        requires enough { IsEnough self.now.graph.now self.now.skips.now words.now self.now.levels.now.costs self.now.levels.now.top }
+    fn faulty_group(&self, work: &mut [u32], cost: u32, groups: Groups) -> u32
         requires size { 0 < groups.size }
         requires work { length work.old ≡ (length self.now.graph.now.nodes + 2) * (2 * cost_words self.now.levels.now.top) }
         requires cost { cost ≤ self.now.levels.now.top }
-        requires ready { AreReady self.now.graph.now self.now.skips.now words.now self.now.levels.now work.old }
+        requires ready { AreReady self.now.graph.now self.now.skips.now self.now.words.now self.now.levels.now work.old }
         ensures few { result ≤ told_groups self.now.levels.now.top }
         ensures found { result < told_groups self.now.levels.now.top
-            → FaultOf self.now.graph.now words.now self.now.levels.now.costs cost groups result }
-        ensures before { (g : ℕ) → g < result → FaultOf self.now.graph.now words.now self.now.levels.now.costs cost groups g → ⊥ }
-        ensures ready { AreReady self.now.graph.now self.now.skips.now words.now self.now.levels.now work.new }
+            → FaultOf self.now.graph.now self.now.words.now self.now.levels.now.costs cost groups result }
+        ensures before { (g : ℕ) → g < result → FaultOf self.now.graph.now self.now.words.now self.now.levels.now.costs cost groups g → ⊥ }
+        ensures ready { AreReady self.now.graph.now self.now.skips.now self.now.words.now self.now.levels.now work.new }
     {
         if self.levels.top() < 32 {
-            self.faulty_group_by_pairs(words, work, cost, groups)
+            self.faulty_group_by_pairs(work, cost, groups)
         } else {
-            self.faulty_group_by_sets(words, work, cost, groups)
+            self.faulty_group_by_sets(work, cost, groups)
         }
     }
 
     // The same, where only costs below 32 are listed.
-    fn faulty_group_by_pairs(
-        &self,
-        words: &[u32],
-        work: &mut [u32],
-        cost: u32,
-        groups: Groups,
-    ) -> u32
-        requires long { length words.now ≡ self.now.graph.now.vars }
-        requires words { All (λ w. w < 3) words.now }
-        requires enough { IsEnough self.now.graph.now self.now.skips.now words.now self.now.levels.now.costs self.now.levels.now.top }
+    fn faulty_group_by_pairs(&self, work: &mut [u32], cost: u32, groups: Groups) -> u32
         requires top { self.now.levels.now.top < 32 }
         requires size { 0 < groups.size }
         requires work { 2 * length self.now.graph.now.nodes ≤ length work.old }
         requires cost { cost ≤ self.now.levels.now.top }
         ensures few { result ≤ group_count self.now.levels.now.top }
         ensures found { result < group_count self.now.levels.now.top
-            → FaultOf self.now.graph.now words.now self.now.levels.now.costs cost groups result }
-        ensures before { (g : ℕ) → g < result → FaultOf self.now.graph.now words.now self.now.levels.now.costs cost groups g → ⊥ }
+            → FaultOf self.now.graph.now self.now.words.now self.now.levels.now.costs cost groups result }
+        ensures before { (g : ℕ) → g < result → FaultOf self.now.graph.now self.now.words.now self.now.levels.now.costs cost groups g → ⊥ }
     {
         // Its contract says that this is a graph.
         let _vars = self.graph.vars();
-        let pair = self.put_pairs(words, groups, work);
+        let pair = self.put_pairs(groups, work);
         let count = self.levels.group_count();
         for group in 0..count {
             if has_bit(pair.faults, count * cost + group) {
@@ -91,24 +76,15 @@ impl Search<'_> {
 
     // The first group alone: 0 where an open part of it is faulty in some state of this cost, and else 1. The pass goes over the nodes
     // once, for the costs with a fault: the sets of all costs are there.
-    fn faulty_group_by_sets(
-        &self,
-        words: &[u32],
-        work: &mut [u32],
-        cost: u32,
-        groups: Groups,
-    ) -> u32
-        requires long { length words.now ≡ self.now.graph.now.vars }
-        requires words { All (λ w. w < 3) words.now }
-        requires enough { IsEnough self.now.graph.now self.now.skips.now words.now self.now.levels.now.costs self.now.levels.now.top }
+    fn faulty_group_by_sets(&self, work: &mut [u32], cost: u32, groups: Groups) -> u32
         requires size { 0 < groups.size }
         requires work { length work.old ≡ (length self.now.graph.now.nodes + 2) * (2 * cost_words self.now.levels.now.top) }
         requires cost { cost ≤ self.now.levels.now.top }
-        requires sets { BeginWithSets self.now.graph.now self.now.skips.now words.now self.now.levels.now work.old }
+        requires sets { BeginWithSets self.now.graph.now self.now.skips.now self.now.words.now self.now.levels.now work.old }
         ensures few { result ≤ 1 }
-        ensures found { result < 1 → FaultOf self.now.graph.now words.now self.now.levels.now.costs cost groups result }
-        ensures before { (g : ℕ) → g < result → FaultOf self.now.graph.now words.now self.now.levels.now.costs cost groups g → ⊥ }
-        ensures sets { BeginWithSets self.now.graph.now self.now.skips.now words.now self.now.levels.now work.new }
+        ensures found { result < 1 → FaultOf self.now.graph.now self.now.words.now self.now.levels.now.costs cost groups result }
+        ensures before { (g : ℕ) → g < result → FaultOf self.now.graph.now self.now.words.now self.now.levels.now.costs cost groups g → ⊥ }
+        ensures sets { BeginWithSets self.now.graph.now self.now.skips.now self.now.words.now self.now.levels.now work.new }
     {
         let size = self.levels.size();
         let all = self.graph.len() as usize * size;
@@ -120,7 +96,7 @@ impl Search<'_> {
         let pass = FaultPass {
             levels: self.levels,
             graph: self.graph,
-            words,
+            words: self.words,
             groups,
             sets,
             skips: self.skips,
@@ -137,35 +113,31 @@ impl Search<'_> {
     // some groups it is, or behind them.
     pub(crate) fn first_faulty<L: Ledger>(
         &self,
-        words: &[u32],
         work: &mut [u32],
         cost: u32,
         from: usize,
         steps: &mut Steps<L>,
     ) -> Option<usize>
-        requires long { length words.now ≡ self.now.graph.now.vars }
-        requires words { All (λ w. w < 3) words.now }
-        requires enough { IsEnough self.now.graph.now self.now.skips.now words.now self.now.levels.now.costs self.now.levels.now.top }
         requires work { length work.old ≡ (length self.now.graph.now.nodes + 2) * (2 * cost_words self.now.levels.now.top) }
         requires cost { cost ≤ self.now.levels.now.top }
         requires from { from ≤ length self.now.levels.now.costs }
-        ensures found { MatchOption result (OkAmong self.now.graph.now words.now self.now.levels.now.costs cost from (length self.now.levels.now.costs))
-            (λ part. (from ≤ part) × (FaultIn self.now.graph.now words.now self.now.levels.now.costs cost part
-            × OkAmong self.now.graph.now words.now self.now.levels.now.costs cost from part)) }
+        ensures found { MatchOption result (OkAmong self.now.graph.now self.now.words.now self.now.levels.now.costs cost from (length self.now.levels.now.costs))
+            (λ part. (from ≤ part) × (FaultIn self.now.graph.now self.now.words.now self.now.levels.now.costs cost part
+            × OkAmong self.now.graph.now self.now.words.now self.now.levels.now.costs cost from part)) }
         ensures steps { (search : ℕ) → AreEnough (length self.now.levels.now.costs) self.now.levels.now.top search → steps.new ≤ steps.old + search }
     {
         let parts = self.levels.costs().len();
         if from == parts {
             return None;
         }
-        self.prepare(words, work, steps);
+        self.prepare(work, steps);
         let count = self.levels.told_groups() as usize;
         let mut low = from;
         let mut span = parts - from + 1;
         while span > 1 {
             let size = (span + count) / (count + 1);
             steps.tick();
-            let group = self.faulty_group(words, work, cost, Groups { low, size }) as usize;
+            let group = self.faulty_group(work, cost, Groups { low, size }) as usize;
             low += group * size;
             span = size;
         }

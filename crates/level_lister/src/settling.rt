@@ -2,14 +2,15 @@
 ghost use Rattle.std.specs.Prelude.{◌≡◌, ◌≢◌, ◌↔◌, ℕ, ◌+◌, ◌*◌, ◌<◌, ◌≤◌, true, length, All, IsTrue, MatchOption, slice_index};
 ghost use Rattle.conditioner.specs.Words.{bits_of};
 ghost use Rattle.diagnosis_lister.specs.Listing.{fault_count};
-ghost use Rattle.diagnosis_lister.specs.inner.Fixing.{IsFirst, fixed_bits};
+ghost use Rattle.diagnosis_lister.specs.inner.Fixing.{IsFirst, NoneAfter, Leaves, fixed_bits};
+ghost use Rattle.part_sets.specs.Numbers.{has_number};
 ghost use Rattle.level_lister.specs.Listing.{cost_words};
 ghost use Rattle.level_lister.specs.Passes.{AreEnough, fixing_passes};
-ghost use Rattle.level_lister.specs.inner.Searching.{OfCost, HasCost, NoneAfter, Leaves};
+ghost use Rattle.level_lister.specs.inner.Searching.{OfCost, HasCost};
 ghost use Rattle.level_lister.specs.inner.Skips.{IsEnough};
 
-use crate::pairs::{Groups, has_bit};
-use crate::search::Search;
+use crate::pairs::Groups;
+use crate::search::{Asked, Search};
 use crate::states::follow;
 use conditioner::{fix_ok, is_false, is_faulty, is_open};
 use minimiser::Steps;
@@ -22,7 +23,7 @@ const NO_GROUPS: Groups = Groups {
     size: 1,
 };
 
-impl Search<'_> {
+impl Asked<'_> {
     // Whether two words a node are there, where two words tell all that is listed of a node.
     fn has_pairs(&self, work: &[u32]) -> bool
         ensures few { result ≡ true → self.now.levels.now.top < 32 }
@@ -31,132 +32,66 @@ impl Search<'_> {
         self.levels.top() < 32 && 2 * self.graph.len() as usize <= work.len()
     }
 
-    // Whether some state that agrees with the words has this cost. It takes one pass.
-    fn reaches<L: Ledger>(
-        &self,
-        words: &[u32],
-        work: &mut [u32],
-        cost: u32,
-        steps: &mut Steps<L>,
-    ) -> bool
-        requires long { length words.now ≡ self.now.graph.now.vars }
-        requires words { All (λ w. w < 3) words.now }
-        requires enough { IsEnough self.now.graph.now self.now.skips.now words.now self.now.levels.now.costs self.now.levels.now.top }
-        requires work { (length self.now.graph.now.nodes + 2) * cost_words self.now.levels.now.top ≤ length work.old }
-        requires cost { cost ≤ self.now.levels.now.top }
-        ensures reached { IsTrue result ↔ HasCost self.now.graph.now words.now self.now.levels.now.costs cost }
-        ensures steps { steps.new ≡ steps.old + 1 }
-    {
-        steps.tick();
-        if self.has_pairs(work) {
-            self.reaches_by_pairs(words, work, cost)
-        } else {
-            self.reaches_by_sets(words, work, cost)
-        }
-    }
-
-    fn reaches_by_pairs(&self, words: &[u32], work: &mut [u32], cost: u32) -> bool
-        requires long { length words.now ≡ self.now.graph.now.vars }
-        requires words { All (λ w. w < 3) words.now }
-        requires enough { IsEnough self.now.graph.now self.now.skips.now words.now self.now.levels.now.costs self.now.levels.now.top }
-        requires top { self.now.levels.now.top < 32 }
-        requires work { 2 * length self.now.graph.now.nodes ≤ length work.old }
-        requires cost { cost ≤ self.now.levels.now.top }
-        ensures { IsTrue result ↔ HasCost self.now.graph.now words.now self.now.levels.now.costs cost }
+    // Puts the set of the costs up to the greatest that the states have which agree with the words.
+    fn put_costs(&self, set: &mut [u32], work: &mut [u32])
+        requires set { length set.old ≡ cost_words self.now.levels.now.top }
+        requires work { (length self.now.graph.now.nodes + 1) * cost_words self.now.levels.now.top ≤ length work.old }
+        ensures { (c : ℕ) → c ≤ self.now.levels.now.top
+            → (IsTrue (has_number set.new c) ↔ HasCost self.now.graph.now self.now.words.now self.now.levels.now.costs c) }
     {
         // Its contract says that this is a graph.
         let _vars = self.graph.vars();
-        let pair = self.put_pairs(words, NO_GROUPS, work);
-        has_bit(pair.costs, cost)
+        if self.has_pairs(work) {
+            let pair = self.put_pairs(NO_GROUPS, work);
+            set[0] = pair.costs;
+            return;
+        }
+        let size = set.len();
+        let (sets, rest) = work.split_at_mut(self.graph.len() as usize * size);
+        let (spare, _) = rest.split_at_mut(size);
+        self.put_whole(sets, set, spare);
     }
 
-    fn reaches_by_sets(&self, words: &[u32], work: &mut [u32], cost: u32) -> bool
-        requires long { length words.now ≡ self.now.graph.now.vars }
-        requires words { All (λ w. w < 3) words.now }
-        requires enough { IsEnough self.now.graph.now self.now.skips.now words.now self.now.levels.now.costs self.now.levels.now.top }
+    // Whether some state that agrees with the words has this cost. It takes one pass.
+    fn reaches<L: Ledger>(&self, work: &mut [u32], cost: u32, steps: &mut Steps<L>) -> bool
         requires work { (length self.now.graph.now.nodes + 2) * cost_words self.now.levels.now.top ≤ length work.old }
         requires cost { cost ≤ self.now.levels.now.top }
-        ensures { IsTrue result ↔ HasCost self.now.graph.now words.now self.now.levels.now.costs cost }
+        ensures reached { IsTrue result ↔ HasCost self.now.graph.now self.now.words.now self.now.levels.now.costs cost }
+        ensures steps { steps.new ≡ steps.old + 1 }
     {
-        let size = self.levels.size();
-        let (sets, rest) = work.split_at_mut(self.graph.len() as usize * size);
-        let (whole, rest) = rest.split_at_mut(size);
-        let (spare, _) = rest.split_at_mut(size);
-        self.put_whole(words, sets, whole, spare);
-        has_number(whole, cost as usize)
+        steps.tick();
+        let (set, rest) = work.split_at_mut(self.levels.size());
+        self.put_costs(set, rest);
+        has_number(set, cost as usize)
     }
 
     // The least cost from one on up to the greatest that some state has which agrees with the words. It takes one pass.
     pub(crate) fn next_cost<L: Ledger>(
         &self,
-        words: &[u32],
         work: &mut [u32],
         from: u32,
         steps: &mut Steps<L>,
     ) -> Option<u32>
-        requires long { length words.now ≡ self.now.graph.now.vars }
-        requires words { All (λ w. w < 3) words.now }
-        requires enough { IsEnough self.now.graph.now self.now.skips.now words.now self.now.levels.now.costs self.now.levels.now.top }
         requires work { (length self.now.graph.now.nodes + 2) * cost_words self.now.levels.now.top ≤ length work.old }
         ensures next { MatchOption result
-            ((c : ℕ) → from ≤ c → c ≤ self.now.levels.now.top → HasCost self.now.graph.now words.now self.now.levels.now.costs c → ⊥)
-            (λ cost. (from ≤ cost) × (cost ≤ self.now.levels.now.top) × HasCost self.now.graph.now words.now self.now.levels.now.costs cost
-            × ((c : ℕ) → from ≤ c → c < cost → HasCost self.now.graph.now words.now self.now.levels.now.costs c → ⊥)) }
+            ((c : ℕ) → from ≤ c → c ≤ self.now.levels.now.top → HasCost self.now.graph.now self.now.words.now self.now.levels.now.costs c → ⊥)
+            (λ cost. (from ≤ cost) × (cost ≤ self.now.levels.now.top) × HasCost self.now.graph.now self.now.words.now self.now.levels.now.costs cost
+            × ((c : ℕ) → from ≤ c → c < cost → HasCost self.now.graph.now self.now.words.now self.now.levels.now.costs c → ⊥)) }
         ensures steps { steps.new ≡ steps.old + 1 }
     {
         steps.tick();
-        if self.has_pairs(work) {
-            self.next_by_pairs(words, work, from)
-        } else {
-            self.next_by_sets(words, work, from)
-        }
-    }
-
-    fn next_by_pairs(&self, words: &[u32], work: &mut [u32], from: u32) -> Option<u32>
-        requires long { length words.now ≡ self.now.graph.now.vars }
-        requires words { All (λ w. w < 3) words.now }
-        requires enough { IsEnough self.now.graph.now self.now.skips.now words.now self.now.levels.now.costs self.now.levels.now.top }
-        requires top { self.now.levels.now.top < 32 }
-        requires work { 2 * length self.now.graph.now.nodes ≤ length work.old }
-        ensures { MatchOption result
-            ((c : ℕ) → from ≤ c → c ≤ self.now.levels.now.top → HasCost self.now.graph.now words.now self.now.levels.now.costs c → ⊥)
-            (λ cost. (from ≤ cost) × (cost ≤ self.now.levels.now.top) × HasCost self.now.graph.now words.now self.now.levels.now.costs cost
-            × ((c : ℕ) → from ≤ c → c < cost → HasCost self.now.graph.now words.now self.now.levels.now.costs c → ⊥)) }
-    {
-        // Its contract says that this is a graph.
-        let _vars = self.graph.vars();
-        let pair = self.put_pairs(words, NO_GROUPS, work);
+        let (set, rest) = work.split_at_mut(self.levels.size());
+        self.put_costs(set, rest);
         for cost in from..self.levels.top() + 1 {
-            if has_bit(pair.costs, cost) {
+            if has_number(set, cost as usize) {
                 return Some(cost);
             }
         }
         None
     }
+}
 
-    fn next_by_sets(&self, words: &[u32], work: &mut [u32], from: u32) -> Option<u32>
-        requires long { length words.now ≡ self.now.graph.now.vars }
-        requires words { All (λ w. w < 3) words.now }
-        requires enough { IsEnough self.now.graph.now self.now.skips.now words.now self.now.levels.now.costs self.now.levels.now.top }
-        requires work { (length self.now.graph.now.nodes + 2) * cost_words self.now.levels.now.top ≤ length work.old }
-        ensures { MatchOption result
-            ((c : ℕ) → from ≤ c → c ≤ self.now.levels.now.top → HasCost self.now.graph.now words.now self.now.levels.now.costs c → ⊥)
-            (λ cost. (from ≤ cost) × (cost ≤ self.now.levels.now.top) × HasCost self.now.graph.now words.now self.now.levels.now.costs cost
-            × ((c : ℕ) → from ≤ c → c < cost → HasCost self.now.graph.now words.now self.now.levels.now.costs c → ⊥)) }
-    {
-        let size = self.levels.size();
-        let (sets, rest) = work.split_at_mut(self.graph.len() as usize * size);
-        let (whole, rest) = rest.split_at_mut(size);
-        let (spare, _) = rest.split_at_mut(size);
-        self.put_whole(words, sets, whole, spare);
-        for cost in from..self.levels.top() + 1 {
-            if has_number(whole, cost as usize) {
-                return Some(cost);
-            }
-        }
-        None
-    }
-
+impl Search<'_> {
     // Fixes each open part from one on, so that only the first of the states of this cost is left that agree with the words.
     pub(crate) fn settle<L: Ledger>(
         &self,
@@ -216,7 +151,14 @@ impl Search<'_> {
             + fixing_passes search (fixed_bits (length self.now.levels.now.costs) words.new) }
     {
         let mut from = from;
-        while let Some(part) = self.first_faulty(words, work, cost, from, steps) {
+        while let Some(part) = (Asked {
+            levels: self.levels,
+            graph: self.graph,
+            skips: self.skips,
+            words,
+        })
+        .first_faulty(work, cost, from, steps)
+        {
             fix_ok(words, from, part);
             words[part] = 2;
             from = part + 1;
@@ -249,7 +191,13 @@ impl Search<'_> {
         for part in from..self.levels.costs().len() {
             if is_open(words[part]) {
                 words[part] = 2;
-                if !self.reaches(words, work, cost, steps) {
+                let asked = Asked {
+                    levels: self.levels,
+                    graph: self.graph,
+                    skips: self.skips,
+                    words,
+                };
+                if !asked.reaches(work, cost, steps) {
                     words[part] = 1;
                 }
             }
@@ -277,8 +225,8 @@ impl Search<'_> {
         requires cost { cost ≤ self.now.levels.now.top }
         ensures words { All (λ w. w < 3) words.new }
         ensures left { MatchOption result
-            ((words.new ≡ words.old) × NoneAfter self.now.graph.now words.old self.now.levels.now.costs cost (bits_of state.now) 0)
-            (λ part. Leaves self.now.graph.now words.old self.now.levels.now.costs cost (bits_of state.now) words.new part) }
+            ((words.new ≡ words.old) × NoneAfter (OfCost self.now.graph.now words.old self.now.levels.now.costs cost) (bits_of state.now) 0)
+            (λ part. Leaves (λ ws h. OfCost self.now.graph.now ws self.now.levels.now.costs cost h) words.old (bits_of state.now) words.new part) }
         ensures steps { steps.new ≤ steps.old + fault_count (bits_of state.now) }
     {
         let end = follow(words, state);
@@ -286,7 +234,13 @@ impl Search<'_> {
             let word = saved[part];
             if is_faulty(state[part]) && !is_false(word) {
                 words[part] = 1;
-                if self.reaches(words, work, cost, steps) {
+                let asked = Asked {
+                    levels: self.levels,
+                    graph: self.graph,
+                    skips: self.skips,
+                    words,
+                };
+                if asked.reaches(work, cost, steps) {
                     return Some(part);
                 }
             }

@@ -3,7 +3,7 @@ ghost use Rattle.std.specs.Prelude.{◌≡◌, ◌+◌, ◌<◌, ◌≤◌, ◌+
 ghost use Rattle.state_rules.specs.Ranking.{cost};
 ghost use Rattle.conditioner.specs.Models.{total_cost};
 ghost use Rattle.conditioner.specs.Words.{bits_of};
-ghost use Rattle.diagnosis_lister.specs.inner.Fixing.{Follows, fixed_bits};
+ghost use Rattle.diagnosis_lister.specs.inner.Fixing.{Agrees, Follows, fixed_bits};
 
 use conditioner::{is_false, is_faulty, is_open, word_of_known};
 use minimiser::TOTAL_LIMIT;
@@ -30,7 +30,7 @@ pub(crate) fn follow(words: &mut [u32], state: &[u32]) -> usize
     requires words { All (λ w. w < 3) words.old }
     ensures within { result ≤ length state.now }
     ensures words { All (λ w. w < 3) words.new }
-    ensures follows { Follows words.old (bits_of state.now) words.new result }
+    ensures follows { Follows (Agrees (length state.now) words.old) words.old (bits_of state.now) words.new result }
 {
     for (part, faulty) in state.iter().enumerate() {
         let word = word_of_known(Some(!is_faulty(*faulty)));

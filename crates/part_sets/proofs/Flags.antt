@@ -1,16 +1,14 @@
 -- Sets of which none has a part that the other has not.
-use Rattle.std.proofs.Common.{◌≡◌, ℕ, ◌+◌, ◌-◌, ◌<◌, ◌≤◌, Bool, true, false, not, ◌&&◌, List, length, get_or, set, refl, ap, sym, ◌∙◌, subst, arith, ⊎_elim}
-use Rattle.std.specs.Prelude.{◌↔◌, nat_lt}
-use Rattle.std.proofs.lemmas.Bool.{cases_lt, lt-ltb}
+use Rattle.std.proofs.Common.{◌≡◌, ℕ, ◌+◌, ◌-◌, ◌<◌, ◌≤◌, Bool, true, false, not, ◌&&◌, List, length, get_or, set, sym, ◌∙◌, subst, arith}
+use Rattle.std.specs.Prelude.{◌↔◌}
+use Rattle.std.proofs.lemmas.Bool.{lt-ltb}
 use Rattle.std.proofs.lemmas.List.{get_or-set_same, get_or-set_other}
 use Rattle.state_rules.specs.Graphs.{Graph}
 use Rattle.part_sets.specs.Numbers.{has_number}
 use Rattle.part_sets.specs.PartSets.{ArePartsOf, LacksNone}
 
 same_bits : (x y : Bool) → (x ≡ true → y ≡ true) → (y && not x) ≡ false → x ≡ y
-same_bits true y h e = sym (h refl)
-same_bits false true h e = absurd (cc)
-same_bits false false h e = refl
+same_bits x y h e = grind arith
 
 pub same_parts : (parts : ℕ) (outer inner : List ℕ) (some more : ℕ → Bool) → ArePartsOf parts some inner → ArePartsOf parts more outer → ((v : ℕ) → some v ≡ true → more v ≡ true)
     → ((p : ℕ) → p < parts → (has_number outer p && not (has_number inner p)) ≡ false) → (v : ℕ) → 1 ≤ v → v ≤ parts → some v ≡ more v
@@ -24,25 +22,11 @@ same_parts parts outer inner some more on_inner on_outer within none v l h =
 -- and the other way round
 pub none_lacking : (parts : ℕ) (outer inner : List ℕ) (some more : ℕ → Bool) → ArePartsOf parts some inner → ArePartsOf parts more outer → ((v : ℕ) → 1 ≤ v → v ≤ parts → some v ≡ more v)
     → (p : ℕ) → p < parts → (has_number outer p && not (has_number inner p)) ≡ false
-none_lacking parts outer inner some more on_inner on_outer same p lt =
-    (λ i. on_outer p i && not (on_inner p i))
-    ∙ ap (λ b. (nat_lt p parts && b) && not (nat_lt p parts && some (p + 1))) (sym (same (p + 1) (omega arith) (omega arith)))
-    ∙ never (nat_lt p parts && some (p + 1)) where
-      never : (b : Bool) → (b && not b) ≡ false
-      never true = refl
-      never false = refl
+none_lacking parts outer inner some more on_inner on_outer same p lt = grind arith
 
 -- the words of the nodes before one
 abbrev pub AreFlags : Graph → ℕ → List ℕ → ℕ → Type 0
 AreFlags graph parts lacking n = (k : ℕ) → k < n → (get_or lacking k 0 ≡ 0) ↔ LacksNone graph parts k
 
 pub flags_more : (graph : Graph) (parts : ℕ) (lacking : List ℕ) (at word : ℕ) → at < length lacking → AreFlags graph parts lacking at → (word ≡ 0) ↔ LacksNone graph parts at → AreFlags graph parts (set lacking at word) (at + 1)
-flags_more graph parts lacking at word lt are here k h = ⊎_elim
-    (λ (p : k < at).
-    let other : get_or (set lacking at word) k 0 ≡ get_or lacking k 0 = get_or-set_other lacking at k word 0 (λ e. absurd (omega arith)) in
-    (λ zero. (are k p).0 (sym other ∙ zero), λ same. other ∙ (are k p).1 same))
-    (λ (p : at ≤ k).
-    let same : at ≡ k = omega arith in
-    let own : get_or (set lacking at word) k 0 ≡ word = ap (λ j. get_or (set lacking at word) j 0) (sym same) ∙ get_or-set_same lacking at word 0 lt in
-    (λ zero. subst (LacksNone graph parts) same (here.0 (sym own ∙ zero)), λ below. own ∙ here.1 (subst (LacksNone graph parts) (sym same) below)))
-    (cases_lt k at)
+flags_more graph parts lacking at word lt are here k h = grind (arith, get_or-set_other, get_or-set_same)

@@ -1,10 +1,10 @@
 -- The parts below a node, from those below its kids.
-use Rattle.std.proofs.Common.{◌≡◌, ℕ, suc, ◌+◌, ◌*◌, ◌/◌, ◌%◌, ◌^◌, ◌<◌, ◌≤◌, Bool, true, false, ◌&&◌, ◌||◌, List, [], ◌∷◌, ◌++◌, map, take, length, get_or, set, refl, ap, sym, ◌∙◌, subst, arith, ⊎_elim, bit_or}
+use Rattle.std.proofs.Common.{◌≡◌, ℕ, suc, ◌+◌, ◌*◌, ◌/◌, ◌%◌, ◌^◌, ◌<◌, ◌≤◌, Bool, true, false, ◌&&◌, ◌||◌, List, [], ◌∷◌, ◌++◌, map, take, length, get_or, set, refl, ap, sym, ◌∙◌, arith, ⊎_elim, bit_or}
 use Rattle.std.specs.Prelude.{◌==◌, nat_lt}
 use Rattle.std.specs.List.{list_any}
 use Rattle.std.specs.Int.{bit_at}
 use Rattle.std.proofs.Math.Bool.{and-false, or-false}
-use Rattle.std.proofs.lemmas.Bool.{cases_lt, cases_eq, lt-ltb, le-ltb, eq-eqb, ne_eqb}
+use Rattle.std.proofs.lemmas.Bool.{cases_lt, cases_eq, ne_eqb}
 use Rattle.std.proofs.lemmas.List.{take_more, get_or-set_same, get_or-set_other}
 use Rattle.state_rules.specs.declared.nodes.NodeKind.TheVariants.{Literal}
 use Rattle.state_rules.specs.Graphs.{Graph, node_at, mention_by, mentions, IsGraph}
@@ -34,15 +34,7 @@ added_one xs number n h = ⊎_elim (λ e. here e) (λ ne. there ne) (cases_eq (n
       ∙ sym (ap (λ b. has_number xs n || b) (ne_eqb n number (λ q. ne (ap (λ m. m / 32) q))) ∙ or-false (has_number xs n))
 
 pub every_more : (xs new : List ℕ) (number : ℕ) → ((n : ℕ) → has_number xs n ≡ nat_lt n number) → ((n : ℕ) → has_number new n ≡ (has_number xs n || (n == number))) → (n : ℕ) → has_number new n ≡ nat_lt n (number + 1)
-every_more xs new number are added n = added n ∙ ap (λ b. b || (n == number)) (are n) ∙ ⊎_elim
-    (λ (p : n < number). ap (λ b. b || (n == number)) (lt-ltb n number p) ∙ sym (lt-ltb n (number + 1) (omega arith)))
-    (λ (p : number ≤ n). ap (λ b. b || (n == number)) (le-ltb n number p) ∙ ⊎_elim
-    (λ e. eq-eqb n number e ∙ sym (lt-ltb n (number + 1) (omega arith)))
-    (λ ne. ne_eqb n number ne ∙ sym (le-ltb n (number + 1) (above ne p)))
-    (cases_eq n number))
-    (cases_lt n number) where
-      above : (n ≡ number → ⊥) → number ≤ n → number + 1 ≤ n
-      above ne p = grind arith
+every_more xs new number are added n = grind arith
 
 -- ---- the numbers of several sets
 
@@ -59,10 +51,7 @@ joined_more sets kids old new j n lt long are added =
 
 -- a set has no number behind its words
 past : (parts : ℕ) (set : List ℕ) (some : ℕ → Bool) (n : ℕ) → length set ≡ part_words parts → 32 * length set ≤ n → has_number set n ≡ (nat_lt n parts && some (n + 1))
-past parts set some n long h = not_there (has_number set n) refl ∙ sym (ap (λ b. b && some (n + 1)) (le-ltb n parts (omega arith))) where
-  not_there : (b : Bool) → has_number set n ≡ b → b ≡ false
-  not_there true e = absurd (omega (arith, has-within set n e))
-  not_there false e = refl
+past parts set some n long h = grind (arith, has-within)
 
 pub parts_from : (parts : ℕ) (set : List ℕ) (some : ℕ → Bool) → length set ≡ part_words parts → ((n : ℕ) → n < 32 * length set → has_number set n ≡ (nat_lt n parts && some (n + 1))) → ArePartsOf parts some set
 parts_from parts set some long are n = ⊎_elim (λ p. are n p) (λ p. past parts set some n long p) (cases_lt n (32 * length set))
@@ -95,13 +84,7 @@ module _ (graph : Graph) (at parts : ℕ) (kids : List ℕ) (ok : IsGraph graph)
 
 pub below_more : (graph : Graph) (parts : ℕ) (front set back : List ℕ) (at : ℕ) → length front ≡ at * part_words parts → length set ≡ part_words parts → ArePartsBelow graph parts front at → ArePartsOf parts (λ v. mentions graph.nodes v at) set
     → ArePartsBelow graph parts (front ++ (set ++ back)) (at + 1)
-below_more graph parts front set back at h l are is k lt = ⊎_elim
-    (λ (p : k < at). subst (ArePartsOf parts (λ v. mentions graph.nodes v k)) (sym (set_at-front front (set ++ back) k (part_words parts) (omega (arith, h, block-below k at (part_words parts) p)))) (are k p))
-    (λ (p : at ≤ k). let same : k ≡ at = omega arith in
-    subst (λ j. ArePartsOf parts (λ v. mentions graph.nodes v j) (set_at (front ++ (set ++ back)) j (part_words parts))) (sym same)
-    (subst (ArePartsOf parts (λ v. mentions graph.nodes v at)) (sym (set_at-here front set back at (part_words parts) h l)) is))
-    (cases_lt k at)
+below_more graph parts front set back at h l are is k lt = grind (arith, set_at-front, block-below, set_at-here)
 
 pub below_before : (graph : Graph) (parts : ℕ) (sets front back : List ℕ) (at : ℕ) → sets ≡ front ++ back → length front ≡ at * part_words parts → ArePartsBelow graph parts sets at → ArePartsBelow graph parts front at
-below_before graph parts sets front back at e h are k lt =
-    subst (ArePartsOf parts (λ v. mentions graph.nodes v k)) (ap (λ xs. set_at xs k (part_words parts)) e ∙ set_at-front front back k (part_words parts) (omega (arith, h, block-below k at (part_words parts) lt))) (are k lt)
+below_before graph parts sets front back at e h are k lt = grind (arith, set_at-front, block-below)

@@ -1,9 +1,9 @@
 -- Numbers that one set has and another one has not.
-use Rattle.std.proofs.Common.{◌≡◌, ℕ, zero, suc, ◌+◌, ◌-◌, ◌*◌, ◌/◌, ◌%◌, ◌^◌, ◌<◌, ◌≤◌, min, Bool, true, false, not, ◌&&◌, List, get_or, refl, ap, sym, ◌∙◌, arith, ⊎_elim, bit_and, w32}
+use Rattle.std.proofs.Common.{◌≡◌, ℕ, ◌+◌, ◌-◌, ◌*◌, ◌/◌, ◌%◌, ◌^◌, ◌<◌, ◌≤◌, min, Bool, true, false, not, ◌&&◌, List, get_or, ap, ◌∙◌, arith, ⊎_elim, bit_and, w32}
 use Rattle.std.specs.Prelude.{◌==◌}
 use Rattle.std.specs.Int.{bit_at, bit_not, trailing_zeros}
 use Rattle.std.proofs.lemmas.Bool.{cases_lt}
-use Rattle.std.proofs.lemmas.Nat.{shr-shr, shr_le, and_le_l}
+use Rattle.std.proofs.lemmas.Nat.{shr-shr, and_le_l}
 use Rattle.std.proofs.lemmas.Nat.Bits.{bit_at-zero, bit_at_and, bit_at_not, bit_at-lt, bit_at_above, bit_at-trailing_zeros}
 use Rattle.part_sets.specs.Numbers.{has_number}
 
@@ -12,11 +12,7 @@ abbrev pub gap_of : ℕ → ℕ → ℕ → ℕ
 gap_of outer inner r = bit_and outer (bit_not w32 inner) / 2 ^ r
 
 both_bits : (p q : ℕ) → p < 2 → q < 2 → (min p (1 - q) == 1) ≡ ((p == 1) && not (q == 1))
-both_bits zero q h g = ap (λ m. m == 1) (let e : min 0 (1 - q) ≡ 0 = omega arith in e)
-both_bits (suc zero) zero h g = refl
-both_bits (suc zero) (suc zero) h g = refl
-both_bits (suc zero) (suc (suc q)) h g = absurd (omega arith)
-both_bits (suc (suc p)) q h g = absurd (omega arith)
+both_bits p q h g = grind arith
 
 gap-bit : (outer inner r b : ℕ) → inner < 2 ^ 32 → r + b < 32 → (bit_at (gap_of outer inner r) b == 1) ≡ ((bit_at outer (r + b) == 1) && not (bit_at inner (r + b) == 1))
 gap-bit outer inner r b small lt =
@@ -32,19 +28,14 @@ module _ (outer inner : List ℕ) (at : ℕ) (small : (k : ℕ) → get_or inner
 
   -- a bit of the gap
   missing-bit : (p : ℕ) → at ≤ p → p / 32 ≡ at / 32 → is_missing p ≡ (bit_at gap (p - at) == 1)
-  missing-bit p le e =
-      let place : at % 32 + (p - at) ≡ p % 32 = omega arith in
-      sym (gap-bit (get_or outer (at / 32) 0) (get_or inner (at / 32) 0) (at % 32) (p - at) (small (at / 32)) (omega arith)
-      ∙ (λ i. (bit_at (get_or outer (sym e i) 0) (place i) == 1) && not (bit_at (get_or inner (sym e i) 0) (place i) == 1)))
+  missing-bit p le e = grind (arith, gap-bit)
 
   -- where the gap is empty, none is missing in the word
   pub none_missing : gap ≡ 0 → (p : ℕ) → at ≤ p → p < (at / 32 + 1) * 32 → is_missing p ≡ false
   none_missing e p le lt = missing-bit p le (omega arith) ∙ ap (λ g. bit_at g (p - at) == 1) e ∙ ap (λ m. m == 1) (bit_at-zero (p - at))
 
   pub gap-fits : get_or outer (at / 32) 0 < 2 ^ 32 → gap < 2 ^ 32
-  gap-fits small_outer =
-      let both = and_le_l (get_or outer (at / 32) 0) (bit_not w32 (get_or inner (at / 32) 0)) in
-      let less = shr_le (bit_and (get_or outer (at / 32) 0) (bit_not w32 (get_or inner (at / 32) 0))) (at % 32) in omega arith
+  gap-fits small_outer = grind (arith, and_le_l)
 
   -- and otherwise its lowest bit is the first
   module _ (some : 0 < gap) (fits : gap < 2 ^ 32) where

@@ -4,7 +4,7 @@ use Rattle.std.specs.Prelude.{◌==◌, nat_lt}
 use Rattle.std.specs.Int.{bit_at}
 use Rattle.std.proofs.Math.Bool.{or-false}
 use Rattle.std.proofs.lemmas.Nat.Bits.{bit_at-zero}
-use Rattle.std.proofs.lemmas.Bool.{cases_eq, cases_lt, lt-ltb, le-ltb, eq-eqb, ne_eqb, false≢true}
+use Rattle.std.proofs.lemmas.Bool.{cases_eq, cases_lt, lt-ltb, le-ltb, ne_eqb, false≢true}
 use Rattle.std.proofs.lemmas.List.{get_or-set_same, get_or-set_other, get_or_past}
 use Rattle.state_rules.proofs.WordBits.{has_bit-or, one_bit}
 use Rattle.state_rules.specs.Bits.{has_bit}
@@ -21,10 +21,7 @@ has-within set n e = ⊎_elim (λ p. omega arith) (λ p. absurd (false≢true (s
 
 -- of numbers in one word
 pub same_place : (n m : ℕ) → n / 32 ≡ m / 32 → (n % 32 == m % 32) ≡ (n == m)
-same_place n m e = ⊎_elim
-    (λ q. eq-eqb (n % 32) (m % 32) q ∙ sym (eq-eqb n m (omega arith)))
-    (λ q. ne_eqb (n % 32) (m % 32) q ∙ sym (ne_eqb n m (λ r. q (ap (λ k. k % 32) r))))
-    (cases_eq (n % 32) (m % 32))
+same_place n m e = grind arith
 
 -- one bit is put into an empty set
 pub one_is : (xs : List ℕ) (cost n : ℕ) → ((m : ℕ) → has_number xs m ≡ false) → cost / 32 < length xs → has_number (set xs (cost / 32) (1 * 2 ^ (cost % 32) % 4294967296)) n ≡ (n == cost)

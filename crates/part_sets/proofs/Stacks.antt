@@ -4,9 +4,7 @@ use Rattle.std.proofs.lemmas.List.{take-append-le, drop-append-le, drop_at, take
 use Rattle.part_sets.specs.Numbers.{set_at}
 
 pub set_at-front : (front back : List ℕ) (k size : ℕ) → k * size + size ≤ length front → set_at (front ++ back) k size ≡ set_at front k size
-set_at-front front back k size h =
-    ap (take size) (drop-append-le (k * size) front back (omega arith))
-    ∙ take-append-le size (drop (k * size) front) back (omega (arith, length-drop (k * size) front))
+set_at-front front back k size h = grind (arith, drop-append-le, take-append-le, length-drop)
 
 pub set_at-here : (front set back : List ℕ) (k size : ℕ) → length front ≡ k * size → length set ≡ size → set_at (front ++ (set ++ back)) k size ≡ set
 set_at-here front set back k size h l = ap (λ n. take size (drop n (front ++ (set ++ back)))) (sym h) ∙ ap (take size) (drop_at front (set ++ back) (length front) refl) ∙ take_at set back size l

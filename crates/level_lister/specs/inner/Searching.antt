@@ -1,12 +1,10 @@
 -- What holds while one part after the other is fixed, to find a state of one cost.
-use Rattle.std.specs.Prelude.{◌≡◌, ◌≢◌, ℕ, ◌+◌, ◌<◌, ◌≤◌, Bool, true, false, List, length, ◌⊎◌, Option, Some, None, MatchOption, slice_index}
-use Rattle.state_rules.specs.Bits.{bit_in, AlikeBelow}
-use Rattle.state_rules.specs.Ranking.{cost, is_before}
+use Rattle.std.specs.Prelude.{◌≡◌, ℕ, ◌≤◌, Bool, true, List, length, ◌⊎◌, Option, Some, None, MatchOption, slice_index}
+use Rattle.state_rules.specs.Ranking.{cost}
 use Rattle.state_rules.specs.Graphs.{Graph}
 use Rattle.state_rules.specs.Levels.{is_level_before}
-use Rattle.conditioner.specs.Words.{word_of}
 use Rattle.conditioner.specs.Models.{has_model, fits_words}
-use Rattle.diagnosis_lister.specs.inner.Fixing.{fixed_bits}
+use Rattle.diagnosis_lister.specs.inner.Fixing.{Has, fixed_bits}
 use Rattle.level_lister.specs.Listing.{Kept}
 
 -- a state of the parts that the graph allows under the words, of just so much cost
@@ -16,26 +14,8 @@ pub record OfCost (graph : Graph) (words costs : List ℕ) (c : ℕ) (h : List B
   pub cost_is : cost costs h ≡ c
 
 -- some state is one
-pub record HasCost (graph : Graph) (words costs : List ℕ) (c : ℕ) : Type 0 where
-  pub state : List Bool
-  pub is : OfCost graph words costs c state
-
--- no state of the cost has the point's first bits and comes after the point
-abbrev pub NoneAfter : Graph → List ℕ → List ℕ → ℕ → List Bool → ℕ → Type 0
-NoneAfter graph words costs c point n =
-    (h : List Bool) → OfCost graph words costs c h → AlikeBelow n h point → is_before point h ≡ true → ⊥
-
--- The words say the point's bits before a part, and ok for it, where the point has faulty. Some state of the cost agrees with
--- them, and none that has more of the point's bits comes after the point.
-pub record Leaves (graph : Graph) (old costs : List ℕ) (c : ℕ) (point : List Bool) (new : List ℕ) (part : ℕ) : Type 0 where
-  pub within : part < length costs
-  pub faulty : bit_in point part ≡ false
-  pub front : (k : ℕ) → k < part → slice_index new k ≡ word_of (bit_in point k)
-  pub ok : slice_index new part ≡ 1
-  pub kept : (k : ℕ) → slice_index old k ≢ 0 → slice_index new k ≡ slice_index old k
-  pub behind : (k : ℕ) → part < k → slice_index new k ≡ slice_index old k
-  pub some : HasCost graph new costs c
-  pub none : NoneAfter graph old costs c point (part + 1)
+abbrev pub HasCost : Graph → List ℕ → List ℕ → ℕ → Type 0
+HasCost graph words costs c = Has (OfCost graph words costs c)
 
 -- a state that the graph allows under the words, of a cost from one up to another
 pub record IsListed (graph : Graph) (words costs : List ℕ) (from top : ℕ) (h : List Bool) : Type 0 where

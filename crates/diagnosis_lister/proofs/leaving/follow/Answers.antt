@@ -4,7 +4,8 @@ use Rattle.state_rules.specs.Bits.{bit_in}
 use Rattle.conditioner.specs.Words.{word_of}
 use Rattle.conditioner.proofs.FittingWords.{word_of-small}
 use Rattle.diagnosis_lister.specs.inner.OpenMarks.{marked_bits}
-use Rattle.diagnosis_lister.proofs.Points.{FollowsTo, FollowsTo-set, FollowsTo-stay, Follows-all, bit_in-marked, marked-open, length-marked}
+use Rattle.diagnosis_lister.proofs.OpenMarks.{bit_in-marked, marked-open, length-marked}
+use Rattle.diagnosis_lister.proofs.Points.{FollowsTo, FollowsTo-set, FollowsTo-stay, Follows-all}
 use Rattle.diagnosis_lister.proofs.leaving.follow.Goals as goal
 use Rattle.diagnosis_lister.proofs.leaving.follow.Goals.{then-mark-ge2, else-mark-ge2+else-words-part}
 

@@ -1,11 +1,17 @@
-use Rattle.std.proofs.Common.{◌≡◌, ◌<◌, ℕ, Bool, List, length, get_or, All, sym, ◌∙◌, ap, subst, arith}
+use Rattle.std.proofs.Common.{◌≡◌, ◌<◌, ◌≤◌, ℕ, Bool, true, List, length, get_or, Some, All, sym, ◌∙◌, ap, subst, arith}
 use Rattle.conditioner.specs.Words.{bits_of}
 use Rattle.diagnosis_lister.specs.Listing.{fault_count}
-use Rattle.diagnosis_lister.specs.inner.Fixing.{NoneAfter, Leaves, fixed_bits}
+use Rattle.diagnosis_lister.specs.inner.Fixing.{IsFirst, NoneAfter, Leaves, fixed_bits}
+use Rattle.diagnosis_lister.specs.inner.OpenMarks.{marked_bits}
 use Rattle.diagnosis_lister.proofs.Faults.{faults-few}
-use Rattle.diagnosis_lister.proofs.Fixing.{first-passes}
-use Rattle.diagnosis_lister.proofs.OpenMarks.{unmarked-state, opened-again, length-bits}
-use Rattle.diagnosis_lister.proofs.Answering.{none-next, no-next, step-end, step-found, next-diagnosis, Leaves-first}
+use Rattle.diagnosis_lister.proofs.OpenMarks.{unmarked-state, opened-again, length-bits, length-marked}
+use Rattle.diagnosis_lister.proofs.Answering.{none-next, no-next, step-end, step-found, next-diagnosis, first-passes}
+use Rattle.diagnosis_lister.proofs.Allowing.{allows-within}
+use Rattle.diagnosis_lister.proofs.Points.{leaves-first}
+use Rattle.state_rules.specs.Graphs.{Graph}
+use Rattle.state_rules.specs.Ranking.{is_before}
+use Rattle.conditioner.specs.Models.{least_under}
+use Rattle.minimiser.specs.LeastStates.{ModelWithin, LeastState}
 use Rattle.diagnosis_lister.proofs.listing.next_in.Goals as goal
 
 pub returns-in_default-clause-next : goal.returns-in_default-clause-next
@@ -14,12 +20,12 @@ returns-in_default-clause-next g c = none-next c.args.graph.now c.args.words.now
 pub returns-in-None-clause-step : goal.returns-in-None-clause-step
 returns-in-None-clause-step g c =
     step-end c.args.graph.now c.args.words.now c.args.costs.now c.in-Some.fewest (sym c.in-Some.ensures.least) (bits_of c.args.state.now)
-    (subst (λ (p : List Bool). NoneAfter c.args.graph.now c.args.words.now c.args.costs.now c.in-Some.fewest p 0) c.mark.ensures.bits c.in-None.ensures.left.1)
+    (subst (λ (p : List Bool). NoneAfter (ModelWithin c.args.graph.now c.args.words.now c.args.costs.now c.in-Some.fewest) p 0) c.mark.ensures.bits c.in-None.ensures.left.1)
 
 pub returns-in-None-clause-next : goal.returns-in-None-clause-next
 returns-in-None-clause-next g c =
     let none = no-next c.args.graph.now c.args.words.now c.args.costs.now c.in-Some.fewest (sym c.in-Some.ensures.least) (bits_of c.args.state.now)
-    (subst (λ (p : List Bool). NoneAfter c.args.graph.now c.args.words.now c.args.costs.now c.in-Some.fewest p 0) c.mark.ensures.bits c.in-None.ensures.left.1) in
+    (subst (λ (p : List Bool). NoneAfter (ModelWithin c.args.graph.now c.args.words.now c.args.costs.now c.in-Some.fewest) p 0) c.mark.ensures.bits c.in-None.ensures.left.1) in
     let same : c.unmark.new.state ≡ c.args.state.now = unmarked-state c.args.words.now c.args.state.now c.mark.new.state c.requires.state_words c.mark.auto.state c.mark.ensures.each c.unmark.new.state c.unmark.auto.state c.unmark.ensures in
     ap bits_of same ∙ (λ i. get_or (sym none i) 0 (bits_of c.args.state.now))
 
@@ -35,33 +41,31 @@ pub returns-in-None-clause-steps : goal.returns-in-None-clause-steps
 returns-in-None-clause-steps g c = omega (arith, ap fault_count c.mark.ensures.bits, c.leave.ensures.steps, c.least_in.ensures.steps, faults-few c.args.state.now, c.requires.state)
 
 -- what the words say is the first diagnosis after the state
+later-first : (graph : Graph) (costs words new : List ℕ) (most part : ℕ) (state marks : List ℕ) (h : List Bool) → length costs ≤ graph.vars → length words ≡ graph.vars → length new ≡ length words → length state ≡ length costs → marked_bits marks ≡ bits_of state
+    → Leaves (λ ws k. ModelWithin graph ws costs most k) words (marked_bits marks) new part → least_under graph new costs ≡ Some most → IsFirst (LeastState graph new costs) h → IsFirst (λ k. ModelWithin graph words costs most k × (is_before (bits_of state) k ≡ true)) h
+later-first graph costs words new most part state marks h parts long same room marked l least is =
+    leaves-first (allows-within graph costs most parts) words (bits_of state) long (length-bits state ∙ room) same
+    (subst (λ (p : List Bool). Leaves (λ ws k. ModelWithin graph ws costs most k) words p new part) marked l) h (first-passes graph new costs most h least is)
+
 pub returns-in-Some-leave-clause-step : goal.returns-in-Some-leave-clause-step
 returns-in-Some-leave-clause-step g c =
     let graph = c.args.graph.now in
-    let old = c.args.words.now in
     let costs = c.args.costs.now in
     let most = c.in-Some.fewest in
-    let point = bits_of c.args.state.now in
-    let least = sym c.in-Some.ensures.least in
-    let leaves : Leaves graph old costs most point c.leave.new.words c.in-Some-leave.part = subst (λ (p : List Bool). Leaves graph old costs most p c.leave.new.words c.in-Some-leave.part) c.mark.ensures.bits c.in-Some-leave.ensures.left in
-    step-found graph old costs most least point (fixed_bits (length costs) c.settle.new.words)
-    (Leaves-first graph costs c.requires.parts old point most c.leave.new.words c.in-Some-leave.part (fixed_bits (length costs) c.settle.new.words) c.requires.long c.leave.auto.words
-    (length-bits c.args.state.now ∙ c.requires.state) leaves (first-passes graph c.leave.new.words costs most (fixed_bits (length costs) c.settle.new.words) leaves.least c.settle.ensures.first))
+    let h = fixed_bits (length costs) c.settle.new.words in
+    step-found graph c.args.words.now costs most (sym c.in-Some.ensures.least) (bits_of c.args.state.now) h
+    (later-first graph costs c.args.words.now c.leave.new.words most c.in-Some-leave.part c.args.state.now c.mark.new.state h c.requires.parts c.requires.long c.leave.auto.words c.requires.state c.mark.ensures.bits c.in-Some-leave.ensures.left c.in-Some-leave.ensures.least c.settle.ensures.first)
 
 pub returns-in-Some-leave-clause-next : goal.returns-in-Some-leave-clause-next
 returns-in-Some-leave-clause-next g c =
     let graph = c.args.graph.now in
-    let old = c.args.words.now in
     let costs = c.args.costs.now in
     let most = c.in-Some.fewest in
-    let point = bits_of c.args.state.now in
-    let least = sym c.in-Some.ensures.least in
+    let h = fixed_bits (length costs) c.settle.new.words in
     let marks : length c.mark.new.state ≡ length costs = c.mark.auto.state ∙ c.requires.state in
-    let leaves : Leaves graph old costs most point c.leave.new.words c.in-Some-leave.part = subst (λ (p : List Bool). Leaves graph old costs most p c.leave.new.words c.in-Some-leave.part) c.mark.ensures.bits c.in-Some-leave.ensures.left in
     c.write_back.ensures.bits ∙ ap (λ n. fixed_bits n c.settle.new.words) marks
-    ∙ next-diagnosis graph old costs most least point (fixed_bits (length costs) c.settle.new.words) point
-    (Leaves-first graph costs c.requires.parts old point most c.leave.new.words c.in-Some-leave.part (fixed_bits (length costs) c.settle.new.words) c.requires.long c.leave.auto.words
-    (length-bits c.args.state.now ∙ c.requires.state) leaves (first-passes graph c.leave.new.words costs most (fixed_bits (length costs) c.settle.new.words) leaves.least c.settle.ensures.first))
+    ∙ next-diagnosis graph c.args.words.now costs most (sym c.in-Some.ensures.least) (bits_of c.args.state.now) h (bits_of c.args.state.now)
+    (later-first graph costs c.args.words.now c.leave.new.words most c.in-Some-leave.part c.args.state.now c.mark.new.state h c.requires.parts c.requires.long c.leave.auto.words c.requires.state c.mark.ensures.bits c.in-Some-leave.ensures.left c.in-Some-leave.ensures.least c.settle.ensures.first)
 
 pub returns-in-Some-leave-clause-words : goal.returns-in-Some-leave-clause-words
 returns-in-Some-leave-clause-words g c =
@@ -69,8 +73,8 @@ returns-in-Some-leave-clause-words g c =
     let leaves = c.in-Some-leave.ensures.left in
     opened-again c.args.words.now c.args.state.now c.mark.new.state c.requires.state_words c.mark.auto.state c.mark.ensures.each
     c.settle.new.words c.write_back.new.words (c.settle.auto.words ∙ c.leave.auto.words) c.write_back.auto.words (omega (arith, marks, c.requires.long, c.requires.parts))
-    (λ k ne. c.settle.ensures.kept k (λ e. ne (sym (leaves.kept k ne) ∙ e)) ∙ leaves.kept k ne)
-    (λ k h. c.settle.ensures.others k (omega (arith, marks)) ∙ leaves.behind k (omega (arith, marks, leaves.within)))
+    (λ k ne. c.settle.ensures.kept k (λ e. ne (sym (leaves.follows.kept k ne) ∙ e)) ∙ leaves.follows.kept k ne)
+    (λ k h. c.settle.ensures.others k (omega (arith, marks)) ∙ leaves.follows.behind k (omega (arith, marks, length-marked c.mark.new.state, leaves.within)))
     c.write_back.ensures.words c.write_back.ensures.others
 
 pub returns-in-Some-leave-clause-few_steps : goal.returns-in-Some-leave-clause-few_steps

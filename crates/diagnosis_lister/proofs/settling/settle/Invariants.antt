@@ -3,6 +3,7 @@ use Rattle.minimiser.specs.Stored.{AreLeastCosts}
 use Rattle.minimiser.proofs.Models.{LeastIs}
 use Rattle.diagnosis_lister.specs.Listing.{fault_count}
 use Rattle.diagnosis_lister.specs.inner.Fixing.{fixed_bits}
+use Rattle.minimiser.specs.LeastStates.{ModelWithin}
 use Rattle.diagnosis_lister.proofs.Fixing.{Settles}
 use Rattle.diagnosis_lister.proofs.settling.settle.Given as goal
 
@@ -10,7 +11,7 @@ use Rattle.diagnosis_lister.proofs.settling.settle.Given as goal
 abbrev pub invariant-loop-part : goal.invariant-loop-part
 invariant-loop-part g l = record {
   small : All (λ w. w < 3) l.words;
-  settles : (most : ℕ) → LeastIs l.graph l.costs l.fn.words most → Settles l.graph l.costs l.fn.words l.words most l.from;
+  settles : (most : ℕ) → LeastIs l.graph l.costs l.fn.words most → Settles (λ words h. ModelWithin l.graph words l.costs most h) (length l.costs) l.fn.words l.words l.from;
   values : AreLeastCosts l.graph l.words l.costs l.values;
   steps : l.steps ≤ l.fn.steps + fault_count (fixed_bits (length l.costs) l.words);
   within : l.from ≤ length l.costs;

@@ -1,20 +1,19 @@
-use Rattle.std.proofs.Common.{◌≡◌, ◌+◌, ◌<◌, ◌≤◌, length, get_or, set, ap, subst, ◌∙◌, arith, lit<}
+use Rattle.std.proofs.Common.{◌≡◌, ◌+◌, ◌<◌, ◌≤◌, length, get_or, set, refl, ap, subst, ◌∙◌, arith, lit<}
 use Rattle.std.proofs.lemmas.List.Elements.{All-set}
 use Rattle.diagnosis_lister.specs.Listing.{fault_count}
 use Rattle.diagnosis_lister.specs.inner.Fixing.{fixed_bits}
 use Rattle.diagnosis_lister.proofs.Faults.{faults-kept, faults-added}
-use Rattle.diagnosis_lister.proofs.Fixing.{FixesOk}
+use Rattle.diagnosis_lister.proofs.Fixing.{FixesOk, Settles-start, settles-ok, settles-found, settles-end}
 use Rattle.scratch_pool.proofs.Counted.{block-below}
 use Rattle.level_lister.specs.inner.Pairs.{FaultIn, OkAmong}
-use Rattle.level_lister.proofs.Exact.{Refines-start, settle_end}
-use Rattle.level_lister.proofs.Grouping.{settle_ok, settle_found}
+use Rattle.level_lister.proofs.Exact.{allows-cost}
 use Rattle.level_lister.proofs.Skips.{enough_more}
 use Rattle.level_lister.proofs.search.Search.settle_by_groups.Goals as goal
 
 pub loop-part-init : goal.loop-part-init
 loop-part-init g c = record {
   small = c.requires.words;
-  settles = record { refines = Refines-start (length c.args.self.now.levels.now.costs) c.args.words.now; front = c.requires.front; some = c.requires.some; first = λ h is. is };
+  settles = Settles-start _ _ _ c.args.from c.requires.front c.requires.some;
   steps = λ search h. omega arith;
   within = c.requires.from;
 }
@@ -40,7 +39,7 @@ loop-part-preserved g c =
     let added = faults-added (length costs) mid part within room still in
     record {
       small = All-set (λ w. w < 3) mid part 2 (lit< tt) c.fix_ok.ensures.words;
-      settles = settle_found graph costs c.args.self.now.for_graph.parts c.args.cost c.args.words.now old mid from part c.requires.long (omega arith) c.loop-part.invariant.settles fixes ok le u;
+      settles = settles-found (allows-cost graph costs c.args.cost c.args.self.now.for_graph.parts) c.args.words.now c.requires.long old from c.loop-part.invariant.settles mid part within fixes (λ k l lt free. ok k l lt (omega arith) free) open_ u.state u.is u.faulty;
       steps = λ search h. omega (
         arith,
         c.in-Some.ensures.steps search h,
@@ -59,8 +58,9 @@ returns-clause-first g c =
     let all : length c.costs.result.now ≡ length costs = ap length c.costs.ensures in
     let fixes : FixesOk old new c.loop-part.from (length costs) =
     subst (λ n. FixesOk old new c.loop-part.from n) all (record { long = c.fix_ok-2.auto.words; fixed = c.fix_ok-2.ensures.fixed; kept = c.fix_ok-2.ensures.kept; before = c.fix_ok-2.ensures.before; behind = c.fix_ok-2.ensures.behind }) in
-    settle_end graph costs c.args.self.now.for_graph.parts c.args.cost c.args.words.now new c.requires.long (λ k h. c.fix_ok-2.ensures.words k 0 h)
-    (settle_ok graph costs c.args.self.now.for_graph.parts c.args.cost c.args.words.now old new c.loop-part.from (length costs) c.requires.long (omega arith) c.loop-part.invariant.settles fixes c.in_default.ensures.found c.loop-part.invariant.within)
+    let allows = allows-cost graph costs c.args.cost c.args.self.now.for_graph.parts in
+    settles-end allows c.args.words.now c.requires.long new (length costs)
+    (settles-ok allows c.args.words.now c.requires.long old c.loop-part.from c.loop-part.invariant.settles new (length costs) (omega arith) fixes (λ k l lt free. c.in_default.ensures.found k l lt lt free)) refl (λ k h. c.fix_ok-2.ensures.words k 0 h)
 
 pub returns-clause-others : goal.returns-clause-others
 returns-clause-others g c k h = c.fix_ok-2.ensures.behind k (omega (arith, ap length c.costs.ensures, h)) ∙ c.loop-part.invariant.settles.refines.others k h
@@ -78,5 +78,5 @@ returns-clause-steps g c search h =
       block-below (fault_count (fixed_bits (length costs) old)) (fault_count (fixed_bits (length costs) new) + 1) search (omega (arith, kept)),
     )
 
-pub first_faulty-requires-clause-enough : goal.first_faulty-requires-clause-enough
-first_faulty-requires-clause-enough g c = enough_more c.args.self.now.graph.now c.args.self.now.skips.now c.args.self.now.levels.now.costs c.args.self.now.levels.now.top c.args.words.now c.loop-part.words c.loop-part.invariant.settles.refines.kept c.requires.enough
+pub invariant_of-first_faulty-clause-enough : goal.invariant_of-first_faulty-clause-enough
+invariant_of-first_faulty-clause-enough g c = enough_more c.args.self.now.graph.now c.args.self.now.skips.now c.args.self.now.levels.now.costs c.args.self.now.levels.now.top c.args.words.now c.loop-part.words c.loop-part.invariant.settles.refines.kept c.requires.enough

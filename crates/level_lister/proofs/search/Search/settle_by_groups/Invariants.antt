@@ -2,14 +2,15 @@ use Rattle.std.proofs.Common.{ℕ, ◌+◌, ◌-◌, ◌*◌, ◌<◌, ◌≤◌
 use Rattle.diagnosis_lister.specs.Listing.{fault_count}
 use Rattle.diagnosis_lister.specs.inner.Fixing.{fixed_bits}
 use Rattle.level_lister.specs.Passes.{AreEnough}
-use Rattle.level_lister.proofs.Exact.{Settling}
+use Rattle.diagnosis_lister.proofs.Fixing.{Settles}
+use Rattle.level_lister.specs.inner.Searching.{OfCost}
 use Rattle.level_lister.proofs.search.Search.settle_by_groups.Given as goal
 
 -- the parts before one are fixed, and each fault was searched
 abbrev pub invariant-loop-part : goal.invariant-loop-part
 invariant-loop-part g l = record {
   small : All (λ w. w < 3) l.words;
-  settles : Settling l.self.graph.now l.self.levels.now.costs l.cost l.fn.words l.words l.from;
+  settles : Settles (λ words h. OfCost l.self.graph.now words l.self.levels.now.costs l.cost h) (length l.self.levels.now.costs) l.fn.words l.words l.from;
   steps : (search : ℕ) → AreEnough (length l.self.levels.now.costs) l.self.levels.now.top search → l.steps ≤ l.fn.steps + fault_count (fixed_bits (length l.self.levels.now.costs) l.words) * search;
   within : l.from ≤ length l.self.levels.now.costs;
 }

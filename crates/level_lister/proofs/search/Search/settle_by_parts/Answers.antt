@@ -1,15 +1,24 @@
-use Rattle.std.proofs.Common.{◌≡◌, ◌+◌, ◌<◌, All, length, get_or, set, ap, sym, subst, ◌∙◌, arith, lit<}
+use Rattle.std.proofs.Common.{◌≡◌, ◌<◌, length, get_or, set, ap, sym, ◌∙◌, arith, lit<}
+use Rattle.std.proofs.Math.ListN.{length-set}
 use Rattle.std.proofs.lemmas.Bool.{false≢true, eqb-true, eqb-false}
 use Rattle.std.proofs.lemmas.List.{set-set}
 use Rattle.std.proofs.lemmas.List.Elements.{All-set}
-use Rattle.level_lister.proofs.Exact.{Settling, Refines-more, Refines-set, settle_faulty, settle_end}
-use Rattle.level_lister.proofs.ByParts.{settle_held, settle_one_ok}
+use Rattle.diagnosis_lister.proofs.Allowing.{Refines-more, Refines-set}
+use Rattle.diagnosis_lister.proofs.Fixing.{settles-faulty, settles-end}
+use Rattle.level_lister.proofs.Exact.{allows-cost}
+use Rattle.level_lister.proofs.ByParts.{settles-held, settles-one_ok}
 use Rattle.level_lister.proofs.Skips.{enough_more}
 use Rattle.level_lister.proofs.search.Search.settle_by_parts.Goals as goal
 use Rattle.level_lister.proofs.search.Search.settle_by_parts.Goals.{then-is_open+then-not-reaches, then-is_open+else-not-reaches, else-is_open}
 
-pub reaches-requires-clause-enough : goal.reaches-requires-clause-enough
-reaches-requires-clause-enough g c =
+pub invariant_of-asked-clause-long : goal.invariant_of-asked-clause-long
+invariant_of-asked-clause-long g c = length-set c.loop-part.words c.loop-part.part 2 ∙ c.loop-part.auto.words ∙ c.requires.long
+
+pub invariant_of-asked-clause-small : goal.invariant_of-asked-clause-small
+invariant_of-asked-clause-small g c = All-set (λ w. w < 3) c.loop-part.words c.loop-part.part 2 (lit< tt) c.loop-part.invariant.small
+
+pub invariant_of-asked-clause-enough : goal.invariant_of-asked-clause-enough
+invariant_of-asked-clause-enough g c =
     let costs = c.args.self.now.levels.now.costs in
     let words = c.loop-part.words in
     let part = c.loop-part.part in
@@ -20,9 +29,8 @@ reaches-requires-clause-enough g c =
 
 pub loop-part-preserved : goal.loop-part-preserved
 loop-part-preserved g c =
-    let graph = c.args.self.now.graph.now in
     let costs = c.args.self.now.levels.now.costs in
-    let within = c.args.self.now.for_graph.parts in
+    let allows = allows-cost c.args.self.now.graph.now costs c.args.cost c.args.self.now.for_graph.parts in
     let start = c.args.words.now in
     let words = c.loop-part.words in
     let part = c.loop-part.part in
@@ -34,20 +42,17 @@ loop-part-preserved g c =
       | then-is_open+then-not-reaches w ↦
           let free : get_or words part 0 ≡ 0 = eqb-true _ 0 (sym c.is_open.ensures ∙ w.if-is_open.true) in
           let is : c.if-is_open.words ≡ set words part 1 = w.words-is ∙ set-set words part 2 1 in record {
-            small = subst (All (λ n. n < 3)) (sym is) (All-set (λ n. n < 3) words part 1 (lit< tt) small);
-            settles = subst (λ ws. Settling graph costs c.args.cost start ws (part + 1)) (sym is)
-                (settle_one_ok graph costs within c.args.cost start words part long lt so free (λ has. false≢true (sym w.if-not-reaches.true ∙ w.reaches.ensures.reached.1 has)));
+            small = rw is (All-set (λ n. n < 3) words part 1 (lit< tt) small);
+            settles = rw is (settles-one_ok allows start long words part lt so free (λ has. false≢true (sym w.if-not-reaches.true ∙ w.reaches.ensures.reached.1 has)));
           }
       | then-is_open+else-not-reaches w ↦
           let free : get_or words part 0 ≡ 0 = eqb-true _ 0 (sym c.is_open.ensures ∙ w.if-is_open.true) in record {
-            small = subst (All (λ n. n < 3)) (sym w.words-is) (All-set (λ n. n < 3) words part 2 (lit< tt) small);
-            settles = subst (λ ws. Settling graph costs c.args.cost start ws (part + 1)) (sym w.words-is)
-                (settle_faulty graph costs within c.args.cost start words part long lt so free (w.reaches.ensures.reached.0 w.if-not-reaches.false));
+            small = rw w.words-is (All-set (λ n. n < 3) words part 2 (lit< tt) small);
+            settles = rw w.words-is (settles-faulty allows start long words part so lt free (w.reaches.ensures.reached.0 w.if-not-reaches.false));
           }
       | else-is_open w ↦ record {
-        small = subst (All (λ n. n < 3)) (sym w.words-is) small;
-        settles = subst (λ ws. Settling graph costs c.args.cost start ws (part + 1)) (sym w.words-is)
-            (settle_held graph costs within c.args.cost start words part long lt so (λ e. eqb-false _ 0 (sym c.is_open.ensures ∙ w.if-is_open.false) e));
+        small = rw w.words-is small;
+        settles = rw w.words-is (settles-held allows start long words part lt so (λ e. eqb-false _ 0 (sym c.is_open.ensures ∙ w.if-is_open.false) e));
       }
     ]
 
@@ -55,5 +60,4 @@ pub returns-clause-first : goal.returns-clause-first
 returns-clause-first g c =
     let costs = c.args.self.now.levels.now.costs in
     let all : c.loop-part.part ≡ length costs = omega (arith, ap length c.costs-part-end.ensures) in
-    settle_end c.args.self.now.graph.now costs c.args.self.now.for_graph.parts c.args.cost c.args.words.now c.loop-part.words c.requires.long (λ k h. c.loop-part.invariant.small k 0 h)
-    (subst (λ n. Settling c.args.self.now.graph.now costs c.args.cost c.args.words.now c.loop-part.words n) all c.loop-part.invariant.settles)
+    settles-end (allows-cost c.args.self.now.graph.now costs c.args.cost c.args.self.now.for_graph.parts) c.args.words.now c.requires.long c.loop-part.words c.loop-part.part c.loop-part.invariant.settles all (λ k h. c.loop-part.invariant.small k 0 h)

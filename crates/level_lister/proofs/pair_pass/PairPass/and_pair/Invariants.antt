@@ -1,0 +1,14 @@
+use Rattle.std.proofs.Common.{List, ℕ, map, take, length}
+use Rattle.std.specs.List.{list_all, list_any}
+use Rattle.state_rules.specs.Graphs.{is_true, mentions}
+use Rattle.level_lister.specs.inner.Skips.{living}
+use Rattle.level_lister.specs.declared.pairs.Groups.{Groups}
+use Rattle.level_lister.specs.inner.Pairs.{Tells, TellNodes, group_count, group_in}
+use Rattle.level_lister.proofs.pair_pass.PairPass.and_pair.Given as goal
+
+-- the words are those of an And of the kids before the place
+abbrev pub invariant-loop-kid : goal.invariant-loop-kid
+invariant-loop-kid l = (words : List ℕ) (groups : Groups) → TellNodes l.self.graph.now l.self.skips.now words l.self.levels.now.costs l.self.levels.now.top groups l.values l.at
+    → Tells words l.self.levels.now.costs l.self.levels.now.top (group_count l.self.levels.now.top) (group_in words (length l.self.levels.now.costs) groups)
+    (λ a. list_all (λ b. b) (map (λ k. is_true (living l.self.graph.now.nodes l.self.skips.now) k a) (take l.kid-index l.kid-items)))
+    (λ v. list_any (λ b. b) (map (mentions l.self.graph.now.nodes v) (take l.kid-index l.kid-items))) l.pair

@@ -1,0 +1,19 @@
+use Rattle.std.proofs.Common.{◌≡◌, ℕ, ◌-◌, ◌*◌, ◌<◌, Bool, true, length}
+use Rattle.state_rules.specs.Assignments.{Assignment}
+use Rattle.part_sets.specs.PartSets.{ArePartsOf}
+use Rattle.level_lister.specs.inner.Pairs.{Tells, group_count, group_in}
+use Rattle.level_lister.proofs.Growing.{grown, is_missing}
+use Rattle.level_lister.proofs.pair_pass.PairPass.widened.Given as goal
+
+-- the parts before the place are free
+abbrev pub invariant-loop-part : goal.invariant-loop-part
+invariant-loop-part l = record {
+  told : (test : Assignment → Bool) (some more : ℕ → Bool) → ArePartsOf (length l.self.levels.now.costs) some l.own → ArePartsOf (length l.self.levels.now.costs) more l.below
+      → ((v : ℕ) → some v ≡ true → more v ≡ true)
+      → Tells l.self.words.now l.self.levels.now.costs l.self.levels.now.top (group_count l.self.levels.now.top) (group_in l.self.words.now (length l.self.levels.now.costs) l.self.groups) test some l.fn.pair
+      → Tells l.self.words.now l.self.levels.now.costs l.self.levels.now.top (group_count l.self.levels.now.top) (group_in l.self.words.now (length l.self.levels.now.costs) l.self.groups) test (grown some more l.part) l.pair;
+  found : l.part < 32 * length l.below → is_missing l.below l.own l.part ≡ true;
+}
+
+abbrev pub decreases-loop-part : goal.decreases-loop-part
+decreases-loop-part l = l.parts - l.part

@@ -1,0 +1,35 @@
+use Rattle.std.proofs.Common.{◌≡◌, ℕ, ◌+◌, ◌-◌, ◌/◌, ◌≤◌, length, ap, subst, sym, arith}
+use Rattle.level_lister.specs.Passes.{first_passes, told_groups}
+use Rattle.level_lister.proofs.Narrowing.{range_start, range_next, IsRange, PassesLeft, left_next, range_small, size_some}
+use Rattle.level_lister.proofs.search.Asked.first_faulty.Goals as goal
+
+pub loop-span-init : goal.loop-span-init
+loop-span-init g c =
+    let costs = c.args.self.now.levels.now.costs in
+    let all : length c.costs-parts.result.now ≡ length costs = ap length c.costs-parts.ensures in
+    record {
+      range = subst (λ (n : ℕ). IsRange c.args.self.now.graph.now c.args.self.now.words.now costs c.args.cost c.args.from c.args.from (n - c.args.from + 1)) (sym all) (range_start c.args.self.now.graph.now c.args.self.now.words.now costs c.args.cost c.args.from c.requires.from);
+      some = omega arith;
+      small = omega (arith, all, c.requires.from);
+      passes = λ k h. record { rest = k; fits = omega (arith, all, h); few = omega (arith, c.prepare.ensures.steps) };
+      ready = c.prepare.ensures.ready;
+    }
+
+pub loop-span-preserved : goal.loop-span-preserved
+loop-span-preserved g c =
+    let top = c.args.self.now.levels.now.top in
+    let count = c.told_groups-count.result in
+    let low = c.loop-span.low in
+    let span = c.loop-span.span in
+    let group = c.faulty_group-group.result in
+    let same : c.told_groups-count.result ≡ told_groups top = c.told_groups-count.ensures.count in
+    let le : group ≤ count = omega (arith, c.faulty_group-group.ensures.few, same) in
+    record {
+      range = range_next c.args.self.now.graph.now c.args.self.now.words.now c.args.self.now.levels.now.costs c.args.cost c.args.from low span count group le c.loop-span.invariant.some
+          (λ h. c.faulty_group-group.ensures.found (omega (arith, h, same))) c.faulty_group-group.ensures.before c.loop-span.invariant.range;
+      some = size_some span count c.loop-span.invariant.some;
+      small = omega (arith, range_small low span count group le c.told_groups-count.ensures.few c.told_groups-count.ensures.some c.loop-span-test.true, c.loop-span.invariant.small);
+      passes = λ k h. subst (λ n. PassesLeft (told_groups top) ((span + n) / (n + 1)) c.tick.new.self (c.args.steps.now + first_passes top + k)) (sym same)
+          (subst (λ n. PassesLeft (told_groups top) ((span + told_groups top) / (told_groups top + 1)) n (c.args.steps.now + first_passes top + k)) (sym c.tick.ensures) (left_next (told_groups top) span c.loop-span.steps (c.args.steps.now + first_passes top + k) c.loop-span-test.true (c.loop-span.invariant.passes k h)));
+      ready = c.faulty_group-group.ensures.ready;
+    }

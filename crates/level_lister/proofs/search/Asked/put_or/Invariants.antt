@@ -1,0 +1,11 @@
+use Rattle.std.proofs.Common.{map, take}
+use Rattle.std.specs.List.{list_any}
+use Rattle.state_rules.specs.Graphs.{is_true, mentions}
+use Rattle.level_lister.specs.inner.Skips.{living}
+use Rattle.level_lister.specs.inner.CostSets.{IsCostSet}
+use Rattle.level_lister.proofs.search.Asked.put_or.Given as goal
+
+-- the set is that of an Or of the kids before the place, over the variables below all of them
+abbrev pub invariant-loop-kid : goal.invariant-loop-kid
+invariant-loop-kid l = IsCostSet l.self.words.now l.self.levels.now.costs (λ a. list_any (λ b. b) (map (λ k. is_true (living l.self.graph.now.nodes l.self.skips.now) k a) (take l.kid-index l.kid-items)))
+    (λ v. mentions l.self.graph.now.nodes v l.at) l.set

@@ -11,15 +11,15 @@ use Rattle.std.proofs.lemmas.List.{length-set, length-replicate}
 use Rattle.text_rules.specs.Names.{Name, same_name, is_among}
 use Rattle.text_rules.proofs.NameLemmas.{equal_if_same}
 use Rattle.state_rules.specs.Cases.{Case}
-use Rattle.state_rules.specs.Systems.{System, all_diagnoses}
+use Rattle.state_rules.specs.Systems.{System}
 use Rattle.device_model.specs.Devices.{place_of}
 use Rattle.script_lang.specs.Script.{Line, Blank, Refused, Ask, Request, Start, Stop, Note, Tell, Next, Several, After, Dnnf, Level, Levels, LeastNnf}
 use Rattle.script_lang.specs.declared.line.Noted.{Noted}
 use Rattle.script_lang.specs.declared.line.Noted.TheVariants.{Wire, Part}
 use Rattle.session_rules.specs.declared.refusal.Refusal.{Refusal}
 use Rattle.session_rules.specs.declared.refusal.Refusal.TheVariants.{Full, NoPart, NoLevels, NoLeast}
-use Rattle.session_rules.specs.Items.{LeastText, line}
-use Rattle.session_rules.specs.Replies.{level_of, listing, told}
+use Rattle.session_rules.specs.Items.{line}
+use Rattle.session_rules.specs.Replies.{level_of, listing, told, least_item}
 use Rattle.session_rules.specs.Sessions.{Entry, Table, Outcome, Declined, Done, Change, Stays, Becomes, Ends, entry_of, without, changed, carried, when_open, outcome, outcome_in, with_number, becomes, tells, tells_lines, goes_to, goes_through, step, names_of, no_such, noted, with_noted, state_of, new_entry}
 use Rattle.session_rules.specs.CaseSizes.{IsCaseOf, HasCasesOf}
 
@@ -77,7 +77,7 @@ module _ (system : System) where
   when_open-keeps s entry h (Levels count) =
       placed NoLevels (λ top. goes_through entry (listing (level_of system s top (system.consistent entry.known)) count entry.point)) system.extras.levels (λ top. h)
   when_open-keeps s entry h LeastNnf =
-      chosen system.extras.least (tells (line (s ∷ codes "leastnnf" ∷ []) ∷ LeastText (length system.parts) (all_diagnoses system entry.known) ∷ [])) (Declined NoLeast) tt tt
+      chosen system.extras.least (tells (line (s ∷ codes "leastnnf" ∷ []) ∷ least_item system entry.known ∷ [])) (Declined NoLeast) tt tt
 
   new-keeps : IsCaseOf system (new_entry system).known
   new-keeps = (length-replicate (length system.wires) None, length-replicate (length system.parts) None)

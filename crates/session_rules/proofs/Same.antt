@@ -1,30 +1,25 @@
--- Two systems of the same names and costs, whose consistent states are the same for each case of theirs, answer alike.
+-- Two systems of the same names and costs, whose consistent states are the same for each case of theirs, answer alike if they
+-- say the same of the graphs that they are asked for.
 use Rattle.std.proofs.Common.{◌≡◌, ℕ, suc, ◌+◌, Bool, true, false, List, [], ◌∷◌, ◌++◌, map, length, refl, sym, subst, ap, ap₂, ◌∙◌, Option, Some, None, Ok, set}
 use Rattle.std.specs.Prelude.{nat_le, codes, is_some, if◌then◌else◌}
 use Rattle.std.proofs.lemmas.List.{length-set}
 use Rattle.text_rules.specs.Names.{Name}
 use Rattle.state_rules.specs.Cases.{Case}
 use Rattle.state_rules.specs.Ranking.{least, diagnoses}
-use Rattle.state_rules.specs.Systems.{System}
+use Rattle.state_rules.specs.Systems.{System, Texts}
 use Rattle.device_model.specs.Devices.{place_of}
 use Rattle.script_lang.specs.Script.{Line, Blank, Refused, Ask, Request, Start, Stop, Note, Tell, Next, Several, After, Question, Min, Probe, Probes, Blame, Dnnf, Level, Levels, LeastNnf, line_of}
 use Rattle.script_lang.specs.declared.line.Noted.TheVariants.{Wire, Part}
 use Rattle.session_rules.specs.declared.refusal.Refusal.TheVariants.{NoLevels, NoLeast}
-use Rattle.session_rules.specs.Items.{Projected, LeastText, line}
-use Rattle.session_rules.specs.Replies.{Found, min_line, next_of, level_of, listing, least_at, seen_at, probe_line, probe_lines, probe_told, count_text, if_any, end_line, blame_lines, told}
-use Rattle.session_rules.specs.Sessions.{Entry, Table, Step, Declined, entry_of, carried, when_open, outcome, outcome_in, with_number, tells, tells_lines, goes_to, goes_through, step, run, replies}
-use Rattle.session_rules.specs.Moves.{left_by, goes_on, listing_moves, next_for, level_for, level_moves, moves, line_moves, script_moves}
+use Rattle.session_rules.specs.Items.{Projected, LeastText, line, graph_item}
+use Rattle.session_rules.specs.Replies.{Found, min_line, next_of, level_of, listing, least_at, seen_at, probe_line, probe_lines, probe_told, count_text, if_any, end_line, blame_lines, told, dnnf_item, least_item}
+use Rattle.session_rules.specs.Sessions.{Entry, Table, Step, Declined, entry_of, carried, when_open, outcome, with_number, tells, tells_lines, goes_to, goes_through, step, replies}
+use Rattle.session_rules.specs.Moves.{said, left_by, goes_on, listing_moves, next_for, level_for, level_moves, moves, line_moves, script_moves}
 use Rattle.session_rules.specs.CaseSizes.{IsCaseOf, HasCasesOf}
 use Rattle.session_rules.proofs.Keeping.{step-keeps}
-use Rattle.session_rules.proofs.Whole.{line_moves-whole}
+use Rattle.session_rules.proofs.Whole.{line_moves-whole, said-replies}
 
--- Two ways to answer that agree while something holds, which lines keep
-module _ (one other : Table → List ℕ → Step) (Holds : Table → Type 0) (kept : (t : Table) (l : List ℕ) → Holds t → Holds (one t l).table) (agree : (t : Table) (l : List ℕ) → Holds t → one t l ≡ other t l) where
-  run-same : (t : Table) (ls : List (List ℕ)) → Holds t → run one t ls ≡ run other t ls
-  run-same t [] h = refl
-  run-same t (l ∷ ls) h = ap₂ (λ x y. x ++ y) (ap (λ s. s.items) (agree t l h)) (run-same (one t l).table ls (kept t l h) ∙ ap (λ s. run other s.table ls) (agree t l h))
-
--- and two ways to answer by moves
+-- Two ways to answer by moves that agree while something holds, which lines keep
 module _ (one other : Table → List ℕ → List Step) (Holds : Table → Type 0) (kept : (t : Table) (l : List ℕ) → Holds t → Holds (left_by t (one t l))) (agree : (t : Table) (l : List ℕ) → Holds t → one t l ≡ other t l) where
   moves_of_lines-same : (t : Table) (ls : List (List ℕ)) → Holds t → script_moves one t ls ≡ script_moves other t ls
   moves_of_lines-same t [] h = refl
@@ -32,10 +27,16 @@ module _ (one other : Table → List ℕ → List Step) (Holds : Table → Type 
       ap (λ ms. one t l ++ ms) (moves_of_lines-same (left_by t (one t l)) ls (kept t l h))
       ∙ ap (λ first. first ++ script_moves other (left_by t first) ls) (agree t l h)
 
-module _ (system : System) (consistent : Case → List (List Bool)) (same : (known : Case) → IsCaseOf system known → system.consistent known ≡ consistent known) where
-  -- the system with the other states
+module _ (system : System) (consistent : Case → List (List Bool)) (texts : Texts) (same : (known : Case) → IsCaseOf system known → system.consistent known ≡ consistent known) where
+  -- the system with the other states and texts
   abbrev other : System
-  other = record system { consistent = consistent }
+  other = record system { consistent = consistent; texts = texts }
+
+  -- a graph that is asked for is the same
+  abbrev pub HaveSameGraph : Request → Case → Type 0
+  HaveSameGraph Dnnf known = dnnf_item system known ≡ dnnf_item other known
+  HaveSameGraph LeastNnf known = least_item system known ≡ least_item other known
+  HaveSameGraph request known = Unit {0}
 
   least_at-same : (known : Case) (wire : ℕ) (bit : Bool) (seen : Option Bool) → IsCaseOf system known → least_at system known wire bit seen ≡ least_at other known wire bit seen
   least_at-same known wire bit None h =
@@ -69,40 +70,42 @@ module _ (system : System) (consistent : Case → List (List Bool)) (same : (kno
   told-same s known Blame h =
       ap (λ hs. Ok (if_any s (diagnoses system.costs hs) (blame_lines s (diagnoses system.costs hs) 0 system.parts ++ end_line s ∷ []))) (same known h)
 
-  when_open-same : (s : Name) (entry : Entry) (request : Request) → IsCaseOf system entry.known → when_open system s entry request ≡ when_open other s entry request
-  when_open-same s entry Start h = refl
-  when_open-same s entry Stop h = refl
-  when_open-same s entry (Note Wire name bit) h = refl
-  when_open-same s entry (Note Part name bit) h = refl
-  when_open-same s entry (Tell question) h = ap tells_lines (told-same s entry.known question h)
-  when_open-same s entry Next h =
+  when_open-same : (s : Name) (entry : Entry) (request : Request) → IsCaseOf system entry.known → HaveSameGraph request entry.known → when_open system s entry request ≡ when_open other s entry request
+  when_open-same s entry Start h g = refl
+  when_open-same s entry Stop h g = refl
+  when_open-same s entry (Note Wire name bit) h g = refl
+  when_open-same s entry (Note Part name bit) h g = refl
+  when_open-same s entry (Tell question) h g = ap tells_lines (told-same s entry.known question h)
+  when_open-same s entry Next h g =
       ap (λ hs. goes_to entry (next_of system s (diagnoses system.costs hs) entry.point)) (same entry.known h)
-  when_open-same s entry (Several count) h =
+  when_open-same s entry (Several count) h g =
       ap (λ hs. goes_through entry (listing (next_of system s (diagnoses system.costs hs)) count entry.point)) (same entry.known h)
-  when_open-same s entry (After names) h = refl
-  when_open-same s entry Dnnf h =
-      ap (λ hs. tells (line (s ∷ codes "dnnf" ∷ []) ∷ Projected (length system.parts) hs ∷ [])) (same entry.known h)
-  when_open-same s entry Level h =
+  when_open-same s entry (After names) h g = refl
+  when_open-same s entry Dnnf h g = ap (λ item. tells (line (s ∷ codes "dnnf" ∷ []) ∷ item ∷ [])) g
+  when_open-same s entry Level h g =
       ap (λ hs. with_number NoLevels (λ top. goes_to entry (level_of system s top hs entry.point)) system.extras.levels) (same entry.known h)
-  when_open-same s entry (Levels count) h =
+  when_open-same s entry (Levels count) h g =
       ap (λ hs. with_number NoLevels (λ top. goes_through entry (listing (level_of system s top hs) count entry.point)) system.extras.levels) (same entry.known h)
-  when_open-same s entry LeastNnf h =
-      ap (λ hs. if system.extras.least then tells (line (s ∷ codes "leastnnf" ∷ []) ∷ LeastText (length system.parts) (diagnoses system.costs hs) ∷ []) else Declined NoLeast) (same entry.known h)
+  when_open-same s entry LeastNnf h g =
+      ap (λ item. if system.extras.least then tells (line (s ∷ codes "leastnnf" ∷ []) ∷ item ∷ []) else Declined NoLeast) g
 
-  outcome-same : (s : Name) (full : Bool) (entry : Option Entry) (request : Request) → ((e : Entry) → entry ≡ Some e → IsCaseOf system e.known)
+  outcome-same : (s : Name) (full : Bool) (entry : Option Entry) (request : Request) → ((e : Entry) → entry ≡ Some e → IsCaseOf system e.known × HaveSameGraph request e.known)
       → outcome system s full entry request ≡ outcome other s full entry request
-  outcome-same s full (Some entry) request h = when_open-same s entry request (h entry refl)
+  outcome-same s full (Some entry) request h = when_open-same s entry request (h entry refl).0 (h entry refl).1
   outcome-same s full None Start h = refl
   outcome-same s full None request h = refl
 
-  outcome_in-same : (limit : ℕ) (table : Table) (s : Name) (request : Request) → HasCasesOf system table → outcome_in system limit table s request ≡ outcome_in other limit table s request
-  outcome_in-same limit table s request h = outcome-same s (nat_le limit (length table)) (entry_of s table) request (h s)
+  -- the graph that a line asks for is the same for each open session
+  abbrev pub AsksForSame : Table → Line → Type 0
+  AsksForSame table (Ask s request) = (entry : Entry) → entry_of s table ≡ Some entry → HaveSameGraph request entry.known
+  AsksForSame table line = Unit {0}
 
   -- a line is one step in both
-  pub step-same : (limit : ℕ) (table : Table) (l : Line) → HasCasesOf system table → step system limit table l ≡ step other limit table l
-  step-same limit table Blank h = refl
-  step-same limit table (Refused refusal) h = refl
-  step-same limit table (Ask s request) h = ap (carried table s) (outcome_in-same limit table s request h)
+  step-same : (limit : ℕ) (table : Table) (l : Line) → HasCasesOf system table → AsksForSame table l → step system limit table l ≡ step other limit table l
+  step-same limit table Blank h g = refl
+  step-same limit table (Refused refusal) h g = refl
+  step-same limit table (Ask s request) h g =
+      ap (carried table s) (outcome-same s (nat_le limit (length table)) (entry_of s table) request (λ e there. (h s e there, g e there)))
 
   -- a listing by steps that are the same for the entry there
   listing_moves-same : (next step : Entry → Option (List Bool) → Found) (table : Table) (s : Name) (count : ℕ) (entry : Option Entry) → ((e : Entry) → entry ≡ Some e → next e ≡ step e)
@@ -117,28 +120,37 @@ module _ (system : System) (consistent : Case → List (List Bool)) (same : (kno
   level_for-same s top entry h = ap (level_of system s top) (same entry.known h)
 
   level_moves-same : (limit : ℕ) (table : Table) (s : Name) (count : ℕ) (levels : Option ℕ) → HasCasesOf system table → level_moves system limit table s count levels ≡ level_moves other limit table s count levels
-  level_moves-same limit table s count None h = ap (λ (move : Step). move ∷ []) (step-same limit table (Ask s (Levels count)) h)
+  level_moves-same limit table s count None h = ap (λ (move : Step). move ∷ []) (step-same limit table (Ask s (Levels count)) h (λ e there. tt))
   level_moves-same limit table s count (Some top) h =
       listing_moves-same (level_for system s top) (level_for other s top) table s count (entry_of s table) (λ e is. level_for-same s top e (h s e is))
 
-  moves-same : (limit : ℕ) (table : Table) (l : Line) → HasCasesOf system table → moves system limit table l ≡ moves other limit table l
-  moves-same limit table (Ask s (Several (suc n))) h =
+  pub moves-same : (limit : ℕ) (table : Table) (l : Line) → HasCasesOf system table → AsksForSame table l → moves system limit table l ≡ moves other limit table l
+  moves-same limit table (Ask s (Several (suc n))) h g =
       listing_moves-same (next_for system s) (next_for other s) table s (suc n) (entry_of s table) (λ e is. next_for-same s e (h s e is))
-  moves-same limit table (Ask s (Levels (suc n))) h = level_moves-same limit table s (suc n) system.extras.levels h
-  moves-same limit table l h = ap (λ (move : Step). move ∷ []) (step-same limit table l h)
+  moves-same limit table (Ask s (Levels (suc n))) h g = level_moves-same limit table s (suc n) system.extras.levels h
+  moves-same limit table l h g = ap (λ (move : Step). move ∷ []) (step-same limit table l h g)
 
-  -- the moves of a line are the same in both, and those of a script
-  pub line_moves-same : (limit : ℕ) (table : Table) (bytes : List ℕ) → HasCasesOf system table → line_moves system limit table bytes ≡ line_moves other limit table bytes
-  line_moves-same limit table bytes = moves-same limit table (line_of bytes)
+-- Where both leave the texts of graphs open, or say the same, so it is with all lines.
+module _ (system : System) (consistent : Case → List (List Bool)) (same : (known : Case) → IsCaseOf system known → system.consistent known ≡ consistent known) where
+  abbrev with_states : System
+  with_states = record system { consistent = consistent }
+
+  all_same : (table : Table) (l : Line) → HasCasesOf system table → AsksForSame system consistent system.texts same table l
+  all_same table (Ask s Dnnf) h = λ e there. ap (λ hs. graph_item system.texts.dnnf e.known (Projected (length system.parts) hs)) (same e.known (h s e there))
+  all_same table (Ask s LeastNnf) h = λ e there. ap (λ hs. graph_item system.texts.least e.known (LeastText (length system.parts) (diagnoses system.costs hs))) (same e.known (h s e there))
+  all_same table (Ask s request) h = λ e there. tt
+  all_same table l h = tt
 
   line_moves-keep : (limit : ℕ) (table : Table) (bytes : List ℕ) → HasCasesOf system table → HasCasesOf system (left_by table (line_moves system limit table bytes))
   line_moves-keep limit table bytes h =
       subst (λ (s : Step). HasCasesOf system s.table) (sym (line_moves-whole system limit table bytes)) (step-keeps system limit table (line_of bytes) h)
 
+  -- the moves of a script are the same in both
   pub script_moves-same : (limit : ℕ) (table : Table) (lines : List (List ℕ)) → HasCasesOf system table
-      → script_moves (line_moves system limit) table lines ≡ script_moves (line_moves other limit) table lines
-  script_moves-same limit = moves_of_lines-same _ _ (HasCasesOf system) (line_moves-keep limit) (line_moves-same limit)
+      → script_moves (line_moves system limit) table lines ≡ script_moves (line_moves with_states limit) table lines
+  script_moves-same limit = moves_of_lines-same _ _ (HasCasesOf system) (line_moves-keep limit) (λ t l h. moves-same system consistent system.texts same limit t (line_of l) h (all_same t (line_of l) h))
 
-  -- a script has the same replies in both, and leaves the same table
-  pub replies-same : (limit : ℕ) (table : Table) (lines : List (List ℕ)) → HasCasesOf system table → replies system limit table lines ≡ replies other limit table lines
-  replies-same limit = run-same _ _ (HasCasesOf system) (λ t l. step-keeps system limit t (line_of l)) (λ t l. step-same limit t (line_of l))
+  -- and so are its replies
+  pub replies-same : (limit : ℕ) (table : Table) (lines : List (List ℕ)) → HasCasesOf system table → replies system limit table lines ≡ replies with_states limit table lines
+  replies-same limit table lines h =
+      sym (said-replies system limit table lines) ∙ ap said (script_moves-same limit table lines h) ∙ said-replies with_states limit table lines

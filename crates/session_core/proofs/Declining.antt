@@ -1,18 +1,17 @@
 -- A line that is refused changes nothing.
 use Rattle.std.proofs.Common.{◌≡◌, ℕ, suc, Bool, true, false, List, [], ◌∷◌, ◌++◌, length, Option, Some, None, Result, Ok, Err, refl, ap, sym, ◌∙◌, subst}
-use Rattle.std.specs.Prelude.{nat_le, codes, if◌then◌else◌}
+use Rattle.std.specs.Prelude.{nat_le}
 use Rattle.text_rules.specs.Names.{Name}
-use Rattle.state_rules.specs.Systems.{System, all_diagnoses}
-use Rattle.script_lang.specs.Script.{Line, Blank, Refused, Ask, Request, Several, Dnnf, Levels, LeastNnf, line_of}
+use Rattle.state_rules.specs.Systems.{System}
+use Rattle.script_lang.specs.Script.{Line, Blank, Refused, Ask, Request, Several, Levels, line_of}
 use Rattle.session_rules.specs.declared.refusal.Refusal.{Refusal}
-use Rattle.session_rules.specs.declared.refusal.Refusal.TheVariants.{NoLevels, NoLeast}
-use Rattle.session_rules.specs.Items.{Item, LeastText, line}
+use Rattle.session_rules.specs.declared.refusal.Refusal.TheVariants.{NoLevels}
+use Rattle.session_rules.specs.Items.{Item}
 use Rattle.session_rules.specs.Replies.{listing, level_of}
-use Rattle.session_rules.specs.Sessions.{Table, Entry, Step, Change, Stays, Declined, Done, with_number, tells, goes_through, carried, entry_of, outcome, outcome_in, step}
+use Rattle.session_rules.specs.Sessions.{Table, Entry, Step, Change, Declined, Done, with_number, goes_through, carried, entry_of, outcome, outcome_in, step}
 use Rattle.session_rules.specs.Moves.{listing_moves, next_for, level_for, level_moves}
 use Rattle.session_rules.specs.Carrying.{CarriesOut}
-use Rattle.session_rules.specs.GraphSystems.{system_of}
-use Rattle.session_core.specs.Services.{Shown, case_text, least_case_text, told_graph, exact_moves, moves_of, IsRefused, ChangesTable}
+use Rattle.session_core.specs.Services.{Shown, served_system, exact_moves, moves_of, IsRefused, ChangesTable}
 
 -- ---- one move that keeps the table
 
@@ -32,7 +31,7 @@ one_kept old new m a b (Err e) same broke = broke.table ∙ ap (λ (s : Step). s
 
 module _ (shown : Shown) (s : Name) (refusal : Refusal) where
   abbrev system : System
-  system = system_of shown.subject
+  system = served_system shown.subject
 
   abbrev full : Bool
   full = nat_le shown.limit (length shown.table)
@@ -44,20 +43,8 @@ module _ (shown : Shown) (s : Name) (refusal : Refusal) where
   abbrev refused : List Step
   refused = carried shown.table s (Declined refusal) ∷ []
 
-  told : (entry : Option Entry) (ms : List Step) → outcome system s full entry Dnnf ≡ Declined refusal → told_graph (codes "dnnf") (case_text shown.subject) shown.table s entry ms ≡ ms
-  told None ms is = refl
-  told (Some entry) ms is = absurd (let never : ⊥ = cc in never)
-
   not_declined : (change : Change) (items : List Item) → Done change items ≡ Declined refusal → ⊥
   not_declined change items e = cc
-
-  told_least : (told : Bool) → shown.subject.extras.least ≡ told → (entry : Option Entry) (ms : List Step) → outcome system s full entry LeastNnf ≡ Declined refusal
-      → (if told then told_graph (codes "leastnnf") (least_case_text shown.subject) shown.table s entry ms else ms) ≡ ms
-  told_least false is entry ms declined = refl
-  told_least true is None ms declined = refl
-  told_least true is (Some entry) ms declined =
-      let items = line (s ∷ codes "leastnnf" ∷ []) ∷ LeastText (length system.parts) (all_diagnoses system entry.known) ∷ [] in
-      absurd (not_declined Stays items (subst (λ (b : Bool). (if b then tells items else Declined NoLeast) ≡ Declined refusal) is declined))
 
   listed : (n : ℕ) (entry : Option Entry) → outcome system s full entry (Several (suc n)) ≡ Declined refusal
       → listing_moves (next_for system s) shown.table s (suc n) entry ≡ one (Several (suc n)) entry
@@ -80,10 +67,6 @@ module _ (shown : Shown) (s : Name) (refusal : Refusal) where
   pub declined : (request : Request) → outcome_in system shown.limit shown.table s request ≡ Declined refusal → exact_moves shown shown.table (Ask s request) ≡ refused
   declined (Several (suc n)) is = listed n (entry_of s shown.table) is ∙ ap (λ o. carried shown.table s o ∷ []) is
   declined (Levels (suc n)) is = levelled n shown.subject.extras.levels refl is ∙ ap (λ o. carried shown.table s o ∷ []) is
-  declined Dnnf is = told (entry_of s shown.table) (one Dnnf (entry_of s shown.table)) is ∙ ap (λ o. carried shown.table s o ∷ []) is
-  declined LeastNnf is =
-      told_least shown.subject.extras.least refl (entry_of s shown.table) (one LeastNnf (entry_of s shown.table)) is
-      ∙ ap (λ o. carried shown.table s o ∷ []) is
   declined request is = ap (λ o. carried shown.table s o ∷ []) is
 
 abbrev Keeps : Table → List Step → Type 0
@@ -91,7 +74,7 @@ Keeps table ms = (m : Step) × (ms ≡ m ∷ []) × (m.table ≡ table)
 
 refused_moves : (shown : Shown) (line : Line) → IsRefused shown line → Keeps shown.table (exact_moves shown shown.table line)
 refused_moves shown Blank is = absurd is
-refused_moves shown (Refused refusal) is = (step (system_of shown.subject) shown.limit shown.table (Refused refusal), refl, refl)
+refused_moves shown (Refused refusal) is = (step (served_system shown.subject) shown.limit shown.table (Refused refusal), refl, refl)
 refused_moves shown (Ask s request) is = (carried shown.table s (Declined is.0), declined shown s is.0 request is.1, refl)
 
 pub refused_stays : {T E : Type 0} (old new : Shown) (line : List ℕ) (a b : Option (List ℕ)) (r : Result T E) → ChangesTable old new

@@ -3,24 +3,24 @@
 use Rattle.std.proofs.Common.{◌≡◌, ℕ, Bool, true, false, ◌+◌, ◌^◌, ◌<◌, ◌≤◌, List, [], ◌∷◌, ◌++◌, length, Option, Some, None, refl, ap, sym, ◌∙◌, subst, append_assoc}
 use Rattle.std.specs.Prelude.{nat_le, codes, if◌then◌else◌}
 use Rattle.text_rules.specs.Names.{Name}
-use Rattle.state_rules.specs.Cases.{Case}
-use Rattle.state_rules.specs.Systems.{System, all_diagnoses}
+use Rattle.state_rules.specs.Systems.{System}
 use Rattle.state_rules.specs.Graphs.{IsGraph}
 use Rattle.script_lang.specs.Script.{Line, Ask, Request, Dnnf, LeastNnf, line_of}
 use Rattle.session_rules.specs.declared.refusal.Refusal.TheVariants.{NoLeast}
-use Rattle.session_rules.specs.Items.{Item, Projected, LeastText, line}
+use Rattle.session_rules.specs.Items.{Item, Plain, line}
 use Rattle.session_rules.specs.Spelling.{Spelled, Spells, Writes}
 use Rattle.session_rules.specs.Sessions.{Table, Entry, Step, Declined, tells, entry_of, carried, outcome}
+use Rattle.session_rules.specs.Replies.{least_item}
 use Rattle.session_rules.specs.Moves.{said, left_by, moves, line_moves, script_moves}
 use Rattle.session_rules.specs.Carrying.{Makes, BreaksOff}
 use Rattle.session_rules.specs.GraphSystems.{HasLeastTexts, system_of}
-use Rattle.session_rules.specs.CaseSizes.{HasCasesOf}
+use Rattle.session_rules.specs.CaseSizes.{IsCaseOf, HasCasesOf}
 use Rattle.session_rules.proofs.Spellings.{spells_more}
 use Rattle.session_rules.proofs.Whole.{line_moves-whole, left_by-append, said-replies}
 use Rattle.session_rules.proofs.Keeping.{step-keeps}
-use Rattle.session_core.proofs.ReplyTexts.{case-spelled, least-spelled}
-use Rattle.session_core.specs.Dialogues.{SpellReplies}
-use Rattle.session_core.specs.Services.{Shown, case_text, least_case_text, told_graph, exact_moves, moves_of}
+use Rattle.session_rules.proofs.Same.{moves-same}
+use Rattle.session_core.proofs.GraphTexts.{case-spelled, least-spelled}
+use Rattle.session_core.specs.Services.{Shown, SpellReplies, served_system, moves_of}
 
 -- A move leads to the table of another, and a text that spells its items spells the other's.
 pub record IsExact (exact move : Step) : Type 0 where
@@ -62,7 +62,7 @@ parted (x ∷ xs) ys text (front, rest, all, one, more) =
       later.4,
     )
 
-same_said : (es ms : List Step) → AreExact es ms → (text : List ℕ) → Spells (said es) text → Spells (said ms) text
+pub same_said : (es ms : List Step) → AreExact es ms → (text : List ℕ) → Spells (said es) text → Spells (said ms) text
 same_said [] [] h text is = is
 same_said [] (m ∷ ms) h text is = absurd h
 same_said (e ∷ es) [] h text is = absurd h
@@ -126,54 +126,50 @@ module _ (shown : Shown) (is_graph : IsGraph shown.subject.graph) (room : length
   abbrev system : System
   system = system_of shown.subject
 
-  -- Where an open session is told a line and an item, a text that spells the item may stand in its place.
-  told : (word : List ℕ) (text : Case → List ℕ) (item : Case → Item) (table : Table) (s : Name) (entry : Option Entry) (moves : List Step)
-      → ((e : Entry) → entry ≡ Some e → (moves ≡ record { table = table; items = line (s ∷ word ∷ []) ∷ item e.known ∷ [] } ∷ []) × Spelled (item e.known) (text e.known))
-      → AreExact (told_graph word text table s entry moves) moves
-  told word text item table s None moves h = are_same moves
-  told word text item table s (Some entry) moves h =
-      let by = h entry refl in
-      subst (λ (ms : List Step). AreExact (told_graph word text table s (Some entry) moves) ms) (sym by.0) (
-        record {
-          table = refl;
-          spells = λ all (head, rest, both, one, (graph, end, behind, is_text, none)). (head, rest, both, one, (graph, end, behind, subst (Spelled (item entry.known)) (sym is_text) by.1, none));
-        },
-        tt,
-      )
+  abbrev served : System
+  served = served_system shown.subject
 
-  -- what an open session answers
-  answered : (table : Table) (s : Name) (request : Request) (e : Entry) → entry_of s table ≡ Some e
-      → carried table s (outcome system s (nat_le shown.limit (length table)) (entry_of s table) request) ≡ carried table s (outcome system s (nat_le shown.limit (length table)) (Some e) request)
-  answered table s request e is = ap (λ (o : Option Entry). carried table s (outcome system s (nat_le shown.limit (length table)) o request)) is
+  -- a graph by its text, after a line, in place of the item that it spells
+  told : (table : Table) (l item : Item) (text : List ℕ) → Spelled item text
+      → IsExact (record { table = table; items = l ∷ Plain text ∷ [] }) (record { table = table; items = l ∷ item ∷ [] })
+  told table l item text is = record {
+    table = refl;
+    spells = λ all (head, rest, both, one, (graph, end, after, is_text, none)). (head, rest, both, one, (graph, end, after, subst (Spelled item) (sym is_text) is, none));
+  }
 
-  least_told : (told : Bool) → shown.subject.extras.least ≡ told → (table : Table) (s : Name) → HasCasesOf system table
-      → let step = carried table s (outcome system s (nat_le shown.limit (length table)) (entry_of s table) LeastNnf) ∷ [] in
-      AreExact (if told then told_graph (codes "leastnnf") (least_case_text shown.subject) table s (entry_of s table) step else step) step
-  least_told false is table s h = are_same (carried table s (outcome system s (nat_le shown.limit (length table)) (entry_of s table) LeastNnf) ∷ [])
-  least_told true is table s h =
-      told (codes "leastnnf") (least_case_text shown.subject) (λ known. LeastText (length system.parts) (all_diagnoses system known)) table s (entry_of s table) _
-      (λ e there. (
-        ap (λ (step : Step). step ∷ [])
-            (answered table s LeastNnf e there
-            ∙ ap (λ (b : Bool). carried table s (if b then tells (line (s ∷ codes "leastnnf" ∷ []) ∷ LeastText (length system.parts) (all_diagnoses system e.known) ∷ []) else Declined NoLeast)) is),
-        least-spelled shown.subject is_graph room few drawn e.known (h s e there) is,
-      ))
+  module _ (table : Table) (s : Name) (h : (e : Entry) → entry_of s table ≡ Some e → IsCaseOf system e.known) where
+    abbrev answer : System → Request → Option Entry → List Step
+    answer over request entry = carried table s (outcome over s (nat_le shown.limit (length table)) entry request) ∷ []
 
-  line_exact : (table : Table) (l : Line) → HasCasesOf system table → AreExact (exact_moves shown table l) (moves system shown.limit table l)
-  line_exact table (Ask s Dnnf) h =
-      told (codes "dnnf") (case_text shown.subject) (λ known. Projected (length system.parts) (system.consistent known)) table s (entry_of s table) _
-      (λ e there. (
-        ap (λ (step : Step). step ∷ []) (answered table s Dnnf e there),
-        case-spelled shown.subject is_graph room few drawn e.known (h s e there),
-      ))
-  line_exact table (Ask s LeastNnf) h = least_told shown.subject.extras.least refl table s h
+    dnnf_exact : (entry : Option Entry) → entry_of s table ≡ entry → AreExact (answer served Dnnf entry) (answer system Dnnf entry)
+    dnnf_exact None there = are_same (answer system Dnnf None)
+    dnnf_exact (Some e) there = (told table _ _ _ (case-spelled shown.subject is_graph room few drawn e.known (h e there)), tt)
+
+    least_exact : (entry : Option Entry) → entry_of s table ≡ entry → AreExact (answer served LeastNnf entry) (answer system LeastNnf entry)
+    least_exact None there = are_same (answer system LeastNnf None)
+    least_exact (Some e) there = by shown.subject.extras.least refl
+      where
+        answer_if : Item → Bool → List Step
+        answer_if item b = carried table s (if b then tells (line (s ∷ codes "leastnnf" ∷ []) ∷ item ∷ []) else Declined NoLeast) ∷ []
+
+        by : (b : Bool) → shown.subject.extras.least ≡ b → AreExact (answer_if (least_item served e.known) b) (answer_if (least_item system e.known) b)
+        by true on = (told table _ _ _ (least-spelled shown.subject is_graph room few drawn e.known (h e there) on), tt)
+        by false on = are_same (answer_if (least_item system e.known) false)
+
+  line_exact : (table : Table) (l : Line) → HasCasesOf system table → AreExact (moves served shown.limit table l) (moves system shown.limit table l)
+  line_exact table (Ask s Dnnf) h = dnnf_exact table s (h s) (entry_of s table) refl
+  line_exact table (Ask s LeastNnf) h = least_exact table s (h s) (entry_of s table) refl
+  line_exact table (Ask s request) h =
+      subst (λ ms. AreExact ms (moves system shown.limit table (Ask s request)))
+      (moves-same system system.consistent served.texts (λ known fits. refl) shown.limit table (Ask s request) h (λ e there. tt))
+      (are_same (moves system shown.limit table (Ask s request)))
   line_exact table l h = are_same (moves system shown.limit table l)
 
   cases_kept : (table : Table) (bytes : List ℕ) → HasCasesOf system table → HasCasesOf system (left_by table (line_moves system shown.limit table bytes))
   cases_kept table bytes h =
       subst (λ (s : Step). HasCasesOf system s.table) (sym (line_moves-whole system shown.limit table bytes)) (step-keeps system shown.limit table (line_of bytes) h)
 
-  script_exact : (table : Table) (lines : List (List ℕ)) → HasCasesOf system table → AreExact (script_moves (moves_of shown) table lines) (script_moves (line_moves system shown.limit) table lines)
+  pub script_exact : (table : Table) (lines : List (List ℕ)) → HasCasesOf system table → AreExact (script_moves (moves_of shown) table lines) (script_moves (line_moves system shown.limit) table lines)
   script_exact table [] h = tt
   script_exact table (l ∷ lines) h =
       let one = line_moves system shown.limit in

@@ -11,12 +11,12 @@ use Rattle.script_lang.specs.Script.{Request}
 use Rattle.script_lang.specs.declared.line.Noted.{Noted}
 use Rattle.script_lang.specs.declared.line.Noted.TheVariants.{Wire, Part}
 use Rattle.session_rules.specs.CaseWords.{case_of_words, AreWords}
-use Rattle.session_rules.specs.GraphSystems.{Subject, system_of}
+use Rattle.session_rules.specs.GraphSystems.{Subject}
 use Rattle.session_rules.specs.Items.{line}
 use Rattle.session_rules.specs.Sessions.{Table, Entry, outcome_in, becomes, names_of, with_entry}
 use Rattle.session_rules.proofs.Spellings.{replies_one}
 use Rattle.session_table.specs.Tables.{Opened, count_of}
-use Rattle.session_core.specs.Services.{Shown}
+use Rattle.session_core.specs.Services.{Shown, served_system}
 use Rattle.session_core.specs.inner.Bases.{AreKnown, case_in}
 use Rattle.session_core.specs.inner.Holding.{HoldsTogether}
 use Rattle.session_core.specs.inner.Obeying.{Obeys}
@@ -43,7 +43,7 @@ holds_more subject old new table h e = record {
 
 -- a session became another, and a word was said
 pub obeys_becomes : {T E : Type 0} (subject : Subject) (old new : Opened) (session : Name) (request : Request) (entry : Entry) (word : List ℕ) (before after : Option (List ℕ)) (result : Result T E)
-    → IsOneMove request → outcome_in (system_of subject) old.limit old.table session request ≡ becomes session entry word
+    → IsOneMove request → outcome_in (served_system subject) old.limit old.table session request ≡ becomes session entry word
     → new ≡ opened_with old (with_entry session entry old.table) → Puts before after result (spaced (session ∷ word ∷ []))
     → Obeys (shown_of subject old) (shown_of subject new) session request before after result
 obeys_becomes subject old new session request entry word before after result one is e put =
@@ -51,7 +51,7 @@ obeys_becomes subject old new session request entry word before after result one
     (replies_one before after result (line (session ∷ word ∷ [])) _ refl put)
 
 -- there are as many places for notes as wires, or parts
-pub count-there : (subject : Subject) (opened : Opened) → HoldsTogether subject opened → (what : Noted) → length (names_of (system_of subject) what) ≡ count_of opened.parts opened.wires what
+pub count-there : (subject : Subject) (opened : Opened) → HoldsTogether subject opened → (what : Noted) → length (names_of (served_system subject) what) ≡ count_of opened.parts opened.wires what
 count-there subject opened h Wire = sym h.wires
 count-there subject opened h Part = sym h.parts
 

@@ -13,8 +13,8 @@ pub mod Holding
 pub mod Stepping
 pub mod Naming
 pub mod Moving
+mod GraphTexts
 pub mod ReplyTexts
 pub mod Exact
 pub mod OneText
 pub mod Declining
-pub mod ToldAlone

@@ -12,7 +12,7 @@ use Rattle.state_rules.specs.Systems.{System, all_diagnoses}
 use Rattle.diagnosis_lister.specs.declared.listing.Step.{Step as Answer}
 use Rattle.diagnosis_lister.specs.declared.listing.Step.TheVariants.{Found, End, Inconsistent}
 use Rattle.script_lang.specs.Script.{Ask, Request, Several, Level, Levels as LevelsOf}
-use Rattle.session_rules.specs.GraphSystems.{Subject, system_of}
+use Rattle.session_rules.specs.GraphSystems.{Subject}
 use Rattle.session_rules.specs.declared.refusal.Refusal.TheVariants.{NoLevels}
 use Rattle.session_rules.specs.Items.{Item, line}
 use Rattle.session_rules.specs.Replies.{Found as Reply, listing, diagnosis_line, inconsistent, end_line}
@@ -23,7 +23,7 @@ use Rattle.session_rules.specs.Carrying.{Makes, BreaksOff, CarriesOut}
 use Rattle.session_rules.proofs.Spellings.{writes_none}
 use Rattle.session_rules.proofs.Broken.{makes_none, makes_more, breaks_after}
 use Rattle.session_table.specs.Tables.{StandsAt}
-use Rattle.session_core.specs.Services.{Shown, ChangesTable, exact_moves}
+use Rattle.session_core.specs.Services.{Shown, ChangesTable, exact_moves, served_system}
 use Rattle.session_core.specs.declared.listing.Listed.{Listed}
 use Rattle.session_core.specs.declared.listing.Listed.TheVariants.{Diagnoses, Levels}
 use Rattle.session_core.specs.inner.Desks.{top_of}
@@ -66,19 +66,19 @@ put_twice name v w (e ∷ es) = twice_by name v w e es (slice_cmp nat_cmp name e
 
 module _ (subject : Subject) (old new : Table) (place : ℕ) (session : Name) (entry : Entry) (found : Answer) (m : NextMoves subject old new place session entry found) where
   abbrev later : List (List Bool)
-  later = rest (all_diagnoses (system_of subject) entry.known) entry.point
+  later = rest (all_diagnoses (served_system subject) entry.known) entry.point
 
   pub next_inconsistent : found ≡ Inconsistent → the_found subject Diagnoses session entry ≡ record { item = line (inconsistent session); point = entry.point; more = false }
-  next_inconsistent e = found_inconsistent (system_of subject).costs ((system_of subject).consistent entry.known) session (diagnosis_line (system_of subject) session) entry.point later (sym m.answer ∙ e)
+  next_inconsistent e = found_inconsistent (served_system subject).costs ((served_system subject).consistent entry.known) session (diagnosis_line (served_system subject) session) entry.point later (sym m.answer ∙ e)
 
   pub next_end : found ≡ End → the_found subject Diagnoses session entry ≡ record { item = line (end_line session); point = entry.point; more = false }
-  next_end e = found_end (system_of subject).costs ((system_of subject).consistent entry.known) session (diagnosis_line (system_of subject) session) entry.point later (sym m.answer ∙ e)
+  next_end e = found_end (served_system subject).costs ((served_system subject).consistent entry.known) session (diagnosis_line (served_system subject) session) entry.point later (sym m.answer ∙ e)
 
-  next_found : found ≡ Found → the_found subject Diagnoses session entry ≡ record { item = diagnosis_line (system_of subject) session (slice_index_or later 0 []); point = Some (slice_index_or later 0 []); more = true }
-  next_found e = found_more (system_of subject).costs ((system_of subject).consistent entry.known) session (diagnosis_line (system_of subject) session) entry.point later (sym m.answer ∙ e)
+  next_found : found ≡ Found → the_found subject Diagnoses session entry ≡ record { item = diagnosis_line (served_system subject) session (slice_index_or later 0 []); point = Some (slice_index_or later 0 []); more = true }
+  next_found e = found_more (served_system subject).costs ((served_system subject).consistent entry.known) session (diagnosis_line (served_system subject) session) entry.point later (sym m.answer ∙ e)
 
   -- the point is then the diagnosis that is shown
-  pub found_state : found ≡ Found → (state : List Bool) × ((the_found subject Diagnoses session entry).point ≡ Some state) × ((the_found subject Diagnoses session entry).item ≡ diagnosis_line (system_of subject) session state) × ((the_found subject Diagnoses session entry).more ≡ true)
+  pub found_state : found ≡ Found → (state : List Bool) × ((the_found subject Diagnoses session entry).point ≡ Some state) × ((the_found subject Diagnoses session entry).item ≡ diagnosis_line (served_system subject) session state) × ((the_found subject Diagnoses session entry).more ≡ true)
   found_state e = (slice_index_or later 0 [], ap (λ (f : Reply). f.point) (next_found e), ap (λ (f : Reply). f.item) (next_found e), ap (λ (f : Reply). f.more) (next_found e))
 
 pub moves_on : {E : Type 0} (old new : Shown) (listed : Listed) (place : ℕ) (session : Name) (entry : Entry) (known : Type 0) (before after : Option (List ℕ)) (result : Result Bool E)
@@ -94,7 +94,7 @@ moves_on old new listed place session entry known before after result m stays re
 
 -- a request that is one such move
 pub obeys_found : {T E : Type 0} (old new : Shown) (listed : Listed) (session : Name) (entry : Entry) (before after : Option (List ℕ)) (result : Result T E) (request : Request) → IsOneMove request
-    → entry_of session old.table ≡ Some entry → when_open (system_of old.subject) session entry request ≡ goes_to entry (the_found old.subject listed session entry)
+    → entry_of session old.table ≡ Some entry → when_open (served_system old.subject) session entry request ≡ goes_to entry (the_found old.subject listed session entry)
     → Replies before after result ((the_found old.subject listed session entry).item ∷ [])
     → new ≡ record old { table = with_entry session (found_entry old.subject listed session entry) old.table } → Obeys old new session request before after result
 obeys_found old new listed session entry before after result request one there is reply moves =
@@ -237,7 +237,7 @@ obeys_moves old new session request ms before after result is carried stays = re
 
 -- none of a listing is one move, which says nothing and changes nothing
 none_listed : {T E : Type 0} (old new : Shown) (place : ℕ) (session : Name) (entry : Entry) (request : Request) (before after : Option (List ℕ)) (result : Result T E) → IsOneMove request
-    → StandsAt old.table place session entry → when_open (system_of old.subject) session entry request ≡ goes_through entry []
+    → StandsAt old.table place session entry → when_open (served_system old.subject) session entry request ≡ goes_through entry []
     → CarriesOut old.table new.table [] before after result → ChangesTable old new → Obeys old new session request before after result
 none_listed old new place session entry request before after (Ok v) one stands is made stays =
     obeys_outcome old session request one before after (Ok v) (goes_through entry []) new (asked_open old session request entry stands.found ∙ is)
@@ -246,7 +246,7 @@ none_listed old new place session entry request before after (Err e) one stands 
 
 several_moves : (old : Shown) (session : Name) (entry : Entry) (n : ℕ) → entry_of session old.table ≡ Some entry
     → found_moves old Diagnoses session entry (suc n) ≡ exact_moves old old.table (Ask session (Several (suc n)))
-several_moves old session entry n found = ap (listing_moves (next_for (system_of old.subject) session) old.table session (suc n)) (sym found)
+several_moves old session entry n found = ap (listing_moves (next_for (served_system old.subject) session) old.table session (suc n)) (sym found)
 
 -- the request for so many diagnoses is obeyed
 pub obeys_several : {T E : Type 0} (old new : Shown) (place : ℕ) (session : Name) (entry : Entry) (count : ℕ) (before after : Option (List ℕ)) (result : Result T E) → StandsAt old.table place session entry
@@ -257,10 +257,10 @@ obeys_several old new place session entry (suc n) before after result stands car
     obeys_moves old new session (Several (suc n)) (found_moves old Diagnoses session entry (suc n)) before after result (several_moves old session entry n stands.found) carried stays
 
 levels_moves : (old : Shown) (session : Name) (entry : Entry) (n : ℕ) (levels : Option ℕ) → is_some levels ≡ true → entry_of session old.table ≡ Some entry
-    → map (goes_on old.table session entry) (listing (level_for (system_of old.subject) session (top_of levels) entry) (suc n) entry.point)
-    ≡ level_moves (system_of old.subject) old.limit old.table session (suc n) levels
+    → map (goes_on old.table session entry) (listing (level_for (served_system old.subject) session (top_of levels) entry) (suc n) entry.point)
+    ≡ level_moves (served_system old.subject) old.limit old.table session (suc n) levels
 levels_moves old session entry n None told found = absurd (let no : ⊥ = cc in no)
-levels_moves old session entry n (Some top) told found = ap (listing_moves (level_for (system_of old.subject) session top) old.table session (suc n)) (sym found)
+levels_moves old session entry n (Some top) told found = ap (listing_moves (level_for (served_system old.subject) session top) old.table session (suc n)) (sym found)
 
 none_levelled : (system : System) (session : Name) (entry : Entry) (levels : Option ℕ) → is_some levels ≡ true
     → with_number NoLevels (λ top. goes_through entry (listing (level_for system session top entry) zero entry.point)) levels ≡ goes_through entry []
@@ -273,7 +273,7 @@ pub obeys_levels : {T E : Type 0} (old new : Shown) (place : ℕ) (session : Nam
     → Obeys old new session (LevelsOf count) before after result
 obeys_levels old new place session entry zero before after result told stands carried stays =
     none_listed old new place session entry (LevelsOf zero) before after result (λ shown table s. refl) stands
-    (none_levelled (system_of old.subject) session entry old.subject.extras.levels told) carried stays
+    (none_levelled (served_system old.subject) session entry old.subject.extras.levels told) carried stays
 obeys_levels old new place session entry (suc n) before after result told stands carried stays =
     obeys_moves old new session (LevelsOf (suc n)) (found_moves old Levels session entry (suc n)) before after result
     (levels_moves old session entry n old.subject.extras.levels told stands.found) carried stays

@@ -13,14 +13,14 @@ use Rattle.script_lang.specs.Script.{Line, Blank, Refused, Ask, Request, Start, 
 use Rattle.session_rules.specs.declared.refusal.Refusal.{Refusal}
 use Rattle.session_rules.specs.declared.refusal.Refusal.TheVariants.{Full, NoPart, NoLevels, NoLeast}
 use Rattle.session_rules.specs.Items.{Item, Plain, Projected, LeastText, Whole, line}
-use Rattle.session_rules.specs.Replies.{Found, found, next_of, level_of, level_line, listing, diagnosis_line, told}
-use Rattle.session_rules.specs.Sessions.{Table, Entry, Step, Outcome, Declined, Done, with_number, becomes, tells, tells_lines, goes_to, goes_through, names_of, no_such, with_noted, new_entry, state_of, outcome, entry_of, carried, step}
-use Rattle.session_rules.specs.Moves.{said, left_by, line_moves, script_moves}
+use Rattle.session_rules.specs.Replies.{Found, found, next_of, level_of, level_line, listing, diagnosis_line, told, least_item}
+use Rattle.session_rules.specs.Sessions.{Table, Entry, Step, Outcome, Declined, Done, with_number, becomes, tells, tells_lines, goes_to, goes_through, names_of, no_such, with_noted, new_entry, state_of, outcome, entry_of, carried, step, replies}
+use Rattle.session_rules.specs.Moves.{said, script_moves}
 use Rattle.session_rules.specs.Spelling.{Spells}
 use Rattle.session_rules.specs.Carrying.{Makes}
-use Rattle.session_rules.specs.GraphSystems.{system_of}
-use Rattle.session_rules.proofs.Whole.{line_moves-whole, said-append}
-use Rattle.session_core.specs.Services.{Shown, told_graph, case_text, least_case_text, with_graph, moves_of}
+use Rattle.session_rules.specs.GraphSystems.{Subject}
+use Rattle.session_rules.proofs.Whole.{said-replies}
+use Rattle.session_core.specs.Services.{Shown, served_system, moves_of}
 
 -- items that are texts
 abbrev pub ArePlain : List Item → Type 0
@@ -96,19 +96,13 @@ carried-plain : (table : Table) (s : Name) (o : Outcome) → IsPlain o → ArePl
 carried-plain table s (Declined refusal) h = tt
 carried-plain table s (Done change items) h = h
 
--- where a graph is asked for, that is so of a session that is not open, or of a graph that is not told
-abbrev IsPlainFor : System → Request → Option Entry → Outcome → Type 0
-IsPlainFor system Dnnf entry o = entry ≡ None → IsPlain o
-IsPlainFor system LeastNnf entry o = (entry ≡ None → IsPlain o) × (system.extras.least ≡ false → IsPlain o)
-IsPlainFor system request entry o = IsPlain o
+-- ---- and a graph is one too
 
-abbrev ArePlainFor : System → Table → Line → List Item → Type 0
-ArePlainFor system table (Ask s Dnnf) items = entry_of s table ≡ None → ArePlain items
-ArePlainFor system table (Ask s LeastNnf) items = (entry_of s table ≡ None → ArePlain items) × (system.extras.least ≡ false → ArePlain items)
-ArePlainFor system table l items = ArePlain items
+module _ (subject : Subject) where
+  abbrev system : System
+  system = served_system subject
 
-module _ (system : System) where
-  outcome-plain : (s : Name) (full : Bool) (entry : Option Entry) (request : Request) → IsPlainFor system request entry (outcome system s full entry request)
+  outcome-plain : (s : Name) (full : Bool) (entry : Option Entry) (request : Request) → IsPlain (outcome system s full entry request)
   outcome-plain s full (Some entry) Start = tt
   outcome-plain s full (Some entry) Stop = tt
   outcome-plain s full (Some entry) (Note what name bit) =
@@ -119,7 +113,7 @@ module _ (system : System) where
       let ds = all_diagnoses system entry.known in listing-plain (next_of system s ds) (next-plain system s ds) count entry.point
   outcome-plain s full (Some entry) (After names) =
       chosen (list_all (λ name. is_among system.parts name) names) (becomes s (record entry { point = Some (state_of names system.parts) }) (codes "ok")) (Declined NoPart) tt tt
-  outcome-plain s full (Some entry) Dnnf = λ none. absurd (let never : ⊥ = cc in never)
+  outcome-plain s full (Some entry) Dnnf = tt
   outcome-plain s full (Some entry) Level =
       let level = λ (top : ℕ). level_of system s top (system.consistent entry.known) in
       placed NoLevels (λ top. goes_to entry (level top entry.point)) system.extras.levels (λ top. level-plain system s top (system.consistent entry.known) entry.point)
@@ -127,60 +121,27 @@ module _ (system : System) where
       let level = λ (top : ℕ). level_of system s top (system.consistent entry.known) in
       placed NoLevels (λ top. goes_through entry (listing (level top) count entry.point)) system.extras.levels
       (λ top. listing-plain (level top) (level-plain system s top (system.consistent entry.known)) count entry.point)
-  outcome-plain s full (Some entry) LeastNnf = (
-    (λ none. absurd (let never : ⊥ = cc in never)),
-    (λ untold.
-        subst (λ (told : Bool). IsPlain (if told then tells (line (s ∷ codes "leastnnf" ∷ []) ∷ LeastText (length system.parts) (all_diagnoses system entry.known) ∷ []) else Declined NoLeast))
-        (sym untold) tt),
-  )
+  outcome-plain s full (Some entry) LeastNnf =
+      chosen system.extras.least (tells (line (s ∷ codes "leastnnf" ∷ []) ∷ least_item system entry.known ∷ [])) (Declined NoLeast) tt tt
   outcome-plain s full None Start = chosen full (Declined Full) (becomes s (new_entry system) (codes "open")) tt tt
-  outcome-plain s full None Dnnf = λ none. tt
-  outcome-plain s full None LeastNnf = ((λ none. tt), (λ untold. tt))
   outcome-plain s full None request = tt
 
-  step-plain : (limit : ℕ) (table : Table) (l : Line) → ArePlainFor system table l (step system limit table l).items
+  step-plain : (limit : ℕ) (table : Table) (l : Line) → ArePlain (step system limit table l).items
   step-plain limit table Blank = tt
   step-plain limit table (Refused refusal) = tt
-  step-plain limit table (Ask s Dnnf) = λ none.
-      carried-plain table s (outcome system s (nat_le limit (length table)) (entry_of s table) Dnnf) (outcome-plain s (nat_le limit (length table)) (entry_of s table) Dnnf none)
-  step-plain limit table (Ask s LeastNnf) =
-      let full = nat_le limit (length table) in
-      let plain = outcome-plain s full (entry_of s table) LeastNnf in
-      let items = carried-plain table s (outcome system s full (entry_of s table) LeastNnf) in
-      ((λ none. items (plain.0 none)), (λ untold. items (plain.1 untold)))
   step-plain limit table (Ask s request) =
       carried-plain table s (outcome system s (nat_le limit (length table)) (entry_of s table) request) (outcome-plain s (nat_le limit (length table)) (entry_of s table) request)
 
--- ---- and a graph is one too
+  replies-plain : (limit : ℕ) (table : Table) (lines : List (List ℕ)) → ArePlain (replies system limit table lines)
+  replies-plain limit table [] = tt
+  replies-plain limit table (l ∷ lines) =
+      let now = step system limit table (line_of l) in
+      plain_both now.items (replies system limit now.table lines) (step-plain limit table (line_of l)) (replies-plain limit now.table lines)
 
-module _ (shown : Shown) where
-  told-plain : (word : List ℕ) (text : Case → List ℕ) (table : Table) (s : Name) (entry : Option Entry) (moves : List Step) → (entry ≡ None → ArePlain (said moves)) → ArePlain (said (told_graph word text table s entry moves))
-  told-plain word text table s None moves h = h refl
-  told-plain word text table s (Some entry) moves h = tt
-
-  drawn-plain : (told : Bool) (table : Table) (s : Name) (moves : List Step) → (entry_of s table ≡ None → ArePlain (said moves)) → (told ≡ false → ArePlain (said moves))
-      → ArePlain (said (if told then told_graph (codes "leastnnf") (least_case_text shown.subject) table s (entry_of s table) moves else moves))
-  drawn-plain true table s moves h k = told-plain (codes "leastnnf") (least_case_text shown.subject) table s (entry_of s table) moves h
-  drawn-plain false table s moves h k = k refl
-
-  with-plain : (table : Table) (l : Line) (moves : List Step) → ArePlainFor (system_of shown.subject) table l (said moves) → ArePlain (said (with_graph shown table l moves))
-  with-plain table (Ask s Dnnf) moves h = told-plain (codes "dnnf") (case_text shown.subject) table s (entry_of s table) moves h
-  with-plain table (Ask s LeastNnf) moves h = drawn-plain shown.subject.extras.least table s moves h.0 h.1
-  with-plain table l moves h = h
-
-  line-plain : (table : Table) (bytes : List ℕ) → ArePlain (said (moves_of shown table bytes))
-  line-plain table bytes =
-      let system = system_of shown.subject in
-      with-plain table (line_of bytes) (line_moves system shown.limit table bytes)
-      (subst (ArePlainFor system table (line_of bytes)) (sym (ap (λ (s : Step). s.items) (line_moves-whole system shown.limit table bytes))) (step-plain system shown.limit table (line_of bytes)))
-
-  -- all that a service answers to a script
-  pub script-plain : (table : Table) (lines : List (List ℕ)) → ArePlain (said (script_moves (moves_of shown) table lines))
-  script-plain table [] = tt
-  script-plain table (l ∷ lines) =
-      let first = moves_of shown table l in
-      let later = script_moves (moves_of shown) (left_by table first) lines in
-      subst ArePlain (sym (said-append first later)) (plain_both (said first) (said later) (line-plain table l) (script-plain (left_by table first) lines))
+-- all that a service answers to a script
+pub script-plain : (shown : Shown) (table : Table) (lines : List (List ℕ)) → ArePlain (said (script_moves (moves_of shown) table lines))
+script-plain shown table lines =
+    subst ArePlain (sym (said-replies (served_system shown.subject) shown.limit table lines)) (replies-plain shown.subject shown.limit table lines)
 
 grown_by : (bytes : List ℕ) (a b : Option (List ℕ)) (text other : List ℕ) → Appends (Some bytes) a text → Appends (Some bytes) b other → text ≡ other → a ≡ b
 grown_by bytes None b text other h k same = absurd h

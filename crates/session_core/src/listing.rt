@@ -5,13 +5,12 @@ ghost use Rattle.text_rules.specs.Names.{Name, is_among};
 ghost use Rattle.text_rules.specs.Tokens.{words};
 ghost use Rattle.diag_edge.specs.Edge.{HasCause};
 ghost use Rattle.script_lang.specs.Script.{Next, After};
-ghost use Rattle.session_rules.specs.GraphSystems.{system_of};
 ghost use Rattle.session_rules.specs.Replies.{diagnosis_line};
 ghost use Rattle.session_rules.specs.Sessions.{Entry, state_of, with_entry};
 ghost use Rattle.session_rules.specs.Spelling.{Replies};
 ghost use Rattle.session_rules.specs.Carrying.{CarriesOut};
 ghost use Rattle.session_table.specs.Tables.{StandsAt};
-ghost use Rattle.session_core.specs.Services.{ChangesTable};
+ghost use Rattle.session_core.specs.Services.{ChangesTable, served_system};
 ghost use Rattle.session_core.specs.inner.Obeying.{Obeys, IsOpen, MovesOn, NextMoves, IsTold, found_moves};
 
 use crate::replies::{put_faulty, put_refusal};
@@ -126,7 +125,7 @@ impl Sessions {
         requires { session.place < length self.now.table }
         ensures reply { (entry : Entry) (state : List Bool) → StandsAt self.now.table session.entry.place session.entry.name.now entry
             → entry.point ≡ Some state → Replies (O.got out.old) (O.got out.new) result
-            (diagnosis_line (system_of self.now.subject) session.entry.name.now state ∷ []) }
+            (diagnosis_line (served_system self.now.subject) session.entry.name.now state ∷ []) }
         ensures cause { HasCause (O.faults out.old) (O.faults out.new) result }
     {
         match self.open.point(session.place) {

@@ -8,8 +8,9 @@ use Rattle.probe_report.specs.Verdicts.{verdict}
 use Rattle.probe_report.specs.declared.verdicts.Blame.{Blame}
 use Rattle.fault_graph.specs.Distilled.{Kept, Serves}
 use Rattle.scratch_pool.specs.Regions.{Carved}
-use Rattle.session_rules.specs.GraphSystems.{Subject, system_of}
+use Rattle.session_rules.specs.GraphSystems.{Subject}
 use Rattle.session_rules.specs.Replies.{least_at, seen_at}
+use Rattle.session_core.specs.Services.{served_system}
 use Rattle.session_core.specs.inner.Bases.{AreEnough, AreKnown, case_in}
 
 -- what is asked over, the words of the case that is asked, and what was found last: a state, a verdict for each part, and two
@@ -39,13 +40,13 @@ abbrev pub asked_case : OnDesk → Case
 asked_case desk = case_in desk.subject desk.known
 
 abbrev pub agreeing : OnDesk → List (List Bool)
-agreeing desk = (system_of desk.subject).consistent (asked_case desk)
+agreeing desk = (served_system desk.subject).consistent (asked_case desk)
 
 abbrev pub least_asked : OnDesk → Option ℕ
-least_asked desk = least_cost (system_of desk.subject) (asked_case desk)
+least_asked desk = least_cost (served_system desk.subject) (asked_case desk)
 
 abbrev pub diagnoses_asked : OnDesk → List (List Bool)
-diagnoses_asked desk = all_diagnoses (system_of desk.subject) (asked_case desk)
+diagnoses_asked desk = all_diagnoses (served_system desk.subject) (asked_case desk)
 
 -- up to which cost states are listed
 abbrev pub top_of : Option ℕ → ℕ
@@ -55,7 +56,7 @@ top_of (Some top) = top
 -- what comes after a point by rising cost, of the states that agree with a case
 abbrev pub later_by_cost : Subject → Case → Option (List Bool) → List (List Bool)
 later_by_cost subject known point =
-    levels_rest subject.costs (levels subject.costs (top_of subject.extras.levels) ((system_of subject).consistent known)) point
+    levels_rest subject.costs (levels subject.costs (top_of subject.extras.levels) ((served_system subject).consistent known)) point
 
 abbrev pub later_asked : OnDesk → Option (List Bool) → List (List Bool)
 later_asked desk point = later_by_cost desk.subject (asked_case desk) point
@@ -63,7 +64,7 @@ later_asked desk point = later_by_cost desk.subject (asked_case desk) point
 -- the least cost where a wire is seen so too, if that is not against what was seen
 abbrev pub least_seen : OnDesk → ℕ → Bool → Option ℕ
 least_seen desk wire bit =
-    let known = asked_case desk in least_at (system_of desk.subject) known wire bit (seen_at known wire)
+    let known = asked_case desk in least_at (served_system desk.subject) known wire bit (seen_at known wire)
 
 -- in all diagnoses, in some, or in none a part is faulty
 abbrev pub blame_asked : OnDesk → ℕ → Blame

@@ -8,14 +8,14 @@ use Rattle.diagnosis_lister.specs.Listing.{step_of}
 use Rattle.level_lister.specs.declared.levels.LevelStep.{LevelStep}
 use Rattle.level_lister.specs.Listing.{level_step}
 use Rattle.script_lang.specs.Script.{Request, Ask}
-use Rattle.session_rules.specs.GraphSystems.{Subject, system_of}
+use Rattle.session_rules.specs.GraphSystems.{Subject}
 use Rattle.session_rules.specs.Replies.{Found, listing}
 use Rattle.session_rules.specs.Moves.{goes_on, next_for, level_for}
 use Rattle.session_rules.specs.Sessions.{Entry, Table, Step, with_entry}
 use Rattle.session_rules.specs.Spelling.{Replies}
 use Rattle.session_rules.specs.Carrying.{CarriesOut}
 use Rattle.session_table.specs.Tables.{StandsAt}
-use Rattle.session_core.specs.Services.{Shown, exact_moves, ChangesTable}
+use Rattle.session_core.specs.Services.{Shown, exact_moves, ChangesTable, served_system}
 use Rattle.session_core.specs.inner.Desks.{top_of, later_by_cost}
 use Rattle.session_core.specs.declared.listing.Listed.{Listed}
 use Rattle.session_core.specs.declared.listing.Listed.TheVariants.{Diagnoses, Levels}
@@ -34,8 +34,8 @@ pub record IsOpen (table : Table) (session : OpenSession) : Type 0 where
 
 -- what comes after a point, of the diagnoses or of the states by rising cost
 abbrev pub found_by : Subject → Listed → Name → Entry → Option (List Bool) → Found
-found_by subject Diagnoses session = next_for (system_of subject) session
-found_by subject Levels session = level_for (system_of subject) session (top_of subject.extras.levels)
+found_by subject Diagnoses session = next_for (served_system subject) session
+found_by subject Levels session = level_for (served_system subject) session (top_of subject.extras.levels)
 
 -- states by rising cost are listed where they are told
 abbrev pub IsTold : Subject → Listed → Type 0
@@ -63,12 +63,12 @@ pub record PointMoves (subject : Subject) (listed : Listed) (old new : Table) (p
 -- of the next diagnosis the lister tells whether there is one
 abbrev pub NextMoves : Subject → Table → Table → ℕ → Name → Entry → Answer → Type 0
 NextMoves subject old new place session entry found = PointMoves subject Diagnoses old new place session entry
-    (found ≡ step_of ((system_of subject).consistent entry.known) (rest (all_diagnoses (system_of subject) entry.known) entry.point))
+    (found ≡ step_of ((served_system subject).consistent entry.known) (rest (all_diagnoses (served_system subject) entry.known) entry.point))
 
 -- and of the next state by cost what it costs
 abbrev pub LevelMoves : Subject → Table → Table → ℕ → Name → Entry → LevelStep → Type 0
 LevelMoves subject old new place session entry found = PointMoves subject Levels old new place session entry
-    (found ≡ level_step subject.costs ((system_of subject).consistent entry.known) (later_by_cost subject entry.known entry.point))
+    (found ≡ level_step subject.costs ((served_system subject).consistent entry.known) (later_by_cost subject entry.known entry.point))
 
 -- the session moved on, and what was found was written, or begun
 pub record MovesOn {E : Type 0} (old new : Shown) (listed : Listed) (place : ℕ) (session : Name) (entry : Entry) (before after : Option (List ℕ)) (result : Result Bool E) : Type 0 where

@@ -6,8 +6,9 @@ use Rattle.state_rules.specs.Levels.{levels, levels_rest}
 use Rattle.conditioner.specs.Models.{models}
 use Rattle.conditioner.specs.Words.{bits_of}
 use Rattle.level_lister.specs.Listing.{Kept, IsFor, level_step, later_levels, point_if, cost_words, step_words}
-use Rattle.session_rules.specs.GraphSystems.{Subject, system_of}
+use Rattle.session_rules.specs.GraphSystems.{Subject}
 use Rattle.session_rules.proofs.CaseWords.{models-by_words}
+use Rattle.session_core.specs.Services.{served_system}
 use Rattle.session_core.specs.inner.Bases.{IsBasis, AreEnough, AreKnown, case_in}
 use Rattle.session_core.specs.inner.Desks.{OnDesk, agreeing, top_of, later_by_cost, later_asked}
 use Rattle.session_core.proofs.ByCost.{found_later}
@@ -19,7 +20,7 @@ use Rattle.session_core.proofs.desk.Desk.next_level.Goals as goal
 
 -- what the lister lists is what comes later of the states that agree with the case
 module _ (subject : Subject) (known : List ℕ) (basis : IsBasis subject) (are : AreKnown subject known) (kept : Kept) (told : subject.extras.levels ≡ Some kept.top) (costs : kept.costs ≡ subject.costs) where
-  states-are : models subject.graph known (length kept.costs) ≡ (system_of subject).consistent (case_in subject known)
+  states-are : models subject.graph known (length kept.costs) ≡ (served_system subject).consistent (case_in subject known)
   states-are =
       ap (λ (cs : List ℕ). models subject.graph known (length cs)) costs
       ∙ (ap (models subject.graph known) basis.costs
@@ -31,7 +32,7 @@ module _ (subject : Subject) (known : List ℕ) (basis : IsBasis subject) (are :
       λ i. levels_rest (costs i) (levels (costs i) (top i) (states-are i)) point
 
   step-is : (point : Option (List Bool)) → level_step kept.costs (models subject.graph known (length kept.costs)) (later_levels subject.graph known kept point)
-      ≡ level_step subject.costs ((system_of subject).consistent (case_in subject known)) (later_by_cost subject (case_in subject known) point)
+      ≡ level_step subject.costs ((served_system subject).consistent (case_in subject known)) (later_by_cost subject (case_in subject known) point)
   step-is point = λ i. level_step (costs i) (states-are i) (later-are point i)
 
 -- what is known of what lists the states

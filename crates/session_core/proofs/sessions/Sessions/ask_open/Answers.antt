@@ -2,8 +2,8 @@ use Rattle.std.proofs.Common.{◌∙◌, ap, subst, sym}
 use Rattle.script_lang.specs.Script.{asked}
 use Rattle.script_lang.specs.declared.line.Request.{Request}
 use Rattle.session_rules.specs.declared.refusal.Refusal.TheVariants.{OpenAlready}
-use Rattle.session_rules.specs.GraphSystems.{system_of}
 use Rattle.session_rules.specs.Sessions.{when_open}
+use Rattle.session_core.specs.Services.{served_system}
 use Rattle.session_core.specs.inner.Obeying.{Obeys}
 use Rattle.session_core.proofs.Moving.{obeys_several}
 use Rattle.session_core.proofs.Obeying.{obeys_refusal, asked_open}
@@ -15,7 +15,7 @@ returns-in-Start-clause-obeys g c =
     let s = c.args.session.name.now in
     let there = c.requires in
     obeys_refusal old s (asked c.args.request) _ _ _ OpenAlready
-    (asked_open old s (asked c.args.request) there.entry there.stands.found ∙ ap (λ (r : Request). when_open (system_of old.subject) s there.entry (asked r)) c.in-Start.is)
+    (asked_open old s (asked c.args.request) there.entry there.stands.found ∙ ap (λ (r : Request). when_open (served_system old.subject) s there.entry (asked r)) c.in-Start.is)
     c.put_refusal.ensures.text
 
 pub returns-in-List-clause-obeys : goal.returns-in-List-clause-obeys

@@ -5,11 +5,11 @@ use Rattle.conditioner.specs.Words.{bits_of}
 use Rattle.level_lister.specs.declared.levels.LevelStep.{LevelStep}
 use Rattle.level_lister.specs.declared.levels.LevelStep.TheVariants.{Found}
 use Rattle.level_lister.specs.Listing.{level_step}
-use Rattle.session_rules.specs.GraphSystems.{Subject, system_of}
+use Rattle.session_rules.specs.GraphSystems.{Subject}
 use Rattle.session_rules.specs.Replies.{level_line}
 use Rattle.session_rules.specs.Sessions.{Entry, Table, with_entry}
 use Rattle.session_table.specs.Tables.{Opened, StandsAt}
-use Rattle.session_core.specs.Services.{Shown}
+use Rattle.session_core.specs.Services.{Shown, served_system}
 use Rattle.session_core.specs.declared.listing.Listed.TheVariants.{Levels}
 use Rattle.session_core.specs.inner.Bases.{case_in}
 use Rattle.session_core.specs.inner.Desks.{OnDesk, agreeing, later_by_cost, later_asked}
@@ -20,7 +20,7 @@ use Rattle.session_core.proofs.sessions.Sessions.find_level.Goals as goal
 
 module _ (subject : Subject) (session : Name) (entry : Entry) where
   abbrev states : List (List Bool)
-  states = (system_of subject).consistent entry.known
+  states = (served_system subject).consistent entry.known
 
   abbrev later : List (List Bool)
   later = later_by_cost subject entry.known entry.point
@@ -29,7 +29,7 @@ module _ (subject : Subject) (session : Name) (entry : Entry) where
   stays : (table : Table) (place : ℕ) (r : LevelStep) → StandsAt table place session entry → r ≡ level_step subject.costs states later
       → ((cost : ℕ) → r ≡ Found cost → ⊥) → LevelMoves subject table table place session entry r
   stays table place r stands is none =
-      let kept : entry.point ≡ (the_found subject Levels session entry).point = sym (level_kept subject.costs session (level_line (system_of subject) session) entry.point states later r is none) in
+      let kept : entry.point ≡ (the_found subject Levels session entry).point = sym (level_kept subject.costs session (level_line (served_system subject) session) entry.point states later r is none) in
       record {
         answer = is;
         moved = sym stands.kept ∙ ap (λ (p : Option (List Bool)). with_entry session (record entry { point = p }) table) kept;
@@ -41,7 +41,7 @@ module _ (subject : Subject) (session : Name) (entry : Entry) where
       → new ≡ with_entry session (record entry { point = Some state }) old → StandsAt new place session (record entry { point = Some state }) → LevelMoves subject old new place session entry (Found c)
   goes_on old new place c state is first moved stands =
       let point : Some state ≡ (the_found subject Levels session entry).point =
-      ap (λ (h : List Bool). Some h) first ∙ sym (ap (λ f. f.point) (level_more subject.costs session (level_line (system_of subject) session) entry.point states later c (sym is)).0) in
+      ap (λ (h : List Bool). Some h) first ∙ sym (ap (λ f. f.point) (level_more subject.costs session (level_line (served_system subject) session) entry.point states later c (sym is)).0) in
       record {
         answer = is;
         moved = moved ∙ ap (λ (p : Option (List Bool)). with_entry session (record entry { point = p }) old) point;
@@ -51,11 +51,11 @@ module _ (subject : Subject) (session : Name) (entry : Entry) where
 -- what a desk finds after a point, where it has taken up the words of a session
 found_there : (desk taken : OnDesk) (words : List ℕ) (known : Case) (point there : Option (List Bool)) (r : LevelStep) → taken ≡ record desk { known = words }
     → case_in desk.subject words ≡ known → point ≡ there → r ≡ level_step taken.subject.costs (agreeing taken) (later_asked taken point)
-    → r ≡ level_step desk.subject.costs ((system_of desk.subject).consistent known) (later_by_cost desk.subject known there)
+    → r ≡ level_step desk.subject.costs ((served_system desk.subject).consistent known) (later_by_cost desk.subject known there)
 found_there desk taken words known point there r is case at step =
     step
     ∙ ap (λ (d : OnDesk). level_step d.subject.costs (agreeing d) (later_asked d point)) is
-    ∙ (λ i. level_step desk.subject.costs ((system_of desk.subject).consistent (case i)) (later_by_cost desk.subject (case i) (at i)))
+    ∙ (λ i. level_step desk.subject.costs ((served_system desk.subject).consistent (case i)) (later_by_cost desk.subject (case i) (at i)))
 
 -- and the state that is then on it
 state_there : (desk taken : OnDesk) (words : List ℕ) (known : Case) (point there : Option (List Bool)) (state : List Bool) → taken ≡ record desk { known = words }

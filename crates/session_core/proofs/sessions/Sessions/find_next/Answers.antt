@@ -7,11 +7,11 @@ use Rattle.conditioner.specs.Words.{bits_of}
 use Rattle.diagnosis_lister.specs.declared.listing.Step.{Step}
 use Rattle.diagnosis_lister.specs.declared.listing.Step.TheVariants.{Found}
 use Rattle.diagnosis_lister.specs.Listing.{step_of}
-use Rattle.session_rules.specs.GraphSystems.{Subject, system_of}
+use Rattle.session_rules.specs.GraphSystems.{Subject}
 use Rattle.session_rules.specs.Replies.{diagnosis_line}
 use Rattle.session_rules.specs.Sessions.{Entry, Table, with_entry}
 use Rattle.session_table.specs.Tables.{Opened, StandsAt}
-use Rattle.session_core.specs.Services.{Shown}
+use Rattle.session_core.specs.Services.{Shown, served_system}
 use Rattle.session_core.specs.inner.Bases.{case_in}
 use Rattle.session_core.specs.inner.Desks.{OnDesk, agreeing, diagnoses_asked}
 use Rattle.session_core.specs.declared.listing.Listed.TheVariants.{Diagnoses}
@@ -22,15 +22,15 @@ use Rattle.session_core.proofs.sessions.Sessions.find_next.Goals as goal
 
 module _ (subject : Subject) (session : Name) (entry : Entry) where
   abbrev states : List (List Bool)
-  states = (system_of subject).consistent entry.known
+  states = (served_system subject).consistent entry.known
 
   abbrev later : List (List Bool)
-  later = rest (all_diagnoses (system_of subject) entry.known) entry.point
+  later = rest (all_diagnoses (served_system subject) entry.known) entry.point
 
   -- nothing was found, and nothing changed
   stays : (table : Table) (place : ℕ) (r : Step) → StandsAt table place session entry → r ≡ step_of states later → (r ≡ Found → ⊥) → NextMoves subject table table place session entry r
   stays table place r stands is none =
-      let kept : entry.point ≡ (the_found subject Diagnoses session entry).point = sym (point_kept (system_of subject).costs states session (diagnosis_line (system_of subject) session) entry.point r later is none) in
+      let kept : entry.point ≡ (the_found subject Diagnoses session entry).point = sym (point_kept (served_system subject).costs states session (diagnosis_line (served_system subject) session) entry.point r later is none) in
       record {
         answer = is;
         moved = sym stands.kept ∙ ap (λ (p : Option (List Bool)). with_entry session (record entry { point = p }) table) kept;
@@ -42,7 +42,7 @@ module _ (subject : Subject) (session : Name) (entry : Entry) where
       → new ≡ with_entry session (record entry { point = Some state }) old → StandsAt new place session (record entry { point = Some state }) → NextMoves subject old new place session entry Found
   goes_on old new place state is first moved stands =
       let point : Some state ≡ (the_found subject Diagnoses session entry).point =
-      ap (λ (h : List Bool). Some h) first ∙ sym (ap (λ f. f.point) (found_more (system_of subject).costs states session (diagnosis_line (system_of subject) session) entry.point later (sym is))) in
+      ap (λ (h : List Bool). Some h) first ∙ sym (ap (λ f. f.point) (found_more (served_system subject).costs states session (diagnosis_line (served_system subject) session) entry.point later (sym is))) in
       record {
         answer = is;
         moved = moved ∙ ap (λ (p : Option (List Bool)). with_entry session (record entry { point = p }) old) point;
@@ -52,20 +52,20 @@ module _ (subject : Subject) (session : Name) (entry : Entry) where
 -- what a desk finds after a point, where it has taken up the words of a session
 found_there : (desk taken : OnDesk) (words : List ℕ) (known : Case) (point there : Option (List Bool)) (r : Step) → taken ≡ record desk { known = words }
     → case_in desk.subject words ≡ known → point ≡ there → r ≡ step_of (agreeing taken) (rest (diagnoses_asked taken) point)
-    → r ≡ step_of ((system_of desk.subject).consistent known) (rest (all_diagnoses (system_of desk.subject) known) there)
+    → r ≡ step_of ((served_system desk.subject).consistent known) (rest (all_diagnoses (served_system desk.subject) known) there)
 found_there desk taken words known point there r is case at step =
     step
     ∙ ap (λ (d : OnDesk). step_of (agreeing d) (rest (diagnoses_asked d) point)) is
-    ∙ (λ i. step_of ((system_of desk.subject).consistent (case i)) (rest (all_diagnoses (system_of desk.subject) (case i)) (at i)))
+    ∙ (λ i. step_of ((served_system desk.subject).consistent (case i)) (rest (all_diagnoses (served_system desk.subject) (case i)) (at i)))
 
 -- and the state that is then on it
 state_there : (desk taken : OnDesk) (words : List ℕ) (known : Case) (point there : Option (List Bool)) (state : List Bool) → taken ≡ record desk { known = words }
     → case_in desk.subject words ≡ known → point ≡ there → state ≡ get_or (rest (diagnoses_asked taken) point) 0 []
-    → state ≡ get_or (rest (all_diagnoses (system_of desk.subject) known) there) 0 []
+    → state ≡ get_or (rest (all_diagnoses (served_system desk.subject) known) there) 0 []
 state_there desk taken words known point there state is case at first =
     first
     ∙ ap (λ (d : OnDesk). get_or (rest (diagnoses_asked d) point) 0 []) is
-    ∙ (λ i. get_or (rest (all_diagnoses (system_of desk.subject) (case i)) (at i)) 0 [])
+    ∙ (λ i. get_or (rest (all_diagnoses (served_system desk.subject) (case i)) (at i)) 0 [])
 
 pub take_up-requires : goal.take_up-requires
 take_up-requires g c = known-there c.self.inside.desk.subject c.self.inside.open c.self.invariant c.words.result.now c.words.ensures.words

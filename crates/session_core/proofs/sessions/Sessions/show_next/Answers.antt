@@ -1,9 +1,9 @@
 use Rattle.std.proofs.Common.{◌≡◌, ◌∙◌, ◌∷◌, [], Ok, true, false, ap, subst, sym, refl}
-use Rattle.session_rules.specs.GraphSystems.{Subject, system_of}
+use Rattle.session_rules.specs.GraphSystems.{Subject}
 use Rattle.session_rules.specs.Items.{Item, line}
 use Rattle.session_rules.specs.Replies.{Found, inconsistent, end_line, diagnosis_line}
 use Rattle.session_rules.specs.Spelling.{Writes, WritesPart}
-use Rattle.session_core.specs.Services.{Shown}
+use Rattle.session_core.specs.Services.{Shown, served_system}
 use Rattle.session_core.specs.declared.listing.Listed.TheVariants.{Diagnoses}
 use Rattle.session_core.specs.inner.Obeying.{the_found, found_entry}
 use Rattle.session_core.proofs.Told.{writes_one, part_one}
@@ -59,7 +59,7 @@ returns-in_err-put_point-in-Found-clause-moves g c = λ entry stands.
     let m = c.find_next.ensures.moves s entry stands in
     let to = found_state old.subject old.table c.find_next.new.self.table c.args.session.place s entry c.find_next.result m c.in-Found.is in
     let subject = ap (λ (v : Shown). v.subject) c.find_next.ensures.stays in
-    let item : diagnosis_line (system_of c.find_next.new.self.subject) s to.0 ≡ (the_found old.subject Diagnoses s entry).item = ap (λ (u : Subject). diagnosis_line (system_of u) s to.0) subject ∙ sym to.2 in
+    let item : diagnosis_line (served_system c.find_next.new.self.subject) s to.0 ≡ (the_found old.subject Diagnoses s entry).item = ap (λ (u : Subject). diagnosis_line (served_system u) s to.0) subject ∙ sym to.2 in
     moves_on old c.find_next.new.self Diagnoses c.args.session.place s entry _ _ _ c.from_residual-in_err-put_point-in-Found.result m c.find_next.ensures.stays
     (replies_part _ _ _ ((the_found old.subject Diagnoses s entry).item ∷ []) c.from_residual-in_err-put_point-in-Found.ensures.0
     (subst (λ (i : Item). WritesPart (g.O.Sink.got c.args.out.now) (g.O.Sink.got c.put_point.new.out) (i ∷ [])) item (c.in_err-put_point-in-Found.ensures.reply (found_entry old.subject Diagnoses s entry) to.0 m.stands to.1)))
@@ -72,7 +72,7 @@ returns-in_ok-put_point-in-Found-clause-moves g c = λ entry stands.
     let m = c.find_next.ensures.moves s entry stands in
     let to = found_state old.subject old.table c.find_next.new.self.table c.args.session.place s entry c.find_next.result m c.in-Found.is in
     let subject = ap (λ (v : Shown). v.subject) c.find_next.ensures.stays in
-    let item : diagnosis_line (system_of c.find_next.new.self.subject) s to.0 ≡ (the_found old.subject Diagnoses s entry).item = ap (λ (u : Subject). diagnosis_line (system_of u) s to.0) subject ∙ sym to.2 in
+    let item : diagnosis_line (served_system c.find_next.new.self.subject) s to.0 ≡ (the_found old.subject Diagnoses s entry).item = ap (λ (u : Subject). diagnosis_line (served_system u) s to.0) subject ∙ sym to.2 in
     moves_on old c.find_next.new.self Diagnoses c.args.session.place s entry _ _ _ (Ok true) m c.find_next.ensures.stays
     (subst (λ (i : Item). Writes (g.O.Sink.got c.args.out.now) (g.O.Sink.got c.put_point.new.out) (i ∷ [])) item (c.in_ok-put_point-in-Found.ensures.reply (found_entry old.subject Diagnoses s entry) to.0 m.stands to.1))
     (sym to.3)

@@ -4,7 +4,7 @@ use Rattle.std.specs.Prelude.{ℕ, ◌+◌, ◌-◌, ◌/◌, ◌%◌, List, [],
 use Rattle.std.specs.List.{range_with_len}
 use Rattle.text_rules.specs.Names.{Name}
 use Rattle.state_rules.specs.Ranking.{plain_costs}
-use Rattle.state_rules.specs.Systems.{System, no_extras, open_texts}
+use Rattle.state_rules.specs.Systems.{System, no_extras}
 use Rattle.state_rules.specs.Graphs.{Graph}
 use Rattle.device_model.specs.declared.limits.TheConstants.{WIRE_LIMIT}
 use Rattle.session_rules.specs.GraphSystems.{Subject, system_of}
@@ -45,7 +45,6 @@ asked_subject health graph = record {
   costs = plain_costs health;
   graph = graph;
   extras = no_extras;
-  texts = open_texts;
 }
 
 abbrev pub asked_system : ℕ → Graph → System

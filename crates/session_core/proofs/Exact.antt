@@ -19,7 +19,7 @@ use Rattle.session_rules.proofs.Spellings.{spells_more}
 use Rattle.session_rules.proofs.Whole.{line_moves-whole, left_by-append, said-replies}
 use Rattle.session_rules.proofs.Keeping.{step-keeps}
 use Rattle.session_rules.proofs.Same.{moves-same}
-use Rattle.session_core.proofs.GraphTexts.{case-spelled, least-spelled}
+use Rattle.session_core.proofs.GraphSpellings.{case-spelled, least-spelled}
 use Rattle.session_core.specs.Services.{Shown, SpellReplies, served_system, moves_of}
 
 -- A move leads to the table of another, and a text that spells its items spells the other's.

@@ -13,7 +13,7 @@ pub mod Holding
 pub mod Stepping
 pub mod Naming
 pub mod Moving
-mod GraphTexts
+mod GraphSpellings
 pub mod ReplyTexts
 pub mod Exact
 pub mod OneText

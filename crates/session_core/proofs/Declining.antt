@@ -1,5 +1,5 @@
 -- A line that is refused changes nothing.
-use Rattle.std.proofs.Common.{◌≡◌, ℕ, suc, Bool, true, false, List, [], ◌∷◌, ◌++◌, length, Option, Some, None, Result, Ok, Err, refl, ap, sym, ◌∙◌, subst}
+use Rattle.std.proofs.Common.{◌≡◌, ℕ, suc, Bool, true, false, List, [], ◌∷◌, ◌++◌, length, Option, Some, None, Result, Ok, Err, refl, ap, sym, ◌∙◌, subst, arith}
 use Rattle.std.specs.Prelude.{nat_le}
 use Rattle.text_rules.specs.Names.{Name}
 use Rattle.state_rules.specs.Systems.{System}
@@ -24,8 +24,7 @@ the_move [] others m move e = cc
 the_move (x ∷ made) others m move e = let rest : [] ≡ made ++ move ∷ others = cc in absurd (no_more made others move rest)
 
 one_kept : {T E : Type 0} (old new : Table) (m : Step) (a b : Option (List ℕ)) (r : Result T E) → m.table ≡ old → CarriesOut old new (m ∷ []) a b r → new ≡ old
-one_kept old new m a b (Ok v) same made = made.table ∙ same
-one_kept old new m a b (Err e) same broke = broke.table ∙ ap (λ (s : Step). s.table) (sym (the_move broke.made broke.others m broke.move broke.split)) ∙ same
+one_kept old new m a b r same given = grind (arith, the_move)
 
 -- ---- the moves of a refused line
 
@@ -48,26 +47,19 @@ module _ (shown : Shown) (s : Name) (refusal : Refusal) where
 
   listed : (n : ℕ) (entry : Option Entry) → outcome system s full entry (Several (suc n)) ≡ Declined refusal
       → listing_moves (next_for system s) shown.table s (suc n) entry ≡ one (Several (suc n)) entry
-  listed n None is = refl
-  listed n (Some entry) is = absurd (let never : ⊥ = cc in never)
+  listed n entry is = grind arith
 
   levelled_to : (n top : ℕ) → shown.subject.extras.levels ≡ Some top → (entry : Option Entry) → outcome system s full entry (Levels (suc n)) ≡ Declined refusal
       → listing_moves (level_for system s top) shown.table s (suc n) entry ≡ one (Levels (suc n)) entry
-  levelled_to n top told None is = refl
-  levelled_to n top told (Some entry) is =
-      let through = λ (k : ℕ). goes_through entry (listing (level_of system s k (system.consistent entry.known)) (suc n) entry.point) in
-      absurd (not_declined _ _ (subst (λ (levels : Option ℕ). with_number NoLevels through levels ≡ Declined refusal) told is))
+  levelled_to n top told entry is = grind arith
 
   levelled : (n : ℕ) (levels : Option ℕ) → shown.subject.extras.levels ≡ levels → outcome system s full (entry_of s shown.table) (Levels (suc n)) ≡ Declined refusal
       → level_moves system shown.limit shown.table s (suc n) levels ≡ one (Levels (suc n)) (entry_of s shown.table)
-  levelled n None told is = refl
-  levelled n (Some top) told is = levelled_to n top told (entry_of s shown.table) is
+  levelled n levels told is = grind arith
 
   -- what is declined is one move, which says why and changes nothing
   pub declined : (request : Request) → outcome_in system shown.limit shown.table s request ≡ Declined refusal → exact_moves shown shown.table (Ask s request) ≡ refused
-  declined (Several (suc n)) is = listed n (entry_of s shown.table) is ∙ ap (λ o. carried shown.table s o ∷ []) is
-  declined (Levels (suc n)) is = levelled n shown.subject.extras.levels refl is ∙ ap (λ o. carried shown.table s o ∷ []) is
-  declined request is = ap (λ o. carried shown.table s o ∷ []) is
+  declined request is = grind arith
 
 abbrev Keeps : Table → List Step → Type 0
 Keeps table ms = (m : Step) × (ms ≡ m ∷ []) × (m.table ≡ table)
@@ -79,7 +71,4 @@ refused_moves shown (Ask s request) is = (carried shown.table s (Declined is.0),
 
 pub refused_stays : {T E : Type 0} (old new : Shown) (line : List ℕ) (a b : Option (List ℕ)) (r : Result T E) → ChangesTable old new
     → CarriesOut old.table new.table (moves_of old old.table line) a b r → IsRefused old (line_of line) → new ≡ old
-refused_stays old new line a b r stays carried_out is =
-    let one = refused_moves old (line_of line) is in
-    let same = one_kept old.table new.table one.0 a b r one.2 (subst (λ ms. CarriesOut old.table new.table ms a b r) one.1 carried_out) in
-    stays ∙ ap (λ (t : Table). record old { table = t }) same
+refused_stays old new line a b r stays carried_out is = grind (arith, refused_moves, one_kept)

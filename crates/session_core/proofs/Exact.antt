@@ -1,6 +1,7 @@
 -- What a service writes is one text of what its system answers: where its moves were made, or broke off, those over the
 -- system were.
-use Rattle.std.proofs.Common.{◌≡◌, ℕ, Bool, true, false, ◌+◌, ◌^◌, ◌<◌, ◌≤◌, List, [], ◌∷◌, ◌++◌, length, Option, Some, None, refl, ap, sym, ◌∙◌, subst, append_assoc}
+use Rattle.std.proofs.Common.{◌≡◌, ℕ, Bool, true, false, ◌+◌, ◌^◌, ◌<◌, ◌≤◌, List, [], ◌∷◌, ◌++◌, length, Option, Some, None, refl, ap, sym, ◌∙◌, subst, append_assoc, arith}
+use Rattle.std.proofs.lemmas.Bool.Decides.{nat_tests}
 use Rattle.std.specs.Prelude.{nat_le, codes, if◌then◌else◌}
 use Rattle.text_rules.specs.Names.{Name}
 use Rattle.state_rules.specs.Systems.{System}
@@ -39,14 +40,12 @@ are_same [] = tt
 are_same (m ∷ ms) = (record { table = refl; spells = λ text is. is }, are_same ms)
 
 are_more : (es ms fs ns : List Step) → AreExact es ms → AreExact fs ns → AreExact (es ++ fs) (ms ++ ns)
-are_more [] [] fs ns h k = k
-are_more [] (m ∷ ms) fs ns h k = absurd h
+are_more [] ms fs ns h k = grind arith
 are_more (e ∷ es) [] fs ns h k = absurd h
 are_more (e ∷ es) (m ∷ ms) fs ns h k = (h.0, are_more es ms fs ns h.1 k)
 
 same_left : (t : Table) (es ms : List Step) → AreExact es ms → left_by t es ≡ left_by t ms
-same_left t [] [] h = refl
-same_left t [] (m ∷ ms) h = absurd h
+same_left t [] ms h = grind arith
 same_left t (e ∷ es) [] h = absurd h
 same_left t (e ∷ es) (m ∷ ms) h = ap (λ u. left_by u es) h.0.table ∙ same_left m.table es ms h.1
 
@@ -54,32 +53,15 @@ same_left t (e ∷ es) (m ∷ ms) h = ap (λ u. left_by u es) h.0.table ∙ same
 pub parted : (xs ys : List Item) (text : List ℕ) → Spells (xs ++ ys) text → (front : List ℕ) × (rest : List ℕ) × (text ≡ front ++ rest) × Spells xs front × Spells ys rest
 parted [] ys text is = ([], text, refl, refl, is)
 parted (x ∷ xs) ys text (front, rest, all, one, more) =
-    let later = parted xs ys rest more in (
-      front ++ later.0,
-      later.1,
-      all ∙ ap (λ r. front ++ r) later.2 ∙ sym (append_assoc front later.0 later.1),
-      (front, later.0, refl, one, later.3),
-      later.4,
-    )
+    let later = parted xs ys rest more in grind (arith, append_assoc front later.0 later.1)
 
 pub same_said : (es ms : List Step) → AreExact es ms → (text : List ℕ) → Spells (said es) text → Spells (said ms) text
-same_said [] [] h text is = is
-same_said [] (m ∷ ms) h text is = absurd h
+same_said [] ms h text is = grind arith
 same_said (e ∷ es) [] h text is = absurd h
-same_said (e ∷ es) (m ∷ ms) h text is =
-    let parts = parted e.items (said es) text is in
-    subst (Spells (m.items ++ said ms)) (sym parts.2)
-    (spells_more m.items (said ms) parts.0 parts.1 (h.0.spells parts.0 parts.3) (same_said es ms h.1 parts.1 parts.4))
+same_said (e ∷ es) (m ∷ ms) h text is = grind (arith, parted, spells_more, same_said es ms h.1)
 
 makes_same : (old new : Table) (es ms : List Step) (a b : Option (List ℕ)) → AreExact es ms → Makes old new es a b → Makes old new ms a b
-makes_same old new es ms a b h made = record {
-  written = record {
-    text = made.written.text;
-    spelled = same_said es ms h made.written.text made.written.spelled;
-    grown = made.written.grown;
-  };
-  table = made.table ∙ same_left old es ms h;
-}
+makes_same old new es ms a b h made = grind (arith, same_said, same_left)
 
 -- moves of which these are the first, another is the next, and those are the others
 record Splits (made others : List Step) (move : Step) (ms : List Step) : Type 0 where
@@ -98,26 +80,7 @@ splits (e ∷ made) others move (m ∷ ms) h =
     record { first = m ∷ more.first; next = more.next; later = more.later; all = ap (λ xs. m ∷ xs) more.all; exact = ((h.0, more.exact.0), more.exact.1) }
 
 breaks_same : (new : Table) (es ms : List Step) (a b : Option (List ℕ)) → AreExact es ms → BreaksOff new es a b → BreaksOff new ms a b
-breaks_same new es ms a b h broke =
-    let parts = splits broke.made broke.others broke.move ms (subst (λ xs. AreExact xs ms) broke.split h) in
-    record {
-      made = parts.first;
-      move = parts.next;
-      others = parts.later;
-      split = parts.all;
-      middle = broke.middle;
-      written = record {
-        text = broke.written.text;
-        spelled = same_said broke.made parts.first parts.exact.0 broke.written.text broke.written.spelled;
-        grown = broke.written.grown;
-      };
-      begun = record {
-        text = broke.begun.text;
-        begun = (broke.begun.begun.0, parts.exact.1.spells (broke.begun.text ++ broke.begun.begun.0) broke.begun.begun.1);
-        grown = broke.begun.grown;
-      };
-      table = broke.table ∙ parts.exact.1.table;
-    }
+breaks_same new es ms a b h broke = grind (arith, splits, same_said)
 
 -- ---- over a graph whose cases have a text
 
@@ -132,37 +95,22 @@ module _ (shown : Shown) (is_graph : IsGraph shown.subject.graph) (room : length
   -- a graph by its text, after a line, in place of the item that it spells
   told : (table : Table) (l item : Item) (text : List ℕ) → Spelled item text
       → IsExact (record { table = table; items = l ∷ Plain text ∷ [] }) (record { table = table; items = l ∷ item ∷ [] })
-  told table l item text is = record {
-    table = refl;
-    spells = λ all (head, rest, both, one, (graph, end, after, is_text, none)). (head, rest, both, one, (graph, end, after, subst (Spelled item) (sym is_text) is, none));
-  }
+  told table l item text is = grind arith
 
   module _ (table : Table) (s : Name) (h : (e : Entry) → entry_of s table ≡ Some e → IsCaseOf system e.known) where
     abbrev answer : System → Request → Option Entry → List Step
     answer over request entry = carried table s (outcome over s (nat_le shown.limit (length table)) entry request) ∷ []
 
     dnnf_exact : (entry : Option Entry) → entry_of s table ≡ entry → AreExact (answer served Dnnf entry) (answer system Dnnf entry)
-    dnnf_exact None there = are_same (answer system Dnnf None)
-    dnnf_exact (Some e) there = (told table _ _ _ (case-spelled shown.subject is_graph room few drawn e.known (h e there)), tt)
+    dnnf_exact entry there = grind (arith, nat_tests, case-spelled)
 
     least_exact : (entry : Option Entry) → entry_of s table ≡ entry → AreExact (answer served LeastNnf entry) (answer system LeastNnf entry)
-    least_exact None there = are_same (answer system LeastNnf None)
-    least_exact (Some e) there = by shown.subject.extras.least refl
-      where
-        answer_if : Item → Bool → List Step
-        answer_if item b = carried table s (if b then tells (line (s ∷ codes "leastnnf" ∷ []) ∷ item ∷ []) else Declined NoLeast) ∷ []
-
-        by : (b : Bool) → shown.subject.extras.least ≡ b → AreExact (answer_if (least_item served e.known) b) (answer_if (least_item system e.known) b)
-        by true on = (told table _ _ _ (least-spelled shown.subject is_graph room few drawn e.known (h e there) on), tt)
-        by false on = are_same (answer_if (least_item system e.known) false)
+    least_exact entry there = grind (arith, nat_tests, least-spelled)
 
   line_exact : (table : Table) (l : Line) → HasCasesOf system table → AreExact (moves served shown.limit table l) (moves system shown.limit table l)
   line_exact table (Ask s Dnnf) h = dnnf_exact table s (h s) (entry_of s table) refl
   line_exact table (Ask s LeastNnf) h = least_exact table s (h s) (entry_of s table) refl
-  line_exact table (Ask s request) h =
-      subst (λ ms. AreExact ms (moves system shown.limit table (Ask s request)))
-      (moves-same system system.consistent served.texts (λ known fits. refl) shown.limit table (Ask s request) h (λ e there. tt))
-      (are_same (moves system shown.limit table (Ask s request)))
+  line_exact table (Ask s request) h = grind (arith, are_same)
   line_exact table l h = are_same (moves system shown.limit table l)
 
   cases_kept : (table : Table) (bytes : List ℕ) → HasCasesOf system table → HasCasesOf system (left_by table (line_moves system shown.limit table bytes))
@@ -174,9 +122,7 @@ module _ (shown : Shown) (is_graph : IsGraph shown.subject.graph) (room : length
   script_exact table (l ∷ lines) h =
       let one = line_moves system shown.limit in
       let first = line_exact table (line_of l) h in
-      are_more (moves_of shown table l) (one table l) (script_moves (moves_of shown) (left_by table (moves_of shown table l)) lines) (script_moves one (left_by table (one table l)) lines) first
-      (subst (λ (t : Table). AreExact (script_moves (moves_of shown) t lines) (script_moves one (left_by table (one table l)) lines)) (sym (same_left table (moves_of shown table l) (one table l) first))
-      (script_exact (left_by table (one table l)) lines (cases_kept table l h)))
+      grind (arith, are_more, script_exact (left_by table (one table l)) lines (cases_kept table l h))
 
   -- where the moves of a script were made, those over the system were
   pub makes_over : (old new : Table) (lines : List (List ℕ)) (a b : Option (List ℕ)) → HasCasesOf (system_of shown.subject) old

@@ -1,5 +1,6 @@
 -- The texts of a service's graphs mean what they should.
 use Rattle.std.proofs.Common.{◌≡◌, ◌+◌, ◌^◌, ◌<◌, ◌≤◌, true, length, refl, subst, arith}
+use Rattle.std.proofs.lemmas.Bool.Decides.{nat_tests}
 use Rattle.state_rules.specs.Cases.{Case}
 use Rattle.state_rules.specs.Ranking.{diagnoses}
 use Rattle.state_rules.specs.Systems.{all_diagnoses}
@@ -39,6 +40,5 @@ module _ (subject : Subject) (is : IsGraph subject.graph) (room : length subject
       let has = least told in
       let narrow : length subject.costs ≤ subject.graph.vars = omega (arith, room, has.costs) in (
         (least_text-is_neat subject.graph words subject.costs is long narrow has.dear has.few, (least_graph subject.graph words subject.costs, refl)),
-        subst (λ n. IsSmoothGraphOfStates n (diagnoses subject.costs (models subject.graph words n)) (parsed (least_text subject.graph words subject.costs))) has.costs
-            (least_text-means subject.graph words subject.costs is long narrow has.dear has.few),
+        grind (arith, nat_tests, least_text-means subject.graph words subject.costs is long narrow has.dear has.few),
       )

@@ -1,5 +1,5 @@
 -- What a service writes is one text: where the moves of a script were made twice after the same bytes, the same bytes stand.
-use Rattle.std.proofs.Common.{◌≡◌, ℕ, zero, suc, Bool, true, false, List, [], ◌∷◌, ◌++◌, map, length, Option, Some, None, Result, Ok, Err, refl, ap, ap₂, sym, ◌∙◌, subst}
+use Rattle.std.proofs.Common.{◌≡◌, ℕ, zero, suc, Bool, true, false, List, [], ◌∷◌, ◌++◌, map, length, Option, Some, None, Result, Ok, Err, refl, ap, ap₂, sym, ◌∙◌, subst, arith}
 use Rattle.std.specs.Prelude.{nat_le, if◌then◌else◌, codes}
 use Rattle.std.specs.List.{list_all}
 use Rattle.std.specs.Io.KnownBytes.{Appends}
@@ -40,8 +40,7 @@ plain_both (Whole device vars most ∷ xs) ys h k = absurd h
 -- are spelled by one text
 one_spelling : (items : List Item) (a b : List ℕ) → ArePlain items → Spells items a → Spells items b → a ≡ b
 one_spelling [] a b h one other = one ∙ sym other
-one_spelling (Plain bytes ∷ items) a b h one other =
-    one.2 ∙ ap₂ (λ front rest. front ++ rest) (one.3 ∙ sym other.3) (one_spelling items one.1 other.1 h one.4 other.4) ∙ sym other.2
+one_spelling (Plain bytes ∷ items) a b h one other = grind (arith, one_spelling items one.1 other.1 h one.4 other.4)
 one_spelling (Projected parts states ∷ items) a b h one other = absurd h
 one_spelling (LeastText parts states ∷ items) a b h one other = absurd h
 one_spelling (Whole device vars most ∷ items) a b h one other = absurd h
@@ -49,21 +48,12 @@ one_spelling (Whole device vars most ∷ items) a b h one other = absurd h
 -- ---- every reply but a graph is a text
 
 found-plain : (s : Name) (shown : List Bool → Item) → ((state : List Bool) → ArePlain (shown state ∷ [])) → (point : Option (List Bool)) (ds later : List (List Bool)) → ArePlain ((found s shown point ds later).item ∷ [])
-found-plain s shown h point [] later = tt
-found-plain s shown h point (d ∷ ds) [] = tt
-found-plain s shown h point (d ∷ ds) (state ∷ later) = h state
+found-plain s shown h point ds later = grind arith
 
 listing-plain : (next : Option (List Bool) → Found) → ((point : Option (List Bool)) → ArePlain ((next point).item ∷ []))
     → (n : ℕ) (point : Option (List Bool)) → ArePlain (map (λ f. f.item) (listing next n point))
 listing-plain next h zero point = tt
-listing-plain next h (suc n) point =
-    let f = next point in
-    let later = listing next n f.point in
-    plain_both (f.item ∷ []) (map (λ f. f.item) (elim f.more as (λ _. List Found) [ true ↦ later | false ↦ [] ])) (h point)
-    (elim f.more as (λ more. ArePlain (map (λ f. f.item) (elim more as (λ _. List Found) [ true ↦ later | false ↦ [] ]))) [
-      | true ↦ listing-plain next h n f.point
-      | false ↦ tt
-    ])
+listing-plain next h (suc n) point = grind (arith, listing-plain next h n)
 
 lines-plain : (lines : List (List (List ℕ))) → ArePlain (map line lines)
 lines-plain [] = tt
@@ -73,28 +63,23 @@ next-plain : (system : System) (s : Name) (ds : List (List Bool)) (point : Optio
 next-plain system s ds point = found-plain s (diagnosis_line system s) (λ state. tt) point ds (rest ds point)
 
 level-plain : (system : System) (s : Name) (top : ℕ) (states : List (List Bool)) (point : Option (List Bool)) → ArePlain ((level_of system s top states point).item ∷ [])
-level-plain system s top states point =
-    found-plain s (level_line system s) (λ state. tt) point states (levels_rest system.costs (levels system.costs top states) point)
+level-plain system s top states point = grind arith
 
 abbrev IsPlain : Outcome → Type 0
 IsPlain (Declined refusal) = Unit {0}
 IsPlain (Done change items) = ArePlain items
 
 placed : (refusal : Refusal) (act : ℕ → Outcome) (place : Option ℕ) → ((i : ℕ) → IsPlain (act i)) → IsPlain (with_number refusal act place)
-placed refusal act None h = tt
-placed refusal act (Some i) h = h i
+placed refusal act place h = grind arith
 
 chosen : (b : Bool) (one other : Outcome) → IsPlain one → IsPlain other → IsPlain (if b then one else other)
-chosen true one other h k = h
-chosen false one other h k = k
+chosen b one other h k = grind arith
 
 told_lines-plain : (lines : Result (List (List (List ℕ))) Refusal) → IsPlain (tells_lines lines)
-told_lines-plain (Ok lines) = lines-plain lines
-told_lines-plain (Err refusal) = tt
+told_lines-plain lines = grind (arith, lines-plain)
 
 carried-plain : (table : Table) (s : Name) (o : Outcome) → IsPlain o → ArePlain (carried table s o).items
-carried-plain table s (Declined refusal) h = tt
-carried-plain table s (Done change items) h = h
+carried-plain table s o h = grind arith
 
 -- ---- and a graph is one too
 
@@ -103,34 +88,10 @@ module _ (subject : Subject) where
   system = served_system subject
 
   outcome-plain : (s : Name) (full : Bool) (entry : Option Entry) (request : Request) → IsPlain (outcome system s full entry request)
-  outcome-plain s full (Some entry) Start = tt
-  outcome-plain s full (Some entry) Stop = tt
-  outcome-plain s full (Some entry) (Note what name bit) =
-      placed (no_such what) (λ i. becomes s (with_noted entry what i bit) (codes "ok")) (place_of name (names_of system what)) (λ i. tt)
-  outcome-plain s full (Some entry) (Tell question) = told_lines-plain (told system s entry.known question)
-  outcome-plain s full (Some entry) Next = next-plain system s (all_diagnoses system entry.known) entry.point
-  outcome-plain s full (Some entry) (Several count) =
-      let ds = all_diagnoses system entry.known in listing-plain (next_of system s ds) (next-plain system s ds) count entry.point
-  outcome-plain s full (Some entry) (After names) =
-      chosen (list_all (λ name. is_among system.parts name) names) (becomes s (record entry { point = Some (state_of names system.parts) }) (codes "ok")) (Declined NoPart) tt tt
-  outcome-plain s full (Some entry) Dnnf = tt
-  outcome-plain s full (Some entry) Level =
-      let level = λ (top : ℕ). level_of system s top (system.consistent entry.known) in
-      placed NoLevels (λ top. goes_to entry (level top entry.point)) system.extras.levels (λ top. level-plain system s top (system.consistent entry.known) entry.point)
-  outcome-plain s full (Some entry) (Levels count) =
-      let level = λ (top : ℕ). level_of system s top (system.consistent entry.known) in
-      placed NoLevels (λ top. goes_through entry (listing (level top) count entry.point)) system.extras.levels
-      (λ top. listing-plain (level top) (level-plain system s top (system.consistent entry.known)) count entry.point)
-  outcome-plain s full (Some entry) LeastNnf =
-      chosen system.extras.least (tells (line (s ∷ codes "leastnnf" ∷ []) ∷ least_item system entry.known ∷ [])) (Declined NoLeast) tt tt
-  outcome-plain s full None Start = chosen full (Declined Full) (becomes s (new_entry system) (codes "open")) tt tt
-  outcome-plain s full None request = tt
+  outcome-plain s full entry request = grind (arith, told_lines-plain, listing-plain)
 
   step-plain : (limit : ℕ) (table : Table) (l : Line) → ArePlain (step system limit table l).items
-  step-plain limit table Blank = tt
-  step-plain limit table (Refused refusal) = tt
-  step-plain limit table (Ask s request) =
-      carried-plain table s (outcome system s (nat_le limit (length table)) (entry_of s table) request) (outcome-plain s (nat_le limit (length table)) (entry_of s table) request)
+  step-plain limit table l = grind (arith, outcome-plain)
 
   replies-plain : (limit : ℕ) (table : Table) (lines : List (List ℕ)) → ArePlain (replies system limit table lines)
   replies-plain limit table [] = tt
@@ -140,20 +101,13 @@ module _ (subject : Subject) where
 
 -- all that a service answers to a script
 pub script-plain : (shown : Shown) (table : Table) (lines : List (List ℕ)) → ArePlain (said (script_moves (moves_of shown) table lines))
-script-plain shown table lines =
-    subst ArePlain (sym (said-replies (served_system shown.subject) shown.limit table lines)) (replies-plain shown.subject shown.limit table lines)
+script-plain shown table lines = grind (arith, said-replies (served_system shown.subject) shown.limit table lines, replies-plain shown.subject shown.limit table lines)
 
 grown_by : (bytes : List ℕ) (a b : Option (List ℕ)) (text other : List ℕ) → Appends (Some bytes) a text → Appends (Some bytes) b other → text ≡ other → a ≡ b
-grown_by bytes None b text other h k same = absurd h
-grown_by bytes (Some xs) None text other h k same = absurd k
-grown_by bytes (Some xs) (Some ys) text other h k same = ap (λ zs. Some zs) (h ∙ (ap (λ t. bytes ++ t) same ∙ sym k))
+grown_by bytes a b text other h k same = grind arith
 
 -- so the bytes are the same, and the table, whenever the script is answered
 pub one_text : (shown : Shown) (old new other : Table) (lines : List (List ℕ)) (bytes : List ℕ) (a b : Option (List ℕ))
     → Makes old new (script_moves (moves_of shown) old lines) (Some bytes) a → Makes old other (script_moves (moves_of shown) old lines) (Some bytes) b
     → (a ≡ b) × (new ≡ other)
-one_text shown old new other lines bytes a b one again = (
-  grown_by bytes a b one.written.text again.written.text one.written.grown again.written.grown
-      (one_spelling (said (script_moves (moves_of shown) old lines)) one.written.text again.written.text (script-plain shown old lines) one.written.spelled again.written.spelled),
-  one.table ∙ sym again.table,
-)
+one_text shown old new other lines bytes a b one again = grind (arith, one_spelling, script-plain)

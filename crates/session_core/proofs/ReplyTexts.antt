@@ -1,5 +1,5 @@
 -- Every reply over a graph has a text, so what was written where a script broke off begins its replies.
-use Rattle.std.proofs.Common.{◌≡◌, ℕ, ◌+◌, ◌^◌, ◌<◌, ◌≤◌, true, List, [], ◌∷◌, ◌++◌, length, Option, refl, sym, subst}
+use Rattle.std.proofs.Common.{◌≡◌, ℕ, ◌+◌, ◌^◌, ◌<◌, ◌≤◌, true, List, [], ◌∷◌, ◌++◌, length, Option, refl, sym, subst, arith}
 use Rattle.state_rules.specs.Graphs.{IsGraph}
 use Rattle.session_rules.specs.Items.{Item, Plain, Projected, LeastText, Whole}
 use Rattle.session_rules.specs.Sessions.{Table, replies}
@@ -37,15 +37,9 @@ module _ (subject : Subject) (is : IsGraph subject.graph) (room : length subject
       let written = script_moves (moves_of shown) table lines in
       let over = script_moves (line_moves (system_of subject) limit) table lines in
       let text = plain_spelled (said written) (script-plain shown table lines) in
-      subst HaveSpellings (said-replies (system_of subject) limit table lines)
-      (each_spelled (said over) text.0 (same_said written over (script_exact shown is room few least table lines h) text.0 text.1))
+      grind (arith, said-replies (system_of subject) limit table lines, each_spelled (said over) text.0 (same_said written over (script_exact shown is room few least table lines h) text.0 text.1))
 
   -- What was written where it broke off begins its replies, also if more lines were to come.
   pub broken_begins_more : (limit : ℕ) (old new : Table) (lines more : List (List ℕ)) (a b : Option (List ℕ)) → HasCasesOf (system_of subject) old
       → BreaksOff new (script_moves (line_moves (system_of subject) limit) old lines) a b → WritesPart a b (replies (system_of subject) limit old (lines ++ more))
-  broken_begins_more limit old new lines more a b h broke =
-      let one = line_moves (system_of subject) limit in
-      let later = script_moves one (left_by old (script_moves one old lines)) more in
-      broken_replies (system_of subject) limit old new (lines ++ more) a b
-      (subst (λ ms. BreaksOff new ms a b) (sym (script_moves-append one old lines more)) (breaks_before later broke))
-      (replies-have limit old (lines ++ more) h)
+  broken_begins_more limit old new lines more a b h broke = grind (arith, broken_replies (system_of subject) limit old new (lines ++ more) a b, script_moves-append (line_moves (system_of subject) limit) old lines more, breaks_before, replies-have limit old (lines ++ more) h)

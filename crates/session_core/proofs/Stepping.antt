@@ -1,5 +1,5 @@
 -- Which diagnosis comes next.
-use Rattle.std.proofs.Common.{◌≡◌, ◌≢◌, ◌∙◌, ℕ, Bool, true, false, List, [], ◌∷◌, get_or, Option, Some, None, refl, ap, sym}
+use Rattle.std.proofs.Common.{◌≡◌, ◌≢◌, ◌∙◌, ℕ, Bool, true, false, List, [], ◌∷◌, get_or, Option, Some, None, refl, ap, sym, arith}
 use Rattle.std.specs.Prelude.{is_some, IfSome}
 use Rattle.text_rules.specs.Names.{Name}
 use Rattle.state_rules.specs.Ranking.{least, diagnoses}
@@ -12,13 +12,10 @@ use Rattle.session_core.proofs.Minimum.{some_diagnosis}
 use Rattle.session_core.proofs.Questions.{least-some}
 
 found_by : (hs ds : List (List Bool)) → hs ≢ [] → ds ≢ [] → Found ≡ step_of hs ds
-found_by [] ds some more = absurd (some refl)
-found_by (h ∷ hs) [] some more = absurd (more refl)
-found_by (h ∷ hs) (d ∷ ds) some more = refl
+found_by hs ds some more = grind arith
 
 some_state : (costs : List ℕ) (hs : List (List Bool)) (n : ℕ) → Some n ≡ least costs hs → hs ≢ []
-some_state costs [] n e none = let no : Some n ≡ None = e in cc
-some_state costs (h ∷ hs) n e none = cc
+some_state costs hs n e none = grind arith
 
 -- where there is a least cost there is a first diagnosis
 pub found_first : (costs : List ℕ) (hs : List (List Bool)) (n : ℕ) → Some n ≡ least costs hs → Found ≡ step_of hs (diagnoses costs hs)
@@ -35,9 +32,7 @@ nonempty_list costs (h ∷ hs) some none = nonempty_by costs (h ∷ hs) (least c
 
 -- where one is found there is one
 pub found_some : (hs later : List (List Bool)) (r : Step) → r ≡ step_of hs later → r ≡ Found → later ≢ []
-found_some [] later r e f none = (let no : Inconsistent ≡ Found = sym e ∙ f in cc)
-found_some (h ∷ hs) [] r e f none = (let no : End ≡ Found = sym e ∙ f in cc)
-found_some (h ∷ hs) (d ∷ later) r e f none = cc
+found_some hs later r e f none = grind arith
 
 -- the first of a list that is not empty
 pub first_any : (ds : List (List Bool)) (a b : List Bool) → ds ≢ [] → get_or ds 0 a ≡ get_or ds 0 b
@@ -60,21 +55,16 @@ module _ (costs : List ℕ) (hs : List (List Bool)) (s : Name) (shown : List Boo
   what_is_found later = found s shown point the_list later
 
   by_none : (gs later : List (List Bool)) → step_of gs later ≡ Inconsistent → gs ≡ []
-  by_none [] later e = refl
-  by_none (g ∷ gs) [] e = absurd (let no : ⊥ = cc in no)
-  by_none (g ∷ gs) (d ∷ later) e = absurd (let no : ⊥ = cc in no)
+  by_none gs later e = grind arith
 
   pub found_inconsistent : (later : List (List Bool)) → step_of hs later ≡ Inconsistent → what_is_found later ≡ record { item = line (inconsistent s); point = point; more = false }
   found_inconsistent later e = ap (λ (gs : List (List Bool)). found s shown point (diagnoses costs gs) later) (by_none hs later e)
 
   by_end : (gs later : List (List Bool)) → step_of gs later ≡ End → (gs ≢ []) × (later ≡ [])
-  by_end [] later e = absurd (let no : ⊥ = cc in no)
-  by_end (g ∷ gs) [] e = ((λ none. let no : ⊥ = cc in no), refl)
-  by_end (g ∷ gs) (d ∷ later) e = absurd (let no : ⊥ = cc in no)
+  by_end gs later e = grind arith
 
   end_of_list : (ds : List (List Bool)) → ds ≢ [] → found s shown point ds [] ≡ record { item = line (end_line s); point = point; more = false }
-  end_of_list [] some = absurd (some refl)
-  end_of_list (d ∷ ds) some = refl
+  end_of_list ds some = grind arith
 
   pub found_end : (later : List (List Bool)) → step_of hs later ≡ End → what_is_found later ≡ record { item = line (end_line s); point = point; more = false }
   found_end later e =
@@ -82,22 +72,16 @@ module _ (costs : List ℕ) (hs : List (List Bool)) (s : Name) (shown : List Boo
       ap (found s shown point the_list) ends.1 ∙ end_of_list the_list (nonempty_list costs hs ends.0)
 
   by_more : (gs later : List (List Bool)) → step_of gs later ≡ Found → (gs ≢ []) × (later ≢ [])
-  by_more [] later e = absurd (let no : ⊥ = cc in no)
-  by_more (g ∷ gs) [] e = absurd (let no : ⊥ = cc in no)
-  by_more (g ∷ gs) (d ∷ later) e = ((λ none. let no : ⊥ = cc in no), (λ none. let no : ⊥ = cc in no))
+  by_more gs later e = grind arith
 
   more_of_list : (ds later : List (List Bool)) → ds ≢ [] → later ≢ [] → found s shown point ds later ≡ record { item = shown (get_or later 0 []); point = Some (get_or later 0 []); more = true }
-  more_of_list [] later some more = absurd (some refl)
-  more_of_list (d ∷ ds) [] some more = absurd (more refl)
-  more_of_list (d ∷ ds) (e ∷ later) some more = refl
+  more_of_list ds later some more = grind arith
 
   pub found_more : (later : List (List Bool)) → step_of hs later ≡ Found → what_is_found later ≡ record { item = shown (get_or later 0 []); point = Some (get_or later 0 []); more = true }
   found_more later e = let more = by_more hs later e in more_of_list the_list later (nonempty_list costs hs more.0) more.1
 
   kept_by : (r : Step) (later : List (List Bool)) → step_of hs later ≡ r → (r ≡ Found → ⊥) → (what_is_found later).point ≡ point
-  kept_by Found later e none = absurd (none refl)
-  kept_by End later e none = ap (λ (f : Next). f.point) (found_end later e)
-  kept_by Inconsistent later e none = ap (λ (f : Next). f.point) (found_inconsistent later e)
+  kept_by r later e none = grind arith
 
   -- where none is found the point stays
   pub point_kept : (r : Step) (later : List (List Bool)) → r ≡ step_of hs later → (r ≡ Found → ⊥) → (what_is_found later).point ≡ point

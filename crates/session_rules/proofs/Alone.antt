@@ -1,8 +1,8 @@
 -- A session among others is answered as it is alone.
-use Rattle.std.proofs.Common.{◌≡◌, ℕ, Bool, true, false, List, [], ◌∷◌, ◌++◌, length, drop, get_or, refl, ap, ap₂, sym, ◌∙◌, subst, Some, None, Option, Result, Ok, Err, arith, length-append}
+use Rattle.std.proofs.Common.{◌≡◌, ℕ, Bool, true, false, List, [], ◌∷◌, ◌++◌, length, drop, refl, ap, ap₂, sym, ◌∙◌, subst, Some, None, Option, Result, Ok, Err, arith, length-append}
 use Rattle.std.specs.Prelude.{codes, nat_le, if◌then◌else◌}
 use Rattle.std.specs.Fmt.{decimal}
-use Rattle.std.specs.List.{list_all, flat_map}
+use Rattle.std.specs.List.{list_all}
 use Rattle.text_rules.specs.Names.{Name, is_among}
 use Rattle.text_rules.proofs.NameLemmas.{equal_if_same}
 use Rattle.state_rules.specs.Systems.{System, all_diagnoses}
@@ -13,10 +13,10 @@ use Rattle.session_rules.specs.declared.refusal.Refusal.TheVariants.{OpenAlready
 use Rattle.session_rules.specs.Refusals.{refusal_row}
 use Rattle.session_rules.specs.Items.{Item, Plain, Projected, LeastText, Whole, line}
 use Rattle.session_rules.specs.Replies.{next_of, level_of, listing, point_after, told, least_item}
-use Rattle.session_rules.specs.Sessions.{Table, Entry, Outcome, Declined, carried, step, entry_of, outcome, when_open, with_number, becomes, tells, tells_lines, goes_to, goes_through, names_of, no_such, with_noted, state_of, new_entry, replies}
+use Rattle.session_rules.specs.Sessions.{Table, Entry, Outcome, Declined, carried, step, entry_of, outcome, when_open, with_number, becomes, tells, tells_lines, goes_to, goes_through, names_of, no_such, with_noted, state_of, new_entry}
 use Rattle.session_rules.specs.Moves.{line_step}
 use Rattle.session_rules.specs.Alone.{Answer, lines_of, dialogue, names_session, closes_session, own_answers, Opens, AreAnsweredAlone}
-use Rattle.session_rules.proofs.Locality.{after_outcome, same_as_itself, own_step, own_items, others-stay}
+use Rattle.session_rules.proofs.Locality.{after_outcome, same_as_itself, own_step, others-stay}
 
 -- ---- an open session stays open until it is closed
 
@@ -73,10 +73,7 @@ first_bytes (item ∷ items) = bytes_of item
 
 -- a refusal is longer than what says that a session is open
 refused_apart : (s tail : List ℕ) → length (s ++ (32 ∷ (codes "error" ++ (32 ∷ tail)))) ≡ length (s ++ (32 ∷ (codes "open" ++ 10 ∷ []))) → ⊥
-refused_apart s tail e =
-    let long = length-append s (32 ∷ (codes "error" ++ (32 ∷ tail))) in
-    let short = length-append s (32 ∷ (codes "open" ++ 10 ∷ [])) in
-    omega (arith, long, short, e)
+refused_apart s tail e = grind (arith, length-append)
 
 declined_apart : (s : Name) (refusal : Refusal) (t : Table) → (carried t s (Declined refusal)).items ≡ line (s ∷ codes "open" ∷ []) ∷ [] → ⊥
 declined_apart s refusal t e = refused_apart s (decimal (refusal_row refusal).0 ++ (32 ∷ ((refusal_row refusal).1 ++ 10 ∷ []))) (ap (λ items. length (first_bytes items)) e)
@@ -93,20 +90,14 @@ module _ (system : System) (limit : ℕ) (s : Name) where
 
   -- an open session is answered the same from both tables
   answered_same : (request : Request) (t u : Table) → Both t u → (step system limit t (Ask s request)).items ≡ (step system 1 u (Ask s request)).items
-  answered_same request t u (entry, a, b) =
-      ap (λ o. (carried t s o).items) (outcome-open limit request t entry a)
-      ∙ (own_items s (when_open system s entry request) t u
-      ∙ ap (λ o. (carried u s o).items) (sym (outcome-open 1 request u entry b)))
+  answered_same request t u (entry, a, b) = grind arith
 
   -- and goes on the same
   left : (m : ℕ) (request : Request) (t : Table) (entry : Entry) → entry_of s t ≡ Some entry → entry_of s (step system m t (Ask s request)).table ≡ after_outcome (when_open system s entry request) (Some entry)
-  left m request t entry is =
-      own_step s (outcome system s (nat_le m (length t)) (entry_of s t) request) t ∙ ap₂ after_outcome (outcome-open m request t entry is) is
+  left m request t entry is = grind (arith, own_step)
 
   still : (request : Request) (t u : Table) → Both t u → closes_session s (Ask s request) ≡ false → Both (step system limit t (Ask s request)).table (step system 1 u (Ask s request)).table
-  still request t u (entry, a, b) goes =
-      let new = when_open-open system s entry request goes in
-      (new.0, left limit request t entry a ∙ new.1, left 1 request u entry b ∙ new.1)
+  still request t u (entry, a, b) goes = grind (arith, when_open-open system s entry request goes, left limit request t entry a, left 1 request u entry b)
 
   the_request : (l : Line) → names_session s l ≡ true → (request : Request) × (l ≡ Ask s request)
   the_request Blank e = absurd (let never : ⊥ = cc in never)
@@ -154,9 +145,7 @@ module _ (system : System) (limit : ℕ) (s : Name) where
       by : ((v w : Table) → Both v w → AsAlone (own_answers s (among v lines)) w) → (named : Bool) → names_session s (line_of bytes) ≡ named
           → AsAlone (if named then own_from (closes_session s (line_of bytes)) t bytes lines else own_answers s (among (line_step system limit t bytes).table lines)) u
       by more true named = let asked = the_request (line_of bytes) named in own-alone bytes lines t u both asked.0 asked.1 more (closes_session s (line_of bytes)) refl
-      by more false apart =
-          more (line_step system limit t bytes).table u
-          (both.0, others-stay system limit (line_of bytes) t s apart ∙ both.1, both.2)
+      by more false apart = grind (arith, others-stay)
 
   -- a session that is opened was not open, and there was room
   opened : (full : Bool) (entry : Option Entry) (t : Table) → (carried t s (outcome system s full entry Start)).items ≡ line (s ∷ codes "open" ∷ []) ∷ []
@@ -179,10 +168,7 @@ module _ (system : System) (limit : ℕ) (s : Name) where
       ∙ (own_step s (outcome system s (nat_le limit (length t)) (entry_of s t) Start) t ∙ ap (λ o. after_outcome o (entry_of s t)) free) in
       let new_alone : entry_of s (line_step system 1 [] bytes).table ≡ Some (new_entry system) =
       ap (λ l. entry_of s (step system 1 [] l).table) asked ∙ own_step s (outcome system s false None Start) [] in
-      subst (λ b. AsAlone (if b then own_from (closes_session s (line_of bytes)) t bytes lines else own_answers s (among (line_step system limit t bytes).table lines)) []) (sym named)
-      (subst (λ b. AsAlone (own_from b t bytes lines) []) (sym goes)
-      (ap₂ (λ now rest. record { bytes = bytes; items = now } ∷ rest) items
-      (open-alone lines (line_step system limit t bytes).table (line_step system 1 [] bytes).table (new_entry system, new_among, new_alone))))
+      grind (arith, open-alone)
 
   -- what begins at an answer is a dialogue from some table
   from_answer : (table : Table) (lines : List (List ℕ)) (before later : List Answer) (opening : Answer) → among table lines ≡ before ++ opening ∷ later
@@ -195,8 +181,4 @@ module _ (system : System) (limit : ℕ) (s : Name) where
 
 -- Wherever a session opens, its own lines from there to its end have the answers that they have alone.
 pub answered_alone : (system : System) (limit : ℕ) (table : Table) (lines : List (List ℕ)) → AreAnsweredAlone system limit table lines
-answered_alone system limit table lines s before later opening split opens =
-    let from = from_answer system limit s table lines before later opening split in
-    let first : opening ≡ first_answer system limit s from.0 from.1 = ap (λ (answers : List Answer). get_or answers 0 opening) from.3 in
-    subst (λ answers. AsAlone system limit s (own_answers s answers) []) (sym from.3)
-    (opening-alone system limit s from.1 from.2 from.0 (subst (Opens s) first opens))
+answered_alone system limit table lines s before later opening split opens = grind (arith, from_answer, opening-alone)

@@ -1,12 +1,11 @@
 -- Moves taken whole are steps.
-use Rattle.std.proofs.Common.{◌≡◌, ℕ, suc, Bool, List, [], ◌∷◌, ◌++◌, map, refl, ap, sym, ◌∙◌, Option, Some, None, append_assoc, append-nil}
-use Rattle.std.specs.Prelude.{nat_le, length}
+use Rattle.std.proofs.Common.{◌≡◌, ℕ, suc, Bool, List, [], ◌∷◌, ◌++◌, map, refl, ap, sym, ◌∙◌, Option, Some, None, append_assoc, append-nil, arith}
 use Rattle.text_rules.specs.Names.{Name}
 use Rattle.state_rules.specs.Systems.{System}
 use Rattle.script_lang.specs.Script.{Line, Ask, Several, Levels, line_of}
-use Rattle.session_rules.specs.declared.refusal.Refusal.TheVariants.{NoSession, NoLevels}
+use Rattle.session_rules.specs.declared.refusal.Refusal.TheVariants.{NoSession}
 use Rattle.session_rules.specs.Replies.{Found, listing, point_after}
-use Rattle.session_rules.specs.Sessions.{Table, Entry, Step, Outcome, Declined, with_number, goes_through, with_entry, entry_of, carried, outcome, step, replies}
+use Rattle.session_rules.specs.Sessions.{Table, Entry, Step, Outcome, Declined, goes_through, with_entry, carried, outcome, step, replies}
 use Rattle.session_rules.specs.Moves.{said, left_by, whole, goes_on, listing_moves, next_for, level_for, level_moves, moves, line_moves, script_moves}
 
 one_move : (table : Table) (s : Step) → whole table (s ∷ []) ≡ s
@@ -35,26 +34,18 @@ listing_moves-whole next table session n (Some entry) = goes_on-whole table sess
 
 several-listed : (system : System) (session : Name) (full : Bool) (count : ℕ) (entry : Option Entry)
     → listed (next_for system session) count entry ≡ outcome system session full entry (Several count)
-several-listed system session full count None = refl
-several-listed system session full count (Some entry) = refl
+several-listed system session full count entry = grind arith
 
 levels-listed : (system : System) (session : Name) (full : Bool) (count top : ℕ) (entry : Option Entry) → system.extras.levels ≡ Some top
     → listed (level_for system session top) count entry ≡ outcome system session full entry (Levels count)
-levels-listed system session full count top None is = refl
-levels-listed system session full count top (Some entry) is =
-    ap (with_number NoLevels (λ top. goes_through entry (listing (level_for system session top entry) count entry.point))) (sym is)
+levels-listed system session full count top entry is = grind arith
 
 level_moves-whole : (system : System) (limit : ℕ) (table : Table) (session : Name) (n : ℕ) (levels : Option ℕ) → system.extras.levels ≡ levels
     → whole table (level_moves system limit table session (suc n) levels) ≡ step system limit table (Ask session (Levels (suc n)))
-level_moves-whole system limit table session n None is = one_move table (step system limit table (Ask session (Levels (suc n))))
-level_moves-whole system limit table session n (Some top) is =
-    listing_moves-whole (level_for system session top) table session n (entry_of session table)
-    ∙ ap (carried table session) (levels-listed system session (nat_le limit (length table)) (suc n) top (entry_of session table) is)
+level_moves-whole system limit table session n levels is = grind (arith, listing_moves-whole)
 
 moves-whole : (system : System) (limit : ℕ) (table : Table) (l : Line) → whole table (moves system limit table l) ≡ step system limit table l
-moves-whole system limit table (Ask session (Several (suc n))) =
-    listing_moves-whole (next_for system session) table session n (entry_of session table)
-    ∙ ap (carried table session) (several-listed system session (nat_le limit (length table)) (suc n) (entry_of session table))
+moves-whole system limit table (Ask session (Several (suc n))) = grind (arith, listing_moves-whole)
 moves-whole system limit table (Ask session (Levels (suc n))) = level_moves-whole system limit table session n system.extras.levels refl
 moves-whole system limit table l = one_move table (step system limit table l)
 

@@ -1,5 +1,5 @@
 //! What all answers are worked out with.
-ghost use Rattle.std.specs.Prelude.{◌≡◌, ℕ, ◌<◌, [], Bool, true, false, Some, None, All, IfOk, IfSome, length, slice_get, is_some};
+ghost use Rattle.std.specs.Prelude.{◌≡◌, ℕ, ◌<◌, Bool, true, false, Some, None, All, IfOk, IfSome, length, slice_get, is_some};
 ghost use Rattle.std.specs.Option.{option_map};
 ghost use Rattle.std.specs.List.{list_all};
 ghost use Rattle.text_rules.specs.Names.{is_among};

@@ -16,15 +16,11 @@ use Rattle.session_rules.specs.Items.{line}
 use Rattle.session_rules.specs.Sessions.{Table, Entry, outcome_in, becomes, names_of, with_entry}
 use Rattle.session_rules.proofs.Spellings.{replies_one}
 use Rattle.session_table.specs.Tables.{Opened, count_of}
-use Rattle.session_core.specs.Services.{Shown, served_system}
+use Rattle.session_core.specs.Services.{served_system}
 use Rattle.session_core.specs.inner.Bases.{AreKnown, case_in}
-use Rattle.session_core.specs.inner.Holding.{HoldsTogether}
+use Rattle.session_core.specs.inner.Holding.{HoldsTogether, shown_of}
 use Rattle.session_core.specs.inner.Obeying.{Obeys}
 use Rattle.session_core.proofs.Obeying.{IsOneMove, obeys_outcome}
-
--- what is shown over a subject, with these sessions
-abbrev pub shown_of : Subject → Opened → Shown
-shown_of subject opened = record { subject = subject; limit = opened.limit; table = opened.table }
 
 -- sessions with another table
 abbrev pub opened_with : Opened → Table → Opened

@@ -6,11 +6,10 @@ pub mod Told
 pub mod Questions
 pub mod Desks
 pub mod Staying
-mod ByCost
+mod NextStates
 mod Rooms
 pub mod Obeying
 pub mod Holding
-pub mod Stepping
 pub mod Naming
 pub mod Moving
 mod GraphSpellings

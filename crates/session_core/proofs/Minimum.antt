@@ -1,6 +1,6 @@
 -- The line of `min`.
 use Rattle.std.proofs.Common.{◌≡◌, ◌≢◌, ℕ, ◌<◌, ◌≤◌, min, Bool, true, false, cond, List, [], ◌∷◌, Option, Some, None, refl, sym, ◌∙◌, ap, codes, arith, ⊎_elim}
-use Rattle.std.specs.Prelude.{decimal, slice_index_or, nat_le, IfSome}
+use Rattle.std.specs.Prelude.{decimal, nat_le}
 use Rattle.std.specs.List.{filter}
 use Rattle.std.proofs.lemmas.Bool.{le-leb, cases_lt}
 use Rattle.text_rules.specs.Names.{Name}
@@ -8,6 +8,7 @@ use Rattle.state_rules.specs.Ranking.{cost, least, least_with, is_at_most, diagn
 use Rattle.state_rules.specs.Systems.{System}
 use Rattle.state_rules.proofs.Lists.{filter-never}
 use Rattle.session_rules.specs.Replies.{faulty_names, min_line}
+use Rattle.session_core.specs.inner.Desks.{IsFirst}
 use Rattle.session_core.specs.inner.Texts.{min_text}
 
 -- where there is no least cost there is no diagnosis
@@ -43,18 +44,17 @@ pub some_diagnosis : (costs : List ℕ) (n : ℕ) (hs : List (List Bool)) → le
 some_diagnosis costs n hs e none =
     some_low costs n n hs e (omega arith) (ap (λ (o : Option ℕ). filter (λ h. is_at_most (cost costs h) o) hs) (sym e) ∙ none)
 
-by_first : (system : System) (session : Name) (n : ℕ) (ds : List (List Bool)) (old : List Bool) → ds ≢ []
-    → min_line system session (Some n) ds ≡ session ∷ codes "min" ∷ decimal n ∷ faulty_names system.parts (slice_index_or ds 0 old)
-by_first system session n [] old some = absurd (some refl)
-by_first system session n (d ∷ ds) old some = refl
+by_first : (system : System) (session : Name) (n : ℕ) (ds : List (List Bool)) (state : List Bool) → ds ≢ [] → IsFirst state ds
+    → session ∷ codes "min" ∷ decimal n ∷ faulty_names system.parts state ≡ min_line system session (Some n) ds
+by_first system session n [] state some first = absurd (some refl)
+by_first system session n (d ∷ ds) state some first = ap (λ h. session ∷ codes "min" ∷ decimal n ∷ faulty_names system.parts h) first
 
--- The line tells the least cost and the first diagnosis.
+-- The line has the least cost and the first diagnosis.
 pub min_line-is : (system : System) (session : Name) (hs : List (List Bool)) (state : List Bool) (fewest : Option ℕ) → fewest ≡ least system.costs hs
-    → IfSome fewest (λ _. state ≡ slice_index_or (diagnoses system.costs hs) 0 [])
+    → IsFirst state (diagnoses system.costs hs)
     → min_text session system.parts fewest state ≡ min_line system session (least system.costs hs) (diagnoses system.costs hs)
 min_line-is system session hs state None e first =
     sym (ap (λ ds. min_line system session (least system.costs hs) ds) (no_diagnosis system.costs hs (sym e)))
 min_line-is system session hs state (Some n) e first =
-    ap (λ h. session ∷ codes "min" ∷ decimal n ∷ faulty_names system.parts h) first
-    ∙ sym (by_first system session n (diagnoses system.costs hs) [] (some_diagnosis system.costs n hs (sym e)))
+    by_first system session n (diagnoses system.costs hs) state (some_diagnosis system.costs n hs (sym e)) first
     ∙ ap (λ o. min_line system session o (diagnoses system.costs hs)) e

@@ -12,6 +12,7 @@ ghost use Rattle.session_rules.specs.Sessions.{names_of};
 ghost use Rattle.session_core.specs.Services.{CanList, CanDraw, served_system};
 
 use crate::limits::{SERVED_NODES, SERVED_VARIABLES};
+use crate::listed::Listed;
 use device_model::{Name, place_of};
 use level_lister::Levels;
 use node_store::Graph;
@@ -65,6 +66,7 @@ impl Model for Basis {
 
 impl Basis {
     ghost use Rattle.session_core.specs.inner.Bases.{IsBasis, AreEnough, level_room};
+    ghost use Rattle.session_core.specs.inner.Desks.{is_listed};
 
     /// Names, costs and a graph. `Err` means that memory ran out.
     pub(crate) fn of(
@@ -164,11 +166,14 @@ impl Basis {
         self.levels.as_ref()
     }
 
-    /// Whether states are told by rising cost.
-    pub(crate) fn tells_levels(&self) -> bool
-        ensures { result ≡ is_some self.now.extras.levels }
+    /// Whether there is a listing.
+    pub(crate) fn lists(&self, listed: Listed) -> bool
+        ensures { result ≡ is_listed self.now listed }
     {
-        self.levels.is_some()
+        match listed {
+            Listed::Diagnoses => true,
+            Listed::Levels => self.levels.is_some(),
+        }
     }
 
     /// The sets of parts that the graph of the diagnoses is drawn with.

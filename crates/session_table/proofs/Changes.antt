@@ -11,12 +11,12 @@ use Rattle.std.proofs.lemmas.List.Edits.{length-insert, length-remove}
 use Rattle.std.proofs.lemmas.Option.{slice_get-map, slice_get_within, slice_get_read, some_pair_parts, none-some}
 use Rattle.text_rules.specs.Names.{Name, same_name}
 use Rattle.state_rules.specs.Cases.{empty_case}
-use Rattle.scratch_pool.specs.Pools.{Blocks, IsOut, IsFree, IsSound, block_words, taken, given}
-use Rattle.scratch_pool.proofs.Laws.{taken-zeroed, taken-out, taken-free, given-free}
+use Rattle.scratch_pool.specs.Pools.{Blocks, IsOut, IsFree, IsSound, block_words, with_block, taken, given}
+use Rattle.scratch_pool.proofs.Laws.{taken-zeroed, taken-out, taken-free, given-free, length-block}
 use Rattle.session_rules.specs.Sessions.{Entry, Table, entry_of, with_entry, without}
 use Rattle.session_table.specs.Tables.{Opened, StandsAt, fresh_entry}
 use Rattle.session_table.specs.inner.Blocks.{entry_in, block_size, IsLaidOut}
-use Rattle.session_table.specs.inner.Ordered.{entry_at, table_of, blocks_by_name, NamesRise, AreKept, HasName, IsGapFor, KeepsEntry}
+use Rattle.session_table.specs.inner.Ordered.{entry_at, table_of, blocks_by_name, NamesRise, AreKept, HasName, IsGapFor}
 use Rattle.session_table.specs.declared.in_order.Open.{Open}
 use Rattle.session_table.specs.declared.open_sessions.OpenSessions.TheInside.{Inside}
 use Rattle.session_table.specs.contracts.open_sessions.OpenSessions.{the_view}
@@ -130,27 +130,32 @@ module _ (inside : Inside) (shown : Opened) (shows : the_view inside ≡ shown) 
       → entry ≡ entry_in_block inside session.block
   entry_here name entry stands = sym (name_and_entry name entry stands).1
 
-  -- its block is written
-  module _ (pool : Blocks) (change : Entry → Entry)
-      (keeps : KeepsEntry inside.layout inside.pool pool session.block (change (entry_in_block inside session.block))) where
+  -- its block is written, so that it holds another entry
+  module _ (before words : List ℕ) (change : Entry → Entry) (sound : IsSound inside.pool) (holds : before ≡ block_words inside.pool session.block)
+      (long : length words ≡ length before) (changes : entry_in inside.layout words ≡ change (entry_in inside.layout before)) (laid : IsLaidOut inside.layout words) where
+    abbrev pool : Blocks
+    pool = with_block inside.pool session.block words
+
+    size : length words ≡ inside.pool.size
+    size = long ∙ (ap length holds ∙ length-block inside.pool sound session.block is_out)
+
     pub written : AreKept inside.layout inside.limit pool inside.«open».items (vec_capacity inside.«open»)
-    written = subst (λ (p : Blocks). AreKept inside.layout inside.limit p items (vec_capacity inside.«open»)) (sym keeps.written) (record {
+    written = record {
       rise = kept.rise;
-      blocks = have_written inside.layout inside.pool keeps.sound items place session keeps.words kept.blocks here keeps.size keeps.laid;
+      blocks = have_written inside.layout inside.pool sound items place session words kept.blocks here size laid;
       free = kept.free;
       size = kept.size;
       vars = kept.vars;
       room = kept.room;
-    })
+    }
 
     written_set : (name : Name) (entry : Entry) → StandsAt shown.table place name entry
         → table_in (record inside { pool = pool }) ≡ set (table_in inside) place (name, change entry)
     written_set name entry stands =
         let both = name_and_entry name entry stands in
-        ap (λ (p : Blocks). table_of inside.layout p items) keeps.written
-        ∙ (written_at inside.layout inside.pool keeps.sound items place session keeps.words kept.blocks here keeps.size
-        ∙ (ap (λ e. set (table_in inside) place (session.name, e)) keeps.holds
-        ∙ ap₂ (λ n e. set (table_in inside) place (n, change e)) both.0 both.1))
+        written_at inside.layout inside.pool sound items place session words kept.blocks here size
+        ∙ (ap (λ e. set (table_in inside) place (session.name, e)) (changes ∙ ap (λ (ws : List ℕ). change (entry_in inside.layout ws)) holds)
+        ∙ ap₂ (λ n e. set (table_in inside) place (n, change e)) both.0 both.1)
 
     pub shows_written : (name : Name) (entry : Entry) → StandsAt shown.table place name entry
         → the_view (record inside { pool = pool }) ≡ record shown { table = with_entry name (change entry) shown.table }

@@ -7,7 +7,8 @@ use Rattle.session_core.specs.Services.{Shown, served_system}
 use Rattle.session_core.specs.inner.Desks.{OnDesk, asked_case}
 use Rattle.session_core.specs.inner.Obeying.{Obeys, IsOpen}
 use Rattle.session_core.specs.inner.Telling.{items_told}
-use Rattle.session_core.proofs.Holding.{shown_of, known-there, case-there}
+use Rattle.session_core.specs.inner.Holding.{shown_of}
+use Rattle.session_core.proofs.Holding.{known-there, case-there}
 use Rattle.session_core.proofs.Obeying.{obeys_told}
 use Rattle.session_core.proofs.sessions.Sessions.ask_case.Goals as goal
 

@@ -9,7 +9,8 @@ use Rattle.session_rules.specs.Sessions.{Declined, becomes, outcome, outcome_in,
 use Rattle.session_core.specs.Services.{Shown, served_system}
 use Rattle.session_core.specs.inner.Obeying.{Obeys}
 use Rattle.session_core.proofs.Obeying.{obeys_refusal}
-use Rattle.session_core.proofs.Holding.{shown_of, opened_with, holds_more, obeys_becomes}
+use Rattle.session_core.specs.inner.Holding.{shown_of}
+use Rattle.session_core.proofs.Holding.{opened_with, holds_more, obeys_becomes}
 use Rattle.session_core.proofs.sessions.Sessions.start.Goals as goal
 
 -- what opens a session comes to, where it is not open

@@ -10,9 +10,9 @@ use Rattle.state_rules.specs.Systems.{System, Texts}
 use Rattle.script_lang.specs.Script.{Line, Blank, Refused, Ask, Request, Start, Stop, Note, Tell, Next, Several, After, Question, Dnnf, Level, Levels, LeastNnf, line_of}
 use Rattle.script_lang.specs.declared.line.Noted.TheVariants.{Wire, Part}
 use Rattle.session_rules.specs.Items.{Projected, LeastText, line, graph_item}
-use Rattle.session_rules.specs.Replies.{Found, next_of, level_of, listing, least_at, probe_line, probe_lines, probe_told, if_any, told, dnnf_item, least_item}
+use Rattle.session_rules.specs.Replies.{next_of, listing, least_at, probe_line, probe_lines, probe_told, if_any, told, dnnf_item, least_item}
 use Rattle.session_rules.specs.Sessions.{Entry, Table, Step, entry_of, when_open, outcome, tells, tells_lines, goes_through, step, replies}
-use Rattle.session_rules.specs.Moves.{left_by, listing_moves, next_for, level_for, level_moves, moves, line_moves, script_moves}
+use Rattle.session_rules.specs.Moves.{left_by, level_moves, moves, line_moves, script_moves}
 use Rattle.session_rules.specs.CaseSizes.{IsCaseOf, HasCasesOf}
 use Rattle.session_rules.proofs.Keeping.{step-keeps}
 use Rattle.session_rules.proofs.Whole.{line_moves-whole, said-replies}
@@ -81,17 +81,6 @@ module _ (system : System) (consistent : Case → List (List Bool)) (texts : Tex
   step-same limit table Blank h g = refl
   step-same limit table (Refused refusal) h g = refl
   step-same limit table (Ask s request) h g = grind (arith, outcome-same)
-
-  -- a listing by steps that are the same for the entry there
-  listing_moves-same : (next step : Entry → Option (List Bool) → Found) (table : Table) (s : Name) (count : ℕ) (entry : Option Entry) → ((e : Entry) → entry ≡ Some e → next e ≡ step e)
-      → listing_moves next table s count entry ≡ listing_moves step table s count entry
-  listing_moves-same next step table s count entry e = grind arith
-
-  next_for-same : (s : Name) (entry : Entry) → IsCaseOf system entry.known → next_for system s entry ≡ next_for other s entry
-  next_for-same s entry h = ap (λ hs. next_of system s (diagnoses system.costs hs)) (same entry.known h)
-
-  level_for-same : (s : Name) (top : ℕ) (entry : Entry) → IsCaseOf system entry.known → level_for system s top entry ≡ level_for other s top entry
-  level_for-same s top entry h = ap (level_of system s top) (same entry.known h)
 
   level_moves-same : (limit : ℕ) (table : Table) (s : Name) (count : ℕ) (levels : Option ℕ) → HasCasesOf system table → level_moves system limit table s count levels ≡ level_moves other limit table s count levels
   level_moves-same limit table s count None h = ap (λ (move : Step). move ∷ []) (step-same limit table (Ask s (Levels count)) h (λ e there. tt))

@@ -1,15 +1,12 @@
 -- A line that is refused changes nothing.
-use Rattle.std.proofs.Common.{◌≡◌, ℕ, suc, Bool, true, false, List, [], ◌∷◌, ◌++◌, length, Option, Some, None, Result, Ok, Err, refl, ap, sym, ◌∙◌, subst, arith}
+use Rattle.std.proofs.Common.{◌≡◌, ℕ, suc, Bool, List, [], ◌∷◌, ◌++◌, length, Option, Result, refl, arith}
 use Rattle.std.specs.Prelude.{nat_le}
 use Rattle.text_rules.specs.Names.{Name}
 use Rattle.state_rules.specs.Systems.{System}
 use Rattle.script_lang.specs.Script.{Line, Blank, Refused, Ask, Request, Several, Levels, line_of}
 use Rattle.session_rules.specs.declared.refusal.Refusal.{Refusal}
-use Rattle.session_rules.specs.declared.refusal.Refusal.TheVariants.{NoLevels}
-use Rattle.session_rules.specs.Items.{Item}
-use Rattle.session_rules.specs.Replies.{listing, level_of}
-use Rattle.session_rules.specs.Sessions.{Table, Entry, Step, Change, Declined, Done, with_number, goes_through, carried, entry_of, outcome, outcome_in, step}
-use Rattle.session_rules.specs.Moves.{listing_moves, next_for, level_for, level_moves}
+use Rattle.session_rules.specs.Sessions.{Table, Entry, Step, Declined, carried, entry_of, outcome, outcome_in, step}
+use Rattle.session_rules.specs.Moves.{listing_moves, next_for, level_moves}
 use Rattle.session_rules.specs.Carrying.{CarriesOut}
 use Rattle.session_core.specs.Services.{Shown, served_system, exact_moves, moves_of, IsRefused, ChangesTable}
 
@@ -42,16 +39,9 @@ module _ (shown : Shown) (s : Name) (refusal : Refusal) where
   abbrev refused : List Step
   refused = carried shown.table s (Declined refusal) ∷ []
 
-  not_declined : (change : Change) (items : List Item) → Done change items ≡ Declined refusal → ⊥
-  not_declined change items e = cc
-
   listed : (n : ℕ) (entry : Option Entry) → outcome system s full entry (Several (suc n)) ≡ Declined refusal
       → listing_moves (next_for system s) shown.table s (suc n) entry ≡ one (Several (suc n)) entry
   listed n entry is = grind arith
-
-  levelled_to : (n top : ℕ) → shown.subject.extras.levels ≡ Some top → (entry : Option Entry) → outcome system s full entry (Levels (suc n)) ≡ Declined refusal
-      → listing_moves (level_for system s top) shown.table s (suc n) entry ≡ one (Levels (suc n)) entry
-  levelled_to n top told entry is = grind arith
 
   levelled : (n : ℕ) (levels : Option ℕ) → shown.subject.extras.levels ≡ levels → outcome system s full (entry_of s shown.table) (Levels (suc n)) ≡ Declined refusal
       → level_moves system shown.limit shown.table s (suc n) levels ≡ one (Levels (suc n)) (entry_of s shown.table)

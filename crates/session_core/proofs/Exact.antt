@@ -1,17 +1,15 @@
 -- What a service writes is one text of what its system answers: where its moves were made, or broke off, those over the
 -- system were.
-use Rattle.std.proofs.Common.{◌≡◌, ℕ, Bool, true, false, ◌+◌, ◌^◌, ◌<◌, ◌≤◌, List, [], ◌∷◌, ◌++◌, length, Option, Some, None, refl, ap, sym, ◌∙◌, subst, append_assoc, arith}
+use Rattle.std.proofs.Common.{◌≡◌, ℕ, true, ◌+◌, ◌^◌, ◌<◌, ◌≤◌, List, [], ◌∷◌, ◌++◌, length, Option, Some, refl, ap, sym, ◌∙◌, subst, append_assoc, arith}
 use Rattle.std.proofs.lemmas.Bool.Decides.{nat_tests}
-use Rattle.std.specs.Prelude.{nat_le, codes, if◌then◌else◌}
+use Rattle.std.specs.Prelude.{nat_le}
 use Rattle.text_rules.specs.Names.{Name}
 use Rattle.state_rules.specs.Systems.{System}
 use Rattle.state_rules.specs.Graphs.{IsGraph}
 use Rattle.script_lang.specs.Script.{Line, Ask, Request, Dnnf, LeastNnf, line_of}
-use Rattle.session_rules.specs.declared.refusal.Refusal.TheVariants.{NoLeast}
-use Rattle.session_rules.specs.Items.{Item, Plain, line}
+use Rattle.session_rules.specs.Items.{Item, Plain}
 use Rattle.session_rules.specs.Spelling.{Spelled, Spells, Writes}
-use Rattle.session_rules.specs.Sessions.{Table, Entry, Step, Declined, tells, entry_of, carried, outcome}
-use Rattle.session_rules.specs.Replies.{least_item}
+use Rattle.session_rules.specs.Sessions.{Table, Entry, Step, entry_of, carried, outcome}
 use Rattle.session_rules.specs.Moves.{said, left_by, moves, line_moves, script_moves}
 use Rattle.session_rules.specs.Carrying.{Makes, BreaksOff}
 use Rattle.session_rules.specs.GraphSystems.{HasLeastTexts, system_of}
@@ -19,7 +17,6 @@ use Rattle.session_rules.specs.CaseSizes.{IsCaseOf, HasCasesOf}
 use Rattle.session_rules.proofs.Spellings.{spells_more}
 use Rattle.session_rules.proofs.Whole.{line_moves-whole, left_by-append, said-replies}
 use Rattle.session_rules.proofs.Keeping.{step-keeps}
-use Rattle.session_rules.proofs.Same.{moves-same}
 use Rattle.session_core.proofs.GraphSpellings.{case-spelled, least-spelled}
 use Rattle.session_core.specs.Services.{Shown, SpellReplies, served_system, moves_of}
 

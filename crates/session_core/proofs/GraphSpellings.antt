@@ -1,16 +1,12 @@
 -- The texts of a service's graphs mean what they should.
-use Rattle.std.proofs.Common.{◌≡◌, ◌+◌, ◌^◌, ◌<◌, ◌≤◌, true, length, refl, subst, arith}
+use Rattle.std.proofs.Common.{◌≡◌, ◌+◌, ◌^◌, ◌<◌, ◌≤◌, true, length, refl, arith}
 use Rattle.std.proofs.lemmas.Bool.Decides.{nat_tests}
 use Rattle.state_rules.specs.Cases.{Case}
-use Rattle.state_rules.specs.Ranking.{diagnoses}
 use Rattle.state_rules.specs.Systems.{all_diagnoses}
 use Rattle.state_rules.specs.Graphs.{IsGraph}
-use Rattle.nnf_text.specs.GraphTexts.{parsed}
-use Rattle.nnf_text.specs.StateGraphs.{IsSmoothGraphOfStates}
-use Rattle.conditioner.specs.Models.{models}
 use Rattle.projector.specs.Projecting.{projection}
 use Rattle.projector.proofs.Projected.{projected_text-is_neat, projected_text-means}
-use Rattle.smooth_nnf.specs.Layouts.{least_graph, least_text}
+use Rattle.smooth_nnf.specs.Layouts.{least_graph}
 use Rattle.smooth_nnf.proofs.WholeText.{least_text-is_neat, least_text-means}
 use Rattle.session_rules.specs.Items.{Projected, LeastText}
 use Rattle.session_rules.specs.Spelling.{Spelled}

@@ -1,20 +1,13 @@
 -- What a service writes is one text: where the moves of a script were made twice after the same bytes, the same bytes stand.
-use Rattle.std.proofs.Common.{◌≡◌, ℕ, zero, suc, Bool, true, false, List, [], ◌∷◌, ◌++◌, map, length, Option, Some, None, Result, Ok, Err, refl, ap, ap₂, sym, ◌∙◌, subst, arith}
-use Rattle.std.specs.Prelude.{nat_le, if◌then◌else◌, codes}
-use Rattle.std.specs.List.{list_all}
-use Rattle.std.specs.Io.KnownBytes.{Appends}
-use Rattle.text_rules.specs.Names.{Name, is_among}
-use Rattle.state_rules.specs.Cases.{Case}
-use Rattle.state_rules.specs.Ranking.{rest}
-use Rattle.state_rules.specs.Levels.{levels, levels_rest}
-use Rattle.state_rules.specs.Systems.{System, all_diagnoses}
-use Rattle.device_model.specs.Devices.{place_of}
-use Rattle.script_lang.specs.Script.{Line, Blank, Refused, Ask, Request, Start, Stop, Note, Tell, Next, Several, After, Dnnf, Level, Levels, LeastNnf, line_of}
+use Rattle.std.proofs.Common.{◌≡◌, ℕ, zero, suc, Bool, List, [], ◌∷◌, ◌++◌, map, Option, Some, Result, sym, ◌∙◌, arith}
+use Rattle.std.specs.Prelude.{if◌then◌else◌}
+use Rattle.text_rules.specs.Names.{Name}
+use Rattle.state_rules.specs.Systems.{System}
+use Rattle.script_lang.specs.Script.{Line, Request, line_of}
 use Rattle.session_rules.specs.declared.refusal.Refusal.{Refusal}
-use Rattle.session_rules.specs.declared.refusal.Refusal.TheVariants.{Full, NoPart, NoLevels, NoLeast}
 use Rattle.session_rules.specs.Items.{Item, Plain, Projected, LeastText, Whole, line}
-use Rattle.session_rules.specs.Replies.{Found, found, next_of, level_of, level_line, listing, diagnosis_line, told, least_item}
-use Rattle.session_rules.specs.Sessions.{Table, Entry, Step, Outcome, Declined, Done, with_number, becomes, tells, tells_lines, goes_to, goes_through, names_of, no_such, with_noted, new_entry, state_of, outcome, entry_of, carried, step, replies}
+use Rattle.session_rules.specs.Replies.{Found, listing}
+use Rattle.session_rules.specs.Sessions.{Table, Entry, Outcome, Declined, Done, with_number, tells_lines, outcome, step, replies}
 use Rattle.session_rules.specs.Moves.{said, script_moves}
 use Rattle.session_rules.specs.Spelling.{Spells}
 use Rattle.session_rules.specs.Carrying.{Makes}
@@ -47,9 +40,6 @@ one_spelling (Whole device vars most ∷ items) a b h one other = absurd h
 
 -- ---- every reply but a graph is a text
 
-found-plain : (s : Name) (shown : List Bool → Item) → ((state : List Bool) → ArePlain (shown state ∷ [])) → (point : Option (List Bool)) (ds later : List (List Bool)) → ArePlain ((found s shown point ds later).item ∷ [])
-found-plain s shown h point ds later = grind arith
-
 listing-plain : (next : Option (List Bool) → Found) → ((point : Option (List Bool)) → ArePlain ((next point).item ∷ []))
     → (n : ℕ) (point : Option (List Bool)) → ArePlain (map (λ f. f.item) (listing next n point))
 listing-plain next h zero point = tt
@@ -58,12 +48,6 @@ listing-plain next h (suc n) point = grind (arith, listing-plain next h n)
 lines-plain : (lines : List (List (List ℕ))) → ArePlain (map line lines)
 lines-plain [] = tt
 lines-plain (words ∷ lines) = lines-plain lines
-
-next-plain : (system : System) (s : Name) (ds : List (List Bool)) (point : Option (List Bool)) → ArePlain ((next_of system s ds point).item ∷ [])
-next-plain system s ds point = found-plain s (diagnosis_line system s) (λ state. tt) point ds (rest ds point)
-
-level-plain : (system : System) (s : Name) (top : ℕ) (states : List (List Bool)) (point : Option (List Bool)) → ArePlain ((level_of system s top states point).item ∷ [])
-level-plain system s top states point = grind arith
 
 abbrev IsPlain : Outcome → Type 0
 IsPlain (Declined refusal) = Unit {0}
@@ -77,9 +61,6 @@ chosen b one other h k = grind arith
 
 told_lines-plain : (lines : Result (List (List (List ℕ))) Refusal) → IsPlain (tells_lines lines)
 told_lines-plain lines = grind (arith, lines-plain)
-
-carried-plain : (table : Table) (s : Name) (o : Outcome) → IsPlain o → ArePlain (carried table s o).items
-carried-plain table s o h = grind arith
 
 -- ---- and a graph is one too
 
@@ -102,9 +83,6 @@ module _ (subject : Subject) where
 -- all that a service answers to a script
 pub script-plain : (shown : Shown) (table : Table) (lines : List (List ℕ)) → ArePlain (said (script_moves (moves_of shown) table lines))
 script-plain shown table lines = grind (arith, said-replies (served_system shown.subject) shown.limit table lines, replies-plain shown.subject shown.limit table lines)
-
-grown_by : (bytes : List ℕ) (a b : Option (List ℕ)) (text other : List ℕ) → Appends (Some bytes) a text → Appends (Some bytes) b other → text ≡ other → a ≡ b
-grown_by bytes a b text other h k same = grind arith
 
 -- so the bytes are the same, and the table, whenever the script is answered
 pub one_text : (shown : Shown) (old new other : Table) (lines : List (List ℕ)) (bytes : List ℕ) (a b : Option (List ℕ))

@@ -1,9 +1,9 @@
 -- Every reply over a graph has a text, so what was written where a script broke off begins its replies.
-use Rattle.std.proofs.Common.{◌≡◌, ℕ, ◌+◌, ◌^◌, ◌<◌, ◌≤◌, true, List, [], ◌∷◌, ◌++◌, length, Option, refl, sym, subst, arith}
+use Rattle.std.proofs.Common.{◌≡◌, ℕ, ◌+◌, ◌^◌, ◌<◌, ◌≤◌, true, List, [], ◌∷◌, ◌++◌, length, Option, refl, arith}
 use Rattle.state_rules.specs.Graphs.{IsGraph}
 use Rattle.session_rules.specs.Items.{Item, Plain, Projected, LeastText, Whole}
 use Rattle.session_rules.specs.Sessions.{Table, replies}
-use Rattle.session_rules.specs.Moves.{said, left_by, line_moves, script_moves}
+use Rattle.session_rules.specs.Moves.{said, line_moves, script_moves}
 use Rattle.session_rules.specs.Spelling.{Spells, WritesPart}
 use Rattle.session_rules.specs.Carrying.{BreaksOff}
 use Rattle.session_rules.specs.GraphSystems.{Subject, HasLeastTexts, system_of}

@@ -1,5 +1,5 @@
 -- The texts of replies.
-use Rattle.std.proofs.Common.{◌≡◌, ℕ, ◌+◌, ◌<◌, Bool, true, false, List, [], ◌∷◌, ◌++◌, length, map, drop, Option, refl, sym, ◌∙◌, ap, append_assoc, get_or, subst, Result, IsErr, arith}
+use Rattle.std.proofs.Common.{◌≡◌, ℕ, ◌+◌, ◌<◌, true, false, List, [], ◌∷◌, ◌++◌, length, map, drop, Option, sym, append_assoc, get_or, Result, IsErr, arith}
 use Rattle.std.specs.Prelude.{◌==◌, if◌then◌else◌}
 use Rattle.diag_edge.specs.Edge.{AppendsPrefix}
 use denote.Ref.{Bor}

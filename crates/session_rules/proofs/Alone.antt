@@ -1,63 +1,28 @@
 -- A session among others is answered as it is alone.
-use Rattle.std.proofs.Common.{◌≡◌, ℕ, Bool, true, false, List, [], ◌∷◌, ◌++◌, length, drop, refl, ap, ap₂, sym, ◌∙◌, subst, Some, None, Option, Result, Ok, Err, arith, length-append}
-use Rattle.std.specs.Prelude.{codes, nat_le, if◌then◌else◌}
+use Rattle.std.proofs.Common.{◌≡◌, ℕ, Bool, true, false, List, [], ◌∷◌, ◌++◌, length, drop, refl, ap, ap₂, sym, ◌∙◌, subst, Some, None, Option, arith, length-append}
+use Rattle.std.specs.Prelude.{is_some, codes, nat_le, if◌then◌else◌}
 use Rattle.std.specs.Fmt.{decimal}
-use Rattle.std.specs.List.{list_all}
-use Rattle.text_rules.specs.Names.{Name, is_among}
+use Rattle.text_rules.specs.Names.{Name}
 use Rattle.text_rules.proofs.NameLemmas.{equal_if_same}
-use Rattle.state_rules.specs.Systems.{System, all_diagnoses}
-use Rattle.device_model.specs.Devices.{place_of}
-use Rattle.script_lang.specs.Script.{Line, Blank, Refused, Ask, Request, Start, Stop, Note, Tell, Next, Several, After, Dnnf, Level, Levels, LeastNnf, line_of}
+use Rattle.state_rules.specs.Systems.{System}
+use Rattle.script_lang.specs.Script.{Line, Blank, Refused, Ask, Request, Start, line_of}
 use Rattle.session_rules.specs.declared.refusal.Refusal.{Refusal}
-use Rattle.session_rules.specs.declared.refusal.Refusal.TheVariants.{OpenAlready, Full, NoPart, NoLevels, NoLeast}
+use Rattle.session_rules.specs.declared.refusal.Refusal.TheVariants.{OpenAlready, Full}
 use Rattle.session_rules.specs.Refusals.{refusal_row}
 use Rattle.session_rules.specs.Items.{Item, Plain, Projected, LeastText, Whole, line}
-use Rattle.session_rules.specs.Replies.{next_of, level_of, listing, point_after, told, least_item}
-use Rattle.session_rules.specs.Sessions.{Table, Entry, Outcome, Declined, carried, step, entry_of, outcome, when_open, with_number, becomes, tells, tells_lines, goes_to, goes_through, names_of, no_such, with_noted, state_of, new_entry}
+use Rattle.session_rules.specs.Sessions.{Table, Entry, Declined, carried, step, entry_of, outcome, when_open, becomes, new_entry}
 use Rattle.session_rules.specs.Moves.{line_step}
 use Rattle.session_rules.specs.Alone.{Answer, lines_of, dialogue, names_session, closes_session, own_answers, Opens, AreAnsweredAlone}
 use Rattle.session_rules.proofs.Locality.{after_outcome, same_as_itself, own_step, others-stay}
 
 -- ---- an open session stays open until it is closed
 
--- so its entry becomes another at most
-abbrev StaysOpen : Outcome → Entry → Type 0
-StaysOpen o entry = (new : Entry) × (after_outcome o (Some entry) ≡ Some new)
+when_open-open : (system : System) (s : Name) (entry : Entry) (request : Request) → closes_session s (Ask s request) ≡ false → is_some (after_outcome (when_open system s entry request) (Some entry)) ≡ true
+when_open-open system s entry request goes = grind (arith, same_as_itself)
 
-with_number-open : (entry : Entry) (refusal : Refusal) (act : ℕ → Outcome) (place : Option ℕ) → ((i : ℕ) → StaysOpen (act i) entry) → StaysOpen (with_number refusal act place) entry
-with_number-open entry refusal act None each = (entry, refl)
-with_number-open entry refusal act (Some i) each = each i
-
-either-open : (entry : Entry) (test : Bool) (one other : Outcome) → StaysOpen one entry → StaysOpen other entry → StaysOpen (if test then one else other) entry
-either-open entry true one other first second = first
-either-open entry false one other first second = second
-
-told-open : (entry : Entry) (lines : Result (List (List (List ℕ))) Refusal) → StaysOpen (tells_lines lines) entry
-told-open entry (Ok lines) = (entry, refl)
-told-open entry (Err refusal) = (entry, refl)
-
-when_open-open : (system : System) (s : Name) (entry : Entry) (request : Request) → closes_session s (Ask s request) ≡ false → StaysOpen (when_open system s entry request) entry
-when_open-open system s entry Start goes = (entry, refl)
-when_open-open system s entry Stop goes = absurd (let closes = same_as_itself s in let never : ⊥ = cc in never)
-when_open-open system s entry (Note what name bit) goes =
-    with_number-open entry (no_such what) (λ i. becomes s (with_noted entry what i bit) (codes "ok")) (place_of name (names_of system what)) (λ i. (with_noted entry what i bit, refl))
-when_open-open system s entry (Tell question) goes = told-open entry (told system s entry.known question)
-when_open-open system s entry Next goes = (record entry { point = (next_of system s (all_diagnoses system entry.known) entry.point).point }, refl)
-when_open-open system s entry (Several count) goes =
-    let found = listing (next_of system s (all_diagnoses system entry.known)) count entry.point in
-    (record entry { point = point_after entry.point found }, refl)
-when_open-open system s entry (After names) goes =
-    either-open entry (list_all (λ name. is_among system.parts name) names) (becomes s (record entry { point = Some (state_of names system.parts) }) (codes "ok")) (Declined NoPart)
-    (record entry { point = Some (state_of names system.parts) }, refl) (entry, refl)
-when_open-open system s entry Dnnf goes = (entry, refl)
-when_open-open system s entry Level goes =
-    let level = λ (top : ℕ). level_of system s top (system.consistent entry.known) entry.point in
-    with_number-open entry NoLevels (λ top. goes_to entry (level top)) system.extras.levels (λ top. (record entry { point = (level top).point }, refl))
-when_open-open system s entry (Levels count) goes =
-    let found = λ (top : ℕ). listing (level_of system s top (system.consistent entry.known)) count entry.point in
-    with_number-open entry NoLevels (λ top. goes_through entry (found top)) system.extras.levels (λ top. (record entry { point = point_after entry.point (found top) }, refl))
-when_open-open system s entry LeastNnf goes =
-    either-open entry system.extras.least (tells (line (s ∷ codes "leastnnf" ∷ []) ∷ least_item system entry.known ∷ [])) (Declined NoLeast) (entry, refl) (entry, refl)
+entry_there : (o : Option Entry) → is_some o ≡ true → (entry : Entry) × (o ≡ Some entry)
+entry_there None some = absurd (let never : ⊥ = cc in never)
+entry_there (Some entry) some = (entry, refl)
 
 -- ---- a refusal is no opening
 
@@ -85,9 +50,6 @@ module _ (system : System) (limit : ℕ) (s : Name) where
   abbrev Both : Table → Table → Type 0
   Both t u = (entry : Entry) × (entry_of s t ≡ Some entry) × (entry_of s u ≡ Some entry)
 
-  outcome-open : (m : ℕ) (request : Request) (t : Table) (entry : Entry) → entry_of s t ≡ Some entry → outcome system s (nat_le m (length t)) (entry_of s t) request ≡ when_open system s entry request
-  outcome-open m request t entry is = ap (λ e. outcome system s (nat_le m (length t)) e request) is
-
   -- an open session is answered the same from both tables
   answered_same : (request : Request) (t u : Table) → Both t u → (step system limit t (Ask s request)).items ≡ (step system 1 u (Ask s request)).items
   answered_same request t u (entry, a, b) = grind arith
@@ -97,7 +59,9 @@ module _ (system : System) (limit : ℕ) (s : Name) where
   left m request t entry is = grind (arith, own_step)
 
   still : (request : Request) (t u : Table) → Both t u → closes_session s (Ask s request) ≡ false → Both (step system limit t (Ask s request)).table (step system 1 u (Ask s request)).table
-  still request t u (entry, a, b) goes = grind (arith, when_open-open system s entry request goes, left limit request t entry a, left 1 request u entry b)
+  still request t u (entry, a, b) goes =
+      let new = entry_there (after_outcome (when_open system s entry request) (Some entry)) (when_open-open system s entry request goes) in
+      (new.0, left limit request t entry a ∙ new.1, left 1 request u entry b ∙ new.1)
 
   the_request : (l : Line) → names_session s l ≡ true → (request : Request) × (l ≡ Ask s request)
   the_request Blank e = absurd (let never : ⊥ = cc in never)

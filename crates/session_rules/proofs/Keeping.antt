@@ -1,5 +1,5 @@
 -- What is answered keeps a place for each wire and each part in every case.
-use Rattle.std.proofs.Common.{◌≡◌, ℕ, Bool, List, [], length, Result, ap, sym, ◌∙◌, Option, Some, None, Equal, arith}
+use Rattle.std.proofs.Common.{◌≡◌, ℕ, Bool, [], length, ap, sym, ◌∙◌, Option, Some, None, Equal, arith}
 use Rattle.std.specs.Prelude.{cond, not, nat_le, if◌then◌else◌}
 use Rattle.std.specs.Ordering.{nat_cmp, is_eq}
 use Rattle.std.specs.Cmp.Lexicographic.{slice_cmp}
@@ -14,7 +14,7 @@ use Rattle.state_rules.specs.Systems.{System}
 use Rattle.script_lang.specs.Script.{Line, Blank, Refused, Ask, Request}
 use Rattle.script_lang.specs.declared.line.Noted.{Noted}
 use Rattle.session_rules.specs.declared.refusal.Refusal.{Refusal}
-use Rattle.session_rules.specs.Sessions.{Entry, Table, Outcome, Declined, Done, Change, Stays, Becomes, Ends, entry_of, without, changed, carried, when_open, outcome, outcome_in, with_number, tells_lines, step, noted, new_entry}
+use Rattle.session_rules.specs.Sessions.{Entry, Table, Outcome, Declined, Done, Change, Stays, Becomes, Ends, entry_of, without, changed, carried, when_open, outcome, outcome_in, with_number, step, noted, new_entry}
 use Rattle.session_rules.specs.CaseSizes.{IsCaseOf, HasCasesOf}
 
 -- the empty table has no case
@@ -44,9 +44,6 @@ module _ (system : System) where
 
   chosen : (b : Bool) (one other : Outcome) → Keeps system one → Keeps system other → Keeps system (if b then one else other)
   chosen b one other h k = grind arith
-
-  told-keeps : (lines : Result (List (List (List ℕ))) Refusal) → Keeps system (tells_lines lines)
-  told-keeps lines = grind arith
 
   noted-keeps : (what : Noted) (known : Case) (i : ℕ) (bit : Option Bool) → IsCaseOf system known → IsCaseOf system (noted what known i bit)
   noted-keeps what known i bit h = grind (arith, length-set)

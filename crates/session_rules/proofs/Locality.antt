@@ -1,5 +1,5 @@
 -- A line hangs on the entry of the session that it names, and leaves every other.
-use Rattle.std.proofs.Common.{◌≡◌, ℕ, Bool, true, false, cond, refl, ap, ◌∙◌, Some, None, Option, arith}
+use Rattle.std.proofs.Common.{◌≡◌, ℕ, true, false, cond, refl, ap, ◌∙◌, Some, None, Option, arith}
 use Rattle.std.specs.Ordering.{nat_cmp}
 use Rattle.std.specs.Cmp.Lexicographic.{slice_cmp}
 use Rattle.std.specs.FinMap.Entries.{find-put}
@@ -8,8 +8,8 @@ use Rattle.std.proofs.lemmas.Map.Text.{is_eq-slice_cmp}
 use Rattle.text_rules.specs.Names.{Name, same_name}
 use Rattle.text_rules.proofs.NameLemmas.{equal_if_same, same_if_equal}
 use Rattle.state_rules.specs.Systems.{System}
-use Rattle.script_lang.specs.Script.{Line, Blank, Refused, Ask, Request, Start}
-use Rattle.session_rules.specs.Sessions.{Table, Entry, Change, Stays, Becomes, Ends, Outcome, Declined, Done, changed, carried, step, entry_of, outcome, outcome_in}
+use Rattle.script_lang.specs.Script.{Line, Blank, Refused, Ask, Request}
+use Rattle.session_rules.specs.Sessions.{Table, Entry, Change, Stays, Becomes, Ends, Outcome, Declined, Done, changed, carried, step, entry_of, outcome_in}
 use Rattle.session_rules.specs.Alone.{names_session, LooksSame, IsItsOwn}
 use Rattle.session_rules.proofs.Keeping.{entry_of-without}
 
@@ -40,10 +40,6 @@ own_change s change table = grind (arith, entry_of-with, same_as_itself, entry_o
 pub own_step : (s : Name) (o : Outcome) (table : Table) → entry_of s (carried table s o).table ≡ after_outcome o (entry_of s table)
 own_step s o table = grind (arith, own_change)
 
--- and what is said does not hang on the table
-pub own_items : (s : Name) (o : Outcome) (one other : Table) → (carried one s o).items ≡ (carried other s o).items
-own_items s o one other = grind arith
-
 other_change : (r s : Name) (change : Change) (table : Table) → same_name r s ≡ false → entry_of r (changed s change table) ≡ entry_of r table
 other_change r s change table e = grind (arith, entry_of-with, entry_of-without)
 
@@ -51,10 +47,6 @@ other_outcome : (r s : Name) (o : Outcome) (table : Table) → same_name r s ≡
 other_outcome r s o table e = grind (arith, other_change)
 
 module _ (system : System) where
-  -- room is asked for where a session opens
-  outcome-room : (s : Name) (full filled : Bool) (entry : Option Entry) (request : Request) → (request ≡ Start → full ≡ filled) → outcome system s full entry request ≡ outcome system s filled entry request
-  outcome-room s full filled entry request same = grind arith
-
   module _ (limit : ℕ) where
     outcome-same : (s : Name) (request : Request) (one other : Table) → LooksSame limit (Ask s request) one other → outcome_in system limit one s request ≡ outcome_in system limit other s request
     outcome-same s request one other looks = grind (arith, same_as_itself)

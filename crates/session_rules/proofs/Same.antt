@@ -1,18 +1,15 @@
--- Two systems of the same names and costs, whose consistent states are the same for each case of theirs, answer alike if they
--- say the same of the graphs that they are asked for.
-use Rattle.std.proofs.Common.{◌≡◌, ℕ, suc, ◌+◌, Bool, List, [], ◌∷◌, length, refl, ap, ap₂, Option, Some, None, Ok, arith}
-use Rattle.std.specs.Prelude.{codes}
+-- Two systems that differ in their consistent states alone, which are the same for each case of theirs, answer alike.
+use Rattle.std.proofs.Common.{◌≡◌, ℕ, suc, ◌+◌, Bool, List, [], ◌∷◌, refl, ap, ap₂, Option, Some, None, Ok, arith}
 use Rattle.std.proofs.lemmas.List.{length-set}
 use Rattle.text_rules.specs.Names.{Name}
 use Rattle.state_rules.specs.Cases.{Case}
 use Rattle.state_rules.specs.Ranking.{diagnoses}
-use Rattle.state_rules.specs.Systems.{System, Texts}
-use Rattle.script_lang.specs.Script.{Line, Blank, Refused, Ask, Request, Start, Stop, Note, Tell, Next, Several, After, Question, Dnnf, Level, Levels, LeastNnf, line_of}
-use Rattle.script_lang.specs.declared.line.Noted.TheVariants.{Wire, Part}
-use Rattle.session_rules.specs.Items.{Projected, LeastText, line, graph_item}
-use Rattle.session_rules.specs.Replies.{Found, next_of, level_of, listing, least_at, probe_line, probe_lines, probe_told, if_any, told, dnnf_item, least_item}
-use Rattle.session_rules.specs.Sessions.{Entry, Table, Step, entry_of, when_open, outcome, tells, tells_lines, goes_through, step, replies}
-use Rattle.session_rules.specs.Moves.{left_by, listing_moves, next_for, level_for, level_moves, moves, line_moves, script_moves}
+use Rattle.state_rules.specs.Systems.{System}
+use Rattle.script_lang.specs.Script.{Line, Blank, Refused, Ask, Request, Several, Question, Levels, line_of}
+use Rattle.session_rules.specs.declared.refusal.Refusal.TheVariants.{NoLevels}
+use Rattle.session_rules.specs.Replies.{next_of, listing, least_at, probe_line, probe_lines, probe_told, if_any, told, level_of}
+use Rattle.session_rules.specs.Sessions.{Entry, Table, Step, when_open, outcome, goes_through, step, replies, with_number}
+use Rattle.session_rules.specs.Moves.{left_by, level_moves, moves, line_moves, script_moves}
 use Rattle.session_rules.specs.CaseSizes.{IsCaseOf, HasCasesOf}
 use Rattle.session_rules.proofs.Keeping.{step-keeps}
 use Rattle.session_rules.proofs.Whole.{line_moves-whole, said-replies}
@@ -23,16 +20,10 @@ module _ (one other : Table → List ℕ → List Step) (Holds : Table → Type 
   moves_of_lines-same t [] h = refl
   moves_of_lines-same t (l ∷ ls) h = grind (arith, moves_of_lines-same (left_by t (one t l)) ls (kept t l h))
 
-module _ (system : System) (consistent : Case → List (List Bool)) (texts : Texts) (same : (known : Case) → IsCaseOf system known → system.consistent known ≡ consistent known) where
-  -- the system with the other states and texts
+module _ (system : System) (consistent : Case → List (List Bool)) (same : (known : Case) → IsCaseOf system known → system.consistent known ≡ consistent known) where
+  -- the system with the other states
   abbrev other : System
-  other = record system { consistent = consistent; texts = texts }
-
-  -- a graph that is asked for is the same
-  abbrev pub HaveSameGraph : Request → Case → Type 0
-  HaveSameGraph Dnnf known = dnnf_item system known ≡ dnnf_item other known
-  HaveSameGraph LeastNnf known = least_item system known ≡ least_item other known
-  HaveSameGraph request known = Unit {0}
+  other = record system { consistent = consistent }
 
   least_at-same : (known : Case) (wire : ℕ) (bit : Bool) (seen : Option Bool) → IsCaseOf system known → least_at system known wire bit seen ≡ least_at other known wire bit seen
   least_at-same known wire bit seen h = grind (arith, length-set)
@@ -52,75 +43,40 @@ module _ (system : System) (consistent : Case → List (List Bool)) (texts : Tex
   told-same : (s : Name) (known : Case) (question : Question) → IsCaseOf system known → told system s known question ≡ told other s known question
   told-same s known question h = grind (arith, probe_told-same, probe_lines-same)
 
-  when_open-same : (s : Name) (entry : Entry) (request : Request) → IsCaseOf system entry.known → HaveSameGraph request entry.known → when_open system s entry request ≡ when_open other s entry request
-  when_open-same s entry Start h g = refl
-  when_open-same s entry Stop h g = refl
-  when_open-same s entry (Note Wire name bit) h g = refl
-  when_open-same s entry (Note Part name bit) h g = refl
-  when_open-same s entry (Tell question) h g = ap tells_lines (told-same s entry.known question h)
-  when_open-same s entry Next h g = grind arith
-  when_open-same s entry (Several count) h g =
+  when_open-same : (s : Name) (entry : Entry) (request : Request) → IsCaseOf system entry.known → when_open system s entry request ≡ when_open other s entry request
+  when_open-same s entry (Several count) h =
       ap (λ hs. goes_through entry (listing (next_of system s (diagnoses system.costs hs)) count entry.point)) (same entry.known h)
-  when_open-same s entry (After names) h g = refl
-  when_open-same s entry Dnnf h g = ap (λ item. tells (line (s ∷ codes "dnnf" ∷ []) ∷ item ∷ [])) g
-  when_open-same s entry Level h g = grind arith
-  when_open-same s entry (Levels count) h g = grind arith
-  when_open-same s entry LeastNnf h g = grind arith
+  when_open-same s entry (Levels count) h =
+      ap (λ hs. with_number NoLevels (λ top. goes_through entry (listing (level_of system s top hs) count entry.point)) system.extras.levels) (same entry.known h)
+  when_open-same s entry request h = grind (arith, told-same)
 
-  outcome-same : (s : Name) (full : Bool) (entry : Option Entry) (request : Request) → ((e : Entry) → entry ≡ Some e → IsCaseOf system e.known × HaveSameGraph request e.known)
+  outcome-same : (s : Name) (full : Bool) (entry : Option Entry) (request : Request) → ((e : Entry) → entry ≡ Some e → IsCaseOf system e.known)
       → outcome system s full entry request ≡ outcome other s full entry request
   outcome-same s full entry request h = grind (arith, when_open-same)
 
-  -- the graph that a line asks for is the same for each open session
-  abbrev pub AsksForSame : Table → Line → Type 0
-  AsksForSame table (Ask s request) = (entry : Entry) → entry_of s table ≡ Some entry → HaveSameGraph request entry.known
-  AsksForSame table line = Unit {0}
-
   -- a line is one step in both
-  step-same : (limit : ℕ) (table : Table) (l : Line) → HasCasesOf system table → AsksForSame table l → step system limit table l ≡ step other limit table l
-  step-same limit table Blank h g = refl
-  step-same limit table (Refused refusal) h g = refl
-  step-same limit table (Ask s request) h g = grind (arith, outcome-same)
-
-  -- a listing by steps that are the same for the entry there
-  listing_moves-same : (next step : Entry → Option (List Bool) → Found) (table : Table) (s : Name) (count : ℕ) (entry : Option Entry) → ((e : Entry) → entry ≡ Some e → next e ≡ step e)
-      → listing_moves next table s count entry ≡ listing_moves step table s count entry
-  listing_moves-same next step table s count entry e = grind arith
-
-  next_for-same : (s : Name) (entry : Entry) → IsCaseOf system entry.known → next_for system s entry ≡ next_for other s entry
-  next_for-same s entry h = ap (λ hs. next_of system s (diagnoses system.costs hs)) (same entry.known h)
-
-  level_for-same : (s : Name) (top : ℕ) (entry : Entry) → IsCaseOf system entry.known → level_for system s top entry ≡ level_for other s top entry
-  level_for-same s top entry h = ap (level_of system s top) (same entry.known h)
+  step-same : (limit : ℕ) (table : Table) (l : Line) → HasCasesOf system table → step system limit table l ≡ step other limit table l
+  step-same limit table Blank h = refl
+  step-same limit table (Refused refusal) h = refl
+  step-same limit table (Ask s request) h = grind (arith, outcome-same)
 
   level_moves-same : (limit : ℕ) (table : Table) (s : Name) (count : ℕ) (levels : Option ℕ) → HasCasesOf system table → level_moves system limit table s count levels ≡ level_moves other limit table s count levels
-  level_moves-same limit table s count None h = ap (λ (move : Step). move ∷ []) (step-same limit table (Ask s (Levels count)) h (λ e there. tt))
+  level_moves-same limit table s count None h = ap (λ (move : Step). move ∷ []) (step-same limit table (Ask s (Levels count)) h)
   level_moves-same limit table s count (Some top) h = grind arith
 
-  pub moves-same : (limit : ℕ) (table : Table) (l : Line) → HasCasesOf system table → AsksForSame table l → moves system limit table l ≡ moves other limit table l
-  moves-same limit table (Ask s (Several (suc n))) h g = grind arith
-  moves-same limit table (Ask s (Levels (suc n))) h g = level_moves-same limit table s (suc n) system.extras.levels h
-  moves-same limit table l h g = ap (λ (move : Step). move ∷ []) (step-same limit table l h g)
-
--- Where both leave the texts of graphs open, or say the same, so it is with all lines.
-module _ (system : System) (consistent : Case → List (List Bool)) (same : (known : Case) → IsCaseOf system known → system.consistent known ≡ consistent known) where
-  abbrev with_states : System
-  with_states = record system { consistent = consistent }
-
-  all_same : (table : Table) (l : Line) → HasCasesOf system table → AsksForSame system consistent system.texts same table l
-  all_same table (Ask s Dnnf) h = λ e there. ap (λ hs. graph_item system.texts.dnnf e.known (Projected (length system.parts) hs)) (same e.known (h s e there))
-  all_same table (Ask s LeastNnf) h = λ e there. ap (λ hs. graph_item system.texts.least e.known (LeastText (length system.parts) (diagnoses system.costs hs))) (same e.known (h s e there))
-  all_same table (Ask s request) h = λ e there. tt
-  all_same table l h = tt
+  moves-same : (limit : ℕ) (table : Table) (l : Line) → HasCasesOf system table → moves system limit table l ≡ moves other limit table l
+  moves-same limit table (Ask s (Several (suc n))) h = grind arith
+  moves-same limit table (Ask s (Levels (suc n))) h = level_moves-same limit table s (suc n) system.extras.levels h
+  moves-same limit table l h = ap (λ (move : Step). move ∷ []) (step-same limit table l h)
 
   line_moves-keep : (limit : ℕ) (table : Table) (bytes : List ℕ) → HasCasesOf system table → HasCasesOf system (left_by table (line_moves system limit table bytes))
   line_moves-keep limit table bytes h = grind (arith, line_moves-whole, step-keeps)
 
   -- the moves of a script are the same in both
   pub script_moves-same : (limit : ℕ) (table : Table) (lines : List (List ℕ)) → HasCasesOf system table
-      → script_moves (line_moves system limit) table lines ≡ script_moves (line_moves with_states limit) table lines
-  script_moves-same limit = moves_of_lines-same _ _ (HasCasesOf system) (line_moves-keep limit) (λ t l h. moves-same system consistent system.texts same limit t (line_of l) h (all_same t (line_of l) h))
+      → script_moves (line_moves system limit) table lines ≡ script_moves (line_moves other limit) table lines
+  script_moves-same limit = moves_of_lines-same _ _ (HasCasesOf system) (line_moves-keep limit) (λ t l. moves-same limit t (line_of l))
 
   -- and so are its replies
-  pub replies-same : (limit : ℕ) (table : Table) (lines : List (List ℕ)) → HasCasesOf system table → replies system limit table lines ≡ replies with_states limit table lines
-  replies-same limit table lines h = grind (arith, said-replies system limit table lines, said-replies with_states limit table lines, script_moves-same limit table lines h)
+  pub replies-same : (limit : ℕ) (table : Table) (lines : List (List ℕ)) → HasCasesOf system table → replies system limit table lines ≡ replies other limit table lines
+  replies-same limit table lines h = grind (arith, said-replies system limit table lines, said-replies other limit table lines, script_moves-same limit table lines h)

@@ -5,8 +5,8 @@ use Rattle.state_rules.specs.Systems.{System}
 use Rattle.script_lang.specs.Script.{Line, Ask, Several, Levels, line_of}
 use Rattle.session_rules.specs.declared.refusal.Refusal.TheVariants.{NoSession}
 use Rattle.session_rules.specs.Replies.{Found, listing, point_after}
-use Rattle.session_rules.specs.Sessions.{Table, Entry, Step, Outcome, Declined, goes_through, with_entry, carried, outcome, step, replies}
-use Rattle.session_rules.specs.Moves.{said, left_by, whole, goes_on, listing_moves, next_for, level_for, level_moves, moves, line_moves, script_moves}
+use Rattle.session_rules.specs.Sessions.{Table, Entry, Step, Outcome, Declined, goes_through, with_entry, carried, step, replies}
+use Rattle.session_rules.specs.Moves.{said, left_by, whole, goes_on, listing_moves, level_moves, moves, line_moves, script_moves}
 
 one_move : (table : Table) (s : Step) → whole table (s ∷ []) ≡ s
 one_move table s = ap (λ items. record { table = s.table; items = items }) (append-nil s.items)
@@ -31,14 +31,6 @@ listing_moves-whole : (next : Entry → Option (List Bool) → Found) (table : T
     → whole table (listing_moves next table session (suc n) entry) ≡ carried table session (listed next (suc n) entry)
 listing_moves-whole next table session n None = one_move table _
 listing_moves-whole next table session n (Some entry) = goes_on-whole table session entry (next entry entry.point) _ table
-
-several-listed : (system : System) (session : Name) (full : Bool) (count : ℕ) (entry : Option Entry)
-    → listed (next_for system session) count entry ≡ outcome system session full entry (Several count)
-several-listed system session full count entry = grind arith
-
-levels-listed : (system : System) (session : Name) (full : Bool) (count top : ℕ) (entry : Option Entry) → system.extras.levels ≡ Some top
-    → listed (level_for system session top) count entry ≡ outcome system session full entry (Levels count)
-levels-listed system session full count top entry is = grind arith
 
 level_moves-whole : (system : System) (limit : ℕ) (table : Table) (session : Name) (n : ℕ) (levels : Option ℕ) → system.extras.levels ≡ levels
     → whole table (level_moves system limit table session (suc n) levels) ≡ step system limit table (Ask session (Levels (suc n)))

@@ -230,7 +230,7 @@ impl Desk {
         NextState::of_level_step(step)
     }
 
-    /// Writes the graph of the diagnoses, where it is told.
+    /// Writes the graph of the diagnoses.
     pub(crate) fn write_least<O: Sink>(&mut self, out: &mut O) -> Result<(), WriteFailed>
         requires told { self.old.subject.extras.least ≡ true }
         ensures text { Puts (O.got out.old) (O.got out.new) result

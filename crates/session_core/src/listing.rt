@@ -1,12 +1,11 @@
 //! Requests that move the point of a session.
-ghost use Rattle.std.specs.Prelude.{◌≡◌, ◌<◌, Some, length, true, if◌then◌else◌};
-ghost use Rattle.std.specs.List.{list_all};
-ghost use Rattle.text_rules.specs.Names.{Name, is_among};
+ghost use Rattle.std.specs.Prelude.{◌≡◌, ◌<◌, length, true};
+ghost use Rattle.text_rules.specs.Names.{Name};
 ghost use Rattle.text_rules.specs.Tokens.{words};
 ghost use Rattle.diag_edge.specs.Edge.{HasCause};
 ghost use Rattle.conditioner.specs.Words.{bits_of};
 ghost use Rattle.script_lang.specs.Script.{After};
-ghost use Rattle.session_rules.specs.Sessions.{Entry, state_of, with_entry};
+ghost use Rattle.session_rules.specs.Sessions.{Entry};
 ghost use Rattle.session_rules.specs.Carrying.{CarriesOut};
 ghost use Rattle.session_table.specs.Tables.{StandsAt};
 ghost use Rattle.session_core.specs.Services.{ChangesTable};

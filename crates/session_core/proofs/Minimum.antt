@@ -1,8 +1,7 @@
 -- The line of `min`.
-use Rattle.std.proofs.Common.{◌≡◌, ◌≢◌, ℕ, ◌<◌, ◌≤◌, min, Bool, true, false, cond, List, [], ◌∷◌, Option, Some, None, refl, sym, ◌∙◌, ap, codes, arith, ⊎_elim}
+use Rattle.std.proofs.Common.{◌≡◌, ◌≢◌, ℕ, ◌≤◌, Bool, cond, List, [], ◌∷◌, Option, Some, None, refl, sym, ◌∙◌, ap, codes, arith}
 use Rattle.std.specs.Prelude.{decimal, nat_le}
 use Rattle.std.specs.List.{filter}
-use Rattle.std.proofs.lemmas.Bool.{le-leb, cases_lt}
 use Rattle.text_rules.specs.Names.{Name}
 use Rattle.state_rules.specs.Ranking.{cost, least, least_with, is_at_most, diagnoses}
 use Rattle.state_rules.specs.Systems.{System}
@@ -15,23 +14,11 @@ use Rattle.session_core.specs.inner.Texts.{min_text}
 pub no_diagnosis : (costs : List ℕ) (hs : List (List Bool)) → least costs hs ≡ None → diagnoses costs hs ≡ []
 no_diagnosis costs hs none = ap (λ (o : Option ℕ). filter (λ h. is_at_most (cost costs h) o) hs) none ∙ filter-never hs
 
-above_high : (c k m : ℕ) → nat_le c m ≡ false → min c k ≤ m → k ≤ m
-above_high c k m e h = ⊎_elim
-    (λ (above : m < c). omega arith)
-    (λ (low : c ≤ m). absurd (let never : true ≡ false = sym (le-leb c m low) ∙ e in let no : ⊥ = cc in no))
-    (cases_lt m c)
-
-not_low : (c m : ℕ) → nat_le c m ≡ false → c ≤ m → ⊥
-not_low c m e low = let never : true ≡ false = sym (le-leb c m low) ∙ e in cc
-
 low_next : (costs : List ℕ) (m n : ℕ) (h : List Bool) (hs : List (List Bool)) (o : Option ℕ)
     → ((k : ℕ) → o ≡ Some k → k ≤ m → filter (λ k. nat_le (cost costs k) m) hs ≡ [] → ⊥)
     → least_with (cost costs h) o ≡ Some n → n ≤ m → (b : Bool) → nat_le (cost costs h) m ≡ b
     → cond b (h ∷ filter (λ k. nat_le (cost costs k) m) hs) (filter (λ k. nat_le (cost costs k) m) hs) ≡ [] → ⊥
-low_next costs m n h hs o more e low true q r = cc
-low_next costs m n h hs None more e low false q r = let same : cost costs h ≡ n = cc in not_low (cost costs h) m q (omega arith)
-low_next costs m n h hs (Some k) more e low false q r =
-    let same : min (cost costs h) k ≡ n = cc in more k refl (above_high (cost costs h) k m q (omega arith)) r
+low_next costs m n h hs o more e low b q r = grind arith
 
 -- where the least cost is at most a number, some state's is
 some_low : (costs : List ℕ) (n m : ℕ) (hs : List (List Bool)) → least costs hs ≡ Some n → n ≤ m → filter (λ h. nat_le (cost costs h) m) hs ≡ [] → ⊥
@@ -46,8 +33,7 @@ some_diagnosis costs n hs e none =
 
 by_first : (system : System) (session : Name) (n : ℕ) (ds : List (List Bool)) (state : List Bool) → ds ≢ [] → IsFirst state ds
     → session ∷ codes "min" ∷ decimal n ∷ faulty_names system.parts state ≡ min_line system session (Some n) ds
-by_first system session n [] state some first = absurd (some refl)
-by_first system session n (d ∷ ds) state some first = ap (λ h. session ∷ codes "min" ∷ decimal n ∷ faulty_names system.parts h) first
+by_first system session n ds state some first = grind arith
 
 -- The line has the least cost and the first diagnosis.
 pub min_line-is : (system : System) (session : Name) (hs : List (List Bool)) (state : List Bool) (fewest : Option ℕ) → fewest ≡ least system.costs hs

@@ -24,15 +24,15 @@ use std::alloc::{AllocError, Global};
 use std::marker::Model;
 
 /// What sessions ask over, which no line changes: the names of parts and wires, what the failure of each part costs, a graph whose
-/// variables are the parts, the wires, and inner ones, and what is told besides.
+/// variables are the parts, the wires, and inner ones, and the extras.
 pub(crate) struct Basis {
     parts: Vec<Name>,
     wires: Vec<Name>,
     costs: Vec<u32>,
     graph: Graph,
-    // what lists states by rising cost, where these are told
+    // what lists states by rising cost, if these are listed
     levels: Option<Levels>,
-    // what the graph of the diagnoses is drawn with, where it is told and nothing else keeps it
+    // what the graph of the diagnoses is drawn with, if it is written and nothing else keeps it
     sets: Option<PartSets>,
     least: bool,
 }
@@ -156,7 +156,7 @@ impl Basis {
         }
     }
 
-    /// What lists states by rising cost, where they are told.
+    /// What lists states by rising cost, if they are listed.
     pub(crate) fn levels(&self) -> Option<&Levels>
         ensures none { IsNone result → self.now.extras.levels ≡ None }
         ensures some { IfSome result (λ levels. (self.now.extras.levels ≡ Some levels.now.top)
@@ -187,7 +187,7 @@ impl Basis {
         }
     }
 
-    /// Whether the graph of the diagnoses is told.
+    /// Whether the graph of the diagnoses is written.
     pub(crate) fn tells_least(&self) -> bool
         ensures { result ≡ self.now.extras.least }
     {
@@ -246,7 +246,7 @@ impl Basis {
     }
 }
 
-// What lists states by rising cost, where they are told.
+// What lists states by rising cost, if they are listed.
 fn levels_of(
     alloc: Global,
     graph: &Graph,
@@ -267,7 +267,7 @@ fn levels_of(
     }
 }
 
-// The sets of parts, where the graph of the diagnoses is told and what lists states does not keep them.
+// The sets of parts, if the graph of the diagnoses is written and what lists states does not keep them.
 fn sets_of(
     alloc: Global,
     graph: &Graph,

@@ -161,26 +161,11 @@ impl Desk {
         ensures stays { self.new ≡ record self.old { state = self.new.state } }
     {
         match listed {
-            Listed::Diagnoses => self.next_diagnosis(point, steps),
             Listed::Levels => self.next_level(point, steps),
-        }
-    }
-
-    // The same of the diagnoses.
-    fn next_diagnosis<L: Ledger>(
-        &mut self,
-        point: Option<&[u32]>,
-        steps: &mut Steps<L>,
-    ) -> NextState
-        requires { IfSome point (λ old. (length old.now ≡ length self.old.subject.parts) × All (λ s. s < 2) old.now) }
-        ensures next { result ≡ next_after self.old.subject Listed.Diagnoses (asked_case self.old) (option_map (λ old. bits_of old.now) point.entry) }
-        ensures state { IsFirst (bits_of self.new.state)
-            (later_states self.old.subject Listed.Diagnoses (asked_case self.old) (option_map (λ old. bits_of old.now) point.entry)) }
-        ensures stays { self.new ≡ record self.old { state = self.new.state } }
-    {
-        match point {
-            None => self.begin(steps),
-            Some(old) => self.go_on(old, steps),
+            Listed::Diagnoses => match point {
+                None => self.begin(steps),
+                Some(old) => self.go_on(old, steps),
+            },
         }
     }
 
@@ -245,7 +230,7 @@ impl Desk {
         NextState::of_level_step(step)
     }
 
-    /// Writes the graph of the diagnoses, where it is told.
+    /// Writes the graph of the diagnoses.
     pub(crate) fn write_least<O: Sink>(&mut self, out: &mut O) -> Result<(), WriteFailed>
         requires told { self.old.subject.extras.least ≡ true }
         ensures text { Puts (O.got out.old) (O.got out.new) result

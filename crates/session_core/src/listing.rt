@@ -1,12 +1,11 @@
 //! Requests that move the point of a session.
-ghost use Rattle.std.specs.Prelude.{◌≡◌, ◌<◌, Some, length, true, if◌then◌else◌};
-ghost use Rattle.std.specs.List.{list_all};
-ghost use Rattle.text_rules.specs.Names.{Name, is_among};
+ghost use Rattle.std.specs.Prelude.{◌≡◌, ◌<◌, length, true};
+ghost use Rattle.text_rules.specs.Names.{Name};
 ghost use Rattle.text_rules.specs.Tokens.{words};
 ghost use Rattle.diag_edge.specs.Edge.{HasCause};
 ghost use Rattle.conditioner.specs.Words.{bits_of};
 ghost use Rattle.script_lang.specs.Script.{After};
-ghost use Rattle.session_rules.specs.Sessions.{Entry, state_of, with_entry};
+ghost use Rattle.session_rules.specs.Sessions.{Entry};
 ghost use Rattle.session_rules.specs.Carrying.{CarriesOut};
 ghost use Rattle.session_table.specs.Tables.{StandsAt};
 ghost use Rattle.session_core.specs.Services.{ChangesTable};
@@ -154,27 +153,10 @@ impl Sessions {
             (O.got out.old) (O.got out.new) result }
         ensures cause { HasCause (O.faults out.old) (O.faults out.new) result }
     {
-        if self.point_at(session.place, names) {
-            put_line(out, &[session.name, b"ok"])
-        } else {
-            put_refusal(out, session.name, Refusal::NoPart)
-        }
-    }
-
-    // Moves the point of the session at a place to the state whose faulty parts are those named, if all of these are parts.
-    fn point_at(&mut self, place: usize, names: &[u8]) -> bool
-        requires { place < length self.old.table }
-        ensures named { result ≡ list_all (is_among self.old.subject.parts) (words names.now) }
-        ensures point { (session : Name) (entry : Entry) → StandsAt self.old.table place session entry
-            → self.new ≡ (if result then record self.old {
-              table = with_entry session
-                  (record entry { point = Some (state_of (words names.now) self.old.subject.parts) }) self.old.table;
-            } else self.old) }
-    {
         if !self.desk.mark(names) {
-            return false;
+            return put_refusal(out, session.name, Refusal::NoPart);
         }
-        self.open.set_point(place, self.desk.state());
-        true
+        self.open.set_point(session.place, self.desk.state());
+        put_line(out, &[session.name, b"ok"])
     }
 }

@@ -173,7 +173,7 @@ fn add_back<O: Sink>(
     chunk.add(out, b"\n")
 }
 
-// The names of the faulty parts, each behind a space.
+// The names of the faulty parts, each after a space.
 fn add_faulty<O: Sink>(
     chunk: &mut Chunk,
     out: &mut O,

@@ -5,7 +5,7 @@ use Rattle.text_rules.specs.Names.{Name}
 use Rattle.state_rules.specs.Bits.{lists_of_bits}
 use Rattle.state_rules.specs.Cases.{Case, agrees}
 use Rattle.state_rules.specs.Ranking.{passing}
-use Rattle.state_rules.specs.Systems.{System, no_extras}
+use Rattle.state_rules.specs.Systems.{System, no_extras, open_texts}
 use Rattle.device_model.specs.Devices.{Device, fits, part_names, part_costs}
 
 -- The state has what is held, and some bits of so many wires have what was seen and fit.
@@ -21,6 +21,7 @@ fitting_system parts wires costs fits_by = record {
   costs = costs;
   consistent = λ known. passing (length parts) (is_consistent fits_by (length wires) known);
   extras = no_extras;
+  texts = open_texts;
 }
 
 -- the system of a device

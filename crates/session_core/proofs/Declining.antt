@@ -1,18 +1,14 @@
 -- A line that is refused changes nothing.
-use Rattle.std.proofs.Common.{◌≡◌, ℕ, suc, Bool, true, false, List, [], ◌∷◌, ◌++◌, length, Option, Some, None, Result, Ok, Err, refl, ap, sym, ◌∙◌, subst}
-use Rattle.std.specs.Prelude.{nat_le, codes, if◌then◌else◌}
+use Rattle.std.proofs.Common.{◌≡◌, ℕ, suc, Bool, List, [], ◌∷◌, ◌++◌, length, Option, Result, refl, arith}
+use Rattle.std.specs.Prelude.{nat_le}
 use Rattle.text_rules.specs.Names.{Name}
-use Rattle.state_rules.specs.Systems.{System, all_diagnoses}
-use Rattle.script_lang.specs.Script.{Line, Blank, Refused, Ask, Request, Several, Dnnf, Levels, LeastNnf, line_of}
+use Rattle.state_rules.specs.Systems.{System}
+use Rattle.script_lang.specs.Script.{Line, Blank, Refused, Ask, Request, Several, Levels, line_of}
 use Rattle.session_rules.specs.declared.refusal.Refusal.{Refusal}
-use Rattle.session_rules.specs.declared.refusal.Refusal.TheVariants.{NoLevels, NoLeast}
-use Rattle.session_rules.specs.Items.{Item, LeastText, line}
-use Rattle.session_rules.specs.Replies.{listing, level_of}
-use Rattle.session_rules.specs.Sessions.{Table, Entry, Step, Change, Stays, Declined, Done, with_number, tells, goes_through, carried, entry_of, outcome, outcome_in, step}
-use Rattle.session_rules.specs.Moves.{listing_moves, next_for, level_for, level_moves}
+use Rattle.session_rules.specs.Sessions.{Table, Entry, Step, Declined, carried, entry_of, outcome, outcome_in, step}
+use Rattle.session_rules.specs.Moves.{listing_moves, next_for, level_moves}
 use Rattle.session_rules.specs.Carrying.{CarriesOut}
-use Rattle.session_rules.specs.GraphSystems.{system_of}
-use Rattle.session_core.specs.Services.{Shown, case_text, least_case_text, told_graph, exact_moves, moves_of, IsRefused, ChangesTable}
+use Rattle.session_core.specs.Services.{Shown, served_system, exact_moves, moves_of, IsRefused, ChangesTable}
 
 -- ---- one move that keeps the table
 
@@ -25,14 +21,13 @@ the_move [] others m move e = cc
 the_move (x ∷ made) others m move e = let rest : [] ≡ made ++ move ∷ others = cc in absurd (no_more made others move rest)
 
 one_kept : {T E : Type 0} (old new : Table) (m : Step) (a b : Option (List ℕ)) (r : Result T E) → m.table ≡ old → CarriesOut old new (m ∷ []) a b r → new ≡ old
-one_kept old new m a b (Ok v) same made = made.table ∙ same
-one_kept old new m a b (Err e) same broke = broke.table ∙ ap (λ (s : Step). s.table) (sym (the_move broke.made broke.others m broke.move broke.split)) ∙ same
+one_kept old new m a b r same given = grind (arith, the_move)
 
 -- ---- the moves of a refused line
 
 module _ (shown : Shown) (s : Name) (refusal : Refusal) where
   abbrev system : System
-  system = system_of shown.subject
+  system = served_system shown.subject
 
   abbrev full : Bool
   full = nat_le shown.limit (length shown.table)
@@ -44,59 +39,26 @@ module _ (shown : Shown) (s : Name) (refusal : Refusal) where
   abbrev refused : List Step
   refused = carried shown.table s (Declined refusal) ∷ []
 
-  told : (entry : Option Entry) (ms : List Step) → outcome system s full entry Dnnf ≡ Declined refusal → told_graph (codes "dnnf") (case_text shown.subject) shown.table s entry ms ≡ ms
-  told None ms is = refl
-  told (Some entry) ms is = absurd (let never : ⊥ = cc in never)
-
-  not_declined : (change : Change) (items : List Item) → Done change items ≡ Declined refusal → ⊥
-  not_declined change items e = cc
-
-  told_least : (told : Bool) → shown.subject.extras.least ≡ told → (entry : Option Entry) (ms : List Step) → outcome system s full entry LeastNnf ≡ Declined refusal
-      → (if told then told_graph (codes "leastnnf") (least_case_text shown.subject) shown.table s entry ms else ms) ≡ ms
-  told_least false is entry ms declined = refl
-  told_least true is None ms declined = refl
-  told_least true is (Some entry) ms declined =
-      let items = line (s ∷ codes "leastnnf" ∷ []) ∷ LeastText (length system.parts) (all_diagnoses system entry.known) ∷ [] in
-      absurd (not_declined Stays items (subst (λ (b : Bool). (if b then tells items else Declined NoLeast) ≡ Declined refusal) is declined))
-
   listed : (n : ℕ) (entry : Option Entry) → outcome system s full entry (Several (suc n)) ≡ Declined refusal
       → listing_moves (next_for system s) shown.table s (suc n) entry ≡ one (Several (suc n)) entry
-  listed n None is = refl
-  listed n (Some entry) is = absurd (let never : ⊥ = cc in never)
-
-  levelled_to : (n top : ℕ) → shown.subject.extras.levels ≡ Some top → (entry : Option Entry) → outcome system s full entry (Levels (suc n)) ≡ Declined refusal
-      → listing_moves (level_for system s top) shown.table s (suc n) entry ≡ one (Levels (suc n)) entry
-  levelled_to n top told None is = refl
-  levelled_to n top told (Some entry) is =
-      let through = λ (k : ℕ). goes_through entry (listing (level_of system s k (system.consistent entry.known)) (suc n) entry.point) in
-      absurd (not_declined _ _ (subst (λ (levels : Option ℕ). with_number NoLevels through levels ≡ Declined refusal) told is))
+  listed n entry is = grind arith
 
   levelled : (n : ℕ) (levels : Option ℕ) → shown.subject.extras.levels ≡ levels → outcome system s full (entry_of s shown.table) (Levels (suc n)) ≡ Declined refusal
       → level_moves system shown.limit shown.table s (suc n) levels ≡ one (Levels (suc n)) (entry_of s shown.table)
-  levelled n None told is = refl
-  levelled n (Some top) told is = levelled_to n top told (entry_of s shown.table) is
+  levelled n levels told is = grind arith
 
   -- what is declined is one move, which says why and changes nothing
   pub declined : (request : Request) → outcome_in system shown.limit shown.table s request ≡ Declined refusal → exact_moves shown shown.table (Ask s request) ≡ refused
-  declined (Several (suc n)) is = listed n (entry_of s shown.table) is ∙ ap (λ o. carried shown.table s o ∷ []) is
-  declined (Levels (suc n)) is = levelled n shown.subject.extras.levels refl is ∙ ap (λ o. carried shown.table s o ∷ []) is
-  declined Dnnf is = told (entry_of s shown.table) (one Dnnf (entry_of s shown.table)) is ∙ ap (λ o. carried shown.table s o ∷ []) is
-  declined LeastNnf is =
-      told_least shown.subject.extras.least refl (entry_of s shown.table) (one LeastNnf (entry_of s shown.table)) is
-      ∙ ap (λ o. carried shown.table s o ∷ []) is
-  declined request is = ap (λ o. carried shown.table s o ∷ []) is
+  declined request is = grind arith
 
 abbrev Keeps : Table → List Step → Type 0
 Keeps table ms = (m : Step) × (ms ≡ m ∷ []) × (m.table ≡ table)
 
 refused_moves : (shown : Shown) (line : Line) → IsRefused shown line → Keeps shown.table (exact_moves shown shown.table line)
 refused_moves shown Blank is = absurd is
-refused_moves shown (Refused refusal) is = (step (system_of shown.subject) shown.limit shown.table (Refused refusal), refl, refl)
+refused_moves shown (Refused refusal) is = (step (served_system shown.subject) shown.limit shown.table (Refused refusal), refl, refl)
 refused_moves shown (Ask s request) is = (carried shown.table s (Declined is.0), declined shown s is.0 request is.1, refl)
 
 pub refused_stays : {T E : Type 0} (old new : Shown) (line : List ℕ) (a b : Option (List ℕ)) (r : Result T E) → ChangesTable old new
     → CarriesOut old.table new.table (moves_of old old.table line) a b r → IsRefused old (line_of line) → new ≡ old
-refused_stays old new line a b r stays carried_out is =
-    let one = refused_moves old (line_of line) is in
-    let same = one_kept old.table new.table one.0 a b r one.2 (subst (λ ms. CarriesOut old.table new.table ms a b r) one.1 carried_out) in
-    stays ∙ ap (λ (t : Table). record old { table = t }) same
+refused_stays old new line a b r stays carried_out is = grind (arith, refused_moves, one_kept)

@@ -6,33 +6,34 @@ use Rattle.probe_report.specs.declared.verdicts.Blame.{Blame}
 use Rattle.fault_graph.specs.Distilled.{Kept, Serves}
 use Rattle.scratch_pool.specs.Regions.{Carved}
 use Rattle.conditioner.specs.Models.{models, least_under, least_with, diagnoses_under}
-use Rattle.session_rules.specs.GraphSystems.{Subject, system_of}
+use Rattle.session_rules.specs.GraphSystems.{Subject}
 use Rattle.session_rules.specs.Replies.{least_at, seen_at}
 use Rattle.session_rules.proofs.CaseWords.{models-by_words, least-by_words, diagnoses-by_words}
 use Rattle.session_rules.proofs.ProbeWords.{least_with-by_words}
+use Rattle.session_core.specs.Services.{served_system}
 use Rattle.session_core.specs.inner.Bases.{IsBasis, AreKnown, case_in}
 use Rattle.session_core.specs.inner.Desks.{OnDesk, FitsTogether}
 
 module _ (subject : Subject) (known : List ℕ) (basis : IsBasis subject) (are : AreKnown subject known) (graph : Graph) (words costs : List ℕ) (g : graph ≡ subject.graph) (w : words ≡ known) (p : costs ≡ subject.costs) where
-  pub states-asked : models graph words (length costs) ≡ (system_of subject).consistent (case_in subject known)
+  pub states-asked : models graph words (length costs) ≡ (served_system subject).consistent (case_in subject known)
   states-asked =
       (λ i. models (g i) (w i) (length (p i)))
       ∙ (ap (models subject.graph known) basis.costs
       ∙ models-by_words subject.parts subject.wires subject.costs subject.graph subject.graph.vars known basis.costs refl are)
 
-  pub least-asked : least_under graph words costs ≡ least_cost (system_of subject) (case_in subject known)
+  pub least-asked : least_under graph words costs ≡ least_cost (served_system subject) (case_in subject known)
   least-asked =
       (λ i. least_under (g i) (w i) (p i))
       ∙ least-by_words subject.parts subject.wires subject.costs subject.graph subject.graph.vars known basis.costs refl are
 
-  pub diagnoses-asked : diagnoses_under graph words costs ≡ all_diagnoses (system_of subject) (case_in subject known)
+  pub diagnoses-asked : diagnoses_under graph words costs ≡ all_diagnoses (served_system subject) (case_in subject known)
   diagnoses-asked =
       (λ i. diagnoses_under (g i) (w i) (p i))
       ∙ diagnoses-by_words subject.parts subject.wires subject.costs subject.graph subject.graph.vars known basis.costs refl are
 
   -- and where the variable of a wire has a bit too
   pub seen-asked : (wire var : ℕ) (bit : Bool) → wire < length subject.wires → var ≡ length subject.parts + wire + 1
-      → least_with graph words costs var bit ≡ least_at (system_of subject) (case_in subject known) wire bit (seen_at (case_in subject known) wire)
+      → least_with graph words costs var bit ≡ least_at (served_system subject) (case_in subject known) wire bit (seen_at (case_in subject known) wire)
   seen-asked wire var bit within v =
       (λ i. least_with (g i) (w i) (p i) (v i) bit)
       ∙ least_with-by_words subject.parts subject.wires subject.costs subject.graph subject.graph.vars known basis.costs refl are wire within bit

@@ -1,26 +1,24 @@
 -- What a service writes is one text of what its system answers: where its moves were made, or broke off, those over the
 -- system were.
-use Rattle.std.proofs.Common.{◌≡◌, ℕ, Bool, true, false, ◌+◌, ◌^◌, ◌<◌, ◌≤◌, List, [], ◌∷◌, ◌++◌, length, Option, Some, None, refl, ap, sym, ◌∙◌, subst, append_assoc}
-use Rattle.std.specs.Prelude.{nat_le, codes, if◌then◌else◌}
+use Rattle.std.proofs.Common.{◌≡◌, ℕ, true, ◌+◌, ◌^◌, ◌<◌, ◌≤◌, List, [], ◌∷◌, ◌++◌, length, Option, Some, refl, ap, sym, ◌∙◌, subst, append_assoc, arith}
+use Rattle.std.proofs.lemmas.Bool.Decides.{nat_tests}
+use Rattle.std.specs.Prelude.{nat_le}
 use Rattle.text_rules.specs.Names.{Name}
-use Rattle.state_rules.specs.Cases.{Case}
-use Rattle.state_rules.specs.Systems.{System, all_diagnoses}
+use Rattle.state_rules.specs.Systems.{System}
 use Rattle.state_rules.specs.Graphs.{IsGraph}
 use Rattle.script_lang.specs.Script.{Line, Ask, Request, Dnnf, LeastNnf, line_of}
-use Rattle.session_rules.specs.declared.refusal.Refusal.TheVariants.{NoLeast}
-use Rattle.session_rules.specs.Items.{Item, Projected, LeastText, line}
+use Rattle.session_rules.specs.Items.{Item, Plain}
 use Rattle.session_rules.specs.Spelling.{Spelled, Spells, Writes}
-use Rattle.session_rules.specs.Sessions.{Table, Entry, Step, Declined, tells, entry_of, carried, outcome}
+use Rattle.session_rules.specs.Sessions.{Table, Entry, Step, entry_of, carried, outcome}
 use Rattle.session_rules.specs.Moves.{said, left_by, moves, line_moves, script_moves}
 use Rattle.session_rules.specs.Carrying.{Makes, BreaksOff}
 use Rattle.session_rules.specs.GraphSystems.{HasLeastTexts, system_of}
-use Rattle.session_rules.specs.CaseSizes.{HasCasesOf}
+use Rattle.session_rules.specs.CaseSizes.{IsCaseOf, HasCasesOf}
 use Rattle.session_rules.proofs.Spellings.{spells_more}
 use Rattle.session_rules.proofs.Whole.{line_moves-whole, left_by-append, said-replies}
 use Rattle.session_rules.proofs.Keeping.{step-keeps}
-use Rattle.session_core.proofs.ReplyTexts.{case-spelled, least-spelled}
-use Rattle.session_core.specs.Dialogues.{SpellReplies}
-use Rattle.session_core.specs.Services.{Shown, case_text, least_case_text, told_graph, exact_moves, moves_of}
+use Rattle.session_core.proofs.GraphSpellings.{case-spelled, least-spelled}
+use Rattle.session_core.specs.Services.{Shown, SpellReplies, served_system, moves_of}
 
 -- A move leads to the table of another, and a text that spells its items spells the other's.
 pub record IsExact (exact move : Step) : Type 0 where
@@ -39,14 +37,12 @@ are_same [] = tt
 are_same (m ∷ ms) = (record { table = refl; spells = λ text is. is }, are_same ms)
 
 are_more : (es ms fs ns : List Step) → AreExact es ms → AreExact fs ns → AreExact (es ++ fs) (ms ++ ns)
-are_more [] [] fs ns h k = k
-are_more [] (m ∷ ms) fs ns h k = absurd h
+are_more [] ms fs ns h k = grind arith
 are_more (e ∷ es) [] fs ns h k = absurd h
 are_more (e ∷ es) (m ∷ ms) fs ns h k = (h.0, are_more es ms fs ns h.1 k)
 
 same_left : (t : Table) (es ms : List Step) → AreExact es ms → left_by t es ≡ left_by t ms
-same_left t [] [] h = refl
-same_left t [] (m ∷ ms) h = absurd h
+same_left t [] ms h = grind arith
 same_left t (e ∷ es) [] h = absurd h
 same_left t (e ∷ es) (m ∷ ms) h = ap (λ u. left_by u es) h.0.table ∙ same_left m.table es ms h.1
 
@@ -54,32 +50,15 @@ same_left t (e ∷ es) (m ∷ ms) h = ap (λ u. left_by u es) h.0.table ∙ same
 pub parted : (xs ys : List Item) (text : List ℕ) → Spells (xs ++ ys) text → (front : List ℕ) × (rest : List ℕ) × (text ≡ front ++ rest) × Spells xs front × Spells ys rest
 parted [] ys text is = ([], text, refl, refl, is)
 parted (x ∷ xs) ys text (front, rest, all, one, more) =
-    let later = parted xs ys rest more in (
-      front ++ later.0,
-      later.1,
-      all ∙ ap (λ r. front ++ r) later.2 ∙ sym (append_assoc front later.0 later.1),
-      (front, later.0, refl, one, later.3),
-      later.4,
-    )
+    let later = parted xs ys rest more in grind (arith, append_assoc front later.0 later.1)
 
-same_said : (es ms : List Step) → AreExact es ms → (text : List ℕ) → Spells (said es) text → Spells (said ms) text
-same_said [] [] h text is = is
-same_said [] (m ∷ ms) h text is = absurd h
+pub same_said : (es ms : List Step) → AreExact es ms → (text : List ℕ) → Spells (said es) text → Spells (said ms) text
+same_said [] ms h text is = grind arith
 same_said (e ∷ es) [] h text is = absurd h
-same_said (e ∷ es) (m ∷ ms) h text is =
-    let parts = parted e.items (said es) text is in
-    subst (Spells (m.items ++ said ms)) (sym parts.2)
-    (spells_more m.items (said ms) parts.0 parts.1 (h.0.spells parts.0 parts.3) (same_said es ms h.1 parts.1 parts.4))
+same_said (e ∷ es) (m ∷ ms) h text is = grind (arith, parted, spells_more, same_said es ms h.1)
 
 makes_same : (old new : Table) (es ms : List Step) (a b : Option (List ℕ)) → AreExact es ms → Makes old new es a b → Makes old new ms a b
-makes_same old new es ms a b h made = record {
-  written = record {
-    text = made.written.text;
-    spelled = same_said es ms h made.written.text made.written.spelled;
-    grown = made.written.grown;
-  };
-  table = made.table ∙ same_left old es ms h;
-}
+makes_same old new es ms a b h made = grind (arith, same_said, same_left)
 
 -- moves of which these are the first, another is the next, and those are the others
 record Splits (made others : List Step) (move : Step) (ms : List Step) : Type 0 where
@@ -98,26 +77,7 @@ splits (e ∷ made) others move (m ∷ ms) h =
     record { first = m ∷ more.first; next = more.next; later = more.later; all = ap (λ xs. m ∷ xs) more.all; exact = ((h.0, more.exact.0), more.exact.1) }
 
 breaks_same : (new : Table) (es ms : List Step) (a b : Option (List ℕ)) → AreExact es ms → BreaksOff new es a b → BreaksOff new ms a b
-breaks_same new es ms a b h broke =
-    let parts = splits broke.made broke.others broke.move ms (subst (λ xs. AreExact xs ms) broke.split h) in
-    record {
-      made = parts.first;
-      move = parts.next;
-      others = parts.later;
-      split = parts.all;
-      middle = broke.middle;
-      written = record {
-        text = broke.written.text;
-        spelled = same_said broke.made parts.first parts.exact.0 broke.written.text broke.written.spelled;
-        grown = broke.written.grown;
-      };
-      begun = record {
-        text = broke.begun.text;
-        begun = (broke.begun.begun.0, parts.exact.1.spells (broke.begun.text ++ broke.begun.begun.0) broke.begun.begun.1);
-        grown = broke.begun.grown;
-      };
-      table = broke.table ∙ parts.exact.1.table;
-    }
+breaks_same new es ms a b h broke = grind (arith, splits, same_said)
 
 -- ---- over a graph whose cases have a text
 
@@ -126,61 +86,40 @@ module _ (shown : Shown) (is_graph : IsGraph shown.subject.graph) (room : length
   abbrev system : System
   system = system_of shown.subject
 
-  -- Where an open session is told a line and an item, a text that spells the item may stand in its place.
-  told : (word : List ℕ) (text : Case → List ℕ) (item : Case → Item) (table : Table) (s : Name) (entry : Option Entry) (moves : List Step)
-      → ((e : Entry) → entry ≡ Some e → (moves ≡ record { table = table; items = line (s ∷ word ∷ []) ∷ item e.known ∷ [] } ∷ []) × Spelled (item e.known) (text e.known))
-      → AreExact (told_graph word text table s entry moves) moves
-  told word text item table s None moves h = are_same moves
-  told word text item table s (Some entry) moves h =
-      let by = h entry refl in
-      subst (λ (ms : List Step). AreExact (told_graph word text table s (Some entry) moves) ms) (sym by.0) (
-        record {
-          table = refl;
-          spells = λ all (head, rest, both, one, (graph, end, behind, is_text, none)). (head, rest, both, one, (graph, end, behind, subst (Spelled (item entry.known)) (sym is_text) by.1, none));
-        },
-        tt,
-      )
+  abbrev served : System
+  served = served_system shown.subject
 
-  -- what an open session answers
-  answered : (table : Table) (s : Name) (request : Request) (e : Entry) → entry_of s table ≡ Some e
-      → carried table s (outcome system s (nat_le shown.limit (length table)) (entry_of s table) request) ≡ carried table s (outcome system s (nat_le shown.limit (length table)) (Some e) request)
-  answered table s request e is = ap (λ (o : Option Entry). carried table s (outcome system s (nat_le shown.limit (length table)) o request)) is
+  -- a graph by its text, after a line, in place of the item that it spells
+  told : (table : Table) (l item : Item) (text : List ℕ) → Spelled item text
+      → IsExact (record { table = table; items = l ∷ Plain text ∷ [] }) (record { table = table; items = l ∷ item ∷ [] })
+  told table l item text is = grind arith
 
-  least_told : (told : Bool) → shown.subject.extras.least ≡ told → (table : Table) (s : Name) → HasCasesOf system table
-      → let step = carried table s (outcome system s (nat_le shown.limit (length table)) (entry_of s table) LeastNnf) ∷ [] in
-      AreExact (if told then told_graph (codes "leastnnf") (least_case_text shown.subject) table s (entry_of s table) step else step) step
-  least_told false is table s h = are_same (carried table s (outcome system s (nat_le shown.limit (length table)) (entry_of s table) LeastNnf) ∷ [])
-  least_told true is table s h =
-      told (codes "leastnnf") (least_case_text shown.subject) (λ known. LeastText (length system.parts) (all_diagnoses system known)) table s (entry_of s table) _
-      (λ e there. (
-        ap (λ (step : Step). step ∷ [])
-            (answered table s LeastNnf e there
-            ∙ ap (λ (b : Bool). carried table s (if b then tells (line (s ∷ codes "leastnnf" ∷ []) ∷ LeastText (length system.parts) (all_diagnoses system e.known) ∷ []) else Declined NoLeast)) is),
-        least-spelled shown.subject is_graph room few drawn e.known (h s e there) is,
-      ))
+  module _ (table : Table) (s : Name) (h : (e : Entry) → entry_of s table ≡ Some e → IsCaseOf system e.known) where
+    abbrev answer : System → Request → Option Entry → List Step
+    answer over request entry = carried table s (outcome over s (nat_le shown.limit (length table)) entry request) ∷ []
 
-  line_exact : (table : Table) (l : Line) → HasCasesOf system table → AreExact (exact_moves shown table l) (moves system shown.limit table l)
-  line_exact table (Ask s Dnnf) h =
-      told (codes "dnnf") (case_text shown.subject) (λ known. Projected (length system.parts) (system.consistent known)) table s (entry_of s table) _
-      (λ e there. (
-        ap (λ (step : Step). step ∷ []) (answered table s Dnnf e there),
-        case-spelled shown.subject is_graph room few drawn e.known (h s e there),
-      ))
-  line_exact table (Ask s LeastNnf) h = least_told shown.subject.extras.least refl table s h
+    dnnf_exact : (entry : Option Entry) → entry_of s table ≡ entry → AreExact (answer served Dnnf entry) (answer system Dnnf entry)
+    dnnf_exact entry there = grind (arith, nat_tests, case-spelled)
+
+    least_exact : (entry : Option Entry) → entry_of s table ≡ entry → AreExact (answer served LeastNnf entry) (answer system LeastNnf entry)
+    least_exact entry there = grind (arith, nat_tests, least-spelled)
+
+  line_exact : (table : Table) (l : Line) → HasCasesOf system table → AreExact (moves served shown.limit table l) (moves system shown.limit table l)
+  line_exact table (Ask s Dnnf) h = dnnf_exact table s (h s) (entry_of s table) refl
+  line_exact table (Ask s LeastNnf) h = least_exact table s (h s) (entry_of s table) refl
+  line_exact table (Ask s request) h = grind (arith, are_same)
   line_exact table l h = are_same (moves system shown.limit table l)
 
   cases_kept : (table : Table) (bytes : List ℕ) → HasCasesOf system table → HasCasesOf system (left_by table (line_moves system shown.limit table bytes))
   cases_kept table bytes h =
       subst (λ (s : Step). HasCasesOf system s.table) (sym (line_moves-whole system shown.limit table bytes)) (step-keeps system shown.limit table (line_of bytes) h)
 
-  script_exact : (table : Table) (lines : List (List ℕ)) → HasCasesOf system table → AreExact (script_moves (moves_of shown) table lines) (script_moves (line_moves system shown.limit) table lines)
+  pub script_exact : (table : Table) (lines : List (List ℕ)) → HasCasesOf system table → AreExact (script_moves (moves_of shown) table lines) (script_moves (line_moves system shown.limit) table lines)
   script_exact table [] h = tt
   script_exact table (l ∷ lines) h =
       let one = line_moves system shown.limit in
       let first = line_exact table (line_of l) h in
-      are_more (moves_of shown table l) (one table l) (script_moves (moves_of shown) (left_by table (moves_of shown table l)) lines) (script_moves one (left_by table (one table l)) lines) first
-      (subst (λ (t : Table). AreExact (script_moves (moves_of shown) t lines) (script_moves one (left_by table (one table l)) lines)) (sym (same_left table (moves_of shown table l) (one table l) first))
-      (script_exact (left_by table (one table l)) lines (cases_kept table l h)))
+      grind (arith, are_more, script_exact (left_by table (one table l)) lines (cases_kept table l h))
 
   -- where the moves of a script were made, those over the system were
   pub makes_over : (old new : Table) (lines : List (List ℕ)) (a b : Option (List ℕ)) → HasCasesOf (system_of shown.subject) old

@@ -6,15 +6,14 @@ pub mod Told
 pub mod Questions
 pub mod Desks
 pub mod Staying
-mod ByCost
+mod NextStates
 mod Rooms
 pub mod Obeying
 pub mod Holding
-pub mod Stepping
 pub mod Naming
 pub mod Moving
+mod GraphSpellings
 pub mod ReplyTexts
 pub mod Exact
 pub mod OneText
 pub mod Declining
-pub mod ToldAlone

@@ -1,36 +1,24 @@
 -- The line of `min`.
-use Rattle.std.proofs.Common.{◌≡◌, ◌≢◌, ℕ, ◌<◌, ◌≤◌, min, Bool, true, false, cond, List, [], ◌∷◌, Option, Some, None, refl, sym, ◌∙◌, ap, codes, arith, ⊎_elim}
-use Rattle.std.specs.Prelude.{decimal, slice_index_or, nat_le, IfSome}
+use Rattle.std.proofs.Common.{◌≡◌, ◌≢◌, ℕ, ◌≤◌, Bool, cond, List, [], ◌∷◌, Option, Some, None, refl, sym, ◌∙◌, ap, codes, arith}
+use Rattle.std.specs.Prelude.{decimal, nat_le}
 use Rattle.std.specs.List.{filter}
-use Rattle.std.proofs.lemmas.Bool.{le-leb, cases_lt}
 use Rattle.text_rules.specs.Names.{Name}
 use Rattle.state_rules.specs.Ranking.{cost, least, least_with, is_at_most, diagnoses}
 use Rattle.state_rules.specs.Systems.{System}
 use Rattle.state_rules.proofs.Lists.{filter-never}
 use Rattle.session_rules.specs.Replies.{faulty_names, min_line}
+use Rattle.session_core.specs.inner.Desks.{IsFirst}
 use Rattle.session_core.specs.inner.Texts.{min_text}
 
 -- where there is no least cost there is no diagnosis
 pub no_diagnosis : (costs : List ℕ) (hs : List (List Bool)) → least costs hs ≡ None → diagnoses costs hs ≡ []
 no_diagnosis costs hs none = ap (λ (o : Option ℕ). filter (λ h. is_at_most (cost costs h) o) hs) none ∙ filter-never hs
 
-above_high : (c k m : ℕ) → nat_le c m ≡ false → min c k ≤ m → k ≤ m
-above_high c k m e h = ⊎_elim
-    (λ (above : m < c). omega arith)
-    (λ (low : c ≤ m). absurd (let never : true ≡ false = sym (le-leb c m low) ∙ e in let no : ⊥ = cc in no))
-    (cases_lt m c)
-
-not_low : (c m : ℕ) → nat_le c m ≡ false → c ≤ m → ⊥
-not_low c m e low = let never : true ≡ false = sym (le-leb c m low) ∙ e in cc
-
 low_next : (costs : List ℕ) (m n : ℕ) (h : List Bool) (hs : List (List Bool)) (o : Option ℕ)
     → ((k : ℕ) → o ≡ Some k → k ≤ m → filter (λ k. nat_le (cost costs k) m) hs ≡ [] → ⊥)
     → least_with (cost costs h) o ≡ Some n → n ≤ m → (b : Bool) → nat_le (cost costs h) m ≡ b
     → cond b (h ∷ filter (λ k. nat_le (cost costs k) m) hs) (filter (λ k. nat_le (cost costs k) m) hs) ≡ [] → ⊥
-low_next costs m n h hs o more e low true q r = cc
-low_next costs m n h hs None more e low false q r = let same : cost costs h ≡ n = cc in not_low (cost costs h) m q (omega arith)
-low_next costs m n h hs (Some k) more e low false q r =
-    let same : min (cost costs h) k ≡ n = cc in more k refl (above_high (cost costs h) k m q (omega arith)) r
+low_next costs m n h hs o more e low b q r = grind arith
 
 -- where the least cost is at most a number, some state's is
 some_low : (costs : List ℕ) (n m : ℕ) (hs : List (List Bool)) → least costs hs ≡ Some n → n ≤ m → filter (λ h. nat_le (cost costs h) m) hs ≡ [] → ⊥
@@ -43,18 +31,16 @@ pub some_diagnosis : (costs : List ℕ) (n : ℕ) (hs : List (List Bool)) → le
 some_diagnosis costs n hs e none =
     some_low costs n n hs e (omega arith) (ap (λ (o : Option ℕ). filter (λ h. is_at_most (cost costs h) o) hs) (sym e) ∙ none)
 
-by_first : (system : System) (session : Name) (n : ℕ) (ds : List (List Bool)) (old : List Bool) → ds ≢ []
-    → min_line system session (Some n) ds ≡ session ∷ codes "min" ∷ decimal n ∷ faulty_names system.parts (slice_index_or ds 0 old)
-by_first system session n [] old some = absurd (some refl)
-by_first system session n (d ∷ ds) old some = refl
+by_first : (system : System) (session : Name) (n : ℕ) (ds : List (List Bool)) (state : List Bool) → ds ≢ [] → IsFirst state ds
+    → session ∷ codes "min" ∷ decimal n ∷ faulty_names system.parts state ≡ min_line system session (Some n) ds
+by_first system session n ds state some first = grind arith
 
--- The line tells the least cost and the first diagnosis.
+-- The line has the least cost and the first diagnosis.
 pub min_line-is : (system : System) (session : Name) (hs : List (List Bool)) (state : List Bool) (fewest : Option ℕ) → fewest ≡ least system.costs hs
-    → IfSome fewest (λ _. state ≡ slice_index_or (diagnoses system.costs hs) 0 [])
+    → IsFirst state (diagnoses system.costs hs)
     → min_text session system.parts fewest state ≡ min_line system session (least system.costs hs) (diagnoses system.costs hs)
 min_line-is system session hs state None e first =
     sym (ap (λ ds. min_line system session (least system.costs hs) ds) (no_diagnosis system.costs hs (sym e)))
 min_line-is system session hs state (Some n) e first =
-    ap (λ h. session ∷ codes "min" ∷ decimal n ∷ faulty_names system.parts h) first
-    ∙ sym (by_first system session n (diagnoses system.costs hs) [] (some_diagnosis system.costs n hs (sym e)))
+    by_first system session n (diagnoses system.costs hs) state (some_diagnosis system.costs n hs (sym e)) first
     ∙ ap (λ o. min_line system session o (diagnoses system.costs hs)) e

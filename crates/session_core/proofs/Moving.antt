@@ -1,21 +1,18 @@
 -- A session that moves on, once and so many times.
-use Rattle.std.proofs.Common.{◌≡◌, ◌∙◌, ◌∷◌, ◌++◌, [], ℕ, zero, suc, Bool, true, false, List, map, Option, Some, None, Result, Ok, Err, IsErr, Ordering, Less, Equal, Greater, refl, ap, sym, subst, append_assoc, append-nil}
-use Rattle.std.specs.Prelude.{IfOk, slice_index_or, is_some}
+use Rattle.std.proofs.Common.{◌≡◌, ◌∙◌, ◌∷◌, ◌++◌, ◌+◌, ◌-◌, ◌<◌, ◌≤◌, arith, [], ℕ, zero, suc, Bool, true, false, List, map, Option, Some, None, Result, Ok, Err, IsErr, Ordering, Less, Equal, Greater, refl, ap, sym, subst, append_assoc, append-nil}
+use Rattle.std.specs.Prelude.{IfOk, is_some}
 use Rattle.std.proofs.lemmas.List.{map-append}
 use Rattle.std.specs.Ordering.{nat_cmp}
 use Rattle.std.specs.Cmp.Lexicographic.{slice_cmp}
 use Rattle.std.specs.FinMap.Entries.{by_order, put}
 use Rattle.std.proofs.lemmas.Cmp.{nat_list_cmp_total, tied_itself}
 use Rattle.text_rules.specs.Names.{Name}
-use Rattle.state_rules.specs.Ranking.{rest}
-use Rattle.state_rules.specs.Systems.{System, all_diagnoses}
-use Rattle.diagnosis_lister.specs.declared.listing.Step.{Step as Answer}
-use Rattle.diagnosis_lister.specs.declared.listing.Step.TheVariants.{Found, End, Inconsistent}
-use Rattle.script_lang.specs.Script.{Ask, Request, Several, Level, Levels as LevelsOf}
-use Rattle.session_rules.specs.GraphSystems.{Subject, system_of}
+use Rattle.state_rules.specs.Systems.{System}
+use Rattle.script_lang.specs.Script.{Ask}
+use Rattle.session_rules.specs.GraphSystems.{Subject}
 use Rattle.session_rules.specs.declared.refusal.Refusal.TheVariants.{NoLevels}
 use Rattle.session_rules.specs.Items.{Item, line}
-use Rattle.session_rules.specs.Replies.{Found as Reply, listing, diagnosis_line, inconsistent, end_line}
+use Rattle.session_rules.specs.Replies.{Found as Reply, listing}
 use Rattle.session_rules.specs.Sessions.{Table, Entry, Step, Declined, with_number, goes_to, goes_through, entry_of, with_entry, when_open}
 use Rattle.session_rules.specs.Moves.{goes_on, listing_moves, next_for, level_for, level_moves}
 use Rattle.session_rules.specs.Spelling.{WritesPart, Replies}
@@ -23,14 +20,15 @@ use Rattle.session_rules.specs.Carrying.{Makes, BreaksOff, CarriesOut}
 use Rattle.session_rules.proofs.Spellings.{writes_none}
 use Rattle.session_rules.proofs.Broken.{makes_none, makes_more, breaks_after}
 use Rattle.session_table.specs.Tables.{StandsAt}
-use Rattle.session_core.specs.Services.{Shown, ChangesTable, exact_moves}
-use Rattle.session_core.specs.declared.listing.Listed.{Listed}
-use Rattle.session_core.specs.declared.listing.Listed.TheVariants.{Diagnoses, Levels}
-use Rattle.session_core.specs.inner.Desks.{top_of}
-use Rattle.session_core.specs.inner.Obeying.{Obeys, the_found, found_by, found_entry, found_moves, PointMoves, NextMoves, MovesOn}
+use Rattle.session_core.specs.Services.{Shown, ChangesTable, exact_moves, served_system}
+use Rattle.session_core.specs.declared.listed.Listed.{Listed}
+use Rattle.session_core.specs.declared.listed.Listed.TheVariants.{Diagnoses, Levels}
+use Rattle.session_core.specs.declared.listed.NextState.{NextState}
+use Rattle.session_core.specs.inner.Desks.{top_of, is_listed, is_found}
+use Rattle.session_core.specs.inner.Texts.{next_text}
+use Rattle.session_core.specs.inner.Obeying.{Obeys, next_request, list_request, the_found, found_by, found_entry, found_moves, PointMoves, MovesOn}
 use Rattle.session_core.proofs.Declining.{no_more}
 use Rattle.session_core.proofs.Obeying.{IsOneMove, obeys_outcome, asked_open}
-use Rattle.session_core.proofs.Stepping.{found_inconsistent, found_end, found_more}
 
 -- ---- a reply that failed
 
@@ -41,9 +39,6 @@ replies_part before after (Err e) items failed part = part
 pub if_failed : {T E : Type 0} (P : T → Type 0) (result : Result T E) → IsErr result → IfOk result P
 if_failed P (Ok v) failed = absurd (let no : ⊥ = cc in no)
 if_failed P (Err e) failed = tt
-
-abbrev pub ok_of : (E : Type 0) → Bool → Result Bool E
-ok_of E v = Ok v
 
 -- ---- an entry that is put twice
 
@@ -64,42 +59,58 @@ put_twice name v w (e ∷ es) = twice_by name v w e es (slice_cmp nat_cmp name e
 
 -- ---- once
 
-module _ (subject : Subject) (old new : Table) (place : ℕ) (session : Name) (entry : Entry) (found : Answer) (m : NextMoves subject old new place session entry found) where
-  abbrev later : List (List Bool)
-  later = rest (all_diagnoses (system_of subject) entry.known) entry.point
-
-  pub next_inconsistent : found ≡ Inconsistent → the_found subject Diagnoses session entry ≡ record { item = line (inconsistent session); point = entry.point; more = false }
-  next_inconsistent e = found_inconsistent (system_of subject).costs ((system_of subject).consistent entry.known) session (diagnosis_line (system_of subject) session) entry.point later (sym m.answer ∙ e)
-
-  pub next_end : found ≡ End → the_found subject Diagnoses session entry ≡ record { item = line (end_line session); point = entry.point; more = false }
-  next_end e = found_end (system_of subject).costs ((system_of subject).consistent entry.known) session (diagnosis_line (system_of subject) session) entry.point later (sym m.answer ∙ e)
-
-  next_found : found ≡ Found → the_found subject Diagnoses session entry ≡ record { item = diagnosis_line (system_of subject) session (slice_index_or later 0 []); point = Some (slice_index_or later 0 []); more = true }
-  next_found e = found_more (system_of subject).costs ((system_of subject).consistent entry.known) session (diagnosis_line (system_of subject) session) entry.point later (sym m.answer ∙ e)
-
-  -- the point is then the diagnosis that is shown
-  pub found_state : found ≡ Found → (state : List Bool) × ((the_found subject Diagnoses session entry).point ≡ Some state) × ((the_found subject Diagnoses session entry).item ≡ diagnosis_line (system_of subject) session state) × ((the_found subject Diagnoses session entry).more ≡ true)
-  found_state e = (slice_index_or later 0 [], ap (λ (f : Reply). f.point) (next_found e), ap (λ (f : Reply). f.item) (next_found e), ap (λ (f : Reply). f.more) (next_found e))
-
-pub moves_on : {E : Type 0} (old new : Shown) (listed : Listed) (place : ℕ) (session : Name) (entry : Entry) (known : Type 0) (before after : Option (List ℕ)) (result : Result Bool E)
-    → PointMoves old.subject listed old.table new.table place session entry known → ChangesTable old new
-    → Replies before after result ((the_found old.subject listed session entry).item ∷ []) → IfOk result (λ more. more ≡ (the_found old.subject listed session entry).more)
+pub moves_on : {E : Type 0} (old new : Shown) (listed : Listed) (place : ℕ) (session : Name) (entry : Entry) (next : NextState) (state : List Bool) (before after : Option (List ℕ)) (result : Result Bool E)
+    → PointMoves old.subject listed old.table new.table place session entry next state → ChangesTable old new
+    → Replies before after result (line (next_text session old.subject.parts next state) ∷ []) → IfOk result (λ more. more ≡ is_found next)
     → MovesOn old new listed place session entry before after result
-moves_on old new listed place session entry known before after result m stays reply more = record {
-  reply = reply;
-  more = more;
-  moved = stays ∙ ap (λ (t : Table). record old { table = t }) m.moved;
-  stands = m.stands;
-}
+moves_on old new listed place session entry next state before after result m stays reply more =
+    let back = sym m.answer in
+    record {
+      reply = subst (λ (f : Reply). Replies before after result (f.item ∷ [])) back reply;
+      more = subst (λ (f : Reply). IfOk result (λ more. more ≡ f.more)) back more;
+      moved = stays ∙ ap (λ (t : Table). record old { table = t }) (m.moved ∙ ap (λ (f : Reply). with_entry session (record entry { point = f.point }) old.table) back);
+      stands = subst (λ (f : Reply). StandsAt new.table place session (record entry { point = f.point })) back m.stands;
+    }
 
--- a request that is one such move
-pub obeys_found : {T E : Type 0} (old new : Shown) (listed : Listed) (session : Name) (entry : Entry) (before after : Option (List ℕ)) (result : Result T E) (request : Request) → IsOneMove request
-    → entry_of session old.table ≡ Some entry → when_open (system_of old.subject) session entry request ≡ goes_to entry (the_found old.subject listed session entry)
+-- a listing, and the request for its next state
+
+one_next : (listed : Listed) → IsOneMove (next_request listed)
+one_next Diagnoses shown table session = refl
+one_next Levels shown table session = refl
+
+level_open : (system : System) (session : Name) (entry : Entry) (levels : Option ℕ) → is_some levels ≡ true
+    → with_number NoLevels (λ top. goes_to entry (level_for system session top entry entry.point)) levels ≡ goes_to entry (level_for system session (top_of levels) entry entry.point)
+level_open system session entry None some = absurd (let no : ⊥ = cc in no)
+level_open system session entry (Some top) some = refl
+
+next_open : (subject : Subject) (listed : Listed) (session : Name) (entry : Entry) → is_listed subject listed ≡ true
+    → when_open (served_system subject) session entry (next_request listed) ≡ goes_to entry (the_found subject listed session entry)
+next_open subject Diagnoses session entry is = refl
+next_open subject Levels session entry is = level_open (served_system subject) session entry subject.extras.levels is
+
+none_some : {A : Type 0} (o : Option A) → is_some o ≡ false → o ≡ None
+none_some None none = refl
+none_some (Some a) none = absurd (let no : ⊥ = cc in no)
+
+-- what is not listed is declined
+pub next_declined : (subject : Subject) (listed : Listed) (session : Name) (entry : Entry) → is_listed subject listed ≡ false → when_open (served_system subject) session entry (next_request listed) ≡ Declined NoLevels
+next_declined subject Diagnoses session entry off = absurd (let no : ⊥ = cc in no)
+next_declined subject Levels session entry off =
+    ap (with_number NoLevels (λ top. goes_to entry (level_for (served_system subject) session top entry entry.point))) (none_some subject.extras.levels off)
+
+pub list_declined : (subject : Subject) (listed : Listed) (session : Name) (entry : Entry) (count : ℕ) → is_listed subject listed ≡ false → when_open (served_system subject) session entry (list_request listed count) ≡ Declined NoLevels
+list_declined subject Diagnoses session entry count off = absurd (let no : ⊥ = cc in no)
+list_declined subject Levels session entry count off =
+    ap (with_number NoLevels (λ top. goes_through entry (listing (level_for (served_system subject) session top entry) count entry.point))) (none_some subject.extras.levels off)
+
+-- the request was obeyed
+pub obeys_next : {T E : Type 0} (old new : Shown) (listed : Listed) (session : Name) (entry : Entry) (before after : Option (List ℕ)) (result : Result T E)
+    → is_listed old.subject listed ≡ true → entry_of session old.table ≡ Some entry
     → Replies before after result ((the_found old.subject listed session entry).item ∷ [])
-    → new ≡ record old { table = with_entry session (found_entry old.subject listed session entry) old.table } → Obeys old new session request before after result
-obeys_found old new listed session entry before after result request one there is reply moves =
-    obeys_outcome old session request one before after result (goes_to entry (the_found old.subject listed session entry)) new
-    (asked_open old session request entry there ∙ is) moves reply
+    → new ≡ record old { table = with_entry session (found_entry old.subject listed session entry) old.table } → Obeys old new session (next_request listed) before after result
+obeys_next old new listed session entry before after result is there reply moves =
+    obeys_outcome old session (next_request listed) (one_next listed) before after result (goes_to entry (the_found old.subject listed session entry)) new
+    (asked_open old session (next_request listed) entry there ∙ next_open old.subject listed session entry is) moves reply
 
 -- ---- so many times
 
@@ -113,21 +124,15 @@ pub record Lists (old now : Shown) (listed : Listed) (place : ℕ) (session : Na
   pub stands : StandsAt now.table place session (record entry { point = point })
 
 -- none was shown yet
-pub lists_none : (old : Shown) (listed : Listed) (place : ℕ) (session : Name) (entry : Entry) (count : ℕ) (before : Option (List ℕ)) → StandsAt old.table place session entry → Lists old old listed place session entry count count before before
+pub lists_none : (old : Shown) (listed : Listed) (place : ℕ) (session : Name) (entry : Entry) (count : ℕ) (before : Option (List ℕ)) → StandsAt old.table place session entry → Lists old old listed place session entry count (count - 0) before before
 lists_none old listed place session entry count before stands = record {
   point = entry.point;
   done = [];
-  both = refl;
+  both = ap (λ (n : ℕ). listing (found_by old.subject listed session entry) n entry.point) (let e : count - 0 ≡ count = omega arith in e);
   made = makes_none old.table before;
   moved = ap (λ (t : Table). record old { table = t }) (sym stands.kept);
   stands = stands;
 }
-
--- what comes next does not hang on the point that a session had
-same_found : (subject : Subject) (listed : Listed) (session : Name) (entry : Entry) (point : Option (List Bool))
-    → the_found subject listed session (record entry { point = point }) ≡ found_by subject listed session entry point
-same_found subject Diagnoses session entry point = refl
-same_found subject Levels session entry point = refl
 
 module _ (old : Shown) (listed : Listed) (place : ℕ) (session : Name) (entry : Entry) (count : ℕ) where
   abbrev next : Option (List Bool) → Reply
@@ -150,61 +155,67 @@ module _ (old : Shown) (listed : Listed) (place : ℕ) (session : Name) (entry :
   none_left left point e = ap (λ (b : Bool). next point ∷ (elim b as (λ _. List Reply) [ true ↦ listing next left (next point).point | false ↦ [] ])) e
 
   -- the move that was made, or broke off
-  module _ {E : Type 0} (now new : Shown) (left : ℕ) (a b c : Option (List ℕ)) (lists : Lists old now listed place session entry count left a b) (result : Result Bool E)
-      (m : MovesOn now new listed place session (at_point lists.point) b c result) where
-    same_next : the_found now.subject listed session (at_point lists.point) ≡ next lists.point
-    same_next = ap (λ (v : Shown). the_found v.subject listed session (at_point lists.point)) lists.moved ∙ same_found old.subject listed session entry lists.point
+  module _ (now new : Shown) (counter : ℕ) (less : counter < count) (a b c : Option (List ℕ)) (lists : Lists old now listed place session entry count (count - counter) a b) where
+    abbrev left : ℕ
+    left = count - (counter + 1)
 
-    new_table : new.table ≡ with_entry session (at_point (next lists.point).point) old.table
-    new_table =
-        ap (λ (v : Shown). v.table) m.moved
-        ∙ (ap (λ (f : Reply). with_entry session (at_point f.point) now.table) same_next
-        ∙ (ap (λ (v : Shown). with_entry session (at_point (next lists.point).point) v.table) lists.moved
-        ∙ put_twice session (at_point lists.point) (at_point (next lists.point).point) old.table))
+    split : lists.done ++ listing next (suc left) lists.point ≡ listing next count entry.point
+    split = ap (λ (n : ℕ). lists.done ++ listing next n lists.point) (let e : suc (count - (counter + 1)) ≡ count - counter = omega arith in e) ∙ lists.both
 
-    pub moved_again : new ≡ record old { table = with_entry session (at_point (next lists.point).point) old.table }
-    moved_again =
-        m.moved ∙ (ap (λ (v : Shown). record v { table = with_entry session (found_entry now.subject listed session (at_point lists.point)) now.table }) lists.moved
-        ∙ ap (λ (t : Table). record old { table = t }) (sym (ap (λ (v : Shown). v.table) m.moved) ∙ new_table))
+    module _ {E : Type 0} (result : Result Bool E) (m : MovesOn now new listed place session (at_point lists.point) b c result) where
+      same_next : the_found now.subject listed session (at_point lists.point) ≡ next lists.point
+      same_next = ap (λ (v : Shown). the_found v.subject listed session (at_point lists.point)) lists.moved
 
-    says_next : Replies b c result ((next lists.point).item ∷ [])
-    says_next = subst (λ (f : Reply). Replies b c result (f.item ∷ [])) same_next m.reply
+      new_table : new.table ≡ with_entry session (at_point (next lists.point).point) old.table
+      new_table =
+          ap (λ (v : Shown). v.table) m.moved
+          ∙ (ap (λ (f : Reply). with_entry session (at_point f.point) now.table) same_next
+          ∙ (ap (λ (v : Shown). with_entry session (at_point (next lists.point).point) v.table) lists.moved
+          ∙ put_twice session (at_point lists.point) (at_point (next lists.point).point) old.table))
 
-    is_more : IfOk result (λ more. more ≡ (next lists.point).more)
-    is_more = subst (λ (f : Reply). IfOk result (λ more. more ≡ f.more)) same_next m.more
+      moved_again : new ≡ record old { table = with_entry session (at_point (next lists.point).point) old.table }
+      moved_again =
+          m.moved ∙ (ap (λ (v : Shown). record v { table = with_entry session (found_entry now.subject listed session (at_point lists.point)) now.table }) lists.moved
+          ∙ ap (λ (t : Table). record old { table = t }) (sym (ap (λ (v : Shown). v.table) m.moved) ∙ new_table))
 
-    stands_next : StandsAt new.table place session (at_point (next lists.point).point)
-    stands_next = subst (λ (f : Reply). StandsAt new.table place session (at_point f.point)) same_next m.stands
+      says_next : Replies b c result ((next lists.point).item ∷ [])
+      says_next = subst (λ (f : Reply). Replies b c result (f.item ∷ [])) same_next m.reply
 
-  -- the same for each result
-  module _ {E : Type 0} (now new : Shown) (left : ℕ) (a b c : Option (List ℕ)) (lists : Lists old now listed place session entry count (suc left) a b) where
-    made_one : (v : Bool) → MovesOn now new listed place session (at_point lists.point) b c (ok_of E v) → Makes old.table new.table (map move (lists.done ++ next lists.point ∷ [])) a c
-    made_one v m =
-        subst (λ (ms : List Step). Makes old.table new.table ms a c) (sym (map-append move lists.done (next lists.point ∷ [])))
-        (makes_more lists.made (record { written = says_next now new (suc left) a b c lists (ok_of E v) m; table = new_table now new (suc left) a b c lists (ok_of E v) m }))
+      is_more : IfOk result (λ more. more ≡ (next lists.point).more)
+      is_more = subst (λ (f : Reply). IfOk result (λ more. more ≡ f.more)) same_next m.more
 
-    -- another one was shown
-    pub lists_more : MovesOn now new listed place session (at_point lists.point) b c (ok_of E true) → Lists old new listed place session entry count left a c
-    lists_more m = record {
-      point = (next lists.point).point;
-      done = lists.done ++ next lists.point ∷ [];
-      both = append_assoc lists.done (next lists.point ∷ []) (listing next left (next lists.point).point)
-          ∙ (ap (λ fs. lists.done ++ fs) (sym (more_left left lists.point (sym (is_more now new (suc left) a b c lists (ok_of E true) m)))) ∙ lists.both);
-      made = made_one true m;
-      moved = moved_again now new (suc left) a b c lists (ok_of E true) m;
-      stands = stands_next now new (suc left) a b c lists (ok_of E true) m;
-    }
+      stands_next : StandsAt new.table place session (at_point (next lists.point).point)
+      stands_next = subst (λ (f : Reply). StandsAt new.table place session (at_point f.point)) same_next m.stands
 
-    -- nothing was found any more
-    pub lists_end : MovesOn now new listed place session (at_point lists.point) b c (ok_of E false) → Makes old.table new.table (map move (listing next count entry.point)) a c
-    lists_end m =
-        subst (λ (fs : List Reply). Makes old.table new.table (map move fs) a c)
-        (ap (λ fs. lists.done ++ fs) (sym (none_left left lists.point (sym (is_more now new (suc left) a b c lists (ok_of E false) m)))) ∙ lists.both) (made_one false m)
+    -- the same for each result
+    module _ {E : Type 0} (v : Bool) (m : MovesOn {E = E} now new listed place session (at_point lists.point) b c (Ok v)) where
+      made_one : Makes old.table new.table (map move (lists.done ++ next lists.point ∷ [])) a c
+      made_one =
+          subst (λ (ms : List Step). Makes old.table new.table ms a c) (sym (map-append move lists.done (next lists.point ∷ [])))
+          (makes_more lists.made (record { written = says_next (Ok v) m; table = new_table (Ok v) m }))
+
+      -- another one was shown
+      pub lists_more : v ≡ true → Lists old new listed place session entry count left a c
+      lists_more on = record {
+        point = (next lists.point).point;
+        done = lists.done ++ next lists.point ∷ [];
+        both = append_assoc lists.done (next lists.point ∷ []) (listing next left (next lists.point).point)
+            ∙ (ap (λ fs. lists.done ++ fs) (sym (more_left left lists.point (sym (is_more (Ok v) m) ∙ on))) ∙ split);
+        made = made_one;
+        moved = moved_again (Ok v) m;
+        stands = stands_next (Ok v) m;
+      }
+
+      -- nothing was found any more
+      pub lists_end : v ≡ false → Makes old.table new.table (map move (listing next count entry.point)) a c
+      lists_end off =
+          subst (λ (fs : List Reply). Makes old.table new.table (map move fs) a c)
+          (ap (λ fs. lists.done ++ fs) (sym (none_left left lists.point (sym (is_more (Ok v) m) ∙ off))) ∙ split) made_one
 
     -- a write failed
-    pub lists_broken : (e : E) → MovesOn now new listed place session (at_point lists.point) b c (Err e) → BreaksOff new.table (map move (listing next count entry.point)) a c
+    pub lists_broken : {E : Type 0} (e : E) → MovesOn now new listed place session (at_point lists.point) b c (Err e) → BreaksOff new.table (map move (listing next count entry.point)) a c
     lists_broken e m =
-        subst (λ (fs : List Reply). BreaksOff new.table (map move fs) a c) lists.both
+        subst (λ (fs : List Reply). BreaksOff new.table (map move fs) a c) split
         (subst (λ (ms : List Step). BreaksOff new.table ms a c) (sym (map-append move lists.done (next lists.point ∷ (later_of left lists.point))))
         (breaks_after lists.made (record {
           made = [];
@@ -213,90 +224,59 @@ module _ (old : Shown) (listed : Listed) (place : ℕ) (session : Name) (entry :
           split = refl;
           middle = b;
           written = writes_none b;
-          begun = says_next now new (suc left) a b c lists (Err e) m;
-          table = new_table now new (suc left) a b c lists (Err e) m;
+          begun = says_next (Err e) m;
+          table = new_table (Err e) m;
         })))
 
   -- all were shown
-  pub lists_all : (now : Shown) (a b : Option (List ℕ)) → Lists old now listed place session entry count 0 a b → Makes old.table now.table (map move (listing next count entry.point)) a b
-  lists_all now a b lists = subst (λ (fs : List Reply). Makes old.table now.table (map move fs) a b) (sym (append-nil lists.done) ∙ lists.both) lists.made
+  pub lists_all : (now : Shown) (counter : ℕ) → count ≤ counter → (a b : Option (List ℕ)) → Lists old now listed place session entry count (count - counter) a b
+      → Makes old.table now.table (map move (listing next count entry.point)) a b
+  lists_all now counter over a b lists =
+      let none : count - counter ≡ 0 = omega arith in
+      subst (λ (fs : List Reply). Makes old.table now.table (map move fs) a b)
+      (sym (append-nil lists.done) ∙ (ap (λ (n : ℕ). lists.done ++ listing next n lists.point) (sym none) ∙ lists.both)) lists.made
 
 pub carries_broken : {T E : Type 0} (old new : Table) (ms : List Step) (before after : Option (List ℕ)) (result : Result T E) → IsErr result → BreaksOff new ms before after → CarriesOut old new ms before after result
 carries_broken old new ms before after (Ok v) failed broke = absurd (let no : ⊥ = cc in no)
 carries_broken old new ms before after (Err e) failed broke = broke
 
--- ---- the moves of requests for listings
+-- ---- the request for so many
 
--- the moves of a request were made, or broke off
-pub obeys_moves : {T E : Type 0} (old new : Shown) (session : Name) (request : Request) (ms : List Step) (before after : Option (List ℕ)) (result : Result T E) → ms ≡ exact_moves old old.table (Ask session request)
-    → CarriesOut old.table new.table ms before after result → ChangesTable old new → Obeys old new session request before after result
-obeys_moves old new session request ms before after result is carried stays = record {
-  carried = subst (λ (ms : List Step). CarriesOut old.table new.table ms before after result) is carried;
-  stays = stays;
-}
-
--- none of a listing is one move, which says nothing and changes nothing
-none_listed : {T E : Type 0} (old new : Shown) (place : ℕ) (session : Name) (entry : Entry) (request : Request) (before after : Option (List ℕ)) (result : Result T E) → IsOneMove request
-    → StandsAt old.table place session entry → when_open (system_of old.subject) session entry request ≡ goes_through entry []
-    → CarriesOut old.table new.table [] before after result → ChangesTable old new → Obeys old new session request before after result
-none_listed old new place session entry request before after (Ok v) one stands is made stays =
-    obeys_outcome old session request one before after (Ok v) (goes_through entry []) new (asked_open old session request entry stands.found ∙ is)
-    (stays ∙ ap (λ (t : Table). record old { table = t }) (made.table ∙ sym stands.kept)) made.written
-none_listed old new place session entry request before after (Err e) one stands is broke stays = absurd (no_more broke.made broke.others broke.move broke.split)
-
-several_moves : (old : Shown) (session : Name) (entry : Entry) (n : ℕ) → entry_of session old.table ≡ Some entry
-    → found_moves old Diagnoses session entry (suc n) ≡ exact_moves old old.table (Ask session (Several (suc n)))
-several_moves old session entry n found = ap (listing_moves (next_for (system_of old.subject) session) old.table session (suc n)) (sym found)
-
--- the request for so many diagnoses is obeyed
-pub obeys_several : {T E : Type 0} (old new : Shown) (place : ℕ) (session : Name) (entry : Entry) (count : ℕ) (before after : Option (List ℕ)) (result : Result T E) → StandsAt old.table place session entry
-    → CarriesOut old.table new.table (found_moves old Diagnoses session entry count) before after result → ChangesTable old new → Obeys old new session (Several count) before after result
-obeys_several old new place session entry zero before after result stands carried stays =
-    none_listed old new place session entry (Several zero) before after result (λ shown table s. refl) stands refl carried stays
-obeys_several old new place session entry (suc n) before after result stands carried stays =
-    obeys_moves old new session (Several (suc n)) (found_moves old Diagnoses session entry (suc n)) before after result (several_moves old session entry n stands.found) carried stays
-
-levels_moves : (old : Shown) (session : Name) (entry : Entry) (n : ℕ) (levels : Option ℕ) → is_some levels ≡ true → entry_of session old.table ≡ Some entry
-    → map (goes_on old.table session entry) (listing (level_for (system_of old.subject) session (top_of levels) entry) (suc n) entry.point)
-    ≡ level_moves (system_of old.subject) old.limit old.table session (suc n) levels
-levels_moves old session entry n None told found = absurd (let no : ⊥ = cc in no)
-levels_moves old session entry n (Some top) told found = ap (listing_moves (level_for (system_of old.subject) session top) old.table session (suc n)) (sym found)
-
-none_levelled : (system : System) (session : Name) (entry : Entry) (levels : Option ℕ) → is_some levels ≡ true
-    → with_number NoLevels (λ top. goes_through entry (listing (level_for system session top entry) zero entry.point)) levels ≡ goes_through entry []
-none_levelled system session entry None told = absurd (let no : ⊥ = cc in no)
-none_levelled system session entry (Some top) told = refl
-
--- and that for so many states by cost, where these are told
-pub obeys_levels : {T E : Type 0} (old new : Shown) (place : ℕ) (session : Name) (entry : Entry) (count : ℕ) (before after : Option (List ℕ)) (result : Result T E) → is_some old.subject.extras.levels ≡ true
-    → StandsAt old.table place session entry → CarriesOut old.table new.table (found_moves old Levels session entry count) before after result → ChangesTable old new
-    → Obeys old new session (LevelsOf count) before after result
-obeys_levels old new place session entry zero before after result told stands carried stays =
-    none_listed old new place session entry (LevelsOf zero) before after result (λ shown table s. refl) stands
-    (none_levelled (system_of old.subject) session entry old.subject.extras.levels told) carried stays
-obeys_levels old new place session entry (suc n) before after result told stands carried stays =
-    obeys_moves old new session (LevelsOf (suc n)) (found_moves old Levels session entry (suc n)) before after result
-    (levels_moves old session entry n old.subject.extras.levels told stands.found) carried stays
-
-none_some : {A : Type 0} (o : Option A) → is_some o ≡ false → o ≡ None
-none_some None none = refl
-none_some (Some a) none = absurd (let no : ⊥ = cc in no)
-
--- one state by cost is one move, where these are told
-pub level_found : (system : System) (session : Name) (entry : Entry) → is_some system.extras.levels ≡ true
-    → when_open system session entry Level ≡ goes_to entry (level_for system session (top_of system.extras.levels) entry entry.point)
-level_found system session entry told = by system.extras.levels told
+list_moves : (old : Shown) (listed : Listed) (session : Name) (entry : Entry) (n : ℕ) → is_listed old.subject listed ≡ true → entry_of session old.table ≡ Some entry
+    → found_moves old listed session entry (suc n) ≡ exact_moves old old.table (Ask session (list_request listed (suc n)))
+list_moves old Diagnoses session entry n is found = ap (listing_moves (next_for (served_system old.subject) session) old.table session (suc n)) (sym found)
+list_moves old Levels session entry n is found = by old.subject.extras.levels is
   where
     by : (levels : Option ℕ) → is_some levels ≡ true
-        → with_number NoLevels (λ top. goes_to entry (level_for system session top entry entry.point)) levels ≡ goes_to entry (level_for system session (top_of levels) entry entry.point)
-    by None told = absurd (let no : ⊥ = cc in no)
-    by (Some top) told = refl
+        → map (goes_on old.table session entry) (listing (level_for (served_system old.subject) session (top_of levels) entry) (suc n) entry.point)
+        ≡ level_moves (served_system old.subject) old.limit old.table session (suc n) levels
+    by None some = absurd (let no : ⊥ = cc in no)
+    by (Some top) some = ap (listing_moves (level_for (served_system old.subject) session top) old.table session (suc n)) (sym found)
 
--- and where they are not told, neither one nor so many are
-pub level_untold : (system : System) (session : Name) (entry : Entry) → is_some system.extras.levels ≡ false → when_open system session entry Level ≡ Declined NoLevels
-level_untold system session entry told =
-    ap (with_number NoLevels (λ top. goes_to entry (level_for system session top entry entry.point))) (none_some system.extras.levels told)
+one_list : (listed : Listed) → IsOneMove (list_request listed zero)
+one_list Diagnoses shown table session = refl
+one_list Levels shown table session = refl
 
-pub levels_untold : (system : System) (session : Name) (entry : Entry) (count : ℕ) → is_some system.extras.levels ≡ false → when_open system session entry (LevelsOf count) ≡ Declined NoLevels
-levels_untold system session entry count told =
-    ap (with_number NoLevels (λ top. goes_through entry (listing (level_for system session top entry) count entry.point))) (none_some system.extras.levels told)
+none_open : (subject : Subject) (listed : Listed) (session : Name) (entry : Entry) → is_listed subject listed ≡ true
+    → when_open (served_system subject) session entry (list_request listed zero) ≡ goes_through entry []
+none_open subject Diagnoses session entry is = refl
+none_open subject Levels session entry is = by subject.extras.levels is
+  where
+    by : (levels : Option ℕ) → is_some levels ≡ true
+        → with_number NoLevels (λ top. goes_through entry (listing (level_for (served_system subject) session top entry) zero entry.point)) levels ≡ goes_through entry []
+    by None some = absurd (let no : ⊥ = cc in no)
+    by (Some top) some = refl
+
+-- the request was obeyed; for none it is one move, which says nothing and changes nothing
+pub obeys_list : {T E : Type 0} (old new : Shown) (listed : Listed) (place : ℕ) (session : Name) (entry : Entry) (count : ℕ) (before after : Option (List ℕ)) (result : Result T E)
+    → is_listed old.subject listed ≡ true → StandsAt old.table place session entry
+    → CarriesOut old.table new.table (found_moves old listed session entry count) before after result → ChangesTable old new → Obeys old new session (list_request listed count) before after result
+obeys_list old new listed place session entry zero before after (Ok v) is stands made stays =
+    obeys_outcome old session (list_request listed zero) (one_list listed) before after (Ok v) (goes_through entry []) new
+    (asked_open old session (list_request listed zero) entry stands.found ∙ none_open old.subject listed session entry is)
+    (stays ∙ ap (λ (t : Table). record old { table = t }) (made.table ∙ sym stands.kept)) made.written
+obeys_list old new listed place session entry zero before after (Err e) is stands broke stays = absurd (no_more broke.made broke.others broke.move broke.split)
+obeys_list old new listed place session entry (suc n) before after result is stands carried stays = record {
+  carried = subst (λ (ms : List Step). CarriesOut old.table new.table ms before after result) (list_moves old listed session entry n is stands.found) carried;
+  stays = stays;
+}

@@ -11,7 +11,6 @@ use Rattle.script_lang.specs.declared.line.Request.TheVariants as read
 use Rattle.session_rules.specs.declared.refusal.Refusal.{Refusal}
 use Rattle.session_rules.specs.declared.refusal.Refusal.TheVariants.{NoSession}
 use Rattle.session_rules.specs.Refusals.{refusal_row}
-use Rattle.session_rules.specs.GraphSystems.{system_of}
 use Rattle.session_rules.specs.Items.{line}
 use Rattle.session_rules.specs.Sessions.{Table, Entry, Step, Outcome, Declined, tells_lines, error_words, outcome, when_open, outcome_in, entry_of, carried}
 use Rattle.session_rules.specs.Replies.{told}
@@ -19,7 +18,7 @@ use Rattle.session_rules.specs.Spelling.{Replies}
 use Rattle.session_rules.specs.Carrying.{CarriesOut}
 use Rattle.session_rules.proofs.Broken.{carries_step}
 use Rattle.session_rules.proofs.Spellings.{replies_one}
-use Rattle.session_core.specs.Services.{Shown, exact_moves, moves_of}
+use Rattle.session_core.specs.Services.{Shown, exact_moves, moves_of, served_system}
 use Rattle.session_core.specs.inner.Obeying.{Obeys}
 use Rattle.session_core.specs.inner.Telling.{items_told}
 use Rattle.session_core.proofs.Declining.{declined}
@@ -31,11 +30,11 @@ with_table shown table = record shown { table = table }
 -- a request is one move
 abbrev pub IsOneMove : Request → Type 0
 IsOneMove request = (shown : Shown) (table : Table) (session : Name)
-    → exact_moves shown table (Ask session request) ≡ carried table session (outcome_in (system_of shown.subject) shown.limit table session request) ∷ []
+    → exact_moves shown table (Ask session request) ≡ carried table session (outcome_in (served_system shown.subject) shown.limit table session request) ∷ []
 
 -- what an open session answers is told by its entry
-pub asked_open : (old : Shown) (session : Name) (request : Request) (entry : Entry) → entry_of session old.table ≡ Some entry → outcome_in (system_of old.subject) old.limit old.table session request ≡ when_open (system_of old.subject) session entry request
-asked_open old session request entry found = ap (λ (e : Option Entry). outcome (system_of old.subject) session (nat_le old.limit (length old.table)) e request) found
+pub asked_open : (old : Shown) (session : Name) (request : Request) (entry : Entry) → entry_of session old.table ≡ Some entry → outcome_in (served_system old.subject) old.limit old.table session request ≡ when_open (served_system old.subject) session entry request
+asked_open old session request entry found = ap (λ (e : Option Entry). outcome (served_system old.subject) session (nat_le old.limit (length old.table)) e request) found
 
 -- a request that is one move was carried out
 pub obeys_move : {T E : Type 0} (old new : Shown) (session : Name) (request : Request) (move : Step) (before after : Option (List ℕ)) (result : Result T E) → exact_moves old old.table (Ask session request) ≡ move ∷ []
@@ -48,7 +47,7 @@ obeys_move old new session request move before after result is becomes reply = r
 
 -- what a request comes to, where it is one move
 pub obeys_outcome : {T E : Type 0} (old : Shown) (session : Name) (request : Request) → IsOneMove request → (before after : Option (List ℕ)) (result : Result T E)
-    → (to : Outcome) (new : Shown) → outcome_in (system_of old.subject) old.limit old.table session request ≡ to
+    → (to : Outcome) (new : Shown) → outcome_in (served_system old.subject) old.limit old.table session request ≡ to
     → new ≡ with_table old (carried old.table session to).table → Replies before after result (carried old.table session to).items → Obeys old new session request before after result
 obeys_outcome old session request one before after result to new is becomes reply =
     obeys_move old new session request (carried old.table session to) before after result
@@ -56,7 +55,7 @@ obeys_outcome old session request one before after result to new is becomes repl
 
 -- a refusal
 pub obeys_refusal : {T E : Type 0} (old : Shown) (session : Name) (request : Request) (before after : Option (List ℕ)) (result : Result T E) (refusal : Refusal)
-    → outcome_in (system_of old.subject) old.limit old.table session request ≡ Declined refusal
+    → outcome_in (served_system old.subject) old.limit old.table session request ≡ Declined refusal
     → Puts before after result (spaced (session ∷ error_words (refusal_row refusal))) → Obeys old old session request before after result
 obeys_refusal old session request before after result refusal is put =
     obeys_move old old session request (carried old.table session (Declined refusal)) before after result (declined old session refusal request is) refl
@@ -69,9 +68,9 @@ told_step table session (Err refusal) = refl
 
 -- an open session was told what it asked
 pub obeys_told : {T E : Type 0} (old new : Shown) (session : Name) (entry : Entry) (question : Question) (before after : Option (List ℕ)) (result : Result T E) → entry_of session old.table ≡ Some entry → new ≡ old
-    → Replies before after result (items_told session (told (system_of old.subject) session entry.known question)) → Obeys old new session (Tell question) before after result
+    → Replies before after result (items_told session (told (served_system old.subject) session entry.known question)) → Obeys old new session (Tell question) before after result
 obeys_told old new session entry question before after result found same reply =
-    let lines = told (system_of old.subject) session entry.known question in
+    let lines = told (served_system old.subject) session entry.known question in
     obeys_move old new session (Tell question) (record { table = old.table; items = items_told session lines }) before after result
     (ap (λ (o : Outcome). carried old.table session o ∷ []) (asked_open old session (Tell question) entry found) ∙ ap (λ (s : Step). s ∷ []) (sym (told_step old.table session lines)))
     same reply
@@ -82,10 +81,10 @@ unopened_by system session full request other = refl
 
 -- a session that is not open can only be opened
 pub unopened : (old : Shown) (session : Name) (request : Read) → (request ≡ read.Start → ⊥) → entry_of session old.table ≡ None
-    → outcome_in (system_of old.subject) old.limit old.table session (asked request) ≡ Declined NoSession
+    → outcome_in (served_system old.subject) old.limit old.table session (asked request) ≡ Declined NoSession
 unopened old session request other none =
     let full = nat_le old.limit (length old.table) in
-    ap (λ (e : Option Entry). outcome (system_of old.subject) session full e (asked request)) none ∙ unopened_by (system_of old.subject) session full request other
+    ap (λ (e : Option Entry). outcome (served_system old.subject) session full e (asked request)) none ∙ unopened_by (served_system old.subject) session full request other
 
 -- a line that asks this was carried out
 pub line_carried : {T E : Type 0} (old new : Shown) (session : Name) (request : Request) (bytes : List ℕ) (before after : Option (List ℕ)) (result : Result T E) → Ask session request ≡ line_of bytes

@@ -1,26 +1,19 @@
 -- What a service writes is one text: where the moves of a script were made twice after the same bytes, the same bytes stand.
-use Rattle.std.proofs.Common.{◌≡◌, ℕ, zero, suc, Bool, true, false, List, [], ◌∷◌, ◌++◌, map, length, Option, Some, None, Result, Ok, Err, refl, ap, ap₂, sym, ◌∙◌, subst}
-use Rattle.std.specs.Prelude.{nat_le, if◌then◌else◌, codes}
-use Rattle.std.specs.List.{list_all}
-use Rattle.std.specs.Io.KnownBytes.{Appends}
-use Rattle.text_rules.specs.Names.{Name, is_among}
-use Rattle.state_rules.specs.Cases.{Case}
-use Rattle.state_rules.specs.Ranking.{rest}
-use Rattle.state_rules.specs.Levels.{levels, levels_rest}
-use Rattle.state_rules.specs.Systems.{System, all_diagnoses}
-use Rattle.device_model.specs.Devices.{place_of}
-use Rattle.script_lang.specs.Script.{Line, Blank, Refused, Ask, Request, Start, Stop, Note, Tell, Next, Several, After, Dnnf, Level, Levels, LeastNnf, line_of}
+use Rattle.std.proofs.Common.{◌≡◌, ℕ, zero, suc, Bool, List, [], ◌∷◌, ◌++◌, map, Option, Some, Result, sym, ◌∙◌, arith}
+use Rattle.std.specs.Prelude.{if◌then◌else◌}
+use Rattle.text_rules.specs.Names.{Name}
+use Rattle.state_rules.specs.Systems.{System}
+use Rattle.script_lang.specs.Script.{Line, Request, line_of}
 use Rattle.session_rules.specs.declared.refusal.Refusal.{Refusal}
-use Rattle.session_rules.specs.declared.refusal.Refusal.TheVariants.{Full, NoPart, NoLevels, NoLeast}
 use Rattle.session_rules.specs.Items.{Item, Plain, Projected, LeastText, Whole, line}
-use Rattle.session_rules.specs.Replies.{Found, found, next_of, level_of, level_line, listing, diagnosis_line, told}
-use Rattle.session_rules.specs.Sessions.{Table, Entry, Step, Outcome, Declined, Done, with_number, becomes, tells, tells_lines, goes_to, goes_through, names_of, no_such, with_noted, new_entry, state_of, outcome, entry_of, carried, step}
-use Rattle.session_rules.specs.Moves.{said, left_by, line_moves, script_moves}
+use Rattle.session_rules.specs.Replies.{Found, listing}
+use Rattle.session_rules.specs.Sessions.{Table, Entry, Outcome, Declined, Done, with_number, tells_lines, outcome, step, replies}
+use Rattle.session_rules.specs.Moves.{said, script_moves}
 use Rattle.session_rules.specs.Spelling.{Spells}
 use Rattle.session_rules.specs.Carrying.{Makes}
-use Rattle.session_rules.specs.GraphSystems.{system_of}
-use Rattle.session_rules.proofs.Whole.{line_moves-whole, said-append}
-use Rattle.session_core.specs.Services.{Shown, told_graph, case_text, least_case_text, with_graph, moves_of}
+use Rattle.session_rules.specs.GraphSystems.{Subject}
+use Rattle.session_rules.proofs.Whole.{said-replies}
+use Rattle.session_core.specs.Services.{Shown, served_system, moves_of}
 
 -- items that are texts
 abbrev pub ArePlain : List Item → Type 0
@@ -40,159 +33,59 @@ plain_both (Whole device vars most ∷ xs) ys h k = absurd h
 -- are spelled by one text
 one_spelling : (items : List Item) (a b : List ℕ) → ArePlain items → Spells items a → Spells items b → a ≡ b
 one_spelling [] a b h one other = one ∙ sym other
-one_spelling (Plain bytes ∷ items) a b h one other =
-    one.2 ∙ ap₂ (λ front rest. front ++ rest) (one.3 ∙ sym other.3) (one_spelling items one.1 other.1 h one.4 other.4) ∙ sym other.2
+one_spelling (Plain bytes ∷ items) a b h one other = grind (arith, one_spelling items one.1 other.1 h one.4 other.4)
 one_spelling (Projected parts states ∷ items) a b h one other = absurd h
 one_spelling (LeastText parts states ∷ items) a b h one other = absurd h
 one_spelling (Whole device vars most ∷ items) a b h one other = absurd h
 
 -- ---- every reply but a graph is a text
 
-found-plain : (s : Name) (shown : List Bool → Item) → ((state : List Bool) → ArePlain (shown state ∷ [])) → (point : Option (List Bool)) (ds later : List (List Bool)) → ArePlain ((found s shown point ds later).item ∷ [])
-found-plain s shown h point [] later = tt
-found-plain s shown h point (d ∷ ds) [] = tt
-found-plain s shown h point (d ∷ ds) (state ∷ later) = h state
-
 listing-plain : (next : Option (List Bool) → Found) → ((point : Option (List Bool)) → ArePlain ((next point).item ∷ []))
     → (n : ℕ) (point : Option (List Bool)) → ArePlain (map (λ f. f.item) (listing next n point))
 listing-plain next h zero point = tt
-listing-plain next h (suc n) point =
-    let f = next point in
-    let later = listing next n f.point in
-    plain_both (f.item ∷ []) (map (λ f. f.item) (elim f.more as (λ _. List Found) [ true ↦ later | false ↦ [] ])) (h point)
-    (elim f.more as (λ more. ArePlain (map (λ f. f.item) (elim more as (λ _. List Found) [ true ↦ later | false ↦ [] ]))) [
-      | true ↦ listing-plain next h n f.point
-      | false ↦ tt
-    ])
+listing-plain next h (suc n) point = grind (arith, listing-plain next h n)
 
 lines-plain : (lines : List (List (List ℕ))) → ArePlain (map line lines)
 lines-plain [] = tt
 lines-plain (words ∷ lines) = lines-plain lines
-
-next-plain : (system : System) (s : Name) (ds : List (List Bool)) (point : Option (List Bool)) → ArePlain ((next_of system s ds point).item ∷ [])
-next-plain system s ds point = found-plain s (diagnosis_line system s) (λ state. tt) point ds (rest ds point)
-
-level-plain : (system : System) (s : Name) (top : ℕ) (states : List (List Bool)) (point : Option (List Bool)) → ArePlain ((level_of system s top states point).item ∷ [])
-level-plain system s top states point =
-    found-plain s (level_line system s) (λ state. tt) point states (levels_rest system.costs (levels system.costs top states) point)
 
 abbrev IsPlain : Outcome → Type 0
 IsPlain (Declined refusal) = Unit {0}
 IsPlain (Done change items) = ArePlain items
 
 placed : (refusal : Refusal) (act : ℕ → Outcome) (place : Option ℕ) → ((i : ℕ) → IsPlain (act i)) → IsPlain (with_number refusal act place)
-placed refusal act None h = tt
-placed refusal act (Some i) h = h i
+placed refusal act place h = grind arith
 
 chosen : (b : Bool) (one other : Outcome) → IsPlain one → IsPlain other → IsPlain (if b then one else other)
-chosen true one other h k = h
-chosen false one other h k = k
+chosen b one other h k = grind arith
 
 told_lines-plain : (lines : Result (List (List (List ℕ))) Refusal) → IsPlain (tells_lines lines)
-told_lines-plain (Ok lines) = lines-plain lines
-told_lines-plain (Err refusal) = tt
-
-carried-plain : (table : Table) (s : Name) (o : Outcome) → IsPlain o → ArePlain (carried table s o).items
-carried-plain table s (Declined refusal) h = tt
-carried-plain table s (Done change items) h = h
-
--- where a graph is asked for, that is so of a session that is not open, or of a graph that is not told
-abbrev IsPlainFor : System → Request → Option Entry → Outcome → Type 0
-IsPlainFor system Dnnf entry o = entry ≡ None → IsPlain o
-IsPlainFor system LeastNnf entry o = (entry ≡ None → IsPlain o) × (system.extras.least ≡ false → IsPlain o)
-IsPlainFor system request entry o = IsPlain o
-
-abbrev ArePlainFor : System → Table → Line → List Item → Type 0
-ArePlainFor system table (Ask s Dnnf) items = entry_of s table ≡ None → ArePlain items
-ArePlainFor system table (Ask s LeastNnf) items = (entry_of s table ≡ None → ArePlain items) × (system.extras.least ≡ false → ArePlain items)
-ArePlainFor system table l items = ArePlain items
-
-module _ (system : System) where
-  outcome-plain : (s : Name) (full : Bool) (entry : Option Entry) (request : Request) → IsPlainFor system request entry (outcome system s full entry request)
-  outcome-plain s full (Some entry) Start = tt
-  outcome-plain s full (Some entry) Stop = tt
-  outcome-plain s full (Some entry) (Note what name bit) =
-      placed (no_such what) (λ i. becomes s (with_noted entry what i bit) (codes "ok")) (place_of name (names_of system what)) (λ i. tt)
-  outcome-plain s full (Some entry) (Tell question) = told_lines-plain (told system s entry.known question)
-  outcome-plain s full (Some entry) Next = next-plain system s (all_diagnoses system entry.known) entry.point
-  outcome-plain s full (Some entry) (Several count) =
-      let ds = all_diagnoses system entry.known in listing-plain (next_of system s ds) (next-plain system s ds) count entry.point
-  outcome-plain s full (Some entry) (After names) =
-      chosen (list_all (λ name. is_among system.parts name) names) (becomes s (record entry { point = Some (state_of names system.parts) }) (codes "ok")) (Declined NoPart) tt tt
-  outcome-plain s full (Some entry) Dnnf = λ none. absurd (let never : ⊥ = cc in never)
-  outcome-plain s full (Some entry) Level =
-      let level = λ (top : ℕ). level_of system s top (system.consistent entry.known) in
-      placed NoLevels (λ top. goes_to entry (level top entry.point)) system.extras.levels (λ top. level-plain system s top (system.consistent entry.known) entry.point)
-  outcome-plain s full (Some entry) (Levels count) =
-      let level = λ (top : ℕ). level_of system s top (system.consistent entry.known) in
-      placed NoLevels (λ top. goes_through entry (listing (level top) count entry.point)) system.extras.levels
-      (λ top. listing-plain (level top) (level-plain system s top (system.consistent entry.known)) count entry.point)
-  outcome-plain s full (Some entry) LeastNnf = (
-    (λ none. absurd (let never : ⊥ = cc in never)),
-    (λ untold.
-        subst (λ (told : Bool). IsPlain (if told then tells (line (s ∷ codes "leastnnf" ∷ []) ∷ LeastText (length system.parts) (all_diagnoses system entry.known) ∷ []) else Declined NoLeast))
-        (sym untold) tt),
-  )
-  outcome-plain s full None Start = chosen full (Declined Full) (becomes s (new_entry system) (codes "open")) tt tt
-  outcome-plain s full None Dnnf = λ none. tt
-  outcome-plain s full None LeastNnf = ((λ none. tt), (λ untold. tt))
-  outcome-plain s full None request = tt
-
-  step-plain : (limit : ℕ) (table : Table) (l : Line) → ArePlainFor system table l (step system limit table l).items
-  step-plain limit table Blank = tt
-  step-plain limit table (Refused refusal) = tt
-  step-plain limit table (Ask s Dnnf) = λ none.
-      carried-plain table s (outcome system s (nat_le limit (length table)) (entry_of s table) Dnnf) (outcome-plain s (nat_le limit (length table)) (entry_of s table) Dnnf none)
-  step-plain limit table (Ask s LeastNnf) =
-      let full = nat_le limit (length table) in
-      let plain = outcome-plain s full (entry_of s table) LeastNnf in
-      let items = carried-plain table s (outcome system s full (entry_of s table) LeastNnf) in
-      ((λ none. items (plain.0 none)), (λ untold. items (plain.1 untold)))
-  step-plain limit table (Ask s request) =
-      carried-plain table s (outcome system s (nat_le limit (length table)) (entry_of s table) request) (outcome-plain s (nat_le limit (length table)) (entry_of s table) request)
+told_lines-plain lines = grind (arith, lines-plain)
 
 -- ---- and a graph is one too
 
-module _ (shown : Shown) where
-  told-plain : (word : List ℕ) (text : Case → List ℕ) (table : Table) (s : Name) (entry : Option Entry) (moves : List Step) → (entry ≡ None → ArePlain (said moves)) → ArePlain (said (told_graph word text table s entry moves))
-  told-plain word text table s None moves h = h refl
-  told-plain word text table s (Some entry) moves h = tt
+module _ (subject : Subject) where
+  abbrev system : System
+  system = served_system subject
 
-  drawn-plain : (told : Bool) (table : Table) (s : Name) (moves : List Step) → (entry_of s table ≡ None → ArePlain (said moves)) → (told ≡ false → ArePlain (said moves))
-      → ArePlain (said (if told then told_graph (codes "leastnnf") (least_case_text shown.subject) table s (entry_of s table) moves else moves))
-  drawn-plain true table s moves h k = told-plain (codes "leastnnf") (least_case_text shown.subject) table s (entry_of s table) moves h
-  drawn-plain false table s moves h k = k refl
+  outcome-plain : (s : Name) (full : Bool) (entry : Option Entry) (request : Request) → IsPlain (outcome system s full entry request)
+  outcome-plain s full entry request = grind (arith, told_lines-plain, listing-plain)
 
-  with-plain : (table : Table) (l : Line) (moves : List Step) → ArePlainFor (system_of shown.subject) table l (said moves) → ArePlain (said (with_graph shown table l moves))
-  with-plain table (Ask s Dnnf) moves h = told-plain (codes "dnnf") (case_text shown.subject) table s (entry_of s table) moves h
-  with-plain table (Ask s LeastNnf) moves h = drawn-plain shown.subject.extras.least table s moves h.0 h.1
-  with-plain table l moves h = h
+  step-plain : (limit : ℕ) (table : Table) (l : Line) → ArePlain (step system limit table l).items
+  step-plain limit table l = grind (arith, outcome-plain)
 
-  line-plain : (table : Table) (bytes : List ℕ) → ArePlain (said (moves_of shown table bytes))
-  line-plain table bytes =
-      let system = system_of shown.subject in
-      with-plain table (line_of bytes) (line_moves system shown.limit table bytes)
-      (subst (ArePlainFor system table (line_of bytes)) (sym (ap (λ (s : Step). s.items) (line_moves-whole system shown.limit table bytes))) (step-plain system shown.limit table (line_of bytes)))
+  replies-plain : (limit : ℕ) (table : Table) (lines : List (List ℕ)) → ArePlain (replies system limit table lines)
+  replies-plain limit table [] = tt
+  replies-plain limit table (l ∷ lines) =
+      let now = step system limit table (line_of l) in
+      plain_both now.items (replies system limit now.table lines) (step-plain limit table (line_of l)) (replies-plain limit now.table lines)
 
-  -- all that a service answers to a script
-  pub script-plain : (table : Table) (lines : List (List ℕ)) → ArePlain (said (script_moves (moves_of shown) table lines))
-  script-plain table [] = tt
-  script-plain table (l ∷ lines) =
-      let first = moves_of shown table l in
-      let later = script_moves (moves_of shown) (left_by table first) lines in
-      subst ArePlain (sym (said-append first later)) (plain_both (said first) (said later) (line-plain table l) (script-plain (left_by table first) lines))
-
-grown_by : (bytes : List ℕ) (a b : Option (List ℕ)) (text other : List ℕ) → Appends (Some bytes) a text → Appends (Some bytes) b other → text ≡ other → a ≡ b
-grown_by bytes None b text other h k same = absurd h
-grown_by bytes (Some xs) None text other h k same = absurd k
-grown_by bytes (Some xs) (Some ys) text other h k same = ap (λ zs. Some zs) (h ∙ (ap (λ t. bytes ++ t) same ∙ sym k))
+-- all that a service answers to a script
+pub script-plain : (shown : Shown) (table : Table) (lines : List (List ℕ)) → ArePlain (said (script_moves (moves_of shown) table lines))
+script-plain shown table lines = grind (arith, said-replies (served_system shown.subject) shown.limit table lines, replies-plain shown.subject shown.limit table lines)
 
 -- so the bytes are the same, and the table, whenever the script is answered
 pub one_text : (shown : Shown) (old new other : Table) (lines : List (List ℕ)) (bytes : List ℕ) (a b : Option (List ℕ))
     → Makes old new (script_moves (moves_of shown) old lines) (Some bytes) a → Makes old other (script_moves (moves_of shown) old lines) (Some bytes) b
     → (a ≡ b) × (new ≡ other)
-one_text shown old new other lines bytes a b one again = (
-  grown_by bytes a b one.written.text again.written.text one.written.grown again.written.grown
-      (one_spelling (said (script_moves (moves_of shown) old lines)) one.written.text again.written.text (script-plain shown old lines) one.written.spelled again.written.spelled),
-  one.table ∙ sym again.table,
-)
+one_text shown old new other lines bytes a b one again = grind (arith, one_spelling, script-plain)

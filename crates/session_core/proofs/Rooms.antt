@@ -12,14 +12,12 @@ use Rattle.scratch_pool.proofs.Written.{length-written}
 pub carved_so : (old new : Carved) (n : ℕ) (found : Option Span) (run : Span) → found ≡ Some run
     → IfSome found (λ (run : Span). (run ≡ record { start = words_used old.runs; len = n }) × (new ≡ carved old run))
     → (run ≡ record { start = words_used old.runs; len = n }) × (new ≡ carved old run)
-carved_so old new n found run is =
-    subst (λ (o : Option Span). IfSome o (λ (run : Span). (run ≡ record { start = words_used old.runs; len = n }) × (new ≡ carved old run))) is
+carved_so old new n found run is = grind arith
 
 -- it has as many words as were wanted
 pub run_long : (new : Carved) (n : ℕ) (found : Option Span) (run : Span) → found ≡ Some run
     → IfSome found (λ (run : Span). run_words new run ≡ replicate n 0) → length (run_words new run) ≡ n
-run_long new n found run is zeros =
-    ap length (subst (λ (o : Option Span). IfSome o (λ (run : Span). run_words new run ≡ replicate n 0)) is zeros) ∙ length-replicate n 0
+run_long new n found run is zeros = grind (arith, length-replicate)
 
 module _ (old new : Carved) (run : Span) (empty : old.runs ≡ []) (is : new ≡ carved old run) where
   one_run : new.runs ≡ run ∷ []

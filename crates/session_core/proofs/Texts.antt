@@ -1,5 +1,5 @@
 -- The texts of replies.
-use Rattle.std.proofs.Common.{◌≡◌, ℕ, ◌+◌, ◌<◌, Bool, true, false, List, [], ◌∷◌, ◌++◌, length, map, drop, Option, refl, sym, ◌∙◌, ap, append_assoc, get_or, subst, Result, IsErr}
+use Rattle.std.proofs.Common.{◌≡◌, ℕ, ◌+◌, ◌<◌, true, false, List, [], ◌∷◌, ◌++◌, length, map, drop, Option, sym, append_assoc, get_or, Result, IsErr, arith}
 use Rattle.std.specs.Prelude.{◌==◌, if◌then◌else◌}
 use Rattle.diag_edge.specs.Edge.{AppendsPrefix}
 use denote.Ref.{Bor}
@@ -21,44 +21,29 @@ pub line_pieces : (session : Name) (words : List (Bor (List ℕ))) (names : List
 line_pieces session words names =
     let front : List Name = map (λ (word : Bor (List ℕ)). word.now) words in
     let same : flat_map (λ (word : Bor (List ℕ)). 32 ∷ word.now) words ≡ spaced_before front = sym (flat_map-map (λ (w : List ℕ). 32 ∷ w) (λ (word : Bor (List ℕ)). word.now) words) in
-    ap (λ t. (session ++ t) ++ (spaced_before names ++ 10 ∷ [])) same
-    ∙ (append_assoc session (spaced_before front) (spaced_before names ++ 10 ∷ [])
-    ∙ ap (λ t. session ++ t) (sym (append_assoc (spaced_before front) (spaced_before names) (10 ∷ []))
-    ∙ ap (λ t. t ++ 10 ∷ []) (sym (flat_map-append (λ name. 32 ∷ name) front names)))
-    ∙ spaced-first session (front ++ names))
+    grind (arith, append_assoc session (spaced_before front) (spaced_before names ++ 10 ∷ []), append_assoc (spaced_before front) (spaced_before names) (10 ∷ []), flat_map-append, spaced-first session (front ++ names))
 
 -- the faulty parts among those that are left
 pub faulty-drop : (parts : List Name) (state : List ℕ) (i : ℕ) → i < length parts → i < length state
     → faulty_names (drop i parts) (bits_of (drop i state)) ≡ (if get_or state i 0 == 0 then faulty_names (drop (i + 1) parts) (bits_of (drop (i + 1) state)) else get_or parts i [] ∷ faulty_names (drop (i + 1) parts) (bits_of (drop (i + 1) state)))
-faulty-drop parts state i h g = rw (drop_more parts i [] h, drop_more state i 0 g) (by (get_or state i 0 == 0))
-  where
-    by : (b : Bool) → faulty_names (get_or parts i [] ∷ drop (i + 1) parts) (b ∷ bits_of (drop (i + 1) state)) ≡ (if b then faulty_names (drop (i + 1) parts) (bits_of (drop (i + 1) state)) else get_or parts i [] ∷ faulty_names (drop (i + 1) parts) (bits_of (drop (i + 1) state)))
-    by true = refl
-    by false = refl
+faulty-drop parts state i h g = grind (arith, drop_more)
 
 -- the next part is faulty, and named
 pub named : (parts : List Name) (state : List ℕ) (i : ℕ) (part name : Name) → i < length parts → i < length state → part ≡ get_or parts i [] → name ≡ part → (get_or state i 0 == 0) ≡ false
     → spaced_before (faulty_names (drop i parts) (bits_of (drop i state))) ≡ (32 ∷ name) ++ spaced_before (faulty_names (drop (i + 1) parts) (bits_of (drop (i + 1) state)))
-named parts state i part name h g is so off =
-    let rest = faulty_names (drop (i + 1) parts) (bits_of (drop (i + 1) state)) in
-    ap spaced_before (faulty-drop parts state i h g ∙ (λ j. if off j then rest else sym is j ∷ rest) ∙ ap (λ n. n ∷ rest) (sym so))
+named parts state i part name h g is so off = grind (arith, faulty-drop)
 
 -- the next part is ok, and passed over
 pub passed_over : (parts : List Name) (state : List ℕ) (i : ℕ) → i < length parts → i < length state → (get_or state i 0 == 0) ≡ true
     → spaced_before (faulty_names (drop i parts) (bits_of (drop i state))) ≡ spaced_before (faulty_names (drop (i + 1) parts) (bits_of (drop (i + 1) state)))
-passed_over parts state i h g on =
-    let rest = faulty_names (drop (i + 1) parts) (bits_of (drop (i + 1) state)) in
-    ap spaced_before (faulty-drop parts state i h g ∙ (λ j. if on j then rest else (get_or parts i [] ∷ rest)))
+passed_over parts state i h g on = grind (arith, faulty-drop)
 
 -- some names were added, and the next one
 pub named_more : (a b c : Option (List ℕ)) (p q r text piece before rest total : List ℕ) → Grown a b p q text → text ++ before ≡ total → before ≡ piece ++ rest → Grown b c q r piece
     → (more : List ℕ) × Grown a c p r more × (more ++ rest ≡ total)
-named_more a b c p q r text piece before rest total grown all is added =
-    (text ++ piece, grown_more a b c p q r text piece grown added, append_assoc text piece rest ∙ ap (λ x. text ++ x) (sym is) ∙ all)
+named_more a b c p q r text piece before rest total grown all is added = grind (arith, grown_more a b c p q r text piece grown added, append_assoc text piece rest)
 
 -- some names were added, and with the next one a put failed
 pub named_part : {T E : Type 0} (a b c : Option (List ℕ)) (p q r : List ℕ) (result : Result T E) (text piece before rest total : List ℕ) → IsErr result → Grown a b p q text
     → text ++ before ≡ total → before ≡ piece ++ rest → AppendsPrefix b c (q ++ piece) → Adds a c p r result total
-named_part a b c p q r result text piece before rest total failed grown all is part =
-    subst (λ t. Adds a c p r result t) (append_assoc text piece rest ∙ ap (λ x. text ++ x) (sym is) ∙ all)
-    (adds_first a c p r result (text ++ piece) rest failed (part_more a b c p q text piece grown part))
+named_part a b c p q r result text piece before rest total failed grown all is part = grind (arith, append_assoc text piece rest, adds_first a c p r result (text ++ piece) rest failed (part_more a b c p q text piece grown part))

@@ -1,4 +1,3 @@
 pub mod Services
-pub mod Dialogues
 pub mod Serving
 pub mod inner

@@ -1,17 +1,18 @@
 -- What contracts see of a service.
-use Rattle.std.specs.Prelude.{◌≡◌, ◌+◌, ◌*◌, ◌^◌, ◌<◌, ◌≤◌, ℕ, true, List, [], ◌∷◌, length, Option, Some, None, codes, if◌then◌else◌}
-use Rattle.text_rules.specs.Names.{Name}
+use Rattle.std.specs.Prelude.{◌≡◌, ◌+◌, ◌*◌, ◌^◌, ◌<◌, ◌≤◌, ℕ, true, List, length, Option, Some}
 use Rattle.state_rules.specs.Cases.{Case}
+use Rattle.state_rules.specs.Systems.{System, with_texts}
 use Rattle.state_rules.specs.Graphs.{Graph, IsGraph, edges}
 use Rattle.projector.specs.Projecting.{projected_text}
 use Rattle.level_lister.specs.Listing.{cost_words}
 use Rattle.smooth_nnf.specs.Layouts.{least_text}
 use Rattle.smooth_nnf.specs.Sizes.{drawing_bits}
-use Rattle.script_lang.specs.Script.{Line, Blank, Refused, Ask, Dnnf, LeastNnf, line_of}
+use Rattle.script_lang.specs.Script.{Line, Blank, Refused, Ask, line_of}
 use Rattle.session_rules.specs.declared.refusal.Refusal.{Refusal}
-use Rattle.session_rules.specs.Items.{Plain, line}
-use Rattle.session_rules.specs.Sessions.{Table, Entry, Step, Declined, entry_of, outcome_in}
-use Rattle.session_rules.specs.Moves.{moves}
+use Rattle.session_rules.specs.Sessions.{Table, Step, Declined, outcome_in, replies}
+use Rattle.session_rules.specs.Moves.{moves, line_moves, script_moves}
+use Rattle.session_rules.specs.Carrying.{Makes, BreaksOff}
+use Rattle.session_rules.specs.Spelling.{Writes}
 use Rattle.session_rules.specs.CaseSizes.{HasCasesOf}
 use Rattle.session_rules.specs.GraphSystems.{Subject, HasLeastTexts, system_of, case_words}
 use Rattle.session_core.specs.declared.limits.TheConstants.{SERVED_BITS}
@@ -52,27 +53,13 @@ case_text subject known = projected_text subject.graph (case_words subject.graph
 abbrev pub least_case_text : Subject → Case → List ℕ
 least_case_text subject known = least_text subject.graph (case_words subject.graph.vars known) subject.costs
 
--- An open session that asks for a graph is told its text behind a word, in place of these moves.
-abbrev pub told_graph : List ℕ → (Case → List ℕ) → Table → Name → Option Entry → List Step → List Step
-told_graph word text table session None moves = moves
-told_graph word text table session (Some entry) moves = record {
-  table = table;
-  items = line (session ∷ word ∷ []) ∷ Plain (text entry.known) ∷ [];
-} ∷ []
+-- the system of a service, which says these texts
+abbrev pub served_system : Subject → System
+served_system subject = with_texts (record { dnnf = Some (case_text subject); least = Some (least_case_text subject) }) (system_of subject)
 
--- Any other line keeps them.
-abbrev pub with_graph : Shown → Table → Line → List Step → List Step
-with_graph shown table (Ask session Dnnf) moves =
-    told_graph (codes "dnnf") (case_text shown.subject) table session (entry_of session table) moves
-with_graph shown table (Ask session LeastNnf) moves =
-    if shown.subject.extras.least
-    then told_graph (codes "leastnnf") (least_case_text shown.subject) table session (entry_of session table) moves
-    else moves
-with_graph shown table line moves = moves
-
--- the moves of a line, from a table: those over the service's system, where a graph is told by its text
+-- the moves of a line, from a table
 abbrev pub exact_moves : Shown → Table → Line → List Step
-exact_moves shown table line = with_graph shown table line (moves (system_of shown.subject) shown.limit table line)
+exact_moves shown table line = moves (served_system shown.subject) shown.limit table line
 
 abbrev pub moves_of : Shown → Table → List ℕ → List Step
 moves_of shown table bytes = exact_moves shown table (line_of bytes)
@@ -83,8 +70,21 @@ abbrev pub IsRefused : Shown → Line → Type 0
 IsRefused shown Blank = ⊥
 IsRefused shown (Refused refusal) = Unit {0}
 IsRefused shown (Ask session request) =
-    (refusal : Refusal) × (outcome_in (system_of shown.subject) shown.limit shown.table session request ≡ Declined refusal)
+    (refusal : Refusal) × (outcome_in (served_system shown.subject) shown.limit shown.table session request ≡ Declined refusal)
 
 -- nothing but the table changed
 abbrev pub ChangesTable : Shown → Shown → Type 0
 ChangesTable old new = new ≡ record old { table = new.table }
+
+-- What a service writes for these lines, from this table, is one text of what its system answers.
+pub record SpellReplies (shown : Shown) (old : Table) (lines : List (List ℕ)) : Type 0 where
+  -- Where the moves of the lines were made, those over the system were, the text spells its replies, and cases fit as before.
+  pub made : (new : Table) (before after : Option (List ℕ)) → Makes old new (script_moves (moves_of shown) old lines) before after
+      → Makes old new (script_moves (line_moves (system_of shown.subject) shown.limit) old lines) before after
+  pub replies : (new : Table) (before after : Option (List ℕ)) → Makes old new (script_moves (moves_of shown) old lines) before after
+      → Writes before after (replies (system_of shown.subject) shown.limit old lines)
+  pub cases : (new : Table) (before after : Option (List ℕ)) → Makes old new (script_moves (moves_of shown) old lines) before after
+      → HasCasesOf (system_of shown.subject) new
+  -- Where they broke off, those over the system did.
+  pub broke : (new : Table) (before after : Option (List ℕ)) → BreaksOff new (script_moves (moves_of shown) old lines) before after
+      → BreaksOff new (script_moves (line_moves (system_of shown.subject) shown.limit) old lines) before after

@@ -8,11 +8,11 @@ ghost use Rattle.minimiser.specs.declared.pass.TheConstants.{TOTAL_LIMIT};
 ghost use Rattle.scratch_pool.specs.declared.region.TheConstants.{REGION_LIMIT};
 ghost use Rattle.part_sets.specs.PartSets.{AreFor};
 ghost use Rattle.level_lister.specs.Listing.{IsFor};
-ghost use Rattle.session_rules.specs.GraphSystems.{system_of};
 ghost use Rattle.session_rules.specs.Sessions.{names_of};
-ghost use Rattle.session_core.specs.Services.{CanList, CanDraw};
+ghost use Rattle.session_core.specs.Services.{CanList, CanDraw, served_system};
 
 use crate::limits::{SERVED_NODES, SERVED_VARIABLES};
+use crate::listed::Listed;
 use device_model::{Name, place_of};
 use level_lister::Levels;
 use node_store::Graph;
@@ -24,15 +24,15 @@ use std::alloc::{AllocError, Global};
 use std::marker::Model;
 
 /// What sessions ask over, which no line changes: the names of parts and wires, what the failure of each part costs, a graph whose
-/// variables are the parts, the wires, and inner ones, and what is told besides.
+/// variables are the parts, the wires, and inner ones, and the extras.
 pub(crate) struct Basis {
     parts: Vec<Name>,
     wires: Vec<Name>,
     costs: Vec<u32>,
     graph: Graph,
-    // what lists states by rising cost, where these are told
+    // what lists states by rising cost, if these are listed
     levels: Option<Levels>,
-    // what the graph of the diagnoses is drawn with, where it is told and nothing else keeps it
+    // what the graph of the diagnoses is drawn with, if it is written and nothing else keeps it
     sets: Option<PartSets>,
     least: bool,
 }
@@ -66,6 +66,7 @@ impl Model for Basis {
 
 impl Basis {
     ghost use Rattle.session_core.specs.inner.Bases.{IsBasis, AreEnough, level_room};
+    ghost use Rattle.session_core.specs.inner.Desks.{is_listed};
 
     /// Names, costs and a graph. `Err` means that memory ran out.
     pub(crate) fn of(
@@ -147,7 +148,7 @@ impl Basis {
 
     /// The place of a wire, or of a part. There is none exactly where none has the name.
     pub(crate) fn find(&self, what: Noted, name: &[u8]) -> Option<u32>
-        ensures { result ≡ place_of name.now (names_of (system_of self.now) what) }
+        ensures { result ≡ place_of name.now (names_of (served_system self.now) what) }
     {
         match what {
             Noted::Wire => place_of(&self.wires, name),
@@ -155,7 +156,7 @@ impl Basis {
         }
     }
 
-    /// What lists states by rising cost, where they are told.
+    /// What lists states by rising cost, if they are listed.
     pub(crate) fn levels(&self) -> Option<&Levels>
         ensures none { IsNone result → self.now.extras.levels ≡ None }
         ensures some { IfSome result (λ levels. (self.now.extras.levels ≡ Some levels.now.top)
@@ -165,11 +166,14 @@ impl Basis {
         self.levels.as_ref()
     }
 
-    /// Whether states are told by rising cost.
-    pub(crate) fn tells_levels(&self) -> bool
-        ensures { result ≡ is_some self.now.extras.levels }
+    /// Whether there is a listing.
+    pub(crate) fn lists(&self, listed: Listed) -> bool
+        ensures { result ≡ is_listed self.now listed }
     {
-        self.levels.is_some()
+        match listed {
+            Listed::Diagnoses => true,
+            Listed::Levels => self.levels.is_some(),
+        }
     }
 
     /// The sets of parts that the graph of the diagnoses is drawn with.
@@ -183,7 +187,7 @@ impl Basis {
         }
     }
 
-    /// Whether the graph of the diagnoses is told.
+    /// Whether the graph of the diagnoses is written.
     pub(crate) fn tells_least(&self) -> bool
         ensures { result ≡ self.now.extras.least }
     {
@@ -242,7 +246,7 @@ impl Basis {
     }
 }
 
-// What lists states by rising cost, where they are told.
+// What lists states by rising cost, if they are listed.
 fn levels_of(
     alloc: Global,
     graph: &Graph,
@@ -263,7 +267,7 @@ fn levels_of(
     }
 }
 
-// The sets of parts, where the graph of the diagnoses is told and what lists states does not keep them.
+// The sets of parts, if the graph of the diagnoses is written and what lists states does not keep them.
 fn sets_of(
     alloc: Global,
     graph: &Graph,

@@ -1,5 +1,5 @@
 //! What all answers are worked out with.
-ghost use Rattle.std.specs.Prelude.{◌≡◌, ℕ, ◌<◌, [], Bool, true, false, Some, All, IfOk, IfSome, length, slice_get, slice_index_or, is_some};
+ghost use Rattle.std.specs.Prelude.{◌≡◌, ℕ, ◌<◌, Bool, true, false, Some, None, All, IfOk, IfSome, length, slice_get, is_some};
 ghost use Rattle.std.specs.Option.{option_map};
 ghost use Rattle.std.specs.List.{list_all};
 ghost use Rattle.text_rules.specs.Names.{is_among};
@@ -7,21 +7,19 @@ ghost use Rattle.text_rules.specs.Tokens.{words};
 ghost use Rattle.state_rules.specs.Ranking.{rest};
 ghost use Rattle.diag_edge.specs.Edge.{HasCause, Puts};
 ghost use Rattle.conditioner.specs.Words.{bits_of};
-ghost use Rattle.diagnosis_lister.specs.Listing.{step_of};
 ghost use Rattle.probe_report.specs.Probed.{probed};
-ghost use Rattle.level_lister.specs.Listing.{level_step, point_if};
+ghost use Rattle.level_lister.specs.Listing.{point_if};
 ghost use Rattle.session_rules.specs.Sessions.{state_of};
 ghost use Rattle.session_rules.specs.Replies.{seen_at};
 ghost use Rattle.session_core.specs.Services.{least_case_text};
 ghost use Rattle.session_core.specs.inner.Bases.{AreKnown};
-ghost use Rattle.session_core.specs.inner.Desks.{asked_case, agreeing, least_asked, diagnoses_asked, later_asked, least_seen, blame_asked};
+ghost use Rattle.session_core.specs.inner.Desks.{asked_case, least_asked, diagnoses_asked, least_seen, blame_asked, is_listed, later_states, next_after, IsFirst};
 
 use crate::basis::Basis;
 use crate::desk_memory::DeskMemory;
+use crate::listed::{Listed, NextState};
 use conditioner::is_open;
 use diag_edge::{Sink, WriteFailed};
-use diagnosis_lister::Step;
-use level_lister::LevelStep;
 use minimiser::Steps;
 use probe_report::{Blame, cost_of, probe, probe_all};
 use script_lang::{Noted, each_name};
@@ -134,7 +132,7 @@ impl Desk {
     /// The least cost; the state is then the first diagnosis.
     pub(crate) fn first<L: Ledger>(&mut self, steps: &mut Steps<L>) -> Option<u32>
         ensures least { result ≡ least_asked self.old }
-        ensures first { IfSome result (λ _. bits_of self.new.state ≡ slice_index_or (diagnoses_asked self.old) 0 []) }
+        ensures first { IsFirst (bits_of self.new.state) (diagnoses_asked self.old) }
         ensures stays { self.new ≡ record self.old { state = self.new.state } }
     {
         self.memory.state.fill(0);
@@ -148,66 +146,69 @@ impl Desk {
         )
     }
 
-    /// Whether there is a diagnosis after a point, or at all where there is none; the state is then the first such one.
-    pub(crate) fn next<L: Ledger>(&mut self, point: Option<&[u32]>, steps: &mut Steps<L>) -> Step
-        requires { IfSome point (λ old. (length old.now ≡ length self.old.subject.parts) × All (λ s. s < 2) old.now) }
-        ensures step { result ≡ step_of (agreeing self.old)
-            (rest (diagnoses_asked self.old) (option_map (λ old. bits_of old.now) point.entry)) }
-        ensures state { result ≡ Step.Found → bits_of self.new.state ≡ slice_index_or
-            (rest (diagnoses_asked self.old) (option_map (λ old. bits_of old.now) point.entry)) 0 [] }
+    /// What comes next of a listing after a point, or first if there is no point. The state is then the one that is found.
+    pub(crate) fn next<L: Ledger>(
+        &mut self,
+        listed: Listed,
+        point: Option<&[u32]>,
+        steps: &mut Steps<L>,
+    ) -> NextState
+        requires listed { is_listed self.old.subject listed ≡ true }
+        requires point { IfSome point (λ old. (length old.now ≡ length self.old.subject.parts) × All (λ s. s < 2) old.now) }
+        ensures next { result ≡ next_after self.old.subject listed (asked_case self.old) (option_map (λ old. bits_of old.now) point.entry) }
+        ensures state { IsFirst (bits_of self.new.state)
+            (later_states self.old.subject listed (asked_case self.old) (option_map (λ old. bits_of old.now) point.entry)) }
         ensures stays { self.new ≡ record self.old { state = self.new.state } }
     {
-        match point {
-            None => self.begin(steps),
-            Some(old) => self.go_on(old, steps),
+        match listed {
+            Listed::Levels => self.next_level(point, steps),
+            Listed::Diagnoses => match point {
+                None => self.begin(steps),
+                Some(old) => self.go_on(old, steps),
+            },
         }
     }
 
-    // Whether there is a diagnosis; the first one is then the state.
-    fn begin<L: Ledger>(&mut self, steps: &mut Steps<L>) -> Step
-        ensures step { result ≡ step_of (agreeing self.old) (diagnoses_asked self.old) }
-        ensures state { result ≡ Step.Found → bits_of self.new.state ≡ slice_index_or (diagnoses_asked self.old) 0 [] }
+    // The first diagnosis.
+    fn begin<L: Ledger>(&mut self, steps: &mut Steps<L>) -> NextState
+        ensures next { result ≡ next_after self.old.subject Listed.Diagnoses (asked_case self.old) None }
+        ensures state { IsFirst (bits_of self.new.state) (diagnoses_asked self.old) }
         ensures stays { self.new ≡ record self.old { state = self.new.state } }
     {
         match self.first(steps) {
-            Some(_) => Step::Found,
-            None => Step::Inconsistent,
+            Some(_) => NextState::Found(None),
+            None => NextState::Inconsistent,
         }
     }
 
-    // Whether there is a diagnosis after a state; the first such one is then the state.
-    fn go_on<L: Ledger>(&mut self, old: &[u32], steps: &mut Steps<L>) -> Step
+    // The first diagnosis after a state.
+    fn go_on<L: Ledger>(&mut self, old: &[u32], steps: &mut Steps<L>) -> NextState
         requires long { length old.now ≡ length self.old.subject.parts }
         requires bits { All (λ s. s < 2) old.now }
-        ensures step { result ≡ step_of (agreeing self.old) (rest (diagnoses_asked self.old) (Some (bits_of old.now))) }
-        ensures state { result ≡ Step.Found
-            → bits_of self.new.state ≡ slice_index_or (rest (diagnoses_asked self.old) (Some (bits_of old.now))) 0 [] }
+        ensures next { result ≡ next_after self.old.subject Listed.Diagnoses (asked_case self.old) (Some (bits_of old.now)) }
+        ensures state { IsFirst (bits_of self.new.state) (rest (diagnoses_asked self.old) (Some (bits_of old.now))) }
         ensures stays { self.new ≡ record self.old { state = self.new.state } }
     {
         self.memory.state.copy_from_slice(old);
-        self.memory.distiller.next(
-            self.basis.graph(),
-            &mut self.memory.known,
-            self.basis.costs(),
-            &mut self.memory.values,
-            &mut self.memory.state,
-            steps,
+        NextState::of_step(
+            self.memory.distiller.next(
+                self.basis.graph(),
+                &mut self.memory.known,
+                self.basis.costs(),
+                &mut self.memory.values,
+                &mut self.memory.state,
+                steps,
+            ),
         )
     }
 
-    /// Whether there is a state after a point by rising cost, or any where there is no point, and what it costs; the state is then
-    /// the first such one.
-    pub(crate) fn next_level<L: Ledger>(
-        &mut self,
-        point: Option<&[u32]>,
-        steps: &mut Steps<L>,
-    ) -> LevelStep
-        requires told { is_some self.old.subject.extras.levels ≡ true }
+    // What comes next of the states by rising cost.
+    fn next_level<L: Ledger>(&mut self, point: Option<&[u32]>, steps: &mut Steps<L>) -> NextState
+        requires listed { is_listed self.old.subject Listed.Levels ≡ true }
         requires point { IfSome point (λ old. (length old.now ≡ length self.old.subject.parts) × All (λ s. s < 2) old.now) }
-        ensures step { result ≡ level_step self.old.subject.costs (agreeing self.old)
-            (later_asked self.old (option_map (λ old. bits_of old.now) point.entry)) }
-        ensures state { (cost : ℕ) → result ≡ LevelStep.Found cost → bits_of self.new.state ≡ slice_index_or
-            (later_asked self.old (option_map (λ old. bits_of old.now) point.entry)) 0 [] }
+        ensures next { result ≡ next_after self.old.subject Listed.Levels (asked_case self.old) (option_map (λ old. bits_of old.now) point.entry) }
+        ensures state { IsFirst (bits_of self.new.state)
+            (later_states self.old.subject Listed.Levels (asked_case self.old) (option_map (λ old. bits_of old.now) point.entry)) }
         ensures stays { self.new ≡ record self.old { state = self.new.state } }
     {
         let pointed = start_at(&mut self.memory.state, point);
@@ -226,10 +227,10 @@ impl Desk {
             steps,
         );
         self.memory.room.release(run);
-        step
+        NextState::of_level_step(step)
     }
 
-    /// Writes the graph of the diagnoses, where it is told.
+    /// Writes the graph of the diagnoses.
     pub(crate) fn write_least<O: Sink>(&mut self, out: &mut O) -> Result<(), WriteFailed>
         requires told { self.old.subject.extras.least ≡ true }
         ensures text { Puts (O.got out.old) (O.got out.new) result

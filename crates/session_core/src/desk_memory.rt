@@ -20,7 +20,7 @@ pub(crate) struct DeskMemory {
     pub(crate) state: Vec<u32>,
     pub(crate) verdicts: Vec<Blame>,
     pub(crate) numbers: Vec<u32>,
-    // room that an answer takes whole for its while: the probes of all wires, and what is told besides
+    // room that an answer takes whole for its while: the probes of all wires, or a step by rising cost
     pub(crate) room: Region,
     // a smaller graph that has the diagnoses of the words that were asked last
     pub(crate) distiller: Distiller,

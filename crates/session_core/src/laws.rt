@@ -2,11 +2,11 @@
 ghost use Rattle.std.specs.Prelude.{◌≡◌, ℕ, List, Option, Some};
 ghost use Rattle.session_rules.specs.Sessions.{Table};
 ghost use Rattle.session_rules.specs.Moves.{script_moves};
+ghost use Rattle.session_rules.specs.Alone.{AreAnsweredAlone};
 ghost use Rattle.session_rules.specs.Carrying.{Makes};
 ghost use Rattle.session_rules.specs.CaseSizes.{HasCasesOf};
 ghost use Rattle.session_rules.specs.GraphSystems.{system_of};
-ghost use Rattle.session_core.specs.Dialogues.{AreToldAlone, SpellReplies};
-ghost use Rattle.session_core.specs.Services.{Shown, IsSound, moves_of};
+ghost use Rattle.session_core.specs.Services.{Shown, IsSound, SpellReplies, served_system, moves_of};
 
 /// What a service writes is one text: where the moves of a script were made twice, from one table and after the same bytes, the
 /// same bytes stand, and the same table.
@@ -17,10 +17,12 @@ pub fn one_text()
         → (a ≡ b) × (new ≡ other) }
 {}
 
-/// What a service tells a session, byte for byte, is what it tells it alone: wherever it opens among some lines, its own lines from
-/// there to its end are told what they are told with no other line before, between or behind them, where one session may be open.
+/// What a service answers a session, byte for byte, is what it answers it alone: wherever it opens among some lines, its own lines
+/// from there to its end have the answers that they have with no other line before, between or after them, if one session may be
+/// open.
 pub fn told_alone()
-    ensures { (shown : Shown) (table : Table) (lines : List (List ℕ)) → AreToldAlone shown table lines }
+    ensures { (shown : Shown) (table : Table) (lines : List (List ℕ))
+        → AreAnsweredAlone (served_system shown.subject) shown.limit table lines }
 {}
 
 /// What a service writes spells the replies of its system: the moves of a script, from a table whose cases fit the system, are moves

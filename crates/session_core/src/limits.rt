@@ -11,6 +11,6 @@ pub const SERVED_VARIABLES: u32 = 110_000;
 /// budget has fewer than 26,000,000.
 pub const SERVED_NODES: u32 = 536_870_912;
 
-/// At most so many bits are counted for the sets of the nodes, where states are listed by rising cost, and for the words and sets by
-/// which the graph of the diagnoses is drawn, where it is told.
+/// At most so many bits are counted for the sets of the nodes, if states are listed by rising cost, and for the words and sets by
+/// which the graph of the diagnoses is drawn, if it is written.
 pub const SERVED_BITS: u64 = 2_147_483_648;

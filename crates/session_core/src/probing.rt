@@ -1,10 +1,10 @@
 //! What is told of all wires at once.
 ghost use Rattle.std.specs.Prelude.{◌≡◌, ◌<◌, [], length, map, slice_index_or};
 ghost use Rattle.diag_edge.specs.Edge.{HasCause};
-ghost use Rattle.session_rules.specs.GraphSystems.{system_of};
 ghost use Rattle.session_rules.specs.Items.{line};
 ghost use Rattle.session_rules.specs.Replies.{probe_lines};
 ghost use Rattle.session_rules.specs.Spelling.{Replies};
+ghost use Rattle.session_core.specs.Services.{served_system};
 ghost use Rattle.session_core.specs.inner.Desks.{asked_case};
 ghost use Rattle.session_core.specs.inner.Telling.{probes_told, unseen_line, AreProbed};
 
@@ -22,7 +22,7 @@ pub(crate) fn tell_probes<O: Sink, L: Ledger>(
     steps: &mut Steps<L>,
 ) -> Result<(), WriteFailed>
     ensures reply { Replies (O.got out.old) (O.got out.new) result
-        (map line (probes_told (system_of desk.old.subject) session.now (asked_case desk.old))) }
+        (map line (probes_told (served_system desk.old.subject) session.now (asked_case desk.old))) }
     ensures subject { desk.new.subject ≡ desk.old.subject }
     ensures cause { HasCause (O.faults out.old) (O.faults out.new) result }
 {
@@ -36,7 +36,7 @@ pub(crate) fn tell_probes<O: Sink, L: Ledger>(
 // A line for each wire that is not seen.
 fn put_probes<O: Sink>(desk: &Desk, session: &[u8], out: &mut O) -> Result<(), WriteFailed>
     requires { AreProbed desk.now }
-    ensures reply { let system = system_of desk.now.subject in
+    ensures reply { let system = served_system desk.now.subject in
         Replies (O.got out.old) (O.got out.new) result
         (map line (probe_lines system session.now (asked_case desk.now) 0 system.wires)) }
     ensures cause { HasCause (O.faults out.old) (O.faults out.new) result }
@@ -57,7 +57,7 @@ fn put_unseen<O: Sink>(
 ) -> Result<(), WriteFailed>
     requires numbers { AreProbed desk.now }
     requires wire { wire < length desk.now.subject.wires }
-    ensures reply { let system = system_of desk.now.subject in Replies (O.got out.old) (O.got out.new) result
+    ensures reply { let system = served_system desk.now.subject in Replies (O.got out.old) (O.got out.new) result
         (map line (unseen_line system session.now (asked_case desk.now) (slice_index_or system.wires wire []) wire)) }
     ensures cause { HasCause (O.faults out.old) (O.faults out.new) result }
 {

@@ -1,5 +1,5 @@
 //! The lines of replies, each of which is one call of the sink where it is short.
-ghost use Rattle.std.specs.Prelude.{◌≡◌, [], ◌∷◌, ◌++◌, length, map, decimal, codes};
+ghost use Rattle.std.specs.Prelude.{◌≡◌, [], ◌∷◌, ◌++◌, length, map, codes};
 ghost use Rattle.std.specs.List.{flat_map};
 ghost use Rattle.text_rules.specs.Tokens.{spaced};
 ghost use Rattle.diag_edge.specs.Adding.{Adds};
@@ -9,8 +9,9 @@ ghost use Rattle.session_rules.specs.Refusals.{refusal_row};
 ghost use Rattle.session_rules.specs.Sessions.{error_words};
 ghost use Rattle.script_lang.specs.Refusals as line_refusals;
 ghost use Rattle.session_rules.specs.Replies.{faulty_names, count_text};
-ghost use Rattle.session_core.specs.inner.Texts.{blame_text, spaced_before, min_text};
+ghost use Rattle.session_core.specs.inner.Texts.{blame_text, spaced_before, min_text, next_text};
 
+use crate::listed::NextState;
 use conditioner::is_faulty;
 use device_model::Name;
 use diag_edge::{Chunk, Sink, WriteFailed, put_line};
@@ -91,22 +92,32 @@ pub(crate) fn put_min<O: Sink>(
     }
 }
 
-// The line of `level`: what a state costs and the names of its faulty parts.
-pub(crate) fn put_level<O: Sink>(
+// The line of what comes next of a listing: the names of the faulty parts of a state, before them its cost if that is shown; or that
+// there is none.
+pub(crate) fn put_next<O: Sink>(
     out: &mut O,
     session: &[u8],
-    cost: u32,
     parts: &[Name],
+    next: NextState,
     state: &[u32],
 ) -> Result<(), WriteFailed>
     requires { length state.now ≡ length parts.now }
     ensures text { Puts (O.got out.old) (O.got out.new) result
-        (spaced (session.now ∷ codes "level" ∷ decimal cost ∷ faulty_names parts.now (bits_of state.now))) }
+        (spaced (next_text session.now parts.now next (bits_of state.now))) }
     ensures cause { HasCause (O.faults out.old) (O.faults out.new) result }
 {
-    let mut digits = Buffer::new();
-    let cost = digits.format(cost).as_bytes();
-    put_faulty(out, session, &[b"level", cost], parts, state)
+    match next {
+        NextState::Inconsistent => put_line(out, &[session, b"inconsistent"]),
+        NextState::End => put_line(out, &[session, b"end"]),
+        NextState::Found(cost) => match cost {
+            None => put_faulty(out, session, &[b"diag"], parts, state),
+            Some(cost) => {
+                let mut digits = Buffer::new();
+                let cost = digits.format(cost).as_bytes();
+                put_faulty(out, session, &[b"level", cost], parts, state)
+            }
+        },
+    }
 }
 
 /// Puts the line of a first word, as the name of a session, of some more, and of the names of the faulty parts: those whose
@@ -162,7 +173,7 @@ fn add_back<O: Sink>(
     chunk.add(out, b"\n")
 }
 
-// The names of the faulty parts, each behind a space.
+// The names of the faulty parts, each after a space.
 fn add_faulty<O: Sink>(
     chunk: &mut Chunk,
     out: &mut O,

@@ -37,7 +37,7 @@ impl Model for Service {
 impl Service {
     /// A service over the names of parts and wires, what the failure of each part costs, and a graph whose variables are the
     /// parts, the wires, and inner ones. No session is open, and at most so many may be, from 1 to `SESSION_LIMIT`. States by
-    /// rising cost and the graph of the diagnoses are told where the extras say so. `Err` means that memory ran out.
+    /// rising cost and the graph of the diagnoses are answered if the extras say so. `Err` means that memory ran out.
     pub fn over(
         alloc: Global,
         parts: Vec<Name>,

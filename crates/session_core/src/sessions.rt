@@ -10,7 +10,7 @@ ghost use Rattle.session_core.specs.inner.Obeying.{Obeys, IsOpen};
 use crate::basis::Basis;
 use crate::desk::Desk;
 use crate::limits::SESSION_LIMIT;
-use crate::listing::Listed;
+use crate::listed::Listed;
 use crate::replies::{put_line_refusal, put_refusal};
 use diag_edge::{Sink, WriteFailed, put_line};
 use script_lang::{AskedLine, Noted, Request, parse_line};
@@ -147,12 +147,12 @@ impl Sessions {
             Request::Stop => self.stop(session, out),
             Request::Note { what, name, known } => self.note(session, what, name, known, out),
             Request::Tell(question) => self.ask_case(session, question, out),
-            Request::Next => self.next(session, out),
-            Request::List { count } => self.list_on(Listed::Diagnoses, session, count, out),
+            Request::Next => self.next(Listed::Diagnoses, session, out),
+            Request::List { count } => self.list(Listed::Diagnoses, session, count, out),
             Request::After { names } => self.after(session, names, out),
             Request::Dnnf => self.ask_graph(session, out),
-            Request::Level => self.level(session, out),
-            Request::Levels { count } => self.list_levels(session, count, out),
+            Request::Level => self.next(Listed::Levels, session, out),
+            Request::Levels { count } => self.list(Listed::Levels, session, count, out),
             Request::LeastNnf => self.ask_least(session, out),
         }
     }

@@ -3,10 +3,10 @@ ghost use Rattle.std.specs.Prelude.{◌≡◌, ◌<◌, ◌++◌, ◌∷◌, [],
 ghost use Rattle.diag_edge.specs.Edge.{HasCause};
 ghost use Rattle.device_model.specs.Devices.{place_of};
 ghost use Rattle.script_lang.specs.Script.{question_of};
-ghost use Rattle.session_rules.specs.GraphSystems.{system_of};
 ghost use Rattle.session_rules.specs.Items.{line};
 ghost use Rattle.session_rules.specs.Replies.{end_line, min_line, blame_lines, if_any, probe_told, told};
 ghost use Rattle.session_rules.specs.Spelling.{Replies};
+ghost use Rattle.session_core.specs.Services.{served_system};
 ghost use Rattle.session_core.specs.inner.Desks.{asked_case, least_asked, diagnoses_asked};
 ghost use Rattle.session_core.specs.inner.Telling.{items_told, verdict_lines};
 
@@ -32,7 +32,7 @@ pub(crate) fn tell<O: Sink, L: Ledger>(
     requires some { 0 < blank.parts }
     ensures reply { Replies (O.got out.old) (O.got out.new) result
         (items_told session.now
-        (told (system_of desk.old.subject) session.now (asked_case desk.old) (question_of question.entry))) }
+        (told (served_system desk.old.subject) session.now (asked_case desk.old) (question_of question.entry))) }
     ensures subject { desk.new.subject ≡ desk.old.subject }
     ensures cause { HasCause (O.faults out.old) (O.faults out.new) result }
 {
@@ -53,7 +53,7 @@ fn tell_minimum<O: Sink, L: Ledger>(
     steps: &mut Steps<L>,
 ) -> Result<(), WriteFailed>
     ensures reply { Replies (O.got out.old) (O.got out.new) result
-        (line (min_line (system_of desk.old.subject) session.now (least_asked desk.old) (diagnoses_asked desk.old)) ∷ []) }
+        (line (min_line (served_system desk.old.subject) session.now (least_asked desk.old) (diagnoses_asked desk.old)) ∷ []) }
     ensures subject { desk.new.subject ≡ desk.old.subject }
     ensures cause { HasCause (O.faults out.old) (O.faults out.new) result }
 {
@@ -69,7 +69,7 @@ fn tell_probe<O: Sink, L: Ledger>(
     out: &mut O,
     steps: &mut Steps<L>,
 ) -> Result<(), WriteFailed>
-    ensures reply { let system = system_of desk.old.subject in
+    ensures reply { let system = served_system desk.old.subject in
         Replies (O.got out.old) (O.got out.new) result (items_told session.now
         (probe_told system session.now (asked_case desk.old) name.now (place_of name.now system.wires))) }
     ensures subject { desk.new.subject ≡ desk.old.subject }

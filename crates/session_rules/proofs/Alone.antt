@@ -1,70 +1,28 @@
 -- A session among others is answered as it is alone.
-use Rattle.std.proofs.Common.{◌≡◌, ℕ, Bool, true, false, List, [], ◌∷◌, ◌++◌, length, drop, get_or, refl, ap, ap₂, sym, ◌∙◌, subst, Some, None, Option, Result, Ok, Err, arith, length-append}
-use Rattle.std.specs.Prelude.{codes, nat_le, if◌then◌else◌}
+use Rattle.std.proofs.Common.{◌≡◌, ℕ, Bool, true, false, List, [], ◌∷◌, ◌++◌, length, drop, refl, ap, ap₂, sym, ◌∙◌, subst, Some, None, Option, arith, length-append}
+use Rattle.std.specs.Prelude.{is_some, codes, nat_le, if◌then◌else◌}
 use Rattle.std.specs.Fmt.{decimal}
-use Rattle.std.specs.List.{list_all, flat_map}
-use Rattle.text_rules.specs.Names.{Name, is_among}
+use Rattle.text_rules.specs.Names.{Name}
 use Rattle.text_rules.proofs.NameLemmas.{equal_if_same}
-use Rattle.state_rules.specs.Systems.{System, all_diagnoses}
-use Rattle.device_model.specs.Devices.{place_of}
-use Rattle.script_lang.specs.Script.{Line, Blank, Refused, Ask, Request, Start, Stop, Note, Tell, Next, Several, After, Dnnf, Level, Levels, LeastNnf, line_of}
+use Rattle.state_rules.specs.Systems.{System}
+use Rattle.script_lang.specs.Script.{Line, Blank, Refused, Ask, Request, Start, line_of}
 use Rattle.session_rules.specs.declared.refusal.Refusal.{Refusal}
-use Rattle.session_rules.specs.declared.refusal.Refusal.TheVariants.{OpenAlready, Full, NoPart, NoLevels, NoLeast}
+use Rattle.session_rules.specs.declared.refusal.Refusal.TheVariants.{OpenAlready, Full}
 use Rattle.session_rules.specs.Refusals.{refusal_row}
 use Rattle.session_rules.specs.Items.{Item, Plain, Projected, LeastText, Whole, line}
-use Rattle.session_rules.specs.Replies.{next_of, level_of, listing, point_after, told}
-use Rattle.session_rules.specs.Sessions.{Table, Entry, Outcome, Declined, carried, step, entry_of, outcome, when_open, with_number, becomes, tells, tells_lines, goes_to, goes_through, names_of, no_such, with_noted, state_of, new_entry, replies}
+use Rattle.session_rules.specs.Sessions.{Table, Entry, Declined, carried, step, entry_of, outcome, when_open, becomes, new_entry}
 use Rattle.session_rules.specs.Moves.{line_step}
 use Rattle.session_rules.specs.Alone.{Answer, lines_of, dialogue, names_session, closes_session, own_answers, Opens, AreAnsweredAlone}
-use Rattle.session_rules.proofs.Locality.{after_outcome, same_as_itself, own_step, own_items, others-stay}
-
--- what lines are answered one after the other are the replies to them
-pub dialogue-replies : (system : System) (limit : ℕ) (table : Table) (lines : List (List ℕ)) → flat_map (λ (answer : Answer). answer.items) (dialogue system limit table lines) ≡ replies system limit table lines
-dialogue-replies system limit table [] = refl
-dialogue-replies system limit table (bytes ∷ lines) =
-    let now = line_step system limit table bytes in
-    ap (λ items. now.items ++ items) (dialogue-replies system limit now.table lines)
+use Rattle.session_rules.proofs.Locality.{after_outcome, same_as_itself, own_step, others-stay}
 
 -- ---- an open session stays open until it is closed
 
--- so its entry becomes another at most
-abbrev StaysOpen : Outcome → Entry → Type 0
-StaysOpen o entry = (new : Entry) × (after_outcome o (Some entry) ≡ Some new)
+when_open-open : (system : System) (s : Name) (entry : Entry) (request : Request) → closes_session s (Ask s request) ≡ false → is_some (after_outcome (when_open system s entry request) (Some entry)) ≡ true
+when_open-open system s entry request goes = grind (arith, same_as_itself)
 
-with_number-open : (entry : Entry) (refusal : Refusal) (act : ℕ → Outcome) (place : Option ℕ) → ((i : ℕ) → StaysOpen (act i) entry) → StaysOpen (with_number refusal act place) entry
-with_number-open entry refusal act None each = (entry, refl)
-with_number-open entry refusal act (Some i) each = each i
-
-either-open : (entry : Entry) (test : Bool) (one other : Outcome) → StaysOpen one entry → StaysOpen other entry → StaysOpen (if test then one else other) entry
-either-open entry true one other first second = first
-either-open entry false one other first second = second
-
-told-open : (entry : Entry) (lines : Result (List (List (List ℕ))) Refusal) → StaysOpen (tells_lines lines) entry
-told-open entry (Ok lines) = (entry, refl)
-told-open entry (Err refusal) = (entry, refl)
-
-when_open-open : (system : System) (s : Name) (entry : Entry) (request : Request) → closes_session s (Ask s request) ≡ false → StaysOpen (when_open system s entry request) entry
-when_open-open system s entry Start goes = (entry, refl)
-when_open-open system s entry Stop goes = absurd (let closes = same_as_itself s in let never : ⊥ = cc in never)
-when_open-open system s entry (Note what name bit) goes =
-    with_number-open entry (no_such what) (λ i. becomes s (with_noted entry what i bit) (codes "ok")) (place_of name (names_of system what)) (λ i. (with_noted entry what i bit, refl))
-when_open-open system s entry (Tell question) goes = told-open entry (told system s entry.known question)
-when_open-open system s entry Next goes = (record entry { point = (next_of system s (all_diagnoses system entry.known) entry.point).point }, refl)
-when_open-open system s entry (Several count) goes =
-    let found = listing (next_of system s (all_diagnoses system entry.known)) count entry.point in
-    (record entry { point = point_after entry.point found }, refl)
-when_open-open system s entry (After names) goes =
-    either-open entry (list_all (λ name. is_among system.parts name) names) (becomes s (record entry { point = Some (state_of names system.parts) }) (codes "ok")) (Declined NoPart)
-    (record entry { point = Some (state_of names system.parts) }, refl) (entry, refl)
-when_open-open system s entry Dnnf goes = (entry, refl)
-when_open-open system s entry Level goes =
-    let level = λ (top : ℕ). level_of system s top (system.consistent entry.known) entry.point in
-    with_number-open entry NoLevels (λ top. goes_to entry (level top)) system.extras.levels (λ top. (record entry { point = (level top).point }, refl))
-when_open-open system s entry (Levels count) goes =
-    let found = λ (top : ℕ). listing (level_of system s top (system.consistent entry.known)) count entry.point in
-    with_number-open entry NoLevels (λ top. goes_through entry (found top)) system.extras.levels (λ top. (record entry { point = point_after entry.point (found top) }, refl))
-when_open-open system s entry LeastNnf goes =
-    either-open entry system.extras.least (tells (line (s ∷ codes "leastnnf" ∷ []) ∷ LeastText (length system.parts) (all_diagnoses system entry.known) ∷ [])) (Declined NoLeast) (entry, refl) (entry, refl)
+entry_there : (o : Option Entry) → is_some o ≡ true → (entry : Entry) × (o ≡ Some entry)
+entry_there None some = absurd (let never : ⊥ = cc in never)
+entry_there (Some entry) some = (entry, refl)
 
 -- ---- a refusal is no opening
 
@@ -80,45 +38,29 @@ first_bytes (item ∷ items) = bytes_of item
 
 -- a refusal is longer than what says that a session is open
 refused_apart : (s tail : List ℕ) → length (s ++ (32 ∷ (codes "error" ++ (32 ∷ tail)))) ≡ length (s ++ (32 ∷ (codes "open" ++ 10 ∷ []))) → ⊥
-refused_apart s tail e =
-    let long = length-append s (32 ∷ (codes "error" ++ (32 ∷ tail))) in
-    let short = length-append s (32 ∷ (codes "open" ++ 10 ∷ [])) in
-    omega (arith, long, short, e)
+refused_apart s tail e = grind (arith, length-append)
 
 declined_apart : (s : Name) (refusal : Refusal) (t : Table) → (carried t s (Declined refusal)).items ≡ line (s ∷ codes "open" ∷ []) ∷ [] → ⊥
 declined_apart s refusal t e = refused_apart s (decimal (refusal_row refusal).0 ++ (32 ∷ ((refusal_row refusal).1 ++ 10 ∷ []))) (ap (λ items. length (first_bytes items)) e)
 
 -- ---- the answers of one session
 
--- lines, each with what is told of it, where tables change by the steps of a system
-abbrev pub told_by : (ℕ → Table → List ℕ → List Item) → System → ℕ → Table → List (List ℕ) → List Answer
-told_by tell system limit table [] = []
-told_by tell system limit table (bytes ∷ lines) =
-    record { bytes = bytes; items = tell limit table bytes } ∷ told_by tell system limit (line_step system limit table bytes).table lines
-
 module _ (system : System) (limit : ℕ) (s : Name) where
   -- the session is open, with the same entry in both tables
-  abbrev pub Both : Table → Table → Type 0
+  abbrev Both : Table → Table → Type 0
   Both t u = (entry : Entry) × (entry_of s t ≡ Some entry) × (entry_of s u ≡ Some entry)
 
-  outcome-open : (m : ℕ) (request : Request) (t : Table) (entry : Entry) → entry_of s t ≡ Some entry → outcome system s (nat_le m (length t)) (entry_of s t) request ≡ when_open system s entry request
-  outcome-open m request t entry is = ap (λ e. outcome system s (nat_le m (length t)) e request) is
-
-  -- an open session is told the same from both tables
-  told_same : (request : Request) (t u : Table) (both : Both t u) → (step system limit t (Ask s request)).items ≡ (step system 1 u (Ask s request)).items
-  told_same request t u (entry, a, b) =
-      ap (λ o. (carried t s o).items) (outcome-open limit request t entry a)
-      ∙ (own_items s (when_open system s entry request) t u
-      ∙ ap (λ o. (carried u s o).items) (sym (outcome-open 1 request u entry b)))
+  -- an open session is answered the same from both tables
+  answered_same : (request : Request) (t u : Table) → Both t u → (step system limit t (Ask s request)).items ≡ (step system 1 u (Ask s request)).items
+  answered_same request t u (entry, a, b) = grind arith
 
   -- and goes on the same
   left : (m : ℕ) (request : Request) (t : Table) (entry : Entry) → entry_of s t ≡ Some entry → entry_of s (step system m t (Ask s request)).table ≡ after_outcome (when_open system s entry request) (Some entry)
-  left m request t entry is =
-      own_step s (outcome system s (nat_le m (length t)) (entry_of s t) request) t ∙ ap₂ after_outcome (outcome-open m request t entry is) is
+  left m request t entry is = grind (arith, own_step)
 
   still : (request : Request) (t u : Table) → Both t u → closes_session s (Ask s request) ≡ false → Both (step system limit t (Ask s request)).table (step system 1 u (Ask s request)).table
   still request t u (entry, a, b) goes =
-      let new = when_open-open system s entry request goes in
+      let new = entry_there (after_outcome (when_open system s entry request) (Some entry)) (when_open-open system s entry request goes) in
       (new.0, left limit request t entry a ∙ new.1, left 1 request u entry b ∙ new.1)
 
   the_request : (l : Line) → names_session s l ≡ true → (request : Request) × (l ≡ Ask s request)
@@ -126,27 +68,15 @@ module _ (system : System) (limit : ℕ) (s : Name) where
   the_request (Refused refusal) e = absurd (let never : ⊥ = cc in never)
   the_request (Ask r request) e = (request, ap (λ n. Ask n request) (equal_if_same r s e))
 
-  -- What is told hangs on the entry of the session, and who opens it is told what the system answers.
-  pub record IsTelling (tell : ℕ → Table → List ℕ → List Item) : Type 0 where
-    pub same : (bytes : List ℕ) (request : Request) (t u : Table) → Both t u → line_of bytes ≡ Ask s request → tell limit t bytes ≡ tell 1 u bytes
-    pub opening : (m : ℕ) (t : Table) (bytes : List ℕ) → line_of bytes ≡ Ask s Start → tell m t bytes ≡ (step system m t (Ask s Start)).items
-
-module _ (system : System) (limit : ℕ) (s : Name) (tell : ℕ → Table → List ℕ → List Item) (telling : IsTelling system limit s tell) where
   abbrev among : Table → List (List ℕ) → List Answer
-  among = told_by tell system limit
-
-  abbrev alone : Table → List (List ℕ) → List Answer
-  alone = told_by tell system 1
+  among = dialogue system limit
 
   -- these are the answers that the same lines have alone, from a table
   abbrev AsAlone : List Answer → Table → Type 0
-  AsAlone answers u = answers ≡ alone u (lines_of answers)
-
-  abbrev BothOpen : Table → Table → Type 0
-  BothOpen = Both system limit s
+  AsAlone answers u = answers ≡ dialogue system 1 u (lines_of answers)
 
   abbrev first_answer : Table → List ℕ → Answer
-  first_answer t bytes = record { bytes = bytes; items = tell limit t bytes }
+  first_answer t bytes = record { bytes = bytes; items = (line_step system limit t bytes).items }
 
   -- the answers from a line on that names the session, by whether it closes it
   abbrev own_from : Bool → Table → List ℕ → List (List ℕ) → List Answer
@@ -155,11 +85,12 @@ module _ (system : System) (limit : ℕ) (s : Name) (tell : ℕ → Table → Li
       first_answer t bytes ∷ (if closes then [] else own_answers s (among now.table lines))
 
   -- what holds for all tables with an entry of the session holds after its own line
-  own-alone : (bytes : List ℕ) (lines : List (List ℕ)) (t u : Table) → BothOpen t u → (request : Request) → line_of bytes ≡ Ask s request
-      → ((v w : Table) → BothOpen v w → AsAlone (own_answers s (among v lines)) w) → (closes : Bool) → closes_session s (line_of bytes) ≡ closes
+  own-alone : (bytes : List ℕ) (lines : List (List ℕ)) (t u : Table) → Both t u → (request : Request) → line_of bytes ≡ Ask s request
+      → ((v w : Table) → Both v w → AsAlone (own_answers s (among v lines)) w) → (closes : Bool) → closes_session s (line_of bytes) ≡ closes
       → AsAlone (own_from closes t bytes lines) u
   own-alone bytes lines t u both request asked more closes is =
-      let items : tell limit t bytes ≡ tell 1 u bytes = telling.same bytes request t u both asked in
+      let items : (line_step system limit t bytes).items ≡ (line_step system 1 u bytes).items =
+      ap (λ l. (step system limit t l).items) asked ∙ (answered_same request t u both ∙ sym (ap (λ l. (step system 1 u l).items) asked)) in
       ap₂ (λ now rest. record { bytes = bytes; items = now } ∷ rest) items (by closes is)
     where
       by : (closes : Bool) → closes_session s (line_of bytes) ≡ closes
@@ -167,20 +98,18 @@ module _ (system : System) (limit : ℕ) (s : Name) (tell : ℕ → Table → Li
       by true is = refl
       by false is =
           more (line_step system limit t bytes).table (line_step system 1 u bytes).table
-          (subst (λ l. BothOpen (step system limit t l).table (step system 1 u l).table) (sym asked)
-          (still system limit s request t u both (sym (ap (closes_session s) asked) ∙ is)))
+          (subst (λ l. Both (step system limit t l).table (step system 1 u l).table) (sym asked)
+          (still request t u both (sym (ap (closes_session s) asked) ∙ is)))
 
   -- an open session is answered as it would be from any table with its entry
-  open-alone : (lines : List (List ℕ)) (t u : Table) → BothOpen t u → AsAlone (own_answers s (among t lines)) u
+  open-alone : (lines : List (List ℕ)) (t u : Table) → Both t u → AsAlone (own_answers s (among t lines)) u
   open-alone [] t u both = refl
   open-alone (bytes ∷ lines) t u both = by (open-alone lines) (names_session s (line_of bytes)) refl
     where
-      by : ((v w : Table) → BothOpen v w → AsAlone (own_answers s (among v lines)) w) → (named : Bool) → names_session s (line_of bytes) ≡ named
+      by : ((v w : Table) → Both v w → AsAlone (own_answers s (among v lines)) w) → (named : Bool) → names_session s (line_of bytes) ≡ named
           → AsAlone (if named then own_from (closes_session s (line_of bytes)) t bytes lines else own_answers s (among (line_step system limit t bytes).table lines)) u
-      by more true named = let asked = the_request system limit s (line_of bytes) named in own-alone bytes lines t u both asked.0 asked.1 more (closes_session s (line_of bytes)) refl
-      by more false apart =
-          more (line_step system limit t bytes).table u
-          (both.0, others-stay system limit (line_of bytes) t s apart ∙ both.1, both.2)
+      by more true named = let asked = the_request (line_of bytes) named in own-alone bytes lines t u both asked.0 asked.1 more (closes_session s (line_of bytes)) refl
+      by more false apart = grind (arith, others-stay)
 
   -- a session that is opened was not open, and there was room
   opened : (full : Bool) (entry : Option Entry) (t : Table) → (carried t s (outcome system s full entry Start)).items ≡ line (s ∷ codes "open" ∷ []) ∷ []
@@ -194,21 +123,18 @@ module _ (system : System) (limit : ℕ) (s : Name) (tell : ℕ → Table → Li
   opening-alone bytes lines t opens =
       let asked = opens.asked in
       let free : outcome system s (nat_le limit (length t)) (entry_of s t) Start ≡ becomes s (new_entry system) (codes "open") =
-      opened (nat_le limit (length t)) (entry_of s t) t (sym (telling.opening limit t bytes asked) ∙ opens.said) in
+      opened (nat_le limit (length t)) (entry_of s t) t (sym (ap (λ l. (step system limit t l).items) asked) ∙ opens.said) in
       let named : names_session s (line_of bytes) ≡ true = ap (names_session s) asked ∙ same_as_itself s in
       let goes : closes_session s (line_of bytes) ≡ false = ap (closes_session s) asked in
-      let items : tell limit t bytes ≡ tell 1 [] bytes = opens.said ∙ sym (telling.opening 1 [] bytes asked) in
+      let items : (line_step system limit t bytes).items ≡ (line_step system 1 [] bytes).items = opens.said ∙ sym (ap (λ l. (step system 1 [] l).items) asked) in
       let new_among : entry_of s (line_step system limit t bytes).table ≡ Some (new_entry system) =
       ap (λ l. entry_of s (step system limit t l).table) asked
       ∙ (own_step s (outcome system s (nat_le limit (length t)) (entry_of s t) Start) t ∙ ap (λ o. after_outcome o (entry_of s t)) free) in
       let new_alone : entry_of s (line_step system 1 [] bytes).table ≡ Some (new_entry system) =
       ap (λ l. entry_of s (step system 1 [] l).table) asked ∙ own_step s (outcome system s false None Start) [] in
-      subst (λ b. AsAlone (if b then own_from (closes_session s (line_of bytes)) t bytes lines else own_answers s (among (line_step system limit t bytes).table lines)) []) (sym named)
-      (subst (λ b. AsAlone (own_from b t bytes lines) []) (sym goes)
-      (ap₂ (λ now rest. record { bytes = bytes; items = now } ∷ rest) items
-      (open-alone lines (line_step system limit t bytes).table (line_step system 1 [] bytes).table (new_entry system, new_among, new_alone))))
+      grind (arith, open-alone)
 
-  -- what stands from an answer on is a dialogue from some table
+  -- what begins at an answer is a dialogue from some table
   from_answer : (table : Table) (lines : List (List ℕ)) (before later : List Answer) (opening : Answer) → among table lines ≡ before ++ opening ∷ later
       → (t : Table) × (bytes : List ℕ) × (rest : List (List ℕ)) × (opening ∷ later ≡ among t (bytes ∷ rest))
   from_answer table [] [] later opening e = absurd (let never : ⊥ = cc in never)
@@ -217,41 +143,6 @@ module _ (system : System) (limit : ℕ) (s : Name) (tell : ℕ → Table → Li
   from_answer table (bytes ∷ lines) (b ∷ before) later opening e =
       from_answer (line_step system limit table bytes).table lines before later opening (ap (λ (answers : List Answer). drop 1 answers) e)
 
-  -- Wherever the session opens, its own lines from there to its end are told what they are told alone.
-  pub told_alone : (table : Table) (lines : List (List ℕ)) (before later : List Answer) (opening : Answer) → among table lines ≡ before ++ opening ∷ later → Opens s opening
-      → AsAlone (own_answers s (opening ∷ later)) []
-  told_alone table lines before later opening split opens =
-      let from = from_answer table lines before later opening split in
-      let first : opening ≡ first_answer from.0 from.1 = ap (λ (answers : List Answer). get_or answers 0 opening) from.3 in
-      subst (λ answers. AsAlone (own_answers s answers) []) (sym from.3)
-      (opening-alone from.1 from.2 from.0 (subst (Opens s) first opens))
-
--- ---- what is told is what the system answers
-
-abbrev answers_of : System → ℕ → Table → List ℕ → List Item
-answers_of system m t bytes = (line_step system m t bytes).items
-
-as_told : (system : System) (m : ℕ) (t : Table) (lines : List (List ℕ)) → dialogue system m t lines ≡ told_by (answers_of system) system m t lines
-as_told system m t [] = refl
-as_told system m t (bytes ∷ lines) = ap (λ later. record { bytes = bytes; items = (line_step system m t bytes).items } ∷ later) (as_told system m (line_step system m t bytes).table lines)
-
-pub answers-tell : (system : System) (limit : ℕ) (s : Name) → IsTelling system limit s (answers_of system)
-answers-tell system limit s = record {
-  same = λ bytes request t u both asked. ap (λ l. (step system limit t l).items) asked ∙ (told_same system limit s request t u both ∙ sym (ap (λ l. (step system 1 u l).items) asked));
-  opening = λ m t bytes asked. ap (λ l. (step system m t l).items) asked;
-}
-
 -- Wherever a session opens, its own lines from there to its end have the answers that they have alone.
 pub answered_alone : (system : System) (limit : ℕ) (table : Table) (lines : List (List ℕ)) → AreAnsweredAlone system limit table lines
-answered_alone system limit table lines session before later opening split opens =
-    let own = own_answers session (opening ∷ later) in
-    told_alone system limit session (answers_of system) (answers-tell system limit session) table lines before later opening (sym (as_told system limit table lines) ∙ split) opens
-    ∙ sym (as_told system 1 [] (lines_of own))
-
--- so together those answers are the replies to a script of these lines
-pub replied_alone : (system : System) (limit : ℕ) (table : Table) (lines : List (List ℕ)) (session : Name) (before later : List Answer) (opening : Answer)
-    → dialogue system limit table lines ≡ before ++ opening ∷ later → Opens session opening
-    → flat_map (λ (answer : Answer). answer.items) (own_answers session (opening ∷ later)) ≡ replies system 1 [] (lines_of (own_answers session (opening ∷ later)))
-replied_alone system limit table lines session before later opening split opens =
-    ap (flat_map (λ (answer : Answer). answer.items)) (answered_alone system limit table lines session before later opening split opens)
-    ∙ dialogue-replies system 1 [] (lines_of (own_answers session (opening ∷ later)))
+answered_alone system limit table lines s before later opening split opens = grind (arith, from_answer, opening-alone)

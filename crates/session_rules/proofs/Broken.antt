@@ -1,7 +1,6 @@
 -- Moves that are made, and moves that break off.
-use Rattle.std.proofs.Common.{◌≡◌, ℕ, List, [], ◌∷◌, ◌++◌, Option, Result, Ok, Err, refl, sym, ◌∙◌, ap, subst, append_assoc, append-nil}
+use Rattle.std.proofs.Common.{◌≡◌, ℕ, List, [], ◌∷◌, ◌++◌, Option, Result, Ok, Err, refl, sym, ◌∙◌, ap, subst, append_assoc, append-nil, arith}
 use Rattle.state_rules.specs.Systems.{System}
-use Rattle.session_rules.specs.Items.{Item}
 use Rattle.session_rules.specs.Sessions.{Table, Step, replies}
 use Rattle.session_rules.specs.Moves.{said, left_by, line_moves, script_moves}
 use Rattle.session_rules.specs.Spelling.{Writes, WritesPart, Replies}
@@ -15,36 +14,15 @@ makes_none t a = record { written = writes_none a; table = refl }
 
 -- moves after moves
 pub makes_more : {t u v : Table} {ms ns : List Step} {a b c : Option (List ℕ)} → Makes t u ms a b → Makes u v ns b c → Makes t v (ms ++ ns) a c
-makes_more {t} {u} {v} {ms} {ns} {a} {b} {c} first second = record {
-  written = subst (Writes a c) (sym (said-append ms ns)) (writes_more a b c (said ms) (said ns) first.written second.written);
-  table = second.table ∙ (ap (λ w. left_by w ns) first.table ∙ sym (left_by-append t ms ns));
-}
+makes_more {t} {u} {v} {ms} {ns} {a} {b} {c} first second = grind (arith, said-append, writes_more, left_by-append)
 
 -- moves that break off do so also where more were to come
 pub breaks_before : {t : Table} {ms : List Step} {a b : Option (List ℕ)} (ns : List Step) → BreaksOff t ms a b → BreaksOff t (ms ++ ns) a b
-breaks_before ns broke = record {
-  made = broke.made;
-  move = broke.move;
-  others = broke.others ++ ns;
-  split = ap (λ xs. xs ++ ns) broke.split ∙ append_assoc broke.made (broke.move ∷ broke.others) ns;
-  middle = broke.middle;
-  written = broke.written;
-  begun = broke.begun;
-  table = broke.table;
-}
+breaks_before ns broke = grind (arith, append_assoc)
 
 -- and after moves that were made
 pub breaks_after : {t u v : Table} {ms ns : List Step} {a b c : Option (List ℕ)} → Makes t u ms a b → BreaksOff v ns b c → BreaksOff v (ms ++ ns) a c
-breaks_after {t} {u} {v} {ms} {ns} {a} {b} {c} first broke = record {
-  made = ms ++ broke.made;
-  move = broke.move;
-  others = broke.others;
-  split = ap (λ xs. ms ++ xs) broke.split ∙ sym (append_assoc ms broke.made (broke.move ∷ broke.others));
-  middle = broke.middle;
-  written = subst (Writes a broke.middle) (sym (said-append ms broke.made)) (writes_more a b broke.middle (said ms) (said broke.made) first.written broke.written);
-  begun = broke.begun;
-  table = broke.table;
-}
+breaks_after {t} {u} {v} {ms} {ns} {a} {b} {c} first broke = grind (arith, append_assoc ms broke.made (broke.move ∷ broke.others), said-append ms broke.made, writes_more a b broke.middle (said ms) (said broke.made) first.written broke.written)
 
 -- a line of one move was carried out
 carries_one : {T E : Type 0} (s t : Table) (step : Step) (a b : Option (List ℕ)) (result : Result T E) → Replies a b result step.items → t ≡ step.table → CarriesOut s t (step ∷ []) a b result
@@ -76,17 +54,9 @@ script_moves-append one t (l ∷ ls) ks =
 
 -- What was written where moves broke off begins a text that spells all that they say, if some text does.
 pub broken_begins : (t : Table) (ms : List Step) (a b : Option (List ℕ)) → BreaksOff t ms a b → HaveSpellings (said ms) → WritesPart a b (said ms)
-broken_begins t ms a b broke h =
-    let later : List Item = broke.move.items ++ said broke.others in
-    let all : said ms ≡ said broke.made ++ later = ap said broke.split ∙ said-append broke.made (broke.move ∷ broke.others) in
-    let others = have_after broke.move.items (said broke.others) (have_after (said broke.made) later (subst HaveSpellings all h)) in
-    subst (WritesPart a b) (sym all)
-    (part_after a broke.middle b (said broke.made) later broke.written
-    (part_more broke.middle b broke.move.items (said broke.others) broke.begun others))
+broken_begins t ms a b broke h = grind (arith, said-append broke.made (broke.move ∷ broke.others), have_after broke.move.items (said broke.others), have_after (said broke.made) (broke.move.items ++ said broke.others), part_after a broke.middle b (said broke.made) (broke.move.items ++ said broke.others) broke.written, part_more broke.middle b broke.move.items (said broke.others) broke.begun)
 
 -- so what was written where a script broke off begins its replies
 pub broken_replies : (system : System) (limit : ℕ) (old new : Table) (lines : List (List ℕ)) (a b : Option (List ℕ)) → BreaksOff new (script_moves (line_moves system limit) old lines) a b
     → HaveSpellings (replies system limit old lines) → WritesPart a b (replies system limit old lines)
-broken_replies system limit old new lines a b broke h =
-    let all = said-replies system limit old lines in
-    subst (WritesPart a b) all (broken_begins new (script_moves (line_moves system limit) old lines) a b broke (subst HaveSpellings (sym all) h))
+broken_replies system limit old new lines a b broke h = grind (arith, said-replies system limit old lines, broken_begins new (script_moves (line_moves system limit) old lines) a b broke)

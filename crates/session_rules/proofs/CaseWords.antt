@@ -1,5 +1,5 @@
 -- What words say of a case, and what becomes of it where one of them is written.
-use Rattle.std.proofs.Common.{◌≡◌, ℕ, zero, suc, ◌+◌, ◌-◌, ◌≤◌, ◌<◌, Bool, true, false, List, [], ◌∷◌, ◌++◌, map, length, replicate, take, drop, refl, ap, ap₂, sym, ◌∙◌, subst, Option, Some, None, arith, set, length-append}
+use Rattle.std.proofs.Common.{◌≡◌, ℕ, zero, suc, ◌+◌, ◌-◌, ◌≤◌, ◌<◌, Bool, List, [], ◌∷◌, ◌++◌, map, length, replicate, take, refl, ap, sym, ◌∙◌, subst, Option, None, arith, set, length-append}
 use Rattle.std.proofs.Math.Seq.{drop-append_seam, take-append_seam}
 use Rattle.std.proofs.lemmas.List.{length-map, length-set, length-replicate, length-drop, length-take-le, map-set, set-append_left, replicate-append-replicate}
 use Rattle.std.proofs.lemmas.List.Elements.{All-replicate, All-set}
@@ -16,9 +16,7 @@ use Rattle.session_rules.proofs.Meaning.{all_known}
 
 set_behind : {A : Type 0} (xs ys : List A) (i : ℕ) (y : A) → set (xs ++ ys) (length xs + i) y ≡ xs ++ set ys i y
 set_behind [] ys i y = ap (λ n. set ys n y) (omega arith)
-set_behind (x ∷ xs) ys i y =
-    let e : length (x ∷ xs) + i ≡ suc (length xs + i) = omega arith in
-    ap (λ n. set (x ∷ (xs ++ ys)) n y) e ∙ ap (λ zs. x ∷ zs) (set_behind xs ys i y)
+set_behind (x ∷ xs) ys i y = grind (arith, set_behind xs ys i y)
 
 -- the words of what nothing is said of are 0
 pub unseen-words : (n : ℕ) → map word_of_known (replicate n None) ≡ replicate n 0
@@ -26,9 +24,7 @@ unseen-words zero = refl
 unseen-words (suc n) = ap (λ ws. 0 ∷ ws) (unseen-words n)
 
 small_word : (k : Option Bool) → word_of_known k < 3
-small_word None = omega arith
-small_word (Some true) = omega arith
-small_word (Some false) = omega arith
+small_word k = grind arith
 
 module _ (vars : ℕ) where
   -- the words behind those of parts and wires
@@ -38,74 +34,28 @@ module _ (vars : ℕ) where
   -- a wire is seen, or not any more
   words-seen : (known : Case) (wire : ℕ) (k : Option Bool) → wire < length known.seen
       → set (case_words vars known) (length known.held + wire) (word_of_known k) ≡ case_words vars (record known { seen = set known.seen wire k })
-  words-seen known wire k l =
-      let held : List ℕ = map word_of_known known.held in
-      let seen : List ℕ = map word_of_known known.seen in
-      let rest : List ℕ = inner (length known.held) (length known.seen) in
-      let w : ℕ = word_of_known k in
-      let long : wire < length seen = (let e = length-map known.seen word_of_known in omega (arith, e, l)) in
-      ap (λ n. set (held ++ (seen ++ rest)) (n + wire) w) (sym (length-map known.held word_of_known))
-      ∙ (set_behind held (seen ++ rest) wire w
-      ∙ ap (λ ws. held ++ ws) (set-append_left seen rest wire w long
-      ∙ ap₂ (λ ws n. ws ++ inner (length known.held) n) (sym (map-set word_of_known known.seen wire k)) (sym (length-set known.seen wire k))))
+  words-seen known wire k l = grind (arith, length-map, set_behind, set-append_left, map-set, length-set)
 
   -- a part is held, or not any more
   words-held : (known : Case) (part : ℕ) (k : Option Bool) → part < length known.held
       → set (case_words vars known) part (word_of_known k) ≡ case_words vars (record known { held = set known.held part k })
-  words-held known part k l =
-      let held : List ℕ = map word_of_known known.held in
-      let seen : List ℕ = map word_of_known known.seen in
-      let rest : List ℕ = inner (length known.held) (length known.seen) in
-      let w : ℕ = word_of_known k in
-      let long : part < length held = (let e = length-map known.held word_of_known in omega (arith, e, l)) in
-      set-append_left held (seen ++ rest) part w long
-      ∙ ap₂ (λ ws n. ws ++ (seen ++ inner n (length known.seen))) (sym (map-set word_of_known known.held part k)) (sym (length-set known.held part k))
+  words-held known part k l = grind (arith, length-map, set-append_left, map-set, length-set)
 
   -- a session opens with all words 0
   words-new : (parts wires : ℕ) → parts + wires ≤ vars → case_words vars (empty_case wires parts) ≡ replicate vars 0
-  words-new parts wires room =
-      let n : ℕ = vars - (parts + wires) in
-      ap₂ (λ a b. map word_of_known (replicate parts None) ++ (map word_of_known (replicate wires None) ++ inner a b)) (length-replicate {A = Option Bool} parts None) (length-replicate {A = Option Bool} wires None)
-      ∙ (ap₂ (λ xs ys. xs ++ (ys ++ replicate n 0)) (unseen-words parts) (unseen-words wires)
-      ∙ (ap (λ ws. replicate parts 0 ++ ws) (replicate-append-replicate wires n 0)
-      ∙ (replicate-append-replicate parts (wires + n) 0
-      ∙ ap (λ m. replicate m 0) (omega (arith, room)))))
+  words-new parts wires room = grind (arith, length-replicate, unseen-words, replicate-append-replicate)
 
   -- words say the case that they are made of
   words-say : (parts wires : ℕ) (known : Case) → length known.held ≡ parts → length known.seen ≡ wires → case_of_words parts wires (case_words vars known) ≡ known
-  words-say parts wires known e d =
-      let held : List ℕ = map word_of_known known.held in
-      let seen : List ℕ = map word_of_known known.seen in
-      let rest : List ℕ = inner (length known.held) (length known.seen) in
-      let p : parts ≡ length held = sym e ∙ sym (length-map known.held word_of_known) in
-      let w : wires ≡ length seen = sym d ∙ sym (length-map known.seen word_of_known) in
-      let front : take parts (held ++ (seen ++ rest)) ≡ held = ap (λ n. take n (held ++ (seen ++ rest))) p ∙ take-append_seam held (seen ++ rest) in
-      let back : take wires (drop parts (held ++ (seen ++ rest))) ≡ seen =
-      ap (λ n. take wires (drop n (held ++ (seen ++ rest)))) p
-      ∙ (ap (take wires) (drop-append_seam held (seen ++ rest)) ∙ (ap (λ n. take n (seen ++ rest)) w ∙ take-append_seam seen rest)) in
-      ap₂ (λ s h. record { seen = s; held = h }) (ap (map known_of) back ∙ all_known known.seen) (ap (map known_of) front ∙ all_known known.held)
+  words-say parts wires known e d = grind (arith, length-map, take-append_seam, drop-append_seam, all_known)
 
   -- a case says a word for each variable
   pub length-case_words : (known : Case) → length known.held + length known.seen ≤ vars → length (case_words vars known) ≡ vars
-  length-case_words known room =
-      let held : List ℕ = map word_of_known known.held in
-      let seen : List ℕ = map word_of_known known.seen in
-      let rest : List ℕ = inner (length known.held) (length known.seen) in
-      let a = length-append held (seen ++ rest) in
-      let b = length-append seen rest in
-      let c = length-map known.held word_of_known in
-      let d = length-map known.seen word_of_known in
-      let f = length-replicate {A = ℕ} (vars - (length known.held + length known.seen)) 0 in
-      omega (arith, a, b, c, d, f, room)
+  length-case_words known room = grind (arith, length-append, length-map, length-replicate)
 
   -- the words of a case are such words
   case_words-are : (parts wires : ℕ) (known : Case) → length known.held ≡ parts → length known.seen ≡ wires → parts + wires ≤ vars → AreCaseWords parts wires (case_words vars known)
-  case_words-are parts wires known e d room =
-      let long : length (case_words vars known) ≡ vars = length-case_words known (omega (arith, e, d, room)) in
-      record {
-        room = omega (arith, long, room);
-        same = ap₂ case_words long (words-say parts wires known e d);
-      }
+  case_words-are parts wires known e d room = grind (arith, length-case_words, words-say)
 
 -- ---- words all 0
 
@@ -141,9 +91,7 @@ module _ (parts wires vars : ℕ) (words : List ℕ) (are : AreWords parts wires
   length-held = length-map (take parts words) known_of ∙ length-take-le parts words (let room = are.case.room in omega (arith, room))
 
   pub length-seen : length (case_of_words parts wires words).seen ≡ wires
-  length-seen =
-      length-map (take wires (drop parts words)) known_of
-      ∙ length-take-le wires (drop parts words) (let room = are.case.room in omega (arith, length-drop parts words, room))
+  length-seen = grind (arith, length-map, length-take-le, length-drop)
 
   -- words that a write gave are again such words, if those of a case are what it gave
   written-are : (place : ℕ) (k : Option Bool) (after : Case) → set words place (word_of_known k) ≡ case_words vars after → length after.held ≡ parts → length after.seen ≡ wires
@@ -160,9 +108,7 @@ module _ (parts wires vars : ℕ) (words : List ℕ) (are : AreWords parts wires
     case_seen = record the_case { seen = set the_case.seen wire k }
 
     pub wire-written : set words (parts + wire) (word_of_known k) ≡ case_words vars (record (case_of_words parts wires words) { seen = set (case_of_words parts wires words).seen wire k })
-    wire-written =
-        ap₂ (λ ws n. set ws (n + wire) (word_of_known k)) (sym words-of_case) (sym length-held)
-        ∙ words-seen vars the_case wire k (subst (λ n. wire < n) (sym length-seen) within)
+    wire-written = grind (arith, length-held, words-seen vars the_case wire k, length-seen)
 
     -- it says what is seen of the wire
     pub wire-says : case_of_words parts wires (set words (parts + wire) (word_of_known k)) ≡ record (case_of_words parts wires words) { seen = set (case_of_words parts wires words).seen wire k }
@@ -177,9 +123,7 @@ module _ (parts wires vars : ℕ) (words : List ℕ) (are : AreWords parts wires
     case_held = record the_case { held = set the_case.held part k }
 
     pub part-written : set words part (word_of_known k) ≡ case_words vars (record (case_of_words parts wires words) { held = set (case_of_words parts wires words).held part k })
-    part-written =
-        ap (λ ws. set ws part (word_of_known k)) (sym words-of_case)
-        ∙ words-held vars the_case part k (subst (λ n. part < n) (sym length-held) within)
+    part-written = grind (arith, words-held vars the_case part k, length-held)
 
     -- it says what the part is held to be
     pub part-says : case_of_words parts wires (set words part (word_of_known k)) ≡ record (case_of_words parts wires words) { held = set (case_of_words parts wires words).held part k }

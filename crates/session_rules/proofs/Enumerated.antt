@@ -1,7 +1,6 @@
 -- Tests on all lists of so many bits.
 use Rattle.std.proofs.Common.{◌≡◌, ℕ, zero, suc, ◌+◌, Bool, true, false, ◌&&◌, List, [], ◌∷◌, ◌++◌, length, refl, arith}
 use Rattle.std.specs.List.{list_any}
-use Rattle.std.proofs.Math.Bool.{or-false}
 use Rattle.state_rules.specs.Bits.{lists_of_bits}
 use Rattle.state_rules.specs.Ranking.{Test, passing}
 use Rattle.state_rules.proofs.Bits.{any-suc}
@@ -21,9 +20,7 @@ any-same n p q e = any_same p q (lists_of_bits n) (λ bits m. e bits (bits_lengt
 
 -- the front of a list can be chosen first
 pub any-split : (m n : ℕ) (p : Test) → list_any p (lists_of_bits (m + n)) ≡ list_any (λ front. list_any (λ rest. p (front ++ rest)) (lists_of_bits n)) (lists_of_bits m)
-any-split zero n p =
-    let e : 0 + n ≡ n = omega arith in
-    rw (e, or-false (list_any p (lists_of_bits n))) refl
+any-split zero n p = grind arith
 any-split (suc m) n p =
     let e : suc m + n ≡ suc (m + n) = omega arith in
     rw (e, any-suc p (m + n), any-suc (λ front. list_any (λ rest. p (front ++ rest)) (lists_of_bits n)) m, any-split m n (λ bits. p (false ∷ bits)), any-split m n (λ bits. p (true ∷ bits))) refl

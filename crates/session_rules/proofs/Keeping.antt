@@ -1,26 +1,20 @@
 -- What is answered keeps a place for each wire and each part in every case.
-use Rattle.std.proofs.Common.{◌≡◌, ℕ, Bool, true, false, List, [], ◌∷◌, length, Result, Ok, Err, refl, ap, sym, ◌∙◌, Option, Some, None, subst, Equal}
-use Rattle.std.specs.Prelude.{cond, not, nat_le, codes, if◌then◌else◌}
-use Rattle.std.specs.List.{list_all}
+use Rattle.std.proofs.Common.{◌≡◌, ℕ, Bool, [], length, ap, sym, ◌∙◌, Option, Some, None, Equal, arith}
+use Rattle.std.specs.Prelude.{cond, not, nat_le, if◌then◌else◌}
 use Rattle.std.specs.Ordering.{nat_cmp, is_eq}
 use Rattle.std.specs.Cmp.Lexicographic.{slice_cmp}
 use Rattle.std.specs.FinMap.Entries.{find-put, find-where_key}
 use Rattle.std.proofs.lemmas.Map.Text.{is_eq-slice_cmp}
 use Rattle.std.proofs.lemmas.Cmp.{nat_list_cmp_total}
 use Rattle.std.proofs.lemmas.List.{length-set, length-replicate}
-use Rattle.text_rules.specs.Names.{Name, same_name, is_among}
+use Rattle.text_rules.specs.Names.{Name, same_name}
 use Rattle.text_rules.proofs.NameLemmas.{equal_if_same}
 use Rattle.state_rules.specs.Cases.{Case}
-use Rattle.state_rules.specs.Systems.{System, all_diagnoses}
-use Rattle.device_model.specs.Devices.{place_of}
-use Rattle.script_lang.specs.Script.{Line, Blank, Refused, Ask, Request, Start, Stop, Note, Tell, Next, Several, After, Dnnf, Level, Levels, LeastNnf}
+use Rattle.state_rules.specs.Systems.{System}
+use Rattle.script_lang.specs.Script.{Line, Blank, Refused, Ask, Request}
 use Rattle.script_lang.specs.declared.line.Noted.{Noted}
-use Rattle.script_lang.specs.declared.line.Noted.TheVariants.{Wire, Part}
 use Rattle.session_rules.specs.declared.refusal.Refusal.{Refusal}
-use Rattle.session_rules.specs.declared.refusal.Refusal.TheVariants.{Full, NoPart, NoLevels, NoLeast}
-use Rattle.session_rules.specs.Items.{LeastText, line}
-use Rattle.session_rules.specs.Replies.{level_of, listing, told}
-use Rattle.session_rules.specs.Sessions.{Entry, Table, Outcome, Declined, Done, Change, Stays, Becomes, Ends, entry_of, without, changed, carried, when_open, outcome, outcome_in, with_number, becomes, tells, tells_lines, goes_to, goes_through, step, names_of, no_such, noted, with_noted, state_of, new_entry}
+use Rattle.session_rules.specs.Sessions.{Entry, Table, Outcome, Declined, Done, Change, Stays, Becomes, Ends, entry_of, without, changed, carried, when_open, outcome, outcome_in, with_number, step, noted, new_entry}
 use Rattle.session_rules.specs.CaseSizes.{IsCaseOf, HasCasesOf}
 
 -- the empty table has no case
@@ -46,57 +40,31 @@ Keeps system (Done change items) = ChangeKeeps system change
 
 module _ (system : System) where
   placed : (refusal : Refusal) (act : ℕ → Outcome) (place : Option ℕ) → ((i : ℕ) → Keeps system (act i)) → Keeps system (with_number refusal act place)
-  placed refusal act None k = tt
-  placed refusal act (Some i) k = k i
+  placed refusal act place k = grind arith
 
   chosen : (b : Bool) (one other : Outcome) → Keeps system one → Keeps system other → Keeps system (if b then one else other)
-  chosen true one other h k = h
-  chosen false one other h k = k
-
-  told-keeps : (lines : Result (List (List (List ℕ))) Refusal) → Keeps system (tells_lines lines)
-  told-keeps (Ok lines) = tt
-  told-keeps (Err refusal) = tt
+  chosen b one other h k = grind arith
 
   noted-keeps : (what : Noted) (known : Case) (i : ℕ) (bit : Option Bool) → IsCaseOf system known → IsCaseOf system (noted what known i bit)
-  noted-keeps Wire known i bit h = (length-set known.seen i bit ∙ h.0, h.1)
-  noted-keeps Part known i bit h = (h.0, length-set known.held i bit ∙ h.1)
+  noted-keeps what known i bit h = grind (arith, length-set)
 
   when_open-keeps : (s : Name) (entry : Entry) → IsCaseOf system entry.known → (request : Request) → Keeps system (when_open system s entry request)
-  when_open-keeps s entry h Start = tt
-  when_open-keeps s entry h Stop = tt
-  when_open-keeps s entry h (Note what name bit) =
-      placed (no_such what) (λ i. becomes s (with_noted entry what i bit) (codes "ok")) (place_of name (names_of system what)) (λ i. noted-keeps what entry.known i bit h)
-  when_open-keeps s entry h (Tell question) = told-keeps (told system s entry.known question)
-  when_open-keeps s entry h Next = h
-  when_open-keeps s entry h (Several count) = h
-  when_open-keeps s entry h (After names) =
-      chosen (list_all (λ name. is_among system.parts name) names) (becomes s (record entry { point = Some (state_of names system.parts) }) (codes "ok")) (Declined NoPart) h tt
-  when_open-keeps s entry h Dnnf = tt
-  when_open-keeps s entry h Level =
-      placed NoLevels (λ top. goes_to entry (level_of system s top (system.consistent entry.known) entry.point)) system.extras.levels (λ top. h)
-  when_open-keeps s entry h (Levels count) =
-      placed NoLevels (λ top. goes_through entry (listing (level_of system s top (system.consistent entry.known)) count entry.point)) system.extras.levels (λ top. h)
-  when_open-keeps s entry h LeastNnf =
-      chosen system.extras.least (tells (line (s ∷ codes "leastnnf" ∷ []) ∷ LeastText (length system.parts) (all_diagnoses system entry.known) ∷ [])) (Declined NoLeast) tt tt
+  when_open-keeps s entry h request = grind (arith, noted-keeps)
 
   new-keeps : IsCaseOf system (new_entry system).known
   new-keeps = (length-replicate (length system.wires) None, length-replicate (length system.parts) None)
 
   outcome-keeps : (s : Name) (full : Bool) (entry : Option Entry) → ((e : Entry) → entry ≡ Some e → IsCaseOf system e.known) → (request : Request) → Keeps system (outcome system s full entry request)
-  outcome-keeps s full (Some entry) h request = when_open-keeps s entry (h entry refl) request
-  outcome-keeps s full None h Start = chosen full (Declined Full) (becomes s (new_entry system) (codes "open")) tt new-keeps
-  outcome-keeps s full None h request = tt
+  outcome-keeps s full entry h request = grind (arith, when_open-keeps, new-keeps)
 
   -- an entry found after a change is the new one or an old one
   put_found : (b : Bool) (entry found : Entry) (old : Option Entry) → IsCaseOf system entry.known → ((e : Entry) → old ≡ Some e → IsCaseOf system e.known)
       → cond b (Some entry) old ≡ Some found → IsCaseOf system found.known
-  put_found true entry found old h k e = let same : entry ≡ found = cc in subst (λ (x : Entry). IsCaseOf system x.known) same h
-  put_found false entry found old h k e = k found e
+  put_found b entry found old h k e = grind arith
 
   kept_found : (b : Bool) (found : Entry) (old : Option Entry) → ((e : Entry) → old ≡ Some e → IsCaseOf system e.known)
       → cond b old None ≡ Some found → IsCaseOf system found.known
-  kept_found true found old k e = k found e
-  kept_found false found old k e = absurd (let never : ⊥ = cc in never)
+  kept_found b found old k e = grind arith
 
   pub changed-keeps : (s : Name) (change : Change) (table : Table) → ChangeKeeps system change → HasCasesOf system table → HasCasesOf system (changed s change table)
   changed-keeps s Stays table h k = k
@@ -117,5 +85,4 @@ module _ (system : System) where
   pub step-keeps : (limit : ℕ) (table : Table) (l : Line) → HasCasesOf system table → HasCasesOf system (step system limit table l).table
   step-keeps limit table Blank h = h
   step-keeps limit table (Refused refusal) h = h
-  step-keeps limit table (Ask s request) h =
-      carried-keeps s (outcome_in system limit table s request) table (outcome_in-keeps limit table s request h) h
+  step-keeps limit table (Ask s request) h = grind (arith, carried-keeps s (outcome_in system limit table s request) table (outcome_in-keeps limit table s request h) h)

@@ -1,6 +1,5 @@
 -- A line hangs on the entry of the session that it names, and leaves every other.
-use Rattle.std.proofs.Common.{◌≡◌, ℕ, Bool, true, false, not, cond, length, refl, ap, ap₂, sym, ◌∙◌, Some, None, Option}
-use Rattle.std.specs.Prelude.{nat_le, codes, if◌then◌else◌}
+use Rattle.std.proofs.Common.{◌≡◌, ℕ, true, false, cond, refl, ap, ◌∙◌, Some, None, Option, arith}
 use Rattle.std.specs.Ordering.{nat_cmp}
 use Rattle.std.specs.Cmp.Lexicographic.{slice_cmp}
 use Rattle.std.specs.FinMap.Entries.{find-put}
@@ -9,9 +8,8 @@ use Rattle.std.proofs.lemmas.Map.Text.{is_eq-slice_cmp}
 use Rattle.text_rules.specs.Names.{Name, same_name}
 use Rattle.text_rules.proofs.NameLemmas.{equal_if_same, same_if_equal}
 use Rattle.state_rules.specs.Systems.{System}
-use Rattle.script_lang.specs.Script.{Line, Blank, Refused, Ask, Request, Start}
-use Rattle.session_rules.specs.declared.refusal.Refusal.TheVariants.{Full}
-use Rattle.session_rules.specs.Sessions.{Table, Entry, Change, Stays, Becomes, Ends, Outcome, Declined, Done, changed, carried, step, entry_of, outcome, outcome_in, becomes, new_entry}
+use Rattle.script_lang.specs.Script.{Line, Blank, Refused, Ask, Request}
+use Rattle.session_rules.specs.Sessions.{Table, Entry, Change, Stays, Becomes, Ends, Outcome, Declined, Done, changed, carried, step, entry_of, outcome_in}
 use Rattle.session_rules.specs.Alone.{names_session, LooksSame, IsItsOwn}
 use Rattle.session_rules.proofs.Keeping.{entry_of-without}
 
@@ -33,82 +31,43 @@ pub same_as_itself : (s : Name) → same_name s s ≡ true
 same_as_itself s = same_if_equal s s refl
 
 apart_back : (r s : Name) → same_name s r ≡ false → same_name r s ≡ false
-apart_back r s e = by (same_name r s) refl
-  where
-    by : (b : Bool) → same_name r s ≡ b → b ≡ false
-    by false is = refl
-    by true is = sym (same_if_equal s r (sym (equal_if_same r s is))) ∙ e
+apart_back r s e = grind (arith, same_if_equal, equal_if_same)
 
 own_change : (s : Name) (change : Change) (table : Table) → entry_of s (changed s change table) ≡ after_change change (entry_of s table)
-own_change s Stays table = refl
-own_change s (Becomes entry) table = entry_of-with s s entry table ∙ ap (λ b. cond b (Some entry) (entry_of s table)) (same_as_itself s)
-own_change s Ends table = entry_of-without s s table ∙ ap (λ b. cond (not b) (entry_of s table) None) (same_as_itself s)
+own_change s change table = grind (arith, entry_of-with, same_as_itself, entry_of-without)
 
 -- a session's own line changes its entry by what it is told
 pub own_step : (s : Name) (o : Outcome) (table : Table) → entry_of s (carried table s o).table ≡ after_outcome o (entry_of s table)
-own_step s (Declined refusal) table = refl
-own_step s (Done change items) table = own_change s change table
-
--- and what is said does not hang on the table
-pub own_items : (s : Name) (o : Outcome) (one other : Table) → (carried one s o).items ≡ (carried other s o).items
-own_items s (Declined refusal) one other = refl
-own_items s (Done change items) one other = refl
+own_step s o table = grind (arith, own_change)
 
 other_change : (r s : Name) (change : Change) (table : Table) → same_name r s ≡ false → entry_of r (changed s change table) ≡ entry_of r table
-other_change r s Stays table e = refl
-other_change r s (Becomes entry) table e = entry_of-with r s entry table ∙ ap (λ b. cond b (Some entry) (entry_of r table)) e
-other_change r s Ends table e = entry_of-without r s table ∙ ap (λ b. cond (not b) (entry_of r table) None) e
+other_change r s change table e = grind (arith, entry_of-with, entry_of-without)
 
 other_outcome : (r s : Name) (o : Outcome) (table : Table) → same_name r s ≡ false → entry_of r (carried table s o).table ≡ entry_of r table
-other_outcome r s (Declined refusal) table e = refl
-other_outcome r s (Done change items) table e = other_change r s change table e
+other_outcome r s o table e = grind (arith, other_change)
 
 module _ (system : System) where
-  -- room is asked for where a session opens
-  outcome-room : (s : Name) (full filled : Bool) (entry : Option Entry) (request : Request) → (request ≡ Start → full ≡ filled) → outcome system s full entry request ≡ outcome system s filled entry request
-  outcome-room s full filled (Some entry) request same = refl
-  outcome-room s full filled None Start same = ap (λ b. if b then Declined Full else becomes s (new_entry system) (codes "open")) (same refl)
-  outcome-room s full filled None request same = refl
-
   module _ (limit : ℕ) where
     outcome-same : (s : Name) (request : Request) (one other : Table) → LooksSame limit (Ask s request) one other → outcome_in system limit one s request ≡ outcome_in system limit other s request
-    outcome-same s request one other looks =
-        ap (λ e. outcome system s (nat_le limit (length one)) e request) (looks.entries s (same_as_itself s))
-        ∙ outcome-room s (nat_le limit (length one)) (nat_le limit (length other)) (entry_of s other) request (λ start. looks.room s (ap (Ask s) start))
+    outcome-same s request one other looks = grind (arith, same_as_itself)
 
     answer-same : (line : Line) (one other : Table) → LooksSame limit line one other → (step system limit one line).items ≡ (step system limit other line).items
-    answer-same Blank one other looks = refl
-    answer-same (Refused refusal) one other looks = refl
-    answer-same (Ask s request) one other looks =
-        own_items s (outcome_in system limit one s request) one other ∙ ap (λ o. (carried other s o).items) (outcome-same s request one other looks)
+    answer-same line one other looks = grind (arith, outcome-same)
 
     asked-same : (s : Name) (request : Request) (one other : Table) → LooksSame limit (Ask s request) one other
         → entry_of s (step system limit one (Ask s request)).table ≡ entry_of s (step system limit other (Ask s request)).table
-    asked-same s request one other looks =
-        own_step s (outcome_in system limit one s request) one
-        ∙ (ap₂ after_outcome (outcome-same s request one other looks) (looks.entries s (same_as_itself s))
-        ∙ sym (own_step s (outcome_in system limit other s request) other))
+    asked-same s request one other looks = grind (arith, own_step, same_as_itself)
 
     named-same : (line : Line) (one other : Table) → LooksSame limit line one other → (s : Name) → names_session s line ≡ true
         → entry_of s (step system limit one line).table ≡ entry_of s (step system limit other line).table
     named-same Blank one other looks s named = looks.entries s named
     named-same (Refused refusal) one other looks s named = looks.entries s named
-    named-same (Ask r request) one other looks s named =
-        let same : r ≡ s = equal_if_same r s named in
-        ap (λ n. entry_of n (step system limit one (Ask r request)).table) (sym same)
-        ∙ (asked-same r request one other looks
-        ∙ ap (λ n. entry_of n (step system limit other (Ask r request)).table) same)
+    named-same (Ask r request) one other looks s named = grind (arith, equal_if_same r s named, asked-same r request one other looks)
 
     -- the lines of others leave an entry as it is
     pub others-stay : (line : Line) (table : Table) (s : Name) → names_session s line ≡ false → entry_of s (step system limit table line).table ≡ entry_of s table
-    others-stay Blank table s apart = refl
-    others-stay (Refused refusal) table s apart = refl
-    others-stay (Ask r request) table s apart = other_outcome s r (outcome_in system limit table r request) table (apart_back s r apart)
+    others-stay line table s apart = grind (arith, other_outcome, apart_back)
 
     -- each line hangs on its session alone, and changes no other
     pub is_its_own : (line : Line) → IsItsOwn system limit line
-    is_its_own line = record {
-      answer = answer-same line;
-      named = named-same line;
-      others = others-stay line;
-    }
+    is_its_own line = grind (arith, answer-same, named-same, others-stay)

@@ -1,11 +1,11 @@
 -- A graph that is true exactly where bits fit has the consistent states of what fits.
-use Rattle.std.proofs.Common.{◌≡◌, ℕ, zero, suc, ◌+◌, ◌-◌, Bool, true, false, ◌&&◌, List, [], ◌∷◌, ◌++◌, map, length, replicate, refl, ap, ap₂, sym, subst, ◌∙◌, Option, Some, None, arith, append_assoc}
+use Rattle.std.proofs.Common.{◌≡◌, ℕ, zero, suc, ◌+◌, ◌-◌, Bool, true, ◌&&◌, List, [], ◌∷◌, ◌++◌, map, length, replicate, refl, ap, ap₂, sym, subst, ◌∙◌, Option, arith, append_assoc}
 use Rattle.std.specs.List.{list_any}
-use Rattle.std.proofs.Math.Bool.{and-true, and_assoc}
+use Rattle.std.proofs.Math.Bool.{and_assoc}
 use Rattle.std.proofs.lemmas.List.{map-append, length-map}
 use Rattle.text_rules.specs.Names.{Name}
 use Rattle.state_rules.specs.Bits.{lists_of_bits}
-use Rattle.state_rules.specs.Cases.{Case, agrees_at, agrees}
+use Rattle.state_rules.specs.Cases.{Case, agrees}
 use Rattle.state_rules.specs.Ranking.{Test}
 use Rattle.state_rules.specs.Graphs.{Graph, holds}
 use Rattle.state_rules.specs.GraphsOver.{IsGraphOver}
@@ -24,9 +24,7 @@ agrees-append : (ks js : List (Option Bool)) (bits others : List Bool) → lengt
 agrees-append [] js [] others e = refl
 agrees-append (k ∷ ks) js [] others e = absurd (omega (arith, e))
 agrees-append [] js (b ∷ bits) others e = absurd (omega (arith, e))
-agrees-append (k ∷ ks) js (b ∷ bits) others e =
-    let shorter : length ks ≡ length bits = omega (arith, e) in
-    rw (agrees-append ks js bits others shorter, and_assoc (agrees_at k b) (agrees ks bits) (agrees js others)) refl
+agrees-append (k ∷ ks) js (b ∷ bits) others e = grind (arith, agrees-append ks js bits others)
 
 agrees-zeros : (n : ℕ) (bits : List Bool) → agrees (map known_of (replicate n 0)) bits ≡ true
 agrees-zeros zero bits = refl
@@ -35,9 +33,7 @@ agrees-zeros (suc n) (b ∷ bits) = agrees-zeros n bits
 
 -- the word of what is known says it
 pub known_of-word : (k : Option Bool) → known_of (word_of_known k) ≡ k
-known_of-word None = refl
-known_of-word (Some true) = refl
-known_of-word (Some false) = refl
+known_of-word k = grind arith
 
 pub all_known : (ks : List (Option Bool)) → map known_of (map word_of_known ks) ≡ ks
 all_known [] = refl
@@ -46,22 +42,12 @@ all_known (k ∷ ks) = ap₂ (λ x xs. x ∷ xs) (known_of-word k) (all_known ks
 -- and the words of a case say what the case does, and nothing of the inner variables
 pub known-case_words : (vars : ℕ) (known : Case) → map known_of (case_words vars known)
     ≡ known.held ++ (known.seen ++ map known_of (replicate (vars - (length known.held + length known.seen)) 0))
-known-case_words vars known =
-    let zeros : List ℕ = replicate (vars - (length known.held + length known.seen)) 0 in
-    map-append known_of (map word_of_known known.held) (map word_of_known known.seen ++ zeros)
-    ∙ ap₂ (λ x y. x ++ y) (all_known known.held)
-    (map-append known_of (map word_of_known known.seen) zeros ∙ ap (λ x. x ++ map known_of zeros) (all_known known.seen))
+known-case_words vars known = grind (arith, map-append, all_known)
 
 -- bits fit the words of a case where they agree with the case
 pub fits-case_words : (vars : ℕ) (known : Case) (state wires inner : List Bool) → length known.held ≡ length state → length known.seen ≡ length wires
     → fits_words (case_words vars known) (state ++ (wires ++ inner)) ≡ (agrees known.held state && agrees known.seen wires)
-fits-case_words vars known state wires inner held seen =
-    let n : ℕ = vars - (length known.held + length known.seen) in
-    let zeros : List (Option Bool) = map known_of (replicate n 0) in
-    ap (λ ks. agrees ks (state ++ (wires ++ inner))) (known-case_words vars known)
-    ∙ agrees-append known.held (known.seen ++ zeros) state (wires ++ inner) held
-    ∙ ap (λ b. agrees known.held state && b)
-    (agrees-append known.seen zeros wires inner seen ∙ ap (λ b. agrees known.seen wires && b) (agrees-zeros n inner) ∙ and-true (agrees known.seen wires))
+fits-case_words vars known state wires inner held seen = grind (arith, known-case_words, agrees-append, agrees-zeros)
 
 module _ (parts wires : List Name) (costs : List ℕ) (fits_by : List Bool → List Bool → Bool) (graph : Graph) (is : IsGraphOver (length parts) (length wires) fits_by graph)
     (known : Case) (case : IsCaseOf (fitting_system parts wires costs fits_by) known) where

@@ -3,7 +3,7 @@ use Rattle.std.proofs.Common.{◌≡◌, ℕ, Bool, true, false, List, [], ◌�
 use Rattle.std.specs.Prelude.{codes}
 use Rattle.std.specs.Fmt.{digits}
 use Rattle.state_rules.specs.Cases.{empty_case}
-use Rattle.state_rules.specs.Systems.{System, no_extras, with_extras}
+use Rattle.state_rules.specs.Systems.{System, no_extras, open_texts, with_extras}
 use Rattle.session_rules.specs.Items.{line, LeastText}
 use Rattle.session_rules.specs.Sessions.{Table, Step}
 use Rattle.session_rules.specs.Moves.{left_by, line_moves, script_moves}
@@ -16,6 +16,7 @@ either = record {
   costs = 1 ∷ 1 ∷ [];
   consistent = λ known. (false ∷ false ∷ []) ∷ (false ∷ true ∷ []) ∷ (true ∷ false ∷ []) ∷ [];
   extras = no_extras;
+  texts = open_texts;
 }
 
 -- no state agrees

@@ -1,5 +1,5 @@
 -- What a graph costs at least where a wire has a bit too, under the words of a case.
-use Rattle.std.proofs.Common.{◌≡◌, ℕ, ◌+◌, ◌-◌, ◌≤◌, ◌<◌, Bool, true, false, ◌&&◌, List, ◌++◌, map, length, get_or, not, replicate, refl, ap, ap₂, sym, ◌∙◌, subst, Option, Some, None, arith, set}
+use Rattle.std.proofs.Common.{◌≡◌, ℕ, ◌+◌, ◌-◌, ◌≤◌, ◌<◌, Bool, ◌&&◌, List, map, length, get_or, not, replicate, refl, ap, ap₂, sym, ◌∙◌, subst, Option, Some, None, arith, set}
 use Rattle.std.proofs.lemmas.List.{get_or-append-add, get_or_append_left}
 use Rattle.text_rules.specs.Names.{Name}
 use Rattle.state_rules.specs.Bits.{bit_in, same_bit}
@@ -38,15 +38,7 @@ module _ (parts wires : List Name) (costs : List ℕ) (graph : Graph) (vars : �
 
   -- what the word of the wire says is what is seen of it
   pub word_there : get_or (known words) place None ≡ seen_at the_case wire
-  word_there =
-      let held : List (Option Bool) = the_case.held in
-      let seen : List (Option Bool) = the_case.seen in
-      let rest : List (Option Bool) = map known_of (replicate (vars - (length held + length seen)) 0) in
-      ap (λ ws. get_or (known ws) place None) (sym (words-of_case (length parts) (length wires) vars words are))
-      ∙ (ap (λ ks. get_or ks place None) (known-case_words vars the_case)
-      ∙ (ap (λ n. get_or (held ++ (seen ++ rest)) (n + wire) None) (sym (length-held (length parts) (length wires) vars words are))
-      ∙ (get_or-append-add held (seen ++ rest) wire None
-      ∙ get_or_append_left seen rest None wire (subst (λ n. wire < n) (sym (length-seen (length parts) (length wires) vars words are)) within))))
+  word_there = grind (arith, known-case_words vars the_case, length-held (length parts) (length wires) vars words are, get_or-append-add, get_or_append_left the_case.seen (map known_of (replicate (vars - (length the_case.held + length the_case.seen)) 0)) None wire, length-seen (length parts) (length wires) vars words are)
 
   abbrev least_asked : Bool → Option ℕ
   least_asked bit = least costs (passing (length parts) (has_model graph (asked bit) (length parts)))
@@ -73,11 +65,7 @@ module _ (parts wires : List Name) (costs : List ℕ) (graph : Graph) (vars : �
   asked-other bit e = ap (least costs) (with_bit-other graph words (length parts) place bit (are.long ∙ sym wide) narrow inside (word_there ∙ e))
 
   asked-told : (bit : Bool) (seen : Option Bool) → seen_at the_case wire ≡ seen → least_asked bit ≡ told bit seen
-  asked-told bit None e = asked-open bit e
-  asked-told true (Some true) e = asked-same true e
-  asked-told false (Some false) e = asked-same false e
-  asked-told true (Some false) e = asked-other true e
-  asked-told false (Some true) e = asked-other false e
+  asked-told bit seen e = grind (arith, asked-open, asked-same, asked-other)
 
   -- What a graph costs at least where a wire has a bit too is what a probe is told.
   pub least_with-by_words : (bit : Bool) → least_with graph words costs (length parts + wire + 1) bit

@@ -1,36 +1,24 @@
--- Two systems of the same names and costs, whose consistent states are the same for each case of theirs, answer alike.
-use Rattle.std.proofs.Common.{◌≡◌, ℕ, suc, ◌+◌, Bool, true, false, List, [], ◌∷◌, ◌++◌, map, length, refl, sym, subst, ap, ap₂, ◌∙◌, Option, Some, None, Ok, set}
-use Rattle.std.specs.Prelude.{nat_le, codes, is_some, if◌then◌else◌}
+-- Two systems that differ in their consistent states alone, which are the same for each case of theirs, answer alike.
+use Rattle.std.proofs.Common.{◌≡◌, ℕ, suc, ◌+◌, Bool, List, [], ◌∷◌, refl, ap, ap₂, Option, Some, None, Ok, arith}
 use Rattle.std.proofs.lemmas.List.{length-set}
 use Rattle.text_rules.specs.Names.{Name}
 use Rattle.state_rules.specs.Cases.{Case}
-use Rattle.state_rules.specs.Ranking.{least, diagnoses}
+use Rattle.state_rules.specs.Ranking.{diagnoses}
 use Rattle.state_rules.specs.Systems.{System}
-use Rattle.device_model.specs.Devices.{place_of}
-use Rattle.script_lang.specs.Script.{Line, Blank, Refused, Ask, Request, Start, Stop, Note, Tell, Next, Several, After, Question, Min, Probe, Probes, Blame, Dnnf, Level, Levels, LeastNnf, line_of}
-use Rattle.script_lang.specs.declared.line.Noted.TheVariants.{Wire, Part}
-use Rattle.session_rules.specs.declared.refusal.Refusal.TheVariants.{NoLevels, NoLeast}
-use Rattle.session_rules.specs.Items.{Projected, LeastText, line}
-use Rattle.session_rules.specs.Replies.{Found, min_line, next_of, level_of, listing, least_at, seen_at, probe_line, probe_lines, probe_told, count_text, if_any, end_line, blame_lines, told}
-use Rattle.session_rules.specs.Sessions.{Entry, Table, Step, Declined, entry_of, carried, when_open, outcome, outcome_in, with_number, tells, tells_lines, goes_to, goes_through, step, run, replies}
-use Rattle.session_rules.specs.Moves.{left_by, goes_on, listing_moves, next_for, level_for, level_moves, moves, line_moves, script_moves}
+use Rattle.script_lang.specs.Script.{Line, Blank, Refused, Ask, Request, Several, Question, Levels, line_of}
+use Rattle.session_rules.specs.declared.refusal.Refusal.TheVariants.{NoLevels}
+use Rattle.session_rules.specs.Replies.{next_of, listing, least_at, probe_line, probe_lines, probe_told, if_any, told, level_of}
+use Rattle.session_rules.specs.Sessions.{Entry, Table, Step, when_open, outcome, goes_through, step, replies, with_number}
+use Rattle.session_rules.specs.Moves.{left_by, level_moves, moves, line_moves, script_moves}
 use Rattle.session_rules.specs.CaseSizes.{IsCaseOf, HasCasesOf}
 use Rattle.session_rules.proofs.Keeping.{step-keeps}
-use Rattle.session_rules.proofs.Whole.{line_moves-whole}
+use Rattle.session_rules.proofs.Whole.{line_moves-whole, said-replies}
 
--- Two ways to answer that agree while something holds, which lines keep
-module _ (one other : Table → List ℕ → Step) (Holds : Table → Type 0) (kept : (t : Table) (l : List ℕ) → Holds t → Holds (one t l).table) (agree : (t : Table) (l : List ℕ) → Holds t → one t l ≡ other t l) where
-  run-same : (t : Table) (ls : List (List ℕ)) → Holds t → run one t ls ≡ run other t ls
-  run-same t [] h = refl
-  run-same t (l ∷ ls) h = ap₂ (λ x y. x ++ y) (ap (λ s. s.items) (agree t l h)) (run-same (one t l).table ls (kept t l h) ∙ ap (λ s. run other s.table ls) (agree t l h))
-
--- and two ways to answer by moves
+-- Two ways to answer by moves that agree while something holds, which lines keep
 module _ (one other : Table → List ℕ → List Step) (Holds : Table → Type 0) (kept : (t : Table) (l : List ℕ) → Holds t → Holds (left_by t (one t l))) (agree : (t : Table) (l : List ℕ) → Holds t → one t l ≡ other t l) where
   moves_of_lines-same : (t : Table) (ls : List (List ℕ)) → Holds t → script_moves one t ls ≡ script_moves other t ls
   moves_of_lines-same t [] h = refl
-  moves_of_lines-same t (l ∷ ls) h =
-      ap (λ ms. one t l ++ ms) (moves_of_lines-same (left_by t (one t l)) ls (kept t l h))
-      ∙ ap (λ first. first ++ script_moves other (left_by t first) ls) (agree t l h)
+  moves_of_lines-same t (l ∷ ls) h = grind (arith, moves_of_lines-same (left_by t (one t l)) ls (kept t l h))
 
 module _ (system : System) (consistent : Case → List (List Bool)) (same : (known : Case) → IsCaseOf system known → system.consistent known ≡ consistent known) where
   -- the system with the other states
@@ -38,24 +26,14 @@ module _ (system : System) (consistent : Case → List (List Bool)) (same : (kno
   other = record system { consistent = consistent }
 
   least_at-same : (known : Case) (wire : ℕ) (bit : Bool) (seen : Option Bool) → IsCaseOf system known → least_at system known wire bit seen ≡ least_at other known wire bit seen
-  least_at-same known wire bit None h =
-      ap (least system.costs) (same (record known { seen = set known.seen wire (Some bit) }) (length-set known.seen wire (Some bit) ∙ h.0, h.1))
-  least_at-same known wire true (Some true) h = ap (least system.costs) (same known h)
-  least_at-same known wire false (Some false) h = ap (least system.costs) (same known h)
-  least_at-same known wire true (Some false) h = refl
-  least_at-same known wire false (Some true) h = refl
+  least_at-same known wire bit seen h = grind (arith, length-set)
 
   probe_line-same : (s : Name) (known : Case) (name : Name) (wire : ℕ) → IsCaseOf system known → probe_line system s known name wire ≡ probe_line other s known name wire
-  probe_line-same s known name wire h =
-      ap₂ (λ x y. s ∷ codes "probe" ∷ name ∷ count_text x ∷ count_text y ∷ [])
-      (least_at-same known wire false (seen_at known wire) h)
-      (least_at-same known wire true (seen_at known wire) h)
+  probe_line-same s known name wire h = grind (arith, least_at-same)
 
   probe_lines-same : (s : Name) (known : Case) (wire : ℕ) (names : List Name) → IsCaseOf system known → probe_lines system s known wire names ≡ probe_lines other s known wire names
   probe_lines-same s known wire [] h = refl
-  probe_lines-same s known wire (name ∷ names) h =
-      ap₂ (λ l ls. elim (is_some (seen_at known wire)) as (λ _. List (List (List ℕ))) [ true ↦ ls | false ↦ l ∷ ls ])
-      (probe_line-same s known name wire h) (probe_lines-same s known (wire + 1) names h)
+  probe_lines-same s known wire (name ∷ names) h = grind (arith, probe_line-same s known name wire h, probe_lines-same s known (wire + 1) names h)
 
   probe_told-same : (s : Name) (known : Case) (name : Name) (place : Option ℕ) → IsCaseOf system known → probe_told system s known name place ≡ probe_told other s known name place
   probe_told-same s known name None h = refl
@@ -63,82 +41,42 @@ module _ (system : System) (consistent : Case → List (List Bool)) (same : (kno
 
   -- what a question is told
   told-same : (s : Name) (known : Case) (question : Question) → IsCaseOf system known → told system s known question ≡ told other s known question
-  told-same s known Min h = ap (λ hs. Ok (min_line system s (least system.costs hs) (diagnoses system.costs hs) ∷ [])) (same known h)
-  told-same s known (Probe name) h = probe_told-same s known name (place_of name system.wires) h
-  told-same s known Probes h = ap₂ (λ hs ls. Ok (if_any s hs (ls ++ end_line s ∷ []))) (same known h) (probe_lines-same s known 0 system.wires h)
-  told-same s known Blame h =
-      ap (λ hs. Ok (if_any s (diagnoses system.costs hs) (blame_lines s (diagnoses system.costs hs) 0 system.parts ++ end_line s ∷ []))) (same known h)
+  told-same s known question h = grind (arith, probe_told-same, probe_lines-same)
 
   when_open-same : (s : Name) (entry : Entry) (request : Request) → IsCaseOf system entry.known → when_open system s entry request ≡ when_open other s entry request
-  when_open-same s entry Start h = refl
-  when_open-same s entry Stop h = refl
-  when_open-same s entry (Note Wire name bit) h = refl
-  when_open-same s entry (Note Part name bit) h = refl
-  when_open-same s entry (Tell question) h = ap tells_lines (told-same s entry.known question h)
-  when_open-same s entry Next h =
-      ap (λ hs. goes_to entry (next_of system s (diagnoses system.costs hs) entry.point)) (same entry.known h)
   when_open-same s entry (Several count) h =
       ap (λ hs. goes_through entry (listing (next_of system s (diagnoses system.costs hs)) count entry.point)) (same entry.known h)
-  when_open-same s entry (After names) h = refl
-  when_open-same s entry Dnnf h =
-      ap (λ hs. tells (line (s ∷ codes "dnnf" ∷ []) ∷ Projected (length system.parts) hs ∷ [])) (same entry.known h)
-  when_open-same s entry Level h =
-      ap (λ hs. with_number NoLevels (λ top. goes_to entry (level_of system s top hs entry.point)) system.extras.levels) (same entry.known h)
   when_open-same s entry (Levels count) h =
       ap (λ hs. with_number NoLevels (λ top. goes_through entry (listing (level_of system s top hs) count entry.point)) system.extras.levels) (same entry.known h)
-  when_open-same s entry LeastNnf h =
-      ap (λ hs. if system.extras.least then tells (line (s ∷ codes "leastnnf" ∷ []) ∷ LeastText (length system.parts) (diagnoses system.costs hs) ∷ []) else Declined NoLeast) (same entry.known h)
+  when_open-same s entry request h = grind (arith, told-same)
 
   outcome-same : (s : Name) (full : Bool) (entry : Option Entry) (request : Request) → ((e : Entry) → entry ≡ Some e → IsCaseOf system e.known)
       → outcome system s full entry request ≡ outcome other s full entry request
-  outcome-same s full (Some entry) request h = when_open-same s entry request (h entry refl)
-  outcome-same s full None Start h = refl
-  outcome-same s full None request h = refl
-
-  outcome_in-same : (limit : ℕ) (table : Table) (s : Name) (request : Request) → HasCasesOf system table → outcome_in system limit table s request ≡ outcome_in other limit table s request
-  outcome_in-same limit table s request h = outcome-same s (nat_le limit (length table)) (entry_of s table) request (h s)
+  outcome-same s full entry request h = grind (arith, when_open-same)
 
   -- a line is one step in both
-  pub step-same : (limit : ℕ) (table : Table) (l : Line) → HasCasesOf system table → step system limit table l ≡ step other limit table l
+  step-same : (limit : ℕ) (table : Table) (l : Line) → HasCasesOf system table → step system limit table l ≡ step other limit table l
   step-same limit table Blank h = refl
   step-same limit table (Refused refusal) h = refl
-  step-same limit table (Ask s request) h = ap (carried table s) (outcome_in-same limit table s request h)
-
-  -- a listing by steps that are the same for the entry there
-  listing_moves-same : (next step : Entry → Option (List Bool) → Found) (table : Table) (s : Name) (count : ℕ) (entry : Option Entry) → ((e : Entry) → entry ≡ Some e → next e ≡ step e)
-      → listing_moves next table s count entry ≡ listing_moves step table s count entry
-  listing_moves-same next step table s count None e = refl
-  listing_moves-same next step table s count (Some entry) e = ap (λ f. map (goes_on table s entry) (listing f count entry.point)) (e entry refl)
-
-  next_for-same : (s : Name) (entry : Entry) → IsCaseOf system entry.known → next_for system s entry ≡ next_for other s entry
-  next_for-same s entry h = ap (λ hs. next_of system s (diagnoses system.costs hs)) (same entry.known h)
-
-  level_for-same : (s : Name) (top : ℕ) (entry : Entry) → IsCaseOf system entry.known → level_for system s top entry ≡ level_for other s top entry
-  level_for-same s top entry h = ap (level_of system s top) (same entry.known h)
+  step-same limit table (Ask s request) h = grind (arith, outcome-same)
 
   level_moves-same : (limit : ℕ) (table : Table) (s : Name) (count : ℕ) (levels : Option ℕ) → HasCasesOf system table → level_moves system limit table s count levels ≡ level_moves other limit table s count levels
   level_moves-same limit table s count None h = ap (λ (move : Step). move ∷ []) (step-same limit table (Ask s (Levels count)) h)
-  level_moves-same limit table s count (Some top) h =
-      listing_moves-same (level_for system s top) (level_for other s top) table s count (entry_of s table) (λ e is. level_for-same s top e (h s e is))
+  level_moves-same limit table s count (Some top) h = grind arith
 
   moves-same : (limit : ℕ) (table : Table) (l : Line) → HasCasesOf system table → moves system limit table l ≡ moves other limit table l
-  moves-same limit table (Ask s (Several (suc n))) h =
-      listing_moves-same (next_for system s) (next_for other s) table s (suc n) (entry_of s table) (λ e is. next_for-same s e (h s e is))
+  moves-same limit table (Ask s (Several (suc n))) h = grind arith
   moves-same limit table (Ask s (Levels (suc n))) h = level_moves-same limit table s (suc n) system.extras.levels h
   moves-same limit table l h = ap (λ (move : Step). move ∷ []) (step-same limit table l h)
 
-  -- the moves of a line are the same in both, and those of a script
-  pub line_moves-same : (limit : ℕ) (table : Table) (bytes : List ℕ) → HasCasesOf system table → line_moves system limit table bytes ≡ line_moves other limit table bytes
-  line_moves-same limit table bytes = moves-same limit table (line_of bytes)
-
   line_moves-keep : (limit : ℕ) (table : Table) (bytes : List ℕ) → HasCasesOf system table → HasCasesOf system (left_by table (line_moves system limit table bytes))
-  line_moves-keep limit table bytes h =
-      subst (λ (s : Step). HasCasesOf system s.table) (sym (line_moves-whole system limit table bytes)) (step-keeps system limit table (line_of bytes) h)
+  line_moves-keep limit table bytes h = grind (arith, line_moves-whole, step-keeps)
 
+  -- the moves of a script are the same in both
   pub script_moves-same : (limit : ℕ) (table : Table) (lines : List (List ℕ)) → HasCasesOf system table
       → script_moves (line_moves system limit) table lines ≡ script_moves (line_moves other limit) table lines
-  script_moves-same limit = moves_of_lines-same _ _ (HasCasesOf system) (line_moves-keep limit) (line_moves-same limit)
+  script_moves-same limit = moves_of_lines-same _ _ (HasCasesOf system) (line_moves-keep limit) (λ t l. moves-same limit t (line_of l))
 
-  -- a script has the same replies in both, and leaves the same table
+  -- and so are its replies
   pub replies-same : (limit : ℕ) (table : Table) (lines : List (List ℕ)) → HasCasesOf system table → replies system limit table lines ≡ replies other limit table lines
-  replies-same limit = run-same _ _ (HasCasesOf system) (λ t l. step-keeps system limit t (line_of l)) (λ t l. step-same limit t (line_of l))
+  replies-same limit table lines h = grind (arith, said-replies system limit table lines, said-replies other limit table lines, script_moves-same limit table lines h)

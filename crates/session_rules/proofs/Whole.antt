@@ -1,18 +1,12 @@
 -- Moves taken whole are steps.
-use Rattle.std.proofs.Common.{◌≡◌, ℕ, suc, Bool, List, [], ◌∷◌, ◌++◌, map, refl, ap, ap₂, sym, ◌∙◌, Option, Some, None, append_assoc, append-nil}
-use Rattle.std.specs.Prelude.{nat_le, length}
+use Rattle.std.proofs.Common.{◌≡◌, ℕ, suc, Bool, List, [], ◌∷◌, ◌++◌, map, refl, ap, sym, ◌∙◌, Option, Some, None, append_assoc, append-nil, arith}
 use Rattle.text_rules.specs.Names.{Name}
 use Rattle.state_rules.specs.Systems.{System}
 use Rattle.script_lang.specs.Script.{Line, Ask, Several, Levels, line_of}
-use Rattle.session_rules.specs.declared.refusal.Refusal.TheVariants.{NoSession, NoLevels}
+use Rattle.session_rules.specs.declared.refusal.Refusal.TheVariants.{NoSession}
 use Rattle.session_rules.specs.Replies.{Found, listing, point_after}
-use Rattle.session_rules.specs.Sessions.{Table, Entry, Step, Outcome, Declined, with_number, goes_through, with_entry, entry_of, carried, outcome, step, run, replies}
-use Rattle.session_rules.specs.Moves.{said, left_by, whole, goes_on, listing_moves, next_for, level_for, level_moves, moves, line_moves, line_step, script_moves}
-
--- the table that lines leave which are answered one after the other
-abbrev pub after_lines : (Table → List ℕ → Step) → Table → List (List ℕ) → Table
-after_lines step_by table [] = table
-after_lines step_by table (l ∷ lines) = after_lines step_by (step_by table l).table lines
+use Rattle.session_rules.specs.Sessions.{Table, Entry, Step, Outcome, Declined, goes_through, with_entry, carried, step, replies}
+use Rattle.session_rules.specs.Moves.{said, left_by, whole, goes_on, listing_moves, level_moves, moves, line_moves, script_moves}
 
 one_move : (table : Table) (s : Step) → whole table (s ∷ []) ≡ s
 one_move table s = ap (λ items. record { table = s.table; items = items }) (append-nil s.items)
@@ -38,28 +32,12 @@ listing_moves-whole : (next : Entry → Option (List Bool) → Found) (table : T
 listing_moves-whole next table session n None = one_move table _
 listing_moves-whole next table session n (Some entry) = goes_on-whole table session entry (next entry entry.point) _ table
 
-several-listed : (system : System) (session : Name) (full : Bool) (count : ℕ) (entry : Option Entry)
-    → listed (next_for system session) count entry ≡ outcome system session full entry (Several count)
-several-listed system session full count None = refl
-several-listed system session full count (Some entry) = refl
-
-levels-listed : (system : System) (session : Name) (full : Bool) (count top : ℕ) (entry : Option Entry) → system.extras.levels ≡ Some top
-    → listed (level_for system session top) count entry ≡ outcome system session full entry (Levels count)
-levels-listed system session full count top None is = refl
-levels-listed system session full count top (Some entry) is =
-    ap (with_number NoLevels (λ top. goes_through entry (listing (level_for system session top entry) count entry.point))) (sym is)
-
 level_moves-whole : (system : System) (limit : ℕ) (table : Table) (session : Name) (n : ℕ) (levels : Option ℕ) → system.extras.levels ≡ levels
     → whole table (level_moves system limit table session (suc n) levels) ≡ step system limit table (Ask session (Levels (suc n)))
-level_moves-whole system limit table session n None is = one_move table (step system limit table (Ask session (Levels (suc n))))
-level_moves-whole system limit table session n (Some top) is =
-    listing_moves-whole (level_for system session top) table session n (entry_of session table)
-    ∙ ap (carried table session) (levels-listed system session (nat_le limit (length table)) (suc n) top (entry_of session table) is)
+level_moves-whole system limit table session n levels is = grind (arith, listing_moves-whole)
 
 moves-whole : (system : System) (limit : ℕ) (table : Table) (l : Line) → whole table (moves system limit table l) ≡ step system limit table l
-moves-whole system limit table (Ask session (Several (suc n))) =
-    listing_moves-whole (next_for system session) table session n (entry_of session table)
-    ∙ ap (carried table session) (several-listed system session (nat_le limit (length table)) (suc n) (entry_of session table))
+moves-whole system limit table (Ask session (Several (suc n))) = grind (arith, listing_moves-whole)
 moves-whole system limit table (Ask session (Levels (suc n))) = level_moves-whole system limit table session n system.extras.levels refl
 moves-whole system limit table l = one_move table (step system limit table l)
 
@@ -75,26 +53,11 @@ pub left_by-append : (t : Table) (ms ns : List Step) → left_by t (ms ++ ns) �
 left_by-append t [] ns = refl
 left_by-append t (m ∷ ms) ns = left_by-append m.table ms ns
 
--- the moves of a script come to what its lines' steps say, and to the table after them
-module _ (many : Table → List ℕ → List Step) (one : Table → List ℕ → Step) (same : (t : Table) (l : List ℕ) → whole t (many t l) ≡ one t l) where
-  script_moves-whole : (t : Table) (ls : List (List ℕ)) → whole t (script_moves many t ls) ≡ record { table = after_lines one t ls; items = run one t ls }
-  script_moves-whole t [] = refl
-  script_moves-whole t (l ∷ ls) =
-      let first = many t l in
-      let rest = script_moves many (left_by t first) ls in
-      ap₂ (λ a b. record { table = a; items = b }) (left_by-append t first rest) (said-append first rest)
-      ∙ (ap (λ s. record { table = s.table; items = said first ++ s.items }) (script_moves-whole (left_by t first) ls)
-      ∙ ap (λ s. record { table = after_lines one s.table ls; items = s.items ++ run one s.table ls }) (same t l))
-
-  script_moves-said : (t : Table) (ls : List (List ℕ)) → said (script_moves many t ls) ≡ run one t ls
-  script_moves-said t ls = ap (λ s. s.items) (script_moves-whole t ls)
-
-  script_moves-left : (t : Table) (ls : List (List ℕ)) → left_by t (script_moves many t ls) ≡ after_lines one t ls
-  script_moves-left t ls = ap (λ s. s.table) (script_moves-whole t ls)
-
--- the moves of a script say its replies, and leave the table after it
+-- the moves of a script say its replies
 pub said-replies : (system : System) (limit : ℕ) (table : Table) (lines : List (List ℕ)) → said (script_moves (line_moves system limit) table lines) ≡ replies system limit table lines
-said-replies system limit = script_moves-said (line_moves system limit) (line_step system limit) (line_moves-whole system limit)
-
-pub left_by-lines : (system : System) (limit : ℕ) (table : Table) (lines : List (List ℕ)) → left_by table (script_moves (line_moves system limit) table lines) ≡ after_lines (line_step system limit) table lines
-left_by-lines system limit = script_moves-left (line_moves system limit) (line_step system limit) (line_moves-whole system limit)
+said-replies system limit table [] = refl
+said-replies system limit table (l ∷ lines) =
+    let first = line_moves system limit table l in
+    said-append first (script_moves (line_moves system limit) (left_by table first) lines)
+    ∙ (ap (λ items. said first ++ items) (said-replies system limit (left_by table first) lines)
+    ∙ ap (λ (s : Step). s.items ++ replies system limit s.table lines) (line_moves-whole system limit table l))

@@ -3,7 +3,7 @@ use Rattle.std.specs.Prelude.{◌≡◌, ℕ, ◌+◌, ◌-◌, ◌*◌, ◌^◌
 use Rattle.text_rules.specs.Names.{Name}
 use Rattle.state_rules.specs.Cases.{Case}
 use Rattle.state_rules.specs.declared.extras.Extras.{Extras}
-use Rattle.state_rules.specs.Systems.{System, no_extras, with_extras}
+use Rattle.state_rules.specs.Systems.{System, no_extras, open_texts, with_extras}
 use Rattle.state_rules.specs.Graphs.{Graph, edges}
 use Rattle.device_model.specs.Devices.{Device, part_names, part_costs}
 use Rattle.conditioner.specs.Words.{word_of_known}
@@ -22,6 +22,7 @@ graph_system parts wires costs graph = record {
   costs = costs;
   consistent = λ known. models graph (case_words graph.vars known) (length parts);
   extras = no_extras;
+  texts = open_texts;
 }
 
 -- what a service asks over: the names of parts and wires, what the failure of each part costs, a graph, and what is told besides

@@ -1,5 +1,5 @@
 -- The lines of replies: the diagnoses one after the other, and what is told of a case.
-use Rattle.std.specs.Prelude.{ℕ, zero, suc, ◌+◌, Bool, true, false, not, List, [], ◌∷◌, ◌++◌, map, Option, Some, None, Result, Ok, Err, set, slice_index_or, codes, is_some, if◌then◌else◌}
+use Rattle.std.specs.Prelude.{ℕ, zero, suc, ◌+◌, Bool, true, false, not, List, [], ◌∷◌, ◌++◌, map, length, Option, Some, None, Result, Ok, Err, set, slice_index_or, codes, is_some, if◌then◌else◌}
 use Rattle.std.specs.Fmt.{decimal}
 use Rattle.std.specs.List.{list_any, list_all}
 use Rattle.text_rules.specs.Names.{Name}
@@ -12,7 +12,7 @@ use Rattle.device_model.specs.Devices.{place_of}
 use Rattle.script_lang.specs.Script.{Question, Min, Probe, Probes, Blame}
 use Rattle.session_rules.specs.declared.refusal.Refusal.{Refusal}
 use Rattle.session_rules.specs.declared.refusal.Refusal.TheVariants.{NoWire}
-use Rattle.session_rules.specs.Items.{Item, line}
+use Rattle.session_rules.specs.Items.{Item, Projected, LeastText, line, graph_item}
 
 -- the names of the faulty parts
 abbrev pub faulty_names : List Name → List Bool → List Name
@@ -132,3 +132,10 @@ told system session known Probes =
 told system session known Blame =
     let ds = all_diagnoses system known in
     Ok (if_any session ds (blame_lines session ds 0 system.parts ++ end_line session ∷ []))
+
+-- the graph of the states that agree with a case, and that of its diagnoses
+abbrev pub dnnf_item : System → Case → Item
+dnnf_item system known = graph_item system.texts.dnnf known (Projected (length system.parts) (system.consistent known))
+
+abbrev pub least_item : System → Case → Item
+least_item system known = graph_item system.texts.least known (LeastText (length system.parts) (all_diagnoses system known))

@@ -16,8 +16,8 @@ use Rattle.script_lang.specs.Refusals as line_refusals
 use Rattle.session_rules.specs.declared.refusal.Refusal.{Refusal}
 use Rattle.session_rules.specs.declared.refusal.Refusal.TheVariants.{NoSession, OpenAlready, Full, NoWire, NoPart, NoLevels, NoLeast}
 use Rattle.session_rules.specs.Refusals.{refusal_row}
-use Rattle.session_rules.specs.Items.{Item, Projected, LeastText, line}
-use Rattle.session_rules.specs.Replies.{Found, next_of, level_of, listing, point_after, told}
+use Rattle.session_rules.specs.Items.{Item, line}
+use Rattle.session_rules.specs.Replies.{Found, next_of, level_of, listing, point_after, told, dnnf_item, least_item}
 
 -- what a session knows, and the state after which it goes on
 pub record Entry : Type 0 where
@@ -123,14 +123,14 @@ when_open system s entry (After names) =
     then becomes s (record entry { point = Some (state_of names system.parts) }) (codes "ok")
     else Declined NoPart
 when_open system s entry Dnnf =
-    tells (line (s ∷ codes "dnnf" ∷ []) ∷ Projected (length system.parts) (system.consistent entry.known) ∷ [])
+    tells (line (s ∷ codes "dnnf" ∷ []) ∷ dnnf_item system entry.known ∷ [])
 when_open system s entry Level = up_to_level system (λ top.
     goes_to entry (level_of system s top (system.consistent entry.known) entry.point))
 when_open system s entry (Levels count) = up_to_level system (λ top.
     goes_through entry (listing (level_of system s top (system.consistent entry.known)) count entry.point))
 when_open system s entry LeastNnf =
     if system.extras.least
-    then tells (line (s ∷ codes "leastnnf" ∷ []) ∷ LeastText (length system.parts) (all_diagnoses system entry.known) ∷ [])
+    then tells (line (s ∷ codes "leastnnf" ∷ []) ∷ least_item system entry.known ∷ [])
     else Declined NoLeast
 
 -- What is answered hangs on the session's own entry alone, and where it is not open on whether there is room.

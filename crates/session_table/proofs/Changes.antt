@@ -1,5 +1,5 @@
 -- What is done to the fields of the open sessions is what their contracts tell of the table.
-use Rattle.std.proofs.Common.{◌≡◌, ℕ, ◌<◌, ◌≤◌, T, List, length, get_or, set, replicate, refl, ap, ap₂, sym, ◌∙◌, subst, Some, None, Result, Ok, Err, IfOk, IfErr, arith}
+use Rattle.std.proofs.Common.{◌≡◌, ℕ, ◌<◌, ◌≤◌, T, List, length, get_or, set, replicate, ap, ap₂, sym, ◌∙◌, subst, Some, None, Result, Ok, Err, IfOk, IfErr, arith}
 use Rattle.std.specs.Prelude.{not, slice_get, IsErr, IfSome, IfNone, vec_capacity}
 use Rattle.std.specs.List.{insert, remove}
 use Rattle.std.specs.Option.{option_map}
@@ -8,15 +8,15 @@ use Rattle.std.specs.FinMap.Entries.{is_sorted, put, where_key, is_sorted-put, i
 use Rattle.std.proofs.lemmas.Cmp.{nat_list_cmp_total}
 use Rattle.std.proofs.lemmas.List.{length-map}
 use Rattle.std.proofs.lemmas.List.Edits.{length-insert, length-remove}
-use Rattle.std.proofs.lemmas.Option.{slice_get-map, slice_get_within, slice_get_read, some_pair_parts, none-some}
+use Rattle.std.proofs.lemmas.Option.{slice_get-map, slice_get_within, slice_get_read}
 use Rattle.text_rules.specs.Names.{Name, same_name}
 use Rattle.state_rules.specs.Cases.{empty_case}
-use Rattle.scratch_pool.specs.Pools.{Blocks, IsOut, IsFree, IsSound, block_words, taken, given}
-use Rattle.scratch_pool.proofs.Laws.{taken-zeroed, taken-out, taken-free, given-free}
+use Rattle.scratch_pool.specs.Pools.{Blocks, IsOut, IsFree, IsSound, block_words, with_block, taken, given}
+use Rattle.scratch_pool.proofs.Laws.{taken-zeroed, taken-out, taken-free, given-free, length-block}
 use Rattle.session_rules.specs.Sessions.{Entry, Table, entry_of, with_entry, without}
 use Rattle.session_table.specs.Tables.{Opened, StandsAt, fresh_entry}
 use Rattle.session_table.specs.inner.Blocks.{entry_in, block_size, IsLaidOut}
-use Rattle.session_table.specs.inner.Ordered.{entry_at, table_of, blocks_by_name, NamesRise, AreKept, HasName, IsGapFor, KeepsEntry}
+use Rattle.session_table.specs.inner.Ordered.{entry_at, table_of, blocks_by_name, NamesRise, AreKept, HasName, IsGapFor}
 use Rattle.session_table.specs.declared.in_order.Open.{Open}
 use Rattle.session_table.specs.declared.open_sessions.OpenSessions.TheInside.{Inside}
 use Rattle.session_table.specs.contracts.open_sessions.OpenSessions.{the_view}
@@ -82,8 +82,7 @@ module _ (inside : Inside) (shown : Opened) (shows : the_view inside ≡ shown) 
 
   -- and that place is one of the table's
   pub found-within : (r : Result ℕ ℕ) → IfOk r (λ place. HasName sessions place name) → IfSome (result_ok r) (λ place. place < length shown.table)
-  found-within (Ok place) has = let there = found (Ok place) has in slice_get_within shown.table place (name, there.0) there.1.at
-  found-within (Err place) has = tt
+  found-within r has = grind (arith, found, slice_get_within)
 
   pub absent : (r : Result ℕ ℕ) → IfErr r (λ place. IsGapFor sessions place name)
       → IfNone (result_ok r) (entry_of name shown.table ≡ None)
@@ -94,8 +93,7 @@ module _ (inside : Inside) (shown : Opened) (shows : the_view inside ≡ shown) 
 
   -- a name that is not in the table is not found
   pub closed : (r : Result ℕ ℕ) → IfOk r (λ place. HasName sessions place name) → entry_of name shown.table ≡ None → IsErr r
-  closed (Ok place) has none = let stands = (found (Ok place) has).1 in absurd (none-some _ (sym none ∙ stands.found))
-  closed (Err place) has none = refl
+  closed r has none = grind (arith, found)
 
 -- ---- a session at a place
 
@@ -105,10 +103,7 @@ module _ (inside : Inside) (shown : Opened) (shows : the_view inside ≡ shown) 
   items = inside.«open».items
 
   here : slice_get items place ≡ Some session
-  here =
-      let long = length-map items (entry_at inside.layout inside.pool) in
-      let equal = ap (λ (o : Opened). length o.table) shows in
-      slice_get_read items (length items) place session refl (omega (arith, long, equal, within)) read
+  here = grind (arith, length-map, slice_get_read)
 
   pub is_out : IsOut inside.pool session.block
   is_out = out_at inside.layout inside.pool items place session kept.blocks here
@@ -121,44 +116,31 @@ module _ (inside : Inside) (shown : Opened) (shows : the_view inside ≡ shown) 
 
   name_and_entry : (name : Name) (entry : Entry) → StandsAt shown.table place name entry
       → (session.name ≡ name) × (entry_in_block inside session.block ≡ entry)
-  name_and_entry name entry stands =
-      some_pair_parts session.name name (entry_in_block inside session.block) entry
-      (sym (slice_get-map (entry_at inside.layout inside.pool) items place ∙ ap (option_map (entry_at inside.layout inside.pool)) here)
-      ∙ (stood name entry stands).at)
+  name_and_entry name entry stands = grind (arith, slice_get-map, here)
 
   pub entry_here : (name : Name) (entry : Entry) → StandsAt shown.table place name entry
       → entry ≡ entry_in_block inside session.block
   entry_here name entry stands = sym (name_and_entry name entry stands).1
 
-  -- its block is written
-  module _ (pool : Blocks) (change : Entry → Entry)
-      (keeps : KeepsEntry inside.layout inside.pool pool session.block (change (entry_in_block inside session.block))) where
+  -- its block is written, so that it holds another entry
+  module _ (before words : List ℕ) (change : Entry → Entry) (sound : IsSound inside.pool) (holds : before ≡ block_words inside.pool session.block)
+      (long : length words ≡ length before) (changes : entry_in inside.layout words ≡ change (entry_in inside.layout before)) (laid : IsLaidOut inside.layout words) where
+    abbrev pool : Blocks
+    pool = with_block inside.pool session.block words
+
+    size : length words ≡ inside.pool.size
+    size = long ∙ (ap length holds ∙ length-block inside.pool sound session.block is_out)
+
     pub written : AreKept inside.layout inside.limit pool inside.«open».items (vec_capacity inside.«open»)
-    written = subst (λ (p : Blocks). AreKept inside.layout inside.limit p items (vec_capacity inside.«open»)) (sym keeps.written) (record {
-      rise = kept.rise;
-      blocks = have_written inside.layout inside.pool keeps.sound items place session keeps.words kept.blocks here keeps.size keeps.laid;
-      free = kept.free;
-      size = kept.size;
-      vars = kept.vars;
-      room = kept.room;
-    })
+    written = grind (arith, have_written, here, size)
 
     written_set : (name : Name) (entry : Entry) → StandsAt shown.table place name entry
         → table_in (record inside { pool = pool }) ≡ set (table_in inside) place (name, change entry)
-    written_set name entry stands =
-        let both = name_and_entry name entry stands in
-        ap (λ (p : Blocks). table_of inside.layout p items) keeps.written
-        ∙ (written_at inside.layout inside.pool keeps.sound items place session keeps.words kept.blocks here keeps.size
-        ∙ (ap (λ e. set (table_in inside) place (session.name, e)) keeps.holds
-        ∙ ap₂ (λ n e. set (table_in inside) place (n, change e)) both.0 both.1))
+    written_set name entry stands = grind (arith, name_and_entry, written_at, here, size)
 
     pub shows_written : (name : Name) (entry : Entry) → StandsAt shown.table place name entry
         → the_view (record inside { pool = pool }) ≡ record shown { table = with_entry name (change entry) shown.table }
-    shows_written name entry stands =
-        ap (λ (t : Table). record (the_view inside) { table = t })
-        (written_set name entry stands
-        ∙ sym (put_at (table_in inside) place name entry (change entry) (table_sorted inside kept) (stood name entry stands).at))
-        ∙ ap (λ (o : Opened). record o { table = with_entry name (change entry) o.table }) shows
+    shows_written name entry stands = grind (arith, written_set, put_at, table_sorted)
 
     pub stands_written : (name : Name) (entry : Entry) → StandsAt shown.table place name entry
         → StandsAt (table_in (record inside { pool = pool })) place name (change entry)
@@ -215,11 +197,7 @@ module _ (inside : Inside) (shown : Opened) (shows : the_view inside ≡ shown) 
   session = record { name = name; block = block }
 
   few : length before < inside.limit
-  few =
-      let long = length-map before (entry_at inside.layout inside.pool) in
-      let equal = ap (λ (o : Opened). length o.table) shows in
-      let limit = ap (λ (o : Opened). o.limit) shows in
-      omega (arith, long, equal, limit, room)
+  few = grind (arith, length-map)
 
   zeros : block_words (taken inside.pool block) block ≡ replicate (block_size inside.layout) 0
   zeros = taken-zeroed inside.pool sound block free.0 ∙ ap (λ n. replicate n 0) (kept.size (omega (arith, few)))
@@ -234,22 +212,7 @@ module _ (inside : Inside) (shown : Opened) (shows : the_view inside ≡ shown) 
 
   pub took : (capacity : ℕ) → vec_capacity inside.«open» ≤ capacity
       → AreKept inside.layout inside.limit (taken inside.pool block) (insert inside.«open».items place (record { name = name; block = block })) capacity
-  took capacity grown = record {
-    rise = rise_taken;
-    blocks = have_insert inside.layout (taken inside.pool block) before place session
-        (taken-out inside.pool block free.0)
-        (subst (IsLaidOut inside.layout) (sym zeros) (zeros-laid inside.layout kept.vars))
-        (none_taken inside.layout inside.pool sound block free before kept.blocks)
-        (have_taken inside.layout inside.pool sound block free before kept.blocks);
-    free =
-        (let less = taken-free inside.pool block free in
-        let long = length-insert before place session gap.within in
-        let all = kept.free in
-        omega (arith, less, long, all));
-    size = kept.size;
-    vars = kept.vars;
-    room = (let least = kept.room in omega (arith, least, grown));
-  }
+  took capacity grown = grind (arith, rise_taken, have_insert, taken-out, zeros, zeros-laid, none_taken, have_taken, taken-free, length-insert)
 
   pub shows_taken : record (the_view inside) { table = table_of inside.layout (taken inside.pool block) (insert inside.«open».items place (record { name = name; block = block })) }
       ≡ record shown { table = with_entry name (fresh_entry shown) shown.table }

@@ -1,5 +1,5 @@
 -- Sessions keep their blocks while one is written, handed out or given back.
-use Rattle.std.proofs.Common.{◌≡◌, ◌≢◌, ℕ, zero, suc, true, false, List, [], ◌∷◌, ◌++◌, length, get_or, set, refl, ap₂, sym, ◌∙◌, subst, Some}
+use Rattle.std.proofs.Common.{◌≡◌, ◌≢◌, ℕ, zero, suc, List, [], ◌∷◌, ◌++◌, length, set, refl, sym, subst, Some, arith}
 use Rattle.std.specs.Prelude.{slice_get}
 use Rattle.std.specs.List.{insert, remove}
 use Rattle.std.proofs.lemmas.List.{get_or_default}
@@ -18,16 +18,14 @@ none_at block (x ∷ xs) zero s none at = subst (λ (o : Open). o.block ≢ bloc
 none_at block (x ∷ xs) (suc place) s none at = none_at block xs place s none.1 at
 
 none_remove : (block : ℕ) (sessions : List Open) (place : ℕ) → HasNone block sessions → HasNone block (remove sessions place)
-none_remove block [] zero none = tt
+none_remove block sessions zero none = grind arith
 none_remove block [] (suc place) none = tt
-none_remove block (x ∷ xs) zero none = none.1
 none_remove block (x ∷ xs) (suc place) none = (none.0, none_remove block xs place none.1)
 
 none_insert : (block : ℕ) (sessions : List Open) (place : ℕ) (s : Open) → HasNone block sessions → s.block ≢ block
     → HasNone block (insert sessions place s)
-none_insert block [] zero s none ne = (ne, tt)
+none_insert block sessions zero s none ne = grind arith
 none_insert block [] (suc place) s none ne = (ne, tt)
-none_insert block (x ∷ xs) zero s none ne = (ne, none)
 none_insert block (x ∷ xs) (suc place) s none ne = (none.0, none_insert block xs place s none.1 ne)
 
 none_last : (block : ℕ) (sessions : List Open) (s : Open) → HasNone block (sessions ++ s ∷ [])
@@ -52,28 +50,22 @@ module _ (layout : Layout) (pool : Blocks) where
   pub have_insert : (sessions : List Open) (place : ℕ) (s : Open) → IsOut pool s.block
       → IsLaidOut layout (block_words pool s.block) → HasNone s.block sessions → HaveBlocks layout pool sessions
       → HaveBlocks layout pool (insert sessions place s)
-  have_insert [] zero s out laid none have = (out, laid, tt, tt)
+  have_insert sessions zero s out laid none have = grind arith
   have_insert [] (suc place) s out laid none have = (out, laid, tt, tt)
-  have_insert (x ∷ xs) zero s out laid none have = (out, laid, none, have)
-  have_insert (x ∷ xs) (suc place) s out laid none have =
-      (have.0, have.1, none_insert x.block xs place s have.2 (λ e. none.0 (sym e)), have_insert xs place s out laid none.1 have.3)
+  have_insert (x ∷ xs) (suc place) s out laid none have = grind (arith, none_insert, have_insert xs place s out laid none.1 have.3)
 
   -- ---- a block is given back
 
   have_given : (block : ℕ) (sessions : List Open) → HasNone block sessions → HaveBlocks layout pool sessions
       → HaveBlocks layout (given pool block) sessions
   have_given block [] none have = tt
-  have_given block (x ∷ xs) none have =
-      (given-stays_out pool block x.block none.0 have.0, have.1, have.2, have_given block xs none.1 have.3)
+  have_given block (x ∷ xs) none have = grind (arith, given-stays_out, have_given block xs none.1 have.3)
 
   pub given_at : (sessions : List Open) (place : ℕ) (s : Open) → HaveBlocks layout pool sessions
       → slice_get sessions place ≡ Some s → HaveBlocks layout (given pool s.block) (remove sessions place)
   given_at [] place s have at = absurd (none-some s at)
-  given_at (x ∷ xs) zero s have at =
-      subst (λ (o : Open). HaveBlocks layout (given pool o.block) xs) (same_Some x s at) (have_given x.block xs have.2 have.3)
-  given_at (x ∷ xs) (suc place) s have at =
-      let other : x.block ≢ s.block = (λ e. none_at x.block xs place s have.2 at (sym e)) in
-      (given-stays_out pool s.block x.block other have.0, have.1, none_remove x.block xs place have.2, given_at xs place s have.3 at)
+  given_at (x ∷ xs) zero s have at = grind (arith, have_given)
+  given_at (x ∷ xs) (suc place) s have at = grind (arith, none_at, given-stays_out, none_remove, given_at xs place s have.3 at)
 
   -- the last one's block is out, and is given back
   pub out_last : (sessions : List Open) (s : Open) → HaveBlocks layout pool (sessions ++ s ∷ []) → IsOut pool s.block
@@ -94,58 +86,37 @@ module _ (layout : Layout) (pool : Blocks) where
       others_written : (sessions : List Open) → HasNone block sessions → HaveBlocks layout pool sessions
           → table_of layout (with_block pool block new) sessions ≡ table_of layout pool sessions
       others_written [] none have = refl
-      others_written (x ∷ xs) none have =
-          ap₂ (λ words rest. (x.name, entry_in layout words) ∷ rest)
-          (written-others pool sound block x.block out have.0 none.0 new long)
-          (others_written xs none.1 have.3)
+      others_written (x ∷ xs) none have = grind (arith, written-others, others_written xs none.1 have.3)
 
       others_have : (sessions : List Open) → HasNone block sessions → HaveBlocks layout pool sessions
           → HaveBlocks layout (with_block pool block new) sessions
       others_have [] none have = tt
-      others_have (x ∷ xs) none have =
-          let same = written-others pool sound block x.block out have.0 none.0 new long in
-          (have.0, subst (IsLaidOut layout) (sym same) have.1, have.2, others_have xs none.1 have.3)
+      others_have (x ∷ xs) none have = grind (arith, written-others, others_have xs none.1 have.3)
 
     -- the table has another entry at the session's place
     pub written_at : (sessions : List Open) (place : ℕ) (s : Open) (new : List ℕ) → HaveBlocks layout pool sessions
         → slice_get sessions place ≡ Some s → length new ≡ pool.size
         → table_of layout (with_block pool s.block new) sessions ≡ set (table_of layout pool sessions) place (s.name, entry_in layout new)
     written_at [] place s new have at long = absurd (none-some s at)
-    written_at (x ∷ xs) zero s new have at long =
-        subst (λ (o : Open). table_of layout (with_block pool o.block new) (x ∷ xs) ≡ (o.name, entry_in layout new) ∷ table_of layout pool xs) (same_Some x s at)
-        (ap₂ (λ words rest. (x.name, entry_in layout words) ∷ rest)
-        (written-block pool sound x.block have.0 new long)
-        (others_written x.block new have.0 long xs have.2 have.3))
+    written_at (x ∷ xs) zero s new have at long = grind (arith, written-block, others_written)
     written_at (x ∷ xs) (suc place) s new have at long =
         let out = out_at xs place s have.3 at in
         let other : x.block ≢ s.block = (λ e. none_at x.block xs place s have.2 at (sym e)) in
-        ap₂ (λ words rest. (x.name, entry_in layout words) ∷ rest)
-        (written-others pool sound s.block x.block out have.0 other new long)
-        (written_at xs place s new have.3 at long)
+        grind (arith, written-others, written_at xs place s new have.3 at long)
 
     pub have_written : (sessions : List Open) (place : ℕ) (s : Open) (new : List ℕ) → HaveBlocks layout pool sessions
         → slice_get sessions place ≡ Some s → length new ≡ pool.size → IsLaidOut layout new
         → HaveBlocks layout (with_block pool s.block new) sessions
     have_written [] place s new have at long laid = absurd (none-some s at)
-    have_written (x ∷ xs) zero s new have at long laid =
-        subst (λ (o : Open). HaveBlocks layout (with_block pool o.block new) (x ∷ xs)) (same_Some x s at)
-        (have.0, subst (IsLaidOut layout) (sym (written-block pool sound x.block have.0 new long)) laid, have.2, others_have x.block new have.0 long xs have.2 have.3)
-    have_written (x ∷ xs) (suc place) s new have at long laid =
-        let out = out_at xs place s have.3 at in
-        let other : x.block ≢ s.block = (λ e. none_at x.block xs place s have.2 at (sym e)) in
-        let same = written-others pool sound s.block x.block out have.0 other new long in
-        (have.0, subst (IsLaidOut layout) (sym same) have.1, have.2, have_written xs place s new have.3 at long laid)
+    have_written (x ∷ xs) zero s new have at long laid = grind (arith, written-block, others_have)
+    have_written (x ∷ xs) (suc place) s new have at long laid = grind (arith, out_at, none_at, written-others, have_written xs place s new have.3 at long laid)
 
     -- ---- a block is handed out
 
     module _ (block : ℕ) (free : IsFree pool block) where
       -- it is none of those that are out
       differs : (other : ℕ) → IsOut pool other → other ≢ block
-      differs other out e =
-          let same : get_or pool.out block false ≡ true = subst (λ n. get_or pool.out n false ≡ true) e out in
-          let default : get_or pool.out block true ≡ get_or pool.out block false = get_or_default pool.out block true false free.0 in
-          let never : true ≡ false = sym same ∙ (sym default ∙ free.1) in
-          absurd (let no : ⊥ = cc in no)
+      differs other out e = grind (arith, get_or_default)
 
       pub none_taken : (sessions : List Open) → HaveBlocks layout pool sessions → HasNone block sessions
       none_taken [] have = tt
@@ -154,16 +125,8 @@ module _ (layout : Layout) (pool : Blocks) where
       pub table_taken : (sessions : List Open) → HaveBlocks layout pool sessions
           → table_of layout (taken pool block) sessions ≡ table_of layout pool sessions
       table_taken [] have = refl
-      table_taken (x ∷ xs) have =
-          ap₂ (λ words rest. (x.name, entry_in layout words) ∷ rest)
-          (taken-others pool sound block x.block free have.0)
-          (table_taken xs have.3)
+      table_taken (x ∷ xs) have = grind (arith, taken-others, table_taken xs have.3)
 
       pub have_taken : (sessions : List Open) → HaveBlocks layout pool sessions → HaveBlocks layout (taken pool block) sessions
       have_taken [] have = tt
-      have_taken (x ∷ xs) have = (
-        taken-stays_out pool block x.block free.0 have.0,
-        subst (IsLaidOut layout) (sym (taken-others pool sound block x.block free have.0)) have.1,
-        have.2,
-        have_taken xs have.3,
-      )
+      have_taken (x ∷ xs) have = grind (arith, taken-stays_out, taken-others, have_taken xs have.3)

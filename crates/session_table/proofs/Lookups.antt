@@ -1,5 +1,5 @@
 -- Lists of pairs in the order of their names: what a look-up by name is at a place.
-use Rattle.std.proofs.Common.{◌≡◌, ℕ, zero, suc, ◌≤◌, Bool, true, false, cond, T, List, [], ◌∷◌, length, set, refl, ap, sym, ◌∙◌, subst, Some, None, arith, Ordering, Less, Equal, Greater}
+use Rattle.std.proofs.Common.{◌≡◌, ℕ, zero, suc, ◌≤◌, Bool, false, cond, T, List, [], ◌∷◌, length, set, refl, ap, sym, ◌∙◌, Some, None, arith, Ordering, Less, Equal, Greater}
 use Rattle.std.specs.Prelude.{not, ◌&&◌, slice_get}
 use Rattle.std.specs.List.{insert, remove, AllWithin}
 use Rattle.std.specs.Ordering.{nat_cmp, is_eq, is_lt, ordering_reverse}
@@ -15,17 +15,13 @@ abbrev pub order : Name → Name → Ordering
 order = slice_cmp nat_cmp
 
 pub is_less : (o : Ordering) → T (is_lt o) → o ≡ Less
-is_less Less h = refl
-is_less Equal h = absurd h
-is_less Greater h = absurd h
+is_less o h = grind arith
 
 pub front_so : (a b : Bool) → T (a && b) → T a
-front_so true b h = tt
-front_so false b h = absurd h
+front_so a b h = grind arith
 
 pub back_so : (a b : Bool) → T (a && b) → T b
-back_so true b h = h
-back_so false b h = absurd h
+back_so a b h = grind arith
 
 same_order : (name : Name) → order name name ≡ Equal
 same_order name = tied_itself nat_list_cmp_total name
@@ -57,8 +53,7 @@ module _ {X : Type 0} where
   below_at : (a : Name) (es : List (Name × X)) (place : ℕ) (e : Name × X) → T (below_all order a es)
       → slice_get es place ≡ Some e → order a e.0 ≡ Less
   below_at a [] place e all at = absurd (none-some e at)
-  below_at a (f ∷ es) zero e all at =
-      subst (λ (p : Name × X). order a p.0 ≡ Less) (same_Some f e at) (is_less (order a f.0) (front_so (is_lt (order a f.0)) (below_all order a es) all))
+  below_at a (f ∷ es) zero e all at = grind arith
   below_at a (f ∷ es) (suc place) e all at = below_at a es place e (back_so (is_lt (order a f.0)) (below_all order a es) all) at
 
   -- the name at a later place is above the first
@@ -74,10 +69,7 @@ module _ {X : Type 0} where
   pub find_at : (es : List (Name × X)) (place : ℕ) (name : Name) (x : X) → T (is_sorted order es)
       → slice_get es place ≡ Some (name, x) → find order name es ≡ Some x
   find_at [] place name x sorted at = absurd (none-some (name, x) at)
-  find_at (f ∷ es) zero name x sorted at =
-      let same : f ≡ (name, x) = same_Some f (name, x) at in
-      ap (λ (p : Name × X). cond (is_eq (order name p.0)) (Some p.1) (find order name es)) same
-      ∙ ap (λ o. cond (is_eq o) (Some x) (find order name es)) (same_order name)
+  find_at (f ∷ es) zero name x sorted at = grind (arith, same_order)
   find_at (f ∷ es) (suc place) name x sorted at =
       ap (λ o. cond (is_eq o) (Some f.1) (find order name es)) (later f es place (name, x) sorted at)
       ∙ find_at es place name x (rest_sorted f es sorted) at
@@ -85,10 +77,7 @@ module _ {X : Type 0} where
   pub put_at : (es : List (Name × X)) (place : ℕ) (name : Name) (x y : X) → T (is_sorted order es)
       → slice_get es place ≡ Some (name, x) → put order name y es ≡ set es place (name, y)
   put_at [] place name x y sorted at = absurd (none-some (name, x) at)
-  put_at (f ∷ es) zero name x y sorted at =
-      let same : f ≡ (name, x) = same_Some f (name, x) at in
-      ap (λ (p : Name × X). by_order (order name p.0) ((name, y) ∷ p ∷ es) ((p.0, y) ∷ es) (p ∷ put order name y es)) same
-      ∙ ap (λ o. by_order o ((name, y) ∷ (name, x) ∷ es) ((name, y) ∷ es) ((name, x) ∷ put order name y es)) (same_order name)
+  put_at (f ∷ es) zero name x y sorted at = grind (arith, same_order)
   put_at (f ∷ es) (suc place) name x y sorted at =
       ap (λ o. by_order o ((name, y) ∷ f ∷ es) ((f.0, y) ∷ es) (f ∷ put order name y es)) (later f es place (name, x) sorted at)
       ∙ ap (λ rest. f ∷ rest) (put_at es place name x y (rest_sorted f es sorted) at)
@@ -96,10 +85,7 @@ module _ {X : Type 0} where
   -- nothing is taken where the name is below all
   without_below : (name : Name) (es : List (Name × X)) → T (below_all order name es) → without_name name es ≡ es
   without_below name [] all = refl
-  without_below name (f ∷ es) all =
-      let less : order name f.0 ≡ Less = is_less (order name f.0) (front_so (is_lt (order name f.0)) (below_all order name es) all) in
-      ap (λ b. cond (not b) (f ∷ without_name name es) (without_name name es)) (differ f.0 name (ap is_eq (above name f.0 less)))
-      ∙ ap (λ rest. f ∷ rest) (without_below name es (back_so (is_lt (order name f.0)) (below_all order name es) all))
+  without_below name (f ∷ es) all = grind (arith, differ, above, without_below name es (back_so (is_lt (order name f.0)) (below_all order name es) all))
 
   -- what stands there already
   pub put_same : (es : List (Name × X)) (place : ℕ) (name : Name) (x : X) → T (is_sorted order es) → slice_get es place ≡ Some (name, x) → put order name x es ≡ es
@@ -108,15 +94,10 @@ module _ {X : Type 0} where
   pub without_at : (es : List (Name × X)) (place : ℕ) (name : Name) (x : X) → T (is_sorted order es)
       → slice_get es place ≡ Some (name, x) → without_name name es ≡ remove es place
   without_at [] place name x sorted at = absurd (none-some (name, x) at)
-  without_at (f ∷ es) zero name x sorted at =
-      let same : f ≡ (name, x) = same_Some f (name, x) at in
-      let first : f.0 ≡ name = ap (λ (p : Name × X). p.0) same in
-      ap (λ b. cond (not b) (f ∷ without_name name es) (without_name name es)) (same_if_equal f.0 name first)
-      ∙ without_below name es (subst (λ n. T (below_all order n es)) first (front_so (below_all order f.0 es) (is_sorted order es) sorted))
+  without_at (f ∷ es) zero name x sorted at = grind (arith, same_if_equal, without_below)
   without_at (f ∷ es) (suc place) name x sorted at =
       let less : order f.0 name ≡ Less = below name f.0 (later f es place (name, x) sorted at) in
-      ap (λ b. cond (not b) (f ∷ without_name name es) (without_name name es)) (differ f.0 name (ap is_eq less))
-      ∙ ap (λ rest. f ∷ rest) (without_at es place name x (rest_sorted f es sorted) at)
+      grind (arith, differ, without_at es place name x (rest_sorted f es sorted) at)
 
   -- ---- in a gap
 
@@ -134,8 +115,7 @@ module _ {X : Type 0} where
 
   pub put_gap : (es : List (Name × X)) (place : ℕ) (name : Name) (y : X) → IsGap es place name
       → put order name y es ≡ insert es place (name, y)
-  put_gap [] zero name y gap = refl
-  put_gap [] (suc place) name y gap = absurd (omega (arith, gap.within))
+  put_gap [] place name y gap = grind arith
   put_gap (f ∷ es) zero name y gap =
       ap (λ o. by_order o ((name, y) ∷ f ∷ es) ((f.0, y) ∷ es) (f ∷ put order name y es)) (below f.0 name (gap.behind 0 f (omega arith) (omega arith)))
   put_gap (f ∷ es) (suc place) name y gap =

@@ -1,5 +1,5 @@
 -- Sessions and the pairs that they are mapped to.
-use Rattle.std.proofs.Common.{◌≡◌, ℕ, zero, suc, ◌≤◌, List, [], ◌∷◌, ◌++◌, map, length, take, drop, set, refl, ap, ap₂, sym, ◌∙◌, subst, Some, arith, Less, Greater}
+use Rattle.std.proofs.Common.{◌≡◌, ℕ, zero, suc, ◌≤◌, List, [], ◌∷◌, map, length, set, refl, ap, ap₂, sym, subst, Some, arith, Less, Greater}
 use Rattle.std.specs.Prelude.{◌&&◌, slice_get}
 use Rattle.std.specs.List.{insert, remove, AllWithin}
 use Rattle.std.specs.Ordering.{is_lt}
@@ -26,14 +26,10 @@ module _ {X Y : Type 0} (f : Open → X) (g : Open → Y) where
 module _ {X : Type 0} (f : Open → Name × X) where
   pub map-insert : (sessions : List Open) (place : ℕ) (s : Open)
       → map f (insert sessions place s) ≡ insert (map f sessions) place (f s)
-  map-insert sessions place s =
-      map-append f (take place sessions) (s ∷ drop place sessions)
-      ∙ ap₂ (λ a b. a ++ f s ∷ b) (sym (take-map f place sessions)) (sym (drop-map f place sessions))
+  map-insert sessions place s = grind (arith, map-append, take-map, drop-map)
 
   pub map-remove : (sessions : List Open) (place : ℕ) → map f (remove sessions place) ≡ remove (map f sessions) place
-  map-remove sessions place =
-      map-append f (take place sessions) (drop (suc place) sessions)
-      ∙ ap₂ (λ a b. a ++ b) (sym (take-map f place sessions)) (sym (drop-map f (suc place) sessions))
+  map-remove sessions place = grind (arith, map-append, take-map, drop-map)
 
   within_map : (P : Name × X → Type 0) (sessions : List Open) (low high : ℕ) → high ≤ length sessions
       → AllWithin (λ s. P (f s)) sessions low high → AllWithin P (map f sessions) low high

@@ -10,7 +10,7 @@ use Rattle.script_lang.specs.declared.line.Noted.{Noted}
 use Rattle.script_lang.specs.declared.line.Noted.TheVariants.{Wire, Part}
 use Rattle.session_rules.specs.Sessions.{noted, with_noted}
 use Rattle.session_rules.specs.CaseWords.{case_of_words, AreWords}
-use Rattle.session_rules.proofs.CaseWords.{zeros-say, zeros-are, room-in_words, wire-says, wire-are, part-says, part-are}
+use Rattle.session_rules.proofs.CaseWords.{zeros-say, zeros-are, wire-says, wire-are, part-says, part-are}
 use Rattle.session_table.specs.Tables.{count_of}
 use Rattle.session_table.specs.inner.Blocks.{known_in, state_in, entry_in, point_of, block_size, IsLaidOut}
 use Rattle.session_table.specs.declared.block.Layout.{Layout}
@@ -27,24 +27,15 @@ module _ (layout : Layout) (block : List ℕ) (laid : IsLaidOut layout block) (p
   with_word-known = take-set-le layout.vars (set block place w) layout.vars 0 (omega arith) ∙ take-set-lt layout.vars block place w within
 
   with_word-state : state_in layout (with_word layout block place known) ≡ state_in layout block
-  with_word-state =
-      drop-set-lt (layout.vars + 1) (set block place w) layout.vars 0 (omega arith)
-      ∙ drop-set-lt (layout.vars + 1) block place w (omega (arith, within))
+  with_word-state = grind (arith, drop-set-lt)
 
   with_word-point : point_of (get_or (with_word layout block place known) layout.vars 0) (state_in layout (with_word layout block place known)) ≡ None
-  with_word-point =
-      let long = laid.long in
-      let same = length-set block place w in
-      ap (λ n. point_of n (state_in layout (with_word layout block place known))) (get_or-set_same (set block place w) layout.vars 0 0 (omega (arith, long, same)))
+  with_word-point = grind (arith, length-set, get_or-set_same)
 
   -- it is laid out again if its first words are those of a case
   with_word-laid : AreWords layout.parts layout.wires layout.vars (set (known_in layout block) place (word_of_known known))
       → IsLaidOut layout (with_word layout block place known)
-  with_word-laid are = record {
-    long = length-set (set block place w) layout.vars 0 ∙ (length-set block place w ∙ laid.long);
-    known = subst (AreWords layout.parts layout.wires layout.vars) (sym with_word-known) are;
-    state = subst (All (λ s. s < 2)) (sym with_word-state) laid.state;
-  }
+  with_word-laid are = grind (arith, length-set, with_word-known, with_word-state)
 
   -- and holds the case that they say
   with_word-entry : (after : Case)
@@ -58,19 +49,14 @@ word_place layout Wire place = layout.parts + place
 word_place layout Part place = place
 
 module _ (layout : Layout) (block : List ℕ) (laid : IsLaidOut layout block) where
-  block-room : layout.parts + layout.wires ≤ layout.vars
-  block-room = room-in_words layout.parts layout.wires layout.vars (known_in layout block) laid.known
-
   word-within : (what : Noted) (place : ℕ) → place < count_of layout.parts layout.wires what → word_place layout what place < layout.vars
-  word-within Wire place within = omega (arith, block-room, within)
-  word-within Part place within = omega (arith, block-room, within)
+  word-within what place within = grind arith
 
   -- the word that is written there says what is known of the wire, or of the part
   module _ (known : Option Bool) where
     word-says : (what : Noted) (place : ℕ) → place < count_of layout.parts layout.wires what
         → case_of_words layout.parts layout.wires (set (known_in layout block) (word_place layout what place) (word_of_known known)) ≡ noted what (entry_in layout block).known place known
-    word-says Wire place within = wire-says layout.parts layout.wires layout.vars (known_in layout block) laid.known place within known
-    word-says Part place within = part-says layout.parts layout.wires layout.vars (known_in layout block) laid.known place within known
+    word-says what place within = grind (arith, wire-says, part-says)
 
     word-are : (what : Noted) (place : ℕ) → place < count_of layout.parts layout.wires what
         → AreWords layout.parts layout.wires layout.vars (set (known_in layout block) (word_place layout what place) (word_of_known known))
@@ -79,9 +65,7 @@ module _ (layout : Layout) (block : List ℕ) (laid : IsLaidOut layout block) wh
 
     pub noted-entry : (what : Noted) (place : ℕ) → place < count_of layout.parts layout.wires what
         → entry_in layout (with_word layout block (word_place layout what place) known) ≡ with_noted (entry_in layout block) what place known
-    noted-entry what place within =
-        with_word-entry layout block laid (word_place layout what place) (word-within what place within) known
-        (noted what (entry_in layout block).known place known) (word-says what place within)
+    noted-entry what place within = grind (arith, with_word-entry, word-says)
 
     pub noted-laid : (what : Noted) (place : ℕ) → place < count_of layout.parts layout.wires what
         → IsLaidOut layout (with_word layout block (word_place layout what place) known)
@@ -97,10 +81,7 @@ module _ (layout : Layout) (room : layout.parts + layout.wires ≤ layout.vars) 
   zeros-known = take-replicate layout.vars (block_size layout) 0 (omega arith)
 
   pub zeros-entry : entry_in layout (replicate (block_size layout) 0) ≡ record { known = empty_case layout.wires layout.parts; point = None }
-  zeros-entry = λ i. record {
-    known = (ap (case_of_words layout.parts layout.wires) zeros-known ∙ zeros-say layout.parts layout.wires layout.vars room) i;
-    point = point_of (get_or-replicate (block_size layout) layout.vars 0 0 (omega arith) i) (state_in layout zeros);
-  }
+  zeros-entry = grind (arith, zeros-known, zeros-say, get_or-replicate)
 
   pub zeros-laid : IsLaidOut layout (replicate (block_size layout) 0)
   zeros-laid = record {

@@ -1,6 +1,6 @@
 -- What a binary search by name finds among sessions whose names rise.
 use Rattle.std.specs.Prelude.{◌&&◌}
-use Rattle.std.proofs.Common.{◌≡◌, ℕ, zero, suc, ◌+◌, ◌<◌, Bool, true, false, T, List, [], ◌∷◌, length, get_or, refl, ap, sym, ◌∙◌, subst, Result, Ok, Err, IfOk, IfErr, arith, Equal}
+use Rattle.std.proofs.Common.{◌≡◌, ℕ, zero, suc, ◌+◌, ◌<◌, Bool, true, false, T, List, [], ◌∷◌, length, get_or, ap, sym, subst, Result, IfOk, IfErr, arith, Equal}
 use Rattle.std.specs.List.Sorted.{IsSearchInRange, IsBinarySearchResult, IsNonDecreasingBy}
 use Rattle.std.specs.Ordering.{is_lt, ordering_index}
 use Rattle.std.specs.FinMap.Entries.{below_all, is_sorted}
@@ -10,15 +10,14 @@ use Rattle.std.proofs.lemmas.Option.{slice_get-get_or}
 use Rattle.text_rules.specs.Names.{Name}
 use Rattle.session_table.specs.inner.Ordered.{blocks_by_name, NamesRise, HasName, IsGapFor}
 use Rattle.session_table.specs.declared.in_order.Open.{Open}
-use Rattle.session_table.proofs.Lookups.{order, is_less, front_so, back_so, above, tied_names}
+use Rattle.session_table.proofs.Lookups.{order, is_less, front_so, above, tied_names}
 
 -- between the two ways of saying that a test is true
 pub so : (b : Bool) → b ≡ true → T b
 so b e = subst T (sym e) tt
 
 pub as_true : (b : Bool) → T b → b ≡ true
-as_true true h = refl
-as_true false h = absurd h
+as_true b h = grind arith
 
 -- a later name is not below the one before it
 adjacent : (sessions : List Open) (k : ℕ) (d : Open) → T (is_sorted order (blocks_by_name sessions)) → k + 1 < length sessions
@@ -29,11 +28,7 @@ adjacent (s ∷ t ∷ sessions) zero d sorted within =
     let rest = blocks_by_name sessions in
     let all = front_so (is_lt (order s.name t.name) && below_all order s.name rest) (is_sorted order ((t.name, t.block) ∷ rest)) sorted in
     ap is_lt (above s.name t.name (is_less (order s.name t.name) (front_so (is_lt (order s.name t.name)) (below_all order s.name rest) all)))
-adjacent (s ∷ t ∷ sessions) (suc k) d sorted within =
-    let next : suc k + 1 ≡ suc (k + 1) = omega arith in
-    let later = back_so (below_all order s.name (blocks_by_name (t ∷ sessions))) (is_sorted order (blocks_by_name (t ∷ sessions))) sorted in
-    ap (λ n. is_lt (order (get_or (s ∷ t ∷ sessions) n d).name (get_or (t ∷ sessions) k d).name)) next
-    ∙ adjacent (t ∷ sessions) k d later (omega (arith, within))
+adjacent (s ∷ t ∷ sessions) (suc k) d sorted within = grind (arith, adjacent (t ∷ sessions) k d)
 
 module _ (sessions : List Open) (rise : NamesRise sessions) (name : Name) where
   searchable : IsNonDecreasingBy (λ (s : Open). ordering_index (order s.name name)) sessions
@@ -53,6 +48,4 @@ module _ (sessions : List Open) (rise : NamesRise sessions) (name : Name) where
   pub searched : (r : Result ℕ ℕ) → IsSearchInRange r (length sessions)
       → IsBinarySearchResult (λ (s : Open). order s.name name) sessions r
       → IfOk r (λ place. HasName sessions place name) × IfErr r (λ place. IsGapFor sessions place name)
-  searched (Ok place) within tied = (some_session place within tied, tt)
-  searched (Err place) within parted =
-      (tt, record { within = within; before = (parted searchable).0; behind = (parted searchable).1 })
+  searched r within given = grind (arith, some_session, searchable)

@@ -3,7 +3,6 @@
 
 mod block;
 mod in_order;
-mod in_pool;
 mod open_sessions;
 mod short_name;
 

@@ -7,10 +7,10 @@ ghost use Rattle.session_rules.specs.Sessions.{Entry, entry_of, with_entry, with
 ghost use Rattle.session_rules.specs.CaseWords.{case_of_words, AreWords};
 ghost use Rattle.session_table.specs.Tables.{StandsAt, fresh_entry, Fits, count_of};
 
+use crate::Memory;
 use crate::block::Layout;
 use crate::in_order::{Open, find_place};
 use crate::short_name::ShortName;
-use crate::{Memory, in_pool};
 use scratch_pool::Pool;
 use script_lang::Noted;
 use std::alloc::Global;
@@ -120,7 +120,8 @@ impl OpenSessions {
             → self.new ≡ record self.old { table = with_entry session (with_noted entry what at known) self.old.table } }
     {
         let block = &self.open[place].block;
-        in_pool::note(self.layout, &mut self.pool, block, what, at, known);
+        self.layout
+            .note(self.pool.words_mut(block), what, at, known);
     }
 
     /// What the session at a place knows: a word for each variable.
@@ -158,7 +159,7 @@ impl OpenSessions {
         ensures still { place < length self.new.table }
     {
         let block = &self.open[place].block;
-        in_pool::set_point(self.layout, &mut self.pool, block, state);
+        self.layout.set_point(self.pool.words_mut(block), state);
     }
 
     /// Closes all sessions.

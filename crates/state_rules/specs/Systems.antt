@@ -7,18 +7,30 @@ use Rattle.state_rules.specs.Ranking.{least, diagnoses}
 abbrev pub no_extras : Extras
 no_extras = record { levels = None; least = false }
 
--- the names of parts and wires, what the failure of each part costs, the health states that agree with a case, and what is told
--- besides
+-- the text of each graph for a case, or none if it is left open: the graph of the consistent states, and that of the diagnoses
+pub record Texts : Type 0 where
+  pub dnnf : Option (Case → List ℕ)
+  pub least : Option (Case → List ℕ)
+
+abbrev pub open_texts : Texts
+open_texts = record { dnnf = None; least = None }
+
+-- the names of parts and wires, what the failure of each part costs, the health states that agree with a case, what is told besides,
+-- and the texts of the graphs
 pub record System : Type 0 where
   pub parts : List (List ℕ)
   pub wires : List (List ℕ)
   pub costs : List ℕ
   pub consistent : Case → List (List Bool)
   pub extras : Extras
+  pub texts : Texts
 
--- the same with these extras
+-- the same with these extras, or with these texts
 abbrev pub with_extras : Extras → System → System
 with_extras extras system = record system { extras = extras }
+
+abbrev pub with_texts : Texts → System → System
+with_texts texts system = record system { texts = texts }
 
 -- the least cost of a state that agrees with a case, and the states that have it
 abbrev pub least_cost : System → Case → Option ℕ

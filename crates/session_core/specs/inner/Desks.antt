@@ -1,15 +1,25 @@
 -- What answers are worked out with.
-use Rattle.std.specs.Prelude.{◌≡◌, ℕ, ◌*◌, ◌<◌, Bool, not, List, [], map, length, All, Option, Some, None}
+use Rattle.std.specs.Prelude.{◌≡◌, ℕ, ◌*◌, ◌<◌, Bool, true, false, not, List, [], ◌∷◌, map, length, All, Option, Some, None, is_some}
 use Rattle.state_rules.specs.Bits.{bit_in}
 use Rattle.state_rules.specs.Cases.{Case}
 use Rattle.state_rules.specs.Levels.{levels, levels_rest}
+use Rattle.state_rules.specs.Ranking.{cost, rest}
 use Rattle.state_rules.specs.Systems.{least_cost, all_diagnoses}
 use Rattle.probe_report.specs.Verdicts.{verdict}
 use Rattle.probe_report.specs.declared.verdicts.Blame.{Blame}
 use Rattle.fault_graph.specs.Distilled.{Kept, Serves}
 use Rattle.scratch_pool.specs.Regions.{Carved}
-use Rattle.session_rules.specs.GraphSystems.{Subject, system_of}
+use Rattle.diagnosis_lister.specs.declared.listing.Step.{Step}
+use Rattle.diagnosis_lister.specs.declared.listing.Step.TheVariants as step
+use Rattle.level_lister.specs.declared.levels.LevelStep.{LevelStep}
+use Rattle.level_lister.specs.declared.levels.LevelStep.TheVariants as level
+use Rattle.session_rules.specs.GraphSystems.{Subject}
 use Rattle.session_rules.specs.Replies.{least_at, seen_at}
+use Rattle.session_core.specs.Services.{served_system}
+use Rattle.session_core.specs.declared.listed.Listed.{Listed}
+use Rattle.session_core.specs.declared.listed.Listed.TheVariants.{Diagnoses, Levels}
+use Rattle.session_core.specs.declared.listed.NextState.{NextState}
+use Rattle.session_core.specs.declared.listed.NextState.TheVariants.{Found, End, Inconsistent}
 use Rattle.session_core.specs.inner.Bases.{AreEnough, AreKnown, case_in}
 
 -- what is asked over, the words of the case that is asked, and what was found last: a state, a verdict for each part, and two
@@ -39,31 +49,74 @@ abbrev pub asked_case : OnDesk → Case
 asked_case desk = case_in desk.subject desk.known
 
 abbrev pub agreeing : OnDesk → List (List Bool)
-agreeing desk = (system_of desk.subject).consistent (asked_case desk)
+agreeing desk = (served_system desk.subject).consistent (asked_case desk)
 
 abbrev pub least_asked : OnDesk → Option ℕ
-least_asked desk = least_cost (system_of desk.subject) (asked_case desk)
+least_asked desk = least_cost (served_system desk.subject) (asked_case desk)
 
 abbrev pub diagnoses_asked : OnDesk → List (List Bool)
-diagnoses_asked desk = all_diagnoses (system_of desk.subject) (asked_case desk)
+diagnoses_asked desk = all_diagnoses (served_system desk.subject) (asked_case desk)
 
 -- up to which cost states are listed
 abbrev pub top_of : Option ℕ → ℕ
 top_of None = 0
 top_of (Some top) = top
 
--- what comes after a point by rising cost, of the states that agree with a case
-abbrev pub later_by_cost : Subject → Case → Option (List Bool) → List (List Bool)
-later_by_cost subject known point =
-    levels_rest subject.costs (levels subject.costs (top_of subject.extras.levels) ((system_of subject).consistent known)) point
+-- whether there is a listing
+abbrev pub is_listed : Subject → Listed → Bool
+is_listed subject Diagnoses = true
+is_listed subject Levels = is_some subject.extras.levels
 
-abbrev pub later_asked : OnDesk → Option (List Bool) → List (List Bool)
-later_asked desk point = later_by_cost desk.subject (asked_case desk) point
+-- the states of which a listing is, and those of it that come after a point
+abbrev pub listed_states : Subject → Listed → Case → List (List Bool)
+listed_states subject Diagnoses known = all_diagnoses (served_system subject) known
+listed_states subject Levels known = (served_system subject).consistent known
+
+abbrev pub later_states : Subject → Listed → Case → Option (List Bool) → List (List Bool)
+later_states subject Diagnoses known point = rest (all_diagnoses (served_system subject) known) point
+later_states subject Levels known point =
+    levels_rest subject.costs (levels subject.costs (top_of subject.extras.levels) ((served_system subject).consistent known)) point
+
+-- the cost that is shown with a state
+abbrev pub shown_cost : Subject → Listed → List Bool → Option ℕ
+shown_cost subject Diagnoses state = None
+shown_cost subject Levels state = Some (cost subject.costs state)
+
+-- what comes next, by the states of a listing and those that come later
+abbrev pub next_of : Subject → Listed → List (List Bool) → List (List Bool) → NextState
+next_of subject listed [] later = Inconsistent
+next_of subject listed (state ∷ states) [] = End
+next_of subject listed (state ∷ states) (next ∷ later) = Found (shown_cost subject listed next)
+
+abbrev pub next_after : Subject → Listed → Case → Option (List Bool) → NextState
+next_after subject listed known point =
+    next_of subject listed (listed_states subject listed known) (later_states subject listed known point)
+
+-- the state is the first of these, if there is one
+abbrev pub IsFirst : List Bool → List (List Bool) → Type 0
+IsFirst state [] = Unit {0}
+IsFirst state (first ∷ later) = state ≡ first
+
+-- what comes next, by what the listers answer
+abbrev pub of_step : Step → NextState
+of_step step.Found = Found None
+of_step step.End = End
+of_step step.Inconsistent = Inconsistent
+
+abbrev pub of_level_step : LevelStep → NextState
+of_level_step (level.Found cost) = Found (Some cost)
+of_level_step level.End = End
+of_level_step level.Inconsistent = Inconsistent
+
+abbrev pub is_found : NextState → Bool
+is_found (Found cost) = true
+is_found End = false
+is_found Inconsistent = false
 
 -- the least cost where a wire is seen so too, if that is not against what was seen
 abbrev pub least_seen : OnDesk → ℕ → Bool → Option ℕ
 least_seen desk wire bit =
-    let known = asked_case desk in least_at (system_of desk.subject) known wire bit (seen_at known wire)
+    let known = asked_case desk in least_at (served_system desk.subject) known wire bit (seen_at known wire)
 
 -- in all diagnoses, in some, or in none a part is faulty
 abbrev pub blame_asked : OnDesk → ℕ → Blame

@@ -10,7 +10,7 @@ abbrev pub ended_from : List ℕ → List ℕ → List (List ℕ)
 ended_from line [] = []
 ended_from line (byte ∷ bytes) = if byte == 10 then line ∷ ended_from [] bytes else ended_from (line ++ byte ∷ []) bytes
 
--- what stands after the last line feed, where a line has begun already
+-- what comes after the last line feed, if a line has begun already
 abbrev pub rest_from : List ℕ → List ℕ → List ℕ
 rest_from line [] = line
 rest_from line (byte ∷ bytes) = if byte == 10 then rest_from [] bytes else rest_from (line ++ byte ∷ []) bytes

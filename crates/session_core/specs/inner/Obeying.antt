@@ -1,24 +1,21 @@
 -- What a request does with the sessions.
-use Rattle.std.specs.Prelude.{◌≡◌, ℕ, ◌<◌, Bool, true, is_some, List, [], ◌∷◌, length, map, Option, Result, IfOk}
+use Rattle.std.specs.Prelude.{◌≡◌, ℕ, ◌<◌, Bool, List, [], ◌∷◌, length, map, Option, Some, Result, IfOk, if◌then◌else◌}
 use Rattle.text_rules.specs.Names.{Name}
-use Rattle.state_rules.specs.Ranking.{rest}
-use Rattle.state_rules.specs.Systems.{all_diagnoses}
-use Rattle.diagnosis_lister.specs.declared.listing.Step.{Step as Answer}
-use Rattle.diagnosis_lister.specs.Listing.{step_of}
-use Rattle.level_lister.specs.declared.levels.LevelStep.{LevelStep}
-use Rattle.level_lister.specs.Listing.{level_step}
-use Rattle.script_lang.specs.Script.{Request, Ask}
-use Rattle.session_rules.specs.GraphSystems.{Subject, system_of}
-use Rattle.session_rules.specs.Replies.{Found, listing}
-use Rattle.session_rules.specs.Moves.{goes_on, next_for, level_for}
+use Rattle.script_lang.specs.Script.{Request, Ask, Next, Several, Level, Levels as LevelsOf}
+use Rattle.session_rules.specs.GraphSystems.{Subject}
+use Rattle.session_rules.specs.Items.{Item, line}
+use Rattle.session_rules.specs.Replies.{Found, found, listing, diagnosis_line, level_line}
+use Rattle.session_rules.specs.Moves.{goes_on}
 use Rattle.session_rules.specs.Sessions.{Entry, Table, Step, with_entry}
 use Rattle.session_rules.specs.Spelling.{Replies}
 use Rattle.session_rules.specs.Carrying.{CarriesOut}
 use Rattle.session_table.specs.Tables.{StandsAt}
-use Rattle.session_core.specs.Services.{Shown, exact_moves, ChangesTable}
-use Rattle.session_core.specs.inner.Desks.{top_of, later_by_cost}
-use Rattle.session_core.specs.declared.listing.Listed.{Listed}
-use Rattle.session_core.specs.declared.listing.Listed.TheVariants.{Diagnoses, Levels}
+use Rattle.session_core.specs.Services.{Shown, exact_moves, ChangesTable, served_system}
+use Rattle.session_core.specs.inner.Desks.{is_found, listed_states, later_states}
+use Rattle.session_core.specs.inner.Texts.{next_text}
+use Rattle.session_core.specs.declared.listed.Listed.{Listed}
+use Rattle.session_core.specs.declared.listed.Listed.TheVariants.{Diagnoses, Levels}
+use Rattle.session_core.specs.declared.listed.NextState.{NextState}
 use Rattle.session_core.specs.declared.sessions.OpenSession.{OpenSession}
 
 -- The moves of a request were made or broke off, and nothing but the table changed.
@@ -32,15 +29,23 @@ pub record IsOpen (table : Table) (session : OpenSession) : Type 0 where
   pub entry : Entry
   pub stands : StandsAt table session.place session.name.now entry
 
--- what comes after a point, of the diagnoses or of the states by rising cost
-abbrev pub found_by : Subject → Listed → Name → Entry → Option (List Bool) → Found
-found_by subject Diagnoses session = next_for (system_of subject) session
-found_by subject Levels session = level_for (system_of subject) session (top_of subject.extras.levels)
+-- the requests for the next of a listing, and for so many
+abbrev pub next_request : Listed → Request
+next_request Diagnoses = Next
+next_request Levels = Level
 
--- states by rising cost are listed where they are told
-abbrev pub IsTold : Subject → Listed → Type 0
-IsTold subject Diagnoses = Unit {0}
-IsTold subject Levels = is_some subject.extras.levels ≡ true
+abbrev pub list_request : Listed → ℕ → Request
+list_request Diagnoses count = Several count
+list_request Levels count = LevelsOf count
+
+abbrev pub state_line : Subject → Listed → Name → List Bool → Item
+state_line subject Diagnoses session state = diagnosis_line (served_system subject) session state
+state_line subject Levels session state = level_line (served_system subject) session state
+
+-- what comes after a point of a listing
+abbrev pub found_by : Subject → Listed → Name → Entry → Option (List Bool) → Found
+found_by subject listed session entry point = found session (state_line subject listed session) point
+    (listed_states subject listed entry.known) (later_states subject listed entry.known point)
 
 -- the moves of a listing of so many
 abbrev pub found_moves : Shown → Listed → Name → Entry → ℕ → List Step
@@ -54,21 +59,22 @@ the_found subject listed session entry = found_by subject listed session entry e
 abbrev pub found_entry : Subject → Listed → Name → Entry → Entry
 found_entry subject listed session entry = record entry { point = (the_found subject listed session entry).point }
 
--- The point of a session moved to what was found, of which something is known.
-pub record PointMoves (subject : Subject) (listed : Listed) (old new : Table) (place : ℕ) (session : Name) (entry : Entry) (known : Type 0) : Type 0 where
-  pub answer : known
-  pub moved : new ≡ with_entry session (found_entry subject listed session entry) old
-  pub stands : StandsAt new place session (found_entry subject listed session entry)
+-- what is found, by what comes next and its state
+abbrev pub point_at : Option (List Bool) → NextState → List Bool → Option (List Bool)
+point_at point next state = if is_found next then Some state else point
 
--- of the next diagnosis the lister tells whether there is one
-abbrev pub NextMoves : Subject → Table → Table → ℕ → Name → Entry → Answer → Type 0
-NextMoves subject old new place session entry found = PointMoves subject Diagnoses old new place session entry
-    (found ≡ step_of ((system_of subject).consistent entry.known) (rest (all_diagnoses (system_of subject) entry.known) entry.point))
+abbrev pub found_as : Name → List Name → Option (List Bool) → NextState → List Bool → Found
+found_as session parts point next state = record {
+  item = line (next_text session parts next state);
+  point = point_at point next state;
+  more = is_found next;
+}
 
--- and of the next state by cost what it costs
-abbrev pub LevelMoves : Subject → Table → Table → ℕ → Name → Entry → LevelStep → Type 0
-LevelMoves subject old new place session entry found = PointMoves subject Levels old new place session entry
-    (found ≡ level_step subject.costs ((system_of subject).consistent entry.known) (later_by_cost subject entry.known entry.point))
+-- What comes next was found, and the point of a session moved there.
+pub record PointMoves (subject : Subject) (listed : Listed) (old new : Table) (place : ℕ) (session : Name) (entry : Entry) (next : NextState) (state : List Bool) : Type 0 where
+  pub answer : the_found subject listed session entry ≡ found_as session subject.parts entry.point next state
+  pub moved : new ≡ with_entry session (record entry { point = point_at entry.point next state }) old
+  pub stands : StandsAt new place session (record entry { point = point_at entry.point next state })
 
 -- the session moved on, and what was found was written, or begun
 pub record MovesOn {E : Type 0} (old new : Shown) (listed : Listed) (place : ℕ) (session : Name) (entry : Entry) (before after : Option (List ℕ)) (result : Result Bool E) : Type 0 where

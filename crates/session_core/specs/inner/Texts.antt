@@ -6,6 +6,8 @@ use Rattle.text_rules.specs.Names.{Name}
 use Rattle.probe_report.specs.declared.verdicts.Blame.{Blame}
 use Rattle.probe_report.specs.declared.verdicts.Blame.TheVariants.{Always, Sometimes, Never, Inconsistent}
 use Rattle.session_rules.specs.Replies.{faulty_names}
+use Rattle.session_core.specs.declared.listed.NextState.{NextState}
+use Rattle.session_core.specs.declared.listed.NextState.TheVariants as Next
 
 -- names with a space before each
 abbrev pub spaced_before : List Name → List ℕ
@@ -22,3 +24,10 @@ blame_text Inconsistent = codes "inconsistent"
 abbrev pub min_text : Name → List Name → Option ℕ → List Bool → List Name
 min_text session parts None state = session ∷ codes "inconsistent" ∷ []
 min_text session parts (Some fewest) state = session ∷ codes "min" ∷ decimal fewest ∷ faulty_names parts state
+
+-- the words of what comes next of a listing
+abbrev pub next_text : Name → List Name → NextState → List Bool → List Name
+next_text session parts Next.Inconsistent state = session ∷ codes "inconsistent" ∷ []
+next_text session parts Next.End state = session ∷ codes "end" ∷ []
+next_text session parts (Next.Found None) state = session ∷ codes "diag" ∷ faulty_names parts state
+next_text session parts (Next.Found (Some cost)) state = session ∷ codes "level" ∷ decimal cost ∷ faulty_names parts state

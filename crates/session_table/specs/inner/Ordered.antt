@@ -6,7 +6,7 @@ use Rattle.std.specs.FinMap.Entries.{is_sorted}
 use Rattle.std.specs.List.{AllWithin}
 use Rattle.std.specs.declared.cmp.Ordering.TheVariants.{Less, Greater}
 use Rattle.text_rules.specs.Names.{Name}
-use Rattle.scratch_pool.specs.Pools.{Blocks, IsOut, IsSound, free_blocks, block_words, with_block}
+use Rattle.scratch_pool.specs.Pools.{Blocks, IsOut, free_blocks, block_words}
 use Rattle.session_rules.specs.Sessions.{Entry, Table}
 use Rattle.session_table.specs.inner.Blocks.{entry_in, block_size, IsLaidOut}
 use Rattle.session_table.specs.declared.block.Layout.{Layout}
@@ -58,12 +58,3 @@ pub record IsGapFor (sessions : List Open) (place : ℕ) (name : Name) : Type 0 
   pub within : place ≤ length sessions
   pub before : AllWithin (λ s. slice_cmp nat_cmp s.name name ≡ Less) sessions 0 place
   pub behind : AllWithin (λ s. slice_cmp nat_cmp s.name name ≡ Greater) sessions place (length sessions)
-
--- a block of a sound pool was written so that it holds an entry
-pub record KeepsEntry (layout : Layout) (old new : Blocks) (block : ℕ) (entry : Entry) : Type 0 where
-  pub sound : IsSound old
-  pub words : List ℕ
-  pub size : length words ≡ old.size
-  pub written : new ≡ with_block old block words
-  pub holds : entry_in layout words ≡ entry
-  pub laid : IsLaidOut layout words

@@ -1,6 +1,7 @@
 use Rattle.std.proofs.Common.{◌∙◌, ◌+◌, [], get_or, drop, length, ap, arith}
-use Rattle.session_rules.specs.GraphSystems.{Subject, system_of}
+use Rattle.session_rules.specs.GraphSystems.{Subject}
 use Rattle.session_rules.specs.Replies.{probe_lines}
+use Rattle.session_core.specs.Services.{served_system}
 use Rattle.session_core.specs.inner.Desks.{asked_case}
 use Rattle.session_core.specs.inner.Telling.{unseen_line}
 use Rattle.session_core.proofs.Told.{said_more, said_part}
@@ -10,7 +11,7 @@ use Rattle.session_core.proofs.probing.put_probes.Goals as goal
 pub returns-in_err-put_unseen-clause-reply : goal.returns-in_err-put_unseen-clause-reply
 returns-in_err-put_unseen-clause-reply g c =
     let desk = c.args.desk.now in
-    let system = system_of desk.subject in
+    let system = served_system desk.subject in
     let s = c.args.session.now in
     let known = asked_case desk in
     let i = c.loop-wire.wire in
@@ -22,7 +23,7 @@ returns-in_err-put_unseen-clause-reply g c =
 pub loop-wire-preserved : goal.loop-wire-preserved
 loop-wire-preserved g c =
     let desk = c.args.desk.now in
-    let system = system_of desk.subject in
+    let system = served_system desk.subject in
     let s = c.args.session.now in
     let known = asked_case desk in
     let i = c.loop-wire.wire in

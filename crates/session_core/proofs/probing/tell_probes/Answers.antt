@@ -1,10 +1,10 @@
 use Rattle.std.proofs.Common.{◌∙◌, ◌∷◌, ◌++◌, ◌<◌, [], ℕ, Bool, List, map, length, refl, ap, sym, subst}
 use Rattle.text_rules.specs.Names.{Name}
-use Rattle.session_rules.specs.GraphSystems.{system_of}
 use Rattle.session_rules.specs.Items.{line}
 use Rattle.session_rules.specs.Replies.{probe_lines, end_line, inconsistent}
 use Rattle.session_rules.specs.Spelling.{Writes, WritesPart, Replies}
 use Rattle.session_rules.proofs.Spellings.{replies_one}
+use Rattle.session_core.specs.Services.{served_system}
 use Rattle.session_core.specs.inner.Desks.{OnDesk, asked_case, agreeing, least_seen}
 use Rattle.session_core.proofs.Told.{lines_then, lines_broken}
 use Rattle.session_core.proofs.Questions.{if_any-none, if_any-some}
@@ -12,7 +12,7 @@ use Rattle.session_core.proofs.probing.tell_probes.Goals as goal
 
 -- the lines of the wires, on a desk
 abbrev lines_on : OnDesk → Name → List (List (List ℕ))
-lines_on desk s = let system = system_of desk.subject in probe_lines system s (asked_case desk) 0 system.wires
+lines_on desk s = let system = served_system desk.subject in probe_lines system s (asked_case desk) 0 system.wires
 
 pub returns-then-not-probe_all-clause-reply : goal.returns-then-not-probe_all-clause-reply
 returns-then-not-probe_all-clause-reply g c =

@@ -4,11 +4,11 @@ use Rattle.text_rules.specs.Names.{Name}
 use Rattle.state_rules.specs.Bits.{bit_in}
 use Rattle.probe_report.specs.declared.verdicts.Blame.{Blame}
 use Rattle.probe_report.specs.Verdicts.{verdict}
-use Rattle.session_rules.specs.GraphSystems.{system_of}
 use Rattle.session_rules.specs.Items.{line}
 use Rattle.session_rules.specs.Replies.{blame_lines, end_line, inconsistent}
 use Rattle.session_rules.specs.Spelling.{Writes, WritesPart, Replies}
 use Rattle.session_rules.proofs.Spellings.{replies_one}
+use Rattle.session_core.specs.Services.{served_system}
 use Rattle.session_core.specs.inner.Desks.{OnDesk, agreeing, diagnoses_asked, least_asked, blame_asked}
 use Rattle.session_core.specs.inner.Telling.{verdict_lines}
 use Rattle.session_core.proofs.Told.{lines_then, lines_broken}
@@ -18,7 +18,7 @@ use Rattle.session_core.proofs.telling.tell_blame.Goals as goal
 pub returns-then-not-is_consistent-clause-reply : goal.returns-then-not-is_consistent-clause-reply
 returns-then-not-is_consistent-clause-reply g c =
     let old = c.args.desk.now in
-    let system = system_of old.subject in
+    let system = served_system old.subject in
     let s = c.args.session.now in
     let ds = diagnoses_asked old in
     subst (λ (lines : List (List (List ℕ))). Replies (g.O.Sink.got c.args.out.now) (g.O.Sink.got c.put_line.new.out) c.put_line.result (map line lines))
@@ -30,7 +30,7 @@ told_lines : (desk : OnDesk) (s : Name) (verdicts : List Blame) → length verdi
     → ((part : ℕ) → part < length desk.subject.parts → slice_get verdicts part ≡ Some (blame_asked desk part))
     → verdict_lines s desk.subject.parts verdicts ≡ blame_lines s (diagnoses_asked desk) 0 desk.subject.parts
 told_lines desk s verdicts long some each =
-    let system = system_of desk.subject in
+    let system = served_system desk.subject in
     let ds : List (List Bool) = diagnoses_asked desk in
     blame_lines-are s ds 0 system.parts verdicts (has_diagnosis system.costs (agreeing desk) some) long
     (λ i h.
@@ -51,7 +51,7 @@ told_by old middle new s same stays long some each =
 pub returns-in_err-put_blames-clause-reply : goal.returns-in_err-put_blames-clause-reply
 returns-in_err-put_blames-clause-reply g c =
     let old = c.args.desk.now in
-    let system = system_of old.subject in
+    let system = served_system old.subject in
     let s = c.args.session.now in
     let ds = diagnoses_asked old in
     let some = c.if-not-is_consistent.ensures.some in
@@ -64,7 +64,7 @@ returns-in_err-put_blames-clause-reply g c =
 pub returns-clause-reply : goal.returns-clause-reply
 returns-clause-reply g c =
     let old = c.args.desk.now in
-    let system = system_of old.subject in
+    let system = served_system old.subject in
     let s = c.args.session.now in
     let ds = diagnoses_asked old in
     let some = c.if-not-is_consistent.ensures.some in

@@ -2,10 +2,11 @@ use Rattle.std.proofs.Common.{◌∙◌, ◌∷◌, [], ℕ, List, ap, ap₂, su
 use Rattle.text_rules.specs.Names.{Name}
 use Rattle.text_rules.specs.Tokens.{spaced}
 use Rattle.conditioner.specs.Words.{bits_of}
-use Rattle.session_rules.specs.GraphSystems.{Subject, system_of}
+use Rattle.session_rules.specs.GraphSystems.{Subject}
 use Rattle.session_rules.specs.Items.{line}
 use Rattle.session_rules.specs.Spelling.{Replies}
 use Rattle.session_rules.proofs.Spellings.{replies_one}
+use Rattle.session_core.specs.Services.{served_system}
 use Rattle.session_core.specs.inner.Desks.{OnDesk, agreeing}
 use Rattle.session_core.specs.inner.Texts.{min_text}
 use Rattle.session_core.proofs.Minimum.{min_line-is}
@@ -14,7 +15,7 @@ use Rattle.session_core.proofs.telling.tell_minimum.Goals as goal
 pub returns-clause-reply : goal.returns-clause-reply
 returns-clause-reply g c =
     let old = c.args.desk.now in
-    let system = system_of old.subject in
+    let system = served_system old.subject in
     let s = c.args.session.now in
     let state = bits_of c.first-fewest.new.self.state in
     let fewest = c.first-fewest.result in

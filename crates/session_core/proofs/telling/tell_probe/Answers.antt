@@ -4,12 +4,13 @@ use Rattle.text_rules.specs.Tokens.{spaced}
 use Rattle.device_model.specs.Devices.{place_of}
 use Rattle.session_rules.specs.declared.refusal.Refusal.TheVariants.{NoWire}
 use Rattle.session_rules.specs.Refusals.{refusal_row}
-use Rattle.session_rules.specs.GraphSystems.{Subject, system_of}
+use Rattle.session_rules.specs.GraphSystems.{Subject}
 use Rattle.session_rules.specs.Items.{line}
 use Rattle.session_rules.specs.Replies.{probe_line, probe_told, inconsistent, count_text}
 use Rattle.session_rules.specs.Sessions.{error_words}
 use Rattle.session_rules.specs.Spelling.{Replies}
 use Rattle.session_rules.proofs.Spellings.{replies_one}
+use Rattle.session_core.specs.Services.{served_system}
 use Rattle.session_core.specs.inner.Desks.{OnDesk, asked_case, agreeing, least_seen}
 use Rattle.session_core.specs.inner.Telling.{items_told}
 use Rattle.session_core.proofs.Holding.{place-within}
@@ -18,10 +19,10 @@ use Rattle.session_core.proofs.telling.tell_probe.Goals as goal
 
 -- what is told of the name of a wire, by its place
 told_at : {T E : Type 0} (desk : OnDesk) (s name : Name) (place placed : Option ℕ) (before after : Option (List ℕ)) (result : Result T E) → place ≡ placed
-    → Replies before after result (items_told s (probe_told (system_of desk.subject) s (asked_case desk) name place))
-    → Replies before after result (items_told s (probe_told (system_of desk.subject) s (asked_case desk) name placed))
+    → Replies before after result (items_told s (probe_told (served_system desk.subject) s (asked_case desk) name place))
+    → Replies before after result (items_told s (probe_told (served_system desk.subject) s (asked_case desk) name placed))
 told_at desk s name place placed before after result same reply =
-    subst (λ (p : Option ℕ). Replies before after result (items_told s (probe_told (system_of desk.subject) s (asked_case desk) name p))) same reply
+    subst (λ (p : Option ℕ). Replies before after result (items_told s (probe_told (served_system desk.subject) s (asked_case desk) name p))) same reply
 
 pub returns-in_default-clause-reply : goal.returns-in_default-clause-reply
 returns-in_default-clause-reply g c =
@@ -33,7 +34,7 @@ returns-in_default-clause-reply g c =
 pub returns-then-not-is_consistent-clause-reply : goal.returns-then-not-is_consistent-clause-reply
 returns-then-not-is_consistent-clause-reply g c =
     let old = c.args.desk.now in
-    let system = system_of old.subject in
+    let system = served_system old.subject in
     let s = c.args.session.now in
     let name = c.args.name.now in
     told_at old s name (Some c.in-Some.wire) _ _ _ _ (c.in-Some.ensures ∙ ap (λ (u : Subject). place_of name u.wires) c.basis.ensures)
@@ -51,7 +52,7 @@ probe-zero-requires g c =
 pub returns-clause-reply : goal.returns-clause-reply
 returns-clause-reply g c =
     let old = c.args.desk.now in
-    let system = system_of old.subject in
+    let system = served_system old.subject in
     let s = c.args.session.now in
     let name = c.args.name.now in
     let wire = c.in-Some.wire in

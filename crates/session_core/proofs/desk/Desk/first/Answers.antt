@@ -1,9 +1,9 @@
 use Rattle.std.proofs.Common.{◌∙◌, ◌<◌, ℕ, List, Bool, All, get_or, length, ap, sym, subst}
 use Rattle.conditioner.specs.Words.{bits_of}
-use Rattle.session_core.specs.inner.Desks.{OnDesk, agreeing, least_asked, diagnoses_asked}
+use Rattle.session_core.specs.inner.Desks.{OnDesk, least_asked, diagnoses_asked}
 use Rattle.session_core.proofs.Desks.{least-asked, diagnoses-asked, fits_after, stays_after}
 use Rattle.session_core.proofs.Holding.{written_back}
-use Rattle.session_core.proofs.Stepping.{first_some}
+use Rattle.session_core.proofs.NextStates.{is_first}
 use Rattle.session_core.proofs.desk.Desk.first.Goals as goal
 
 pub returns-clause-least : goal.returns-clause-least
@@ -14,13 +14,11 @@ returns-clause-least g c =
 
 pub returns-clause-first : goal.returns-clause-first
 returns-clause-first g c =
-    let desk = c.args.self.now in
     let old = bits_of c.deref_mut-3.result.now in
     let ds = diagnoses-asked c.self.inside.basis c.self.inside.memory.known.items c.graph.ensures.basis c.self.invariant.known _ _ _ c.graph.ensures.graph c.deref_mut.ensures.value c.costs.ensures
     ∙ ap (λ (d : OnDesk). diagnoses_asked d) c.self.view_is in
     let back = written_back c.fill.new.self.len c.first.new.state c.fill.new.self.items (sym (c.first.auto.state ∙ c.deref_mut-3.ensures.len)) in
-    first_some desk.subject.costs (agreeing desk) c.first.result _ old (returns-clause-least g c)
-    (ap bits_of back ∙ (c.first.ensures.first ∙ ap (λ (xs : List (List Bool)). get_or xs 0 old) ds))
+    is_first _ old _ (ap bits_of back ∙ (c.first.ensures.first ∙ ap (λ (xs : List (List Bool)). get_or xs 0 old) ds))
 
 pub invariant_of-self : goal.invariant_of-self
 invariant_of-self g c =

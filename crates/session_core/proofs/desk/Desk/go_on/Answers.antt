@@ -1,35 +1,38 @@
-use Rattle.std.proofs.Common.{◌∙◌, ◌<◌, [], ℕ, List, Some, All, get_or, length, ap, sym, subst}
+use Rattle.std.proofs.Common.{◌∙◌, ◌<◌, ℕ, List, Some, All, get_or, length, ap, sym, subst}
 use Rattle.state_rules.specs.Ranking.{rest}
 use Rattle.conditioner.specs.Words.{bits_of}
 use Rattle.diagnosis_lister.specs.Listing.{step_of}
-use Rattle.session_core.specs.inner.Desks.{OnDesk, agreeing, diagnoses_asked}
+use Rattle.session_core.specs.Services.{served_system}
+use Rattle.session_core.specs.declared.listed.Listed.TheVariants.{Diagnoses}
+use Rattle.session_core.specs.inner.Bases.{case_in}
+use Rattle.session_core.specs.inner.Desks.{OnDesk, asked_case, diagnoses_asked, next_after, of_step}
 use Rattle.session_core.proofs.Desks.{states-asked, diagnoses-asked, fits_after, stays_after}
 use Rattle.session_core.proofs.Holding.{written_back}
-use Rattle.session_core.proofs.Stepping.{found_some, first_any}
+use Rattle.session_core.proofs.NextStates.{is_first, diagnosis_next}
 use Rattle.session_core.proofs.desk.Desk.go_on.Goals as goal
 
-pub returns-clause-step : goal.returns-clause-step
-returns-clause-step g c =
-    let states = states-asked c.self.inside.basis c.self.inside.memory.known.items c.graph.ensures.basis c.self.invariant.known _ _ _ c.graph.ensures.graph c.deref_mut.ensures.value c.costs.ensures in
-    let list = diagnoses-asked c.self.inside.basis c.self.inside.memory.known.items c.graph.ensures.basis c.self.invariant.known _ _ _ c.graph.ensures.graph c.deref_mut.ensures.value c.costs.ensures in
+pub returns-clause-next : goal.returns-clause-next
+returns-clause-next g c =
+    let desk = c.self.inside in
+    let old = Some (bits_of c.args.old.now) in
+    let states = states-asked desk.basis desk.memory.known.items c.graph.ensures.basis c.self.invariant.known _ _ _ c.graph.ensures.graph c.deref_mut.ensures.value c.costs.ensures in
+    let list = diagnoses-asked desk.basis desk.memory.known.items c.graph.ensures.basis c.self.invariant.known _ _ _ c.graph.ensures.graph c.deref_mut.ensures.value c.costs.ensures in
     let at = c.deref_mut-3.ensures.value ∙ c.copy_from_slice.ensures.items in
-    c.next.ensures.step
-    ∙ ((λ i. step_of (states i) (rest (list i) (Some (bits_of (at i)))))
-    ∙ ap (λ (d : OnDesk). step_of (agreeing d) (rest (diagnoses_asked d) (Some (bits_of c.args.old.now)))) c.self.view_is)
+    c.of_step.ensures
+    ∙ (ap of_step (c.next.ensures.step ∙ (λ i. step_of (states i) (rest (list i) (Some (bits_of (at i))))))
+    ∙ (diagnosis_next desk.basis desk.basis.costs ((served_system desk.basis).consistent (case_in desk.basis desk.memory.known.items)) _
+    ∙ ap (λ (d : OnDesk). next_after d.subject Diagnoses (asked_case d) old) c.self.view_is))
 
 pub returns-clause-state : goal.returns-clause-state
-returns-clause-state g c = λ found.
-    let desk = c.args.self.now in
+returns-clause-state g c =
     let old = bits_of c.args.old.now in
     let list = diagnoses-asked c.self.inside.basis c.self.inside.memory.known.items c.graph.ensures.basis c.self.invariant.known _ _ _ c.graph.ensures.graph c.deref_mut.ensures.value c.costs.ensures in
     let at = c.deref_mut-3.ensures.value ∙ c.copy_from_slice.ensures.items in
     let back = written_back c.copy_from_slice.new.self.len c.next.new.state c.copy_from_slice.new.self.items (sym (c.next.auto.state ∙ c.deref_mut-3.ensures.len)) in
-    let later = rest (diagnoses_asked desk) (Some old) in
-    ap bits_of back
+    is_first _ old _ (ap bits_of back
     ∙ (c.next.ensures.next
     ∙ ((λ i. get_or (rest (list i) (Some (bits_of (at i)))) 0 (bits_of (at i)))
-    ∙ (ap (λ (d : OnDesk). get_or (rest (diagnoses_asked d) (Some old)) 0 old) c.self.view_is
-    ∙ first_any later old [] (found_some (agreeing desk) later c.next.result (returns-clause-step g c) found))))
+    ∙ ap (λ (d : OnDesk). get_or (rest (diagnoses_asked d) (Some old)) 0 old) c.self.view_is)))
 
 pub invariant_of-self : goal.invariant_of-self
 invariant_of-self g c =

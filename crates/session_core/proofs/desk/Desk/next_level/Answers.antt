@@ -1,38 +1,19 @@
-use Rattle.std.proofs.Common.{arith, ◌≡◌, ◌∙◌, ◌+◌, ◌*◌, ◌<◌, ◌≤◌, ℕ, List, Bool, Bor, Option, Some, [], All, get_or, length, refl, sym, ap, subst}
+use Rattle.std.proofs.Common.{arith, ◌≡◌, ◌∙◌, ◌+◌, ◌*◌, ◌<◌, ◌≤◌, ℕ, List, Bor, Option, Some, All, get_or, length, sym, ap, subst}
 use Rattle.std.specs.Prelude.{IfSome}
 use Rattle.std.specs.Option.{option_map}
 use Rattle.state_rules.specs.Graphs.{Graph}
 use Rattle.state_rules.specs.Levels.{levels, levels_rest}
-use Rattle.conditioner.specs.Models.{models}
 use Rattle.conditioner.specs.Words.{bits_of}
-use Rattle.level_lister.specs.Listing.{Kept, IsFor, level_step, later_levels, point_if, cost_words, step_words}
-use Rattle.session_rules.specs.GraphSystems.{Subject, system_of}
-use Rattle.session_rules.proofs.CaseWords.{models-by_words}
-use Rattle.session_core.specs.inner.Bases.{IsBasis, AreEnough, AreKnown, case_in}
-use Rattle.session_core.specs.inner.Desks.{OnDesk, agreeing, top_of, later_by_cost, later_asked}
-use Rattle.session_core.proofs.ByCost.{found_later}
-use Rattle.session_core.proofs.Desks.{stays_after}
+use Rattle.level_lister.specs.Listing.{Kept, IsFor, level_step, point_if, cost_words, step_words}
+use Rattle.session_rules.specs.GraphSystems.{Subject}
+use Rattle.session_core.specs.declared.listed.Listed.TheVariants.{Levels}
+use Rattle.session_core.specs.inner.Bases.{AreEnough, AreKnown}
+use Rattle.session_core.specs.inner.Desks.{OnDesk, asked_case, top_of, later_states, next_after, of_level_step}
+use Rattle.session_core.proofs.Desks.{states-asked, stays_after}
 use Rattle.session_core.proofs.Holding.{written_back}
 use Rattle.session_core.proofs.Rooms.{carved_so, run_long, is_held, released_runs, released_words}
-use Rattle.session_core.proofs.Stepping.{first_any}
+use Rattle.session_core.proofs.NextStates.{is_first, level_next}
 use Rattle.session_core.proofs.desk.Desk.next_level.Goals as goal
-
--- what the lister lists is what comes later of the states that agree with the case
-module _ (subject : Subject) (known : List ℕ) (basis : IsBasis subject) (are : AreKnown subject known) (kept : Kept) (told : subject.extras.levels ≡ Some kept.top) (costs : kept.costs ≡ subject.costs) where
-  states-are : models subject.graph known (length kept.costs) ≡ (system_of subject).consistent (case_in subject known)
-  states-are =
-      ap (λ (cs : List ℕ). models subject.graph known (length cs)) costs
-      ∙ (ap (models subject.graph known) basis.costs
-      ∙ models-by_words subject.parts subject.wires subject.costs subject.graph subject.graph.vars known basis.costs refl are)
-
-  later-are : (point : Option (List Bool)) → later_levels subject.graph known kept point ≡ later_by_cost subject (case_in subject known) point
-  later-are point =
-      let top : kept.top ≡ top_of subject.extras.levels = sym (ap top_of told) in
-      λ i. levels_rest (costs i) (levels (costs i) (top i) (states-are i)) point
-
-  step-is : (point : Option (List Bool)) → level_step kept.costs (models subject.graph known (length kept.costs)) (later_levels subject.graph known kept point)
-      ≡ level_step subject.costs ((system_of subject).consistent (case_in subject known)) (later_by_cost subject (case_in subject known) point)
-  step-is point = λ i. level_step (costs i) (states-are i) (later-are point i)
 
 -- what is known of what lists the states
 kept_so : (basis : Subject) (found : Option (Bor Kept)) (levels : Bor Kept) → found ≡ Some levels
@@ -61,38 +42,36 @@ invariant_of-self g c =
       serves = c.self.invariant.serves;
     }
 
-pub returns-clause-step : goal.returns-clause-step
-returns-clause-step g c =
+pub returns-clause-next : goal.returns-clause-next
+returns-clause-next g c =
     let basis = c.self.inside.basis in
-    let known = c.self.inside.memory.known.items in
-    let kept = c.unwrap-levels.result.now in
     let so = kept_so basis c.levels.result c.unwrap-levels.result c.unwrap-levels.ensures c.levels.ensures.some in
     let point = option_map (λ (old : Bor (List ℕ)). bits_of old.now) c.args.point in
+    let states = states-asked basis c.self.inside.memory.known.items c.levels.ensures.basis c.self.invariant.known _ _ _ c.graph.ensures.graph c.deref_mut-2.ensures.value so.2 in
     let start = written_back c.self.inside.memory.state.len c.start_at-pointed.new.state c.self.inside.memory.state.items (sym (c.start_at-pointed.auto.state ∙ c.deref_mut.ensures.len)) in
     let from = ap (λ (xs : List ℕ). point_if c.start_at-pointed.result (bits_of xs)) (c.deref_mut-3.ensures.value ∙ start) ∙ c.start_at-pointed.ensures.point in
-    c.next_in-step.ensures.step
-    ∙ ((λ i. level_step kept.costs (models (c.graph.ensures.graph i) (c.deref_mut-2.ensures.value i) (length kept.costs)) (later_levels (c.graph.ensures.graph i) (c.deref_mut-2.ensures.value i) kept (from i)))
-    ∙ (step-is basis known c.levels.ensures.basis c.self.invariant.known kept so.0 so.2 point
-    ∙ ap (λ (d : OnDesk). level_step d.subject.costs (agreeing d) (later_asked d point)) c.self.view_is))
+    let top = ap top_of (sym so.0) in
+    c.of_level_step.ensures
+    ∙ (ap of_level_step (c.next_in-step.ensures.step
+    ∙ (λ i. level_step (so.2 i) (states i) (levels_rest (so.2 i) (levels (so.2 i) (top i) (states i)) (from i))))
+    ∙ (level_next basis _ _
+    ∙ ap (λ (d : OnDesk). next_after d.subject Levels (asked_case d) point) c.self.view_is))
 
 pub returns-clause-state : goal.returns-clause-state
-returns-clause-state g c = λ cost found.
-    let desk = c.args.self.now in
+returns-clause-state g c =
     let basis = c.self.inside.basis in
-    let known = c.self.inside.memory.known.items in
-    let kept = c.unwrap-levels.result.now in
     let so = kept_so basis c.levels.result c.unwrap-levels.result c.unwrap-levels.ensures c.levels.ensures.some in
     let point = option_map (λ (old : Bor (List ℕ)). bits_of old.now) c.args.point in
+    let states = states-asked basis c.self.inside.memory.known.items c.levels.ensures.basis c.self.invariant.known _ _ _ c.graph.ensures.graph c.deref_mut-2.ensures.value so.2 in
     let start = written_back c.self.inside.memory.state.len c.start_at-pointed.new.state c.self.inside.memory.state.items (sym (c.start_at-pointed.auto.state ∙ c.deref_mut.ensures.len)) in
     let from = ap (λ (xs : List ℕ). point_if c.start_at-pointed.result (bits_of xs)) (c.deref_mut-3.ensures.value ∙ start) ∙ c.start_at-pointed.ensures.point in
+    let top = ap top_of (sym so.0) in
     let state = written_back c.self.inside.memory.state.len c.next_in-step.new.state _ (sym (c.next_in-step.auto.state ∙ c.deref_mut-3.ensures.len)) in
     let old = bits_of c.deref_mut-3.result.now in
-    ap bits_of state
+    is_first _ old _ (ap bits_of state
     ∙ (c.next_in-step.ensures.next
-    ∙ ((λ i. get_or (later_levels (c.graph.ensures.graph i) (c.deref_mut-2.ensures.value i) kept (from i)) 0 old)
-    ∙ (ap (λ (xs : List (List Bool)). get_or xs 0 old) (later-are basis known c.levels.ensures.basis c.self.invariant.known kept so.0 so.2 point)
-    ∙ (ap (λ (d : OnDesk). get_or (later_asked d point) 0 old) c.self.view_is
-    ∙ first_any (later_asked desk point) old [] (found_later desk.subject.costs (agreeing desk) (later_asked desk point) cost (sym (returns-clause-step g c) ∙ found))))))
+    ∙ ((λ i. get_or (levels_rest (so.2 i) (levels (so.2 i) (top i) (states i)) (from i)) 0 old)
+    ∙ ap (λ (d : OnDesk). get_or (later_states d.subject Levels (asked_case d) point) 0 old) c.self.view_is)))
 
 pub run_mut-requires : goal.run_mut-requires
 run_mut-requires g c =

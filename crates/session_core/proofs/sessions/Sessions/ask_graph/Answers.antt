@@ -2,14 +2,15 @@ use Rattle.std.proofs.Common.{◌∷◌, [], ℕ, List, Option, codes, length, r
 use Rattle.std.specs.Prelude.{nat_le}
 use Rattle.state_rules.specs.Cases.{Case}
 use Rattle.script_lang.specs.Script.{Dnnf}
-use Rattle.session_rules.specs.GraphSystems.{Subject, system_of}
+use Rattle.session_rules.specs.GraphSystems.{Subject}
 use Rattle.session_rules.specs.Items.{Item, Plain, line}
 use Rattle.session_rules.specs.Sessions.{Entry, outcome, carried}
 use Rattle.session_rules.specs.Spelling.{Replies}
-use Rattle.session_core.specs.Services.{Shown, told_graph, case_text}
+use Rattle.session_core.specs.Services.{Shown, case_text, served_system}
 use Rattle.session_core.specs.inner.Bases.{AreKnown, case_in}
 use Rattle.session_core.specs.inner.Obeying.{Obeys, IsOpen}
-use Rattle.session_core.proofs.Holding.{shown_of, known-there, case-there}
+use Rattle.session_core.specs.inner.Holding.{shown_of}
+use Rattle.session_core.proofs.Holding.{known-there, case-there}
 use Rattle.session_core.proofs.Obeying.{obeys_move}
 use Rattle.session_core.proofs.sessions.Sessions.ask_graph.Goals as goal
 
@@ -31,7 +32,7 @@ returns-clause-obeys g c =
     let known = case-there basis c.self.inside.open c.self.invariant c.words-known.result.now there.entry.known (c.words-known.ensures.known s there.entry there.stands) in
     subst (λ (v : Shown). Obeys v v s Dnnf (g.O.Sink.got c.args.out.now) (g.O.Sink.got c.tell_graph.new.out) c.tell_graph.result) c.self.view_is
     (obeys_move shown shown s Dnnf (record { table = shown.table; items = items basis s there.entry.known }) _ _ _
-    (ap (λ (e : Option Entry). told_graph (codes "dnnf") (case_text basis) shown.table s e (carried shown.table s (outcome (system_of basis) s (nat_le shown.limit (length shown.table)) e Dnnf) ∷ [])) there.stands.found)
+    (ap (λ (e : Option Entry). carried shown.table s (outcome (served_system basis) s (nat_le shown.limit (length shown.table)) e Dnnf) ∷ []) there.stands.found)
     refl
     (subst (λ (k : Case). Replies (g.O.Sink.got c.args.out.now) (g.O.Sink.got c.tell_graph.new.out) c.tell_graph.result (items basis s k)) known
     (subst (λ (u : Subject). Replies (g.O.Sink.got c.args.out.now) (g.O.Sink.got c.tell_graph.new.out) c.tell_graph.result (items u s (case_in u c.words-known.result.now))) c.basis.ensures c.tell_graph.ensures.reply)))

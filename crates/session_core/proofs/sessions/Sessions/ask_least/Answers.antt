@@ -2,17 +2,19 @@ use Rattle.std.proofs.Common.{◌≡◌, ◌∙◌, ◌∷◌, [], ℕ, Bool, tr
 use Rattle.std.specs.Prelude.{nat_le, if◌then◌else◌}
 use Rattle.text_rules.specs.Names.{Name}
 use Rattle.state_rules.specs.Cases.{Case}
-use Rattle.state_rules.specs.Systems.{System, all_diagnoses}
+use Rattle.state_rules.specs.Systems.{System}
 use Rattle.script_lang.specs.Script.{Ask, LeastNnf}
 use Rattle.session_rules.specs.declared.refusal.Refusal.TheVariants.{NoLeast}
-use Rattle.session_rules.specs.GraphSystems.{Subject, system_of}
-use Rattle.session_rules.specs.Items.{Item, Plain, LeastText, line}
-use Rattle.session_rules.specs.Sessions.{Entry, Step, Declined, tells, when_open, outcome, carried, entry_of}
+use Rattle.session_rules.specs.GraphSystems.{Subject}
+use Rattle.session_rules.specs.Items.{Item, Plain, line}
+use Rattle.session_rules.specs.Replies.{least_item}
+use Rattle.session_rules.specs.Sessions.{Entry, Declined, tells, when_open, outcome, carried, entry_of}
 use Rattle.session_rules.specs.Spelling.{Replies}
-use Rattle.session_core.specs.Services.{Shown, told_graph, least_case_text, exact_moves}
+use Rattle.session_core.specs.Services.{Shown, least_case_text, exact_moves, served_system}
 use Rattle.session_core.specs.inner.Desks.{OnDesk, asked_case}
 use Rattle.session_core.specs.inner.Obeying.{Obeys, IsOpen}
-use Rattle.session_core.proofs.Holding.{shown_of, known-there, case-there}
+use Rattle.session_core.specs.inner.Holding.{shown_of}
+use Rattle.session_core.proofs.Holding.{known-there, case-there}
 use Rattle.session_core.proofs.Obeying.{obeys_move, obeys_refusal, asked_open}
 use Rattle.session_core.proofs.sessions.Sessions.ask_least.Goals as goal
 
@@ -22,21 +24,17 @@ items subject session known = line (session ∷ codes "leastnnf" ∷ []) ∷ Pla
 
 untold : (system : System) (s : Name) (entry : Entry) → system.extras.least ≡ false → when_open system s entry LeastNnf ≡ Declined NoLeast
 untold system s entry off =
-    ap (λ (told : Bool). if told then tells (line (s ∷ codes "leastnnf" ∷ []) ∷ LeastText (length system.parts) (all_diagnoses system entry.known) ∷ []) else Declined NoLeast) off
+    ap (λ (told : Bool). if told then tells (line (s ∷ codes "leastnnf" ∷ []) ∷ least_item system entry.known ∷ []) else Declined NoLeast) off
 
 module _ (shown : Shown) (s : Name) where
   abbrev system : System
-  system = system_of shown.subject
-
-  abbrev answer : Option Entry → List Step
-  answer entry = carried shown.table s (outcome system s (nat_le shown.limit (length shown.table)) entry LeastNnf) ∷ []
-
-  abbrev by : Bool → Option Entry → List Step
-  by told entry = if told then told_graph (codes "leastnnf") (least_case_text shown.subject) shown.table s entry (answer entry) else answer entry
+  system = served_system shown.subject
 
   told : (entry : Entry) → entry_of s shown.table ≡ Some entry → shown.subject.extras.least ≡ true
       → exact_moves shown shown.table (Ask s LeastNnf) ≡ record { table = shown.table; items = items shown.subject s entry.known } ∷ []
-  told entry there on = ap (λ (b : Bool). by b (entry_of s shown.table)) on ∙ ap (by true) there
+  told entry there on =
+      ap (λ (e : Option Entry). carried shown.table s (outcome system s (nat_le shown.limit (length shown.table)) e LeastNnf) ∷ []) there
+      ∙ ap (λ (b : Bool). carried shown.table s (if b then tells (line (s ∷ codes "leastnnf" ∷ []) ∷ least_item system entry.known ∷ []) else Declined NoLeast) ∷ []) on
 
 pub returns-then-not-tells_least-clause-obeys : goal.returns-then-not-tells_least-clause-obeys
 returns-then-not-tells_least-clause-obeys g c =
@@ -45,7 +43,7 @@ returns-then-not-tells_least-clause-obeys g c =
     let there = subst (λ (v : Shown). IsOpen v.table c.args.session) (sym c.self.view_is) c.requires in
     let off : c.self.inside.desk.subject.extras.least ≡ false = subst (λ (u : Subject). u.extras.least ≡ false) c.basis.ensures (sym c.if-not-tells_least.ensures) in
     subst (λ (v : Shown). Obeys v v s LeastNnf (g.O.Sink.got c.args.out.now) (g.O.Sink.got c.put_refusal.new.out) c.put_refusal.result) c.self.view_is
-    (obeys_refusal shown s LeastNnf _ _ _ NoLeast (asked_open shown s LeastNnf there.entry there.stands.found ∙ untold (system_of shown.subject) s there.entry off) c.put_refusal.ensures.text)
+    (obeys_refusal shown s LeastNnf _ _ _ NoLeast (asked_open shown s LeastNnf there.entry there.stands.found ∙ untold (served_system shown.subject) s there.entry off) c.put_refusal.ensures.text)
 
 pub take_up-requires : goal.take_up-requires
 take_up-requires g c = known-there c.self.inside.desk.subject c.self.inside.open c.self.invariant c.words.result.now c.words.ensures.words

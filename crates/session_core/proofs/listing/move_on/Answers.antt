@@ -1,0 +1,56 @@
+use Rattle.std.proofs.Common.{◌≡◌, ◌∙◌, ◌∷◌, [], Ok, ℕ, List, ap, ap₂, sym, refl, subst}
+use Rattle.text_rules.specs.Names.{Name}
+use Rattle.conditioner.specs.Words.{bits_of}
+use Rattle.session_rules.specs.GraphSystems.{Subject}
+use Rattle.session_rules.specs.Items.{line}
+use Rattle.session_rules.specs.Spelling.{Writes, WritesPart}
+use Rattle.session_table.specs.Tables.{Opened}
+use Rattle.session_core.specs.inner.Desks.{OnDesk}
+use Rattle.session_core.specs.inner.Holding.{HoldsTogether, shown_of}
+use Rattle.session_core.specs.inner.Texts.{next_text}
+use Rattle.session_core.proofs.Holding.{opened_with, holds_more}
+use Rattle.session_core.proofs.Told.{writes_one, part_one}
+use Rattle.session_core.proofs.Moving.{replies_part, if_failed, moves_on}
+use Rattle.session_core.proofs.listing.move_on.Goals as goal
+
+together : (subject : Subject) (desk : OnDesk) (old new : Opened) → HoldsTogether subject old → desk.subject ≡ subject → new ≡ opened_with old new.table → HoldsTogether desk.subject new
+together subject desk old new h s e = subst (λ (u : Subject). HoldsTogether u new) (sym s) (holds_more subject old new new.table h e)
+
+pub returns-in_err-put_next-clause-moves : goal.returns-in_err-put_next-clause-moves
+returns-in_err-put_next-clause-moves g c = λ entry stands.
+    let old = c.args.desk.now.subject in
+    let s = c.args.session.name.now in
+    let next = c.find-next.result in
+    let state = bits_of c.find-next.new.desk.state in
+    let words = ap₂ (λ (parts : List Name) (st : List ℕ). next_text s parts next (bits_of st)) (c.parts.ensures.names ∙ ap (λ (u : Subject). u.parts) (c.basis.ensures ∙ c.find-next.ensures.subject)) c.state.ensures.state in
+    moves_on (shown_of old c.args.opened.now) (shown_of c.find-next.new.desk.subject c.find-next.new.opened) c.args.listed c.args.session.place s entry next state _ _ c.from_residual.result
+    (c.find-next.ensures.moves s entry stands) (ap₂ shown_of c.find-next.ensures.subject c.find-next.ensures.stays)
+    (replies_part _ _ _ (line (next_text s old.parts next state) ∷ []) c.from_residual.ensures.0
+    (subst (λ (ws : List (List ℕ)). WritesPart (g.O.Sink.got c.args.out.now) (g.O.Sink.got c.put_next.new.out) (line ws ∷ [])) words
+    (part_one _ _ (line (next_text s c.parts.result.now next (bits_of c.state.result.now))) _ refl c.in_err-put_next.ensures.text)))
+    (if_failed _ _ c.from_residual.ensures.0)
+
+pub returns-clause-moves : goal.returns-clause-moves
+returns-clause-moves g c = λ entry stands.
+    let old = c.args.desk.now.subject in
+    let s = c.args.session.name.now in
+    let next = c.find-next.result in
+    let state = bits_of c.find-next.new.desk.state in
+    let words = ap₂ (λ (parts : List Name) (st : List ℕ). next_text s parts next (bits_of st)) (c.parts.ensures.names ∙ ap (λ (u : Subject). u.parts) (c.basis.ensures ∙ c.find-next.ensures.subject)) c.state.ensures.state in
+    moves_on (shown_of old c.args.opened.now) (shown_of c.find-next.new.desk.subject c.find-next.new.opened) c.args.listed c.args.session.place s entry next state _ _ (Ok c.is_found.result)
+    (c.find-next.ensures.moves s entry stands) (ap₂ shown_of c.find-next.ensures.subject c.find-next.ensures.stays)
+    (subst (λ (ws : List (List ℕ)). Writes (g.O.Sink.got c.args.out.now) (g.O.Sink.got c.put_next.new.out) (line ws ∷ [])) words
+    (writes_one _ _ (line (next_text s c.parts.result.now next (bits_of c.state.result.now))) _ refl c.in_ok-put_next.ensures.text))
+    c.is_found.ensures
+
+pub returns-in_err-put_next-clause-together : goal.returns-in_err-put_next-clause-together
+returns-in_err-put_next-clause-together g c = together c.args.desk.now.subject c.find-next.new.desk c.args.opened.now c.find-next.new.opened c.requires.together c.find-next.ensures.subject c.find-next.ensures.stays
+
+pub returns-in_err-put_next-clause-stays : goal.returns-in_err-put_next-clause-stays
+returns-in_err-put_next-clause-stays g c = ap₂ shown_of c.find-next.ensures.subject c.find-next.ensures.stays
+
+pub returns-clause-together : goal.returns-clause-together
+returns-clause-together g c = together c.args.desk.now.subject c.find-next.new.desk c.args.opened.now c.find-next.new.opened c.requires.together c.find-next.ensures.subject c.find-next.ensures.stays
+
+pub returns-clause-stays : goal.returns-clause-stays
+returns-clause-stays g c = ap₂ shown_of c.find-next.ensures.subject c.find-next.ensures.stays

@@ -2,10 +2,9 @@
 use Rattle.std.proofs.Common.{◌≡◌, ◌≢◌, ◌⊎◌, ◌<◌, ◌≤◌, ◌+◌, ℕ, Bool, true, false, List, [], length, nat_le, Option, Some, None, IfSome, inl, inr, refl, ◌∙◌, ap, subst, sym, arith, append-nil, codes, if◌then◌else◌}
 use Rattle.std.specs.Prelude.{◌↔◌, is_some}
 use Rattle.std.specs.Io.KnownBytes.{Consumes, IsAtEnd}
-use Rattle.std.specs.Option.{IsSome}
 use Rattle.text_rules.specs.declared.text_lines.TheConstants.{TEXT_LIMIT}
 use Rattle.text_rules.specs.TextLines.{whole_lines}
-use Rattle.diag_edge.specs.Edge.{Reading, Writing, RoseExactly, Holding}
+use Rattle.diag_edge.specs.Edge.{Reading, Writing, Holding}
 use Rattle.clause_encoder.specs.Clauses.{ClauseList}
 use Rattle.elimination_forests.specs.Forests.{Forest}
 use Rattle.session_rules.specs.Items.{Item}

@@ -18,7 +18,7 @@ use Rattle.device_files.specs.declared.refusal.Refusal.{Refusal}
 use Rattle.device_files.specs.declared.refusal.Refusal.TheVariants.{Sum}
 use Rattle.device_files.specs.Output.{says}
 use Rattle.device_files.specs.Refusals.{told_by}
-use Rattle.device_files.specs.Choices.{Weighed, by_names, along, weighed_by, ByForest, ByClauses, IsChosen, HasSum, IsListOf}
+use Rattle.device_files.specs.Choices.{Weighed, weighed_by, ByForest, ByClauses, IsChosen, HasSum, IsListOf}
 use Rattle.device_files.specs.Weighing.{within, sum_line}
 
 -- what holds by every choice holds by the order of the names
@@ -47,7 +47,7 @@ module _ (list : ClauseList) where
       record {
         choose = choice_of list forest is.1.narrow;
         narrows = choice_narrows list forest is.1.narrow;
-        holds = subst (λ chosen. Gives (option_map_or (λ f. along f list) chosen (by_names list))) (sym (choice_finds list forest is.1.narrow)) (given (forest_sum Lists forest list.clauses) (is.1, refl));
+        holds = subst (λ chosen. Gives (record { list = list; sum = option_map_or (λ f. forest_sum Lists f list.clauses) chosen (sum_of list.clauses) })) (sym (choice_finds list forest is.1.narrow)) (given (forest_sum Lists forest list.clauses) (is.1, refl));
       }
 
 -- the same of the clauses of a device

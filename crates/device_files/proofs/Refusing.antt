@@ -1,8 +1,12 @@
 -- What is refused stays refused, and is printed.
 use Rattle.std.proofs.Common.{◌≡◌, ℕ, List, Option, None, Some, Result, Ok, sym, ap, subst, inl, inr}
 use Rattle.text_rules.specs.Expected.{IsExpectedFault}
+use Rattle.device_model.specs.Devices.{Device}
+use Rattle.clause_encoder.specs.declared.encoding.EncodeError.{EncodeError}
 use Rattle.device_files.specs.declared.status.Status.{Status}
 use Rattle.device_files.specs.Output.{Output, Gives, GivesUnlessMemory, result_and_then, told_or_refused}
+use Rattle.device_files.specs.Choices.{Weighed}
+use Rattle.device_files.specs.Weighing.{within, told_within}
 use Rattle.device_files.specs.Refusals.{or_memory}
 
 -- what is not found is not gone on with
@@ -20,3 +24,15 @@ pub refused_told : {A : Type 0} (told : A → Output) (found : Result A Output) 
     → Gives (or_memory fault) status a b → GivesUnlessMemory (told_or_refused told found) status a b
 refused_told told found None status a b is said = inl said
 refused_told told found (Some output) status a b is said = inr (subst (λ (o : Output). Gives o status a b) (sym (ap (told_or_refused told) is)) said)
+
+-- of a device that was found, by its clauses
+module _ (budget : ℕ) (clauses : Device → Result Weighed EncodeError) (told : Device → Weighed → Output) (found : Result Device Output) (device : Device) where
+  pub within_told : (weighed : Weighed) (status : Status) (a b : Option (List ℕ)) → found ≡ Ok device → within budget (clauses device) ≡ Ok weighed → Gives (told device weighed) status a b
+      → GivesUnlessMemory (told_within budget clauses told found) status a b
+  within_told weighed status a b is list said =
+      subst (λ f. GivesUnlessMemory (told_within budget clauses told f) status a b) (sym is) (found_told (told device) (within budget (clauses device)) weighed status a b list said)
+
+  pub within_refused : (fault : Option Output) (status : Status) (a b : Option (List ℕ)) → found ≡ Ok device → IsExpectedFault fault (within budget (clauses device)) → Gives (or_memory fault) status a b
+      → GivesUnlessMemory (told_within budget clauses told found) status a b
+  within_refused fault status a b is refused said =
+      subst (λ f. GivesUnlessMemory (told_within budget clauses told f) status a b) (sym is) (refused_told (told device) (within budget (clauses device)) fault status a b refused said)

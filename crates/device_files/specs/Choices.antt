@@ -17,17 +17,12 @@ pub record Weighed : Type 0 where
   pub list : ClauseList
   pub sum : ℕ
 
--- by the order of their names
-abbrev pub by_names : ClauseList → Weighed
-by_names cnf = record { list = cnf; sum = sum_of cnf.clauses }
-
--- along a forest
-abbrev pub along : Forest → ClauseList → Weighed
-along forest cnf = record { list = cnf; sum = forest_sum Lists forest cnf.clauses }
-
--- along the one that is chosen for them, if that is asked for and one is
+-- along the forest that is chosen for them, if that is asked for and one is; otherwise by the order of their names
 abbrev pub weighed_by : Bool → (ClauseList → Option Forest) → ClauseList → Weighed
-weighed_by narrow choose cnf = if narrow then option_map_or (λ forest. along forest cnf) (choose cnf) (by_names cnf) else by_names cnf
+weighed_by narrow choose cnf = record {
+  list = cnf;
+  sum = option_map_or (λ forest. forest_sum Lists forest cnf.clauses) (if narrow then choose cnf else None) (sum_of cnf.clauses);
+}
 
 -- and those of a device
 abbrev pub clauses_by : Bool → (ClauseList → Option Forest) → Device → Result Weighed EncodeError

@@ -5,7 +5,6 @@ use Rattle.device_model.specs.declared.limits.TheConstants.{NAME_LIMIT, PART_LIM
 use Rattle.device_model.specs.Devices.{Device}
 use Rattle.bench_reader.specs.Netlists.{netlist}
 use Rattle.bench_reader.specs.Faults.{Fault as NetlistFault, fault_row as netlist_row}
-use Rattle.component_lang.specs.Designs.{Design}
 use Rattle.component_lang.specs.Reading.{Fault as DesignFault, design}
 use Rattle.component_lang.specs.Faults.{fault_row as design_row}
 use Rattle.flattener.specs.declared.flattening.FlattenError.{FlattenError}
@@ -13,7 +12,7 @@ use Rattle.flattener.specs.declared.flattening.FlattenError.TheVariants.{TooMany
 use Rattle.flattener.specs.declared.flattening.TheConstants.{INSTANCE_LIMIT}
 use Rattle.flattener.specs.Flat.{flattened}
 use Rattle.diag_edge.specs.ErrorLines.{fault_line, above_line}
-use Rattle.device_files.specs.Paths.{is_design_path}
+use Rattle.device_files.specs.Paths.{ends_in}
 use Rattle.device_files.specs.declared.status.Status.TheVariants.{Refused}
 use Rattle.device_files.specs.Output.{Output, says, no_memory_line, result_and_then}
 
@@ -34,9 +33,6 @@ flatten_line Memory = no_memory_line
 abbrev pub or_line : {A F : Type 0} → (F → List ℕ) → Result A F → Result A Output
 or_line line found = result_map_both (λ given. given) (λ fault. says (line fault) Refused) found
 
-abbrev pub design_device : Result Design DesignFault → Result Device Output
-design_device found = result_and_then (λ made. or_line flatten_line (flattened made)) (or_line design_line found)
-
 -- the device that a text describes, by the path of its file
 abbrev pub described : List ℕ → List ℕ → Result Device Output
-described path text = if is_design_path path then design_device (design text) else or_line netlist_line (netlist text)
+described path text = if ends_in (codes ".dev") path then result_and_then (λ made. or_line flatten_line (flattened made)) (or_line design_line (design text)) else or_line netlist_line (netlist text)

@@ -1,7 +1,6 @@
 pub mod Checking
 pub mod Choices
 pub mod Describing
-pub mod GraphFaults
 pub mod Inspecting
 pub mod Output
 pub mod Paths

@@ -2,24 +2,25 @@
 use Rattle.std.specs.Prelude.{ℕ, List, [], ◌∷◌, Result, Ok, Err, codes, nat_lt, if◌then◌else◌}
 use Rattle.std.specs.Fmt.{decimal}
 use Rattle.text_rules.specs.Tokens.{spaced}
+use Rattle.device_model.specs.Devices.{Device}
 use Rattle.clause_encoder.specs.declared.limits.TheConstants.{CLAUSE_LIMIT}
 use Rattle.clause_encoder.specs.declared.encoding.EncodeError.{EncodeError}
 use Rattle.clause_encoder.specs.declared.encoding.EncodeError.TheVariants.{TooManyClauses, Memory}
 use Rattle.device_files.specs.Choices.{Weighed}
 use Rattle.device_files.specs.declared.status.Status.TheVariants.{Refused, AboveBudget}
-use Rattle.device_files.specs.Output.{Output, says, no_memory}
+use Rattle.device_files.specs.Output.{Output, says, no_memory, told_or_refused}
 use Rattle.diag_edge.specs.ErrorLines.{above_line}
 
 -- the line of a sum above the budget
 abbrev pub sum_line : ℕ → List ℕ
-sum_line budget = spaced (codes "error:" ∷ codes "sum" ∷ codes "above" ∷ decimal budget ∷ [])
-
--- too many clauses
-abbrev pub not_encoded : EncodeError → Output
-not_encoded (TooManyClauses count) = says (above_line (codes "clauses") count CLAUSE_LIMIT) Refused
-not_encoded Memory = no_memory
+sum_line budget = spaced (codes "error: sum above" ∷ decimal budget ∷ [])
 
 -- the clauses of a device, if their sum is within a budget
 abbrev pub within : ℕ → Result Weighed EncodeError → Result Weighed Output
 within budget (Ok weighed) = if nat_lt budget weighed.sum then Err (says (sum_line budget) AboveBudget) else Ok weighed
-within budget (Err error) = Err (not_encoded error)
+within budget (Err (TooManyClauses count)) = Err (says (above_line (codes "clauses") count CLAUSE_LIMIT) Refused)
+within budget (Err Memory) = Err no_memory
+
+-- what is printed of a device and its clauses, if their sum is within a budget
+abbrev pub told_within : ℕ → (Device → Result Weighed EncodeError) → (Device → Weighed → Output) → Result Device Output → Output
+told_within budget clauses told found = told_or_refused (λ device. told_or_refused (told device) (within budget (clauses device))) found

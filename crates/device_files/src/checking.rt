@@ -4,10 +4,8 @@ ghost use Rattle.diag_edge.specs.ErrorLines.{fault_line};
 ghost use Rattle.nnf_text.specs.Refusals.{told};
 ghost use Rattle.device_files.specs.Output.{says};
 ghost use Rattle.device_files.specs.Checking.{graph_fault_line, graph_in};
-ghost use Rattle.device_files.specs.GraphFaults.{graph_fault_row};
 ghost use Rattle.device_files.specs.Refusals.{Finds, told_by};
 
-use crate::graph_fault::GraphFault;
 use crate::refusal::Refusal;
 use crate::status::Status;
 use nnf_text::{NnfError, read_nnf};
@@ -16,14 +14,10 @@ use std::alloc::Global;
 use text_rules::TEXT_LIMIT;
 
 // The refusal of a fault of a line.
-fn at_line(line: u32, fault: GraphFault) -> Refusal
-    ensures { told_by result ≡ Some (says (fault_line line (graph_fault_row fault).0 (graph_fault_row fault).1) Status.Refused) }
+fn at_line(line: u32, number: u32, name: &'static str) -> Refusal
+    ensures { told_by result ≡ Some (says (fault_line line number name.now) Status.Refused) }
 {
-    Refusal::Fault {
-        line,
-        number: fault.number(),
-        name: fault.name(),
-    }
+    Refusal::Fault { line, number, name }
 }
 
 // The refusal that says why a text gives no decomposable graph.
@@ -32,9 +26,9 @@ fn refused(error: NnfError) -> Refusal
 {
     match error {
         NnfError::Header => Refusal::Header,
-        NnfError::Line { line } => at_line(line, GraphFault::Line),
-        NnfError::Child { line } => at_line(line, GraphFault::Child),
-        NnfError::Variable { line } => at_line(line, GraphFault::Variable),
+        NnfError::Line { line } => at_line(line, 2, "line"),
+        NnfError::Child { line } => at_line(line, 3, "child"),
+        NnfError::Variable { line } => at_line(line, 4, "variable"),
         NnfError::Counts { said, found } => Refusal::Counts { said, found },
         NnfError::TooLarge { bits } => Refusal::Bits { bits },
         NnfError::Shared { node, var } => Refusal::Shared {

@@ -4,8 +4,8 @@ ghost use Rattle.bench_reader.specs.Netlists.{netlist};
 ghost use Rattle.bench_reader.specs.Faults.{told};
 ghost use Rattle.component_lang.specs.Reading.{design};
 ghost use Rattle.flattener.specs.Flat.{flattened};
-ghost use Rattle.device_files.specs.Describing.{netlist_line, flatten_line, or_line, design_device, described};
-ghost use Rattle.device_files.specs.Output.{says};
+ghost use Rattle.device_files.specs.Describing.{netlist_line, design_line, flatten_line, or_line, described};
+ghost use Rattle.device_files.specs.Output.{says, result_and_then};
 ghost use Rattle.device_files.specs.Refusals.{Finds, told_by};
 
 use crate::paths::is_design_path;
@@ -58,7 +58,7 @@ fn flattened_device(alloc: Global, design: &Design) -> Result<Device, Refusal>
 
 fn design_device(alloc: Global, text: &[u8]) -> Result<Device, Refusal>
     requires { length text.now ≤ TEXT_LIMIT }
-    ensures { Finds (design_device (design text.now)) result }
+    ensures { Finds (result_and_then (λ made. or_line flatten_line (flattened made)) (or_line design_line (design text.now))) result }
 {
     match read_lang(alloc, text) {
         Ok(design) => flattened_device(alloc, &design),

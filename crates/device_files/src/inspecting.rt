@@ -1,20 +1,19 @@
 //! What is printed about a file alone, with no script.
-ghost use Rattle.std.specs.Prelude.{◌≡◌, ◌≢◌, ◌⊎◌, ◌-◌, ◌^◌, ◌<◌, ◌≤◌, [], ◌∷◌, map, length, Ok};
+ghost use Rattle.std.specs.Prelude.{◌≡◌, ◌≢◌, ◌⊎◌, ◌-◌, ◌^◌, ◌<◌, ◌≤◌, [], ◌∷◌, map, length};
 ghost use Rattle.diag_edge.specs.Edge.{HasCause, RoseExactly};
 ghost use Rattle.session_rules.specs.Spelling.{Replies};
-ghost use Rattle.device_files.specs.Describing.{described};
-ghost use Rattle.device_files.specs.Inspecting.{inspection_named, count_line, size_lines, sizes_in, planned, told_decomposable, inspected};
-ghost use Rattle.device_files.specs.Choices.{ByForest, ByClauses};
+ghost use Rattle.device_files.specs.Inspecting.{inspection_named, count_line, planned, told_decomposable, inspected};
+ghost use Rattle.device_files.specs.Choices.{ByForest};
 ghost use Rattle.device_files.specs.Output.{Gives, GivesUnlessMemory};
-ghost use Rattle.device_files.specs.Refusals.{Finds};
 
 use crate::checking::graph_in;
 use crate::describing::described;
 use crate::paths::{is_device_path, is_graph_path};
-use crate::refusal::{Refusal, tell};
+use crate::refusal::tell;
 use crate::status::Status;
 use crate::weighing::clauses_within;
 use branch_states::BUDGET_LIMIT;
+use clause_encoder::Cnf;
 use device_model::Device;
 use diag_edge::{Sink, WriteFailed, put_line};
 use itoa::Buffer;
@@ -29,19 +28,6 @@ pub enum Inspection {
     Plan { narrow: bool },
     /// `check`: whether the text of a graph is decomposable, and how large it is.
     Check,
-}
-
-/// How large a device is, and the sum that the budget limits.
-#[derive(Clone, Copy, Debug, PartialEq, Eq)]
-pub struct Sizes {
-    /// The number of its parts.
-    pub parts: u64,
-    /// That of its wires.
-    pub wires: u64,
-    /// That of its clauses.
-    pub clauses: u64,
-    /// Their sum: the lists by the order of their names, in words of 64 bits, or those along a forest.
-    pub sum: u64,
 }
 
 /// A number, and what it counts.
@@ -67,26 +53,6 @@ impl Inspection {
     }
 }
 
-fn sizes_of(alloc: Global, device: &Device, is_narrow: bool) -> Result<Sizes, Refusal>
-    ensures { ByClauses is_narrow (λ clauses. Finds (sizes_in clauses (Ok device.now)) result) }
-{
-    let (cnf, sum) = clauses_within(alloc, device, BUDGET_LIMIT, is_narrow)?;
-    Ok(Sizes {
-        parts: device.parts().len() as u64,
-        wires: device.wires().len() as u64,
-        clauses: u64::from(cnf.len()),
-        sum: u64::from(sum),
-    })
-}
-
-fn sizes_in(alloc: Global, path: &str, file: &[u8], is_narrow: bool) -> Result<Sizes, Refusal>
-    requires { length file.now ≤ TEXT_LIMIT }
-    ensures { ByClauses is_narrow (λ clauses. Finds (sizes_in clauses (described path.now file.now)) result) }
-{
-    let device = described(alloc, path, file)?;
-    sizes_of(alloc, &device, is_narrow)
-}
-
 /// Puts a line of a word and a number. An error says that a write failed.
 #[tactic(auto, using(crate::proofs::Failing::line_replies))]
 pub fn put_count<O: Sink>(out: &mut O, what: &[u8], count: u64) -> Result<(), WriteFailed>
@@ -108,43 +74,33 @@ pub fn put_counts<O: Sink>(out: &mut O, counts: &[Count<'_>]) -> Result<(), Writ
     put_counts(out, rest)
 }
 
-// Puts a line for each size.
-fn put_sizes<O: Sink>(out: &mut O, sizes: Sizes) -> Result<(), WriteFailed>
-    ensures text { Replies (O.got out.old) (O.got out.new) result (size_lines sizes) }
-    ensures cause { HasCause (O.faults out.old) (O.faults out.new) result }
-{
-    put_counts(
-        out,
-        &[
-            Count {
-                what: b"parts",
-                number: sizes.parts,
-            },
-            Count {
-                what: b"wires",
-                number: sizes.wires,
-            },
-            Count {
-                what: b"clauses",
-                number: sizes.clauses,
-            },
-            Count {
-                what: b"sum",
-                number: sizes.sum,
-            },
-        ],
-    )
-}
-
-// Prints the sizes of a device and answers `Done`, or `WriteFailed`.
+// Prints the sizes of a device, of its clauses and their sum, and answers `Done`, or `WriteFailed`.
 #[tactic(auto, using(crate::proofs::Failing::gives_items))]
-fn tell_sizes<O: Sink>(out: &mut O, sizes: Sizes) -> Status
+fn tell_sizes<O: Sink>(out: &mut O, device: &Device, cnf: &Cnf, sum: u32) -> Status
     requires faults { O.faults out.old < 2 ^ 64 - 1 }
     ensures write_fault { RoseExactly (O.faults out.old) (O.faults out.new) (result ≡ Status.WriteFailed) }
     ensures either { (result ≡ Status.Done) ⊎ (result ≡ Status.WriteFailed) }
-    ensures said { Gives (planned sizes) result (O.got out.old) (O.got out.new) }
+    ensures said { Gives (planned device.now (record { list = cnf.now; sum = sum })) result (O.got out.old) (O.got out.new) }
 {
-    match put_sizes(out, sizes) {
+    let counts = [
+        Count {
+            what: b"parts",
+            number: device.parts().len() as u64,
+        },
+        Count {
+            what: b"wires",
+            number: device.wires().len() as u64,
+        },
+        Count {
+            what: b"clauses",
+            number: u64::from(cnf.len()),
+        },
+        Count {
+            what: b"sum",
+            number: u64::from(sum),
+        },
+    ];
+    match put_counts(out, &counts) {
         Ok(()) => Status::Done,
         Err(_) => Status::WriteFailed,
     }
@@ -183,8 +139,12 @@ fn plan_file<O: Sink>(alloc: Global, path: &str, file: &[u8], narrow: bool, out:
     ensures said { ByForest (λ choose.
         GivesUnlessMemory (inspected choose path.now (Inspection.Plan narrow) file.now) result (O.got out.old) (O.got out.new)) }
 {
-    match sizes_in(alloc, path, file, narrow) {
-        Ok(sizes) => tell_sizes(out, sizes),
+    let device = match described(alloc, path, file) {
+        Ok(device) => device,
+        Err(refusal) => return tell(out, refusal),
+    };
+    match clauses_within(alloc, &device, BUDGET_LIMIT, narrow) {
+        Ok((cnf, sum)) => tell_sizes(out, &device, &cnf, sum),
         Err(refusal) => tell(out, refusal),
     }
 }

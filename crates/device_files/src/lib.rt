@@ -3,7 +3,6 @@
 
 mod checking;
 mod describing;
-mod graph_fault;
 mod inspecting;
 mod paths;
 mod refusal;
@@ -12,8 +11,7 @@ mod weighing;
 
 pub use checking::graph_in;
 pub use describing::{described, netlist_device, netlist_refusal};
-pub use graph_fault::GraphFault;
-pub use inspecting::{Count, Inspection, Sizes, inspect_file, put_count, put_counts};
+pub use inspecting::{Count, Inspection, inspect_file, put_count, put_counts};
 pub use paths::{is_design_path, is_device_path, is_graph_path, is_netlist_path};
 pub use refusal::{Refusal, above, tell};
 pub use status::Status;

@@ -1,6 +1,6 @@
 //! What a file is by the ending of its path.
-ghost use Rattle.std.specs.Prelude.{◌≡◌};
-ghost use Rattle.device_files.specs.Paths.{ends_in, is_design_path, is_netlist_path, is_device_path, is_graph_path};
+ghost use Rattle.std.specs.Prelude.{◌≡◌, codes};
+ghost use Rattle.device_files.specs.Paths.{ends_in, is_device_path};
 
 // Whether something stands before an ending.
 fn ends_in(ending: &[u8], path: &str) -> bool
@@ -11,14 +11,14 @@ fn ends_in(ending: &[u8], path: &str) -> bool
 
 /// Whether a file is a design: `.dev`, after at least one more byte.
 pub fn is_design_path(path: &str) -> bool
-    ensures { result ≡ is_design_path path.now }
+    ensures { result ≡ ends_in (codes ".dev") path.now }
 {
     ends_in(b".dev", path)
 }
 
 /// Whether a file is a netlist: `.bench`, after at least one more byte.
 pub fn is_netlist_path(path: &str) -> bool
-    ensures { result ≡ is_netlist_path path.now }
+    ensures { result ≡ ends_in (codes ".bench") path.now }
 {
     ends_in(b".bench", path)
 }
@@ -32,7 +32,7 @@ pub fn is_device_path(path: &str) -> bool
 
 /// Whether a file is a graph: `.nnf`, after at least one more byte.
 pub fn is_graph_path(path: &str) -> bool
-    ensures { result ≡ is_graph_path path.now }
+    ensures { result ≡ ends_in (codes ".nnf") path.now }
 {
     ends_in(b".nnf", path)
 }

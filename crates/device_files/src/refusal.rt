@@ -1,14 +1,13 @@
 ghost use Rattle.std.specs.Prelude.{◌≡◌, ◌≢◌, ◌-◌, ◌^◌, ◌<◌, Some};
 ghost use Rattle.diag_edge.specs.Edge.{HasCause, RoseExactly, Puts};
 ghost use Rattle.diag_edge.specs.ErrorLines.{above_line};
-ghost use Rattle.nnf_text.specs.GraphTexts.{NoHeader, Counts, TooLarge, Shared};
+ghost use Rattle.nnf_text.specs.GraphTexts.{Counts, TooLarge, Shared};
 ghost use Rattle.device_files.specs.declared.refusal.Refusal.TheVariants.{Memory};
 ghost use Rattle.device_files.specs.Checking.{graph_fault_line};
 ghost use Rattle.device_files.specs.Weighing.{sum_line};
 ghost use Rattle.device_files.specs.Output.{Gives, says};
 ghost use Rattle.device_files.specs.Refusals.{refusal_line, refusal_status, told_by, or_memory};
 
-use crate::graph_fault::GraphFault;
 use crate::status::Status;
 use diag_edge::{Sink, WriteFailed, put_above, put_fault, put_line};
 use itoa::Buffer;
@@ -86,22 +85,6 @@ pub fn above(what: &'static str, count: u64, limit: usize) -> Refusal
     }
 }
 
-// The line saying that there is no header.
-fn put_no_header<O: Sink>(out: &mut O) -> Result<(), WriteFailed>
-    ensures text { Puts (O.got out.old) (O.got out.new) result (graph_fault_line NoHeader) }
-    ensures cause { HasCause (O.faults out.old) (O.faults out.new) result }
-{
-    put_line(
-        out,
-        &[
-            b"error:",
-            b"fault",
-            Buffer::new().format(GraphFault::Header.number()).as_bytes(),
-            GraphFault::Header.name().as_bytes(),
-        ],
-    )
-}
-
 // The line of numbers that are not those said.
 fn put_counts<O: Sink>(out: &mut O, said: u64, found: u64) -> Result<(), WriteFailed>
     ensures text { Puts (O.got out.old) (O.got out.new) result (graph_fault_line (Counts said found)) }
@@ -110,10 +93,7 @@ fn put_counts<O: Sink>(out: &mut O, said: u64, found: u64) -> Result<(), WriteFa
     put_line(
         out,
         &[
-            b"error:",
-            b"fault",
-            Buffer::new().format(GraphFault::Counts.number()).as_bytes(),
-            GraphFault::Counts.name().as_bytes(),
+            b"error: fault 5 counts",
             Buffer::new().format(said).as_bytes(),
             Buffer::new().format(found).as_bytes(),
         ],
@@ -128,10 +108,7 @@ fn put_bits<O: Sink>(out: &mut O, bits: u64) -> Result<(), WriteFailed>
     put_line(
         out,
         &[
-            b"error:",
-            b"fault",
-            Buffer::new().format(GraphFault::Bits.number()).as_bytes(),
-            GraphFault::Bits.name().as_bytes(),
+            b"error: fault 6 bits",
             Buffer::new().format(bits).as_bytes(),
             b"above",
             Buffer::new().format(BITS_LIMIT).as_bytes(),
@@ -147,11 +124,7 @@ fn put_shared<O: Sink>(out: &mut O, node: u32, variable: u32) -> Result<(), Writ
     put_line(
         out,
         &[
-            b"error:",
-            b"fault",
-            Buffer::new().format(GraphFault::Shared.number()).as_bytes(),
-            GraphFault::Shared.name().as_bytes(),
-            b"node",
+            b"error: fault 7 shared node",
             Buffer::new().format(node).as_bytes(),
             b"variable",
             Buffer::new().format(variable).as_bytes(),
@@ -166,12 +139,7 @@ fn put_sum<O: Sink>(out: &mut O, budget: u32) -> Result<(), WriteFailed>
 {
     put_line(
         out,
-        &[
-            b"error:",
-            b"sum",
-            b"above",
-            Buffer::new().format(budget).as_bytes(),
-        ],
+        &[b"error: sum above", Buffer::new().format(budget).as_bytes()],
     )
 }
 
@@ -182,7 +150,7 @@ fn put_refusal<O: Sink>(out: &mut O, refusal: Refusal) -> Result<(), WriteFailed
 {
     match refusal {
         Refusal::Fault { line, number, name } => put_fault(out, line, number, name.as_bytes()),
-        Refusal::Header => put_no_header(out),
+        Refusal::Header => out.put(b"error: fault 1 header\n"),
         Refusal::Counts { said, found } => put_counts(out, said, found),
         Refusal::Bits { bits } => put_bits(out, bits),
         Refusal::Shared { node, variable } => put_shared(out, node, variable),

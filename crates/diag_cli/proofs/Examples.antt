@@ -4,11 +4,14 @@ use Rattle.std.specs.Fmt.{digits}
 use Rattle.state_rules.specs.Systems.{no_extras}
 use Rattle.session_rules.specs.Items.{Item, Plain}
 use Rattle.device_files.specs.declared.status.Status.TheVariants.{Done, ReadFailed, CutShort}
+use Rattle.device_files.specs.Output.{too_long_line}
+use Rattle.text_rules.specs.declared.text_lines.TheConstants.{TEXT_LIMIT}
+use Rattle.diag_cli.specs.declared.serving.TheConstants.{SCRIPT_LIMIT}
 use Rattle.diag_cli.specs.declared.words.ServeOptions.{ServeOptions}
 use Rattle.diag_cli.specs.declared.words.Command.TheVariants.{Serve, ServeFrames, Ask, Compile}
 use Rattle.diag_cli.specs.Words.{Load, Over, form_of}
-use Rattle.diag_cli.specs.Besides.{levels_bits, least_bits, bits_line}
-use Rattle.diag_cli.specs.Courses.{Ended, Failed, Cut, read_error, long_file_line, script_too_long, served}
+use Rattle.diag_cli.specs.inner.Bits.{levels_bits, least_bits, bits_line}
+use Rattle.diag_cli.specs.Courses.{Ended, Failed, Cut, read_error, served}
 
 -- ---- words with a form
 
@@ -79,16 +82,16 @@ ended = refl
 failed : served itself half Failed ≡ record { items = Plain (codes "open S") ∷ Plain read_error ∷ []; status = ReadFailed }
 failed = refl
 
-cut : served itself half Cut ≡ record { items = Plain (codes "open S") ∷ Plain script_too_long ∷ []; status = CutShort }
+cut : served itself half Cut ≡ record { items = Plain (codes "open S") ∷ Plain (too_long_line (codes "script") SCRIPT_LIMIT) ∷ []; status = CutShort }
 cut = refl
 
 -- ---- lines that print a limit
 
-a_long_script : script_too_long ≡ codes "error: script above 1099511627776 bytes\n"
+a_long_script : too_long_line (codes "script") SCRIPT_LIMIT ≡ codes "error: script above 1099511627776 bytes\n"
 unfolding digits
 a_long_script = refl
 
-a_long_file : long_file_line ≡ codes "error: file above 16777216 bytes\n"
+a_long_file : too_long_line (codes "file") TEXT_LIMIT ≡ codes "error: file above 16777216 bytes\n"
 unfolding digits
 a_long_file = refl
 

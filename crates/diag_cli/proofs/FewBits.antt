@@ -15,7 +15,8 @@ use Rattle.device_files.specs.declared.refusal.Refusal.{Refusal}
 use Rattle.device_files.specs.Choices.{Weighed}
 use Rattle.device_files.specs.Output.{Output, says}
 use Rattle.device_files.specs.Refusals.{told_by}
-use Rattle.diag_cli.specs.Besides.{levels_bits, least_bits, bits_line, if_few, in_few_bits}
+use Rattle.diag_cli.specs.Besides.{if_few, in_few_bits}
+use Rattle.diag_cli.specs.inner.Bits.{levels_bits, least_bits, bits_line}
 use Rattle.diag_cli.specs.inner.Compiling.{IsGraphBy}
 use Rattle.diag_cli.specs.inner.Serving.{CanTell}
 

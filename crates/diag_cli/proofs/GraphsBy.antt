@@ -12,7 +12,7 @@ use Rattle.dnnf_compiler.specs.declared.compiling.Compiled.{Compiled}
 use Rattle.dnnf_compiler.specs.Compiled.{IsCompiled}
 use Rattle.dnnf_compiler.specs.Along.{IsCompiledAlong}
 use Rattle.device_files.specs.declared.refusal.Refusal.{Refusal}
-use Rattle.device_files.specs.Choices.{Weighed, by_names, along, HasSum}
+use Rattle.device_files.specs.Choices.{Weighed, HasSum}
 use Rattle.device_files.specs.Refusals.{told_by}
 use Rattle.device_files.specs.Weighing.{within}
 use Rattle.device_files.proofs.Choosing.{kept_within}
@@ -20,10 +20,10 @@ use Rattle.diag_cli.specs.inner.Compiling.{IsGraphBy}
 
 -- ---- a graph
 
-pub graph_along : (list : ClauseList) (forest : Forest) (compiled : Compiled) → IsCompiledAlong forest list compiled → IsGraphBy (along forest list) compiled.graph
+pub graph_along : (list : ClauseList) (forest : Forest) (compiled : Compiled) → IsCompiledAlong forest list compiled → IsGraphBy (record { list = list; sum = forest_sum Lists forest list.clauses }) compiled.graph
 graph_along list forest compiled is = record { decomposable = is.decomposable; vars = is.vars; truth = is.truth; few_nodes = omega (arith, is.few_made, is.few_nodes) }
 
-pub graph_by_names : (list : ClauseList) (compiled : Compiled) → IsCompiled list compiled → IsGraphBy (by_names list) compiled.graph
+pub graph_by_names : (list : ClauseList) (compiled : Compiled) → IsCompiled list compiled → IsGraphBy (record { list = list; sum = sum_of list.clauses }) compiled.graph
 graph_by_names list compiled is = record { decomposable = is.decomposable; vars = is.vars; truth = is.truth; few_nodes = omega (arith, is.few_made, is.few_nodes) }
 
 -- ---- by each sum that they have

@@ -10,7 +10,9 @@ pub mod Services
 pub mod ServedFrames
 pub mod Unread
 pub mod Scripts
+pub mod Endings
 pub mod Headline
+pub mod Details
 pub mod WholeGraphs
 pub mod LoadedAdders
 pub mod GateDevices

@@ -1,17 +1,23 @@
 -- From the bytes of a script that were taken to the whole script.
-use Rattle.std.proofs.Common.{◌≡◌, ◌<◌, ◌≤◌, ◌-◌, ◌+◌, ℕ, false, List, [], ◌∷◌, ◌++◌, length, take, Option, Some, None, inl, inr, refl, ◌∙◌, ap, subst, sym, arith, nat_lt, append-nil, take_all, if◌then◌else◌}
+use Rattle.std.proofs.Common.{◌≡◌, ◌⊎◌, ◌<◌, ◌≤◌, ◌-◌, ◌+◌, ℕ, false, List, [], ◌∷◌, ◌++◌, length, take, Option, Some, None, inl, inr, refl, ◌∙◌, ap, subst, sym, arith, nat_lt, append-nil, take_all, codes, if◌then◌else◌}
 use Rattle.std.proofs.lemmas.Grind.{common_steps}
 use Rattle.std.specs.Io.KnownBytes.{Consumes, IsAtEnd}
 use Rattle.std.proofs.lemmas.Bool.{lt-ltb, cases_lt}
 use Rattle.std.proofs.Math.Seq.{take-append_seam, take-append-add}
 use Rattle.text_rules.specs.TextLines.{whole_lines, all_lines}
+use Rattle.diag_edge.specs.Edge.{Reading}
 use Rattle.session_rules.specs.Items.{Item, Plain}
 use Rattle.session_rules.specs.Spelling.{WritesPart}
 use Rattle.session_rules.proofs.Begun.{part_more}
 use Rattle.session_rules.proofs.LineFronts.{whole_lines-front, all_lines-front}
+use Rattle.device_files.specs.Output.{too_long_line}
 use Rattle.diag_cli.specs.declared.serving.TheConstants.{SCRIPT_LIMIT}
-use Rattle.diag_cli.specs.Courses.{End, Ended, Failed, Cut, script_too_long, served, wholly_served, end_of}
-use Rattle.diag_cli.specs.Following.{EndsAs, AreTaken}
+use Rattle.diag_cli.specs.Courses.{End, Ended, Failed, Cut, served}
+use Rattle.diag_cli.specs.Following.{EndsAs}
+use Rattle.diag_cli.specs.Details.{wholly_served, end_of}
+
+abbrev script_too_long : List ℕ
+script_too_long = too_long_line (codes "script") SCRIPT_LIMIT
 
 -- ---- what was taken is what was there, up to the limit
 
@@ -29,12 +35,19 @@ module _ (limit : ℕ) (script bytes left : List ℕ) (took : script ≡ bytes +
       let long : nat_lt (length script) limit ≡ false = grind (arith, common_steps, took, many) in
       (rw (took, ← many) (sym (take-append_seam bytes left)), rw long)
 
-pub taken_all : (script : List ℕ) (after : Option (List ℕ)) (bytes : List ℕ) (end : End) (i j : ℕ) → j ≡ i → Consumes (Some script) after bytes → EndsAs end bytes (IsAtEnd after) (i < j) (j ≡ i)
+at_the_end : (script bytes : List ℕ) (after : Option (List ℕ)) → Consumes (Some script) after bytes → IsAtEnd after → length bytes < SCRIPT_LIMIT → (bytes ≡ take SCRIPT_LIMIT script) × (Ended ≡ end_of script)
+at_the_end script bytes None took none short = absurd took
+at_the_end script bytes (Some left) took none short = taken_to_end SCRIPT_LIMIT script bytes left took none short
+
+at_the_limit : (script bytes : List ℕ) (after : Option (List ℕ)) → Consumes (Some script) after bytes → length bytes ≡ SCRIPT_LIMIT → (bytes ≡ take SCRIPT_LIMIT script) × (Cut ≡ end_of script)
+at_the_limit script bytes None took many = absurd took
+at_the_limit script bytes (Some left) took many = taken_to_limit SCRIPT_LIMIT script bytes left took many
+
+pub taken_all : (script : List ℕ) (input new_input : Reading) (bytes : List ℕ) (end : End) → new_input.faults ≡ input.faults → Consumes (Some script) new_input.left bytes → EndsAs end bytes input new_input
     → (bytes ≡ take SCRIPT_LIMIT script) × (end ≡ end_of script)
-taken_all script None bytes end i j same took is = absurd took
-taken_all script (Some left) bytes Ended i j same took is = taken_to_end SCRIPT_LIMIT script bytes left took is.0 is.1
-taken_all script (Some left) bytes Failed i j same took is = absurd (let never : ⊥ = omega (arith, is.1, same) in never)
-taken_all script (Some left) bytes Cut i j same took is = taken_to_limit SCRIPT_LIMIT script bytes left took is.0
+taken_all script input new_input bytes Ended same took is = at_the_end script bytes new_input.left took is.0 is.1
+taken_all script input new_input bytes Failed same took is = absurd (let never : ⊥ = omega (arith, is.1, same) in never)
+taken_all script input new_input bytes Cut same took is = at_the_limit script bytes new_input.left took is.0
 
 -- ---- what begins the answers to lines and to any that follow begins the output of the whole script
 
@@ -78,6 +91,10 @@ module _ (limit : ℕ) (answers : List (List ℕ) → List Item) (script bytes r
       let all : script ≡ bytes = is ∙ ap (λ r. bytes ++ r) none ∙ append-nil bytes in
       let small : length script < limit = omega (arith, ap length all, short) in
       below small [] (append-nil lines ∙ are ∙ ap all_lines (sym all))
+
+-- so many lines are taken of bytes
+abbrev AreTaken : List (List ℕ) → List ℕ → Type 0 → Type 0
+AreTaken lines bytes at_end = ((length bytes ≤ SCRIPT_LIMIT) × (lines ≡ whole_lines bytes)) ⊎ (at_end × (length bytes < SCRIPT_LIMIT) × (lines ≡ all_lines bytes))
 
 pub broken_begins_all : (answers : List (List ℕ) → List Item) (script bytes : List ℕ) (left : Option (List ℕ)) (lines : List (List ℕ)) (a b : Option (List ℕ)) → Consumes (Some script) left bytes
     → AreTaken lines bytes (IsAtEnd left) → ((more : List (List ℕ)) → WritesPart a b (answers (lines ++ more))) → WritesPart a b (wholly_served answers script).items

@@ -1,5 +1,5 @@
 -- What holds of what the ends are at holds of what they show.
-use Rattle.std.proofs.Common.{◌≡◌, ℕ, List, Option, sym, ap, subst₂, refl}
+use Rattle.std.proofs.Common.{◌≡◌, ℕ, List, Option, inl, inr, sym, ap, subst₂, refl}
 use Rattle.diag_edge.specs.Edge.{Reading, Writing, Holding}
 use Rattle.clause_encoder.specs.Clauses.{ClauseList}
 use Rattle.elimination_forests.specs.Forests.{Forest}
@@ -8,7 +8,8 @@ use Rattle.device_files.specs.declared.status.Status.{Status}
 use Rattle.device_files.specs.Output.{Output, Gives, GivesUnlessMemory}
 use Rattle.diag_cli.specs.Words.{Form}
 use Rattle.diag_cli.specs.Courses.{Tells}
-use Rattle.diag_cli.specs.Following.{IsServed, Follows}
+use Rattle.diag_cli.specs.Following.{IsServed}
+use Rattle.diag_cli.specs.inner.Serving.{FollowsUnlessMemory}
 use Rattle.diag_cli.specs.Runs.{IsRun}
 
 pub at_ends : (Holds : Reading → Reading → Writing → Writing → Type 0) {input new_input input_shown new_input_shown : Reading} {out new_out out_shown new_out_shown : Writing}
@@ -29,8 +30,9 @@ gives_shown {output} {status} a b said = at_sink (Gives output status) a b said
 -- nothing was read, and an output was given
 pub told_shown : {output : Output} {status : Status} {input : Reading} {before after : Option (List ℕ)} {faults new_faults : ℕ} {out new_out : Writing}
     → out ≡ record { got = before; faults = faults } → new_out ≡ record { got = after; faults = new_faults } → GivesUnlessMemory output status before after
-    → Follows (Tells output) input input out new_out status
-told_shown {output} {status} a b said = (record { left = refl; taken = refl; faults = refl }, at_sink (GivesUnlessMemory output status) a b said)
+    → FollowsUnlessMemory (Tells output) input input out new_out status
+told_shown a b (inl said) = inl (record { left = refl; taken = refl; faults = refl }, gives_shown a b said)
+told_shown a b (inr said) = inr (record { left = refl; taken = refl; faults = refl }, gives_shown a b said)
 
 -- a script that was served, and a run
 pub served_shown : {answers : List (List ℕ) → List Item} {status : Status} {input new_input input_shown new_input_shown : Reading} {out new_out out_shown new_out_shown : Writing}

@@ -1,7 +1,6 @@
 -- What is given if a device is compiled.
-use Rattle.std.proofs.Common.{◌≡◌, ℕ, ◌≤◌, true, List, [], ◌∷◌, length, Option, Result, Ok, refl, sym, ◌∙◌, ap, subst, inr}
+use Rattle.std.proofs.Common.{◌≡◌, ℕ, ◌≤◌, true, List, [], ◌∷◌, length, Option, Result, Ok, refl, sym, ◌∙◌, ap, subst}
 use Rattle.std.specs.Prelude.{MatchResult}
-use Rattle.text_rules.specs.Expected.{IsExpectedFault}
 use Rattle.text_rules.specs.Tokens.{is_neat}
 use Rattle.state_rules.specs.Graphs.{Graph}
 use Rattle.diag_edge.specs.Edge.{Puts}
@@ -15,21 +14,14 @@ use Rattle.session_rules.specs.Spelling.{IsWholeOf}
 use Rattle.session_rules.proofs.Spellings.{replies_one}
 use Rattle.device_files.specs.declared.status.Status.{Status}
 use Rattle.device_files.specs.declared.status.Status.TheVariants.{Done, WriteFailed}
-use Rattle.device_files.specs.Output.{Output, Gives, GivesUnlessMemory, told_or_refused}
+use Rattle.device_files.specs.Output.{Output, GivesUnlessMemory}
 use Rattle.device_files.specs.Describing.{described}
 use Rattle.device_files.specs.Choices.{Weighed}
-use Rattle.device_files.specs.Weighing.{within}
-use Rattle.device_files.specs.Refusals.{or_memory}
+use Rattle.device_files.specs.Weighing.{within, told_within}
 use Rattle.device_files.proofs.Failing.{replies_give}
-use Rattle.device_files.proofs.Refusing.{refused_told}
-use Rattle.diag_cli.specs.Courses.{graph_by, compiled}
+use Rattle.device_files.proofs.Refusing.{within_told}
+use Rattle.diag_cli.specs.Courses.{graph_by}
 use Rattle.diag_cli.specs.inner.Serving.{IsServable}
-
--- there are too many clauses, or their sum is above the budget
-pub not_compiled : (fault : Option Output) (path file : List ℕ) (budget : ℕ) (clauses : Device → Result Weighed EncodeError) (device : Device) (status : Status) (a b : Option (List ℕ)) → described path file ≡ Ok device
-    → IsExpectedFault fault (within budget (clauses device)) → Gives (or_memory fault) status a b → GivesUnlessMemory (compiled budget clauses (described path file)) status a b
-not_compiled fault path file budget clauses device status a b is refused said =
-    subst (λ found. GivesUnlessMemory (compiled budget clauses found) status a b) (sym is) (refused_told (graph_by device) (within budget (clauses device)) fault status a b refused said)
 
 module _ (path file : List ℕ) (budget : ℕ) (clauses : Device → Result Weighed EncodeError) (device : Device) (weighed : Weighed) (graph : Graph) (status : Status) (a b : Option (List ℕ)) where
   abbrev most : ℕ
@@ -37,9 +29,6 @@ module _ (path file : List ℕ) (budget : ℕ) (clauses : Device → Result Weig
 
   abbrev output : Output
   output = record { items = Whole device weighed.list.vars most ∷ []; status = Done }
-
-  output_is : described path file ≡ Ok device → within budget (clauses device) ≡ Ok weighed → compiled budget clauses (described path file) ≡ output
-  output_is is list = ap (compiled budget clauses) is ∙ ap (told_or_refused (graph_by device)) list
 
   is_whole : IsServable device graph → graph.vars ≡ weighed.list.vars → length graph.nodes ≤ most → IsWholeOf device weighed.list.vars most (Ok graph)
   is_whole is vars few_nodes = (vars, is.valid.nodes.apart, few_nodes, is.meaning)
@@ -50,10 +39,10 @@ module _ (path file : List ℕ) (budget : ℕ) (clauses : Device → Result Weig
       → IsServable device graph → graph.vars ≡ weighed.list.vars → length graph.nodes ≤ most
       → is_neat (graph_text (record graph { vars = vars })) ≡ true → parsed (graph_text (record graph { vars = vars })) ≡ Ok (record graph { vars = vars })
       → Puts a b result (graph_text (record graph { vars = vars })) → MatchResult result (λ _. status ≡ Done) (λ _. status ≡ WriteFailed)
-      → GivesUnlessMemory (compiled budget clauses (described path file)) status a b
+      → GivesUnlessMemory (told_within budget clauses graph_by (described path file)) status a b
   graph_gives result vars same is list servable of_cnf few_nodes neat reads puts ends =
-      inr (subst (λ (o : Output). Gives o status a b) (sym (output_is is list))
-      (replies_give output status a b result (λ five. let never : ⊥ = cc in never) (replies_one a b result (Whole device weighed.list.vars most) _ ((neat, (record graph { vars = vars }, refl)), spelled) puts) ends))
+      within_told budget clauses graph_by (described path file) device weighed status a b is list
+      (replies_give output status a b result (λ five. let never : ⊥ = cc in never) (replies_one a b result (Whole device weighed.list.vars most) _ ((neat, (record graph { vars = vars }, refl)), spelled) puts) ends)
     where
       spelled : IsWholeOf device weighed.list.vars most (parsed (graph_text (record graph { vars = vars })))
       spelled = subst (IsWholeOf device weighed.list.vars most) (sym (reads ∙ ap (λ n. Ok (record graph { vars = n })) same)) (is_whole servable of_cnf few_nodes)

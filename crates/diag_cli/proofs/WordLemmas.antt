@@ -13,12 +13,12 @@ use Rattle.frame_unroller.specs.declared.unrolling.TheConstants.{FRAME_LIMIT}
 use Rattle.level_lister.specs.declared.levels.TheConstants.{TOP_LIMIT}
 use Rattle.session_core.specs.declared.limits.TheConstants.{SESSION_LIMIT}
 use Rattle.diag_cli.specs.declared.words.TheConstants.{DEFAULT_BUDGET, DEFAULT_SESSIONS}
-use Rattle.diag_cli.specs.declared.words.Numbers.{Numbers}
+use Rattle.diag_cli.specs.declared.words.Takes.TheVariants.{Nothing, Number}
 use Rattle.diag_cli.specs.declared.words.ServeOptions.{ServeOptions}
-use Rattle.diag_cli.specs.declared.words.Command.TheVariants.{Serve, ServeFrames, Inspect, Compile}
+use Rattle.diag_cli.specs.declared.words.Command.TheVariants.{Serve, ServeFrames, Ask, Inspect, Compile}
 use Rattle.diag_cli.specs.declared.words.Form.{Form as FormRead}
-use Rattle.diag_cli.specs.Words.{Form, Load, Over, words_after, is_given, are_options, first_number, number_given, serve_options, form_serve, form_by, ask_by, form_ask, form_load, form_by_words, form_of}
-use Rattle.device_files.specs.Paths.{is_netlist_path, is_device_path}
+use Rattle.diag_cli.specs.Words.{Form, Load, Over, words_after, is_given, are_options, first_number, number_given, serve_options, form_serve, form_by, form_ask, form_load, form_by_words, form_of}
+use Rattle.device_files.specs.Paths.{ends_in, is_device_path}
 use Rattle.device_files.specs.declared.inspecting.Inspection.{Inspection}
 use Rattle.device_files.specs.Inspecting.{inspection_named}
 use Rattle.diag_cli.specs.inner.Forms.{meant, AreWithinLimits, IsWithinLimits}
@@ -66,10 +66,10 @@ plain_number_in-range most low high word =
       | false ↦ number_in-range most low high word
     ]
 
-number_within : (numbers : Numbers) (found : Option (List (List ℕ))) → IfSome (option_and_then (first_number (Some numbers)) found) (IsWithin numbers.least numbers.most)
-number_within numbers None = tt
-number_within numbers (Some []) = tt
-number_within numbers (Some (word ∷ words)) = plain_number_in-range numbers.digits numbers.least numbers.most word
+number_within : (digits least most : ℕ) (found : Option (List (List ℕ))) → IfSome (option_and_then (first_number (Number digits least most)) found) (IsWithin least most)
+number_within digits least most None = tt
+number_within digits least most (Some []) = tt
+number_within digits least most (Some (word ∷ words)) = plain_number_in-range digits least most word
 
 or_default : (P : ℕ → Type 0) (given : Option ℕ) (number : ℕ) → IfSome given P → P number → P (unwrap_or given number)
 or_default P None number is fits = fits
@@ -85,7 +85,7 @@ only_within false form is = tt
 
 serve_within : (path : List ℕ) (options : ServeOptions) (frames : Option ℕ) → AreWithinLimits options → IfSome frames (IsWithin 1 FRAME_LIMIT) → IfSome (form_serve path options frames) IsWithinLimits
 serve_within path options None are times = only_within (is_device_path path) (Over path (Serve options)) are
-serve_within path options (Some frames) are times = only_within (is_netlist_path path) (Over path (ServeFrames frames options)) (times.0, times.1, are)
+serve_within path options (Some frames) are times = only_within (ends_in (codes ".bench") path) (Over path (ServeFrames frames options)) (times.0, times.1, are)
 
 top_within : (levels : Option ℕ) → IfSome levels (IsWithin 0 TOP_LIMIT) → IfSome levels (λ top. top ≤ TOP_LIMIT)
 top_within None is = tt
@@ -99,12 +99,12 @@ of_command false form other is others = others
 sessions_within : (words : List (List ℕ)) → IsWithin 1 SESSION_LIMIT (unwrap_or (number_given (codes "serve") (codes "--sessions") words) DEFAULT_SESSIONS)
 sessions_within words =
     or_default (IsWithin 1 SESSION_LIMIT) (number_given (codes "serve") (codes "--sessions") words) DEFAULT_SESSIONS
-    (number_within (record { digits = 4; least = 1; most = SESSION_LIMIT }) (words_after (codes "--sessions") words)) (lit≤ tt, lit≤ tt)
+    (number_within 4 1 SESSION_LIMIT (words_after (codes "--sessions") words)) (lit≤ tt, lit≤ tt)
 
 budget_within : (words : List (List ℕ)) → IsWithin 1 BUDGET_LIMIT (unwrap_or (number_given (codes "serve") (codes "--budget") words) DEFAULT_BUDGET)
 budget_within words =
     or_default (IsWithin 1 BUDGET_LIMIT) (number_given (codes "serve") (codes "--budget") words) DEFAULT_BUDGET
-    (number_within (record { digits = 7; least = 1; most = BUDGET_LIMIT }) (words_after (codes "--budget") words)) (lit≤ tt, lit≤ tt)
+    (number_within 7 1 BUDGET_LIMIT (words_after (codes "--budget") words)) (lit≤ tt, lit≤ tt)
 
 or_none : (are : Bool) (form : Option Form) → GivesWithin form → GivesWithin (if are then form else None)
 or_none true form is = is
@@ -120,10 +120,10 @@ form_by_within command path words =
     let sessions = sessions_within words in
     let levels = number_given (codes "serve") (codes "--levels") words in
     let frames = number_given (codes "serve") (codes "--frames") words in
-    let top = top_within levels (number_within (record { digits = 7; least = 0; most = TOP_LIMIT }) (words_after (codes "--levels") words)) in
+    let top = top_within levels (number_within 7 0 TOP_LIMIT (words_after (codes "--levels") words)) in
     let served : AreWithinLimits (serve_options words) = record { budget = budget.1; some = sessions.0; few = sessions.1; top = top } in
     of_command (same_name command (codes "serve")) (form_serve path (serve_options words) frames) _
-    (serve_within path (serve_options words) frames served (number_within (record { digits = 2; least = 1; most = FRAME_LIMIT }) (words_after (codes "--frames") words)))
+    (serve_within path (serve_options words) frames served (number_within 2 1 FRAME_LIMIT (words_after (codes "--frames") words)))
     (of_command (same_name command (codes "compile")) _ _
     (only_within (is_device_path path) (Over path (Compile (unwrap_or (number_given (codes "compile") (codes "--budget") words) DEFAULT_BUDGET) (is_given (codes "--narrow") words))) budget.1)
     (record { given = inspect_within path (inspection_named command path (is_given (codes "--narrow") words)) }))
@@ -136,13 +136,16 @@ form_load_within : (places : List ℕ) (words : List (List ℕ)) → IfSome (for
 form_load_within places [] = load_within (plain_number_in 3 1 PLACE_LIMIT places) (plain_number_in-range 3 1 PLACE_LIMIT places)
 form_load_within places (word ∷ words) = tt
 
-ask_within : (path : List ℕ) (words : List (List ℕ)) (parts : Option ℕ) → IfSome parts (IsWithin 0 PART_LIMIT) → IfSome (option_and_then (ask_by path words) parts) IsWithinLimits
-ask_within path words None is = tt
-ask_within path words (Some parts) is = let sessions = sessions_within words in only_within _ _ (is.1, sessions.0, sessions.1)
+ask_within : (taken : Bool) (path : List ℕ) (sessions : ℕ) (parts : Option ℕ) → IsWithin 1 SESSION_LIMIT sessions → IfSome parts (IsWithin 0 PART_LIMIT)
+    → IfSome (option_and_then (λ n. then_some taken (Over path (Ask n sessions))) parts) IsWithinLimits
+ask_within taken path sessions None few is = tt
+ask_within taken path sessions (Some parts) few is = only_within taken (Over path (Ask parts sessions)) (is.1, few.0, few.1)
 
 form_ask_within : (path : List ℕ) (words : List (List ℕ)) → IfSome (form_ask path words) IsWithinLimits
 form_ask_within path [] = tt
-form_ask_within path (health ∷ words) = ask_within path words (plain_number_in 4 0 PART_LIMIT health) (plain_number_in-range 4 0 PART_LIMIT health)
+form_ask_within path (health ∷ words) =
+    ask_within (are_options (codes "ask") Nothing words && ends_in (codes ".nnf") path) path (unwrap_or (number_given (codes "ask") (codes "--sessions") words) DEFAULT_SESSIONS)
+    (plain_number_in 4 0 PART_LIMIT health) (sessions_within words) (plain_number_in-range 4 0 PART_LIMIT health)
 
 form_of_within : (words : List (List ℕ)) → IfSome (form_of words) IsWithinLimits
 form_of_within [] = tt
@@ -150,7 +153,7 @@ form_of_within (command ∷ []) = tt
 form_of_within (command ∷ next ∷ words) =
     (of_command (same_name command (codes "load")) (form_load next words) _ (form_load_within next words)
     (of_command (same_name command (codes "ask")) (form_ask next words) _ (form_ask_within next words)
-    (or_none (are_options command None words) (form_by command next words) (form_by_within command next words)))).given
+    (or_none (are_options command Nothing words) (form_by command next words) (form_by_within command next words)))).given
 
 pub meant_within : (form : Option FormRead) (words : List (List ℕ)) → option_map meant form ≡ form_of words → IfSome form (λ f. IsWithinLimits (meant f))
 meant_within None words is = tt

@@ -1,6 +1,5 @@
 -- What a run comes to by its words and its file: an output, or a script whose lines are answered.
-use Rattle.std.specs.Prelude.{ℕ, List, [], ◌∷◌, ◌++◌, length, take, Option, Some, None, Result, Ok, Err, codes, nat_le, nat_lt, if◌then◌else◌}
-use Rattle.std.specs.Option.{option_map}
+use Rattle.std.specs.Prelude.{ℕ, List, [], ◌∷◌, ◌++◌, length, Option, Some, None, Result, Ok, Err, codes, nat_le, if◌then◌else◌}
 use Rattle.std.specs.Result.{result_and}
 use Rattle.std.specs.Fmt.{decimal}
 use Rattle.text_rules.specs.declared.text_lines.TheConstants.{TEXT_LIMIT}
@@ -20,10 +19,10 @@ use Rattle.session_rules.specs.Items.{Item, Plain, Whole, line}
 use Rattle.session_rules.specs.Sessions.{replies}
 use Rattle.session_rules.specs.GraphSystems.{system_of}
 use Rattle.device_files.specs.declared.status.Status.TheVariants.{Done, Refused, Usage, ReadFailed, CutShort}
-use Rattle.device_files.specs.Output.{Output, says, too_long_line, no_memory, result_and_then, told_or_refused}
+use Rattle.device_files.specs.Output.{Output, says, too_long_line, no_memory, result_and_then}
 use Rattle.device_files.specs.Describing.{described}
 use Rattle.device_files.specs.Choices.{Weighed, weighed_by, clauses_by}
-use Rattle.device_files.specs.Weighing.{within}
+use Rattle.device_files.specs.Weighing.{within, told_within}
 use Rattle.device_files.specs.Inspecting.{inspected}
 use Rattle.device_files.specs.Checking.{graph_in}
 use Rattle.diag_cli.specs.declared.serving.TheConstants.{SCRIPT_LIMIT}
@@ -38,19 +37,13 @@ use Rattle.diag_cli.specs.Loads.{loaded}
 
 -- ---- no file is read
 
-abbrev pub usage_line : List ℕ
-usage_line = codes "error: usage\n"
-
 abbrev pub read_error : List ℕ
 read_error = codes "error: read\n"
-
-abbrev pub long_file_line : List ℕ
-long_file_line = too_long_line (codes "file") TEXT_LIMIT
 
 -- the output by why the file was not read
 abbrev pub not_loaded : LoadError → Output
 not_loaded LoadFailed = says read_error ReadFailed
-not_loaded (Long limit) = says long_file_line Refused
+not_loaded (Long limit) = says (too_long_line (codes "file") TEXT_LIMIT) Refused
 not_loaded Memory = no_memory
 
 -- ---- a script is answered
@@ -60,9 +53,6 @@ pub data End : Type 0 where
   Ended : End
   Failed : End
   Cut : End
-
-abbrev pub script_too_long : List ℕ
-script_too_long = too_long_line (codes "script") SCRIPT_LIMIT
 
 abbrev pub ready_line : System → Item
 ready_line system = line (codes "ready" ∷ decimal (length system.parts) ∷ decimal (length system.wires) ∷ [])
@@ -76,25 +66,13 @@ answers_of system sessions lines = ready_line system ∷ replies system sessions
 abbrev pub served : (List (List ℕ) → List Item) → List ℕ → End → Output
 served answers script Ended = record { items = answers (all_lines script); status = Done }
 served answers script Failed = record { items = answers (whole_lines script) ++ Plain read_error ∷ []; status = ReadFailed }
-served answers script Cut = record { items = answers (whole_lines script) ++ Plain script_too_long ∷ []; status = CutShort }
-
--- a script of the limit or more is cut
-abbrev pub end_of : List ℕ → End
-end_of script = if nat_lt (length script) SCRIPT_LIMIT then Ended else Cut
-
--- the output if no read of the script fails
-abbrev pub wholly_served : (List (List ℕ) → List Item) → List ℕ → Output
-wholly_served answers script = served answers (take SCRIPT_LIMIT script) (end_of script)
+served answers script Cut = record { items = answers (whole_lines script) ++ Plain (too_long_line (codes "script") SCRIPT_LIMIT) ∷ []; status = CutShort }
 
 -- ---- a device is compiled
 
 -- its graph, over the variables of the clauses, with at most so many nodes
 abbrev pub graph_by : Device → Weighed → Output
 graph_by device weighed = record { items = Whole device weighed.list.vars (most_nodes weighed.sum weighed.list.vars) ∷ []; status = Done }
-
--- by what the clauses of devices are
-abbrev pub compiled : ℕ → (Device → Result Weighed EncodeError) → Result Device Output → Output
-compiled budget clauses found = told_or_refused (λ device. told_or_refused (graph_by device) (within budget (clauses device))) found
 
 -- ---- all forms
 
@@ -119,11 +97,6 @@ abbrev pub served_or_refused : {A : Type 0} → (A → System) → ℕ → Resul
 served_or_refused system sessions (Ok found) = Serves (answers_of (system found) sessions)
 served_or_refused system sessions (Err output) = Tells output
 
--- the output of a course, if the script that it may need is shown
-abbrev pub whole_output : Course → Option (List ℕ) → Option Output
-whole_output (Tells output) left = Some output
-whole_output (Serves answers) left = option_map (wholly_served answers) left
-
 -- by the command, over a file, and by the choice of forests, if one is asked for
 abbrev pub course_by : (ClauseList → Option Forest) → List ℕ → Command → List ℕ → Course
 course_by choose path (Serve options) file =
@@ -132,11 +105,11 @@ course_by choose path (ServeFrames frames options) file =
     served_or_refused (served_frames frames options) options.sessions (if_unrolled frames options (weighed_by options.narrow choose) (sequential_in file))
 course_by choose path (Ask health sessions) file = served_or_refused system_of sessions (asked health (graph_in file))
 course_by choose path (Inspect inspection) file = Tells (inspected choose path inspection file)
-course_by choose path (Compile budget narrow) file = Tells (compiled budget (clauses_by narrow choose) (described path file))
+course_by choose path (Compile budget narrow) file = Tells (told_within budget (clauses_by narrow choose) graph_by (described path file))
 
 -- by the form; a file that is too long is refused first
 abbrev pub course_of : (ClauseList → Option Forest) → Option Form → List ℕ → Course
-course_of choose None file = Tells (says usage_line Usage)
+course_of choose None file = Tells (says (codes "error: usage\n") Usage)
 course_of choose (Some (Load places)) file = Tells (loaded places)
 course_of choose (Some (Over path command)) file =
-    if nat_le (length file) TEXT_LIMIT then course_by choose path command file else Tells (says long_file_line Refused)
+    if nat_le (length file) TEXT_LIMIT then course_by choose path command file else Tells (says (too_long_line (codes "file") TEXT_LIMIT) Refused)

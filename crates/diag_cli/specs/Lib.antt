@@ -6,4 +6,5 @@ pub mod Besides
 pub mod Courses
 pub mod Following
 pub mod Runs
+pub mod Details
 pub mod inner

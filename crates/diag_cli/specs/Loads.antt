@@ -1,22 +1,20 @@
 -- What is printed of an adder whose readings disagree with its design.
-use Rattle.std.specs.Prelude.{ℕ, ◌-◌, Bool, List, [], ◌∷◌, length, take, Option, Some, None, Result, codes, slice_index_or}
+use Rattle.std.specs.Prelude.{ℕ, ◌-◌, Bool, false, List, [], ◌∷◌, length, take, Option, Some, None, Result, codes, slice_index_or}
 use Rattle.text_rules.specs.Names.{Name}
 use Rattle.state_rules.specs.Cases.{Case}
 use Rattle.state_rules.specs.Systems.{System, least_cost, all_diagnoses}
 use Rattle.device_model.specs.Devices.{Device}
 use Rattle.device_model.specs.Diagnosis.{device_system}
 use Rattle.bench_reader.specs.Netlists.{netlist}
-use Rattle.std.specs.Result.{result_map_both}
-use Rattle.clause_encoder.specs.Encoding.{encoded}
 use Rattle.session_rules.specs.Items.{Item, line}
 use Rattle.session_rules.specs.Replies.{faulty_names}
 use Rattle.adder_load.specs.Adders.{adder_text}
 use Rattle.adder_load.specs.Readings.{adder_case}
 use Rattle.device_files.specs.declared.status.Status.TheVariants.{Done}
-use Rattle.device_files.specs.Output.{Output, told_or_refused}
+use Rattle.device_files.specs.Output.{Output}
 use Rattle.device_files.specs.Describing.{or_line, netlist_line}
-use Rattle.device_files.specs.Choices.{Weighed, by_names}
-use Rattle.device_files.specs.Weighing.{within}
+use Rattle.device_files.specs.Choices.{Weighed, clauses_by}
+use Rattle.device_files.specs.Weighing.{told_within}
 use Rattle.device_files.specs.Inspecting.{count_line}
 use Rattle.diag_cli.specs.declared.words.TheConstants.{DEFAULT_BUDGET}
 use Rattle.diag_cli.specs.declared.loading.TheConstants.{LISTED_LIMIT}
@@ -42,9 +40,9 @@ summary_lines system clauses known =
 abbrev pub summary_by : ℕ → Device → Weighed → Output
 summary_by places device weighed = record { items = summary_lines (device_system device) (length weighed.list.clauses) (adder_case device places); status = Done }
 
--- if their sum is within the budget
+-- if their sum, by the order of their names, is within the budget
 abbrev pub summary_of : ℕ → Result Device Output → Output
-summary_of places found = told_or_refused (λ device. told_or_refused (summary_by places device) (within DEFAULT_BUDGET (result_map_both by_names (λ error. error) (encoded device)))) found
+summary_of places found = told_within DEFAULT_BUDGET (clauses_by false (λ list. None)) (summary_by places) found
 
 -- the adder of so many places, and what was seen of it
 abbrev pub loaded : ℕ → Output

@@ -1,25 +1,16 @@
 -- What holds of each run of the program.
-use Rattle.std.specs.Prelude.{◌≡◌, ◌≢◌, ◌⊎◌, ◌↔◌, ◌+◌, ◌<◌, ◌≤◌, ℕ, min, false, List, length, Option, None, IfSome}
+use Rattle.std.specs.Prelude.{◌≡◌, ◌⊎◌, ◌+◌, ◌<◌, ◌≤◌, ℕ, min, List, length, Option, None, IfSome}
 use Rattle.std.specs.Option.{IsSome}
-use Rattle.std.specs.Io.KnownBytes.{Consumes, IsAtEnd}
-use Rattle.text_rules.specs.TextLines.{whole_lines}
 use Rattle.text_rules.specs.declared.text_lines.TheConstants.{TEXT_LIMIT}
 use Rattle.diag_edge.specs.Edge.{RoseExactly, Holding, absent, Reading, Writing}
 use Rattle.clause_encoder.specs.Clauses.{ClauseList}
 use Rattle.elimination_forests.specs.Forests.{Forest}
-use Rattle.session_rules.specs.Items.{Item}
-use Rattle.session_rules.specs.Spelling.{Writes}
-use Rattle.diag_cli.specs.declared.serving.TheConstants.{SCRIPT_LIMIT}
-use Rattle.diag_cli.specs.Words.{Form, named_file, told_file, asks_script}
+use Rattle.diag_cli.specs.Words.{Form, named_file, told_file}
 use Rattle.device_files.specs.declared.status.Status.{Status}
-use Rattle.device_files.specs.declared.status.Status.TheVariants.{Done, Usage, ReadFailed, WriteFailed, NoMemory, CutShort}
-use Rattle.device_files.specs.Output.{Output, Gives, no_memory, says}
-use Rattle.diag_cli.specs.Following.{IsIdle, WritesFirst, IsStopped, Follows}
-use Rattle.diag_cli.specs.Courses.{Failed, Tells, Serves, read_error, served, whole_output, course_of}
-
--- the output was given, or memory ran out, which it cannot if the words have no form
-abbrev pub GivesUnlessShort : Option Form → Output → Status → Option (List ℕ) → Option (List ℕ) → Type 0
-GivesUnlessShort form output status before after = (IsSome form × Gives no_memory status before after) ⊎ Gives output status before after
+use Rattle.device_files.specs.declared.status.Status.TheVariants.{ReadFailed, WriteFailed}
+use Rattle.device_files.specs.Output.{no_memory, says}
+use Rattle.diag_cli.specs.Following.{IsIdle, Follows}
+use Rattle.diag_cli.specs.Courses.{Tells, read_error, course_of}
 
 -- What was done by the bytes of a file: those that the shelf shows, if it shows any. They were taken, and of a file that is too long one
 -- byte more than the limit.
@@ -32,53 +23,16 @@ pub record IsDone (choose : ClauseList → Option Forest) (form : Option Form) (
 -- What a run does by its words, over a shelf that holds this, with its input and its output. If the words ask for
 -- a forest of clauses, one is chosen.
 pub record IsRun (choose : ClauseList → Option Forest) (form : Option Form) (held : List ℕ → Holding) (shelf new_shelf input new_input : Reading) (out new_out : Writing) (status : Status) : Type 0 where
-  -- Whatever the shelf, the input and the output show: if no read of the file failed, it has bytes by which all was done;
-  -- or memory ran out before the script was begun.
-  pub done : new_shelf.faults ≡ shelf.faults → IsDone choose form (told_file held (named_file form)) shelf new_shelf input new_input out new_out status
-      ⊎ (IsSome form × IsIdle input new_input × Gives no_memory status out.got new_out.got)
+  -- All was done by the bytes of the file, or memory ran out before the script was begun, which it cannot if the words have no form;
+  -- or a read of the file failed, and the output says so.
+  pub done : ((new_shelf.faults ≡ shelf.faults) × (IsDone choose form (told_file held (named_file form)) shelf new_shelf input new_input out new_out status
+      ⊎ (IsSome form × Follows (Tells no_memory) input new_input out new_out status)))
+      ⊎ ((shelf.faults < new_shelf.faults) × Follows (Tells (says read_error ReadFailed)) input new_input out new_out status)
   -- The status is `WriteFailed` exactly if a write failed.
   pub write_fault : RoseExactly out.faults new_out.faults (status ≡ WriteFailed)
-  -- Otherwise it is `ReadFailed` exactly if a read failed.
-  pub read_fault : status ≢ WriteFailed → (status ≡ ReadFailed) ↔ ((shelf.faults < new_shelf.faults) ⊎ (input.faults < new_input.faults))
-  -- With any other status no read failed.
-  pub no_fault : status ≢ ReadFailed → status ≢ WriteFailed → (new_shelf.faults ≡ shelf.faults) × (new_input.faults ≡ input.faults)
-  -- Otherwise it is `Usage` exactly if the words have no form.
-  pub usage : status ≢ WriteFailed → (status ≡ Usage) ↔ (form ≡ None)
-  -- If no file is named, nothing is read of the shelf.
+  -- If no file is named, nothing is read of the shelf, and a file that is absent cannot be read.
   pub no_name : named_file form ≡ None → IsIdle shelf new_shelf
-  -- Of the shelf at most one byte more than the limit of a file is taken.
-  pub file_taken : new_shelf.taken ≤ shelf.taken + TEXT_LIMIT + 1
-  -- No more bytes are taken than the file has.
-  pub file_once : IfSome (told_file held (named_file form)) (λ file. new_shelf.taken ≤ shelf.taken + length file)
-  -- A file that is absent cannot be read. If the file is not read, the script is not begun, and one line is written.
   pub absent_file : IfSome (named_file form) (λ name. held name ≡ absent → shelf.faults < new_shelf.faults)
-  pub no_file : shelf.faults < new_shelf.faults → IsIdle input new_input × Gives (says read_error ReadFailed) status out.got new_out.got
-  -- If the words ask for no script, none is read, and if the file is refused neither.
-  pub not_asked : asks_script form ≡ false → IsIdle input new_input
-  pub no_script : IfSome (told_file held (named_file form)) (λ file. (output : Output) → course_of choose form file ≡ Tells output → IsIdle input new_input)
-  -- If no read failed, what is written is the output for the words, the file and the script, or memory ran out for words
-  -- with a form.
-  pub output : IfSome (told_file held (named_file form)) (λ file. IfSome (whole_output (course_of choose form file) input.left) (λ output.
-      new_shelf.faults ≡ shelf.faults → new_input.faults ≡ input.faults → GivesUnlessShort form output status out.got new_out.got))
-  -- If that output has status `Done` and no write failed either, that is the status and all of it was written; or it is
-  -- `NoMemory`, with the one line of lack of memory.
-  pub complete : IfSome (told_file held (named_file form)) (λ file. IfSome (whole_output (course_of choose form file) input.left) (λ output.
-      output.status ≡ Done → new_shelf.faults ≡ shelf.faults → new_input.faults ≡ input.faults → new_out.faults ≡ out.faults →
-      ((status ≡ Done) × Writes out.got new_out.got output.items) ⊎ ((status ≡ NoMemory) × Writes out.got new_out.got no_memory.items)))
-  -- If a read of the script failed, the lines that a line feed had ended were answered before.
-  pub script_fault : IfSome (told_file held (named_file form)) (λ file. (answers : List (List ℕ) → List Item) → course_of choose form file ≡ Serves answers →
-      input.faults < new_input.faults →
-      (bytes : List ℕ) × (new_input.taken ≡ input.taken + length bytes) × Consumes input.left new_input.left bytes
-      × WritesFirst out.got new_out.got (answers (whole_lines bytes)) × Gives (served answers bytes Failed) status out.got new_out.got)
-  -- If a write failed, of the bytes of the script that were taken all but those of one read had been answered.
-  pub stopped : IfSome (told_file held (named_file form)) (λ file. (answers : List (List ℕ) → List Item) → course_of choose form file ≡ Serves answers →
-      status ≡ WriteFailed → input.taken < new_input.taken →
-      (bytes : List ℕ) × (new_input.taken ≡ input.taken + length bytes) × Consumes input.left new_input.left bytes × IsStopped answers bytes out.got new_out.got)
-  -- If memory ran out, the script was not begun.
-  pub memory : status ≡ NoMemory → IsIdle input new_input
-  -- With status `Done` a script that is answered was read to its end.
-  pub all_read : IfSome (told_file held (named_file form)) (λ file. (answers : List (List ℕ) → List Item) → course_of choose form file ≡ Serves answers → status ≡ Done → IsAtEnd new_input.left)
-  -- At most the limit is taken of the script.
-  pub script_taken : new_input.taken ≤ input.taken + SCRIPT_LIMIT
-  -- With status `CutShort` exactly the limit was taken of the script, and with no other one, unless a write failed.
-  pub cut : status ≢ WriteFailed → (status ≡ CutShort) ↔ (new_input.taken ≡ input.taken + SCRIPT_LIMIT)
+  -- Of the shelf no more bytes are taken than the file has, and at most one more than the limit of a file.
+  pub file_once : IfSome (told_file held (named_file form)) (λ file. new_shelf.taken ≤ shelf.taken + length file)
+  pub file_taken : new_shelf.taken ≤ shelf.taken + TEXT_LIMIT + 1

@@ -9,11 +9,12 @@ use Rattle.device_model.specs.declared.limits.TheConstants.{PART_LIMIT}
 use Rattle.branch_states.specs.declared.measuring.TheConstants.{BUDGET_LIMIT}
 use Rattle.frame_unroller.specs.declared.unrolling.TheConstants.{FRAME_LIMIT}
 use Rattle.diag_edge.specs.Edge.{Holding, told_bytes}
-use Rattle.device_files.specs.Paths.{is_netlist_path, is_device_path, is_graph_path}
+use Rattle.device_files.specs.Paths.{ends_in, is_device_path}
 use Rattle.device_files.specs.Inspecting.{inspection_named}
 use Rattle.diag_cli.specs.declared.words.Command.{Command}
 use Rattle.diag_cli.specs.declared.words.Command.TheVariants.{Serve, ServeFrames, Ask, Inspect, Compile}
-use Rattle.diag_cli.specs.declared.words.Numbers.{Numbers}
+use Rattle.diag_cli.specs.declared.words.Takes.{Takes}
+use Rattle.diag_cli.specs.declared.words.Takes.TheVariants.{Nothing, Number}
 use Rattle.diag_cli.specs.declared.words.ServeOptions.{ServeOptions}
 use Rattle.level_lister.specs.declared.levels.TheConstants.{TOP_LIMIT}
 use Rattle.session_core.specs.declared.limits.TheConstants.{SESSION_LIMIT}
@@ -35,38 +36,27 @@ named_file form = None
 abbrev pub told_file : (List ℕ → Holding) → Option (List ℕ) → Option (List ℕ)
 told_file held name = option_map_or (λ path. told_bytes (held path)) name (Some [])
 
--- only `serve` and `ask` ask for a script
-abbrev pub asks_script : Option Form → Bool
-asks_script (Some (Over path (Serve options))) = true
-asks_script (Some (Over path (ServeFrames frames options))) = true
-asks_script (Some (Over path (Ask health sessions))) = true
-asks_script form = false
-
 -- ---- options
 
--- what is known of an option: its word, the numbers that it takes, if it takes one, and the commands that take it
+-- an option: its word, what it takes, and the commands that take it
 pub record Row : Type 0 where
   pub word : List ℕ
-  pub numbers : Option Numbers
+  pub takes : Takes
   pub commands : List (List ℕ)
 
 -- the table of the options
 abbrev pub rows : List Row
 rows =
-    record { word = codes "--budget"; numbers = Some (record { digits = 7; least = 1; most = BUDGET_LIMIT }); commands = codes "serve" ∷ codes "compile" ∷ [] }
-    ∷ record { word = codes "--sessions"; numbers = Some (record { digits = 4; least = 1; most = SESSION_LIMIT }); commands = codes "serve" ∷ codes "ask" ∷ [] }
-    ∷ record { word = codes "--frames"; numbers = Some (record { digits = 2; least = 1; most = FRAME_LIMIT }); commands = codes "serve" ∷ [] }
-    ∷ record { word = codes "--levels"; numbers = Some (record { digits = 7; least = 0; most = TOP_LIMIT }); commands = codes "serve" ∷ [] }
-    ∷ record { word = codes "--narrow"; numbers = None; commands = codes "serve" ∷ codes "compile" ∷ codes "plan" ∷ [] }
-    ∷ record { word = codes "--least"; numbers = None; commands = codes "serve" ∷ [] } ∷ []
+    record { word = codes "--budget"; takes = Number 7 1 BUDGET_LIMIT; commands = codes "serve" ∷ codes "compile" ∷ [] }
+    ∷ record { word = codes "--sessions"; takes = Number 4 1 SESSION_LIMIT; commands = codes "serve" ∷ codes "ask" ∷ [] }
+    ∷ record { word = codes "--frames"; takes = Number 2 1 FRAME_LIMIT; commands = codes "serve" ∷ [] }
+    ∷ record { word = codes "--levels"; takes = Number 7 0 TOP_LIMIT; commands = codes "serve" ∷ [] }
+    ∷ record { word = codes "--narrow"; takes = Nothing; commands = codes "serve" ∷ codes "compile" ∷ codes "plan" ∷ [] }
+    ∷ record { word = codes "--least"; takes = Nothing; commands = codes "serve" ∷ [] } ∷ []
 
--- the numbers that an option of a command takes, if it takes one
-abbrev pub option_of : (command word : List ℕ) → Option (Option Numbers)
-option_of command word = option_and_then (λ row. then_some (is_among row.commands command) row.numbers) (find (λ row. same_name word row.word) rows)
-
--- the one of these numbers that a word spells
-abbrev pub number_among : Numbers → List ℕ → Option ℕ
-number_among numbers word = plain_number_in numbers.digits numbers.least numbers.most word
+-- what an option of a command takes
+abbrev pub option_of : (command word : List ℕ) → Option Takes
+option_of command word = option_and_then (λ row. then_some (is_among row.commands command) row.takes) (find (λ row. same_name word row.word) rows)
 
 -- the words after an option, if it is given
 abbrev pub words_after : List ℕ → List (List ℕ) → Option (List (List ℕ))
@@ -78,20 +68,20 @@ is_given option words = is_some (words_after option words)
 
 -- Whether words are options of a command: each is one, its number follows, if it takes one, and none is given twice. If an option
 -- waits for its number, the first word spells that.
-abbrev pub are_options : List ℕ → Option Numbers → List (List ℕ) → Bool
-are_options command None [] = true
-are_options command (Some numbers) [] = false
-are_options command None (word ∷ words) = option_map_or (λ numbers. not (is_given word words) && are_options command numbers words) (option_of command word) false
-are_options command (Some numbers) (word ∷ words) = is_some (number_among numbers word) && are_options command None words
+abbrev pub are_options : List ℕ → Takes → List (List ℕ) → Bool
+are_options command Nothing [] = true
+are_options command (Number digits least most) [] = false
+are_options command Nothing (word ∷ words) = option_map_or (λ takes. not (is_given word words) && are_options command takes words) (option_of command word) false
+are_options command (Number digits least most) (word ∷ words) = is_some (plain_number_in digits least most word) && are_options command Nothing words
 
 -- the number that the first word spells for an option that takes one
-abbrev pub first_number : Option Numbers → List (List ℕ) → Option ℕ
-first_number (Some numbers) (word ∷ words) = number_among numbers word
-first_number numbers words = None
+abbrev pub first_number : Takes → List (List ℕ) → Option ℕ
+first_number (Number digits least most) (word ∷ words) = plain_number_in digits least most word
+first_number takes words = None
 
 -- the number that is given for an option of a command
 abbrev pub number_given : (command option : List ℕ) → List (List ℕ) → Option ℕ
-number_given command option words = option_and_then (λ numbers. option_and_then (first_number numbers) (words_after option words)) (option_of command option)
+number_given command option words = option_and_then (λ takes. option_and_then (first_number takes) (words_after option words)) (option_of command option)
 
 -- ---- words
 
@@ -107,7 +97,7 @@ serve_options words = record {
 -- `serve`, over a netlist if there are frames
 abbrev pub form_serve : List ℕ → ServeOptions → Option ℕ → Option Form
 form_serve path options None = then_some (is_device_path path) (Over path (Serve options))
-form_serve path options (Some frames) = then_some (is_netlist_path path) (Over path (ServeFrames frames options))
+form_serve path options (Some frames) = then_some (ends_in (codes ".bench") path) (Over path (ServeFrames frames options))
 
 -- a command over a file, with options
 abbrev pub form_by : (command path : List ℕ) → List (List ℕ) → Option Form
@@ -118,14 +108,10 @@ form_by command path words =
     else option_map (λ inspection. Over path (Inspect inspection)) (inspection_named command path (is_given (codes "--narrow") words))
 
 -- questions to a graph, with so many parts and with options
-abbrev pub ask_by : List ℕ → List (List ℕ) → ℕ → Option Form
-ask_by path words health =
-    then_some (are_options (codes "ask") None words && is_graph_path path) (Over path (Ask health (unwrap_or (number_given (codes "ask") (codes "--sessions") words) DEFAULT_SESSIONS)))
-
--- and with the words of these
 abbrev pub form_ask : List ℕ → List (List ℕ) → Option Form
 form_ask path [] = None
-form_ask path (health ∷ words) = option_and_then (ask_by path words) (plain_number_in 4 0 PART_LIMIT health)
+form_ask path (health ∷ words) = option_and_then (λ parts. then_some (are_options (codes "ask") Nothing words && ends_in (codes ".nnf") path)
+    (Over path (Ask parts (unwrap_or (number_given (codes "ask") (codes "--sessions") words) DEFAULT_SESSIONS)))) (plain_number_in 4 0 PART_LIMIT health)
 
 -- an adder of so many places, with no further word
 abbrev pub form_load : List ℕ → List (List ℕ) → Option Form
@@ -137,7 +123,7 @@ abbrev pub form_by_words : List ℕ → List ℕ → List (List ℕ) → Option 
 form_by_words command next words =
     if same_name command (codes "load") then form_load next words
     else if same_name command (codes "ask") then form_ask next words
-    else if are_options command None words then form_by command next words else None
+    else if are_options command Nothing words then form_by command next words else None
 
 -- the form of the words, if they have one
 abbrev pub form_of : List (List ℕ) → Option Form

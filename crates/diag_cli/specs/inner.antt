@@ -1,4 +1,5 @@
 -- What only the private contracts of this crate cite.
+pub mod Bits
 pub mod Compiling
 pub mod Forms
 pub mod Loading

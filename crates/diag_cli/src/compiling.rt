@@ -1,8 +1,9 @@
-ghost use Rattle.std.specs.Prelude.{◌≡◌, ◌≢◌, ◌-◌, ◌^◌, ◌<◌, ◌≤◌, length};
+ghost use Rattle.std.specs.Prelude.{◌≡◌, ◌-◌, ◌^◌, ◌<◌, ◌≤◌, length};
 ghost use Rattle.diag_edge.specs.Edge.{RoseExactly};
 ghost use Rattle.device_files.specs.Describing.{described};
 ghost use Rattle.device_files.specs.Choices.{ByClauses};
-ghost use Rattle.diag_cli.specs.Courses.{compiled};
+ghost use Rattle.diag_cli.specs.Courses.{graph_by};
+ghost use Rattle.device_files.specs.Weighing.{told_within};
 ghost use Rattle.device_files.specs.Output.{GivesUnlessMemory};
 
 use crate::graphs::graph_within;
@@ -26,11 +27,8 @@ pub(crate) fn compile_file<O: Sink>(
     requires short { length file.now ≤ TEXT_LIMIT }
     requires faults { O.faults out.old < 2 ^ 64 - 1 }
     ensures write_fault { RoseExactly (O.faults out.old) (O.faults out.new) (result ≡ Status.WriteFailed) }
-    ensures not_usage { result ≢ Status.Usage }
-    ensures not_read { result ≢ Status.ReadFailed }
-    ensures not_cut { result ≢ Status.CutShort }
     ensures said { ByClauses is_narrow (λ clauses.
-        GivesUnlessMemory (compiled budget clauses (described path.now file.now)) result (O.got out.old) (O.got out.new)) }
+        GivesUnlessMemory (told_within budget clauses graph_by (described path.now file.now)) result (O.got out.old) (O.got out.new)) }
 {
     let device = match described(alloc, path, file) {
         Ok(device) => device,

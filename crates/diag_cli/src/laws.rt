@@ -1,4 +1,4 @@
-//! Laws about what is printed of netlists. Each is the contract of a function that does nothing.
+//! Laws about runs, and about what is printed of netlists. Each is the contract of a function that does nothing.
 ghost use Rattle.std.specs.Prelude.{◌≡◌, ℕ, Bool, List, Option, None, Ok, IsSome, length, replicate};
 ghost use Rattle.state_rules.specs.Systems.{least_cost};
 ghost use Rattle.device_model.specs.Devices.{Device};
@@ -6,6 +6,21 @@ ghost use Rattle.device_model.specs.Diagnosis.{device_system};
 ghost use Rattle.bench_reader.specs.Netlists.{netlist};
 ghost use Rattle.adder_load.specs.Adders.{adder_text};
 ghost use Rattle.adder_load.specs.Readings.{adder_case};
+ghost use Rattle.diag_edge.specs.Edge.{Holding, Reading, Writing};
+ghost use Rattle.clause_encoder.specs.Clauses.{ClauseList};
+ghost use Rattle.elimination_forests.specs.Forests.{Forest};
+ghost use Rattle.device_files.specs.declared.status.Status.{Status};
+ghost use Rattle.diag_cli.specs.Words.{Form};
+ghost use Rattle.diag_cli.specs.Runs.{IsRun};
+ghost use Rattle.diag_cli.specs.Details.{HasDetails};
+
+/// From the clauses of `IsRun` follows what `HasDetails` lists: which status, what is read, and what is written.
+pub fn runs_have_details()
+    ensures { (choose : ClauseList → Option Forest) (form : Option Form) (held : List ℕ → Holding)
+        (shelf new_shelf input new_input : Reading) (out new_out : Writing) (status : Status)
+        → IsRun choose form held shelf new_shelf input new_input out new_out status
+        → HasDetails choose form held shelf new_shelf input new_input out new_out status }
+{}
 
 /// While no part is held, no netlist is at odds with what was seen: some state agrees, as that in which all gates are faulty does.
 pub fn netlists_agree()

@@ -19,7 +19,7 @@ mod serving;
 mod summing;
 mod words;
 
-pub use laws::{loads_agree, netlists_agree};
+pub use laws::{loads_agree, netlists_agree, runs_have_details};
 pub use program::diag;
 pub use saying::{say, say_load_error, say_usage};
 pub use system_edge::{FileShelf, StdSink, StdSource};

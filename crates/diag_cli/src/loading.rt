@@ -1,5 +1,5 @@
 //! An adder that is made in memory, and what its readings come to.
-ghost use Rattle.std.specs.Prelude.{◌≡◌, ◌≢◌, ◌⊎◌, [], ◌∷◌, ◌-◌, ◌^◌, ◌<◌, ◌≤◌, Ok, length, IfOk};
+ghost use Rattle.std.specs.Prelude.{◌≡◌, ◌⊎◌, [], ◌∷◌, ◌-◌, ◌^◌, ◌<◌, ◌≤◌, Ok, length, IfOk};
 ghost use Rattle.bench_reader.specs.Netlists.{netlist};
 ghost use Rattle.diag_edge.specs.Edge.{HasCause, RoseExactly};
 ghost use Rattle.conditioner.specs.Words.{bits_of};
@@ -162,9 +162,6 @@ pub(crate) fn load_adder<O: Sink>(alloc: Global, places: u32, out: &mut O) -> St
     requires places { places ≤ PLACE_LIMIT }
     requires faults { O.faults out.old < 2 ^ 64 - 1 }
     ensures write_fault { RoseExactly (O.faults out.old) (O.faults out.new) (result ≡ Status.WriteFailed) }
-    ensures not_usage { result ≢ Status.Usage }
-    ensures not_read { result ≢ Status.ReadFailed }
-    ensures not_cut { result ≢ Status.CutShort }
     ensures said { GivesUnlessMemory (loaded places) result (O.got out.old) (O.got out.new) }
 {
     match summary_at(alloc, places) {

@@ -43,8 +43,8 @@ fn run_over<H: Shelf, I: Source, O: Sink>(
 /// Does all that the program does: reads the file that the words name, if they name one, does what they ask for, and gives
 /// the number that the process ends with.
 ///
-/// `words` are those after the program's name. `IsRun` says, clause by clause, what holds of each run, by some choice of forests if the
-/// words ask for one.
+/// `words` are those after the program's name. `IsRun` says what holds of each run, by some choice of forests if the words ask for one; what
+/// follows from it is the law `runs_have_details`.
 pub fn diag<H: Shelf, I: Source, O: Sink>(
     alloc: Global,
     words: &[String],

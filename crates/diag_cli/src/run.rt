@@ -1,15 +1,15 @@
-ghost use Rattle.std.specs.Prelude.{◌≡◌, ◌≢◌, ◌+◌, ◌-◌, ◌^◌, ◌<◌, ◌≤◌, length};
+ghost use Rattle.std.specs.Prelude.{◌≡◌, ◌-◌, ◌^◌, ◌<◌, ◌≤◌, length};
 ghost use Rattle.diag_edge.specs.Edge.{RoseExactly};
 ghost use Rattle.device_files.specs.Choices.{ByForest};
 ghost use Rattle.diag_cli.specs.Courses.{course_by};
-ghost use Rattle.diag_cli.specs.Following.{Follows};
 ghost use Rattle.diag_cli.specs.inner.Forms.{IsCommandWithin};
+ghost use Rattle.diag_cli.specs.inner.Serving.{FollowsUnlessMemory};
 
 use crate::asking::graph_service;
 use crate::compiling::compile_file;
 use crate::devices::device_service;
 use crate::framing::frame_service;
-use crate::serving::{SCRIPT_LIMIT, answer_by};
+use crate::serving::answer_by;
 use crate::words::Command;
 use device_files::{Status, inspect_file};
 use diag_edge::{Sink, Source};
@@ -31,12 +31,8 @@ pub(crate) fn run_file<I: Source, O: Sink>(
     requires reads { I.faults input.old < 2 ^ 64 - 1 }
     requires writes { O.faults out.old < 2 ^ 64 - 1 }
     ensures write_fault { RoseExactly (O.faults out.old) (O.faults out.new) (result ≡ Status.WriteFailed) }
-    ensures read_fault { result ≢ Status.WriteFailed → RoseExactly (I.faults input.old) (I.faults input.new) (result ≡ Status.ReadFailed) }
-    ensures not_usage { result ≢ Status.Usage }
-    ensures follows { ByForest (λ choose. Follows (course_by choose path.now command file.now)
+    ensures follows { ByForest (λ choose. FollowsUnlessMemory (course_by choose path.now command file.now)
         (I.shown input.old) (I.shown input.new) (O.shown out.old) (O.shown out.new) result) }
-    ensures cut { result ≡ Status.CutShort → I.taken input.new ≡ I.taken input.old + SCRIPT_LIMIT }
-    ensures short { result ≢ Status.WriteFailed → result ≢ Status.CutShort → I.taken input.new < I.taken input.old + SCRIPT_LIMIT }
 {
     match command {
         Command::Serve { options } => {

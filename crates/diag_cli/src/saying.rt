@@ -1,7 +1,7 @@
-ghost use Rattle.std.specs.Prelude.{◌≡◌, ◌≢◌, ◌⊎◌, ℕ, ◌-◌, ◌^◌, ◌<◌};
+ghost use Rattle.std.specs.Prelude.{◌≡◌, ◌≢◌, ◌⊎◌, ℕ, ◌-◌, ◌^◌, ◌<◌, codes};
 ghost use Rattle.diag_edge.specs.Edge.{RoseExactly};
 ghost use Rattle.device_files.specs.Output.{Gives, says, too_long_line};
-ghost use Rattle.diag_cli.specs.Courses.{read_error, usage_line, not_loaded};
+ghost use Rattle.diag_cli.specs.Courses.{read_error, not_loaded};
 
 use device_files::{Refusal, Status, tell};
 use diag_edge::{LoadError, Sink, WriteFailed, put_line};
@@ -37,7 +37,7 @@ pub fn say_usage<O: Sink>(out: &mut O) -> Status
     requires faults { O.faults out.old < 2 ^ 64 - 1 }
     ensures write_fault { RoseExactly (O.faults out.old) (O.faults out.new) (result ≡ Status.WriteFailed) }
     ensures either { (result ≡ Status.Usage) ⊎ (result ≡ Status.WriteFailed) }
-    ensures said { Gives (says usage_line Status.Usage) result (O.got out.old) (O.got out.new) }
+    ensures said { Gives (says (codes "error: usage\n") Status.Usage) result (O.got out.old) (O.got out.new) }
 {
     say(out, b"error: usage\n", Status::Usage)
 }

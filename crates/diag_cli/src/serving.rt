@@ -4,8 +4,8 @@ ghost use Rattle.text_rules.specs.Tokens.{spaced};
 ghost use Rattle.diag_edge.specs.Edge.{HasCause, Puts, RoseExactly};
 ghost use Rattle.session_rules.specs.GraphSystems.{system_of};
 ghost use Rattle.diag_cli.specs.Courses.{Course, answers_of};
-ghost use Rattle.diag_cli.specs.Following.{Follows, IsServed};
-ghost use Rattle.diag_cli.specs.inner.Serving.{IsFor};
+ghost use Rattle.diag_cli.specs.Following.{IsServed};
+ghost use Rattle.diag_cli.specs.inner.Serving.{IsFor, FollowsUnlessMemory};
 
 use crate::saying::{say_read_fault, say_too_long};
 use device_files::{Refusal, Status, tell};
@@ -39,12 +39,8 @@ fn answer<I: Source, O: Sink>(service: &mut Service, input: &mut I, out: &mut O)
     requires reads { I.faults input.old < 2 ^ 64 - 1 }
     requires writes { O.faults out.old < 2 ^ 64 - 1 }
     ensures write_fault { RoseExactly (O.faults out.old) (O.faults out.new) (result ≡ Status.WriteFailed) }
-    ensures read_fault { result ≢ Status.WriteFailed → RoseExactly (I.faults input.old) (I.faults input.new) (result ≡ Status.ReadFailed) }
-    ensures not_usage { result ≢ Status.Usage }
     ensures served { IsServed (answers_of (system_of service.old.subject) service.old.limit)
         (I.shown input.old) (I.shown input.new) (O.shown out.old) (O.shown out.new) result }
-    ensures cut { result ≡ Status.CutShort → I.taken input.new ≡ I.taken input.old + SCRIPT_LIMIT }
-    ensures short { result ≢ Status.WriteFailed → result ≢ Status.CutShort → I.taken input.new < I.taken input.old + SCRIPT_LIMIT }
 {
     match put_ready(out, service.parts() as u64, service.wires() as u64) {
         Ok(()) => {}
@@ -69,12 +65,8 @@ pub(crate) fn answer_by<I: Source, O: Sink>(
     requires reads { I.faults input.old < 2 ^ 64 - 1 }
     requires writes { O.faults out.old < 2 ^ 64 - 1 }
     ensures write_fault { RoseExactly (O.faults out.old) (O.faults out.new) (result ≡ Status.WriteFailed) }
-    ensures read_fault { result ≢ Status.WriteFailed → RoseExactly (I.faults input.old) (I.faults input.new) (result ≡ Status.ReadFailed) }
-    ensures not_usage { result ≢ Status.Usage }
     ensures follows { (course : Course) → IsFor course made
-        → Follows course (I.shown input.old) (I.shown input.new) (O.shown out.old) (O.shown out.new) result }
-    ensures cut { result ≡ Status.CutShort → I.taken input.new ≡ I.taken input.old + SCRIPT_LIMIT }
-    ensures short { result ≢ Status.WriteFailed → result ≢ Status.CutShort → I.taken input.new < I.taken input.old + SCRIPT_LIMIT }
+        → FollowsUnlessMemory course (I.shown input.old) (I.shown input.new) (O.shown out.old) (O.shown out.new) result }
 {
     match made {
         Ok(mut service) => {

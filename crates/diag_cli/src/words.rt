@@ -1,7 +1,8 @@
 ghost use Rattle.std.specs.Prelude.{◌≡◌, None, Some, map, string_bytes, IfSome};
 ghost use Rattle.std.specs.Option.{option_map};
 ghost use Rattle.text_rules.specs.Numbers.{plain_number_in};
-ghost use Rattle.diag_cli.specs.Words.{form_of, form_by_words, form_load, form_ask, form_by, form_serve, serve_options, option_of, number_among, words_after, is_given, are_options, number_given};
+ghost use Rattle.diag_cli.specs.Words.{form_of, form_by_words, form_load, form_ask, form_by, form_serve, serve_options, option_of, words_after, is_given, are_options, number_given};
+ghost use Rattle.diag_cli.specs.declared.words.Takes.TheVariants.{Nothing, Number};
 ghost use Rattle.diag_cli.specs.inner.Forms.{meant, IsWithinLimits};
 
 use adder_load::PLACE_LIMIT;
@@ -26,7 +27,7 @@ pub struct ServeOptions {
     pub budget: u32,
     /// So many sessions may be open at a time, from 1 to `SESSION_LIMIT`.
     pub sessions: u32,
-    /// Clauses are put into a better order.
+    /// Clauses are compiled along a forest of their variables, if one is found.
     pub narrow: bool,
     /// What sessions print besides: states up to a cost of at most `TOP_LIMIT`, and the graph of the diagnoses.
     pub extras: Extras,
@@ -57,52 +58,43 @@ pub enum Form<'a> {
     Over { path: &'a str, command: Command },
 }
 
-/// The numbers that an option takes, in decimal digits.
+/// What follows an option.
 #[derive(Clone, Copy)]
-pub struct Numbers {
-    /// So many digits at most.
-    pub digits: usize,
-    /// The least of them.
-    pub least: u32,
-    /// The greatest of them.
-    pub most: u32,
+pub enum Takes {
+    /// Nothing.
+    Nothing,
+    /// A number of so many decimal digits at most, from one to another.
+    Number {
+        digits: usize,
+        least: u32,
+        most: u32,
+    },
 }
 
-impl Numbers {
-    // Numbers of so many digits at most, from one to another.
-    fn within(digits: usize, least: u32, most: u32) -> Numbers
-        ensures { result ≡ record { digits = digits; least = least; most = most } }
-    {
-        Numbers {
-            digits,
-            least,
-            most,
-        }
-    }
-
-    // The one of them that a word spells.
-    fn among(self, word: &str) -> Option<u32>
-        ensures { result ≡ number_among self word.now }
-    {
-        number_in(self.digits, self.least, self.most, word)
+// A number of so many digits at most, from one to another.
+fn number(digits: usize, least: u32, most: u32) -> Takes
+    ensures { result ≡ Number digits least most }
+{
+    Takes::Number {
+        digits,
+        least,
+        most,
     }
 }
 
-// The table of the options: for each the commands that take it, and the numbers that it takes, if it takes one.
-fn option_of(command: &str, word: &str) -> Option<Option<Numbers>>
+// The table of the options: for each the commands that take it, and what follows it.
+fn option_of(command: &str, word: &str) -> Option<Takes>
     ensures { result ≡ option_of command.now word.now }
 {
     let is_serve = command == "serve";
     let is_compile = command == "compile";
     match word {
-        "--budget" => (is_serve || is_compile).then_some(Some(Numbers::within(7, 1, BUDGET_LIMIT))),
-        "--sessions" => {
-            (is_serve || command == "ask").then_some(Some(Numbers::within(4, 1, SESSION_LIMIT)))
-        }
-        "--frames" => is_serve.then_some(Some(Numbers::within(2, 1, FRAME_LIMIT))),
-        "--levels" => is_serve.then_some(Some(Numbers::within(7, 0, TOP_LIMIT))),
-        "--narrow" => (is_serve || is_compile || command == "plan").then_some(None),
-        "--least" => is_serve.then_some(None),
+        "--budget" => (is_serve || is_compile).then_some(number(7, 1, BUDGET_LIMIT)),
+        "--sessions" => (is_serve || command == "ask").then_some(number(4, 1, SESSION_LIMIT)),
+        "--frames" => is_serve.then_some(number(2, 1, FRAME_LIMIT)),
+        "--levels" => is_serve.then_some(number(7, 0, TOP_LIMIT)),
+        "--narrow" => (is_serve || is_compile || command == "plan").then_some(Takes::Nothing),
+        "--least" => is_serve.then_some(Takes::Nothing),
         _ => None,
     }
 }
@@ -141,35 +133,47 @@ fn is_given(option: &str, words: &[String]) -> bool
 // Whether words are options of a command: each is one, its number follows, if it takes one, and none is given twice. So it calls
 // itself at most once for each.
 fn are_options(command: &str, words: &[String]) -> bool
-    ensures { result ≡ are_options command.now None (map string_bytes words.now) }
+    ensures { result ≡ are_options command.now Nothing (map string_bytes words.now) }
 {
     let [word, rest @ ..] = words else {
         return true;
     };
-    let Some(numbers) = option_of(command, word.as_str()) else {
+    let Some(takes) = option_of(command, word.as_str()) else {
         return false;
     };
     if is_given(word.as_str(), rest) {
         return false;
     }
-    let Some(numbers) = numbers else {
+    let Takes::Number {
+        digits,
+        least,
+        most,
+    } = takes
+    else {
         return are_options(command, rest);
     };
     let [number, rest @ ..] = rest else {
         return false;
     };
-    numbers.among(number.as_str()).is_some() && are_options(command, rest)
+    number_in(digits, least, most, number.as_str()).is_some() && are_options(command, rest)
 }
 
 // The number that is given for an option of a command.
 fn number_given(command: &str, option: &str, words: &[String]) -> Option<u32>
     ensures { result ≡ number_given command.now option.now (map string_bytes words.now) }
 {
-    let numbers = option_of(command, option)?;
+    let takes = option_of(command, option)?;
     let [number, ..] = words_after(option, words)? else {
         return None;
     };
-    numbers?.among(number.as_str())
+    match takes {
+        Takes::Nothing => None,
+        Takes::Number {
+            digits,
+            least,
+            most,
+        } => number_in(digits, least, most, number.as_str()),
+    }
 }
 
 // How `serve` answers a script by its options.

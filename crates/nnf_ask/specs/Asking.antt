@@ -19,18 +19,12 @@ five_digits n = (48 + n / 10000) ∷ (48 + n / 1000 % 10) ∷ (48 + n / 100 % 10
 abbrev pub variable_names : ℕ → ℕ → List Name
 variable_names first count = map five_digits (range_with_len first count)
 
-abbrev pub asked_parts : ℕ → List Name
-asked_parts health = variable_names 1 health
-
-abbrev pub asked_wires : ℕ → ℕ → List Name
-asked_wires health vars = variable_names (health + 1) (vars - health)
-
 -- the names of so many parts and of the wires, among so many variables, or why they are not given
 abbrev pub asked_names : ℕ → ℕ → Result (List Name × List Name) AskError
 asked_names health vars =
     if nat_lt vars health then Err (Health health vars)
     else if nat_lt WIRE_LIMIT (vars - health) then Err (Wires (vars - health))
-    else Ok (asked_parts health, asked_wires health vars)
+    else Ok (variable_names 1 health, variable_names (health + 1) (vars - health))
 
 -- lack of memory is no refusal
 abbrev pub told : AskError → Option AskError
@@ -40,8 +34,8 @@ told error = Some error
 -- what is asked over a graph, so many of whose variables are parts; nothing is told besides
 abbrev pub asked_subject : ℕ → Graph → Subject
 asked_subject health graph = record {
-  parts = asked_parts health;
-  wires = asked_wires health graph.vars;
+  parts = variable_names 1 health;
+  wires = variable_names (health + 1) (graph.vars - health);
   costs = plain_costs health;
   graph = graph;
   extras = no_extras;

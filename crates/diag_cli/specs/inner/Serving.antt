@@ -1,8 +1,9 @@
 -- Services, and the graphs that they take.
-use Rattle.std.specs.Prelude.{◌≡◌, ◌<◌, ◌≤◌, ℕ, true, [], length, Option, Some, None, Result, Ok, Err, IfSome}
+use Rattle.std.specs.Prelude.{◌≡◌, ◌⊎◌, ◌<◌, ◌≤◌, ℕ, true, [], length, Option, Some, None, Result, Ok, Err, IfSome}
 use Rattle.state_rules.specs.declared.extras.Extras.{Extras}
 use Rattle.state_rules.specs.Graphs.{Graph, IsGraph}
 use Rattle.state_rules.specs.Systems.{System}
+use Rattle.diag_edge.specs.Edge.{Reading, Writing}
 use Rattle.device_model.specs.Devices.{Device}
 use Rattle.frame_unroller.specs.declared.unrolling.UnrollError.{UnrollError}
 use Rattle.frame_unroller.specs.declared.unrolling.UnrollError.TheVariants.{Memory as NoMemory}
@@ -11,9 +12,11 @@ use Rattle.session_rules.specs.GraphSystems.{system_of}
 use Rattle.session_core.specs.declared.limits.TheConstants.{SERVED_VARIABLES, SERVED_NODES}
 use Rattle.session_core.specs.Services.{Shown, CanList, CanDraw}
 use Rattle.device_files.specs.declared.refusal.Refusal.{Refusal}
-use Rattle.device_files.specs.Output.{Output}
+use Rattle.device_files.specs.declared.status.Status.{Status}
+use Rattle.device_files.specs.Output.{Output, no_memory}
 use Rattle.device_files.specs.Refusals.{told_by}
 use Rattle.diag_cli.specs.Courses.{Course, Tells, Serves, answers_of}
+use Rattle.diag_cli.specs.Following.{Follows}
 use Rattle.diag_cli.specs.Frames.{not_unrolled}
 
 -- A graph is true exactly if the device fits, and such as a service takes.
@@ -37,6 +40,10 @@ pub record Answers (system : System) (sessions : ℕ) (service : Shown) : Type 0
 abbrev pub IsFor : Course → Result Shown Refusal → Type 0
 IsFor course (Ok service) = course ≡ Serves (answers_of (system_of service.subject) service.limit)
 IsFor course (Err refusal) = IfSome (told_by refusal) (λ output. course ≡ Tells output)
+
+-- Memory ran out before the script was begun, or a course was followed.
+abbrev pub FollowsUnlessMemory : Course → Reading → Reading → Writing → Writing → Status → Type 0
+FollowsUnlessMemory course input new_input out new_out status = Follows (Tells no_memory) input new_input out new_out status ⊎ Follows course input new_input out new_out status
 
 -- the output if a netlist is not unrolled; lack of memory is no refusal of it
 abbrev pub frames_told : UnrollError → Option Output

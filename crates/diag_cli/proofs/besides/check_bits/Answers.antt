@@ -1,7 +1,8 @@
 use Rattle.std.proofs.Common.{◌≡◌, ◌∙◌, ◌≤◌, ℕ, Ok, subst}
 use Rattle.session_core.specs.declared.limits.TheConstants.{SERVED_BITS}
 use Rattle.device_files.specs.Choices.{Weighed}
-use Rattle.diag_cli.specs.Besides.{levels_bits, least_bits, if_few}
+use Rattle.diag_cli.specs.Besides.{if_few}
+use Rattle.diag_cli.specs.inner.Bits.{levels_bits, least_bits}
 use Rattle.diag_cli.proofs.FewBits.{few_pass, if_ok_map}
 use Rattle.diag_cli.proofs.besides.check_bits.Goals as goal
 

@@ -1,9 +1,9 @@
 use Rattle.std.proofs.Common.{refl, Result, Ok, Err}
 use Rattle.device_files.specs.Refusals.{told_by}
-use Rattle.diag_cli.proofs.WholeGraphs.{graph_gives, not_compiled}
+use Rattle.diag_cli.proofs.WholeGraphs.{graph_gives}
 use Rattle.device_files.specs.Choices.{clauses_by}
 use Rattle.device_files.proofs.Choosing.{by_any, by_same}
-use Rattle.device_files.proofs.Refusing.{refused_told}
+use Rattle.device_files.proofs.Refusing.{refused_told, within_refused}
 use Rattle.diag_cli.proofs.compiling.compile_file.Goals as goal
 
 pub returns-in-Ok-write_nnf-clause-said : goal.returns-in-Ok-write_nnf-clause-said
@@ -27,7 +27,7 @@ returns-clause-said g c =
 pub returns-in-Err-graph_within-clause-said : goal.returns-in-Err-graph_within-clause-said
 returns-in-Err-graph_within-clause-said g c =
     by_same c.in-Err-graph_within.ensures (λ choose fault.
-    not_compiled (told_by c.in-Err-graph_within.refusal) c.args.path.now c.args.file.now c.args.budget (clauses_by c.args.is_narrow choose) _ _ _ _ c.in-Ok.ensures fault c.tell-in-Err-graph_within.ensures.said)
+    within_refused c.args.budget (clauses_by c.args.is_narrow choose) _ _ _ (told_by c.in-Err-graph_within.refusal) _ _ _ c.in-Ok.ensures fault c.tell-in-Err-graph_within.ensures.said)
 
 pub returns-in-Err-clause-said : goal.returns-in-Err-clause-said
 returns-in-Err-clause-said g c =

@@ -26,7 +26,7 @@ returns-in-Some-Load g c =
       _,
       sym c.number-in-Some-Load.ensures,
       run_shown shelf shelf (g.I.Source.shown_is _) (g.I.Source.shown_is _) (g.O.Sink.shown_is _) (g.O.Sink.shown_is _)
-          (run_load choose _ _ (g.H.Source.shown c.args.shelf.now) _ _ _ _ places done.write_fault done.not_usage done.not_read done.not_cut done.said),
+          (run_load choose _ _ (g.H.Source.shown c.args.shelf.now) _ _ _ _ done.write_fault places done.said),
     )))
 
 pub returns-in-Some-Over : goal.returns-in-Some-Over

@@ -2,7 +2,7 @@ use Rattle.std.proofs.Common.{◌+◌, ◌≤◌, length, Err, ap, ◌∙◌, sy
 use Rattle.text_rules.specs.declared.text_lines.TheConstants.{TEXT_LIMIT}
 use Rattle.diag_edge.specs.declared.loading.LoadError.TheVariants.{Long}
 use Rattle.diag_cli.specs.Courses.{course_by}
-use Rattle.diag_cli.specs.Following.{Follows}
+use Rattle.diag_cli.specs.inner.Serving.{FollowsUnlessMemory}
 use Rattle.diag_cli.proofs.Shown.{at_ends, run_shown}
 use Rattle.diag_cli.proofs.Headline.{same_file, run_loaded, run_unread}
 use Rattle.device_files.proofs.Choosing.{by_any, by_same}
@@ -18,13 +18,12 @@ returns-in-Ok g c =
     let out = g.O.Sink.shown_is in
     by_same done.follows (λ choose follows.
     run_shown (g.H.Source.shown_is _) (g.H.Source.shown_is _) (input _) (input _) (out _) (out _)
-    (run_loaded _ _ _ _ _ choose c.args.path.now c.args.command _ _ _ c.deref.result.now (same_file c.deref.result.now c.in-Ok.file.items _ c.deref.ensures.value read.bytes)
+    (run_loaded choose _ _ _ _ _ _ _ done.write_fault c.args.path.now c.args.command _ c.deref.result.now (same_file c.deref.result.now c.in-Ok.file.items _ c.deref.ensures.value read.bytes)
     (λ gone. let is = read.absent gone in let never : ⊥ = cc in never)
     (read.failed.stayed (λ is. let never : ⊥ = cc in never))
     (read.taken ∙ ap (λ text. g.H.Source.taken c.args.shelf.now + length text) same) (subst (λ text. length text ≤ TEXT_LIMIT) same read.short)
-    done.write_fault done.read_fault done.not_usage
-    (at_ends (λ x y u v. Follows (course_by choose c.args.path.now c.args.command c.deref.result.now) x y u v c.run_file.result)
-    (sym (input _)) (sym (input _)) (sym (out _)) (sym (out _)) follows) done.cut done.short))
+    (at_ends (λ x y u v. FollowsUnlessMemory (course_by choose c.args.path.now c.args.command c.deref.result.now) x y u v c.run_file.result)
+    (sym (input _)) (sym (input _)) (sym (out _)) (sym (out _)) follows)))
 
 pub say_load_error-requires-clause-limit : goal.say_load_error-requires-clause-limit
 say_load_error-requires-clause-limit g c = λ limit is. c.in-Err.ensures.that_limit limit (ap Err is)
@@ -34,6 +33,6 @@ returns-in-Err g c =
     let read = c.in-Err.ensures in
     by_any (λ choose.
     run_shown (g.H.Source.shown_is _) (g.H.Source.shown_is _) (g.I.Source.shown_is _) (g.I.Source.shown_is _) (g.O.Sink.shown_is _) (g.O.Sink.shown_is _)
-    (run_unread choose _ _ _ _ _ _ _ c.args.path.now c.args.command c.in-Err.error
+    (run_unread choose _ _ _ _ _ _ _ c.say_load_error.ensures.write_fault c.args.path.now c.args.command read.at_most read.once c.in-Err.error
     (unread c.in-Err.error _ _ _ c.requires.shelf_faults read.failed read.absent read.that_limit read.long_file)
-    read.at_most read.once (λ limit is. read.long.0 (ap Err (is ∙ ap Long (read.that_limit limit (ap Err is))))) c.say_load_error.ensures.write_fault c.say_load_error.ensures.said))
+    (λ limit is. read.long.0 (ap Err (is ∙ ap Long (read.that_limit limit (ap Err is))))) c.say_load_error.ensures.said))

@@ -1,9 +1,11 @@
-use Rattle.std.proofs.Common.{[], inl, inr, refl, arith}
+use Rattle.std.proofs.Common.{[], inl, inr, refl, arith, codes}
 use Rattle.text_rules.specs.TextLines.{cut, whole_lines, last_line, all_lines}
 use Rattle.diag_edge.proofs.Growing.{consumes_none}
 use Rattle.session_rules.specs.GraphSystems.{system_of}
 use Rattle.session_core.specs.Services.{moves_of}
-use Rattle.diag_cli.specs.Courses.{Ended, Failed, Cut, read_error, script_too_long, answers_of}
+use Rattle.diag_cli.specs.Courses.{Ended, Failed, Cut, read_error, answers_of}
+use Rattle.device_files.specs.Output.{too_long_line}
+use Rattle.diag_cli.specs.declared.serving.TheConstants.{SCRIPT_LIMIT}
 use Rattle.device_files.proofs.Failing.{gives_all, gives_after}
 use Rattle.diag_cli.proofs.Running.{breaks_behind, breaks_at_once, ready_then, ready_begun, lines_begun, first_given, answered_first, stopped_at_once, stopped_at_end}
 use Rattle.diag_cli.proofs.Shown.{served_shown}
@@ -13,20 +15,19 @@ pub returns-in-Err-clause-served : goal.returns-in-Err-clause-served
 returns-in-Err-clause-served g c =
     let shown = c.args.service.now in
     served_shown (g.I.Source.shown_is _) (g.I.Source.shown_is _) (g.O.Sink.shown_is _) (g.O.Sink.shown_is _) (record {
-      answer = inr (inr (
+      bytes = [];
+      counted = omega arith;
+      took = consumes_none _;
+      wrote = inr (
         refl,
         record {
-          bytes = [];
-          counted = omega arith;
-          took = consumes_none _;
           reads = refl;
           lines = [];
           are = inl (omega arith, refl);
           begun = ready_begun shown c.parts.ensures.sound _ _ _ _ c.parts.ensures.parts c.wires.ensures c.in-Err.ensures.text;
           stopped = λ some. absurd (omega (arith, some));
         },
-      ));
-      all_read = λ zero. absurd (let never : ⊥ = cc in never);
+      );
     })
 
 pub returns-in-WriteFault-clause-served : goal.returns-in-WriteFault-clause-served
@@ -35,13 +36,13 @@ returns-in-WriteFault-clause-served g c =
     let done = c.in-WriteFault.ensures.served in
     let kept = c.in-WriteFault.ensures.read_fault.stayed (λ e. let never : ⊥ = cc in never) in
     served_shown (g.I.Source.shown_is _) (g.I.Source.shown_is _) (g.O.Sink.shown_is _) (g.O.Sink.shown_is _) (record {
-      answer = inr (inr (
+      bytes = done.0;
+      counted = done.1;
+      took = done.2;
+      wrote = inr (
         refl,
         elim done.3.1 [
           | inl at ↦ record {
-            bytes = done.0;
-            counted = done.1;
-            took = done.2;
             reads = kept;
             lines = whole_lines done.0;
             are = inl (done.3.0, refl);
@@ -50,9 +51,6 @@ returns-in-WriteFault-clause-served g c =
             stopped = λ some. stopped_at_once shown c.parts.ensures.sound _ _ done.0 _ _ _ _ _ c.requires.none_open c.parts.ensures.parts c.wires.ensures c.in-Ok.ensures.text at;
           }
           | inr at ↦ record {
-            bytes = done.0;
-            counted = done.1;
-            took = done.2;
             reads = kept;
             lines = all_lines done.0;
             are = inr (at.0, at.1, refl);
@@ -61,8 +59,7 @@ returns-in-WriteFault-clause-served g c =
             stopped = λ some. stopped_at_end shown c.parts.ensures.sound _ _ done.0 (last_line (cut done.0).unfinished) _ _ _ _ _ c.requires.none_open c.parts.ensures.parts c.wires.ensures c.in-Ok.ensures.text at.2;
           }
         ],
-      ));
-      all_read = λ zero. absurd (let never : ⊥ = cc in never);
+      );
     })
 
 pub returns-in-Done-clause-served : goal.returns-in-Done-clause-served
@@ -70,17 +67,16 @@ returns-in-Done-clause-served g c =
     let shown = c.args.service.now in
     let done = c.in-Done.ensures.served in
     served_shown (g.I.Source.shown_is _) (g.I.Source.shown_is _) (g.O.Sink.shown_is _) (g.O.Sink.shown_is _) (record {
-      answer = inr (inl (record {
-        bytes = done.0;
-        counted = done.1;
+      bytes = done.0;
+      counted = done.1;
+      took = done.2;
+      wrote = inl (record {
         end = Ended;
-        took = done.2;
         ends = (done.3.0, done.3.1, c.in-Done.ensures.read_fault.stayed (λ e. let never : ⊥ = cc in never));
         answered = answered_first shown c.parts.ensures.sound _ _ (whole_lines done.0) (last_line (cut done.0).unfinished) _ _ _ _ _ c.requires.none_open c.parts.ensures.parts c.wires.ensures c.in-Ok.ensures.text done.3.2;
         gives = gives_all _ _ _ _ (λ five. let never : ⊥ = cc in never) refl
             (ready_then shown c.parts.ensures.sound _ _ (all_lines done.0) _ _ _ _ _ c.requires.none_open c.parts.ensures.parts c.wires.ensures c.in-Ok.ensures.text done.3.2);
-      }));
-      all_read = λ _. done.3.0;
+      });
     })
 
 pub returns-in-ReadFault-clause-served : goal.returns-in-ReadFault-clause-served
@@ -92,16 +88,15 @@ returns-in-ReadFault-clause-served g c =
     let written =
     ready_then shown c.parts.ensures.sound _ _ (whole_lines done.0) _ _ _ _ _ c.requires.none_open c.parts.ensures.parts c.wires.ensures c.in-Ok.ensures.text done.3.1 in
     served_shown (g.I.Source.shown_is _) (g.I.Source.shown_is _) (g.O.Sink.shown_is _) (g.O.Sink.shown_is _) (record {
-      answer = inr (inl (record {
-        bytes = done.0;
-        counted = done.1;
+      bytes = done.0;
+      counted = done.1;
+      took = done.2;
+      wrote = inl (record {
         end = Failed;
-        took = done.2;
         ends = (done.3.0, c.in-ReadFault.ensures.read_fault.rose refl);
         answered = first_given (answers (whole_lines done.0)) _ _ _ _ _ written said;
         gives = gives_after (answers (whole_lines done.0)) read_error _ _ _ _ _ written said;
-      }));
-      all_read = λ zero. absurd (let same = (said.whole (λ five. let never : ⊥ = cc in never)).0 in let never : ⊥ = cc in never);
+      });
     })
 
 pub returns-in-Limit-clause-served : goal.returns-in-Limit-clause-served
@@ -113,14 +108,13 @@ returns-in-Limit-clause-served g c =
     let written =
     ready_then shown c.parts.ensures.sound _ _ (whole_lines done.0) _ _ _ _ _ c.requires.none_open c.parts.ensures.parts c.wires.ensures c.in-Ok.ensures.text done.3.1 in
     served_shown (g.I.Source.shown_is _) (g.I.Source.shown_is _) (g.O.Sink.shown_is _) (g.O.Sink.shown_is _) (record {
-      answer = inr (inl (record {
-        bytes = done.0;
-        counted = done.1;
+      bytes = done.0;
+      counted = done.1;
+      took = done.2;
+      wrote = inl (record {
         end = Cut;
-        took = done.2;
         ends = (done.3.0, c.in-Limit.ensures.read_fault.stayed (λ e. let never : ⊥ = cc in never));
         answered = first_given (answers (whole_lines done.0)) _ _ _ _ _ written said;
-        gives = gives_after (answers (whole_lines done.0)) script_too_long _ _ _ _ _ written said;
-      }));
-      all_read = λ zero. absurd (let same = (said.whole (λ five. let never : ⊥ = cc in never)).0 in let never : ⊥ = cc in never);
+        gives = gives_after (answers (whole_lines done.0)) (too_long_line (codes "script") SCRIPT_LIMIT) _ _ _ _ _ written said;
+      });
     })

@@ -24,6 +24,14 @@ const FIELD: Long = Long {
     ..NOTHING
 };
 
+// Gates of 64 inputs. Each has 252 clauses before any is left out.
+const WIDE: Long = Long {
+    before: b"INPUT(a)\n",
+    each: b"g% = XOR(a,a,a,a,a,a,a,a,a,a,a,a,a,a,a,a,a,a,a,a,a,a,a,a,a,a,a,a,a,a,a,a,a,a,a,a,a,a,a,a,a,a,a,a,a,a,a,a,a,a,a,a,a,a,a,a,a,a,a,a,a,a,a,a)\n",
+    count: 0,
+    ..NOTHING
+};
+
 pub static LONG_NETLISTS: [LongRow; 25] = [
     // Buffers in a row, of which the sum is five for each and two more.
     LongRow {
@@ -42,7 +50,7 @@ pub static LONG_NETLISTS: [LongRow; 25] = [
         text: ROW_OF_1000,
         words: &["plan", "f.bench"],
         script: NOTHING,
-        out: b"parts 1000\nwires 1001\nclauses 2000\nsum 5002\n",
+        out: b"clauses 2000\nsum 5002\n",
         status: 0,
     },
     LongRow {
@@ -58,7 +66,7 @@ pub static LONG_NETLISTS: [LongRow; 25] = [
         text: ROW_OF_40,
         words: &["plan", "f.bench"],
         script: NOTHING,
-        out: b"parts 40\nwires 41\nclauses 80\nsum 202\n",
+        out: b"clauses 80\nsum 202\n",
         status: 0,
     },
     LongRow {
@@ -90,7 +98,7 @@ pub static LONG_NETLISTS: [LongRow; 25] = [
         },
         words: &["plan", "f.bench"],
         script: NOTHING,
-        out: b"parts 100\nwires 101\nclauses 200\nsum 1261\n",
+        out: b"clauses 200\nsum 1261\n",
         status: 0,
     },
     LongRow {
@@ -103,7 +111,7 @@ pub static LONG_NETLISTS: [LongRow; 25] = [
         },
         words: &["plan", "f.bench"],
         script: NOTHING,
-        out: b"parts 500\nwires 501\nclauses 1000\nsum 25021\n",
+        out: b"clauses 1000\nsum 25021\n",
         status: 0,
     },
     // An adder of 800 bits has 107 for the first one and 135 for each further one.
@@ -118,7 +126,7 @@ pub static LONG_NETLISTS: [LongRow; 25] = [
         },
         words: &["plan", "f.bench"],
         script: NOTHING,
-        out: b"parts 4000\nwires 5601\nclauses 13600\nsum 107972\n",
+        out: b"clauses 13600\nsum 107972\n",
         status: 0,
     },
     // A field of gates that share an input with the next one.
@@ -127,7 +135,7 @@ pub static LONG_NETLISTS: [LongRow; 25] = [
         text: FIELD,
         words: &["plan", "f.bench"],
         script: NOTHING,
-        out: b"parts 4095\nwires 16381\nclauses 65520\nsum 159704\n",
+        out: b"clauses 65520\nsum 159704\n",
         status: 0,
     },
     LongRow {
@@ -169,14 +177,11 @@ pub static LONG_NETLISTS: [LongRow; 25] = [
                  S ok\nS ok\nS ok\nS ok\nS min 1 y\n",
         status: 0,
     },
-    // Each of the gates has 252 clauses before any is left out.
     LongRow {
         name: "f.bench",
         text: Long {
-            before: b"INPUT(a)\n",
-            each: b"g% = XOR(a,a,a,a,a,a,a,a,a,a,a,a,a,a,a,a,a,a,a,a,a,a,a,a,a,a,a,a,a,a,a,a,a,a,a,a,a,a,a,a,a,a,a,a,a,a,a,a,a,a,a,a,a,a,a,a,a,a,a,a,a,a,a,a)\n",
             count: 1041,
-            ..NOTHING
+            ..WIDE
         },
         words: &["plan", "f.bench"],
         script: NOTHING,
@@ -186,10 +191,8 @@ pub static LONG_NETLISTS: [LongRow; 25] = [
     LongRow {
         name: "f.bench",
         text: Long {
-            before: b"INPUT(a)\n",
-            each: b"g% = XOR(a,a,a,a,a,a,a,a,a,a,a,a,a,a,a,a,a,a,a,a,a,a,a,a,a,a,a,a,a,a,a,a,a,a,a,a,a,a,a,a,a,a,a,a,a,a,a,a,a,a,a,a,a,a,a,a,a,a,a,a,a,a,a,a)\n",
             count: 17,
-            ..NOTHING
+            ..WIDE
         },
         words: &["serve", "f.bench", "--frames", "64"],
         script: NOTHING,
@@ -240,10 +243,8 @@ pub static LONG_NETLISTS: [LongRow; 25] = [
     LongRow {
         name: "f.bench",
         text: Long {
-            before: b"INPUT(a)\n",
-            each: b"g% = XOR(a,a,a,a,a,a,a,a,a,a,a,a,a,a,a,a,a,a,a,a,a,a,a,a,a,a,a,a,a,a,a,a,a,a,a,a,a,a,a,a,a,a,a,a,a,a,a,a,a,a,a,a,a,a,a,a,a,a,a,a,a,a,a,a)\n",
             count: 1040,
-            ..NOTHING
+            ..WIDE
         },
         words: &["serve", "f.bench", "--budget", "1"],
         script: NOTHING,

@@ -133,7 +133,7 @@ pub static NETLISTS: [Row<'static>; 23] = [
         text: INPUT,
         words: &["plan", "f.bench"],
         script: b"",
-        out: b"parts 0\nwires 1\nclauses 0\nsum 1\n",
+        out: b"clauses 0\nsum 1\n",
         status: 0,
     },
     // Three ones are odd, so y is to be 1.
@@ -150,7 +150,7 @@ pub static NETLISTS: [Row<'static>; 23] = [
         text: SAME,
         words: &["plan", "f.bench"],
         script: b"",
-        out: b"parts 1\nwires 2\nclauses 3\nsum 7\n",
+        out: b"clauses 3\nsum 7\n",
         status: 0,
     },
     Row {
@@ -186,7 +186,7 @@ pub static NETLISTS: [Row<'static>; 23] = [
         text: NOT,
         words: &["plan", "f.bench"],
         script: b"open S\n",
-        out: b"parts 1\nwires 2\nclauses 2\nsum 7\n",
+        out: b"clauses 2\nsum 7\n",
         status: 0,
     },
     Row {
@@ -336,7 +336,7 @@ pub static WITH_OPTIONS: [Row<'static>; 27] = [
         text: b"INPUT(a)\nb = BUFF(a)\n",
         words: &["plan", "f.bench"],
         script: b"",
-        out: b"parts 1\nwires 2\nclauses 2\nsum 7\n",
+        out: b"clauses 2\nsum 7\n",
         status: 0,
     },
     Row {
@@ -344,7 +344,7 @@ pub static WITH_OPTIONS: [Row<'static>; 27] = [
         text: CHAIN,
         words: &["plan", "f.bench"],
         script: b"",
-        out: b"parts 2\nwires 3\nclauses 4\nsum 12\n",
+        out: b"clauses 4\nsum 12\n",
         status: 0,
     },
     // An adder of which the names go up from bit to bit has 107 for the first one and 135 for each further one.
@@ -354,7 +354,7 @@ pub static WITH_OPTIONS: [Row<'static>; 27] = [
                   b06 = XOR(b00, b03)\nb10 = OR(b04, b05)\n",
         words: &["plan", "f.bench"],
         script: b"",
-        out: b"parts 5\nwires 8\nclauses 17\nsum 107\n",
+        out: b"clauses 17\nsum 107\n",
         status: 0,
     },
     Row {
@@ -364,7 +364,7 @@ pub static WITH_OPTIONS: [Row<'static>; 27] = [
                   b14 = AND(b11, b12)\nb15 = AND(b10, b13)\nb16 = XOR(b10, b13)\nb20 = OR(b14, b15)\n",
         words: &["plan", "f.bench"],
         script: b"",
-        out: b"parts 10\nwires 15\nclauses 34\nsum 242\n",
+        out: b"clauses 34\nsum 242\n",
         status: 0,
     },
     // A wire of which no clause says anything may have both values.
@@ -439,7 +439,7 @@ pub static WITH_OPTIONS: [Row<'static>; 27] = [
         text: INPUT,
         words: &["plan", "f.bench", "--narrow"],
         script: b"",
-        out: b"parts 0\nwires 1\nclauses 0\nsum 1\n",
+        out: b"clauses 0\nsum 1\n",
         status: 0,
     },
     // Both of its clauses have all of its variables, so that each way through them has the same sum.
@@ -448,7 +448,7 @@ pub static WITH_OPTIONS: [Row<'static>; 27] = [
         text: NOT,
         words: &["plan", "f.bench", "--narrow"],
         script: b"open S\n",
-        out: b"parts 1\nwires 2\nclauses 2\nsum 7\n",
+        out: b"clauses 2\nsum 7\n",
         status: 0,
     },
     Row {

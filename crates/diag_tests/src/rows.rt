@@ -13,7 +13,8 @@ use std::alloc::Global;
 use std::process::Abort;
 use std::test::Fail;
 
-/// The one file of the shelf, the words and the script of a run, and what it writes and ends with.
+/// The one file of the shelf, the words and the script of a run, and what it writes and ends with. Of what `plan` prints a row has the
+/// last lines, so that a further line changes no row; the whole is in `examples/inspected`.
 #[derive(Clone, Copy)]
 pub struct Row<'a> {
     pub name: &'a str,
@@ -30,7 +31,12 @@ pub fn answer(rt: &impl Abort, alloc: Global, row: &Row<'_>, meeting: &Meeting) 
 {
     let words = row.words;
     let ran = run(alloc, row.name, row.text, words, row.script, meeting)?;
-    assert_eq!(rt; ran.out.as_slice(), row.out, "{words:?}");
+    let out = ran.out.as_slice();
+    if !words.is_empty() && words[0] == "plan" {
+        assert!(rt; out.ends_with(row.out), "{words:?}");
+    } else {
+        assert_eq!(rt; out, row.out, "{words:?}");
+    }
     assert_eq!(rt; ran.status, row.status, "{words:?}");
     Ok(())
 }

@@ -57,6 +57,8 @@ GATES = {
 # Other words of gates in netlists.
 OTHER_WORDS = {"BUF": "BUFF"}
 FLIP_FLOP = "DFF"
+# The first line of the table of names that `diag-netlist` writes beside a file.
+NAMES = "# The name here, and the name in the file that it was made of."
 
 
 @dataclasses.dataclass(frozen=True)
@@ -158,6 +160,23 @@ def _flatten(device: Device, blocks: dict[str, _Block], block: _Block, path: str
             _flatten(device, blocks, inner, f"{path}{name}.", dict(zip(inner.ports, wires)))
         else:
             device.parts.append(Part(path + name, kind, tuple(wires)))
+
+
+def other_names(path: str | os.PathLike[str], frames: int | None = None) -> dict[str, str]:
+    """Other names of wires, by the table that `diag-netlist` wrote beside a device, and the names that these have in the device; over
+    several times each at each. What the device itself calls so goes first.
+    """
+    try:
+        rows = pathlib.Path(f"{os.fspath(path)}.names").read_text(encoding="utf-8", errors="surrogateescape").split("\n")
+    except OSError:
+        return {}
+    if rows[0] != NAMES:
+        return {}
+    wires = set(read_device(path).wires)
+    pairs = [(other, name) for name, _, other in (row.partition("\t") for row in rows[1:]) if name in wires and other not in wires]
+    if frames is None:
+        return dict(pairs)
+    return {f"{other}@{time:04}": f"{name}@{time:04}" for other, name in pairs for time in range(1, frames + 1)}
 
 
 def input_wires(path: str | os.PathLike[str], frames: int | None = None) -> frozenset[str]:

@@ -14,7 +14,7 @@ from typing import TYPE_CHECKING
 
 from . import manual
 from .child import Child
-from .devices import input_wires
+from .devices import input_wires, other_names
 from .errors import Ended, NotBuilt
 from .joint import Joint
 from .replies import AnyLines, Lines, Ready, Request
@@ -250,6 +250,11 @@ class Service:
         """
         return frozenset() if self.file.suffix == ".nnf" else input_wires(self.file, self.frames)
 
+    @functools.cached_property
+    def other_names(self) -> dict[str, str]:
+        """Names that sessions take too, with the name of the wire here: those that `diag-netlist` has replaced."""
+        return other_names(self.file, self.frames)
+
     def session(self, name: str | int | None = None) -> Session:
         """Opens a session, by a name of your own or by one that is made, which is s and a number.
 
@@ -299,7 +304,7 @@ class Service:
         ...     print({name: session.minimum().cost for name, session in patterns.items()}, service.together(patterns.values()).minimum())
         {'p1': 1, 'p2': 1} Minimum(cost=1, faulty=('10',))
         """
-        rows = read_table(source, self.wires)
+        rows = read_table(source, self.wires, self.other_names)
         opened = {row.name: Session(self, row.name) for row in rows}
         self._given.update(opened)
         try:

@@ -29,6 +29,8 @@ LARGEST_PAGE = 512
 LISTINGS = {"list": ("diag", 0), "levels": ("level", 1)}
 # The commands that change a case, and those that only ask.
 CHANGES = ("see", "unsee", "hold", "unhold")
+# The commands whose words are names, which may be other names of wires.
+NAMING = (*CHANGES, "probe", "after")
 QUESTIONS = ("min", "next", "list", "after", "probe", "probes", "blame", "dnnf", "level", "levels", "leastnnf")
 
 
@@ -226,7 +228,7 @@ class Session:
         """
 
         def note(_: Sequence[str]) -> None:
-            self._start = faulty
+            self._start = tuple(self._named("after", faulty))
 
         self.service.do([Lines(self.name, self._line("after", *faulty), note=note)])
 
@@ -429,7 +431,7 @@ class Session:
 
     def piece(self, rows: Iterable[Sequence[str]]) -> AnyLines:
         """The same as one request. The words have no blanks."""
-        return AnyLines([" ".join([command, self.name, *words]) for command, *words in rows], self.name, self._note_line)
+        return AnyLines([" ".join([command, self.name, *self._named(command, words)]) for command, *words in rows], self.name, self._note_line)
 
     def change(self, command: str, *words: str) -> None:
         """Carries out a line of a script that opens or closes the session, or changes its case: `see`, `unsee`, `hold` or `unhold`.
@@ -462,12 +464,20 @@ class Session:
         return below, above
 
     def _line(self, command: str, *words: str) -> str:
-        texts = [command, self.name, *map(str, words)]
+        texts = [command, self.name, *self._named(command, [*map(str, words)])]
         line = " ".join(texts)
         if line.split() != texts:
             # Some that Python takes for a blank is none in a script.
             _check_words(texts)
         return line
+
+    def _named(self, command: str, words: Sequence[str]) -> Sequence[str]:
+        """The words of a command, other names of wires replaced."""
+        others = self.service.other_names
+        if not others or command not in NAMING:
+            return words
+        rows = [(word, *word.rpartition("=")) for word in words]
+        return [others.get(word) or f"{others.get(name, name)}{equals}{value}" for word, name, equals, value in rows]
 
     def _told(self, request: Listing, word: str) -> list[list[str]]:
         """What follows the word, in each line of the reply that begins with it."""
@@ -549,11 +559,11 @@ class Session:
 
     def _change(self, command: str, *words: str) -> Lines:
         """A line that changes the case."""
-        return Lines(self.name, self._line(command, *words), note=lambda _: self._note(command, words[:1]))
+        return Lines(self.name, self._line(command, *words), note=lambda _: self._note(command, self._named(command, words[:1])))
 
     def _changed(self, command: str, words: Iterable[str]) -> list[Lines]:
         """Lines that change the case, one for each word, as one request."""
-        texts = list(map(str, words))
+        texts = self._named(command, [*map(str, words)])
         if "" in texts or BLANK.search("".join(texts)):
             _check_words(texts)
         return [Lines(self.name, f"{command} {self.name} ", texts, note=functools.partial(self._note, command))] if texts else []

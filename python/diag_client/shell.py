@@ -205,7 +205,7 @@ class Shell(cmd.Cmd):
     def do_expect(self, rest: str) -> bool:
         """What wires should be."""
         bits = self._waited("expect", self.session.expected)
-        wires = rest.split()
+        wires = [self.service.other_names.get(wire, wire) for wire in rest.split()]
         for wire in wires or bits:
             if wire not in bits:
                 # An unknown name is refused.
@@ -388,7 +388,8 @@ class Shell(cmd.Cmd):
         if command in ("unsee", "unhold"):
             return list(self.session.seen if command == "unsee" else self.session.held)
         if kind.startswith("w"):
-            names, values = self.service.wires, ("0", "1")
+            # Tools make many other names, so they are completed only once they are begun.
+            names, values = (*self.service.wires, *(self.service.other_names if text else ())), ("0", "1")
         elif kind.startswith("p"):
             names, values = self.service.parts, ("ok", "bad")
         else:
@@ -417,7 +418,7 @@ class Shell(cmd.Cmd):
         """The name in a line that is not known, and what looks like it."""
         names = [word.rpartition("=")[0] or word for word in words if word]
         try:
-            known = self.service.wires if text == "no wire" else self.service.parts
+            known = (*self.service.wires, *self.service.other_names) if text == "no wire" else self.service.parts
         except (Inconsistent, Refused):
             # The program names nothing, or has no room for a session in which it would.
             return " ".join(names)

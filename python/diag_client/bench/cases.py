@@ -94,14 +94,18 @@ class Case:
 
 @dataclasses.dataclass(frozen=True)
 class Known:
-    """The names that a reading or a test may speak of. A name that can be reached is one without its time."""
+    """The names that a reading or a test may speak of. A name that can be reached is one without its time. A reading may have another name
+    of a wire too.
+    """
 
     wires: Collection[str]
     parts: Collection[str]
     reachable: Collection[str]
+    others: Mapping[str, str] = dataclasses.field(default_factory=dict)
 
     def reading(self, wire: str, text: str) -> tuple[str, int | None]:
         """A wire and its bit; an empty text, - and x take the reading back."""
+        wire = self.others.get(wire, wire)
         if wire not in self.wires:
             raise Bad(f"no wire {wire}: names are those in the drawing, capital and small letters are not the same")
         # A name is kept once, however often it is entered.
@@ -194,7 +198,7 @@ def read_readings(text: str, known: Known) -> list[tuple[str, dict[str, int | No
     sign = next((sign for sign in "\t;" if sign in text.split("\n")[0]), ",")
     try:
         cells = [[cell.strip() for cell in row] for row in csv.reader(io.StringIO(text), delimiter=sign)]
-        rows = rows_of("the table", cells, set(known.wires))
+        rows = rows_of("the table", cells, {wire: wire for wire in known.wires} | dict(known.others))
     except (BadTable, csv.Error) as error:
         raise Bad(f"{error}; nothing was taken. Write a=0 b=1, or a table of wires by patterns") from error
     has_names = any(NAME_COLUMN in row for row in cells[:1])

@@ -148,7 +148,7 @@ class IsCurrent(InCheckout):
 
 
 class Hints(InCheckout):
-    """One line on standard error after a status from 1 to 4, and nothing else but what the program says."""
+    """One line on standard error after a status from 1 to 5, and nothing else but what the program says."""
 
     def test_hints(self):
         files = {
@@ -177,7 +177,16 @@ class Hints(InCheckout):
             self.assertEqual((got, told, said.count("\n")), (status, "told\n", 1), (words, said))
             self.assertIn(why, said, words)
 
+    def test_full_disk(self):
+        self.is_current()
+        with open("/dev/full", "w") as full:
+            words = [self.top / "diag", "serve", "x.bench"]
+            done = subprocess.run(words, stdout=full, stderr=subprocess.PIPE, text=True, env={**os.environ, "FAKE": "5"})
+        self.assertEqual(done.returncode, 5)
+        self.assertIn("diag: the output could not be written to its end: is the disk full?\n", done.stderr)
+
     def test_none(self):
+        """Of a failed write nothing is said if the output is a pipe: who reads has had enough."""
         self.is_current()
         for status in (0, 5, 6, 7):
             self.assertEqual(self.run_diag("serve", "x.bench", FAKE=str(status)), (status, "told\n", ""))

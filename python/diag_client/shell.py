@@ -412,7 +412,9 @@ class Shell(cmd.Cmd):
             near = [small] if small in self.commands else difflib.get_close_matches(small, [*self.commands, *MORE, "exit"], 1)
             return f"{told}: {command}" + (f"; do you mean {near[0]}?" if near else "; ? lists the commands")
         given = " ".join(filter(None, words))
-        return f"{told}: {given or command}; {_hint(given) or 'it is ' + ' '.join([command, *usage.words])}"
+        # What a number may be is in the text.
+        form = " ".join([command, *usage.words]) + (f": {usage.text}" if usage.words == ("k",) else "")
+        return f"{told}: {given or command}; {_hint(given) or f'it is {form}'}"
 
     def _unknown_name(self, text: str, words: Sequence[str]) -> str:
         """The name in a line that is not known, and what looks like it."""

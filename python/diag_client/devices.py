@@ -163,8 +163,8 @@ def _flatten(device: Device, blocks: dict[str, _Block], block: _Block, path: str
 
 
 def other_names(path: str | os.PathLike[str], frames: int | None = None) -> dict[str, str]:
-    """Other names of wires, by the table that `diag-netlist` wrote beside a device, and the names that these have in the device; over
-    several times each at each. What the device itself calls so goes first.
+    """Other names of wires and of their gates, by the table that `diag-netlist` wrote beside a device, and the names that these have in
+    the device; over several times each at each time too. What the device itself calls so goes first.
     """
     try:
         rows = pathlib.Path(f"{os.fspath(path)}.names").read_text(encoding="utf-8", errors="surrogateescape").split("\n")
@@ -174,9 +174,8 @@ def other_names(path: str | os.PathLike[str], frames: int | None = None) -> dict
         return {}
     wires = set(read_device(path).wires)
     pairs = [(other, name) for name, _, other in (row.partition("\t") for row in rows[1:]) if name in wires and other not in wires]
-    if frames is None:
-        return dict(pairs)
-    return {f"{other}@{time:04}": f"{name}@{time:04}" for other, name in pairs for time in range(1, frames + 1)}
+    times = range(1, (frames or 0) + 1)
+    return dict(pairs) | {f"{other}@{time:04}": f"{name}@{time:04}" for other, name in pairs for time in times}
 
 
 def input_wires(path: str | os.PathLike[str], frames: int | None = None) -> frozenset[str]:

@@ -252,7 +252,7 @@ class Service:
 
     @functools.cached_property
     def other_names(self) -> dict[str, str]:
-        """Names that sessions take too, with the name of the wire here: those that `diag-netlist` has replaced."""
+        """Names that sessions take too, with the name that each stands for: those that `diag-netlist` has replaced."""
         return other_names(self.file, self.frames)
 
     def session(self, name: str | int | None = None) -> Session:

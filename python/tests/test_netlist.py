@@ -272,7 +272,8 @@ class OneWire(Converts):
         service = self.served(f".model m\n.inputs a c\n.outputs y\n{flip_flop}.end\n", frames=2)
         with service.session() as session:
             session.see({"q@0001": 1, "y@0002": 0, "a@0001": 0})
-            self.assertEqual(list(session.seen), ["y@0001", "y@0002", "a@0001"])
+            session.hold(q="ok")
+            self.assertEqual((list(session.seen), session.held), (["y@0001", "y@0002", "a@0001"], {"y": "ok"}))
 
     @needs_program
     def test_in_the_terminal(self):
@@ -291,8 +292,12 @@ class OneWire(Converts):
         board = bench.open_board()
         state = board.do({"act": "readings", "text": "a=1 b=1 y[1]=0"})
         self.assertEqual((state["patterns"][0]["seen"], state["candidates"][0]["parts"]), ([("a", 1), ("b", 1), ("n", 0)], ("n",)))
+        with self.assertRaisesRegex(boards.Bad, r"y\[1\]=2"):
+            board.do({"act": "readings", "text": "y[1]=2"})
         state = board.do({"act": "readings", "text": "a,y[1]\n0,0\n"})
         self.assertEqual(dict(state["patterns"][0]["seen"]), {"a": 0, "b": 1, "n": 0})
+        state = board.do({"act": "load", "text": "see P y[1]=0\nhold P y[1]=bad\n"})
+        self.assertEqual(state["log"][1:], ["open P", "see P n=0", "hold P n=bad"])
 
     def test_edited_by_hand(self):
         """The names in the device itself go first, and only a table that `diag-netlist` wrote is one."""

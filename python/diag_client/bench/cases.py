@@ -94,9 +94,7 @@ class Case:
 
 @dataclasses.dataclass(frozen=True)
 class Known:
-    """The names that a reading or a test may speak of. A name that can be reached is one without its time. A reading may have another name
-    of a wire too.
-    """
+    """The names that a reading or a test may speak of, and other names of these. A name that can be reached is one without its time."""
 
     wires: Collection[str]
     parts: Collection[str]
@@ -105,25 +103,26 @@ class Known:
 
     def reading(self, wire: str, text: str) -> tuple[str, int | None]:
         """A wire and its bit; an empty text, - and x take the reading back."""
-        wire = self.others.get(wire, wire)
-        if wire not in self.wires:
+        here = self.others.get(wire, wire)
+        if here not in self.wires:
             raise Bad(f"no wire {wire}: names are those in the drawing, capital and small letters are not the same")
         # A name is kept once, however often it is entered.
-        wire = sys.intern(wire)
+        here = sys.intern(here)
         if text.strip() in ("", "-", "x", "X"):
-            return wire, None
+            return here, None
         if text.strip() not in ("0", "1"):
             raise Bad(f"{wire}={text}: a reading is 0 or 1")
-        return wire, int(text)
+        return here, int(text)
 
     def mode(self, part: str, mode: str) -> tuple[str, Mode]:
         """A part and how it was tested."""
-        if part not in self.parts:
+        here = self.others.get(part, part)
+        if here not in self.parts:
             raise Bad(f"no part {part}")
         if mode == "ok":
-            return part, "ok"
+            return here, "ok"
         if mode == "bad":
-            return part, "bad"
+            return here, "bad"
         raise Bad(f"{part}={mode}: a part was tested ok or bad")
 
 

@@ -79,8 +79,9 @@ def check_options(file: pathlib.Path, options: Mapping[str, int | bool | None]) 
     except UnicodeEncodeError:
         raise ValueError(f"{os.fspath(file)!r}: the program takes names in UTF-8 only; give the file another name") from None
     if file.suffix not in suffixes:
-        hint = "; a graph (.nnf) needs health=N, the number of its parts" if file.suffix == ".nnf" else ""
-        raise ValueError(f"{file}: the name of the file ends in {' or '.join(suffixes)}{hint}")
+        hints = {".nnf": "; a graph (.nnf) needs health=N, the number of its parts"}
+        hints |= dict.fromkeys((".blif", ".json"), f"; `diag-netlist {file}` makes one")
+        raise ValueError(f"{file}: the name of the file ends in {' or '.join(suffixes)}{hints.get(file.suffix, '')}")
     for name, value in options.items():
         if name not in OPTIONS | {"health"}:
             raise TypeError(f"there is no option {name}")

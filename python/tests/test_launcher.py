@@ -165,7 +165,7 @@ class Hints(InCheckout):
             ("serve plain.bench --budget 8388608 --narrow", 3, "a smaller piece"), ("plan plain.bench --narrow", 3, "a smaller piece"),
             ("serve no.bench", 4, "there is no file no.bench"), ("serve .", 4, ". is a folder"), ("serve --narrow plain.bench", 2, "FILE --narrow"),
             ("--narrow serve plain.bench", 2, "options come after the file"), ("srve plain.bench", 2, "no form `srve`"), ("serve plain.txt", 2, ".bench or .dev;"),
-            ("plan /dev/stdin", 2, ".bench or .dev;"),
+            ("plan /dev/stdin", 2, ".bench or .dev;"), ("plan x.blif", 2, "`diag-netlist x.blif` makes one"), ("check x.json", 2, "ends in .nnf;"),
             ("serve", 2, ".bench or .dev;"), ("check plain.bench", 2, ".nnf"), ("ask plain.nnf", 2, "comes HEALTH: `diag ask FILE HEALTH`"), ("ask plain.nnf --sessions 2", 2, "comes HEALTH"),
             ("ask plain.nnf 4097", 2, "HEALTH is a number from 0 to 4096, without leading zeros"), ("ask plain.nnf 02", 2, "without leading zeros"),
             ("ask plain.nnf 99999999999999999999", 2, "HEALTH is a number"), ("ask plain.nnf 4096 --wide", 2, "an option of `ask`"),

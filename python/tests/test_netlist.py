@@ -300,13 +300,16 @@ class OneWire(Converts):
         self.assertEqual(state["log"][1:], ["open P", "see P n=0", "hold P n=bad"])
 
     def test_edited_by_hand(self):
-        """The names in the device itself go first, and only a table that `diag-netlist` wrote is one."""
+        """The names in the device itself go first, and a table counts only if `diag-netlist` wrote both files."""
         path, _ = self.convert(self.given)
         made = path.read_text()
         self.assertEqual(other_names(path), {"y[1]": "n", "through": "a"})
-        for text in (f"{made}y[1] = NOT(b)\n", made.replace("n", "m")):
+        for text in (f"{made}y[1] = NOT(b)\n", made.replace("n)", "m)").replace("n =", "m =")):
             path.write_text(text)
             self.assertEqual(other_names(path), {"through": "a"})
+        path.write_text(made.replace("# Made", "# Not made"))
+        self.assertEqual(other_names(path), {})
+        path.write_text(made)
         path.with_name(f"{path.name}.names").write_text("a\tthrough\n")
         self.assertEqual(other_names(path), {})
 

@@ -110,7 +110,10 @@ class Session:
 
     def seeing(self, seen: Mapping[str, int]) -> list[Lines]:
         """The lines of `see`, for `Service.carry_out`."""
-        return self._changed("see", [f"{wire}={BITS.get(bit, bit)}" for wire, bit in seen.items()])
+        words = [f"{wire}={BITS.get(bit, bit)}" for wire, bit in seen.items()]
+        if why := at_odds(words, self.service.other_names):
+            raise ValueError(why)
+        return self._changed("see", words)
 
     def close(self) -> None:
         """Closes the session, and what it knew is gone. Does nothing if it, or the service, is closed, or belongs to another process."""
@@ -605,6 +608,20 @@ class Session:
             self._start = None
 
         return Lines(self.name, self._line("close", *words), reply="closed", note=note)
+
+
+def at_odds(readings: Iterable[str], others: Mapping[str, str]) -> str:
+    """Why readings cannot all be right: two names of one wire have different bits. It is empty if they can.
+
+    >>> at_odds(["n=0", "y=1"], {"y": "n"})
+    'n=0 and y=1 are readings of one wire; nothing was taken'
+    """
+    first: dict[str, tuple[str, str]] = {}
+    for name, _, bit in (reading.rpartition("=") for reading in readings if others):
+        other, before = first.setdefault(others.get(name, name), (name, bit))
+        if name != other and bit != before:
+            return f"{other}={before} and {name}={bit} are readings of one wire; nothing was taken"
+    return ""
 
 
 def case_lines(script: str | Iterable[str], of: str | None = None) -> list[list[str]]:

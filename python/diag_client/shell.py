@@ -20,7 +20,7 @@ from .files import write_whole
 from .progress import Progress
 from .replies import AnyLines, Lines
 from .service import Service
-from .session import CHANGES, Session, case_lines
+from .session import CHANGES, Session, at_odds, case_lines
 
 try:
     import readline
@@ -312,6 +312,8 @@ class Shell(cmd.Cmd):
         text = " ".join([*words, ""])
         if command in CHANGES and (" =" in text or "= " in text):
             raise ValueError(f"refused: write {command} name=value without blanks around =; nothing of this line was taken")
+        if command == "see" and (why := at_odds(words[1:], self.service.other_names)):
+            raise ValueError(f"refused: {why}")
         if len(words) > 2 and command in self.for_each:
             return Asked([[command, word] for word in words[1:]], command in CHANGES)
         return Asked([words])

@@ -244,9 +244,11 @@ class OneWire(Converts):
     def test_both_are_read(self):
         service = self.served(self.given)
         session = service.session("S")
-        session.see({"a": 1, "b": 1, "y[1]": 0, "through": 0})
+        with self.assertRaisesRegex(ValueError, "a=1 and through=0 are readings of one wire"):
+            session.see({"a": 1, "b": 1, "y[1]": 0, "through": 0})
+        session.see({"a": 0, "b": 1, "y[1]": 0, "through": 0})
         self.assertEqual(session.seen, {"a": 0, "b": 1, "n": 0})
-        session.see(a=1)
+        session.see(through=1)
         self.assertEqual((session.minimum().faulty, session.expect("y[1]"), session.probe("y[1]").wire), (("n",), 1, "n"))
         session.unsee("y[1]")
         self.assertEqual((session.seen, session.rank_probes(["y[1]", "b"])[0].wire), ({"a": 1, "b": 1}, "n"))
@@ -278,10 +280,11 @@ class OneWire(Converts):
     @needs_program
     def test_in_the_terminal(self):
         path, _ = self.convert(self.given)
-        lines = "see a=1 b=1 through=1\nsee y[1]=0\nexpect y[1]\nmin\nsee y[2]=0\n"
+        lines = "see a=1 b=1 through=1\nsee n=1 y[1]=0\nsee y[1]=0\nexpect y[1]\nmin\nsee y[2]=0\n"
         words = [sys.executable, "-m", "diag_client", "shell", path]
         done = subprocess.run(words, input=lines, capture_output=True, text=True, env={**os.environ, "PYTHONPATH": str(TOP / "python")})
-        wanted = ["3 readings taken", "ok", "n should be 1, and was seen as 0", "min 1 n", "refused: no wire (error 9): y[2]; near it: y[1]"]
+        why = "refused: n=1 and y[1]=0 are readings of one wire; nothing was taken"
+        wanted = ["3 readings taken", why, "ok", "n should be 1, and was seen as 0", "min 1 n", "refused: no wire (error 9): y[2]; near it: y[1]"]
         self.assertEqual(done.stdout.splitlines(), wanted)
 
     @needs_program
@@ -292,8 +295,9 @@ class OneWire(Converts):
         board = bench.open_board()
         state = board.do({"act": "readings", "text": "a=1 b=1 y[1]=0"})
         self.assertEqual((state["patterns"][0]["seen"], state["candidates"][0]["parts"]), ([("a", 1), ("b", 1), ("n", 0)], ("n",)))
-        with self.assertRaisesRegex(boards.Bad, r"y\[1\]=2"):
-            board.do({"act": "readings", "text": "y[1]=2"})
+        for text, why in (("y[1]=2", r"y\[1\]=2: a reading"), ("y[1]=1 b=0 n=0", "one wire; nothing")):
+            with self.assertRaisesRegex(boards.Bad, why):
+                board.do({"act": "readings", "text": text})
         state = board.do({"act": "readings", "text": "a,y[1]\n0,0\n"})
         self.assertEqual(dict(state["patterns"][0]["seen"]), {"a": 0, "b": 1, "n": 0})
         state = board.do({"act": "load", "text": "see P y[1]=0\nhold P y[1]=bad\n"})

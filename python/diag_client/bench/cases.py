@@ -10,6 +10,7 @@ import sys
 from collections.abc import Collection, Iterable, Mapping
 
 from ..replies import Mode
+from ..session import at_odds
 from ..tables import NAME as NAME_COLUMN
 from ..tables import BadTable, rows_of
 
@@ -193,6 +194,8 @@ def read_readings(text: str, known: Known) -> list[tuple[str, dict[str, int | No
         for word, (wire, sign, _) in zip(words, pairs):
             if not sign or not wire:
                 raise Bad(f"{word!r} is no reading: write a=0 b=1")
+        if why := at_odds(words, known.others):
+            raise Bad(why)
         return [("", dict(known.reading(wire, bit) for wire, _, bit in pairs))]
     sign = next((sign for sign in "\t;" if sign in text.split("\n")[0]), ",")
     try:

@@ -60,7 +60,7 @@ def rank(session: Session, among: Iterable[str] | None, limit: int) -> list[Prop
         found = list(scratch.diagnoses(limit + 1))
         at_hand = found[:limit]
         cost = scratch.minimum().cost
-        unseen = None if among is None else sorted(set(among) - session.seen.keys())
+        unseen = None if among is None else sorted({session.service.other_names.get(wire, wire) for wire in among} - session.seen.keys())
         rows = scratch.probes() if unseen is None else scratch.probe_each(unseen)
         # If the least cost rises with a bit, no diagnosis goes on with it, and so all do with the other one.
         counts = {row.wire: [len(at_hand) if bit == cost else 0 for bit in (row.if_zero, row.if_one)] for row in rows}

@@ -205,7 +205,8 @@ class BoardShell(Shell):
         self._say("end")
 
     def _best(self, words: list[str]) -> None:
-        rows = [row for row in self._together().rank_probes() if row.reduction > 0 and (not words or row.wire in words)]
+        among = {self.service.other_names.get(word, word) for word in words}
+        rows = [row for row in self._together().rank_probes() if row.reduction > 0 and (not among or row.wire in among)]
         self._say("\n".join(map(str, rows[:BEST])) or "no wire splits the diagnoses at hand")
 
 

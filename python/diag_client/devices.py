@@ -57,6 +57,9 @@ GATES = {
 # Other words of gates in netlists.
 OTHER_WORDS = {"BUF": "BUFF"}
 FLIP_FLOP = "DFF"
+# How the files that `diag-netlist` makes begin and end in their first lines, and the first line of the table of names beside one.
+MADE, MADE_BY = "# Made of ", " by diag-netlist."
+NAMES = "# The name here, and the name in the file that it was made of."
 
 
 @dataclasses.dataclass(frozen=True)
@@ -158,6 +161,31 @@ def _flatten(device: Device, blocks: dict[str, _Block], block: _Block, path: str
             _flatten(device, blocks, inner, f"{path}{name}.", dict(zip(inner.ports, wires)))
         else:
             device.parts.append(Part(path + name, kind, tuple(wires)))
+
+
+def is_made_here(path: pathlib.Path) -> bool:
+    """Whether a file was made by `diag-netlist`, by its first line."""
+    with path.open(encoding="utf-8", errors="surrogateescape") as file:
+        line = file.readline().rstrip("\n")
+    return line == NAMES or (line.startswith(MADE) and line.endswith(MADE_BY))
+
+
+def other_names(path: str | os.PathLike[str], frames: int | None = None) -> dict[str, str]:
+    """Other names of wires and of their gates, by the table that `diag-netlist` wrote beside a device, and the names that these have in
+    the device; over several times each at each time too. What the device itself calls so goes first.
+    """
+    path = pathlib.Path(path)
+    table = path.with_name(f"{path.name}.names")
+    try:
+        if not (is_made_here(table) and is_made_here(path)):
+            return {}
+        rows = [row.partition("\t") for row in table.read_text(encoding="utf-8", errors="surrogateescape").split("\n")]
+        wires = set(read_device(path).wires)
+    except OSError:
+        return {}
+    pairs = [(other, name) for name, _, other in rows if name in wires and other not in wires]
+    times = range(1, (frames or 0) + 1)
+    return dict(pairs) | {f"{other}@{time:04}": f"{name}@{time:04}" for other, name in pairs for time in times}
 
 
 def input_wires(path: str | os.PathLike[str], frames: int | None = None) -> frozenset[str]:

@@ -8,6 +8,7 @@ import re
 import sys
 from collections.abc import Sequence
 
+from .devices import MADE, MADE_BY, NAMES, is_made_here
 from .errors import DiagError, sentence
 from .files import write_whole
 from .netlist_circuit import Circuit, Node, UnusableNetlist, kind_of
@@ -19,9 +20,6 @@ LONGEST_NAME = 32
 MOST_PORTS = 6
 # So many wires are on a line of a design.
 WIRES_ON_A_LINE = 12
-# How the files that are made here begin and end in their first lines.
-MADE, MADE_BY = "# Made of ", " by diag-netlist."
-NAMES = "# The name here, and the name in the file that it was made of."
 TYPE_NAMES = {(len(letters), table): name for name, (letters, table) in TABLES.items()}
 TOP = "TOP"
 
@@ -124,11 +122,12 @@ def table_text(circuit: Circuit, names: dict[str, str]) -> str:
     return "\n".join(lines) + "\n"
 
 
-def is_made_here(path: pathlib.Path) -> bool:
-    """Whether a file was made by `convert`, by its first line."""
-    with path.open(encoding="utf-8", errors="surrogateescape") as file:
-        line = file.readline().rstrip("\n")
-    return line == NAMES or (line.startswith(MADE) and line.endswith(MADE_BY))
+def one_wire(circuit: Circuit, names: dict[str, str]) -> list[str]:
+    """Which pins are one wire, and so have one name here."""
+    pins: dict[str, list[str]] = {}
+    for pin in dict.fromkeys([*circuit.inputs, *circuit.outputs]):
+        pins.setdefault(names[circuit.find(pin)], []).append(pin)
+    return [f"one wire: {' '.join(found)}; its name is {name}" for name, found in pins.items() if len(found) > 1]
 
 
 def convert(path: pathlib.Path, out: pathlib.Path | None = None) -> list[str]:
@@ -162,7 +161,7 @@ def convert(path: pathlib.Path, out: pathlib.Path | None = None) -> list[str]:
         said.append(f"{table}: {sum(line[:1] != '#' for line in text.splitlines())} names that were replaced")
     else:
         table.unlink(missing_ok=True)
-    return said + [f"left out: {text}" for text in circuit.left_out]
+    return said + one_wire(circuit, names) + [f"left out: {text}" for text in circuit.left_out]
 
 
 def main(words: Sequence[str] | None = None) -> int:

@@ -14,7 +14,7 @@ from typing import TYPE_CHECKING
 
 from . import manual
 from .child import Child
-from .devices import input_wires
+from .devices import input_wires, other_names
 from .errors import Ended, NotBuilt
 from .joint import Joint
 from .replies import AnyLines, Lines, Ready, Request
@@ -79,8 +79,9 @@ def check_options(file: pathlib.Path, options: Mapping[str, int | bool | None]) 
     except UnicodeEncodeError:
         raise ValueError(f"{os.fspath(file)!r}: the program takes names in UTF-8 only; give the file another name") from None
     if file.suffix not in suffixes:
-        hint = "; a graph (.nnf) needs health=N, the number of its parts" if file.suffix == ".nnf" else ""
-        raise ValueError(f"{file}: the name of the file ends in {' or '.join(suffixes)}{hint}")
+        hints = {".nnf": "; a graph (.nnf) needs health=N, the number of its parts"}
+        hints |= dict.fromkeys((".blif", ".json"), f"; `diag-netlist {file}` makes one")
+        raise ValueError(f"{file}: the name of the file ends in {' or '.join(suffixes)}{hints.get(file.suffix, '')}")
     for name, value in options.items():
         if name not in OPTIONS | {"health"}:
             raise TypeError(f"there is no option {name}")
@@ -250,6 +251,11 @@ class Service:
         """
         return frozenset() if self.file.suffix == ".nnf" else input_wires(self.file, self.frames)
 
+    @functools.cached_property
+    def other_names(self) -> dict[str, str]:
+        """Names that sessions take too, with the name that each stands for: those that `diag-netlist` has replaced."""
+        return other_names(self.file, self.frames)
+
     def session(self, name: str | int | None = None) -> Session:
         """Opens a session, by a name of your own or by one that is made, which is s and a number.
 
@@ -299,7 +305,7 @@ class Service:
         ...     print({name: session.minimum().cost for name, session in patterns.items()}, service.together(patterns.values()).minimum())
         {'p1': 1, 'p2': 1} Minimum(cost=1, faulty=('10',))
         """
-        rows = read_table(source, self.wires)
+        rows = read_table(source, self.wires, self.other_names)
         opened = {row.name: Session(self, row.name) for row in rows}
         self._given.update(opened)
         try:

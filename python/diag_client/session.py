@@ -29,6 +29,8 @@ LARGEST_PAGE = 512
 LISTINGS = {"list": ("diag", 0), "levels": ("level", 1)}
 # The commands that change a case, and those that only ask.
 CHANGES = ("see", "unsee", "hold", "unhold")
+# The commands whose words are names, which may be other names of wires.
+NAMING = (*CHANGES, "probe", "after")
 QUESTIONS = ("min", "next", "list", "after", "probe", "probes", "blame", "dnnf", "level", "levels", "leastnnf")
 
 
@@ -108,7 +110,10 @@ class Session:
 
     def seeing(self, seen: Mapping[str, int]) -> list[Lines]:
         """The lines of `see`, for `Service.carry_out`."""
-        return self._changed("see", [f"{wire}={BITS.get(bit, bit)}" for wire, bit in seen.items()])
+        words = [f"{wire}={BITS.get(bit, bit)}" for wire, bit in seen.items()]
+        if why := at_odds(words, self.service.other_names):
+            raise ValueError(why)
+        return self._changed("see", words)
 
     def close(self) -> None:
         """Closes the session, and what it knew is gone. Does nothing if it, or the service, is closed, or belongs to another process."""
@@ -226,7 +231,7 @@ class Session:
         """
 
         def note(_: Sequence[str]) -> None:
-            self._start = faulty
+            self._start = tuple(self._named("after", faulty))
 
         self.service.do([Lines(self.name, self._line("after", *faulty), note=note)])
 
@@ -429,7 +434,7 @@ class Session:
 
     def piece(self, rows: Iterable[Sequence[str]]) -> AnyLines:
         """The same as one request. The words have no blanks."""
-        return AnyLines([" ".join([command, self.name, *words]) for command, *words in rows], self.name, self._note_line)
+        return AnyLines([" ".join([command, self.name, *self._named(command, words)]) for command, *words in rows], self.name, self._note_line)
 
     def change(self, command: str, *words: str) -> None:
         """Carries out a line of a script that opens or closes the session, or changes its case: `see`, `unsee`, `hold` or `unhold`.
@@ -462,12 +467,20 @@ class Session:
         return below, above
 
     def _line(self, command: str, *words: str) -> str:
-        texts = [command, self.name, *map(str, words)]
+        texts = [command, self.name, *self._named(command, [*map(str, words)])]
         line = " ".join(texts)
         if line.split() != texts:
             # Some that Python takes for a blank is none in a script.
             _check_words(texts)
         return line
+
+    def _named(self, command: str, words: Sequence[str]) -> Sequence[str]:
+        """The words of a command, other names of wires replaced."""
+        others = self.service.other_names
+        if not others or command not in NAMING:
+            return words
+        rows = [(word, *word.rpartition("=")) for word in words]
+        return [others.get(word) or f"{others.get(name, name)}{equals}{value}" for word, name, equals, value in rows]
 
     def _told(self, request: Listing, word: str) -> list[list[str]]:
         """What follows the word, in each line of the reply that begins with it."""
@@ -549,11 +562,11 @@ class Session:
 
     def _change(self, command: str, *words: str) -> Lines:
         """A line that changes the case."""
-        return Lines(self.name, self._line(command, *words), note=lambda _: self._note(command, words[:1]))
+        return Lines(self.name, self._line(command, *words), note=lambda _: self._note(command, self._named(command, words[:1])))
 
     def _changed(self, command: str, words: Iterable[str]) -> list[Lines]:
         """Lines that change the case, one for each word, as one request."""
-        texts = list(map(str, words))
+        texts = self._named(command, [*map(str, words)])
         if "" in texts or BLANK.search("".join(texts)):
             _check_words(texts)
         return [Lines(self.name, f"{command} {self.name} ", texts, note=functools.partial(self._note, command))] if texts else []
@@ -595,6 +608,20 @@ class Session:
             self._start = None
 
         return Lines(self.name, self._line("close", *words), reply="closed", note=note)
+
+
+def at_odds(readings: Iterable[str], others: Mapping[str, str]) -> str:
+    """Why readings cannot all be right: two names of one wire have different bits. It is empty if they can.
+
+    >>> at_odds(["n=0", "y=1"], {"y": "n"})
+    'n=0 and y=1 are readings of one wire; nothing was taken'
+    """
+    first: dict[str, tuple[str, str]] = {}
+    for name, _, bit in (reading.rpartition("=") for reading in readings if others):
+        other, before = first.setdefault(others.get(name, name), (name, bit))
+        if name != other and bit != before:
+            return f"{other}={before} and {name}={bit} are readings of one wire; nothing was taken"
+    return ""
 
 
 def case_lines(script: str | Iterable[str], of: str | None = None) -> list[list[str]]:

@@ -20,7 +20,7 @@ from .files import write_whole
 from .progress import Progress
 from .replies import AnyLines, Lines
 from .service import Service
-from .session import CHANGES, Session, case_lines
+from .session import CHANGES, Session, at_odds, case_lines
 
 try:
     import readline
@@ -205,7 +205,7 @@ class Shell(cmd.Cmd):
     def do_expect(self, rest: str) -> bool:
         """What wires should be."""
         bits = self._waited("expect", self.session.expected)
-        wires = rest.split()
+        wires = [self.service.other_names.get(wire, wire) for wire in rest.split()]
         for wire in wires or bits:
             if wire not in bits:
                 # An unknown name is refused.
@@ -312,6 +312,8 @@ class Shell(cmd.Cmd):
         text = " ".join([*words, ""])
         if command in CHANGES and (" =" in text or "= " in text):
             raise ValueError(f"refused: write {command} name=value without blanks around =; nothing of this line was taken")
+        if command == "see" and (why := at_odds(words[1:], self.service.other_names)):
+            raise ValueError(f"refused: {why}")
         if len(words) > 2 and command in self.for_each:
             return Asked([[command, word] for word in words[1:]], command in CHANGES)
         return Asked([words])
@@ -388,7 +390,8 @@ class Shell(cmd.Cmd):
         if command in ("unsee", "unhold"):
             return list(self.session.seen if command == "unsee" else self.session.held)
         if kind.startswith("w"):
-            names, values = self.service.wires, ("0", "1")
+            # Tools make many other names, so they are completed only once they are begun.
+            names, values = (*self.service.wires, *(self.service.other_names if text else ())), ("0", "1")
         elif kind.startswith("p"):
             names, values = self.service.parts, ("ok", "bad")
         else:
@@ -411,13 +414,15 @@ class Shell(cmd.Cmd):
             near = [small] if small in self.commands else difflib.get_close_matches(small, [*self.commands, *MORE, "exit"], 1)
             return f"{told}: {command}" + (f"; do you mean {near[0]}?" if near else "; ? lists the commands")
         given = " ".join(filter(None, words))
-        return f"{told}: {given or command}; {_hint(given) or 'it is ' + ' '.join([command, *usage.words])}"
+        # What a number may be is in the text.
+        form = " ".join([command, *usage.words]) + (f": {usage.text}" if usage.words == ("k",) else "")
+        return f"{told}: {given or command}; {_hint(given) or f'it is {form}'}"
 
     def _unknown_name(self, text: str, words: Sequence[str]) -> str:
         """The name in a line that is not known, and what looks like it."""
         names = [word.rpartition("=")[0] or word for word in words if word]
         try:
-            known = self.service.wires if text == "no wire" else self.service.parts
+            known = (*self.service.wires, *self.service.other_names) if text == "no wire" else self.service.parts
         except (Inconsistent, Refused):
             # The program names nothing, or has no room for a session in which it would.
             return " ".join(names)

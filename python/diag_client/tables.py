@@ -6,7 +6,7 @@ import csv
 import dataclasses
 import io
 import os
-from collections.abc import Iterable, Sequence
+from collections.abc import Iterable, Mapping, Sequence
 
 from .errors import DiagError
 from .session import BLANKS
@@ -28,50 +28,51 @@ class Row:
     seen: dict[str, int]
 
 
-def read_table(source: str | os.PathLike[str] | Rows, wires: Iterable[str]) -> list[Row]:
-    """The patterns in a file of comma-separated values, or in rows of cells, over a device with these wires.
+def read_table(source: str | os.PathLike[str] | Rows, wires: Iterable[str], others: Mapping[str, str] | None = None) -> list[Row]:
+    """The patterns in a file of comma-separated values, or in rows of cells, over a device with these wires and other names of them.
 
     A cell is 0, 1 or empty. A column called `pattern` names them; without it they are p1, p2 and so on. Semicolons or tabs may part the
     cells as well.
     """
-    wires = set(wires)
+    names = {wire: wire for wire in wires} | dict(others or {})
     if not isinstance(source, (str, os.PathLike)):
-        return rows_of("the table", [[str(cell).strip(BLANKS) for cell in row] for row in source], wires)
+        return rows_of("the table", [[str(cell).strip(BLANKS) for cell in row] for row in source], names)
     # Some programs put a mark before UTF-8.
     with open(source, encoding="utf-8-sig", errors="surrogateescape", newline="") as file:
         text = file.read()
     header = text.strip().split("\n")[0].strip(BLANKS)
-    sign = next((sign for sign in ",;\t" if sign in header and header not in wires), ",")
+    sign = next((sign for sign in ",;\t" if sign in header and header not in names), ",")
     try:
         cells = [[cell.strip(BLANKS) for cell in row] for row in csv.reader(io.StringIO(text, newline=""), delimiter=sign, strict=True)]
     except csv.Error as error:
         raise BadTable(f"{source}: not comma-separated values: {error}") from None
-    return rows_of(os.fspath(source), cells, wires)
+    return rows_of(os.fspath(source), cells, names)
 
 
-def rows_of(table: str, cells: Sequence[Sequence[str]], wires: set[str]) -> list[Row]:
-    """The patterns in the cells of a table. A row of empty cells is passed over."""
+def rows_of(table: str, cells: Sequence[Sequence[str]], names: Mapping[str, str]) -> list[Row]:
+    """The patterns in the cells of a table, given the wire of each name. A row of empty cells is passed over."""
     numbered = [(number, row) for number, row in enumerate(cells, 1) if any(row)]
     if len(numbered) < 2:
         raise BadTable(f"{table}: a first row with the names of wires is needed, and a row for each pattern")
     (first, header), *rest = numbered
     for column, name in enumerate(header, 1):
-        if name != NAME and name not in wires:
+        if name != NAME and name not in names:
             raise BadTable(f"{table}: row {first}, column {column}: no wire {name!r}")
         if name in header[:column - 1]:
             raise BadTable(f"{table}: row {first}, column {column}: a second column {name!r}")
     found: list[Row] = []
     for place, (number, row) in enumerate(rest, 1):
-        found.append(_row(f"{table}: row {number}", place, header, row))
+        found.append(_row(f"{table}: row {number}", place, header, row, names))
         if found[-1].name in [other.name for other in found[:-1]]:
             raise BadTable(f"{table}: row {number}, column {header.index(NAME) + 1}: a second pattern {found[-1].name!r}")
     return found
 
 
-def _row(where: str, place: int, header: Sequence[str], row: Sequence[str]) -> Row:
+def _row(where: str, place: int, header: Sequence[str], row: Sequence[str], names: Mapping[str, str]) -> Row:
     if len(row) != len(header):
         raise BadTable(f"{where}, column {min(len(row), len(header)) + 1}: {len(row)} cells, and the first row has {len(header)}")
-    seen, name = {}, f"p{place}"
+    seen: dict[str, int] = {}
+    name = f"p{place}"
     for column, (wire, cell) in enumerate(zip(header, row, strict=True), 1):
         if wire == NAME:
             if not cell or any(byte in cell for byte in BLANKS):
@@ -79,6 +80,6 @@ def _row(where: str, place: int, header: Sequence[str], row: Sequence[str]) -> R
             name = cell
         elif cell not in ("", "0", "1"):
             raise BadTable(f"{where}, column {column} ({wire}): not 0, 1 or empty: {cell!r}")
-        elif cell:
-            seen[wire] = int(cell)
+        elif cell and seen.setdefault(names[wire], int(cell)) != int(cell):
+            raise BadTable(f"{where}, column {column} ({wire}): not {cell}, since it is one wire with a column before it")
     return Row(name, seen)

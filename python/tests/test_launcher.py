@@ -148,7 +148,7 @@ class IsCurrent(InCheckout):
 
 
 class Hints(InCheckout):
-    """One line on standard error after a status from 1 to 4, and nothing else but what the program says."""
+    """One line on standard error after a status from 1 to 5, and nothing else but what the program says."""
 
     def test_hints(self):
         files = {
@@ -165,7 +165,7 @@ class Hints(InCheckout):
             ("serve plain.bench --budget 8388608 --narrow", 3, "a smaller piece"), ("plan plain.bench --narrow", 3, "a smaller piece"),
             ("serve no.bench", 4, "there is no file no.bench"), ("serve .", 4, ". is a folder"), ("serve --narrow plain.bench", 2, "FILE --narrow"),
             ("--narrow serve plain.bench", 2, "options come after the file"), ("srve plain.bench", 2, "no form `srve`"), ("serve plain.txt", 2, ".bench or .dev;"),
-            ("plan /dev/stdin", 2, ".bench or .dev;"),
+            ("plan /dev/stdin", 2, ".bench or .dev;"), ("plan x.blif", 2, "`diag-netlist x.blif` makes one"), ("check x.json", 2, "ends in .nnf;"),
             ("serve", 2, ".bench or .dev;"), ("check plain.bench", 2, ".nnf"), ("ask plain.nnf", 2, "comes HEALTH: `diag ask FILE HEALTH`"), ("ask plain.nnf --sessions 2", 2, "comes HEALTH"),
             ("ask plain.nnf 4097", 2, "HEALTH is a number from 0 to 4096, without leading zeros"), ("ask plain.nnf 02", 2, "without leading zeros"),
             ("ask plain.nnf 99999999999999999999", 2, "HEALTH is a number"), ("ask plain.nnf 4096 --wide", 2, "an option of `ask`"),
@@ -177,7 +177,16 @@ class Hints(InCheckout):
             self.assertEqual((got, told, said.count("\n")), (status, "told\n", 1), (words, said))
             self.assertIn(why, said, words)
 
+    def test_full_disk(self):
+        self.is_current()
+        with open("/dev/full", "w") as full:
+            words = [self.top / "diag", "serve", "x.bench"]
+            done = subprocess.run(words, stdout=full, stderr=subprocess.PIPE, text=True, env={**os.environ, "FAKE": "5"})
+        self.assertEqual(done.returncode, 5)
+        self.assertIn("diag: the output could not be written to its end: is the disk full?\n", done.stderr)
+
     def test_none(self):
+        """Of a failed write nothing is said if the output is a pipe: who reads has had enough."""
         self.is_current()
         for status in (0, 5, 6, 7):
             self.assertEqual(self.run_diag("serve", "x.bench", FAKE=str(status)), (status, "told\n", ""))

@@ -15,8 +15,9 @@ import unittest
 
 from support import EXAMPLES, PROGRAM, TOP, needs_program
 
-from diag_client import netlist, netlist_circuit, netlist_readers
-from diag_client.devices import GATES, read_device
+from diag_client import DiagError, Refused, Service, netlist, netlist_circuit, netlist_readers
+from diag_client.bench import boards
+from diag_client.devices import GATES, other_names, read_device
 from diag_client.netlist_circuit import Circuit, UnusableNetlist, table_of
 from diag_client.netlist_readers import TABLES, read_blif
 
@@ -219,6 +220,102 @@ class AtRandom(Converts):
             for index in range(1 << len(letters)):
                 bits = [index >> place & 1 for place in range(len(letters))]
                 self.assertEqual(table >> index & 1, says[word](*bits) & 1, (word, bits))
+
+
+class OneWire(Converts):
+    """Two pins of one wire: a reading may have either name."""
+
+    def setUp(self):
+        super().setUp()
+        cells = ".gate $_AND_ A=a B=b Y=y[1]\n.gate $_NOT_ A=y[1] Y=z\n.names y[1] n\n1 1\n.names a through\n1 1\n"
+        self.given = f".model m\n.inputs a b\n.outputs y[1] n z through\n{cells}.end\n"
+
+    def served(self, text, **options):
+        """A service of what is written of a text."""
+        path, _ = self.convert(text)
+        return self.enterContext(Service(path, **options))
+
+    def test_says_so(self):
+        (self.folder / "given.blif").write_text(self.given)
+        said = netlist.convert(self.folder / "given.blif")
+        self.assertEqual(said[2:], ["one wire: a through; its name is a", "one wire: y[1] n; its name is n"])
+
+    @needs_program
+    def test_both_are_read(self):
+        service = self.served(self.given)
+        session = service.session("S")
+        with self.assertRaisesRegex(ValueError, "a=1 and through=0 are readings of one wire"):
+            session.see({"a": 1, "b": 1, "y[1]": 0, "through": 0})
+        session.see({"a": 0, "b": 1, "y[1]": 0, "through": 0})
+        self.assertEqual(session.seen, {"a": 0, "b": 1, "n": 0})
+        session.see(through=1)
+        self.assertEqual((session.minimum().faulty, session.expect("y[1]"), session.probe("y[1]").wire), (("n",), 1, "n"))
+        session.unsee("y[1]")
+        self.assertEqual((session.seen, session.rank_probes(["y[1]", "b"])[0].wire), ({"a": 1, "b": 1}, "n"))
+        session.hold({"y[1]": "bad"})
+        session.after("y[1]")
+        service.restart()
+        self.assertEqual((session.held, list(session.diagnoses())), ({"n": "bad"}, []))
+        self.assertEqual(session.batch(["see y[1]=0", "min", "unsee y[1]"]), [["S ok"], ["S min 1 n"], ["S ok"]])
+        with self.assertRaisesRegex(Refused, "no wire"):
+            session.see({"y[2]": 1})
+
+    @needs_program
+    def test_tables(self):
+        service = self.served(self.given)
+        patterns = service.patterns([["a", "y[1]", "n"], [0, 0, ""], [1, "", 1], [1, 1, 1]])
+        self.assertEqual([dict(session.seen) for session in patterns.values()], [{"a": 0, "n": 0}, {"a": 1, "n": 1}, {"a": 1, "n": 1}])
+        with self.assertRaisesRegex(DiagError, r"row 2, column 3 \(n\): not 1, since it is one wire with a column before it"):
+            service.patterns([["a", "y[1]", "n"], [0, 0, 1]])
+
+    @needs_program
+    def test_over_times(self):
+        flip_flop = ".gate $_DFF_P_ C=c D=a Q=q\n.names q y\n1 1\n"
+        service = self.served(f".model m\n.inputs a c\n.outputs y\n{flip_flop}.end\n", frames=2)
+        with service.session() as session:
+            session.see({"q@0001": 1, "y@0002": 0, "a@0001": 0})
+            session.hold(q="ok")
+            self.assertEqual((list(session.seen), session.held), (["y@0001", "y@0002", "a@0001"], {"y": "ok"}))
+
+    @needs_program
+    def test_in_the_terminal(self):
+        path, _ = self.convert(self.given)
+        lines = "see a=1 b=1 through=1\nsee n=1 y[1]=0\nsee y[1]=0\nexpect y[1]\nmin\nsee y[2]=0\n"
+        words = [sys.executable, "-m", "diag_client", "shell", path]
+        done = subprocess.run(words, input=lines, capture_output=True, text=True, env={**os.environ, "PYTHONPATH": str(TOP / "python")})
+        why = "refused: n=1 and y[1]=0 are readings of one wire; nothing was taken"
+        wanted = ["3 readings taken", why, "ok", "n should be 1, and was seen as 0", "min 1 n", "refused: no wire (error 9): y[2]; near it: y[1]"]
+        self.assertEqual(done.stdout.splitlines(), wanted)
+
+    @needs_program
+    def test_at_the_bench(self):
+        path, _ = self.convert(self.given)
+        bench = boards.Bench(path)
+        self.addCleanup(bench.close)
+        board = bench.open_board()
+        state = board.do({"act": "readings", "text": "a=1 b=1 y[1]=0"})
+        self.assertEqual((state["patterns"][0]["seen"], state["candidates"][0]["parts"]), ([("a", 1), ("b", 1), ("n", 0)], ("n",)))
+        for text, why in (("y[1]=2", r"y\[1\]=2: a reading"), ("y[1]=1 b=0 n=0", "one wire; nothing")):
+            with self.assertRaisesRegex(boards.Bad, why):
+                board.do({"act": "readings", "text": text})
+        state = board.do({"act": "readings", "text": "a,y[1]\n0,0\n"})
+        self.assertEqual(dict(state["patterns"][0]["seen"]), {"a": 0, "b": 1, "n": 0})
+        state = board.do({"act": "load", "text": "see P y[1]=0\nhold P y[1]=bad\n"})
+        self.assertEqual(state["log"][1:], ["open P", "see P n=0", "hold P n=bad"])
+
+    def test_edited_by_hand(self):
+        """The names in the device itself go first, and a table counts only if `diag-netlist` wrote both files."""
+        path, _ = self.convert(self.given)
+        made = path.read_text()
+        self.assertEqual(other_names(path), {"y[1]": "n", "through": "a"})
+        for text in (f"{made}y[1] = NOT(b)\n", made.replace("n)", "m)").replace("n =", "m =")):
+            path.write_text(text)
+            self.assertEqual(other_names(path), {"through": "a"})
+        path.write_text(made.replace("# Made", "# Not made"))
+        self.assertEqual(other_names(path), {})
+        path.write_text(made)
+        path.with_name(f"{path.name}.names").write_text("a\tthrough\n")
+        self.assertEqual(other_names(path), {})
 
 
 class ByHand(Converts):

@@ -76,6 +76,7 @@ class Lines(unittest.TestCase):
             self.assertTrue(told[0].startswith(f"refused: {text} (error {number})"), told)
         self.assertIn("near it: 2", self.say("see 24=1")[0])
         self.assertIn("it is see w=b", self.say("see 1=2")[0])
+        self.assertIn("it is list k: the next k diagnoses; k is 1 to 1000000", self.say("list 1000001")[0])
         self.assertIn("? lists the commands", self.say("dance")[0])
 
     def test_none_is_lost(self):

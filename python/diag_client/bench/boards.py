@@ -18,6 +18,7 @@ from typing import Any, TypeVar
 
 from .. import progress
 from ..advice import Proposal
+from ..devices import other_names
 from ..errors import DiagError, Ended, Inconsistent, Refused
 from ..joint import Joint, JointProposal
 from ..replies import Listing, Mode, Request, Verdict
@@ -71,6 +72,7 @@ class Bench:
         self.lock = threading.Lock()
         self._drawing_lock = threading.Lock()
         self.scene = Scene(file)
+        self.other_names = other_names(file)
         self.title = self.service.title
         self.boards: dict[str, Board] = {}
         self._watched: dict[str, Board] = {}
@@ -80,7 +82,7 @@ class Bench:
         wires = self.scene.device.wires
         times = range(1, (self.frames or 0) + 1)
         names = frozenset(f"{wire}@{time:04}" for wire in wires for time in times) if self.frames else frozenset(wires)
-        self.known = Known(names, frozenset(self.scene.parts), frozenset(wires))
+        self.known = Known(names, frozenset(self.scene.parts), frozenset(wires), self.service.other_names)
         # What is put in from outside: the inputs at each time, and what the flip-flops hold at the first.
         self.given = frozenset(f"{wire}@{time:04}" for wire in self.scene.inputs for time in times) or frozenset(self.scene.inputs)
         self.given |= frozenset(f"{wire}@0001" for wire in self.scene.flip_flops)

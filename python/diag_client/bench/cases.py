@@ -10,6 +10,7 @@ import sys
 from collections.abc import Collection, Iterable, Mapping
 
 from ..replies import Mode
+from ..session import at_odds
 from ..tables import NAME as NAME_COLUMN
 from ..tables import BadTable, rows_of
 
@@ -94,32 +95,35 @@ class Case:
 
 @dataclasses.dataclass(frozen=True)
 class Known:
-    """The names that a reading or a test may speak of. A name that can be reached is one without its time."""
+    """The names that a reading or a test may speak of, and other names of these. A name that can be reached is one without its time."""
 
     wires: Collection[str]
     parts: Collection[str]
     reachable: Collection[str]
+    others: Mapping[str, str] = dataclasses.field(default_factory=dict)
 
     def reading(self, wire: str, text: str) -> tuple[str, int | None]:
         """A wire and its bit; an empty text, - and x take the reading back."""
-        if wire not in self.wires:
+        here = self.others.get(wire, wire)
+        if here not in self.wires:
             raise Bad(f"no wire {wire}: names are those in the drawing, capital and small letters are not the same")
         # A name is kept once, however often it is entered.
-        wire = sys.intern(wire)
+        here = sys.intern(here)
         if text.strip() in ("", "-", "x", "X"):
-            return wire, None
+            return here, None
         if text.strip() not in ("0", "1"):
             raise Bad(f"{wire}={text}: a reading is 0 or 1")
-        return wire, int(text)
+        return here, int(text)
 
     def mode(self, part: str, mode: str) -> tuple[str, Mode]:
         """A part and how it was tested."""
-        if part not in self.parts:
+        here = self.others.get(part, part)
+        if here not in self.parts:
             raise Bad(f"no part {part}")
         if mode == "ok":
-            return part, "ok"
+            return here, "ok"
         if mode == "bad":
-            return part, "bad"
+            return here, "bad"
         raise Bad(f"{part}={mode}: a part was tested ok or bad")
 
 
@@ -190,11 +194,13 @@ def read_readings(text: str, known: Known) -> list[tuple[str, dict[str, int | No
         for word, (wire, sign, _) in zip(words, pairs):
             if not sign or not wire:
                 raise Bad(f"{word!r} is no reading: write a=0 b=1")
+        if why := at_odds(words, known.others):
+            raise Bad(why)
         return [("", dict(known.reading(wire, bit) for wire, _, bit in pairs))]
     sign = next((sign for sign in "\t;" if sign in text.split("\n")[0]), ",")
     try:
         cells = [[cell.strip() for cell in row] for row in csv.reader(io.StringIO(text), delimiter=sign)]
-        rows = rows_of("the table", cells, set(known.wires))
+        rows = rows_of("the table", cells, {wire: wire for wire in known.wires} | dict(known.others))
     except (BadTable, csv.Error) as error:
         raise Bad(f"{error}; nothing was taken. Write a=0 b=1, or a table of wires by patterns") from error
     has_names = any(NAME_COLUMN in row for row in cells[:1])

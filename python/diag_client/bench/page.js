@@ -135,7 +135,7 @@ function build() {
   byId("times").hidden = drawing.frames === null;
   byId("time").max = drawing.frames ?? 1;
   byId("levels-row").hidden = !drawing.has_levels;
-  const names = [...new Set([...marks.keys(), ...boxes.keys()])].slice(0, 3000);
+  const names = [...new Set([...marks.keys(), ...boxes.keys(), ...Object.keys(drawing.others)])].slice(0, 3000);
   byId("names").replaceChildren(...names.map((name) => make("option", { value: name })));
 }
 
@@ -548,13 +548,14 @@ function dragging() {
 }
 
 function find() {
-  const text = byId("search").value.trim();
-  if (!text) return;
+  const given = byId("search").value.trim();
+  if (!given) return;
+  const text = Object.hasOwn(drawing.others, given) ? drawing.others[given] : given;
   const names = [...marks.keys(), ...boxes.keys()];
   const lower = text.toLowerCase();
   const found = names.find((name) => name === text) ?? names.find((name) => name.toLowerCase() === lower)
     ?? names.find((name) => name.toLowerCase().startsWith(lower)) ?? names.find((name) => name.toLowerCase().includes(lower));
-  if (found === undefined || !goTo(found)) { say(`No wire and no part in the drawing is named ${text}.`); return; }
+  if (found === undefined || !goTo(found)) { say(`No wire and no part in the drawing is named ${given}.`); return; }
   say("");
   const group = (marks.get(found) ?? boxes.get(found)).group;
   group.classList.add("found");

@@ -228,7 +228,7 @@ class Handler(http.server.BaseHTTPRequestHandler):
         drawing = bench.drawing(is_open, board.cone() if act.get("wrong") is True else None)
         kinds = bench.scene.device.blocks
         own = {"inputs": bench.scene.inputs, "outputs": bench.scene.outputs, "frames": bench.frames, "has_levels": bench.has_levels}
-        return drawing | own | {"title": bench.title, "open": sorted(is_open & kinds.keys()), "is_design": bool(kinds)}
+        return drawing | own | {"title": bench.title, "others": bench.other_names, "open": sorted(is_open & kinds.keys()), "is_design": bool(kinds)}
 
     def _check(self) -> None:
         """Refuses what comes by another name, or from another page."""

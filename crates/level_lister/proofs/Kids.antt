@@ -54,10 +54,7 @@ module _ (graph : Graph) (at : ℕ) (kids : List ℕ) (ok : IsGraph graph) (insi
 
   -- one that lacks no part of an Or
   pub kid_full : (parts j : ℕ) → (node_at graph.nodes at).what ≡ Or → j < length kids → SameBelow graph parts at → Wider parts (λ v. mentions graph.nodes v (get_or kids j 0)) (λ v. mentions graph.nodes v at)
-  kid_full parts j what lt below = record {
-    within = λ v e. kid-mentions graph at kids ok inside are j what lt v e;
-    same = λ v l h. ap (λ ks. mentions graph.nodes v (get_or ks j 0)) are ∙ below j v (subst (λ (ks : List ℕ). j < length ks) are lt) l (omega arith);
-  }
+  kid_full parts j what lt below = grind (arith, kid-mentions)
 
   module _ (skips : List ℕ) (lives : get_or skips at 0 ≡ 0) where
     abbrev T : ℕ → Assignment → Bool
@@ -94,9 +91,7 @@ module _ (graph : Graph) (at : ℕ) (kids : List ℕ) (ok : IsGraph graph) (insi
 
       pub and_end : (j : ℕ) → (node_at graph.nodes at).what ≡ And → length kids ≤ j → Is (λ a. list_all (λ b. b) (map (λ k. T k a) (take j kids))) (λ v. list_any (λ b. b) (map (mentions graph.nodes v) (take j kids)))
           → Is (λ a. is_true (living graph.nodes skips) at a) (λ v. mentions graph.nodes v at)
-      and_end j what le is = same_tests Is
-          (λ a. ap (λ ks. list_all (λ b. b) (map (λ k. T k a) ks)) (take_all j kids le) ∙ truth-of And what a)
-          (λ v. ap (λ ks. list_any (λ b. b) (map (mentions graph.nodes v) ks)) (take_all j kids le) ∙ mention-of And what v) is
+      and_end j what le is = grind (arith, take_all j kids le, truth-of And what, mention-of And what)
 
       pub or_next : (j : ℕ) → j < length kids → Is (λ a. list_any (λ b. b) (map (λ k. T k a) (take j kids)) || T (get_or kids j 0) a) (λ v. mentions graph.nodes v at)
           → Is (λ a. list_any (λ b. b) (map (λ k. is_true (living graph.nodes skips) k a) (take (j + 1) kids))) (λ v. mentions graph.nodes v at)

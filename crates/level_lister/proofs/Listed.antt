@@ -48,10 +48,7 @@ module _ (costs : List ℕ) where
 
   pub some_levels-in : (hs : List (List Bool)) (from n : ℕ) (h : List Bool) → In h (some_levels hs from n) → In h hs × ((from ≤ cost costs h) × (cost costs h < from + n))
   some_levels-in hs from zero h m = absurd m
-  some_levels-in hs from (suc n) h m = ⊎_elim
-      (λ p. let r = of_cost-in hs from h p in (r.0, (omega (arith, r.1), omega (arith, r.1))))
-      (λ p. let r = some_levels-in hs (from + 1) n h p in (r.0, (omega (arith, r.1.0), omega (arith, r.1.1))))
-      (In-append h (of_cost costs hs from) (some_levels hs (from + 1) n) m)
+  some_levels-in hs from (suc n) h m = grind (arith, of_cost-in hs from h, In-append h (of_cost costs hs from) (some_levels hs (from + 1) n) m, some_levels-in hs (from + 1) n h)
 
   pub some_levels-has : (hs : List (List Bool)) (from n : ℕ) (h : List Bool) → In h hs → from ≤ cost costs h → cost costs h < from + n → In h (some_levels hs from n)
   some_levels-has hs from zero h m low high = absurd (omega arith)
@@ -62,10 +59,7 @@ module _ (costs : List ℕ) where
 
   Rising-levels : (hs : List (List Bool)) (from n : ℕ) → Sorted hs → Rising (some_levels hs from n)
   Rising-levels hs from zero s = tt
-  Rising-levels hs from (suc n) s = Rising-append (of_cost costs hs from) (some_levels hs (from + 1) n)
-      (Rising-same from (of_cost costs hs from) (λ x m. (of_cost-in hs from x m).1) (Sorted-filter (λ h. cost costs h == from) hs s))
-      (Rising-levels hs (from + 1) n s)
-      (λ x y p q. let a = of_cost-in hs from x p in let b = some_levels-in hs (from + 1) n y q in cheaper-before costs x y (omega (arith, a.1, b.1.0)))
+  Rising-levels hs from (suc n) s = grind (arith, Rising-append (of_cost costs hs from) (some_levels hs (from + 1) n), Rising-same from (of_cost costs hs from), of_cost-in hs from, Sorted-filter, some_levels-in hs (from + 1) n, Rising-levels hs (from + 1) n s)
 
   not_both : (h k : List Bool) → is_level_before costs h k ≡ true → is_level_before costs k h ≡ true → ⊥
   not_both h k e f = grind (arith, nat_tests, before-cases, not_both_before)

@@ -21,16 +21,11 @@ resized C left set l is = subst (λ n. IsRow (has_number left) (32 * n) C) l is
 
 -- the row of the sums
 sums-row : (left right set : List ℕ) → AreSums left right (32 * length set) set → IsRow (has_number set) (32 * length set) (SumOf (λ j. has_number left j ≡ true) (λ k. has_number right k ≡ true))
-sums-row left right set sums = record {
-  sound = λ n lt e. sums.sound n e;
-  whole = λ n lt s. subst (λ k. has_number set k ≡ true) s.sum_is (sums.whole s.left s.right s.on_left s.on_right (omega (arith, s.sum_is)) (omega (arith, s.sum_is)));
-}
+sums-row left right set sums = grind arith
 
 -- a set that is moved by nothing
 unmoved : (set : List ℕ) (n : ℕ) → has_shifted set 0 n ≡ has_number set n
-unmoved set n = (λ i. le-leb 0 n (omega arith) i && has_number set (same i)) where
-  same : n - 0 ≡ n
-  same = omega arith
+unmoved set n = grind arith
 
 pub or-row : (C D : ℕ → Type 0) (left right set : List ℕ) → length left ≡ length set → length right ≡ length set → ((n : ℕ) → n < 32 * length set → has_number set n ≡ (has_number left n || has_shifted right 0 n))
     → IsRow (has_number left) (32 * length left) C → IsRow (has_number right) (32 * length right) D → IsRow (has_number set) (32 * length set) (λ n. C n ⊎ D n)
@@ -42,15 +37,10 @@ sum-row C D left right set l m sums is_c is_d = row-sum (32 * length set) (has_n
 
 -- what a word of a part allows
 not_two : (w : ℕ) → w < 3 → not (w == 2) ≡ agrees_at (known_of w) true
-not_two zero h = refl
-not_two (suc zero) h = refl
-not_two (suc (suc zero)) h = refl
-not_two (suc (suc (suc w))) h = absurd (omega arith)
+not_two w h = grind arith
 
 not_one : (w : ℕ) → not (w == 1) ≡ agrees_at (known_of w) false
-not_one zero = refl
-not_one (suc zero) = refl
-not_one (suc (suc w)) = ap not (ne_eqb (suc (suc w)) 1 (λ e. absurd (omega arith)))
+not_one w = grind arith
 
 module _ (words costs : List ℕ) where
   abbrev g : Weights

@@ -17,18 +17,10 @@ pub size_least : (span count : ℕ) → span ≤ (span + count) / (count + 1) * 
 size_least span count = omega (arith, lt-div-mul-add {a = span + count} {b = count + 1} (omega arith))
 
 pub size_below : (span count : ℕ) → 0 < count → 1 < span → (span + count) / (count + 1) < span
-size_below span count some more = div_below (span + count) (count + 1) span (omega arith) (room span count some more) where
-  room : (span count : ℕ) → 0 < count → 1 < span → span + count < span * (count + 1)
-  room zero count some more = absurd (omega arith)
-  room (suc zero) count some more = absurd (omega arith)
-  room (suc (suc n)) zero some more = absurd (omega arith)
-  room (suc (suc n)) (suc m) some more = grind arith
+size_below span count some more = grind arith
 
 pub size_some : (span count : ℕ) → 0 < span → 0 < (span + count) / (count + 1)
-size_some span count h = by_size ((span + count) / (count + 1)) (size_least span count) where
-  by_size : (size : ℕ) → span ≤ size * (count + 1) → 0 < size
-  by_size zero e = absurd (omega arith)
-  by_size (suc n) e = omega arith
+size_some span count h = grind arith
 
 module _ (graph : Graph) (words costs : List ℕ) (c from : ℕ) where
   pub record FaultWithin (low span : ℕ) : Type 0 where
@@ -74,27 +66,11 @@ module _ (graph : Graph) (words costs : List ℕ) (c from : ℕ) where
           (cases_lt part low)
 
       in_group : FaultOf graph words costs c (record { low = low; size = (span + count) / (count + 1) }) g → FaultWithin (low + g * ((span + count) / (count + 1))) ((span + count) / (count + 1))
-      in_group f =
-          let below : g * ((span + count) / (count + 1)) ≤ f.part - low = subst (λ m. m * ((span + count) / (count + 1)) ≤ f.part - low) f.group (div-mul-le_self (f.part - low) ((span + count) / (count + 1))) in
-          let above : f.part - low < g * ((span + count) / (count + 1)) + (span + count) / (count + 1) =
-          subst (λ m. f.part - low < m * ((span + count) / (count + 1)) + (span + count) / (count + 1)) f.group (lt-div-mul-add {a = f.part - low} {b = (span + count) / (count + 1)} some_size) in
-          record {
-            part = f.part;
-            from_ = omega (arith, f.low, below);
-            to = omega (arith, f.low, above);
-            fault = record { within = f.within; open_ = f.open_; state = f.state; is = f.is; faulty = f.faulty };
-          }
+      in_group f = grind (arith, div-mul-le_self, lt-div-mul-add)
 
       -- the groups and one more reach to the end
       reach : count ≤ g → low + span ≤ low + g * ((span + count) / (count + 1)) + (span + count) / (count + 1)
-      reach p = ends ((span + count) / (count + 1)) (size_least span count) where
-        same : g ≡ count
-        same = omega arith
-
-        ends : (s : ℕ) → span ≤ s * (count + 1) → low + span ≤ low + g * s + s
-        ends s e = omega (arith, e, more s, ap (λ m. m * s) same) where
-          more : (s : ℕ) → s * (count + 1) ≡ count * s + s
-          more s = grind arith
+      reach p = grind arith
 
       at_end : count ≤ g → FaultWithin low span ⊎ (length costs < low + span) → FaultWithin (low + g * ((span + count) / (count + 1))) ((span + count) / (count + 1)) ⊎ (length costs < low + g * ((span + count) / (count + 1)) + (span + count) / (count + 1))
       at_end p (inr q) = inr (omega (arith, reach p, q))
@@ -116,19 +92,8 @@ left_next count span steps most more left = by_rest left.rest left.fits left.few
 
   by_rest : (rest : ℕ) → span ≤ (count + 1) ^ rest → steps + rest ≤ most → PassesLeft count ((span + count) / (count + 1)) (steps + 1) most
   by_rest zero fits few = let one : (count + 1) ^ 0 ≡ 1 = pow-zero (count + 1) in absurd (omega (arith, fits, more, one))
-  by_rest (suc r) fits few = record {
-    rest = r;
-    fits = omega (arith, div_below (span + count) (count + 1) ((count + 1) ^ r + 1) (omega arith) (omega (arith, twice ((count + 1) ^ r), pow-suc (count + 1) r, fits)));
-    few = omega arith;
-  }
+  by_rest (suc r) fits few = grind (arith, div_below (span + count) (count + 1) ((count + 1) ^ r + 1), pow-suc (count + 1) r)
 
 -- numbers of the range stay small
 pub range_small : (low span count g : ℕ) → g ≤ count → count ≤ 32 → 0 < count → 1 < span → low + g * ((span + count) / (count + 1)) + 33 * ((span + count) / (count + 1)) ≤ low + 33 * span
-range_small low span count g le few some more = by_size ((span + count) / (count + 1)) (size_most span count) (size_below span count some more) where
-  by_size : (s : ℕ) → s * (count + 1) ≤ span + count → s < span → low + g * s + 33 * s ≤ low + 33 * span
-  by_size s e lt = omega (arith, e, lt, few, product s, less s) where
-    product : (s : ℕ) → s * (count + 1) ≡ count * s + s
-    product s = grind arith
-
-    less : (s : ℕ) → g * s ≤ count * s
-    less s = grind (arith, le)
+range_small low span count g le few some more = grind arith

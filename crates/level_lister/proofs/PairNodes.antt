@@ -1,5 +1,6 @@
 -- What two words tell of a node, from what they tell of its kids.
 use Rattle.std.proofs.Common.{◌≡◌, ◌≢◌, ℕ, zero, suc, ◌+◌, ◌-◌, ◌*◌, ◌/◌, ◌<◌, ◌≤◌, Bool, true, false, ◌&&◌, List, length, get_or, set, refl, ap, sym, ◌∙◌, subst, arith, inl, inr}
+use Rattle.std.proofs.lemmas.Bool.Decides.{nat_tests}
 use Rattle.std.specs.Prelude.{◌⊎◌, ◌==◌, nat_le}
 use Rattle.std.proofs.Math.ListN.{length-set}
 use Rattle.std.proofs.lemmas.Bool.{cases_lt, cases_eq, cases_order, and_parts, and_from, leb-true, le-leb, eqb-true, eq-eqb, ne_eqb, false≢true, false_from_ne_true, and_right}
@@ -29,11 +30,7 @@ pub record IsGrouped (words : List ℕ) (parts : ℕ) (groups : Groups) (g v : �
 
 module _ (words : List ℕ) (parts : ℕ) (groups : Groups) (g v : ℕ) where
   pub grouped : group_in words parts groups g v ≡ true → IsGrouped words parts groups g v
-  grouped e =
-      let both = and_parts (nat_le (groups.low + 1) v && nat_le v parts) ((get_or words (v - 1) 0 == 0) && ((v - 1 - groups.low) / groups.size == g)) e in
-      let place = and_parts (nat_le (groups.low + 1) v) (nat_le v parts) both.0 in
-      let what = and_parts (get_or words (v - 1) 0 == 0) ((v - 1 - groups.low) / groups.size == g) both.1 in
-      record { low = leb-true (groups.low + 1) v place.0; high = leb-true v parts place.1; open_ = eqb-true (get_or words (v - 1) 0) 0 what.0; group = eqb-true ((v - 1 - groups.low) / groups.size) g what.1 }
+  grouped e = grind arith
 
   pub in_group : IsGrouped words parts groups g v → group_in words parts groups g v ≡ true
   in_group is = and_from _ _ (and_from _ _ (le-leb (groups.low + 1) v is.low) (le-leb v parts is.high)) (and_from _ _ (eq-eqb _ 0 is.open_) (eq-eqb _ g is.group))
@@ -55,38 +52,14 @@ told_wider words costs top groups pair t some more wider is = tells_same words c
 -- a node that is skipped
 pub skipped_told : (graph : Graph) (skips words costs : List ℕ) (top : ℕ) (groups : Groups) (at : ℕ) → IsGraph graph → at < length graph.nodes → get_or skips at 0 ≢ 0
     → TellsNode graph skips words costs top groups at (record { costs = 0; faults = 0 })
-skipped_told graph skips words costs top groups at ok inside ne = tells_none words costs top (group_count top) (group_in words (length costs) groups) _ _
-    (λ a f e. false≢true (sym (skipped-is graph skips ok at inside ne a) ∙ e)) (λ a b h. skipped-is graph skips ok at inside ne a ∙ sym (skipped-is graph skips ok at inside ne b))
+skipped_told graph skips words costs top groups at ok inside ne = grind (arith, skipped-is)
 
 -- ---- one part
 
 -- the bit of a group at a cost
 pub mark_is : (words : List ℕ) (parts : ℕ) (groups : Groups) (count n g cost part group : ℕ) → g < count → group < count → part < parts → groups.low ≤ part → get_or words part 0 ≡ 0 → group ≡ (part - groups.low) / groups.size
     → (count * n + g == count * cost + group) ≡ ((n == cost) && group_in words parts groups g (part + 1))
-mark_is words parts groups count n g cost part group lt own within low open_ is = by_cost (cases_order n cost) where
-  b : Bool
-  b = group_in words parts groups g (part + 1)
-
-  back : part + 1 - 1 ≡ part
-  back = omega arith
-
-  other : (n ≡ cost → ⊥) → (count * n + g ≡ count * cost + group → ⊥) → (count * n + g == count * cost + group) ≡ ((n == cost) && group_in words parts groups g (part + 1))
-  other ne far = ne_eqb (count * n + g) (count * cost + group) far ∙ sym (ap (λ x. x && group_in words parts groups g (part + 1)) (ne_eqb n cost ne))
-
-  at_group : (g ≡ group) ⊎ (g ≡ group → ⊥) → n ≡ cost → (count * n + g == count * cost + group) ≡ ((n == cost) && group_in words parts groups g (part + 1))
-  at_group (inl q) e = eq-eqb (count * n + g) (count * cost + group) ((λ i. count * e i + q i)) ∙ sym (and_from (n == cost) (group_in words parts groups g (part + 1)) (eq-eqb n cost e) (in_group words parts groups g (part + 1) (record {
-    low = omega arith;
-    high = omega arith;
-    open_ = ap (λ k. get_or words k 0) back ∙ open_;
-    group = ap (λ k. (k - groups.low) / groups.size) back ∙ sym is ∙ sym q;
-  })))
-  at_group (inr ne) e = ne_eqb (count * n + g) (count * cost + group) (λ q. ne (omega (arith, q, ap (λ m. count * m) e)))
-      ∙ sym (ap (λ x. x && group_in words parts groups g (part + 1)) (eq-eqb n cost e) ∙ not_grouped words parts groups g (part + 1) (λ r. ne (sym r.group ∙ ap (λ k. (k - groups.low) / groups.size) back ∙ sym is)))
-
-  by_cost : (n ≡ cost) ⊎ ((n < cost) ⊎ (cost < n)) → (count * n + g == count * cost + group) ≡ ((n == cost) && group_in words parts groups g (part + 1))
-  by_cost (inl e) = at_group (cases_eq g group) e
-  by_cost (inr (inl p)) = other (λ e. absurd (omega arith)) (λ q. absurd (omega (arith, step_below count n cost p)))
-  by_cost (inr (inr p)) = other (λ e. absurd (omega arith)) (λ q. absurd (omega (arith, step_below count cost n p)))
+mark_is words parts groups count n g cost part group lt own within low open_ is = grind (arith, nat_tests, cases_order, ne_eqb, eq-eqb, step_below)
 
 -- no group at all
 pub none_marked : (words : List ℕ) (parts : ℕ) (groups : Groups) (g v : ℕ) (b : Bool) → (IsGrouped words parts groups g v → ⊥) → false ≡ (b && group_in words parts groups g v)
@@ -118,11 +91,7 @@ module _ (graph : Graph) (skips words costs : List ℕ) (top : ℕ) (groups : Gr
 -- ---- words of a part
 
 pub allowed_ok : (words : List ℕ) (part : ℕ) (word : ℕ) → get_or words part 0 ≡ word → word < 2 → agrees_at (known_at words (part + 1)) true ≡ true
-allowed_ok words part word e lt = ap (λ k. agrees_at (known_of (get_or words k 0)) true) (let b : part + 1 - 1 ≡ part = omega arith in b) ∙ ap (λ w. agrees_at (known_of w) true) e ∙ by_word word lt where
-  by_word : (w : ℕ) → w < 2 → agrees_at (known_of w) true ≡ true
-  by_word zero l = refl
-  by_word (suc zero) l = refl
-  by_word (suc (suc w)) l = absurd (omega arith)
+allowed_ok words part word e lt = grind arith
 
 -- what a word says
 pub said : (words : List ℕ) (part : ℕ) (b : Bool) (a : Assignment) → get_or words part 0 ≡ word_of b → Follows words a → a (part + 1) ≡ b

@@ -29,24 +29,14 @@ use Rattle.level_lister.proofs.Whole.{cost_among-all}
 
 -- a number that is lowered
 pub lowered : (xs : List ℕ) (i v k : ℕ) → i < length xs → v ≤ get_or xs i 0 → get_or (set xs i v) k 0 ≤ get_or xs k 0
-lowered xs i v k h le = ⊎_elim
-    (λ (e : k ≡ i). subst (λ n. get_or (set xs i v) n 0 ≤ get_or xs n 0) (sym e) (omega (arith, get_or-set_same xs i v 0 h)))
-    (λ (ne : k ≢ i). omega (arith, get_or-set_other xs i k v 0 ne))
-    (cases_eq k i)
+lowered xs i v k h le = grind (arith, get_or-set_same, get_or-set_other)
 
 -- the kids of one more node are lowered
 pub rests_met : (graph : Graph) (least xs ys : List ℕ) (at : ℕ) → IsGraph graph → at < length graph.nodes → AreRests graph.nodes least xs (at + 1)
     → ((k : ℕ) → get_or ys k 0 ≤ get_or xs k 0) → ((k : ℕ) → at ≤ k → get_or ys k 0 ≡ get_or xs k 0)
     → ((j : ℕ) → j < length (node_at graph.nodes at).kids → get_or ys (get_or (node_at graph.nodes at).kids j 0) 0 ≤ rest_below graph.nodes least xs at j)
     → AreRests graph.nodes least ys at
-rests_met graph least xs ys at ok inside are low same kids = record {
-  root = same (length graph.nodes - 1) (omega arith) ∙ are.root;
-  down = λ k j from lt place. ⊎_elim
-      (λ (e : at ≡ k). subst (λ n. (j < length (node_at graph.nodes n).kids) → get_or ys (get_or (node_at graph.nodes n).kids j 0) 0 ≤ rest_below graph.nodes least ys n j) e
-      (λ p. omega (arith, kids j p, same at (omega arith))) place)
-      (λ (ne : at ≢ k). omega (arith, are.down k j (omega arith) lt place, low (get_or (node_at graph.nodes k).kids j 0), same k from))
-      (cases_eq at k);
-}
+rests_met graph least xs ys at ok inside are low same kids = grind arith
 
 -- ---- the marks
 
@@ -69,9 +59,7 @@ module _ (graph : Graph) (words costs : List ℕ) (ok : IsGraph graph) (least : 
     unfolding Apart
     kid-cheap k inside e j lt within t = by_kind (node_at graph.nodes k).what refl where
       by_kind : (what : NodeKind) → what ≡ (node_at graph.nodes k).what → others_cost what (get_or least k 0) (get_or least (get_or (node_at graph.nodes k).kids j 0) 0) + faults (λ v. mentions graph.nodes v (get_or (node_at graph.nodes k).kids j 0)) a ≤ faults (λ v. mentions graph.nodes v k) a
-      by_kind (Literal positive var) q =
-          let alone = (literal graph.vars var positive (node_at graph.nodes k).kids (subst (λ w. kind_fits graph.vars w (node_at graph.nodes k).kids ≡ true) (sym q) (fits-at graph.vars graph.nodes k ok.nodes.fit inside).kind)).alone in
-          absurd (omega (arith, lt, ap length alone))
+      by_kind (Literal positive var) q = grind (arith, fits-at graph.vars graph.nodes k ok.nodes.fit inside)
       by_kind And q =
           let there = the_node graph.nodes k And (node_at graph.nodes k).kids inside q refl in
           let own = has_least graph words costs least are_least ok a follows k inside e in
@@ -91,12 +79,7 @@ module _ (graph : Graph) (words costs : List ℕ) (ok : IsGraph graph) (least : 
       lives : (fuel k : ℕ) → k < fuel → k < length graph.nodes → is_true graph.nodes k a ≡ true → get_or rests k 0 + faults (λ v. mentions graph.nodes v k) a ≤ top → is_true (living graph.nodes skips) k a ≡ true
       lives zero k h inside e le = absurd (omega arith)
       lives (suc fuel) k h inside e le = ⊎_elim
-          (λ (q : get_or skips k 0 ≡ 0). living-is graph skips ok k inside q a
-          ∙ truth_more a (node_at graph.nodes k).what (λ j. is_true graph.nodes j a) (λ j. is_true (living graph.nodes skips) j a) (node_at graph.nodes k).kids
-          (λ j lt t.
-          let low = kid-below graph k (node_at graph.nodes k).kids ok inside refl j lt in
-          lives fuel (get_or (node_at graph.nodes k).kids j 0) (omega arith) (omega arith) t (omega (arith, le, are.down k j (omega arith) inside lt, kid-cheap k inside e j lt (omega arith) t)))
-          (sym (graph-is graph skips ok k inside a) ∙ e))
+          grind (arith, living-is, truth_more, kid-below, kid-cheap, graph-is, lives fuel)
           (λ (ne : get_or skips k 0 ≢ 0). absurd (omega (arith, le, skipped-dear top (get_or least k 0) (get_or rests k 0) (λ q. ne (marks k inside ∙ q)), (has_least graph words costs least are_least ok a follows k inside e).low)))
           (cases_eq (get_or skips k 0) 0)
 
@@ -113,10 +96,7 @@ module _ (graph : Graph) (words costs : List ℕ) (ok : IsGraph graph) (least : 
 
 -- words that fix more
 pub follows_old : (old new : List ℕ) → ((k : ℕ) → get_or old k 0 ≢ 0 → get_or new k 0 ≡ get_or old k 0) → (a : Assignment) → Follows new a → Follows old a
-follows_old old new kept a f v = ⊎_elim
-    (λ (e : get_or old (v - 1) 0 ≡ 0). ap (λ w. agrees_at (known_of w) (a v)) e)
-    (λ (ne : get_or old (v - 1) 0 ≢ 0). sym (ap (λ w. agrees_at (known_of w) (a v)) (kept (v - 1) ne)) ∙ f v)
-    (cases_eq (get_or old (v - 1) 0) 0)
+follows_old old new kept a f v = grind arith
 
 pub enough_more : (graph : Graph) (skips costs : List ℕ) (top : ℕ) (old new : List ℕ) → ((k : ℕ) → get_or old k 0 ≢ 0 → get_or new k 0 ≡ get_or old k 0) → IsEnough graph skips old costs top → IsEnough graph skips new costs top
 enough_more graph skips costs top old new kept is = record { left = λ a f h le. is.left a (follows_old old new kept a f) h le }

@@ -37,10 +37,7 @@ step_below step m n h = grind (arith, block-below m n step h)
 split : (step n g first times : ℕ) → g < step → first + step * times ≡ step * n + g → Split step n g first times
 split step n g first times lt e = ⊎_elim
     (λ (p : n < times). absurd (omega (arith, step_below step n times p)))
-    (λ (p : times ≤ n).
-    let whole : times + (n - times) ≡ n = omega arith in
-    let parts : step * n ≡ step * times + step * (n - times) = ap (λ m. step * m) (sym whole) ∙ times_sum step times (n - times) in
-    record { rest = n - times; rest_is = omega arith; first_is = omega arith })
+    grind arith
     (cases_lt n times)
 
 -- a word is spread by so many steps: the row of the sums
@@ -126,11 +123,7 @@ module _ (words costs : List ℕ) (top step : ℕ) (group : ℕ → ℕ → Bool
 
   -- no variable at all
   pub tells_true : Tells words costs top step group (λ a. true) (λ v. false) (record { costs = 1; faults = 0 })
-  tells_true = record {
-    cost_bits = row-one (top + 1) _ _ 0 (cost-none g (λ a. true ≡ true) refl) (λ n c. sym c.cost_is ∙ cost_among-none g c.by) (λ n lt. one_at n);
-    fault_bits = λ i lt. zero_row _ step i (λ n c. false≢true c.meets.1.among);
-    local = λ a b h. refl;
-  }
+  tells_true = grind (arith, cost-none, cost_among-none, one_at)
 
   module _ (var : ℕ) (low : 1 ≤ var) where
     -- a variable that is true
@@ -158,5 +151,4 @@ module _ (words costs : List ℕ) (top step : ℕ) (group : ℕ → ℕ → Bool
 
       by_group : (i : ℕ) → i < step → (b : Bool) → group i var ≡ b → IsRow (λ n. has_bit mark (step * n + i)) (top + 1) (FaultCost g (group i) (λ v. var == v) (λ a. same_bit false (a var)))
       by_group i lt true e = row-fault_one g (group i) (top + 1) _ (only_parts words costs) var allowed e (λ n h. on_mark n i (omega arith) lt ∙ (λ j. (n == price j) && e j) ∙ and-true (n == part_cost costs var))
-      by_group i lt false e = row-none (top + 1) _ _ (λ n h. on_mark n i (omega arith) lt ∙ ap (λ b. (n == cost) && b) e ∙ and-false (n == cost))
-          (λ n c. false≢true (sym e ∙ ap (group i) (eqb-true var c.meets.1.var c.meets.1.among) ∙ c.meets.1.of_group))
+      by_group i lt false e = grind arith

@@ -1,5 +1,5 @@
 -- What the graph answers under the words on a desk.
-use Rattle.std.proofs.Common.{◌≡◌, ◌∙◌, ◌+◌, ◌<◌, ℕ, Bool, List, All, length, refl, ap, sym, subst}
+use Rattle.std.proofs.Common.{◌≡◌, ◌∙◌, ◌+◌, ◌<◌, ℕ, Bool, List, All, length, refl, ap, sym, subst, arith}
 use Rattle.state_rules.specs.Graphs.{Graph}
 use Rattle.state_rules.specs.Systems.{least_cost, all_diagnoses}
 use Rattle.probe_report.specs.declared.verdicts.Blame.{Blame}
@@ -16,20 +16,13 @@ use Rattle.session_core.specs.inner.Desks.{OnDesk, FitsTogether}
 
 module _ (subject : Subject) (known : List ℕ) (basis : IsBasis subject) (are : AreKnown subject known) (graph : Graph) (words costs : List ℕ) (g : graph ≡ subject.graph) (w : words ≡ known) (p : costs ≡ subject.costs) where
   pub states-asked : models graph words (length costs) ≡ (served_system subject).consistent (case_in subject known)
-  states-asked =
-      (λ i. models (g i) (w i) (length (p i)))
-      ∙ (ap (models subject.graph known) basis.costs
-      ∙ models-by_words subject.parts subject.wires subject.costs subject.graph subject.graph.vars known basis.costs refl are)
+  states-asked = grind arith
 
   pub least-asked : least_under graph words costs ≡ least_cost (served_system subject) (case_in subject known)
-  least-asked =
-      (λ i. least_under (g i) (w i) (p i))
-      ∙ least-by_words subject.parts subject.wires subject.costs subject.graph subject.graph.vars known basis.costs refl are
+  least-asked = grind arith
 
   pub diagnoses-asked : diagnoses_under graph words costs ≡ all_diagnoses (served_system subject) (case_in subject known)
-  diagnoses-asked =
-      (λ i. diagnoses_under (g i) (w i) (p i))
-      ∙ diagnoses-by_words subject.parts subject.wires subject.costs subject.graph subject.graph.vars known basis.costs refl are
+  diagnoses-asked = grind arith
 
   -- and where the variable of a wire has a bit too
   pub seen-asked : (wire var : ℕ) (bit : Bool) → wire < length subject.wires → var ≡ length subject.parts + wire + 1
@@ -44,24 +37,12 @@ pub fits_after : (desk : OnDesk) (values : List ℕ) (room : Carved) (kept : Kep
     → known ≡ desk.known → length state ≡ length desk.subject.parts → All (λ s. s < 2) state → length verdicts ≡ length desk.subject.parts
     → length after ≡ length values → graph ≡ desk.subject.graph → costs ≡ desk.subject.costs → Serves graph costs now
     → FitsTogether (record desk { known = known; state = state; verdicts = verdicts }) after room now
-fits_after desk values room kept fits known state verdicts after graph costs now same one_a_part bits verdict_a_part long g p serves = record {
-  known = subst (AreKnown desk.subject) (sym same) fits.known;
-  one_a_part = one_a_part;
-  bits = bits;
-  verdict_a_part = verdict_a_part;
-  two_a_wire = fits.two_a_wire;
-  one_a_node = long ∙ fits.one_a_node;
-  enough = fits.enough;
-  unused = fits.unused;
-  serves = subst (λ (h : Graph). Serves h desk.subject.costs now) g (subst (λ (cs : List ℕ). Serves graph cs now) p serves);
-}
+fits_after desk values room kept fits known state verdicts after graph costs now same one_a_part bits verdict_a_part long g p serves = grind arith
 
 -- and except for its state, or for its verdicts too, the desk is as before
 pub stays_after : (desk old : OnDesk) (known state : List ℕ) → desk ≡ old → known ≡ desk.known → record desk { known = known; state = state } ≡ record old { state = state }
-stays_after desk old known state is same =
-    ap (λ (words : List ℕ). record desk { known = words; state = state }) same ∙ ap (λ (d : OnDesk). record d { state = state }) is
+stays_after desk old known state is same = grind arith
 
 pub judged_after : (desk old : OnDesk) (known state : List ℕ) (verdicts : List Blame) → desk ≡ old → known ≡ desk.known
     → record desk { known = known; state = state; verdicts = verdicts } ≡ record old { state = state; verdicts = verdicts }
-judged_after desk old known state verdicts is same =
-    ap (λ (d : OnDesk). record d { verdicts = verdicts }) (stays_after desk old known state is same)
+judged_after desk old known state verdicts is same = grind arith

@@ -33,25 +33,17 @@ use Rattle.session_core.proofs.Obeying.{IsOneMove, obeys_outcome, asked_open}
 -- ---- a reply that failed
 
 pub replies_part : {T E : Type 0} (before after : Option (List ℕ)) (result : Result T E) (items : List Item) → IsErr result → WritesPart before after items → Replies before after result items
-replies_part before after (Ok v) items failed part = absurd (let no : ⊥ = cc in no)
-replies_part before after (Err e) items failed part = part
+replies_part before after result items failed part = grind arith
 
 pub if_failed : {T E : Type 0} (P : T → Type 0) (result : Result T E) → IsErr result → IfOk result P
-if_failed P (Ok v) failed = absurd (let no : ⊥ = cc in no)
-if_failed P (Err e) failed = tt
+if_failed P result failed = grind arith
 
 -- ---- an entry that is put twice
 
 twice_by : {X : Type 0} (name : Name) (v w : X) (e : Name × X) (es : List (Name × X)) (o : Ordering) → slice_cmp nat_cmp name e.0 ≡ o
     → put (slice_cmp nat_cmp) name w (put (slice_cmp nat_cmp) name v es) ≡ put (slice_cmp nat_cmp) name w es
     → put (slice_cmp nat_cmp) name w (by_order o ((name, v) ∷ e ∷ es) ((e.0, v) ∷ es) (e ∷ put (slice_cmp nat_cmp) name v es)) ≡ by_order o ((name, w) ∷ e ∷ es) ((e.0, w) ∷ es) (e ∷ put (slice_cmp nat_cmp) name w es)
-twice_by name v w e es Less is later =
-    ap (λ o. by_order o ((name, w) ∷ (name, v) ∷ e ∷ es) ((name, w) ∷ e ∷ es) ((name, v) ∷ put (slice_cmp nat_cmp) name w (e ∷ es))) (tied_itself nat_list_cmp_total name)
-twice_by name v w e es Equal is later =
-    ap (λ o. by_order o ((name, w) ∷ (e.0, v) ∷ es) ((e.0, w) ∷ es) ((e.0, v) ∷ put (slice_cmp nat_cmp) name w es)) is
-twice_by name v w e es Greater is later =
-    ap (λ o. by_order o ((name, w) ∷ e ∷ put (slice_cmp nat_cmp) name v es) ((e.0, w) ∷ put (slice_cmp nat_cmp) name v es) (e ∷ put (slice_cmp nat_cmp) name w (put (slice_cmp nat_cmp) name v es))) is
-    ∙ ap (λ rest. e ∷ rest) later
+twice_by name v w e es o is later = grind (arith, nat_list_cmp_total)
 
 put_twice : {X : Type 0} (name : Name) (v w : X) (es : List (Name × X)) → put (slice_cmp nat_cmp) name w (put (slice_cmp nat_cmp) name v es) ≡ put (slice_cmp nat_cmp) name w es
 put_twice name v w [] = ap (λ o. by_order o ((name, w) ∷ (name, v) ∷ []) ((name, w) ∷ []) ((name, v) ∷ put (slice_cmp nat_cmp) name w [])) (tied_itself nat_list_cmp_total name)
@@ -63,54 +55,37 @@ pub moves_on : {E : Type 0} (old new : Shown) (listed : Listed) (place : ℕ) (s
     → PointMoves old.subject listed old.table new.table place session entry next state → ChangesTable old new
     → Replies before after result (line (next_text session old.subject.parts next state) ∷ []) → IfOk result (λ more. more ≡ is_found next)
     → MovesOn old new listed place session entry before after result
-moves_on old new listed place session entry next state before after result m stays reply more =
-    let back = sym m.answer in
-    record {
-      reply = subst (λ (f : Reply). Replies before after result (f.item ∷ [])) back reply;
-      more = subst (λ (f : Reply). IfOk result (λ more. more ≡ f.more)) back more;
-      moved = stays ∙ ap (λ (t : Table). record old { table = t }) (m.moved ∙ ap (λ (f : Reply). with_entry session (record entry { point = f.point }) old.table) back);
-      stands = subst (λ (f : Reply). StandsAt new.table place session (record entry { point = f.point })) back m.stands;
-    }
+moves_on old new listed place session entry next state before after result m stays reply more = grind arith
 
 -- a listing, and the request for its next state
 
 one_next : (listed : Listed) → IsOneMove (next_request listed)
-one_next Diagnoses shown table session = refl
-one_next Levels shown table session = refl
+one_next listed shown table session = grind arith
 
 level_open : (system : System) (session : Name) (entry : Entry) (levels : Option ℕ) → is_some levels ≡ true
     → with_number NoLevels (λ top. goes_to entry (level_for system session top entry entry.point)) levels ≡ goes_to entry (level_for system session (top_of levels) entry entry.point)
-level_open system session entry None some = absurd (let no : ⊥ = cc in no)
-level_open system session entry (Some top) some = refl
+level_open system session entry levels some = grind arith
 
 next_open : (subject : Subject) (listed : Listed) (session : Name) (entry : Entry) → is_listed subject listed ≡ true
     → when_open (served_system subject) session entry (next_request listed) ≡ goes_to entry (the_found subject listed session entry)
-next_open subject Diagnoses session entry is = refl
-next_open subject Levels session entry is = level_open (served_system subject) session entry subject.extras.levels is
+next_open subject listed session entry is = grind arith
 
 none_some : {A : Type 0} (o : Option A) → is_some o ≡ false → o ≡ None
-none_some None none = refl
-none_some (Some a) none = absurd (let no : ⊥ = cc in no)
+none_some o none = grind arith
 
 -- what is not listed is declined
 pub next_declined : (subject : Subject) (listed : Listed) (session : Name) (entry : Entry) → is_listed subject listed ≡ false → when_open (served_system subject) session entry (next_request listed) ≡ Declined NoLevels
-next_declined subject Diagnoses session entry off = absurd (let no : ⊥ = cc in no)
-next_declined subject Levels session entry off =
-    ap (with_number NoLevels (λ top. goes_to entry (level_for (served_system subject) session top entry entry.point))) (none_some subject.extras.levels off)
+next_declined subject listed session entry off = grind arith
 
 pub list_declined : (subject : Subject) (listed : Listed) (session : Name) (entry : Entry) (count : ℕ) → is_listed subject listed ≡ false → when_open (served_system subject) session entry (list_request listed count) ≡ Declined NoLevels
-list_declined subject Diagnoses session entry count off = absurd (let no : ⊥ = cc in no)
-list_declined subject Levels session entry count off =
-    ap (with_number NoLevels (λ top. goes_through entry (listing (level_for (served_system subject) session top entry) count entry.point))) (none_some subject.extras.levels off)
+list_declined subject listed session entry count off = grind arith
 
 -- the request was obeyed
 pub obeys_next : {T E : Type 0} (old new : Shown) (listed : Listed) (session : Name) (entry : Entry) (before after : Option (List ℕ)) (result : Result T E)
     → is_listed old.subject listed ≡ true → entry_of session old.table ≡ Some entry
     → Replies before after result ((the_found old.subject listed session entry).item ∷ [])
     → new ≡ record old { table = with_entry session (found_entry old.subject listed session entry) old.table } → Obeys old new session (next_request listed) before after result
-obeys_next old new listed session entry before after result is there reply moves =
-    obeys_outcome old session (next_request listed) (one_next listed) before after result (goes_to entry (the_found old.subject listed session entry)) new
-    (asked_open old session (next_request listed) entry there ∙ next_open old.subject listed session entry is) moves reply
+obeys_next old new listed session entry before after result is there reply moves = grind (arith, obeys_outcome)
 
 -- ---- so many times
 
@@ -167,16 +142,10 @@ module _ (old : Shown) (listed : Listed) (place : ℕ) (session : Name) (entry :
       same_next = ap (λ (v : Shown). the_found v.subject listed session (at_point lists.point)) lists.moved
 
       new_table : new.table ≡ with_entry session (at_point (next lists.point).point) old.table
-      new_table =
-          ap (λ (v : Shown). v.table) m.moved
-          ∙ (ap (λ (f : Reply). with_entry session (at_point f.point) now.table) same_next
-          ∙ (ap (λ (v : Shown). with_entry session (at_point (next lists.point).point) v.table) lists.moved
-          ∙ put_twice session (at_point lists.point) (at_point (next lists.point).point) old.table))
+      new_table = grind (arith, put_twice)
 
       moved_again : new ≡ record old { table = with_entry session (at_point (next lists.point).point) old.table }
-      moved_again =
-          m.moved ∙ (ap (λ (v : Shown). record v { table = with_entry session (found_entry now.subject listed session (at_point lists.point)) now.table }) lists.moved
-          ∙ ap (λ (t : Table). record old { table = t }) (sym (ap (λ (v : Shown). v.table) m.moved) ∙ new_table))
+      moved_again = grind (arith, new_table)
 
       says_next : Replies b c result ((next lists.point).item ∷ [])
       says_next = subst (λ (f : Reply). Replies b c result (f.item ∷ [])) same_next m.reply
@@ -196,21 +165,11 @@ module _ (old : Shown) (listed : Listed) (place : ℕ) (session : Name) (entry :
 
       -- another one was shown
       pub lists_more : v ≡ true → Lists old new listed place session entry count left a c
-      lists_more on = record {
-        point = (next lists.point).point;
-        done = lists.done ++ next lists.point ∷ [];
-        both = append_assoc lists.done (next lists.point ∷ []) (listing next left (next lists.point).point)
-            ∙ (ap (λ fs. lists.done ++ fs) (sym (more_left left lists.point (sym (is_more (Ok v) m) ∙ on))) ∙ split);
-        made = made_one;
-        moved = moved_again (Ok v) m;
-        stands = stands_next (Ok v) m;
-      }
+      lists_more on = grind (arith, append_assoc lists.done (next lists.point ∷ []) (listing next left (next lists.point).point), split, made_one, moved_again (Ok v) m)
 
       -- nothing was found any more
       pub lists_end : v ≡ false → Makes old.table new.table (map move (listing next count entry.point)) a c
-      lists_end off =
-          subst (λ (fs : List Reply). Makes old.table new.table (map move fs) a c)
-          (ap (λ fs. lists.done ++ fs) (sym (none_left left lists.point (sym (is_more (Ok v) m) ∙ off))) ∙ split) made_one
+      lists_end off = grind (arith, made_one)
 
     -- a write failed
     pub lists_broken : {E : Type 0} (e : E) → MovesOn now new listed place session (at_point lists.point) b c (Err e) → BreaksOff new.table (map move (listing next count entry.point)) a c
@@ -231,52 +190,26 @@ module _ (old : Shown) (listed : Listed) (place : ℕ) (session : Name) (entry :
   -- all were shown
   pub lists_all : (now : Shown) (counter : ℕ) → count ≤ counter → (a b : Option (List ℕ)) → Lists old now listed place session entry count (count - counter) a b
       → Makes old.table now.table (map move (listing next count entry.point)) a b
-  lists_all now counter over a b lists =
-      let none : count - counter ≡ 0 = omega arith in
-      subst (λ (fs : List Reply). Makes old.table now.table (map move fs) a b)
-      (sym (append-nil lists.done) ∙ (ap (λ (n : ℕ). lists.done ++ listing next n lists.point) (sym none) ∙ lists.both)) lists.made
+  lists_all now counter over a b lists = grind (arith, append-nil)
 
 pub carries_broken : {T E : Type 0} (old new : Table) (ms : List Step) (before after : Option (List ℕ)) (result : Result T E) → IsErr result → BreaksOff new ms before after → CarriesOut old new ms before after result
-carries_broken old new ms before after (Ok v) failed broke = absurd (let no : ⊥ = cc in no)
-carries_broken old new ms before after (Err e) failed broke = broke
+carries_broken old new ms before after result failed broke = grind arith
 
 -- ---- the request for so many
 
 list_moves : (old : Shown) (listed : Listed) (session : Name) (entry : Entry) (n : ℕ) → is_listed old.subject listed ≡ true → entry_of session old.table ≡ Some entry
     → found_moves old listed session entry (suc n) ≡ exact_moves old old.table (Ask session (list_request listed (suc n)))
-list_moves old Diagnoses session entry n is found = ap (listing_moves (next_for (served_system old.subject) session) old.table session (suc n)) (sym found)
-list_moves old Levels session entry n is found = by old.subject.extras.levels is
-  where
-    by : (levels : Option ℕ) → is_some levels ≡ true
-        → map (goes_on old.table session entry) (listing (level_for (served_system old.subject) session (top_of levels) entry) (suc n) entry.point)
-        ≡ level_moves (served_system old.subject) old.limit old.table session (suc n) levels
-    by None some = absurd (let no : ⊥ = cc in no)
-    by (Some top) some = ap (listing_moves (level_for (served_system old.subject) session top) old.table session (suc n)) (sym found)
+list_moves old listed session entry n is found = grind arith
 
 one_list : (listed : Listed) → IsOneMove (list_request listed zero)
-one_list Diagnoses shown table session = refl
-one_list Levels shown table session = refl
+one_list listed shown table session = grind arith
 
 none_open : (subject : Subject) (listed : Listed) (session : Name) (entry : Entry) → is_listed subject listed ≡ true
     → when_open (served_system subject) session entry (list_request listed zero) ≡ goes_through entry []
-none_open subject Diagnoses session entry is = refl
-none_open subject Levels session entry is = by subject.extras.levels is
-  where
-    by : (levels : Option ℕ) → is_some levels ≡ true
-        → with_number NoLevels (λ top. goes_through entry (listing (level_for (served_system subject) session top entry) zero entry.point)) levels ≡ goes_through entry []
-    by None some = absurd (let no : ⊥ = cc in no)
-    by (Some top) some = refl
+none_open subject listed session entry is = grind arith
 
 -- the request was obeyed; for none it is one move, which says nothing and changes nothing
 pub obeys_list : {T E : Type 0} (old new : Shown) (listed : Listed) (place : ℕ) (session : Name) (entry : Entry) (count : ℕ) (before after : Option (List ℕ)) (result : Result T E)
     → is_listed old.subject listed ≡ true → StandsAt old.table place session entry
     → CarriesOut old.table new.table (found_moves old listed session entry count) before after result → ChangesTable old new → Obeys old new session (list_request listed count) before after result
-obeys_list old new listed place session entry zero before after (Ok v) is stands made stays =
-    obeys_outcome old session (list_request listed zero) (one_list listed) before after (Ok v) (goes_through entry []) new
-    (asked_open old session (list_request listed zero) entry stands.found ∙ none_open old.subject listed session entry is)
-    (stays ∙ ap (λ (t : Table). record old { table = t }) (made.table ∙ sym stands.kept)) made.written
-obeys_list old new listed place session entry zero before after (Err e) is stands broke stays = absurd (no_more broke.made broke.others broke.move broke.split)
-obeys_list old new listed place session entry (suc n) before after result is stands carried stays = record {
-  carried = subst (λ (ms : List Step). CarriesOut old.table new.table ms before after result) (list_moves old listed session entry n is stands.found) carried;
-  stays = stays;
-}
+obeys_list old new listed place session entry count before after result is stands given stays = grind (arith, no_more, list_moves)

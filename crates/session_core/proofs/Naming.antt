@@ -19,14 +19,10 @@ use Rattle.session_rules.specs.Sessions.{state_of}
 
 -- a name that has a place is among the names, and one that has none is not
 pub is_among-at : (name : Name) (names : List Name) (place : ℕ) → Some place ≡ place_of name names → is_among names name ≡ true
-is_among-at name names place found =
-    let there = position-Some (same_name name) names place [] (sym found) in
-    list_any_at (same_name name) names place [] there.0 there.1
+is_among-at name names place found = grind (arith, position-Some (same_name name) names place [] (sym found), list_any_at (same_name name) names place)
 
 pub is_among-nowhere : (name : Name) (names : List Name) → None ≡ place_of name names → is_among names name ≡ false
-is_among-nowhere name names missing =
-    let past : length names ≤ position_or_len (same_name name) names = grind (arith, common_steps) in
-    list_any_none (same_name name) names (λ k d l. fails_before_first (same_name name) names k d (omega arith))
+is_among-nowhere name names missing = grind (arith, list_any_none, fails_before_first)
 
 module _ (parts : List Name) where
   -- a part is among all names exactly where its word is marked, or where it is among the names that are left
@@ -38,25 +34,10 @@ module _ (parts : List Name) where
   pub marked_more : (all left : List Name) (name : Name) (state : List ℕ) (place : ℕ)
       → names_rise parts ≡ true → Some place ≡ place_of name parts → length state ≡ length parts
       → AreMarked all state (name ∷ left) → AreMarked all (set state place 1) left
-  marked_more all left name state place rise found long before k l =
-      let there = position-Some (same_name name) parts place [] (sym found) in
-      let is : name ≡ get_or parts place [] = equal_if_same _ _ there.1 in
-      elim (cases_eq k place) [
-        | inl e ↦
-            let on : get_or (set state place 1) k 0 ≡ 1 = rw e (get_or-set_same state place 1 0 (omega arith)) in
-            let same : same_name (get_or parts k []) name ≡ true = same_if_equal _ _ (ap (λ (i : ℕ). get_or parts i []) e ∙ sym is) in
-            rw on (rw same at (before k l) ∙ or_right _ _ refl)
-        | inr off ↦
-            let kept : get_or (set state place 1) k 0 ≡ get_or state k 0 = get_or-set_other state place k 1 0 off in
-            let other : same_name (get_or parts k []) name ≡ false = same_name-other _ _
-            (λ e. off (sym (place_in-names_rise parts k rise l) ∙ ap (place_in parts) (e ∙ is)
-            ∙ place_in-names_rise parts place rise there.0)) in
-            rw kept (rw other at (before k l))
-      ]
+  marked_more all left name state place rise found long before k l = grind (arith, position-Some, get_or-set_same, same_if_equal, before, or_right, get_or-set_other, same_name-other, place_in-names_rise)
 
   unmarked : (a off : Bool) → a ≡ (not off || false) → off ≡ not a
-  unmarked a true e = ap not (sym e)
-  unmarked a false e = ap not (sym e)
+  unmarked a off e = grind arith
 
   -- no name is left
   pub marked_all : (all : List Name) (state : List ℕ) → length state ≡ length parts → AreMarked all state [] → bits_of state ≡ state_of all parts

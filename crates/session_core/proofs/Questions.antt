@@ -19,12 +19,10 @@ use Rattle.session_core.proofs.Minimum.{no_diagnosis, some_diagnosis}
 
 -- a wire that is seen has no line, and another one its own
 pub unseen-none : (system : System) (s : Name) (known : Case) (name : Name) (wire : ℕ) → true ≡ is_some (seen_at known wire) → unseen_line system s known name wire ≡ []
-unseen-none system s known name wire e =
-    ap (λ b. elim b as (λ (_ : Bool). List (List (List ℕ))) [ true ↦ [] | false ↦ probe_line system s known name wire ∷ [] ]) (sym e)
+unseen-none system s known name wire e = grind arith
 
 pub unseen-one : (system : System) (s : Name) (known : Case) (name : Name) (wire : ℕ) → false ≡ is_some (seen_at known wire) → unseen_line system s known name wire ≡ probe_line system s known name wire ∷ []
-unseen-one system s known name wire e =
-    ap (λ b. elim b as (λ (_ : Bool). List (List (List ℕ))) [ true ↦ [] | false ↦ probe_line system s known name wire ∷ [] ]) (sym e)
+unseen-one system s known name wire e = grind arith
 
 -- ---- lines that are left
 
@@ -50,19 +48,13 @@ verdicts-next s names verdicts i v h g = rw (drop_more names i [] h, drop_more v
 -- ---- whether some state agrees
 
 pub least-some : (costs : List ℕ) (h : List Bool) (hs : List (List Bool)) → is_some (least costs (h ∷ hs)) ≡ true
-least-some costs h hs = by (least_of (map (cost costs) hs))
-  where
-    by : (o : Option ℕ) → is_some (least_with (cost costs h) o) ≡ true
-    by None = refl
-    by (Some m) = refl
+least-some costs h hs = grind arith
 
 pub if_any-none : (costs : List ℕ) (s : Name) (hs : List (List Bool)) (lines : List (List (List ℕ))) → false ≡ is_some (least costs hs) → if_any s hs lines ≡ inconsistent s ∷ []
-if_any-none costs s [] lines e = refl
-if_any-none costs s (h ∷ hs) lines e = absurd (let no : false ≡ true = e ∙ least-some costs h hs in let never : ⊥ = cc in never)
+if_any-none costs s hs lines e = grind arith
 
 pub if_any-some : (costs : List ℕ) (s : Name) (hs : List (List Bool)) (lines : List (List (List ℕ))) → true ≡ is_some (least costs hs) → if_any s hs lines ≡ lines
-if_any-some costs s [] lines e = absurd (let never : ⊥ = cc in never)
-if_any-some costs s (h ∷ hs) lines e = refl
+if_any-some costs s hs lines e = grind arith
 
 by_least-none : (costs : List ℕ) (s : Name) (hs : List (List Bool)) (lines : List (List (List ℕ))) (o : Option ℕ) → least costs hs ≡ o → false ≡ is_some o → if_any s (diagnoses costs hs) lines ≡ inconsistent s ∷ []
 by_least-none costs s hs lines None e f = ap (λ ds. if_any s ds lines) (no_diagnosis costs hs e)
@@ -73,8 +65,7 @@ if_diagnosis-none costs s hs lines e = by_least-none costs s hs lines (least cos
 
 -- a list that is not empty
 if_any-nonempty : (s : Name) (ds : List (List Bool)) (lines : List (List (List ℕ))) → ds ≢ [] → if_any s ds lines ≡ lines
-if_any-nonempty s [] lines some = absurd (some refl)
-if_any-nonempty s (d ∷ ds) lines some = refl
+if_any-nonempty s ds lines some = grind arith
 
 by_least-some : (costs : List ℕ) (hs : List (List Bool)) (o : Option ℕ) → least costs hs ≡ o → true ≡ is_some o → diagnoses costs hs ≢ []
 by_least-some costs hs None e f = absurd (let never : ⊥ = cc in never)
@@ -89,12 +80,7 @@ if_diagnosis-some costs s hs lines e = if_any-nonempty s (diagnoses costs hs) li
 -- ---- blame
 
 same_word : (b : Bool) (faulty : List Bool) → blame_text (verdict (b ∷ faulty)) ≡ blame_word (b ∷ faulty)
-same_word b faulty = by (list_all (λ x. x) (b ∷ faulty)) (list_any (λ x. x) (b ∷ faulty))
-  where
-    by : (all any : Bool) → blame_text (if all then Blame.Always else if any then Blame.Sometimes else Blame.Never) ≡ (if all then codes "always" else if any then codes "sometimes" else codes "never")
-    by true any = refl
-    by false true = refl
-    by false false = refl
+same_word b faulty = grind arith
 
 verdict_word : (ds : List (List Bool)) (part : ℕ) → ds ≢ [] → blame_text (verdict (map (λ (state : List Bool). not (bit_in state part)) ds)) ≡ blame_word (map (λ (state : List Bool). not (bit_in state part)) ds)
 verdict_word [] part some = absurd (some refl)
@@ -115,6 +101,4 @@ blame_lines-are s ds part (name ∷ names) (v ∷ verdicts) some long each =
     (blame_lines-are s ds (part + 1) names verdicts some (omega (arith, long)) (λ i h. later i h))
   where
     later : (i : ℕ) → i < length names → slice_get verdicts i ≡ Some (verdict (map (λ (state : List Bool). not (bit_in state (part + 1 + i))) ds))
-    later i h =
-        let next : part + suc i ≡ part + 1 + i = omega arith in
-        each (suc i) (omega (arith, h)) ∙ ap (λ n. Some (verdict (map (λ (state : List Bool). not (bit_in state n)) ds))) next
+    later i h = grind (arith, each (suc i))

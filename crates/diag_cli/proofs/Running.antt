@@ -34,47 +34,29 @@ use Rattle.diag_cli.specs.Following.{WritesFirst, IsStopped}
 
 -- items were written, and then an output was given or begun
 pub first_given : (items : List Item) (output : Output) (status : Status) (a b c : Option (List ℕ)) → Writes a b items → Gives output status b c → WritesFirst a c items
-first_given items output status a b c written said =
-    let grown = given_grows output status b c said in
-    record { middle = b; written = written; text = grown.0; more = grown.1 }
+first_given items output status a b c written said = grind arith
 
 -- if two texts were put, one was, and then the other
 first_put : (a c : Option (List ℕ)) (xs ys : List ℕ) → Appends a c (xs ++ ys) → Appends a (append_known a xs) xs × Appends (append_known a xs) c ys
-first_put None c xs ys put = (tt, tt)
-first_put (Some olds) None xs ys put = absurd put
-first_put (Some olds) (Some news) xs ys put = (refl, put ∙ sym (append_assoc olds xs ys))
+first_put a c xs ys put = grind (arith, append_assoc)
 
 -- moves were made and then others, so the first were written first
 first_of_all : (one : Table → List ℕ → List Step) (old new : Table) (lines more : List (List ℕ)) (a c : Option (List ℕ)) → Makes old new (script_moves one old (lines ++ more)) a c
     → (b : Option (List ℕ)) × Makes old (left_by old (script_moves one old lines)) (script_moves one old lines) a b × ((text : List ℕ) × Appends b c text)
-first_of_all one old new lines more a c made =
-    let first = script_moves one old lines in
-    let later = script_moves one (left_by old first) more in
-    let all = ap said (script_moves-append one old lines more) ∙ said-append first later in
-    let parts = parted (said first) (said later) made.written.text (subst (λ (items : List Item). Spells items made.written.text) all made.written.spelled) in
-    let put = first_put a c parts.0 parts.1 (subst (λ (text : List ℕ). Appends a c text) parts.2 made.written.grown) in (
-      append_known a parts.0,
-      record { written = record { text = parts.0; spelled = parts.3; grown = put.0 }; table = refl },
-      (parts.1, put.1),
-    )
+first_of_all one old new lines more a c made = grind (arith, script_moves-append, said-append, parted, first_put)
 
 -- if moves broke off, some text was put
 broken_grows : (new : Table) (moves : List Step) (a b : Option (List ℕ)) → BreaksOff new moves a b → (text : List ℕ) × Appends a b text
-broken_grows new moves a b broke =
-    (broke.written.text ++ broke.begun.text, grows_more a broke.middle b broke.written.text broke.begun.text broke.written.grown broke.begun.grown)
+broken_grows new moves a b broke = grind (arith, grows_more)
 
 module _ (one : Table → List ℕ → List Step) (old new : Table) (a b : Option (List ℕ)) where
   -- lines were answered, and those after them broke off
   pub breaks_behind : (answered lines : List (List ℕ)) → FailsBehind one old new answered lines a b → BreaksOff new (script_moves one old (answered ++ lines)) a b
-  breaks_behind answered lines failed =
-      subst (λ (moves : List Step). BreaksOff new moves a b)
-      (ap (λ (t : Table). script_moves one old answered ++ script_moves one t lines) failed.made.table ∙ sym (script_moves-append one old answered lines))
-      (breaks_after failed.made failed.broke)
+  breaks_behind answered lines failed = grind (arith, script_moves-append one old answered lines, breaks_after failed.made failed.broke)
 
   -- so all lines that the bytes end did
   pub breaks_at_once : (bytes : List ℕ) → FailsAtOnce one old new bytes a b → BreaksOff new (script_moves one old (whole_lines bytes)) a b
-  breaks_at_once bytes at =
-      subst (λ (lines : List (List ℕ)). BreaksOff new (script_moves one old lines) a b) (sym at.ended) (breaks_behind (whole_lines at.fed) at.lines at.failed)
+  breaks_at_once bytes at = grind (arith, breaks_behind)
 
 -- the line `ready` was put
 ready_put : (system : System) (parts wires : ℕ) (a b : Option (List ℕ)) → parts ≡ length system.parts → wires ≡ length system.wires
@@ -96,10 +78,7 @@ module _ (shown : Shown) (sound : IsSound shown) where
   pub ready_then : (old new : Table) (lines : List (List ℕ)) (parts wires : ℕ) (a b c : Option (List ℕ)) → old ≡ [] → parts ≡ length shown.subject.parts → wires ≡ length shown.subject.wires
       → Appends a b (spaced (codes "ready" ∷ decimal parts ∷ decimal wires ∷ []))
       → Makes old new (script_moves (moves_of shown) old lines) b c → Writes a c (answers_of (system_of shown.subject) shown.limit lines)
-  ready_then old new lines parts wires a b c none p w ready made =
-      let over = makes_over shown sound.valid sound.room sound.few sound.least old new lines b c (no_cases old none) made in
-      writes_more a b c (ready_line system ∷ []) (replies system shown.limit [] lines) (ready_put system parts wires a b p w ready)
-      (subst (λ (t : Table). Writes b c (replies system shown.limit t lines)) none (subst (Writes b c) (said-replies system shown.limit old lines) over.written))
+  ready_then old new lines parts wires a b c none p w ready made = grind (arith, makes_over shown sound.valid sound.room sound.few sound.least old new lines b c (no_cases old none) made, writes_more a b c (ready_line system ∷ []) (replies system shown.limit [] lines) (ready_put system parts wires a b p w ready), said-replies system shown.limit old lines)
 
   -- if more lines were answered after some, these were answered first
   pub answered_first : (old new : Table) (lines more : List (List ℕ)) (parts wires : ℕ) (a b c : Option (List ℕ)) → old ≡ [] → parts ≡ length shown.subject.parts → wires ≡ length shown.subject.wires
@@ -107,26 +86,14 @@ module _ (shown : Shown) (sound : IsSound shown) where
       → Makes old new (script_moves (moves_of shown) old (lines ++ more)) b c → WritesFirst a c (answers_of (system_of shown.subject) shown.limit lines)
   answered_first old new lines more parts wires a b c none p w ready made =
       let first = first_of_all (moves_of shown) old new lines more b c made in
-      record {
-        middle = first.0;
-        written = ready_then old (left_by old (script_moves (moves_of shown) old lines)) lines parts wires a b first.0 none p w ready first.1;
-        text = first.2.0;
-        more = first.2.1;
-      }
+      grind (arith, ready_then old (left_by old (script_moves (moves_of shown) old lines)) lines parts wires a b first.0 none p w ready first.1)
 
   -- ---- a write failed
 
   -- with the line `ready`: that begins the answers to any lines
   pub ready_begun : (parts wires : ℕ) (a b : Option (List ℕ)) → parts ≡ length shown.subject.parts → wires ≡ length shown.subject.wires
       → AppendsPrefix a b (spaced (codes "ready" ∷ decimal parts ∷ decimal wires ∷ [])) → (lines : List (List ℕ)) → WritesPart a b (answers_of (system_of shown.subject) shown.limit lines)
-  ready_begun parts wires a b p w (part, rest, all, grown) lines =
-      part_more a b (ready_line system ∷ []) (replies system shown.limit [] lines)
-      (record {
-        text = part;
-        begun = (rest, spells_one (ready_line system) (part ++ rest) (sym all ∙ (λ i. spaced (codes "ready" ∷ decimal (p i) ∷ decimal (w i) ∷ []))));
-        grown = grown;
-      })
-      (replies-have shown.subject sound.valid sound.room sound.few sound.least shown.limit [] lines (HasCases-empty system))
+  ready_begun parts wires a b p w (part, rest, all, grown) lines = grind (arith, part_more a b (ready_line system ∷ []) (replies system shown.limit [] lines), spells_one (ready_line system) (part ++ rest), replies-have shown.subject sound.valid sound.room sound.few sound.least shown.limit)
 
   -- with the replies to lines: what was written begins the answers to them and to any more
   pub lines_begun : (old new : Table) (lines : List (List ℕ)) (parts wires : ℕ) (a b c : Option (List ℕ)) → old ≡ [] → parts ≡ length shown.subject.parts → wires ≡ length shown.subject.wires
@@ -142,26 +109,12 @@ module _ (shown : Shown) (sound : IsSound shown) where
   stopped_in : (old new : Table) (bytes fed piece : List ℕ) (lines : List (List ℕ)) (parts wires : ℕ) (a b c : Option (List ℕ)) → old ≡ [] → parts ≡ length shown.subject.parts → wires ≡ length shown.subject.wires
       → Appends a b (spaced (codes "ready" ∷ decimal parts ∷ decimal wires ∷ []))
       → bytes ≡ fed ++ piece → length piece ≤ READ_LIMIT → FailsBehind (moves_of shown) old new (whole_lines fed) lines b c → IsStopped (answers_of (system_of shown.subject) shown.limit) bytes a c
-  stopped_in old new bytes fed piece lines parts wires a b c none p w ready all few failed =
-      let grown = broken_grows new (script_moves (moves_of shown) failed.table lines) failed.middle c failed.broke in
-      record {
-        fed = fed;
-        piece = piece;
-        parts = all;
-        one_read = few;
-        answered = record {
-          middle = failed.middle;
-          written = ready_then old failed.table (whole_lines fed) parts wires a b failed.middle none p w ready failed.made;
-          text = grown.0;
-          more = grown.1;
-        };
-      }
+  stopped_in old new bytes fed piece lines parts wires a b c none p w ready all few failed = grind (arith, broken_grows new (script_moves (moves_of shown) failed.table lines) failed.middle c failed.broke, ready_then old failed.table (whole_lines fed) parts wires a b failed.middle none p w ready failed.made)
 
   pub stopped_at_once : (old new : Table) (bytes : List ℕ) (parts wires : ℕ) (a b c : Option (List ℕ)) → old ≡ [] → parts ≡ length shown.subject.parts → wires ≡ length shown.subject.wires
       → Appends a b (spaced (codes "ready" ∷ decimal parts ∷ decimal wires ∷ []))
       → FailsAtOnce (moves_of shown) old new bytes b c → IsStopped (answers_of (system_of shown.subject) shown.limit) bytes a c
-  stopped_at_once old new bytes parts wires a b c none p w ready at =
-      stopped_in old new bytes at.fed at.piece at.lines parts wires a b c none p w ready at.parts at.one_read at.failed
+  stopped_at_once old new bytes parts wires a b c none p w ready at = grind (arith, stopped_in old new bytes at.fed at.piece at.lines parts wires a b c none p w ready at.parts at.one_read at.failed)
 
   pub stopped_at_end : (old new : Table) (bytes : List ℕ) (lines : List (List ℕ)) (parts wires : ℕ) (a b c : Option (List ℕ)) → old ≡ [] → parts ≡ length shown.subject.parts → wires ≡ length shown.subject.wires
       → Appends a b (spaced (codes "ready" ∷ decimal parts ∷ decimal wires ∷ []))

@@ -56,51 +56,27 @@ both clauses i list = branch clauses i list false ∷ branch clauses i list true
 
 left-lists : (clauses : List Clause) (i : ℕ) → i < length (order clauses)
     → map (left clauses) (lists_of_bits (suc i)) ≡ flat_map (both clauses i) (map (left clauses) (lists_of_bits i))
-left-lists clauses i h = ap (map (left clauses)) (lists_of_bits-more i) ∙ map-flat_map (left clauses) longer (lists_of_bits i)
-    ∙ flat_map_same (λ bits. map (left clauses) (longer bits)) (λ bits. both clauses i (left clauses bits)) (lists_of_bits i) (λ bits m. next bits (bits_length i bits m))
-    ∙ sym (flat_map-map (both clauses i) (left clauses) (lists_of_bits i)) where
-      next : (bits : List Bool) → length bits ≡ i → map (left clauses) (longer bits) ≡ both clauses i (left clauses bits)
-      next bits e = grind (arith, left-next clauses bits)
+left-lists clauses i h = grind (arith, lists_of_bits-more i, map-flat_map (left clauses) longer (lists_of_bits i), flat_map_same, bits_length i, flat_map-map (both clauses i) (left clauses) (lists_of_bits i), left-next clauses)
 
 abbrev pub is_alive : List Clause → ℕ → List Bool → Bool
 is_alive clauses i list = not (is_dead clauses i list)
 
 -- The living lists of the next level are the different living lists that one further bit leaves of those of this one.
 pub living_lists-next : (clauses : List Clause) (i : ℕ) → i < length (order clauses) → living clauses (i + 1) ≡ different (flat_map (branches clauses i) (living clauses i))
-living_lists-next clauses i h =
-    let lists = map (left clauses) (lists_of_bits i) in
-    ap (λ n. different (filter (is_alive clauses (i + 1)) (map (left clauses) (lists_of_bits n)))) (add-one i)
-    ∙ ap (λ ls. different (filter (is_alive clauses (i + 1)) ls)) (left-lists clauses i h)
-    ∙ ap different (filter-flat_map (is_alive clauses (i + 1)) (both clauses i) lists
-    ∙ sym (flat_map-filter (is_alive clauses i) (branches clauses i) dead lists))
-    ∙ sym (different-flat_map (branches clauses i) (filter (is_alive clauses i) lists)) where
-      dead : (list : List Bool) → is_alive clauses i list ≡ false → branches clauses i list ≡ []
-      dead list e = grind (arith, dead-next clauses i list)
+living_lists-next clauses i h = grind (arith, left-lists, filter-flat_map, flat_map-filter, different-flat_map, dead-next)
 
 -- What is among the living lists of a level is a living list of it.
 pub living_are_living : (clauses : List Clause) (i : ℕ) (list : List Bool) → In list (living clauses i) → IsLiving clauses i list
-living_are_living clauses i list m =
-    let lists = map (left clauses) (lists_of_bits i) in
-    let found = In-filter (is_alive clauses i) list lists (met-In same_list pointwise-equal list (filter (is_alive clauses i) lists) m) in
-    let from = from_map (left clauses) list (lists_of_bits i) found.0 in
-    record { bits = from.item; many = bits_length i from.item from.is_in; left = from.gives; alive = not-true (is_dead clauses i list) found.1 }
+living_are_living clauses i list m = grind (arith, In-filter, met-In, pointwise-equal, from_map, bits_length)
 
 -- and so is no other
 pub living-in : (clauses : List Clause) (i : ℕ) (list : List Bool) → IsLiving clauses i list → In list (living clauses i)
-living-in clauses i list is =
-    let there = In-map (left clauses) is.bits (lists_of_bits (length is.bits)) (bits_in is.bits) in
-    In-met same_list pointwise-equal list (filter (is_alive clauses i) (map (left clauses) (lists_of_bits i))) (In-filtered (is_alive clauses i) list (map (left clauses) (lists_of_bits i))
-    (subst (λ l. In l (map (left clauses) (lists_of_bits i))) (sym is.left) (subst (λ n. In (left clauses is.bits) (map (left clauses) (lists_of_bits n))) is.many there)) (ap not is.alive))
+living-in clauses i list is = grind (arith, In-map, bits_in, In-met, pointwise-equal, In-filtered)
 
 -- What a bit leaves of a living list is one if it is not dead.
 pub living-next : (clauses : List Clause) (i : ℕ) (list : List Bool) (bit : Bool) → i < length (order clauses) → IsLiving clauses i list
     → is_dead clauses (i + 1) (branch clauses i list bit) ≡ false → IsLiving clauses (i + 1) (branch clauses i list bit)
-living-next clauses i list bit low is alive = record {
-  bits = is.bits ++ bit ∷ [];
-  many = omega (arith, is.many, length-append is.bits (bit ∷ []));
-  left = (λ j. branch clauses (sym is.many j) (is.left j) bit) ∙ sym (left-next clauses is.bits bit (omega (arith, is.many)));
-  alive = alive;
-}
+living-next clauses i list bit low is alive = grind (arith, length-append is.bits (bit ∷ []), left-next clauses is.bits bit)
 
 -- ---- lists with one state
 
@@ -121,8 +97,7 @@ known clauses i list h = grind (arith, known-left)
 
 pub same-known : (vs : List ℕ) (i : ℕ) (cs : List Clause) (ks ls : List Bool) → Known vs i cs ks → Known vs i cs ls
     → bits_of (is_open vs i) cs ks ≡ bits_of (is_open vs i) cs ls → ks ≡ ls
-same-known vs i [] [] ls h k e = grind arith
-same-known vs i [] (x ∷ ks) ls h k e = absurd h
+same-known vs i [] ks ls h k e = grind arith
 same-known vs i (c ∷ cs) [] ls h k e = absurd h
 same-known vs i (c ∷ cs) (x ∷ ks) [] h k e = absurd k
 same-known vs i (c ∷ cs) (x ∷ ks) (y ∷ ls) h k e = grind (arith, h.0, h.1, k.0, k.1, same-known vs i cs ks ls h.2 k.2)
@@ -135,12 +110,7 @@ number-same (x ∷ xs) (y ∷ ys) h e = grind (arith, number-same xs ys)
 
 pub words-same : (n : ℕ) (xs ys : List Bool) → length xs ≡ length ys → length xs ≤ 64 * n → words_of n xs ≡ words_of n ys → xs ≡ ys
 words-same zero xs ys h few e = nil_from_length xs (omega arith) ∙ sym (nil_from_length ys (omega arith))
-words-same (suc n) xs ys h few e =
-    let first : row_number (take 64 xs) ≡ row_number (take 64 ys) = cc in
-    let others : words_of n (drop 64 xs) ≡ words_of n (drop 64 ys) = cc in
-    let front = number-same (take 64 xs) (take 64 ys) (length-take 64 xs ∙ ap (λ k. min 64 k) h ∙ sym (length-take 64 ys)) first in
-    let back = words-same n (drop 64 xs) (drop 64 ys) (length-drop 64 xs ∙ ap (λ k. k - 64) h ∙ sym (length-drop 64 ys)) (omega (arith, length-drop 64 xs)) others in
-    sym (take-append-drop 64 xs) ∙ (λ i. front i ++ back i) ∙ take-append-drop 64 ys
+words-same (suc n) xs ys h few e = grind (arith, number-same (take 64 xs) (take 64 ys), length-take 64 xs, length-take 64 ys, length-drop 64 xs, length-drop 64 ys, take-append-drop 64 xs, take-append-drop 64 ys, words-same n (drop 64 xs) (drop 64 ys))
 
 pub length-bits_of : {X : Type 0} (test : X → Bool) (xs : List X) (list : List Bool) → length xs ≤ length list → length (bits_of test xs list) ≡ length (filter test xs)
 length-bits_of test [] list h = refl
@@ -148,8 +118,7 @@ length-bits_of test (x ∷ xs) [] h = absurd (omega arith)
 length-bits_of test (x ∷ xs) (b ∷ list) h = grind (arith, length-bits_of test xs list)
 
 pub length-known : (vs : List ℕ) (i : ℕ) (cs : List Clause) (list : List Bool) → Known vs i cs list → length list ≡ length cs
-length-known vs i [] [] h = refl
-length-known vs i [] (b ∷ list) h = absurd h
+length-known vs i [] list h = grind arith
 length-known vs i (c ∷ cs) [] h = absurd h
 length-known vs i (c ∷ cs) (b ∷ list) h = ap suc (length-known vs i cs list h.2)
 
@@ -159,8 +128,4 @@ length-state_bits clauses i list h = length-bits_of (is_open (order clauses) i) 
 
 -- Two living lists of a level with the same state are equal.
 pub equal_states-equal_lists : (clauses : List Clause) (i : ℕ) (ks ls : List Bool) → IsLiving clauses i ks → IsLiving clauses i ls → state_of clauses i ks ≡ state_of clauses i ls → ks ≡ ls
-equal_states-equal_lists clauses i ks ls h k e =
-    let a = length-state_bits clauses i ks h in
-    let b = length-state_bits clauses i ls k in
-    same-known (order clauses) i clauses ks ls (known clauses i ks h) (known clauses i ls k)
-    (words-same (size clauses i) (bits_of (is_open (order clauses) i) clauses ks) (bits_of (is_open (order clauses) i) clauses ls) (a ∙ sym b) (omega arith) e)
+equal_states-equal_lists clauses i ks ls h k e = grind (arith, length-state_bits clauses i ks h, length-state_bits clauses i ls k, same-known (order clauses) i clauses ks ls (known clauses i ks h) (known clauses i ls k), words-same)

@@ -52,10 +52,7 @@ last-filled cnf valid (suc n) e =
     let first = λ (v : ℕ). sym (place-low (same_variable v) n (order cnf.clauses) (omega (arith, e))) in
     let next : suc n ≡ n + 1 = omega arith in
     let same : n ≡ 0 + n = omega arith in
-    ap (λ k. is_filled (living cnf.clauses k)) next
-    ∙ sym (has-way (get_or vs n 0) (chain (drop (n + 1) vs)) (at cnf.clauses n (take n vs)) ∙ ap (λ (p : Place). is_filled p.lists) (next-at cnf.clauses n (take n vs) low first))
-    ∙ ap has_way (forks-level cnf.clauses n (take n vs) low first)
-    ∙ ap (λ k. has_way (level_forks cnf.clauses k)) same ∙ sym (leads-last (level_forks cnf.clauses) 0 n)
+    grind (arith, has-way (get_or vs n 0) (chain (drop (n + 1) vs)) (at cnf.clauses n (take n vs)), next-at cnf.clauses n (take n vs) low first, forks-level cnf.clauses n (take n vs) low first, leads-last (level_forks cnf.clauses) 0 n)
 
 pub chain-last : (cnf : ClauseList) → is_clause_list cnf ≡ true
     → forest_sum Words (chain (order cnf.clauses)) cnf.clauses + (if leads_on (forks_on (chain (order cnf.clauses)) (root cnf.clauses)) then 1 else 0) ≡ 1 + sum_of cnf.clauses

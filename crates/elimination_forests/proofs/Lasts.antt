@@ -41,9 +41,7 @@ module _ (clauses : List Clause) where
   its_order = order clauses
 
   pub last-size : size clauses (length its_order) ≡ 1
-  last-size = ap (λ cs. length cs / 64 + 1)
-      (filter-within clauses (is_open its_order (length its_order)) (λ c. false) (λ c e. and_right (is_touched its_order (length its_order) c) (not (is_covered its_order (length its_order) c)) (ap not (covered-last its_order c ∙ e)))
-      ∙ filter-never clauses)
+  last-size = grind (arith, filter-within clauses (is_open its_order (length its_order)), covered-last its_order, filter-never clauses)
 
   -- all living lists of the last level are one, which has no clause
   pub last-one : length (living clauses (length its_order)) ≤ 1
@@ -68,8 +66,7 @@ module _ (a : Assignment) where
   gone vs c within holds =
       let found = any_from (λ l. same_bit (is_positive l) (a (var_of l))) c holds in
       let v = var_of found.item in
-      left-gone vs c v (all-at (λ l. is_among vs (var_of l)) found.item c within found.is_in)
-      (any_in (is_true_by v (a v)) found.item c found.is_in (and_from (v == v) (same_bit (is_positive found.item) (a v)) (eq-eqb v v refl) found.passes))
+      grind (arith, left-gone, all-at, any_in)
 
   alive : (vs : List ℕ) (t : Clause → Bool) (cs : List Clause) → list_all (is_within vs) cs ≡ true → list_all (is_true_clause a) cs ≡ true → some_passes t cs (map (is_left vs (map a vs)) cs) ≡ false
   alive vs t [] e f = refl
@@ -80,14 +77,7 @@ some-there x [] m = absurd m
 some-there x (y ∷ xs) m = omega arith
 
 pub last-some : (clauses : List Clause) (a : Assignment) → all_hold a clauses ≡ true → 1 ≤ weight clauses (length (order clauses))
-last-some clauses a e =
-    let there = living-in clauses (length (order clauses)) (left clauses (map a (order clauses))) (record {
-      bits = map a (order clauses);
-      many = length-map (order clauses) a;
-      left = refl;
-      alive = alive a (order clauses) (is_covered (order clauses) (length (order clauses))) clauses (order-within clauses) e;
-    }) in
-    omega (arith, some-there (left clauses (map a (order clauses))) (living clauses (length (order clauses))) there, ap (λ n. length (living clauses (length (order clauses))) * n) (last-size clauses))
+last-some clauses a e = grind (arith, living-in clauses (length (order clauses)) (left clauses (map a (order clauses))), length-map (order clauses) a, alive a (order clauses) (is_covered (order clauses) (length (order clauses))) clauses (order-within clauses) e, order-within clauses, some-there (left clauses (map a (order clauses))) (living clauses (length (order clauses))), last-size clauses)
 
 pub chain-whole : (cnf : ClauseList) (a : Assignment) → is_clause_list cnf ≡ true → all_hold a cnf.clauses ≡ true → forest_sum Words (chain (order cnf.clauses)) cnf.clauses ≡ sum_of cnf.clauses
 chain-whole cnf a valid e = omega (arith, last-few cnf.clauses, last-some cnf.clauses a e, chain-sum cnf valid)

@@ -1,5 +1,5 @@
 -- What the living lists of a level lead to.
-use Rattle.std.proofs.Common.{◌≡◌, ℕ, ◌+◌, ◌<◌, Bool, true, false, List, length, Some, None, refl, ap, sym, ◌∙◌}
+use Rattle.std.proofs.Common.{◌≡◌, ℕ, ◌+◌, ◌<◌, Bool, true, false, List, length, Some, None, refl, ap, sym, ◌∙◌, arith}
 use Rattle.std.specs.Prelude.{if◌then◌else◌}
 use Rattle.std.proofs.lemmas.Bool.{both_ways, false_from_ne_true}
 use Rattle.state_rules.proofs.Bits.{pointwise-refl, pointwise-equal}
@@ -24,5 +24,4 @@ leads clauses i list bit low is = by (is_dead clauses (i + 1) next) refl where
       let found = any_from (λ l. same_list l next) (living clauses (i + 1)) f in
       both_ways (is_dead clauses (i + 1) next)
       (ap (is_dead clauses (i + 1)) (sym (pointwise-equal found.item next found.passes)) ∙ (living_are_living clauses (i + 1) found.item found.is_in).alive) e))
-  by false e = found-at (λ l. same_list l next) (living clauses (i + 1))
-      (any_in (λ l. same_list l next) next (living clauses (i + 1)) (living-in clauses (i + 1) next (living-next clauses i list bit low is e)) (pointwise-refl next))
+  by false e = grind (arith, found-at, any_in, living-in clauses (i + 1) next (living-next clauses i list bit low is e), pointwise-refl next)

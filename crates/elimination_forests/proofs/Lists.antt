@@ -82,8 +82,7 @@ module _ {X : Type 0} (same : X → X → Bool) (exact : (x y : X) → same x y 
 
   pub met-In : (x : X) (xs : List X) → In x (first_met same xs) → In x xs
   met-In x [] m = m
-  met-In x (y ∷ xs) (inl e) = inl e
-  met-In x (y ∷ xs) (inr m) = inr (met-In x xs (In-filter (λ z. not (same y z)) x (first_met same xs) m).0)
+  met-In x (y ∷ xs) given = grind (arith, In-filter, met-In x xs)
 
   pub any-met : (q : X → Bool) (xs : List X) → list_any q (first_met same xs) ≡ list_any q xs
   any-met q xs = same_from_decides (list_any q (first_met same xs)) (list_any q xs) (passed (first_met same xs) xs (λ x. met-In x xs), passed xs (first_met same xs) (λ x. In-met x xs)) ((λ e. e), (λ e. e)) where

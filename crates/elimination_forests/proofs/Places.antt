@@ -42,10 +42,7 @@ further t k i e = grind arith
 pub untouched-left : (vs : List ℕ) (bits : List Bool) (c : Clause) → ((l : ℤ) → In l c → nat_lt (place vs (var_of l)) (length bits) ≡ false) → is_left vs bits c ≡ true
 untouched-left [] bits c h = refl
 untouched-left (v ∷ vs) [] c h = refl
-untouched-left (v ∷ vs) (bit ∷ bits) c h =
-    let parts = λ (l : ℤ) (m : In l c). further (v == var_of l) (place vs (var_of l)) (length bits) (h l m) in
-    let silent = any-none (is_true_by v bit) c (λ l m. and_left (var_of l == v) (same_bit (is_positive l) bit) (ne_eqb (var_of l) v (λ e. eqb-false v (var_of l) (parts l m).0 (sym e)))) in
-    and_from (not (has_true v bit c)) (is_left vs bits c) (ap not silent) (untouched-left vs bits c (λ l m. (parts l m).1))
+untouched-left (v ∷ vs) (bit ∷ bits) c h = grind (arith, any-none, untouched-left vs bits)
 
 -- A clause whose variables all have bits has not the next variable.
 pub covered-without : (vs : List ℕ) (i : ℕ) (bit : Bool) (c : Clause) → AllOnce vs → i < length vs → is_covered vs i c ≡ true → has_true (get_or vs i 0) bit c ≡ false

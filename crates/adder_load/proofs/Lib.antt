@@ -1,4 +1,4 @@
 pub mod Texts
-pub mod Noting
-pub mod Listing
+pub mod NotedReadings
+pub mod ListedDiagnoses
 pub mod Cases

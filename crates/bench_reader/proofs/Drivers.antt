@@ -7,7 +7,7 @@ use Rattle.std.proofs.lemmas.Map.Made.{is_some-lookup}
 use Rattle.indexmap.specs.IndexMap.{insert_entry}
 use Rattle.text_rules.specs.Names.{Name, same_name, is_among}
 use Rattle.device_model.specs.Building.{repeated}
-use Rattle.device_model.proofs.Naming.{same_name-other}
+use Rattle.device_model.proofs.NameOrder.{same_name-other}
 use Rattle.bench_reader.specs.declared.signals.Driver.{Driver}
 use Rattle.bench_reader.specs.declared.signals.Driver.TheVariants.{Outside, Gate as ByGate}
 use Rattle.bench_reader.specs.declared.kinds.NamedKind.{NamedKind}

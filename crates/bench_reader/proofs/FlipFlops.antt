@@ -15,8 +15,8 @@ use Rattle.device_model.specs.declared.component.Component.{Component}
 use Rattle.device_model.specs.Order.{sorted_distinct}
 use Rattle.device_model.specs.Devices.{Device, part_names}
 use Rattle.device_model.specs.Building.{joined}
-use Rattle.device_model.proofs.Making.{component_name, list_all-among, list_all-sorted_distinct}
-use Rattle.device_model.proofs.Sorting.{itself}
+use Rattle.device_model.proofs.SortedDevices.{component_name, list_all-among, list_all-sorted_distinct}
+use Rattle.device_model.proofs.SortedLists.{itself}
 use Rattle.bench_reader.specs.declared.kinds.FlipFlops.{FlipFlops}
 use Rattle.bench_reader.specs.declared.kinds.FlipFlops.TheVariants.{Taken}
 use Rattle.bench_reader.specs.declared.kinds.NamedKind.{NamedKind}

@@ -1,9 +1,9 @@
 pub mod Words
-pub mod Parsing
-pub mod Opening
+pub mod ParsedTokens
+pub mod FirstBrackets
 pub mod Lines
 pub mod Drivers
-pub mod Driving
+pub mod DrivenSignals
 pub mod Twice
 pub mod Parts
 pub mod Whole

@@ -11,7 +11,7 @@ use Rattle.device_model.specs.declared.component.Component.{Component}
 use Rattle.device_model.specs.Devices.{part_names, has_arity, has_wires}
 use Rattle.device_model.specs.Gates.{rule, takes_inputs}
 use Rattle.device_model.specs.Building.{NamedPart, joined}
-use Rattle.device_model.proofs.Joining.{named, named-joined, joined-wired}
+use Rattle.device_model.proofs.BuiltDevices.{named, named-joined, joined-wired}
 use Rattle.bench_reader.specs.declared.kinds.NamedKind.{NamedKind}
 use Rattle.bench_reader.specs.Statements.{Statement, Gate, part_gate}
 use Rattle.bench_reader.specs.Signals.{driven_by_gate, used}

@@ -17,13 +17,13 @@ use Rattle.device_model.specs.TruthTable.{TruthTable}
 use Rattle.device_model.specs.Order.{placed, sorted_distinct}
 use Rattle.device_model.specs.Devices.{Device}
 use Rattle.device_model.specs.Building.{joined, reason, repeated, built, device_over}
-use Rattle.device_model.proofs.Naming.{same, below, above, compared}
+use Rattle.device_model.proofs.NameOrder.{same, below, above, compared}
 use Rattle.device_model.proofs.Ordered.{among_sorted_distinct, placed-below, placed-above}
-use Rattle.device_model.proofs.Sorting.{itself}
+use Rattle.device_model.proofs.SortedLists.{itself}
 use Rattle.device_model.proofs.Repeats.{is_among-among, among_from_test}
-use Rattle.device_model.proofs.Making.{list_all-among, list_all-from_among, component_name}
+use Rattle.device_model.proofs.SortedDevices.{list_all-among, list_all-from_among, component_name}
 use Rattle.device_model.proofs.CallerLemmas.{sorted_distinct-same_tests, only_memory as only_memory_of}
-use Rattle.device_model.proofs.Joining.{CanBeBuilt, built-over}
+use Rattle.device_model.proofs.BuiltDevices.{CanBeBuilt, built-over}
 use Rattle.bench_reader.specs.declared.fault.BenchFault.TheVariants.{DrivenTwice, Undriven, TooMany}
 use Rattle.bench_reader.specs.declared.fault.BenchError.{BenchError}
 use Rattle.bench_reader.specs.declared.kinds.FlipFlops.{FlipFlops}

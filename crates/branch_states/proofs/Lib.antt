@@ -1,5 +1,5 @@
 pub mod OneStep
-pub mod Ordering
+pub mod FoundOrder
 pub mod ChainSteps
 pub mod Sums
 pub mod Examples

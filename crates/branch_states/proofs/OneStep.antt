@@ -9,7 +9,7 @@ use Rattle.std.proofs.lemmas.List.Filters.{length-filter_more}
 use Rattle.state_rules.specs.Bits.{bit_in}
 use Rattle.clause_encoder.specs.Clauses.{Clause}
 use Rattle.elimination_forests.specs.Branches.{order, has_true, is_touched, is_covered, is_open, some_passes, is_dead, size, bits_of, words_of, state_of, without, branch, IsLiving}
-use Rattle.elimination_forests.proofs.Branching.{Known, known, length-known, length-bits_of}
+use Rattle.elimination_forests.proofs.LevelSteps.{Known, known, length-known, length-bits_of}
 
 -- ---- one clause more
 

@@ -18,7 +18,7 @@ use Rattle.device_model.specs.Gates.{takes, reduced, gate_value}
 use Rattle.clause_encoder.specs.Clauses.{all_hold}
 use Rattle.clause_encoder.specs.Encoding.{step_clauses, chain_clauses, wide_clauses, is_wide, any_gate_clauses, inner_count, raw_clauses}
 use Rattle.clause_encoder.proofs.RowBits.{AllPositive, count-cons}
-use Rattle.clause_encoder.proofs.Meaning.{gate-holds, table-holds, AllPositive-take, AllPositive-at}
+use Rattle.clause_encoder.proofs.PartClauses.{gate-holds, table-holds, AllPositive-take, AllPositive-at}
 use Rattle.clause_encoder.proofs.Settled.{has_bits, Settles}
 
 -- ---- one step

@@ -1,12 +1,12 @@
 pub mod Literals
 pub mod RowBits
-pub mod Meaning
+pub mod PartClauses
 pub mod Settled
 pub mod Chains
-pub mod Mentioning
-pub mod Describing
+pub mod MentionedVariables
+pub mod DeviceClauses
 pub mod OtherVariables
-pub mod Writing
-pub mod Counting
+pub mod WrittenClauses
+pub mod ClauseCounts
 pub mod Sizes
 mod Examples

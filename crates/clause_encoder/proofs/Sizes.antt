@@ -15,7 +15,7 @@ use Rattle.device_model.specs.Gates.{rule}
 use Rattle.clause_encoder.specs.declared.limits.TheConstants.{CLAUSE_LIMIT, NARROW_LIMIT}
 use Rattle.clause_encoder.specs.Clauses.{ClauseList}
 use Rattle.clause_encoder.specs.Encoding.{step_clauses, any_gate_clauses, is_wide, raw_clauses, inner_count, inner_vars, wire_variable, clauses_from, first_inner, raw_count, most_variables, encoded}
-use Rattle.clause_encoder.proofs.Counting.{length-any_gate}
+use Rattle.clause_encoder.proofs.ClauseCounts.{length-any_gate}
 
 -- ---- inner variables and clauses
 

@@ -10,7 +10,7 @@ use Rattle.text_rules.specs.Names.{Name, same_name, is_among}
 use Rattle.text_rules.proofs.NameLemmas.{same_name-Decides, same_if_equal, equal_if_same}
 use Rattle.state_rules.proofs.Lists.{list_any-map}
 use Rattle.device_model.specs.Building.{place_in}
-use Rattle.device_model.proofs.Making.{none_given}
+use Rattle.device_model.proofs.SortedDevices.{none_given}
 use Rattle.component_lang.specs.declared.fault.LangFault.{LangFault}
 use Rattle.component_lang.specs.declared.fault.LangFault.TheVariants.{Name as NoName, Twice}
 use Rattle.component_lang.specs.Designs.{is_plain_name, are_distinct}

@@ -1,4 +1,4 @@
-pub mod Failing
-pub mod Choosing
-pub mod Refusing
+pub mod FailedWrites
+pub mod ForestChoices
+pub mod KeptRefusals
 pub mod Statuses

@@ -1,6 +1,5 @@
 -- Whether a run ends in one way or in another.
-use Rattle.std.proofs.Common.{◌≡◌, ◌≢◌, ◌⊎◌, ℕ, zero, suc, inl, inr, refl, ap, sym, ◌∙◌}
-use Rattle.std.proofs.lemmas.Bool.{cases_eq}
+use Rattle.std.proofs.Common.{◌≡◌, ℕ, zero, suc, refl}
 use Rattle.device_files.specs.declared.status.Status.{Status}
 use Rattle.device_files.specs.declared.status.Status.TheVariants.{Done, Refused, Usage, AboveBudget, ReadFailed, WriteFailed, NoMemory, CutShort}
 use Rattle.device_files.specs.Statuses.{number_of}
@@ -26,8 +25,3 @@ numbered WriteFailed = refl
 numbered NoMemory = refl
 numbered CutShort = refl
 
-pub cases_status : (s t : Status) → (s ≡ t) ⊎ (s ≢ t)
-cases_status s t = elim (cases_eq (number_of s) (number_of t)) [
-  | inl same ↦ inl (sym (numbered s) ∙ ap status_of same ∙ numbered t)
-  | inr other ↦ inr (λ e. other (ap number_of e))
-]

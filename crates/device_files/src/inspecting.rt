@@ -54,7 +54,7 @@ impl Inspection {
 }
 
 /// Puts a line of a word and a number. An error says that a write failed.
-#[tactic(auto, using(crate::proofs::Failing::line_replies))]
+#[tactic(auto, using(crate::proofs::FailedWrites::line_replies))]
 pub fn put_count<O: Sink>(out: &mut O, what: &[u8], count: u64) -> Result<(), WriteFailed>
     ensures text { Replies (O.got out.old) (O.got out.new) result (count_line what.now count ∷ []) }
     ensures cause { HasCause (O.faults out.old) (O.faults out.new) result }
@@ -75,7 +75,7 @@ pub fn put_counts<O: Sink>(out: &mut O, counts: &[Count<'_>]) -> Result<(), Writ
 }
 
 // Prints the sizes of a device, of its clauses and their sum, and answers `Done`, or `WriteFailed`.
-#[tactic(auto, using(crate::proofs::Failing::gives_items))]
+#[tactic(auto, using(crate::proofs::FailedWrites::gives_items))]
 fn tell_sizes<O: Sink>(out: &mut O, device: &Device, cnf: &Cnf, sum: u32) -> Status
     requires faults { O.faults out.old < 2 ^ 64 - 1 }
     ensures write_fault { RoseExactly (O.faults out.old) (O.faults out.new) (result ≡ Status.WriteFailed) }
@@ -107,7 +107,7 @@ fn tell_sizes<O: Sink>(out: &mut O, device: &Device, cnf: &Cnf, sum: u32) -> Sta
 }
 
 // Prints the sizes of a decomposable graph and answers `Done`, or `WriteFailed`.
-#[tactic(auto, using(crate::proofs::Failing::gives_line))]
+#[tactic(auto, using(crate::proofs::FailedWrites::gives_line))]
 fn tell_graph<O: Sink>(out: &mut O, graph: &Graph) -> Status
     requires faults { O.faults out.old < 2 ^ 64 - 1 }
     ensures write_fault { RoseExactly (O.faults out.old) (O.faults out.new) (result ≡ Status.WriteFailed) }

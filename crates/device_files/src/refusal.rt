@@ -161,7 +161,7 @@ fn put_refusal<O: Sink>(out: &mut O, refusal: Refusal) -> Result<(), WriteFailed
 }
 
 /// Prints a refusal and answers the status, `WriteFailed` if the write failed.
-#[tactic(auto, using(crate::proofs::Failing::gives_refusal))]
+#[tactic(auto, using(crate::proofs::FailedWrites::gives_refusal))]
 pub fn tell<O: Sink>(out: &mut O, refusal: Refusal) -> Status
     requires faults { O.faults out.old < 2 ^ 64 - 1 }
     ensures write_fault { RoseExactly (O.faults out.old) (O.faults out.new) (result ≡ Status.WriteFailed) }

@@ -4,9 +4,9 @@ use Rattle.std.specs.Prelude.{if◌then◌else◌}
 use Rattle.text_rules.specs.Names.{Name, is_among}
 use Rattle.state_rules.proofs.Members.{In, In-append, from_map}
 use Rattle.device_model.specs.Building.{repeated}
-use Rattle.device_model.proofs.Naming.{Below-irreflexive}
+use Rattle.device_model.proofs.NameOrder.{Below-irreflexive}
 use Rattle.device_model.proofs.Ordered.{Rises, Below-among}
-use Rattle.device_model.proofs.Sorting.{itself}
+use Rattle.device_model.proofs.SortedLists.{itself}
 use Rattle.device_model.proofs.Repeats.{among_from_test}
 
 abbrev pub Different : List Name → Type 0

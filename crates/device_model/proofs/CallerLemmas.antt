@@ -13,10 +13,10 @@ use Rattle.device_model.specs.Order.{sorted_distinct}
 use Rattle.device_model.specs.Devices.{Device, IsDevice}
 use Rattle.device_model.specs.Building.{place_in, device_of, built, reason}
 use Rattle.device_model.proofs.Ordered.{Rises-sorted_distinct, among_sorted_distinct, sorted_distinct-has, sorted_distinct-is}
-use Rattle.device_model.proofs.Sorting.{itself, Rises-from_names_rise}
+use Rattle.device_model.proofs.SortedLists.{itself, Rises-from_names_rise}
 use Rattle.device_model.proofs.Repeats.{is_among-among, among_from_test}
-use Rattle.device_model.proofs.Making.{position_or_len-among}
-use Rattle.device_model.proofs.Placing.{place_in-rising}
+use Rattle.device_model.proofs.SortedDevices.{position_or_len-among}
+use Rattle.device_model.proofs.WirePlaces.{place_in-rising}
 
 -- names in order are the names of the list
 pub In-sorted_distinct : (names : List Name) (n : Name) → In n names → In n (sorted_distinct itself names)

@@ -9,7 +9,7 @@ use Rattle.device_model.specs.declared.component.Component.{Component}
 use Rattle.device_model.specs.TruthTable.{TruthTable}
 use Rattle.device_model.specs.Gates.{rule}
 use Rattle.device_model.specs.Devices.{Device, IsDevice, rows_take, takes_ports, has_arity, rule_cost, part_costs}
-use Rattle.device_model.proofs.Making.{list_all-among}
+use Rattle.device_model.proofs.SortedDevices.{list_all-among}
 
 table_there : (tables : List TruthTable) (t ports : ℕ) → rows_take (slice_get tables t) ports ≡ true → t < length tables
 table_there tables t ports h = grind (arith, slice_get_cases)

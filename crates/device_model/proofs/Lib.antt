@@ -1,6 +1,6 @@
-pub mod Naming
+pub mod NameOrder
 pub mod Ordered
-pub mod Sorting
+pub mod SortedLists
 pub mod Repeats
 pub mod Apart
 pub mod DigitOrder
@@ -8,10 +8,10 @@ pub mod CallerLemmas
 mod Steps
 pub mod Tables
 pub mod NamedGates
-pub mod Making
+pub mod SortedDevices
 pub mod Costs
-pub mod Placing
-mod Looking
-pub mod Answering
+pub mod WirePlaces
+mod NameSearch
+pub mod BuildAnswers
 mod Examples
-pub mod Joining
+pub mod BuiltDevices

@@ -4,7 +4,7 @@ use Rattle.text_rules.specs.Names.{Name}
 use Rattle.text_rules.proofs.NameLemmas.{same_if_equal}
 use Rattle.state_rules.proofs.Members.{In}
 use Rattle.device_model.specs.Order.{placed, sorted_distinct}
-use Rattle.device_model.proofs.Naming.{Below, Below-trans, Below-irreflexive, Below-asymmetric, same, below, above, compared, same_name-below, same_name-above, name_below-Below, name_below-above}
+use Rattle.device_model.proofs.NameOrder.{Below, Below-trans, Below-irreflexive, Below-asymmetric, same, below, above, compared, same_name-below, same_name-above, name_below-Below, name_below-above}
 
 module _ {A : Type 0} (name : A → Name) where
   -- the name stands before each item's

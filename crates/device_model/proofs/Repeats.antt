@@ -12,9 +12,9 @@ use Rattle.device_model.specs.declared.building.BuildError.{BuildError}
 use Rattle.device_model.specs.Order.{sorted_distinct}
 use Rattle.device_model.specs.Devices.{Device}
 use Rattle.device_model.specs.Building.{repeated, unless_name}
-use Rattle.device_model.proofs.Naming.{Below, Below-trans, Below-irreflexive, same, below, above, compared, same_name-other}
+use Rattle.device_model.proofs.NameOrder.{Below, Below-trans, Below-irreflexive, same, below, above, compared, same_name-other}
 use Rattle.device_model.proofs.Ordered.{BelowAll, Below-among, Rises, Rises-sorted_distinct, among_sorted_distinct, sorted_distinct-has}
-use Rattle.device_model.proofs.Sorting.{itself, AtMost, AtMostAll, AtMost-among, Ascends}
+use Rattle.device_model.proofs.SortedLists.{itself, AtMost, AtMostAll, AtMost-among, Ascends}
 
 -- how often a name stands in a list
 abbrev pub one_if : Bool → ℕ

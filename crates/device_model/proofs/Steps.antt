@@ -11,7 +11,7 @@ use Rattle.device_model.specs.Order.{sorted_distinct}
 use Rattle.device_model.specs.Building.{repeated}
 use Rattle.device_model.specs.inner.Sorting.{numbered_from, NeighboursDiffer, IsFirstRepeat, IsTwice}
 use Rattle.device_model.proofs.Ordered.{Rises, sorted_distinct-is}
-use Rattle.device_model.proofs.Sorting.{itself, Ascends, among_permutation}
+use Rattle.device_model.proofs.SortedLists.{itself, Ascends, among_permutation}
 use Rattle.device_model.proofs.Repeats.{first_repeat_is_least, unless_name-repeated, Rises-from_neighbours, repeated-rising}
 use Rattle.text_rules.proofs.NameLemmas.{same_if_equal, equal_if_same}
 

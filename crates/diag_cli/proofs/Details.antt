@@ -12,7 +12,7 @@ use Rattle.session_rules.specs.Spelling.{Writes}
 use Rattle.device_files.specs.declared.status.Status.{Status}
 use Rattle.device_files.specs.declared.status.Status.TheVariants.{Done, Refused, Usage, AboveBudget, ReadFailed, WriteFailed, NoMemory, CutShort}
 use Rattle.device_files.specs.Output.{Output, Gives, no_memory, says, too_long_line}
-use Rattle.device_files.proofs.Failing.{gives_part}
+use Rattle.device_files.proofs.FailedWrites.{gives_part}
 use Rattle.diag_cli.specs.declared.serving.TheConstants.{SCRIPT_LIMIT}
 use Rattle.diag_cli.specs.declared.words.Command.{Command}
 use Rattle.diag_cli.specs.declared.words.Command.TheVariants.{Serve, ServeFrames, Ask, Inspect, Compile}

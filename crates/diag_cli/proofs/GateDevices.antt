@@ -22,7 +22,7 @@ use Rattle.device_model.specs.Gates.{rule, takes_inputs}
 use Rattle.device_model.specs.Devices.{Device, allows, parts_fit, fits, part_names, part_costs}
 use Rattle.device_model.specs.Diagnosis.{is_consistent, device_system}
 use Rattle.device_model.specs.Building.{NamedPart, joined}
-use Rattle.device_model.proofs.Making.{component_name, list_all-sorted_distinct}
+use Rattle.device_model.proofs.SortedDevices.{component_name, list_all-sorted_distinct}
 use Rattle.bench_reader.specs.declared.kinds.FlipFlops.TheVariants.{Refused}
 use Rattle.bench_reader.specs.Faults.{Fault, unless_fault}
 use Rattle.bench_reader.specs.Statements.{Statement, Input, Output, Gate}

@@ -15,7 +15,7 @@ use Rattle.device_files.specs.declared.refusal.Refusal.{Refusal}
 use Rattle.device_files.specs.Choices.{Weighed, HasSum}
 use Rattle.device_files.specs.Refusals.{told_by}
 use Rattle.device_files.specs.Weighing.{within}
-use Rattle.device_files.proofs.Choosing.{kept_within}
+use Rattle.device_files.proofs.ForestChoices.{kept_within}
 use Rattle.diag_cli.specs.inner.Compiling.{IsGraphBy}
 
 -- ---- a graph

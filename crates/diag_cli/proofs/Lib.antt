@@ -3,7 +3,7 @@ mod Limits
 pub mod WordLemmas
 pub mod GraphsBy
 pub mod FewBits
-pub mod Running
+pub mod AnsweredScripts
 pub mod Shown
 pub mod ServedDevices
 pub mod Services

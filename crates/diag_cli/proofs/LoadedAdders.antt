@@ -18,7 +18,7 @@ use Rattle.conditioner.specs.Words.{bits_of}
 use Rattle.session_rules.specs.GraphSystems.{case_words}
 use Rattle.session_rules.specs.CaseSizes.{IsCaseOf}
 use Rattle.session_rules.proofs.Begun.{HaveSpellings}
-use Rattle.session_rules.proofs.Meaning.{same_consistent}
+use Rattle.session_rules.proofs.GraphMeaning.{same_consistent}
 use Rattle.adder_load.specs.declared.sampling.Found.{Found}
 use Rattle.adder_load.specs.Readings.{adder_case}
 use Rattle.adder_load.proofs.Cases.{case_seen, case_held}

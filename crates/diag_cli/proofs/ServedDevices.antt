@@ -15,7 +15,7 @@ use Rattle.dnnf_compiler.proofs.Laws.{graph_of_device}
 use Rattle.session_rules.specs.Spelling.{IsGraphOf}
 use Rattle.session_rules.specs.GraphSystems.{compiled_system, system_of}
 use Rattle.session_rules.proofs.GraphReplies.{graph_replies}
-use Rattle.session_rules.proofs.Keeping.{HasCases-empty}
+use Rattle.session_rules.proofs.KeptCases.{HasCases-empty}
 use Rattle.session_core.specs.Services.{Shown}
 use Rattle.device_files.specs.declared.refusal.Refusal.{Refusal}
 use Rattle.device_files.specs.Refusals.{told_by}

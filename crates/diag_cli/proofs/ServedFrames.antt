@@ -16,18 +16,18 @@ use Rattle.frame_unroller.specs.declared.unrolling.Unrolled.{Unrolled}
 use Rattle.frame_unroller.specs.declared.unrolling.UnrollError.{UnrollError}
 use Rattle.frame_unroller.specs.declared.unrolling.UnrollError.TheVariants.{TooManyParts, TooManyWires, TooManyClauses, Memory as NoMemory}
 use Rattle.frame_unroller.specs.Unrolling.{unrolled, reason, IsUnrolled}
-use Rattle.frame_unroller.proofs.Refusing.{unrolled-names}
+use Rattle.frame_unroller.proofs.UnrollRefusals.{unrolled-names}
 use Rattle.frame_unroller.specs.Diagnosis.{frame_wires, fits_over, frame_system}
 use Rattle.tree_finder.specs.declared.narrowing.Narrowed.{Narrowed}
 use Rattle.dnnf_compiler.proofs.Laws.{graph_over}
 use Rattle.session_rules.specs.GraphSystems.{system_of}
 use Rattle.session_rules.proofs.GraphReplies.{fitting_replies}
-use Rattle.session_rules.proofs.Keeping.{HasCases-empty}
+use Rattle.session_rules.proofs.KeptCases.{HasCases-empty}
 use Rattle.session_core.specs.Services.{Shown}
 use Rattle.device_files.specs.Weighing.{within}
 use Rattle.device_files.specs.Choices.{Weighed, weighed_by, ByForest, IsChosen, HasSum}
 use Rattle.device_files.specs.Output.{Output}
-use Rattle.device_files.proofs.Choosing.{by_same, chosen_gives}
+use Rattle.device_files.proofs.ForestChoices.{by_same, chosen_gives}
 use Rattle.diag_cli.specs.declared.words.ServeOptions.{ServeOptions}
 use Rattle.diag_cli.specs.Besides.{in_few_bits}
 use Rattle.diag_cli.specs.Courses.{ready_line, answers_of, served_frames}

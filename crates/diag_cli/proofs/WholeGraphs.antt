@@ -18,8 +18,8 @@ use Rattle.device_files.specs.Output.{Output, GivesUnlessMemory}
 use Rattle.device_files.specs.Describing.{described}
 use Rattle.device_files.specs.Choices.{Weighed}
 use Rattle.device_files.specs.Weighing.{within, told_within}
-use Rattle.device_files.proofs.Failing.{replies_give}
-use Rattle.device_files.proofs.Refusing.{within_told}
+use Rattle.device_files.proofs.FailedWrites.{replies_give}
+use Rattle.device_files.proofs.KeptRefusals.{within_told}
 use Rattle.diag_cli.specs.Courses.{graph_by}
 use Rattle.diag_cli.specs.inner.Serving.{IsServable}
 

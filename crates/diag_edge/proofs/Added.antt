@@ -8,7 +8,7 @@ use Rattle.std.proofs.lemmas.List.Folds.{flat_map-map}
 use Rattle.std.specs.Borrow.{Bor}
 use Rattle.text_rules.specs.Tokens.{spaced}
 use Rattle.diag_edge.specs.Edge.{AppendsPrefix, Puts}
-use Rattle.diag_edge.proofs.Growing.{grows_none, grows_more, begins_more, begins_first}
+use Rattle.diag_edge.proofs.GrownBytes.{grows_none, grows_more, begins_more, begins_first}
 use Rattle.diag_edge.specs.Adding.{Grown, Adds}
 
 pub grown_none : (a : Option (List ℕ)) (p : List ℕ) → Grown a a p p []

@@ -3,7 +3,7 @@ use Rattle.std.proofs.Common.{◌≡◌, List, ℕ, [], ◌∷◌, ◌++◌, Opt
 use Rattle.std.specs.Prelude.{decimal}
 use Rattle.std.specs.List.{flat_map}
 use Rattle.diag_edge.specs.Edge.{AppendsPrefix, Puts}
-use Rattle.diag_edge.proofs.Growing.{begins_first}
+use Rattle.diag_edge.proofs.GrownBytes.{begins_first}
 use Rattle.diag_edge.proofs.Added.{put_part}
 use Rattle.diag_edge.specs.ErrorLines.{fault_line}
 

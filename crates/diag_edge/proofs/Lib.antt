@@ -1,4 +1,4 @@
 pub mod Added
-pub mod Growing
-pub mod Holding
+pub mod GrownBytes
+pub mod HeldFiles
 pub mod ErrorLines

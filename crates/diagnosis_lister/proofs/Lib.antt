@@ -2,5 +2,5 @@ pub mod Faults
 pub mod OpenMarks
 pub mod Allowing
 pub mod Points
-pub mod Fixing
-pub mod Answering
+pub mod FixedParts
+pub mod FirstAndNext

@@ -8,12 +8,12 @@ use Rattle.state_rules.specs.Graphs.{Node, true_node, mention_by, mentions, AreN
 use Rattle.state_rules.proofs.NodeValues.{value_of-get}
 use Rattle.state_rules.proofs.NodesFit.{fits-get}
 use Rattle.node_store.specs.Stores.{Stored, IsStore, Makes, Means, AddsAtMost, literals, is_bare, HasNoBareKid}
-use Rattle.node_store.proofs.Copying.{before}
+use Rattle.node_store.proofs.NodeCopies.{before}
 use Rattle.dnnf_compiler.specs.declared.maker.Maker.{Maker}
 use Rattle.dnnf_compiler.specs.inner.Joining.{Grows, IsPlain}
 use Rattle.dnnf_compiler.specs.inner.Making.{IsMaker, IsJoin}
-use Rattle.dnnf_compiler.proofs.Making.{kept_in, adds_store, get-push}
-use Rattle.dnnf_compiler.proofs.Growing.{grows_by}
+use Rattle.dnnf_compiler.proofs.MadeNodes.{kept_in, adds_store, get-push}
+use Rattle.dnnf_compiler.proofs.KeptNodes.{grows_by}
 
 pub in_all : (P : ℕ → Type 0) (ks : List ℕ) (c : ℕ) → Contains ks c → All P ks → P c
 in_all P ks c (j, h, e) all = subst P e (all j c h)

@@ -9,8 +9,8 @@ use Rattle.elimination_forests.specs.declared.forks.Forks.{Forks}
 use Rattle.elimination_forests.specs.declared.steps.Weight.TheVariants.{Words}
 use Rattle.elimination_forests.specs.Forests.{Forest, Place, root, chain, followed_by, decided, way_by, forks_at, forest_sum, forks_on, has_way, leads_on}
 use Rattle.elimination_forests.specs.Levels.{level_forks}
-use Rattle.elimination_forests.proofs.Counting.{first-living}
-use Rattle.elimination_forests.proofs.Finding.{place-low}
+use Rattle.elimination_forests.proofs.ListCounts.{first-living}
+use Rattle.elimination_forests.proofs.FirstPlaces.{place-low}
 use Rattle.elimination_forests.proofs.Lists.{any-met}
 use Rattle.elimination_forests.proofs.Chains.{at, next-at, forks-level, chain-sum, chain-forks}
 use Rattle.elimination_forests.proofs.Lasts.{last-size, last-one}

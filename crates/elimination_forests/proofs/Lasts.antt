@@ -1,8 +1,7 @@
 -- At the last level of an order all variables have bits: there is one living list, or none if no bits make all clauses true.
-use Rattle.std.proofs.Common.{◌≡◌, ℕ, ◌+◌, ◌*◌, ◌/◌, ◌<◌, ◌≤◌, inl, inr, Bool, true, false, not, List, [], ◌∷◌, map, length, refl, ap, sym, ◌∙◌, arith}
-use Rattle.std.specs.Prelude.{◌==◌}
+use Rattle.std.proofs.Common.{◌≡◌, ℕ, ◌*◌, ◌<◌, ◌≤◌, inl, inr, Bool, true, false, not, List, [], ◌∷◌, map, length, refl, ap, sym, ◌∙◌, arith}
 use Rattle.std.specs.List.{list_all, filter}
-use Rattle.std.proofs.lemmas.Bool.{both_ways, false≢true, and_from, and_right, eq-eqb, not-true}
+use Rattle.std.proofs.lemmas.Bool.{both_ways, false≢true, not-true}
 use Rattle.std.proofs.lemmas.Bool.Decides.{nat_tests}
 use Rattle.std.proofs.lemmas.List.{length-map}
 use Rattle.state_rules.specs.Bits.{same_bit, lists_of_bits}
@@ -11,8 +10,8 @@ use Rattle.state_rules.proofs.Bits.{pointwise-refl, pointwise-equal}
 use Rattle.state_rules.proofs.Lists.{filter-never}
 use Rattle.state_rules.proofs.Members.{In, In-filter, any_from, any_in, empty-none}
 use Rattle.clause_encoder.specs.Clauses.{Clause, ClauseList, var_of, is_positive, is_true_clause, all_hold, is_clause_list}
-use Rattle.elimination_forests.specs.Branches.{order, is_true_by, has_true, is_left, left, is_touched, is_covered, is_open, some_passes, same_list, different, living, size, weight, sum_of}
-use Rattle.elimination_forests.proofs.Branching.{is_alive, living_are_living, living-in}
+use Rattle.elimination_forests.specs.Branches.{order, has_true, is_left, left, is_covered, is_open, some_passes, same_list, different, living, size, weight, sum_of}
+use Rattle.elimination_forests.proofs.LevelSteps.{is_alive, living_are_living, living-in}
 use Rattle.elimination_forests.proofs.Lists.{all-at, In-met, met-In}
 use Rattle.elimination_forests.specs.declared.steps.Weight.TheVariants.{Words}
 use Rattle.elimination_forests.specs.Forests.{is_among, is_within, forest_sum, chain}

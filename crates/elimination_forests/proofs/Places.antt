@@ -1,13 +1,12 @@
 -- The order of the variables, and which of them have bits at a level.
-use Rattle.std.proofs.Common.{◌≡◌, ℕ, zero, suc, ◌+◌, ◌<◌, Bool, true, false, not, cond, List, [], ◌∷◌, length, get_or, ℤ, refl, ap, sym, arith}
+use Rattle.std.proofs.Common.{◌≡◌, ℕ, zero, suc, ◌+◌, ◌<◌, Bool, true, false, not, cond, List, [], ◌∷◌, length, get_or, ℤ, refl, ap, arith}
 use Rattle.std.specs.Prelude.{◌==◌, nat_lt}
 use Rattle.std.specs.List.{list_any, filter}
-use Rattle.std.proofs.lemmas.Bool.{and_from, and_left, not-true, ltb-true, lt-ltb, eq-eqb, ne_eqb, eqb-false}
+use Rattle.std.proofs.lemmas.Bool.{not-true, ltb-true, lt-ltb, eq-eqb, ne_eqb}
 use Rattle.std.proofs.lemmas.Bool.Decides.{nat_tests}
-use Rattle.state_rules.specs.Bits.{same_bit}
 use Rattle.state_rules.proofs.Members.{In, In-at, In-filter}
-use Rattle.clause_encoder.specs.Clauses.{Clause, var_of, is_positive}
-use Rattle.elimination_forests.specs.Branches.{first_met, same_variable, place, is_true_by, has_true, is_left, is_covered}
+use Rattle.clause_encoder.specs.Clauses.{Clause, var_of}
+use Rattle.elimination_forests.specs.Branches.{first_met, same_variable, place, has_true, is_left, is_covered}
 use Rattle.elimination_forests.proofs.Lists.{all-in, all-at, none-in, any-none}
 
 -- ---- each variable once

@@ -16,7 +16,7 @@ use Rattle.minimiser.specs.Costs.{part_cost, known_at, sum_costs, literal_cost, 
 use Rattle.minimiser.proofs.Costs.{IsCost, as_cost, from_add, true_is}
 use Rattle.minimiser.proofs.Whole.{part_cost-none}
 use Rattle.minimiser.proofs.Derivations.{is_cost, true-at, mention-at, costs-at, apart-kids, kids-cost, Apart, apart-tail, apart-both, cheapest-kid, sum-kid}
-use Rattle.fault_graph.proofs.Standing.{StandsFor, StandsFor-same, stands-free, stands-literal, stands-never, stands-or, stands-other, stands-and}
+use Rattle.fault_graph.proofs.LeastNodes.{StandsFor, StandsFor-same, stands-free, stands-literal, stands-never, stands-or, stands-other, stands-and}
 
 -- ---- the variables of the kids that stay
 

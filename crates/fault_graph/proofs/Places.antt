@@ -10,7 +10,7 @@ use Rattle.state_rules.proofs.NodeValues.{value_of-before, node_at-last}
 use Rattle.minimiser.specs.Costs.{part_cost, known_at, least_at}
 use Rattle.fault_graph.specs.Small.{HasParent, Joins}
 use Rattle.fault_graph.specs.inner.Rows.{keeps}
-use Rattle.fault_graph.proofs.Standing.{StandsFor, StandsFor-same}
+use Rattle.fault_graph.proofs.LeastNodes.{StandsFor, StandsFor-same}
 
 node_at-before : (nodes : List Node) (node : Node) (p : ℕ) → p < length nodes → node_at (nodes ++ node ∷ []) p ≡ node_at nodes p
 node_at-before nodes node p h = get_or_append_left nodes (node ∷ []) true_node p h

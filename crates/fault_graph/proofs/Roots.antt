@@ -13,7 +13,7 @@ use Rattle.minimiser.proofs.Derivations.{is_cost}
 use Rattle.minimiser.proofs.Valued.{value-is}
 use Rattle.fault_graph.specs.Distilled.{IsDistilled}
 use Rattle.fault_graph.specs.Small.{IsSmall}
-use Rattle.fault_graph.proofs.Standing.{StandsFor, StandsFor-same, stands-free}
+use Rattle.fault_graph.proofs.LeastNodes.{StandsFor, StandsFor-same, stands-free}
 use Rattle.fault_graph.proofs.Law.{graph-least, small-least, same-diagnoses}
 use Rattle.fault_graph.proofs.Smallness.{small-true}
 

@@ -11,7 +11,7 @@ use Rattle.conditioner.specs.Words.{known_of, leaf_of}
 use Rattle.minimiser.specs.Costs.{part_cost, known_at, literal_cost, cost_by, least_at}
 use Rattle.minimiser.proofs.Derivations.{costs-at}
 use Rattle.fault_graph.specs.Small.{HasParent, SaysFaulty, Joins, IsSmall}
-use Rattle.fault_graph.proofs.Placing.{place-cost}
+use Rattle.fault_graph.proofs.PlaceCosts.{place-cost}
 use Rattle.fault_graph.proofs.Places.{IsFrom, AreFrom}
 
 -- what costs something is a part

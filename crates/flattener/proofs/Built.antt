@@ -14,7 +14,7 @@ use Rattle.device_model.specs.declared.building.BuildError.TheVariants.{Memory a
 use Rattle.device_model.specs.TruthTable.{TruthTable}
 use Rattle.device_model.specs.Devices.{Device, part_names, has_arity}
 use Rattle.device_model.specs.Building.{NamedPart, reason, repeated, built}
-use Rattle.device_model.proofs.Joining.{built-over}
+use Rattle.device_model.proofs.BuiltDevices.{built-over}
 use Rattle.device_model.proofs.Apart.{repeated-Different}
 use Rattle.device_model.proofs.CallerLemmas.{only_memory as only_memory_of}
 use Rattle.component_lang.specs.Designs.{Design, is_design}
@@ -24,9 +24,9 @@ use Rattle.flattener.specs.inner.Counting.{counts_of_design, refusal}
 use Rattle.flattener.specs.inner.Expanding.{IsFlat, shown}
 use Rattle.flattener.proofs.Values.{front_fits}
 use Rattle.flattener.proofs.Relative.{Parts, Wires, no_names, names_in, names_used}
-use Rattle.flattener.proofs.Differing.{instances-differ, all-wires}
+use Rattle.flattener.proofs.DistinctPaths.{instances-differ, all-wires}
 use Rattle.flattener.proofs.Arities.{tables_of, is_fed, instances-fed}
-use Rattle.flattener.proofs.Growing.{no_block, good_blocks, top_within}
+use Rattle.flattener.proofs.ExpandedInstances.{no_block, good_blocks, top_within}
 use Rattle.flattener.proofs.Totals.{top_good, top_ports-are, top-shows, wires_are, few_parts, few_wires, flattened-by_counts}
 
 ports_fed : (tables : List TruthTable) (wires : List Name) (parts : List Component) → list_all (is_fed tables) (map (shown wires) parts) ≡ true → list_all (has_arity tables) parts ≡ true

@@ -14,7 +14,7 @@ use Rattle.component_lang.specs.Designs.{is_used, is_block, are_blocks}
 use Rattle.flattener.specs.declared.counting.Counts.{Counts}
 use Rattle.flattener.specs.Flat.{below, saturated}
 use Rattle.flattener.specs.inner.Counting.{no_counts, longest_of, counts_of_wires, added, counts_of_part, below_name, counts_of_instance, counts_of_kind, counts_of_used, counts_of_block}
-use Rattle.flattener.proofs.Naming.{Plain, AllSome, AllSome-append, AllSome-below, AllSome-right, AllSome-plain, lift, longest-append, longest-below}
+use Rattle.flattener.proofs.PathNames.{Plain, AllSome, AllSome-append, AllSome-below, AllSome-right, AllSome-plain, lift, longest-append, longest-below}
 use Rattle.flattener.proofs.Relative.{Which, Parts, Wires, Instances, Inner, no_names, wires_only, own_names, part_named, instance_named, kind_names, names_used, names_in, GoodUsed-from_test, GoodBlock-from_test}
 use Rattle.flattener.proofs.Values.{values-both}
 use Rattle.std.proofs.lemmas.Bool.Decides.{nat_tests}

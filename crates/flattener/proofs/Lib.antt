@@ -1,10 +1,10 @@
 pub mod Lists
 pub mod Values
-pub mod Naming
+pub mod PathNames
 pub mod Relative
-pub mod Differing
+pub mod DistinctPaths
 pub mod Counted
-pub mod Growing
+pub mod ExpandedInstances
 pub mod Totals
 pub mod Arities
 pub mod Built

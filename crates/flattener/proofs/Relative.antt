@@ -17,7 +17,7 @@ use Rattle.component_lang.specs.declared.design.Block.{Block}
 use Rattle.component_lang.specs.Designs.{is_plain_name, is_used, is_block, are_blocks, are_distinct, used_names, takes_args}
 use Rattle.flattener.specs.Flat.{Content, Instance, nothing, below, kind_content, used_content, instance}
 use Rattle.flattener.proofs.Lists.{flat_map_same}
-use Rattle.flattener.proofs.Naming.{Plain, below-below}
+use Rattle.flattener.proofs.PathNames.{Plain, below-below}
 use Rattle.flattener.proofs.Values.{values-both}
 
 -- which names of an instance

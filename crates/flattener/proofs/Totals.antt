@@ -19,10 +19,10 @@ use Rattle.flattener.specs.declared.flattening.TheConstants.{INSTANCE_LIMIT}
 use Rattle.flattener.specs.Flat.{ports_of, top_ports, top_content, flat_wires, flat_device, longest_path, saturated, unless_over, flattened}
 use Rattle.flattener.specs.inner.Counting.{no_counts, longest_of, counts_of_wires, counts_of_block, counts_of_design, refusal}
 use Rattle.flattener.specs.inner.Expanding.{CanExpand, Grows, IsFlat, wire_at, are_within, are_short, instance_at, ports_at}
-use Rattle.flattener.proofs.Naming.{AllSome, AllSome-left, AllSome-plain, longest-append}
+use Rattle.flattener.proofs.PathNames.{AllSome, AllSome-left, AllSome-plain, longest-append}
 use Rattle.flattener.proofs.Relative.{Which, Parts, Wires, Instances, names_of, Inner, no_names, wires_only, names_in, GoodBlock, instances-show}
 use Rattle.flattener.proofs.Counted.{Counted, longest_in, joined, Counted-wires, Counted-added, blocks-counted}
-use Rattle.flattener.proofs.Growing.{no_block, good_block, good_blocks, top_within, ports_there, got, short_all}
+use Rattle.flattener.proofs.ExpandedInstances.{no_block, good_block, good_blocks, top_within, ports_there, got, short_all}
 
 -- ---- places from 0 on
 

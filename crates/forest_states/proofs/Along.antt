@@ -9,13 +9,13 @@ use Rattle.state_rules.proofs.Bits.{pointwise-refl, pointwise-equal}
 use Rattle.state_rules.proofs.Lists.{AllByRecursion-append}
 use Rattle.clause_encoder.specs.Clauses.{Clause, var_of}
 use Rattle.elimination_forests.specs.Branches.{different, has_true, without, bits_of}
-use Rattle.elimination_forests.proofs.Counting.{among-different}
+use Rattle.elimination_forests.proofs.ListCounts.{among-different}
 use Rattle.elimination_forests.proofs.Lists.{is_among as is_listed, each-different}
 use Rattle.elimination_forests.specs.Forests.{Forest, none, tree, trees, variables, is_among, meets, Place, is_dead_by, decided, part_of, part, number_in, begins, way_by, forks_at}
 use Rattle.forest_states.specs.inner.BitLists.{is_same}
 use Rattle.forest_states.specs.inner.Walked.{lead, walked, picked, decided_states, decided_forks, part_states, column, row_at, forks_found}
 use Rattle.forest_states.proofs.Turned.{is_open}
-use Rattle.forest_states.proofs.Leaving.{IsKnown, Ends, table_of, unless, walked-same, known-next, bits-lists, picked-same, known-part}
+use Rattle.forest_states.proofs.BitsLeft.{IsKnown, Ends, table_of, unless, walked-same, known-next, bits-lists, picked-same, known-part}
 use Rattle.forest_states.proofs.Mapped.{each-among, among-given, mapped-agree, mapped-twice, different-mapped, place-mapped}
 
 abbrev pub at : List ℕ → List Clause → List (List Bool) → Place

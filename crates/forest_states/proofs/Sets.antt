@@ -8,9 +8,9 @@ use Rattle.std.proofs.lemmas.List.Folds.{list_any-append}
 use Rattle.std.proofs.lemmas.Option.{slice_get_within, slice_get_read, get_or_from_slice_get}
 use Rattle.state_rules.proofs.Bits.{pointwise-refl}
 use Rattle.elimination_forests.specs.Branches.{different}
-use Rattle.elimination_forests.proofs.Counting.{among-different}
+use Rattle.elimination_forests.proofs.ListCounts.{among-different}
 use Rattle.elimination_forests.proofs.Lists.{is_among, different-append}
-use Rattle.elimination_forests.proofs.Finding.{place-front}
+use Rattle.elimination_forests.proofs.FirstPlaces.{place-front}
 use Rattle.forest_states.specs.inner.BitLists.{is_same}
 use Rattle.forest_states.specs.inner.Walked.{joined, lead}
 

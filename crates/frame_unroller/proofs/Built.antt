@@ -19,10 +19,10 @@ use Rattle.device_model.specs.Gates.{rule}
 use Rattle.device_model.specs.Devices.{Device, IsDevice, part_names, takes_ports, has_arity, has_wires}
 use Rattle.device_model.specs.Building.{NamedPart, joined, reason, repeated, built, device_over}
 use Rattle.device_model.proofs.Ordered.{Rises, sorted_distinct-is}
-use Rattle.device_model.proofs.Sorting.{Rises-from_names_rise, Rises-unmap, Rises-map}
+use Rattle.device_model.proofs.SortedLists.{Rises-from_names_rise, Rises-unmap, Rises-map}
 use Rattle.device_model.proofs.Apart.{repeated-Different, Different-rising}
-use Rattle.device_model.proofs.Making.{component_name, list_all-among, list_all-from_among}
-use Rattle.device_model.proofs.Joining.{wire_at as name_at, named, CanBeBuilt, built-over}
+use Rattle.device_model.proofs.SortedDevices.{component_name, list_all-among, list_all-from_among}
+use Rattle.device_model.proofs.BuiltDevices.{wire_at as name_at, named, CanBeBuilt, built-over}
 use Rattle.device_model.proofs.CallerLemmas.{only_memory as only_memory_of}
 use Rattle.bench_reader.specs.declared.sequential.Sequential.{Sequential}
 use Rattle.frame_unroller.specs.Frames.{inputs, output}

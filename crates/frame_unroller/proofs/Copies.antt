@@ -4,9 +4,9 @@ use Rattle.std.specs.List.{flat_map, enumerate_from, range_with_len}
 use Rattle.text_rules.specs.Names.{Name}
 use Rattle.state_rules.proofs.Members.{In}
 use Rattle.device_model.specs.declared.component.Component.{Component}
-use Rattle.device_model.proofs.Naming.{Below}
+use Rattle.device_model.proofs.NameOrder.{Below}
 use Rattle.device_model.proofs.Ordered.{Rises, Below-among}
-use Rattle.device_model.proofs.Making.{component_name}
+use Rattle.device_model.proofs.SortedDevices.{component_name}
 use Rattle.bench_reader.specs.declared.sequential.Sequential.{Sequential}
 use Rattle.frame_unroller.specs.Times.{copy_at}
 use Rattle.frame_unroller.specs.Unrolling.{Copy, copies_of, copies_for, copies}

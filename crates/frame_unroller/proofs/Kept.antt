@@ -13,7 +13,7 @@ use Rattle.clause_encoder.specs.Clauses.{Clause, ClauseList, var_of, is_positive
 use Rattle.clause_encoder.specs.Encoding.{same_literal, with_literal, sorted, is_tautology, tidy, inner_count, raw_clauses, wire_variable, first_inner, clauses_from, all_clauses, clause_list, encoded}
 use Rattle.clause_encoder.specs.Replacing.{variable_for, literal_for}
 use Rattle.clause_encoder.proofs.Literals.{AllIn, neg-literal, var_of-literal}
-use Rattle.clause_encoder.proofs.Mentioning.{Of, OfEach, Variables, Of-raw}
+use Rattle.clause_encoder.proofs.MentionedVariables.{Of, OfEach, Variables, Of-raw}
 use Rattle.clause_encoder.proofs.OtherVariables.{raw_from}
 use Rattle.frame_unroller.specs.Unrolling.{shared_variables}
 

@@ -3,10 +3,10 @@ pub mod Order
 pub mod Wires
 pub mod Copies
 pub mod Built
-pub mod Sharing
+pub mod SharedVariables
 pub mod Kept
-pub mod Meaning
-pub mod Pushing
+pub mod CopyClauses
+pub mod TimeCopies
 pub mod ClauseCounts
-pub mod Refusing
+pub mod UnrollRefusals
 mod Examples

@@ -3,7 +3,7 @@ use Rattle.std.proofs.Common.{◌≡◌, ℕ, ◌+◌, ◌*◌, ◌<◌, inl, in
 use Rattle.std.proofs.lemmas.Bool.Decides.{nat_tests}
 use Rattle.text_rules.specs.Names.{Name}
 use Rattle.state_rules.proofs.Members.{In}
-use Rattle.device_model.proofs.Naming.{Below}
+use Rattle.device_model.proofs.NameOrder.{Below}
 use Rattle.device_model.proofs.Ordered.{BelowAll, Rises}
 use Rattle.frame_unroller.specs.Times.{four_digits, copy_at}
 

@@ -8,9 +8,9 @@ use Rattle.std.proofs.lemmas.List.{length-append, length-map, get_or-map, drop_a
 use Rattle.text_rules.specs.Names.{Name}
 use Rattle.state_rules.proofs.Members.{from_map}
 use Rattle.device_model.proofs.Ordered.{Rises}
-use Rattle.device_model.proofs.Sorting.{itself}
+use Rattle.device_model.proofs.SortedLists.{itself}
 use Rattle.device_model.proofs.Apart.{Different, Different-rising, Different-append, Different-made}
-use Rattle.device_model.proofs.Joining.{wire_at as name_at}
+use Rattle.device_model.proofs.BuiltDevices.{wire_at as name_at}
 use Rattle.frame_unroller.specs.Times.{four_digits, wire_at}
 use Rattle.frame_unroller.specs.Unrolling.{wires_at}
 use Rattle.frame_unroller.specs.inner.Copying.{position_at}

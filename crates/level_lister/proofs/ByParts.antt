@@ -6,7 +6,7 @@ use Rattle.std.proofs.lemmas.List.{get_or-set_same, get_or-set_other}
 use Rattle.state_rules.specs.Bits.{bit_in}
 use Rattle.diagnosis_lister.specs.inner.Fixing.{Has}
 use Rattle.diagnosis_lister.proofs.Allowing.{Allows, set-new}
-use Rattle.diagnosis_lister.proofs.Fixing.{FixesOk, Settles, settles-ok}
+use Rattle.diagnosis_lister.proofs.FixedParts.{FixesOk, Settles, settles-ok}
 
 module _ {vars parts : ℕ} {P : List ℕ → List Bool → Type 0} (allows : Allows vars parts P) (start : List ℕ) (long : length start ≡ vars) (old : List ℕ) (part : ℕ) (lt : part < parts) (s : Settles P parts start old part) where
   -- one that is not open stays

@@ -9,8 +9,8 @@ use Rattle.part_sets.specs.Numbers.{has_number}
 use Rattle.level_lister.specs.declared.pairs.Groups.{Groups}
 use Rattle.level_lister.specs.inner.Pairs.{group_in}
 use Rattle.level_lister.specs.inner.FaultSets.{in_first, IsFaultSet, AreBothSets, IsNodeFaults}
-use Rattle.level_lister.proofs.Living.{skipped-is}
-use Rattle.level_lister.proofs.Reaching.{zero_is}
+use Rattle.level_lister.proofs.LivingNodes.{skipped-is}
+use Rattle.level_lister.proofs.TestCosts.{zero_is}
 use Rattle.level_lister.proofs.PairNodes.{grouped, in_group, not_grouped, on_parts}
 use Rattle.node_costs.proofs.Sets.{row-none}
 

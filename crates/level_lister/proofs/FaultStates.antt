@@ -10,7 +10,7 @@ use Rattle.level_lister.specs.declared.pairs.Groups.{Groups}
 use Rattle.level_lister.specs.inner.Pairs.{HasFault, FaultOf, group_in}
 use Rattle.level_lister.specs.inner.FaultSets.{IsWholeFaults}
 use Rattle.level_lister.specs.inner.Skips.{IsEnough}
-use Rattle.level_lister.proofs.Living.{living-true}
+use Rattle.level_lister.proofs.LivingNodes.{living-true}
 use Rattle.level_lister.proofs.Whole.{cost_among-all}
 use Rattle.level_lister.proofs.PairNodes.{IsGrouped, grouped, in_group}
 

@@ -10,7 +10,7 @@ use Rattle.node_costs.proofs.Conditions.{Apart, OnlyParts, cost-to, cost-or, or-
 use Rattle.node_costs.proofs.Sets.{row-as}
 use Rattle.node_costs.proofs.Tests.{row-cost, row-literal}
 use Rattle.level_lister.specs.inner.Pairs.{HasFault}
-use Rattle.level_lister.proofs.Growing.{Wider}
+use Rattle.level_lister.proofs.PartVariables.{Wider}
 
 abbrev pub IsFault : (ℕ → Bool) → (ℕ → Bool) → (Assignment → Bool) → Assignment → Type 0
 IsFault group some t a = (t a ≡ true) × HasFault group some a

@@ -1,5 +1,5 @@
 -- What holds of a node, from what holds of the kids before a place.
-use Rattle.std.proofs.Common.{◌≡◌, ◌≢◌, ℕ, zero, suc, ◌+◌, ◌-◌, ◌*◌, ◌<◌, ◌≤◌, Bool, true, false, cond, ◌&&◌, ◌||◌, List, [], ◌∷◌, ◌++◌, map, take, length, get_or, refl, ap, sym, ◌∙◌, subst, arith, inl, inr, ⊎_elim}
+use Rattle.std.proofs.Common.{◌≡◌, ◌≢◌, ℕ, zero, suc, ◌+◌, ◌-◌, ◌*◌, ◌<◌, ◌≤◌, Bool, true, false, cond, ◌&&◌, ◌||◌, List, [], ◌∷◌, ◌++◌, map, take, length, get_or, refl, ap, sym, ◌∙◌, arith, inl, inr, ⊎_elim}
 use Rattle.std.specs.Prelude.{◌⊎◌, ◌==◌}
 use Rattle.std.specs.List.{list_all, list_any}
 use Rattle.std.proofs.Math.Bool.{and_comm, or_comm, and-true}
@@ -24,12 +24,12 @@ use Rattle.part_sets.specs.Numbers.{has_number}
 use Rattle.part_sets.specs.PartSets.{SameBelow}
 use Rattle.part_sets.proofs.Kids.{mention-is, kid-mentions}
 use Rattle.node_costs.proofs.Tests.{same_tests}
-use Rattle.level_lister.proofs.Growing.{Wider}
+use Rattle.level_lister.proofs.PartVariables.{Wider}
 use Rattle.level_lister.specs.inner.CostSets.{IsCostSet}
 use Rattle.level_lister.specs.inner.NodeSets.{IsNodeSet}
 use Rattle.level_lister.specs.inner.Skips.{living}
-use Rattle.level_lister.proofs.Living.{living-is, skipped-is}
-use Rattle.level_lister.proofs.Reaching.{empty_is, false_literal_is, literal_is}
+use Rattle.level_lister.proofs.LivingNodes.{living-is, skipped-is}
+use Rattle.level_lister.proofs.TestCosts.{empty_is, false_literal_is, literal_is}
 
 all_push : (bs : List Bool) (b : Bool) → list_all (λ x. x) (bs ++ b ∷ []) ≡ (list_all (λ x. x) bs && b)
 all_push bs b = list_all-append (λ x. x) bs (b ∷ []) ∙ ap (λ c. list_all (λ x. x) bs && c) (and-true b)

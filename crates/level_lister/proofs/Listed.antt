@@ -14,7 +14,7 @@ use Rattle.conditioner.specs.Models.{has_model, fits_words, models}
 use Rattle.level_lister.specs.declared.levels.LevelStep.TheVariants.{Found, End}
 use Rattle.level_lister.specs.Listing.{level_step}
 use Rattle.level_lister.specs.inner.Searching.{IsListed, IsFirstLevel, is_later}
-use Rattle.level_lister.proofs.Finding.{cheaper-before, same-before, before-cases}
+use Rattle.level_lister.proofs.FirstByCost.{same-before, before-cases}
 
 -- ---- sorted by cost and then by order
 

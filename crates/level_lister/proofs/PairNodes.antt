@@ -1,9 +1,9 @@
 -- What two words tell of a node, from what they tell of its kids.
-use Rattle.std.proofs.Common.{◌≡◌, ◌≢◌, ℕ, zero, suc, ◌+◌, ◌-◌, ◌*◌, ◌/◌, ◌<◌, ◌≤◌, Bool, true, false, ◌&&◌, List, length, get_or, set, refl, ap, sym, ◌∙◌, subst, arith, inl, inr}
+use Rattle.std.proofs.Common.{◌≡◌, ◌≢◌, ℕ, ◌+◌, ◌-◌, ◌*◌, ◌/◌, ◌<◌, ◌≤◌, Bool, true, false, ◌&&◌, List, length, get_or, set, refl, ap, sym, ◌∙◌, subst, arith, inl, inr}
 use Rattle.std.proofs.lemmas.Bool.Decides.{nat_tests}
-use Rattle.std.specs.Prelude.{◌⊎◌, ◌==◌, nat_le}
+use Rattle.std.specs.Prelude.{◌⊎◌, ◌==◌}
 use Rattle.std.proofs.Math.ListN.{length-set}
-use Rattle.std.proofs.lemmas.Bool.{cases_lt, cases_eq, cases_order, and_parts, and_from, leb-true, le-leb, eqb-true, eq-eqb, ne_eqb, false≢true, false_from_ne_true, and_right}
+use Rattle.std.proofs.lemmas.Bool.{cases_lt, cases_order, and_from, le-leb, eq-eqb, ne_eqb, false_from_ne_true, and_right}
 use Rattle.std.proofs.lemmas.List.{get_or-set_same, get_or-set_other}
 use Rattle.minimiser.proofs.Models.{Agree-bit}
 use Rattle.state_rules.specs.Assignments.{Assignment}
@@ -15,9 +15,9 @@ use Rattle.level_lister.specs.declared.pairs.Pair.{Pair}
 use Rattle.level_lister.specs.declared.pairs.Groups.{Groups}
 use Rattle.level_lister.specs.inner.CostSets.{Follows}
 use Rattle.level_lister.specs.inner.Pairs.{Tells, TellsNode, TellNodes, pair_at, group_in, group_count}
-use Rattle.level_lister.proofs.Living.{skipped-is}
-use Rattle.level_lister.proofs.Growing.{Wider}
-use Rattle.level_lister.proofs.Telling.{step_below, tells_same, tells_none}
+use Rattle.level_lister.proofs.LivingNodes.{skipped-is}
+use Rattle.level_lister.proofs.PartVariables.{Wider}
+use Rattle.level_lister.proofs.TwoWords.{step_below, tells_same}
 
 -- ---- groups
 

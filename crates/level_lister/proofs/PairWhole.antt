@@ -11,7 +11,7 @@ use Rattle.level_lister.specs.inner.CostSets.{fault_weights}
 use Rattle.level_lister.specs.inner.Pairs.{TellsWhole, FaultOf, group_count}
 use Rattle.level_lister.specs.inner.Searching.{HasCost}
 use Rattle.level_lister.specs.inner.Skips.{living, IsEnough}
-use Rattle.level_lister.proofs.Living.{living-true}
+use Rattle.level_lister.proofs.LivingNodes.{living-true}
 use Rattle.level_lister.proofs.Whole.{cost_among-all}
 use Rattle.level_lister.proofs.FaultStates.{fault_state, state_fault}
 

@@ -1,17 +1,15 @@
 -- The nodes that are skipped are in no derivation that costs little.
-use Rattle.std.proofs.Common.{◌≡◌, ◌≢◌, ℕ, zero, suc, ◌+◌, ◌-◌, ◌<◌, ◌≤◌, Bool, true, cond, List, map, length, get_or, set, refl, ap, sym, ◌∙◌, subst, arith, ⊎_elim}
+use Rattle.std.proofs.Common.{◌≡◌, ◌≢◌, ℕ, zero, suc, ◌+◌, ◌-◌, ◌<◌, ◌≤◌, Bool, true, cond, List, map, length, get_or, set, refl, sym, ◌∙◌, arith, ⊎_elim}
 use Rattle.std.specs.List.{list_any}
 use Rattle.std.proofs.lemmas.Bool.{cases_lt, le-ltb, cases_eq}
 use Rattle.std.proofs.lemmas.Option.{same_Some}
 use Rattle.std.proofs.lemmas.List.{get_or-set_same, get_or-set_other}
 use Rattle.state_rules.specs.Assignments.{Assignment}
-use Rattle.state_rules.specs.Cases.{agrees_at}
 use Rattle.state_rules.proofs.Members.{In-at}
 use Rattle.state_rules.specs.declared.nodes.NodeKind.{NodeKind}
 use Rattle.state_rules.specs.declared.nodes.NodeKind.TheVariants.{Literal, And, Or}
-use Rattle.state_rules.specs.Graphs.{Graph, node_at, is_true, mentions, kind_fits, IsGraph}
-use Rattle.state_rules.proofs.NodesFit.{fits-at, literal}
-use Rattle.conditioner.specs.Words.{known_of}
+use Rattle.state_rules.specs.Graphs.{Graph, node_at, is_true, mentions, IsGraph}
+use Rattle.state_rules.proofs.NodesFit.{fits-at}
 use Rattle.minimiser.specs.Costs.{known_at, part_cost}
 use Rattle.minimiser.specs.Stored.{AreLeastCosts}
 use Rattle.minimiser.proofs.Costs.{faults_in, faults_in-le}
@@ -22,7 +20,7 @@ use Rattle.minimiser.proofs.Whole.{state_of}
 use Rattle.part_sets.proofs.Kids.{kid-below}
 use Rattle.level_lister.specs.inner.CostSets.{Follows}
 use Rattle.level_lister.specs.inner.Skips.{living, IsEnough, others_cost, rest_below, AreRests, skip_of}
-use Rattle.level_lister.proofs.Living.{truth_more, graph-is, living-is}
+use Rattle.level_lister.proofs.LivingNodes.{truth_more, graph-is, living-is}
 use Rattle.level_lister.proofs.Whole.{cost_among-all}
 
 -- ---- the sweep

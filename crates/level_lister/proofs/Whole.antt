@@ -14,7 +14,7 @@ use Rattle.level_lister.specs.inner.CostSets.{fault_weights}
 use Rattle.level_lister.specs.inner.NodeSets.{IsWholeSet}
 use Rattle.level_lister.specs.inner.Searching.{HasCost}
 use Rattle.level_lister.specs.inner.Skips.{IsEnough}
-use Rattle.level_lister.proofs.Living.{living-true}
+use Rattle.level_lister.proofs.LivingNodes.{living-true}
 
 -- what a state costs is what the faulty ones of all parts cost
 pub cost_among-all : (words : List ℕ) (a : Assignment) (costs : List ℕ) (h : List Bool) → length h ≡ length costs → ((i : ℕ) → i < length costs → bit_in h i ≡ a (1 + i)) → cost costs h ≡ cost_among (fault_weights words costs) (λ v. true) a

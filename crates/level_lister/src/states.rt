@@ -9,7 +9,7 @@ use conditioner::{is_false, is_faulty, is_open, word_of_known};
 use minimiser::TOTAL_LIMIT;
 
 // What a state costs.
-#[tactic(auto, using(crate::proofs::Costing::cost_steps))]
+#[tactic(auto, using(crate::proofs::StateCosts::cost_steps))]
 pub(crate) fn state_cost(state: &[u32], costs: &[u32]) -> u32
     requires long { length state.now ≡ length costs.now }
     requires total { total_cost costs.now < TOTAL_LIMIT }

@@ -7,6 +7,6 @@ pub mod OnePass
 pub mod Models
 pub mod Derivations
 pub mod Valued
-pub mod Sweeping
+pub mod SpreadMarks
 pub mod OutsideCosts
 mod Examples

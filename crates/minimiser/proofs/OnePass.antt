@@ -13,7 +13,7 @@ use Rattle.state_rules.specs.declared.nodes.NodeKind.TheVariants.{Literal, And}
 use Rattle.state_rules.specs.Graphs.{Node, Graph, mentions, true_node, node_at, node_fits, IsGraph}
 use Rattle.state_rules.proofs.NodeValues.{below-each}
 use Rattle.state_rules.proofs.NodesFit.{nodes_fit-at, fits-get, literal}
-use Rattle.node_store.proofs.Copying.{take-more}
+use Rattle.node_store.proofs.NodeCopies.{take-more}
 use Rattle.conditioner.specs.Models.{least_under, total_cost}
 use Rattle.minimiser.specs.Costs.{part_cost, known_at, cost_at, node_cost}
 use Rattle.minimiser.specs.inner.Held.{held_cost}

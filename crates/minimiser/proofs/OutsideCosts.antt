@@ -18,7 +18,7 @@ use Rattle.minimiser.proofs.Sums.{cost_in-some}
 use Rattle.minimiser.proofs.OnePass.{cost_small}
 use Rattle.minimiser.proofs.Derivations.{any-kid, true-at, mention-at, costs-at, apart-kids, sum-kid, Apart, Achieves, Extends, extends-le, Outside, outside-root, outside-and, outside-or, kid-excess}
 use Rattle.minimiser.proofs.Valued.{value-is, has_least}
-use Rattle.minimiser.proofs.Sweeping.{no-kids, kid-out, kid_before}
+use Rattle.minimiser.proofs.SpreadMarks.{no-kids, kid-out, kid_before}
 
 -- ---- the sweep
 

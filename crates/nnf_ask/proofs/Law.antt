@@ -15,11 +15,11 @@ use Rattle.session_rules.specs.CaseSizes.{IsCaseOf}
 use Rattle.session_rules.specs.GraphSystems.{case_words}
 use Rattle.session_rules.specs.Items.{Whole}
 use Rattle.session_rules.specs.Spelling.{Spelled, IsWholeOf, IsGraphOf}
-use Rattle.session_rules.proofs.Meaning.{same_consistent}
+use Rattle.session_rules.proofs.GraphMeaning.{same_consistent}
 use Rattle.session_rules.proofs.CaseWords.{unseen-words}
 use Rattle.nnf_ask.specs.Asking.{asked_system}
 use Rattle.nnf_ask.specs.Alike.{case_among, AreAlike}
-use Rattle.nnf_ask.proofs.Naming.{length-variable_names}
+use Rattle.nnf_ask.proofs.VariableNames.{length-variable_names}
 
 -- a text that spells the whole graph of a device gives a graph that means it
 pub graph_meant : (device : Device) (vars most : ℕ) (text : List ℕ) (graph : Graph) → Spelled (Whole device vars most) text → parsed text ≡ Ok graph → IsGraphOf device graph

@@ -1,4 +1,4 @@
 pub mod FiveDigits
-pub mod Naming
+pub mod VariableNames
 pub mod Law
 mod Examples

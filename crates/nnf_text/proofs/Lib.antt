@@ -6,5 +6,5 @@ pub mod LineTexts
 pub mod ReadingBack
 pub mod Sparse
 pub mod Bits
-pub mod Marking
+pub mod ColumnWords
 pub mod FirstShared

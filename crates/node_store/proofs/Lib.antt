@@ -1,8 +1,8 @@
 mod Examples
 pub mod Zipped
-pub mod Meaning
-pub mod Keeping
+pub mod NodeMeaning
+pub mod EqualNodes
 pub mod Literals
-pub mod Adding
-pub mod Copying
-pub mod Marking
+pub mod MoreNodes
+pub mod NodeCopies
+pub mod NodesBelow

@@ -1,6 +1,6 @@
 pub mod SetBits
 pub mod Kids
 pub mod Stacks
-pub mod Joining
+pub mod JoinedSets
 pub mod Flags
-pub mod Missing
+pub mod MissingNumbers

@@ -25,7 +25,7 @@ use Rattle.minimiser.proofs.OnePass.{cost_small}
 use Rattle.minimiser.proofs.Derivations.{any-kid, all-kid, kid-with, is_cost, true-at, mention-at, costs-at, below, all-below, Achieves}
 use Rattle.minimiser.proofs.Valued.{value-is, has_least}
 use Rattle.minimiser.proofs.Whole.{from_bounds}
-use Rattle.minimiser.proofs.Sweeping.{kid-in, kid-out}
+use Rattle.minimiser.proofs.SpreadMarks.{kid-in, kid-out}
 use Rattle.minimiser.specs.inner.Outside.{AreOutsideCosts}
 use Rattle.minimiser.proofs.OutsideCosts.{outside-is, kid-fits}
 use Rattle.probe_report.specs.inner.Outside.{IsLowered, Without, With}

@@ -1,6 +1,6 @@
 pub mod With
 pub mod Blames
-pub mod Lowering
+pub mod LoweredNumbers
 pub mod Bits
 pub mod Exits
 pub mod Marks

@@ -13,11 +13,11 @@ use Rattle.state_rules.proofs.NodesFit.{fits-at}
 use Rattle.state_rules.proofs.WordBits.{has_bit-zero}
 use Rattle.state_rules.specs.Bits.{has_bit}
 use Rattle.minimiser.specs.inner.Swept.{is_kid}
-use Rattle.minimiser.proofs.Sweeping.{kid_before}
+use Rattle.minimiser.proofs.SpreadMarks.{kid_before}
 use Rattle.minimiser.specs.inner.Outside.{lowered}
 use Rattle.probe_report.specs.inner.Outside.{IsLowered, AtLiteral, AtKid, Without, With, mark_at, is_left}
 use Rattle.probe_report.specs.inner.Leaving.{IsMarked, LeftKid, LeftNode, LowersBlock}
-use Rattle.probe_report.proofs.Lowering.{lowered-is, lowered-then, lowered-as, is_kid-more, is_left-before, is_left-behind, is_left-in, block-lowered, block-then, block-as, block-none}
+use Rattle.probe_report.proofs.LoweredNumbers.{lowered-is, lowered-then, lowered-as, is_kid-more, is_left-before, is_left-behind, is_left-in, block-lowered, block-then, block-as, block-none}
 use Rattle.probe_report.proofs.Bits.{has_bit-all}
 
 -- ---- one more kid

@@ -20,7 +20,7 @@ use Rattle.minimiser.proofs.Whole.{AddHeld, least_is}
 use Rattle.minimiser.specs.inner.Outside.{AreOutsideCosts}
 use Rattle.probe_report.specs.inner.Outside.{IsLowered, Without, With}
 use Rattle.probe_report.specs.inner.Settled.{settled}
-use Rattle.probe_report.proofs.Lowering.{lowered-then}
+use Rattle.probe_report.proofs.LoweredNumbers.{lowered-then}
 use Rattle.probe_report.proofs.Exits.{root-is}
 use Rattle.probe_report.proofs.With.{with-true, with-false, with-open, with_bit, with-model}
 

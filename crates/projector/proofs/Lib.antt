@@ -2,5 +2,5 @@ mod Examples
 mod HeldLiterals
 mod Lines
 mod Literals
-mod Meeting
+mod WantedBits
 pub mod Projected

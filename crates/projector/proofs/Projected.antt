@@ -34,7 +34,7 @@ use Rattle.conditioner.specs.Models.{has_model, fits_words, models}
 use Rattle.conditioner.proofs.FittingWords.{known-at, fits_words-at, fits_words-from, fits_words-front}
 use Rattle.projector.specs.Projecting.{projected_kind, projected_node, held_literals, root_with, projection, projected_text}
 use Rattle.projector.proofs.Literals.{wanted_of, literal-truth, literal-mentions, literal-fits}
-use Rattle.projector.proofs.Meeting.{Agrees, Meets, can_literal, all_can, any_can, can_by, can_laws}
+use Rattle.projector.proofs.WantedBits.{Agrees, Meets, can_literal, all_can, any_can, can_by, can_laws}
 use Rattle.node_costs.proofs.Nodes.{all_nodes}
 use Rattle.projector.proofs.HeldLiterals.{length-held, held-alone, held-apart, held-fit, values-alone, held-agrees, held-once, held-known}
 

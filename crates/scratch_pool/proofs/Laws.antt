@@ -1,15 +1,15 @@
 -- What follows for those who hold blocks and runs: what is lent to one is zeroed, and is written by no other.
-use Rattle.std.proofs.Common.{◌≡◌, ◌≢◌, ℕ, ◌+◌, ◌*◌, ◌≤◌, ◌<◌, true, false, List, [], ◌∷◌, ◌++◌, length, replicate, refl, sym, ◌∙◌, ap, subst, arith, inr, get_or-set_same, get_or-set_other}
+use Rattle.std.proofs.Common.{◌≡◌, ◌≢◌, ℕ, ◌+◌, ◌*◌, ◌≤◌, ◌<◌, true, false, List, [], ◌∷◌, length, replicate, refl, sym, ◌∙◌, subst, arith, inr, get_or-set_same, get_or-set_other}
 use Rattle.std.specs.Prelude.{Contains}
-use Rattle.std.proofs.lemmas.List.{length-set, length-replicate, get_or_default}
-use Rattle.std.proofs.lemmas.List.Elements.{Contains-append_left, Contains-append_right}
+use Rattle.std.proofs.lemmas.List.{length-replicate, get_or_default}
+use Rattle.std.proofs.lemmas.List.Elements.{Contains-append_right}
 use Rattle.scratch_pool.specs.declared.region.Span.{Span}
 use Rattle.scratch_pool.specs.Pools.{Blocks, IsOut, IsFree, free_blocks, block_words, with_block, taken, given}
 use Rattle.scratch_pool.specs.Pools as pools
-use Rattle.scratch_pool.specs.Regions.{Carved, words_used, free_words, run_words, with_run, carved, AreStacked}
+use Rattle.scratch_pool.specs.Regions.{Carved, words_used, run_words, with_run, carved}
 use Rattle.scratch_pool.specs.Regions as regions
-use Rattle.scratch_pool.proofs.Written.{Apart, length-written, length-words_at, written-there, written-apart}
-use Rattle.scratch_pool.proofs.Stacked.{used-append, stacked-append, stacked-front, contained, contained-apart}
+use Rattle.scratch_pool.proofs.Written.{Apart, length-words_at, written-there, written-apart}
+use Rattle.scratch_pool.proofs.Stacked.{contained, contained-apart}
 use Rattle.scratch_pool.proofs.Counted.{out_within, block-below, blocks-apart, block-stays, count-taken, count-given}
 
 -- a block lies within the words of its pool
@@ -32,15 +32,6 @@ taken-others pool sound number other inside out = grind (arith, length-replicate
 pub taken-out : (pool : Blocks) (number : ℕ) → number < length pool.out → IsOut (taken pool number) number
 taken-out pool number within = get_or-set_same pool.out number true false within
 
-pub taken-sound : (pool : Blocks) (number : ℕ) → pools.IsSound pool → pools.IsSound (taken pool number)
-taken-sound pool number sound = grind (arith, length-written, length-set)
-
-pub given-sound : (pool : Blocks) (number : ℕ) → pools.IsSound pool → pools.IsSound (given pool number)
-given-sound pool number sound = sound ∙ ap (λ n. n * pool.size) (sym (length-set pool.out number false))
-
-pub with_block-sound : (pool : Blocks) (number : ℕ) (new : List ℕ) → pools.IsSound pool → pools.IsSound (with_block pool number new)
-with_block-sound pool number new sound = length-written pool.words (number * pool.size) new ∙ sound
-
 -- a block has the words that are written to it
 pub written-block : (pool : Blocks) → pools.IsSound pool → (number : ℕ) → IsOut pool number
     → (new : List ℕ) → length new ≡ pool.size → block_words (with_block pool number new) number ≡ new
@@ -57,10 +48,6 @@ length-run region sound run held =
     let lies = contained region.runs run sound.0 held in
     let room = sound.1 in
     length-words_at region.words run.start run.len (omega (arith, lies, room))
-
--- all words of a run that is carved are 0
-pub carved-zeroed : (region : Carved) (run : Span) → run.start + run.len ≤ length region.words → run_words (carved region run) run ≡ replicate run.len 0
-carved-zeroed region run fits = grind (arith, length-replicate, written-there)
 
 -- a run keeps its words when another is carved behind it
 pub carved-others : (region : Carved) → regions.IsSound region → (run other : Span) → run.start ≡ words_used region.runs → run.start + run.len ≤ length region.words
@@ -106,19 +93,3 @@ given-stays_out pool number other ne out = get_or-set_other pool.out number othe
 pub carved-held : (region : Carved) (run : Span) → Contains (carved region run).runs run
 carved-held region run = Contains-append_right region.runs (run ∷ []) run (0, omega arith, refl)
 
-pub carved-stays_held : (region : Carved) (run other : Span) → Contains region.runs other → Contains (carved region run).runs other
-carved-stays_held region run other held = Contains-append_left region.runs (run ∷ []) other held
-
--- the words of a run are free no more, and every region stays sound
-pub carved-free : (region : Carved) (run : Span) → regions.IsSound region → run.len ≤ free_words region → free_words (carved region run) + run.len ≡ free_words region
-carved-free region run sound fits = grind (arith, length-written, used-append)
-
-pub carved-sound : (region : Carved) (run : Span) → regions.IsSound region → run.start ≡ words_used region.runs → 1 ≤ run.len → run.len ≤ free_words region
-    → regions.IsSound (carved region run)
-carved-sound region run sound at some fits = grind (arith, length-written, used-append, stacked-append)
-
-pub with_run-sound : (region : Carved) (run : Span) (new : List ℕ) → regions.IsSound region → regions.IsSound (with_run region run new)
-with_run-sound region run new sound = (sound.0, let long = length-written region.words run.start new in let room = sound.1 in omega (arith, long, room))
-
-pub released-sound : (old new : Carved) (run : Span) → regions.IsSound old → new.words ≡ old.words → old.runs ≡ new.runs ++ run ∷ [] → regions.IsSound new
-released-sound old new run sound words runs = grind (arith, used-append, stacked-front)

@@ -1,5 +1,5 @@
 -- What the graph answers under the words on a desk.
-use Rattle.std.proofs.Common.{◌≡◌, ◌∙◌, ◌+◌, ◌<◌, ℕ, Bool, List, All, length, refl, ap, sym, subst, arith}
+use Rattle.std.proofs.Common.{◌≡◌, ◌∙◌, ◌+◌, ◌<◌, ℕ, Bool, List, All, length, refl, arith}
 use Rattle.state_rules.specs.Graphs.{Graph}
 use Rattle.state_rules.specs.Systems.{least_cost, all_diagnoses}
 use Rattle.probe_report.specs.declared.verdicts.Blame.{Blame}
@@ -8,7 +8,6 @@ use Rattle.scratch_pool.specs.Regions.{Carved}
 use Rattle.conditioner.specs.Models.{models, least_under, least_with, diagnoses_under}
 use Rattle.session_rules.specs.GraphSystems.{Subject}
 use Rattle.session_rules.specs.Replies.{least_at, seen_at}
-use Rattle.session_rules.proofs.CaseWords.{models-by_words, least-by_words, diagnoses-by_words}
 use Rattle.session_rules.proofs.ProbeWords.{least_with-by_words}
 use Rattle.session_core.specs.Services.{served_system}
 use Rattle.session_core.specs.inner.Bases.{IsBasis, AreKnown, case_in}

@@ -16,7 +16,7 @@ use Rattle.session_rules.specs.GraphSystems.{HasLeastTexts, system_of}
 use Rattle.session_rules.specs.CaseSizes.{IsCaseOf, HasCasesOf}
 use Rattle.session_rules.proofs.Spellings.{spells_more}
 use Rattle.session_rules.proofs.Whole.{line_moves-whole, left_by-append, said-replies}
-use Rattle.session_rules.proofs.Keeping.{step-keeps}
+use Rattle.session_rules.proofs.KeptCases.{step-keeps}
 use Rattle.session_core.proofs.GraphSpellings.{case-spelled, least-spelled}
 use Rattle.session_core.specs.Services.{Shown, SpellReplies, served_system, moves_of}
 

@@ -1,19 +1,19 @@
 pub mod Lines
-pub mod Feeding
+pub mod FedBytes
 pub mod Texts
 pub mod Minimum
 pub mod Told
 pub mod Questions
 pub mod Desks
-pub mod Staying
+pub mod KeptParts
 mod NextStates
 mod Rooms
-pub mod Obeying
-pub mod Holding
-pub mod Naming
-pub mod Moving
+pub mod OneMove
+pub mod ShownService
+pub mod NamedParts
+pub mod SessionMoves
 mod GraphSpellings
 pub mod ReplyTexts
 pub mod Exact
 pub mod OneText
-pub mod Declining
+pub mod RefusedLines

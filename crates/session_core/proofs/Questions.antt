@@ -1,12 +1,11 @@
 -- What is told of a case, by what the graph answers under its words.
-use Rattle.std.proofs.Common.{◌≡◌, ◌≢◌, ℕ, suc, ◌+◌, ◌<◌, Bool, true, false, not, List, [], ◌∷◌, ◌++◌, map, length, get_or, drop, Option, Some, None, refl, ap, ap₂, sym, ◌∙◌, arith, codes}
-use Rattle.std.specs.Prelude.{is_some, slice_get, if◌then◌else◌}
-use Rattle.std.specs.List.{list_all, list_any}
+use Rattle.std.proofs.Common.{◌≡◌, ◌≢◌, ℕ, suc, ◌+◌, ◌<◌, Bool, true, false, not, List, [], ◌∷◌, ◌++◌, map, length, get_or, drop, Option, Some, None, refl, ap, ap₂, ◌∙◌, arith, codes}
+use Rattle.std.specs.Prelude.{is_some, slice_get}
 use Rattle.std.proofs.lemmas.List.{drop_more}
 use Rattle.text_rules.specs.Names.{Name}
 use Rattle.state_rules.specs.Bits.{bit_in}
 use Rattle.state_rules.specs.Cases.{Case}
-use Rattle.state_rules.specs.Ranking.{cost, least, least_with, least_of, diagnoses}
+use Rattle.state_rules.specs.Ranking.{least, diagnoses}
 use Rattle.state_rules.specs.Systems.{System}
 use Rattle.probe_report.specs.declared.verdicts.Blame.{Blame}
 use Rattle.probe_report.specs.Verdicts.{verdict}

@@ -1,6 +1,6 @@
 -- Beginnings of texts.
 use Rattle.std.proofs.Common.{ℕ, List, [], ◌∷◌, ◌++◌, map, Option, refl, append_assoc, arith}
-use Rattle.diag_edge.proofs.Growing.{grows_more}
+use Rattle.diag_edge.proofs.GrownBytes.{grows_more}
 use Rattle.session_rules.specs.Items.{Item, line}
 use Rattle.session_rules.specs.Spelling.{Spelled, Spells, Begins, Writes, WritesPart}
 use Rattle.session_rules.proofs.Spellings.{spells_more}

@@ -5,14 +5,11 @@ use Rattle.std.proofs.lemmas.List.{length-map, length-set, length-replicate, len
 use Rattle.std.proofs.lemmas.List.Elements.{All-replicate, All-set}
 use Rattle.text_rules.specs.Names.{Name}
 use Rattle.state_rules.specs.Cases.{Case, empty_case}
-use Rattle.state_rules.specs.Ranking.{least, diagnoses}
-use Rattle.state_rules.specs.Systems.{least_cost, all_diagnoses}
 use Rattle.state_rules.specs.Graphs.{Graph}
 use Rattle.conditioner.specs.Words.{known_of, word_of_known}
-use Rattle.conditioner.specs.Models.{models, least_under, diagnoses_under}
-use Rattle.session_rules.specs.GraphSystems.{case_words, graph_system}
+use Rattle.session_rules.specs.GraphSystems.{case_words}
 use Rattle.session_rules.specs.CaseWords.{case_of_words, AreCaseWords, AreWords}
-use Rattle.session_rules.proofs.Meaning.{all_known}
+use Rattle.session_rules.proofs.GraphMeaning.{all_known}
 
 set_behind : {A : Type 0} (xs ys : List A) (i : ℕ) (y : A) → set (xs ++ ys) (length xs + i) y ≡ xs ++ set ys i y
 set_behind [] ys i y = ap (λ n. set ys n y) (omega arith)
@@ -135,14 +132,4 @@ module _ (parts wires vars : ℕ) (words : List ℕ) (are : AreWords parts wires
 -- ---- the graph's answers under the words are those of its system
 
 module _ (parts wires : List Name) (costs : List ℕ) (graph : Graph) (vars : ℕ) (words : List ℕ) (priced : length costs ≡ length parts) (wide : graph.vars ≡ vars) (are : AreWords (length parts) (length wires) vars words) where
-  graph_words : case_words graph.vars (case_of_words (length parts) (length wires) words) ≡ words
-  graph_words = ap (λ n. case_words n (case_of_words (length parts) (length wires) words)) wide ∙ words-of_case (length parts) (length wires) vars words are
 
-  pub models-by_words : models graph words (length parts) ≡ (graph_system parts wires costs graph).consistent (case_of_words (length parts) (length wires) words)
-  models-by_words = λ i. models graph (sym graph_words i) (length parts)
-
-  pub least-by_words : least_under graph words costs ≡ least_cost (graph_system parts wires costs graph) (case_of_words (length parts) (length wires) words)
-  least-by_words = λ i. least costs (models graph (sym graph_words i) (priced i))
-
-  pub diagnoses-by_words : diagnoses_under graph words costs ≡ all_diagnoses (graph_system parts wires costs graph) (case_of_words (length parts) (length wires) words)
-  diagnoses-by_words = λ i. diagnoses costs (models graph (sym graph_words i) (priced i))

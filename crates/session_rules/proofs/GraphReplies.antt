@@ -12,7 +12,7 @@ use Rattle.session_rules.specs.Sessions.{Table, replies}
 use Rattle.session_rules.specs.Moves.{line_moves, script_moves}
 use Rattle.session_rules.specs.CaseSizes.{HasCasesOf}
 use Rattle.session_rules.specs.GraphSystems.{graph_system, compiled_system}
-use Rattle.session_rules.proofs.Meaning.{same_fitting, over_names}
+use Rattle.session_rules.proofs.GraphMeaning.{same_fitting, over_names}
 use Rattle.session_rules.proofs.Same.{replies-same, script_moves-same}
 
 -- Both systems have the same names, so that the cases of the one are those of the other; and they tell the same besides.

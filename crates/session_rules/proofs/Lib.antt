@@ -4,8 +4,8 @@ pub mod Begun
 pub mod Broken
 pub mod LineFronts
 pub mod Enumerated
-pub mod Meaning
-pub mod Keeping
+pub mod GraphMeaning
+pub mod KeptCases
 pub mod Same
 pub mod GraphReplies
 pub mod CaseWords

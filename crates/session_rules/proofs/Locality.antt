@@ -11,7 +11,7 @@ use Rattle.state_rules.specs.Systems.{System}
 use Rattle.script_lang.specs.Script.{Line, Blank, Refused, Ask, Request}
 use Rattle.session_rules.specs.Sessions.{Table, Entry, Change, Stays, Becomes, Ends, Outcome, Declined, Done, changed, carried, step, entry_of, outcome_in}
 use Rattle.session_rules.specs.Alone.{names_session, LooksSame, IsItsOwn}
-use Rattle.session_rules.proofs.Keeping.{entry_of-without}
+use Rattle.session_rules.proofs.KeptCases.{entry_of-without}
 
 -- what a change leaves of a session's entry
 abbrev pub after_change : Change → Option Entry → Option Entry

@@ -12,7 +12,7 @@ use Rattle.conditioner.proofs.ModelsWith.{with_bit-open, with_bit-known, with_bi
 use Rattle.session_rules.specs.Replies.{least_at, seen_at}
 use Rattle.session_rules.specs.GraphSystems.{case_words, graph_system}
 use Rattle.session_rules.specs.CaseWords.{case_of_words, AreWords}
-use Rattle.session_rules.proofs.Meaning.{known_of-word, known-case_words}
+use Rattle.session_rules.proofs.GraphMeaning.{known_of-word, known-case_words}
 use Rattle.session_rules.proofs.CaseWords.{words-of_case, length-held, length-seen, room-in_words, wire-written}
 
 module _ (parts wires : List Name) (costs : List ℕ) (graph : Graph) (vars : ℕ) (words : List ℕ) (priced : length costs ≡ length parts) (wide : graph.vars ≡ vars) (are : AreWords (length parts) (length wires) vars words)

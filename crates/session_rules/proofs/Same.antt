@@ -11,7 +11,7 @@ use Rattle.session_rules.specs.Replies.{next_of, listing, least_at, probe_line, 
 use Rattle.session_rules.specs.Sessions.{Entry, Table, Step, when_open, outcome, goes_through, step, replies, with_number}
 use Rattle.session_rules.specs.Moves.{left_by, level_moves, moves, line_moves, script_moves}
 use Rattle.session_rules.specs.CaseSizes.{IsCaseOf, HasCasesOf}
-use Rattle.session_rules.proofs.Keeping.{step-keeps}
+use Rattle.session_rules.proofs.KeptCases.{step-keeps}
 use Rattle.session_rules.proofs.Whole.{line_moves-whole, said-replies}
 
 -- Two ways to answer by moves that agree while something holds, which lines keep

@@ -1,7 +1,7 @@
 -- How a text spells items.
 use Rattle.std.proofs.Common.{ℕ, List, [], ◌∷◌, ◌++◌, Option, Result, Ok, Err, refl, sym, subst, append_assoc, append-nil, arith}
 use Rattle.diag_edge.specs.Edge.{Puts}
-use Rattle.diag_edge.proofs.Growing.{grows_more, grows_none}
+use Rattle.diag_edge.proofs.GrownBytes.{grows_more, grows_none}
 use Rattle.session_rules.specs.Items.{Item}
 use Rattle.session_rules.specs.Spelling.{Spelled, Spells, Writes, Replies}
 

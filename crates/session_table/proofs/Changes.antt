@@ -21,10 +21,10 @@ use Rattle.session_table.specs.declared.in_order.Open.{Open}
 use Rattle.session_table.specs.declared.open_sessions.OpenSessions.TheInside.{Inside}
 use Rattle.session_table.specs.contracts.open_sessions.OpenSessions.{the_view}
 use Rattle.session_table.proofs.Lookups.{order, IsGap, find_at, put_at, put_same, without_at, put_gap, find_gap}
-use Rattle.session_table.proofs.Mapping.{sorted_alike, map-insert, map-remove, gap_map, slice_get-set}
-use Rattle.session_table.proofs.Searching.{so, as_true}
-use Rattle.session_table.proofs.Noting.{zeros-entry, zeros-laid}
-use Rattle.session_table.proofs.Keeping.{out_at, laid_at, have_insert, given_at, written_at, have_written, none_taken, table_taken, have_taken}
+use Rattle.session_table.proofs.MappedSessions.{sorted_alike, map-insert, map-remove, gap_map, slice_get-set}
+use Rattle.session_table.proofs.SessionSearch.{so, as_true}
+use Rattle.session_table.proofs.NotedWords.{zeros-entry, zeros-laid}
+use Rattle.session_table.proofs.KeptBlocks.{out_at, laid_at, have_insert, given_at, written_at, have_written, none_taken, table_taken, have_taken}
 
 -- what holds of the fields
 abbrev pub Kept : Inside → Type 0

@@ -1,7 +1,7 @@
 mod Lookups
-mod Searching
-mod Mapping
-mod Noting
-mod Keeping
+mod SessionSearch
+mod MappedSessions
+mod NotedWords
+mod KeptBlocks
 mod Changes
-mod Fitting
+mod FittingCases

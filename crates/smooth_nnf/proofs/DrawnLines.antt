@@ -27,8 +27,8 @@ use Rattle.minimiser.specs.Costs.{part_cost, known_at, cost_at, cheapest, node_c
 use Rattle.minimiser.proofs.Costs.{from_min}
 use Rattle.minimiser.proofs.Derivations.{mention-at, apart-kids, costs-at, all-below, sum-kid}
 use Rattle.smooth_nnf.specs.Layouts.{Layout, layout_of, own_line, literal_pairs, literal_line, literal_kids, filling, fillers, costs_just, cheapest_kids, lines_before, lines_to, own_lines, kid_line, or_behind, or_lines, lines_by, lines_at, node_lines, and_over}
-use Rattle.smooth_nnf.proofs.Standing.{value_of-front, value_of-there, values-behind, Stand, MayFollow, stand-behind}
-use Rattle.smooth_nnf.proofs.Meaning.{is_part, Means, NodeMeans, filled, part-means, other-means, and-means, or-means, kid-inside, cheapest-in, cheapest-is}
+use Rattle.smooth_nnf.proofs.LaterLines.{value_of-front, value_of-there, values-behind, Stand, MayFollow, stand-behind}
+use Rattle.smooth_nnf.proofs.DrawnMeaning.{is_part, Means, NodeMeans, filled, part-means, other-means, and-means, or-means, kid-inside, cheapest-in, cheapest-is}
 use Rattle.smooth_nnf.proofs.Fillers.{length-literal_pairs, pairs-stand, literal_line-lt, literal-value, fillers-below, fillers-mention, fillers-once, fillers-true, fillers-say, map-in}
 
 -- ---- lists

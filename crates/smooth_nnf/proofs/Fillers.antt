@@ -18,7 +18,7 @@ use Rattle.state_rules.proofs.Kids.{at_most_one-from}
 use Rattle.minimiser.specs.Costs.{known_at}
 use Rattle.minimiser.proofs.Derivations.{any-kid, all-kid, kid-with}
 use Rattle.smooth_nnf.specs.Layouts.{literal_pair, literal_pairs, literal_line, filling, filler, fillers}
-use Rattle.smooth_nnf.proofs.Standing.{MayFollow, Stand, stand-none, stand-behind}
+use Rattle.smooth_nnf.proofs.LaterLines.{MayFollow, Stand, stand-none, stand-behind}
 
 -- ---- lists
 

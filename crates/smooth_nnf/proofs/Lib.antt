@@ -1,10 +1,10 @@
 mod Examples
-pub mod Standing
+pub mod LaterLines
 pub mod Fillers
-pub mod Meaning
+pub mod DrawnMeaning
 pub mod DrawnLines
 pub mod WholeText
-mod Lacking
+mod LackingParts
 mod LinePlaces
 mod WordParts
 mod FilledTexts

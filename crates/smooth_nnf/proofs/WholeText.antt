@@ -32,8 +32,8 @@ use Rattle.minimiser.specs.Stored.{cost_in, costs_to, AreLeastCosts}
 use Rattle.smooth_nnf.specs.Layouts.{Layout, own_lines, layout_of, literal_pairs, lines_to, node_lines, last_at, last_line, all_lines, least_graph, least_text}
 use Rattle.smooth_nnf.specs.inner.Drawings.{lines_after}
 use Rattle.smooth_nnf.proofs.LinePlaces.{lines_after-le, lines_to-le}
-use Rattle.smooth_nnf.proofs.Standing.{value_of-there, Stand, MayFollow, stand-behind}
-use Rattle.smooth_nnf.proofs.Meaning.{Means}
+use Rattle.smooth_nnf.proofs.LaterLines.{value_of-there, Stand, MayFollow, stand-behind}
+use Rattle.smooth_nnf.proofs.DrawnMeaning.{Means}
 use Rattle.smooth_nnf.proofs.Fillers.{length-literal_pairs}
 use Rattle.smooth_nnf.proofs.DrawnLines.{Means-same, Drawn, over-mention, over-follows, over-means, length-lines, body, all-drawn}
 

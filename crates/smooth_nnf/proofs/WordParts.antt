@@ -22,7 +22,7 @@ use Rattle.part_sets.specs.Numbers.{part_words}
 use Rattle.smooth_nnf.specs.inner.Sets.{part_at}
 use Rattle.smooth_nnf.specs.inner.Drawings.{Drawing, IsDrawing, word_parts, set_parts, part_count}
 use Rattle.smooth_nnf.proofs.Fillers.{in_range}
-use Rattle.smooth_nnf.proofs.Lacking.{set-bit}
+use Rattle.smooth_nnf.proofs.LackingParts.{set-bit}
 
 -- ---- words of which some bits are set
 

@@ -1,1 +1,1 @@
-pub mod Adapting
+pub mod CallSequences

@@ -1,5 +1,5 @@
 use Rattle.std.proofs.Common.{◌+◌, length, ap}
-use Rattle.adder_load.proofs.Noting.{noted}
+use Rattle.adder_load.proofs.NotedReadings.{noted}
 use Rattle.adder_load.proofs.readings.note.Goals as goal
 
 pub returns-in-Some : goal.returns-in-Some

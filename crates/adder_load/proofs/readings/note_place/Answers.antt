@@ -1,7 +1,7 @@
 use Rattle.std.proofs.Common.{◌≡◌, ◌++◌, ◌%◌, [], ◌∷◌, false, List, subst}
 use Rattle.adder_load.specs.Readings.{Reading, readings_at}
 use Rattle.adder_load.specs.inner.Noting.{Notes}
-use Rattle.adder_load.proofs.Noting.{notes-append, is_zero}
+use Rattle.adder_load.proofs.NotedReadings.{notes-append, is_zero}
 use Rattle.adder_load.proofs.readings.note_place.Goals as goal
 
 pub returns : goal.returns

@@ -2,7 +2,7 @@ use Rattle.std.proofs.Common.{◌≡◌, List, ◌++◌, ◌∷◌, [], false, �
 use Rattle.std.specs.List.{flat_map, range_with_len}
 use Rattle.adder_load.specs.Readings.{Reading, readings_at}
 use Rattle.adder_load.proofs.Texts.{left_more}
-use Rattle.adder_load.proofs.Noting.{notes-append, zeros, all_noted}
+use Rattle.adder_load.proofs.NotedReadings.{notes-append, zeros, all_noted}
 use Rattle.adder_load.proofs.readings.note_readings.Goals as goal
 
 pub note-requires : goal.note-requires

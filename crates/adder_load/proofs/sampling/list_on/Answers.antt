@@ -4,7 +4,7 @@ use Rattle.conditioner.specs.Models.{models, diagnoses_under}
 use Rattle.conditioner.specs.Words.{bits_of}
 use Rattle.diagnosis_lister.specs.declared.listing.Step.TheVariants.{Found}
 use Rattle.diagnosis_lister.specs.Listing.{step_of}
-use Rattle.adder_load.proofs.Listing.{one_more, next_is, all_listed, stays, taken_all}
+use Rattle.adder_load.proofs.ListedDiagnoses.{one_more, next_is, all_listed, stays, taken_all}
 use Rattle.adder_load.proofs.sampling.list_on.Goals as goal
 
 pub returns-in-End : goal.returns-in-End

@@ -1,7 +1,7 @@
 use Rattle.std.proofs.Common.{◌≡◌, ◌<◌, ℕ, List, length, get_or, [], sym, ◌∙◌, subst, ap}
 use Rattle.conditioner.specs.Models.{diagnoses_under}
 use Rattle.conditioner.specs.Words.{bits_of}
-use Rattle.adder_load.proofs.Listing.{some_diagnosis, same_first}
+use Rattle.adder_load.proofs.ListedDiagnoses.{some_diagnosis, same_first}
 use Rattle.adder_load.proofs.sampling.sample.Goals as goal
 
 pub list_on-listed-requires-clause-there : goal.list_on-listed-requires-clause-there

@@ -3,7 +3,7 @@ use Rattle.std.specs.Map.{keys_of}
 use Rattle.std.specs.Prelude.{position}
 use Rattle.text_rules.specs.Names.{Name, same_name}
 use Rattle.std.proofs.lemmas.List.{length-map}
-use Rattle.bench_reader.proofs.Driving.{place-seen, place_found}
+use Rattle.bench_reader.proofs.DrivenSignals.{place-seen, place_found}
 use Rattle.bench_reader.proofs.assembly.place_of.Goals as goal
 
 pub returns : goal.returns

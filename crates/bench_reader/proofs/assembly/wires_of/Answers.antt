@@ -1,7 +1,7 @@
 use Rattle.std.proofs.Common.{ap, sym, ◌∙◌, ◌++◌, map}
 use Rattle.std.specs.List.{list_all}
 use Rattle.text_rules.specs.Names.{is_short_name}
-use Rattle.bench_reader.proofs.Driving.{keys-seen}
+use Rattle.bench_reader.proofs.DrivenSignals.{keys-seen}
 use Rattle.bench_reader.proofs.assembly.wires_of.Goals as goal
 
 pub loop-signal-init : goal.loop-signal-init

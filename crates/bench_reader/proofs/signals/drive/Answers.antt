@@ -1,7 +1,7 @@
 use Rattle.std.proofs.Common.{ap, ◌∙◌}
 use Rattle.bench_reader.specs.inner.Lines.{input_names, meaning}
 use Rattle.bench_reader.specs.inner.Steps.{driven_more, signals_in}
-use Rattle.bench_reader.proofs.Driving.{gate-free, gate-taken, input-free, input-again, input-gate}
+use Rattle.bench_reader.proofs.DrivenSignals.{gate-free, gate-taken, input-free, input-again, input-gate}
 use Rattle.bench_reader.proofs.signals.drive.Goals as goal
 
 pub returns-in-None : goal.returns-in-None

@@ -1,5 +1,5 @@
 use Rattle.std.proofs.Common.{◌∙◌}
-use Rattle.bench_reader.proofs.Driving.{driven-seen}
+use Rattle.bench_reader.proofs.DrivenSignals.{driven-seen}
 use Rattle.bench_reader.proofs.signals.is_driven.Goals as goal
 
 pub returns : goal.returns

@@ -1,5 +1,5 @@
 use Rattle.std.proofs.Common.{◌≡◌, ◌∙◌, sym, get_or, rules}
-use Rattle.bench_reader.proofs.Parsing.{one_byte, listed_behind_comma}
+use Rattle.bench_reader.proofs.ParsedTokens.{one_byte, listed_behind_comma}
 use Rattle.bench_reader.proofs.statement.are_listed.Goals as goal
 
 pub loop-tokens-preserved : goal.loop-tokens-preserved

@@ -1,5 +1,5 @@
 use Rattle.std.proofs.Common.{◌∙◌, sym, arith}
-use Rattle.bench_reader.proofs.Parsing.{inputs_fit, word_behind}
+use Rattle.bench_reader.proofs.ParsedTokens.{inputs_fit, word_behind}
 use Rattle.bench_reader.proofs.statement.count_names.Goals as goal
 
 pub overflow_add-count : goal.overflow_add-count

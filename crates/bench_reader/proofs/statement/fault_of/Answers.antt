@@ -1,7 +1,7 @@
 use Rattle.std.proofs.Common.{◌∙◌, sym, ap}
 use Rattle.bench_reader.specs.Statements.{statement_fault}
 use Rattle.bench_reader.specs.inner.Lines.{input_names, meaning}
-use Rattle.bench_reader.proofs.Parsing.{fault_of_gate}
+use Rattle.bench_reader.proofs.ParsedTokens.{fault_of_gate}
 use Rattle.bench_reader.proofs.statement.fault_of.Goals as goal
 
 pub returns-in-Some : goal.returns-in-Some

@@ -4,8 +4,8 @@ use Rattle.text_rules.specs.Tokens.{tokens_left}
 use Rattle.text_rules.proofs.NameLemmas.{equal_if_same}
 use Rattle.bench_reader.specs.Statements.{Gate, kind_named, has_no_mark}
 use Rattle.bench_reader.specs.inner.Lines.{line_tokens}
-use Rattle.bench_reader.proofs.Opening.{tokens_of_inputs}
-use Rattle.bench_reader.proofs.Parsing.{statement_of_gate}
+use Rattle.bench_reader.proofs.FirstBrackets.{tokens_of_inputs}
+use Rattle.bench_reader.proofs.ParsedTokens.{statement_of_gate}
 use Rattle.bench_reader.proofs.statement.gate_of.Goals as goal
 
 pub returns-then-is_list : goal.returns-then-is_list

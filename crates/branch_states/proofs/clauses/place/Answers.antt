@@ -1,6 +1,6 @@
 use Rattle.std.proofs.Common.{◌∙◌}
 use Rattle.std.specs.Option.{unwrap_or}
-use Rattle.branch_states.proofs.Ordering.{place-found}
+use Rattle.branch_states.proofs.FoundOrder.{place-found}
 use Rattle.branch_states.proofs.clauses.place.Goals as goal
 
 pub returns : goal.returns

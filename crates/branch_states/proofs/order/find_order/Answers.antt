@@ -3,7 +3,7 @@ use Rattle.std.specs.List.{flat_map}
 use Rattle.std.proofs.lemmas.List.{take_all}
 use Rattle.clause_encoder.specs.Clauses.{var_of}
 use Rattle.elimination_forests.specs.Branches.{first_met, same_variable}
-use Rattle.branch_states.proofs.Ordering.{order-few}
+use Rattle.branch_states.proofs.FoundOrder.{order-few}
 use Rattle.branch_states.proofs.order.find_order.Goals as goal
 
 pub returns-clause-order : goal.returns-clause-order

@@ -1,5 +1,5 @@
 use Rattle.std.proofs.Common.{◌∙◌}
-use Rattle.branch_states.proofs.Ordering.{met}
+use Rattle.branch_states.proofs.FoundOrder.{met}
 use Rattle.branch_states.proofs.order.meet.Goals as goal
 
 pub returns : goal.returns

@@ -3,7 +3,7 @@ use Rattle.std.specs.List.{list_all}
 use Rattle.clause_encoder.specs.Clauses.{is_clause}
 use Rattle.clause_encoder.specs.Encoding.{tidy, all_clauses, clause_list, Describes}
 use Rattle.clause_encoder.proofs.Literals.{length-tidy}
-use Rattle.clause_encoder.proofs.Describing.{are_clauses, describes}
+use Rattle.clause_encoder.proofs.DeviceClauses.{are_clauses, describes}
 use Rattle.clause_encoder.proofs.encoding.encode.Goals as goal
 
 pub of_flat-requires-clause-few : goal.of_flat-requires-clause-few

@@ -1,5 +1,5 @@
 use Rattle.std.proofs.Common.{arith}
-use Rattle.clause_encoder.proofs.Counting.{length-any_gate}
+use Rattle.clause_encoder.proofs.ClauseCounts.{length-any_gate}
 use Rattle.clause_encoder.proofs.encoding.gate_count.Goals as goal
 
 pub returns-then-inputs-gt-NARROW_LIMIT-clause-count : goal.returns-then-inputs-gt-NARROW_LIMIT-clause-count

@@ -1,4 +1,4 @@
-use Rattle.clause_encoder.proofs.Counting.{length-parity, few-rows}
+use Rattle.clause_encoder.proofs.ClauseCounts.{length-parity, few-rows}
 use Rattle.clause_encoder.proofs.encoding.narrow_count.Goals as goal
 
 pub returns-in-OddOnes-clause-count : goal.returns-in-OddOnes-clause-count

@@ -2,7 +2,7 @@ use Rattle.std.proofs.Common.{◌+◌, length, ap, ◌∙◌, refl, arith}
 use Rattle.std.proofs.lemmas.List.{length-map}
 use Rattle.device_model.specs.Gates.{rule}
 use Rattle.device_model.specs.Devices.{takes_ports}
-use Rattle.clause_encoder.proofs.Writing.{arity-taken, part-written, inner-next, small, low}
+use Rattle.clause_encoder.proofs.WrittenClauses.{arity-taken, part-written, inner-next, small, low}
 use Rattle.clause_encoder.proofs.encoding.push_parts.Goals as goal
 
 pub push_part-requires-clause-arity : goal.push_part-requires-clause-arity

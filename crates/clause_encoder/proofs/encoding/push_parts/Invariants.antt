@@ -1,6 +1,6 @@
 use Rattle.std.proofs.Common.{◌≡◌, ◌≤◌, ◌+◌, ◌*◌, ◌++◌, drop}
 use Rattle.clause_encoder.specs.Encoding.{tidy, clauses_from, all_clauses}
-use Rattle.clause_encoder.proofs.Writing.{inner_at}
+use Rattle.clause_encoder.proofs.WrittenClauses.{inner_at}
 use Rattle.clause_encoder.proofs.encoding.push_parts.Given as goal
 
 -- what was written and what the parts that are left give

@@ -1,7 +1,7 @@
 use Rattle.std.proofs.Common.{length, ap, arith}
 use Rattle.clause_encoder.specs.Encoding.{raw_count}
-use Rattle.clause_encoder.proofs.Writing.{arity-taken}
-use Rattle.clause_encoder.proofs.Counting.{part-counted}
+use Rattle.clause_encoder.proofs.WrittenClauses.{arity-taken}
+use Rattle.clause_encoder.proofs.ClauseCounts.{part-counted}
 use Rattle.clause_encoder.proofs.encoding.raw_count.Goals as goal
 
 pub part_count-count-requires : goal.part_count-count-requires

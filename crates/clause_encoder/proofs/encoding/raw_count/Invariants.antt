@@ -1,6 +1,6 @@
 use Rattle.std.proofs.Common.{◌≡◌, ◌≤◌, ◌+◌, ◌*◌, length, drop}
 use Rattle.clause_encoder.specs.Encoding.{clauses_from, raw_count}
-use Rattle.clause_encoder.proofs.Writing.{inner_at}
+use Rattle.clause_encoder.proofs.WrittenClauses.{inner_at}
 use Rattle.clause_encoder.proofs.encoding.raw_count.Given as goal
 
 -- what was counted and what the parts that are left have

@@ -1,6 +1,6 @@
 use Rattle.std.proofs.Common.{◌^◌, count_ones, ap, ◌∙◌, arith}
-use Rattle.clause_encoder.proofs.Writing.{shifted_far}
-use Rattle.clause_encoder.proofs.Counting.{length-table, table-counts}
+use Rattle.clause_encoder.proofs.WrittenClauses.{shifted_far}
+use Rattle.clause_encoder.proofs.ClauseCounts.{length-table, table-counts}
 use Rattle.clause_encoder.proofs.encoding.table_count.Goals as goal
 
 pub overflow_sub-result : goal.overflow_sub-result

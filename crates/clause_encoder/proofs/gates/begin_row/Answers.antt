@@ -1,6 +1,6 @@
 use Rattle.std.proofs.Common.{◌<◌, ◌%◌, length, get_or, arith}
 use Rattle.std.specs.Prelude.{◌==◌}
-use Rattle.clause_encoder.proofs.Writing.{passed, bit-written}
+use Rattle.clause_encoder.proofs.WrittenClauses.{passed, bit-written}
 use Rattle.clause_encoder.proofs.gates.begin_row.Goals as goal
 
 pub loop-variable-preserved : goal.loop-variable-preserved

@@ -2,7 +2,7 @@ use Rattle.std.proofs.Common.{◌≡◌, ◌<◌, ◌++◌, [], ◌∷◌, false
 use Rattle.std.proofs.lemmas.Result.{on_ok_weaker}
 use Rattle.clause_encoder.specs.Clauses.{literal}
 use Rattle.clause_encoder.specs.Encoding.{tidy}
-use Rattle.clause_encoder.proofs.Writing.{passed, and-more, and-all}
+use Rattle.clause_encoder.proofs.WrittenClauses.{passed, and-more, and-all}
 use Rattle.clause_encoder.proofs.gates.push_and.Goals as goal
 
 pub loop-input-preserved : goal.loop-input-preserved

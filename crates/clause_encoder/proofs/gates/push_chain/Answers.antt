@@ -1,6 +1,6 @@
 use Rattle.std.proofs.Common.{length, refl, arith}
-use Rattle.clause_encoder.proofs.Writing.{step-written}
-use Rattle.clause_encoder.proofs.Meaning.{takes-few}
+use Rattle.clause_encoder.proofs.WrittenClauses.{step-written}
+use Rattle.clause_encoder.proofs.PartClauses.{takes-few}
 use Rattle.clause_encoder.proofs.gates.push_chain.Goals as goal
 
 pub loop-input-preserved : goal.loop-input-preserved

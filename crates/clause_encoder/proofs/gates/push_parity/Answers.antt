@@ -1,6 +1,6 @@
 use Rattle.std.proofs.Common.{◌≡◌, ◌++◌, [], ◌∷◌, false, length, ◌∙◌, arith}
 use Rattle.clause_encoder.specs.Encoding.{tidy}
-use Rattle.clause_encoder.proofs.Writing.{passed, shifted, parity-more}
+use Rattle.clause_encoder.proofs.WrittenClauses.{passed, shifted, parity-more}
 use Rattle.clause_encoder.proofs.gates.push_parity.Goals as goal
 
 pub loop-row-preserved : goal.loop-row-preserved

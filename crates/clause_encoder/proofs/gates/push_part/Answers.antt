@@ -2,7 +2,7 @@ use Rattle.std.proofs.Common.{◌≡◌, ◌++◌, true, length, ap, sym, ◌∙
 use Rattle.std.specs.Prelude.{slice_get}
 use Rattle.device_model.specs.Devices.{takes_ports, rows_take}
 use Rattle.clause_encoder.specs.Encoding.{tidy, raw_clauses, table_clauses}
-use Rattle.clause_encoder.proofs.Writing.{taken}
+use Rattle.clause_encoder.proofs.WrittenClauses.{taken}
 use Rattle.clause_encoder.proofs.gates.push_part.Goals as goal
 
 pub returns-in_ok-push_table-in-Table-clause-clauses : goal.returns-in_ok-push_table-in-Table-clause-clauses

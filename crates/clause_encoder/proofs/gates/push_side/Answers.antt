@@ -3,7 +3,7 @@ use Rattle.std.proofs.Common.{◌<◌, ◌^◌, ◌++◌, [], ◌∷◌, not, le
 use Rattle.state_rules.specs.Bits.{has_bit}
 use Rattle.clause_encoder.specs.Clauses.{literal}
 use Rattle.clause_encoder.specs.Encoding.{tidy, row_bits, blocking_literals}
-use Rattle.clause_encoder.proofs.Writing.{passed, row_below, kept-written, kept-skipped}
+use Rattle.clause_encoder.proofs.WrittenClauses.{passed, row_below, kept-written, kept-skipped}
 use Rattle.clause_encoder.proofs.gates.push_side.Goals as goal
 use Rattle.clause_encoder.proofs.gates.push_side.Goals.{then-not-allows+in_ok-begin_row+in_ok-end, else-not-allows}
 

@@ -2,7 +2,7 @@ use Rattle.std.proofs.Common.{◌++◌, [], ◌∷◌, true, false, ◌∙◌}
 use Rattle.std.proofs.lemmas.Result.{on_ok_weaker}
 use Rattle.clause_encoder.specs.Clauses.{literal}
 use Rattle.clause_encoder.specs.Encoding.{tidy}
-use Rattle.clause_encoder.proofs.Writing.{passed, four-written}
+use Rattle.clause_encoder.proofs.WrittenClauses.{passed, four-written}
 use Rattle.clause_encoder.proofs.gates.push_xor_step.Goals as goal
 
 pub returns : goal.returns

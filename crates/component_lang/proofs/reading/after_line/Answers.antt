@@ -4,7 +4,7 @@ use Rattle.text_rules.specs.Names.{Name}
 use Rattle.text_rules.specs.Tokens.{words, tokens_left}
 use Rattle.component_lang.specs.inner.Sections.{reader_in}
 use Rattle.component_lang.specs.inner.Sound.{reader_size}
-use Rattle.component_lang.proofs.Keeping.{words-fit}
+use Rattle.component_lang.proofs.SoundReaders.{words-fit}
 use Rattle.component_lang.proofs.reading.after_line.Goals as goal
 
 pub outside-requires : goal.outside-requires

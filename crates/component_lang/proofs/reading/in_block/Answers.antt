@@ -3,7 +3,7 @@ use Rattle.std.proofs.lemmas.Result.{err_from_is_err_and}
 use Rattle.text_rules.specs.Tokens.{tokens_left}
 use Rattle.component_lang.specs.inner.Views.{library_in, block_in}
 use Rattle.component_lang.proofs.LineForms.{in_block-wire}
-use Rattle.component_lang.proofs.Passing.{fault-same}
+use Rattle.component_lang.proofs.PassedFaults.{fault-same}
 use Rattle.component_lang.proofs.reading.in_block.Goals as goal
 
 pub returns-in_err-with_wires : goal.returns-in_err-with_wires

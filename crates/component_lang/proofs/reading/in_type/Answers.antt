@@ -7,7 +7,7 @@ use Rattle.component_lang.specs.TypeRows.{shape_of}
 use Rattle.component_lang.specs.inner.Sound.{is_free}
 use Rattle.component_lang.specs.inner.Views.{library_in, open_type_in}
 use Rattle.component_lang.proofs.LineForms.{no_more, in_type-ok, in_type-bad, in_type-cost}
-use Rattle.component_lang.proofs.Passing.{fault-same}
+use Rattle.component_lang.proofs.PassedFaults.{fault-same}
 use Rattle.component_lang.proofs.reading.in_type.Goals as goal
 
 pub close-requires-clause-rows : goal.close-requires-clause-rows

@@ -9,7 +9,7 @@ use Rattle.component_lang.specs.inner.Words.{new_ports}
 use Rattle.component_lang.specs.inner.NameSets.{names_in}
 use Rattle.component_lang.specs.inner.Views.{library_in}
 use Rattle.component_lang.proofs.LineForms.{new_ports-same, block_line-ports, block_line-fault, outside-block}
-use Rattle.component_lang.proofs.Passing.{fault-passed}
+use Rattle.component_lang.proofs.PassedFaults.{fault-passed}
 use Rattle.component_lang.proofs.reading.outside.Goals as goal
 
 pub new-requires : goal.new-requires

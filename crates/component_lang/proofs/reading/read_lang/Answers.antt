@@ -8,7 +8,7 @@ use Rattle.component_lang.specs.DesignLines.{at, after_line}
 use Rattle.component_lang.specs.Reading.{design_from, unless_wrong}
 use Rattle.component_lang.specs.inner.Sections.{reader_in}
 use Rattle.component_lang.specs.inner.Sound.{is_sound, reader_size}
-use Rattle.component_lang.proofs.Keeping.{Keeps, after_line-keeps}
+use Rattle.component_lang.proofs.SoundReaders.{Keeps, after_line-keeps}
 use Rattle.component_lang.proofs.reading.read_lang.Goals as goal
 
 pub loop-line-init : goal.loop-line-init

@@ -1,4 +1,4 @@
-use Rattle.device_files.proofs.Failing.{counts_then, counts_cut}
+use Rattle.device_files.proofs.FailedWrites.{counts_then, counts_cut}
 use Rattle.device_files.proofs.inspecting.+put_counts.Goals as goal
 
 pub returns-in_err-put_count-clause-text : goal.returns-in_err-put_count-clause-text

@@ -1,6 +1,6 @@
 use Rattle.device_files.specs.Refusals.{told_by}
-use Rattle.device_files.proofs.Choosing.{by_any}
-use Rattle.device_files.proofs.Refusing.{found_told, refused_told}
+use Rattle.device_files.proofs.ForestChoices.{by_any}
+use Rattle.device_files.proofs.KeptRefusals.{found_told, refused_told}
 use Rattle.device_files.proofs.inspecting.check_file.Goals as goal
 
 pub returns-in-Ok-clause-said : goal.returns-in-Ok-clause-said

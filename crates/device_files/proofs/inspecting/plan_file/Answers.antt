@@ -2,8 +2,8 @@ use Rattle.branch_states.specs.declared.measuring.TheConstants.{BUDGET_LIMIT}
 use Rattle.device_files.specs.Choices.{clauses_by}
 use Rattle.device_files.specs.Inspecting.{planned}
 use Rattle.device_files.specs.Refusals.{told_by}
-use Rattle.device_files.proofs.Choosing.{by_any, by_same}
-use Rattle.device_files.proofs.Refusing.{refused_told, within_told, within_refused}
+use Rattle.device_files.proofs.ForestChoices.{by_any, by_same}
+use Rattle.device_files.proofs.KeptRefusals.{refused_told, within_told, within_refused}
 use Rattle.device_files.proofs.inspecting.plan_file.Goals as goal
 
 pub returns-in-Err-clause-said : goal.returns-in-Err-clause-said

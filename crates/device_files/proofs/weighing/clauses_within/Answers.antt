@@ -3,7 +3,7 @@ use Rattle.std.proofs.lemmas.Result.{err_from_is_err_and}
 use Rattle.text_rules.specs.Expected.{IsExpectedFault}
 use Rattle.device_files.specs.Weighing.{within}
 use Rattle.device_files.specs.Refusals.{told_by}
-use Rattle.device_files.proofs.Choosing.{by_any, list_gives}
+use Rattle.device_files.proofs.ForestChoices.{by_any, list_gives}
 use Rattle.device_files.proofs.weighing.clauses_within.Goals as goal
 
 pub returns-in_err-cnf : goal.returns-in_err-cnf

@@ -1,6 +1,6 @@
 use Rattle.std.proofs.Common.{subst}
 use Rattle.device_files.specs.Choices.{HasSum}
-use Rattle.device_files.proofs.Choosing.{found_or_above}
+use Rattle.device_files.proofs.ForestChoices.{found_or_above}
 use Rattle.device_files.proofs.weighing.sum_within.Goals as goal
 
 pub returns-in-Some-clause-list : goal.returns-in-Some-clause-list

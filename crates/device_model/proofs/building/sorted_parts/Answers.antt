@@ -9,7 +9,7 @@ use Rattle.text_rules.specs.Names.{Name}
 use Rattle.device_model.specs.declared.component.Component.{Component}
 use Rattle.device_model.specs.Devices.{part_names}
 use Rattle.device_model.specs.inner.Sorting.{NeighboursDiffer, IsFirstRepeat}
-use Rattle.device_model.proofs.Sorting.{Ascends, Ascends-from_sort, Ascends-map, Rises-unmap}
+use Rattle.device_model.proofs.SortedLists.{Ascends, Ascends-from_sort, Ascends-map, Rises-unmap}
 use Rattle.device_model.proofs.Steps.{Rises-sorted, repeated-sorted, IsTwice-sorted, sorted_distinct-sorted}
 use Rattle.device_model.proofs.building.sorted_parts.Goals as goal
 

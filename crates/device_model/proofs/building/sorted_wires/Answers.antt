@@ -7,7 +7,7 @@ use Rattle.std.proofs.lemmas.List.{get_or-map, length-map}
 use Rattle.std.proofs.lemmas.List.Sorted.{ranks_by, answers_always, IsPermutation-map}
 use Rattle.text_rules.specs.Names.{Name}
 use Rattle.device_model.specs.inner.Sorting.{numbered_from, NeighboursDiffer, IsFirstRepeat}
-use Rattle.device_model.proofs.Sorting.{itself, Ascends, Ascends-from_sort, Ascends-map}
+use Rattle.device_model.proofs.SortedLists.{itself, Ascends, Ascends-from_sort, Ascends-map}
 use Rattle.device_model.proofs.Steps.{Rises-sorted, repeated-sorted, IsTwice-sorted, sorted_distinct-sorted, map-numbered_from}
 use Rattle.device_model.proofs.building.sorted_wires.Goals as goal
 

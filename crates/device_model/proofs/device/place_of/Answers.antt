@@ -3,8 +3,8 @@ use Rattle.std.specs.Result.{result_ok}
 use Rattle.std.proofs.lemmas.Fn.{always_returns_same}
 use Rattle.std.proofs.lemmas.List.{map-id}
 use Rattle.device_model.specs.Devices.{place_of}
-use Rattle.device_model.proofs.Sorting.{itself, Rises-from_names_rise}
-use Rattle.device_model.proofs.Looking.{order, looked_up}
+use Rattle.device_model.proofs.SortedLists.{itself, Rises-from_names_rise}
+use Rattle.device_model.proofs.NameSearch.{order, looked_up}
 use Rattle.device_model.proofs.device.place_of.Goals as goal
 use Rattle.device_model.proofs.device.place_of.Goals.{After-binary_search_by}
 

@@ -3,7 +3,7 @@ use Rattle.std.proofs.Common.{sym, subst}
 use Rattle.session_rules.specs.GraphSystems.{system_of}
 use Rattle.device_files.specs.Checking.{graph_in}
 use Rattle.device_files.specs.Refusals.{told_by}
-use Rattle.device_files.proofs.Refusing.{refused_then}
+use Rattle.device_files.proofs.KeptRefusals.{refused_then}
 use Rattle.diag_cli.specs.Asking.{asked}
 use Rattle.diag_cli.specs.Courses.{served_or_refused}
 use Rattle.diag_cli.specs.inner.Serving.{IsFor}

@@ -8,7 +8,7 @@ use Rattle.device_files.specs.Choices.{Weighed, clauses_by}
 use Rattle.device_files.specs.Weighing.{within}
 use Rattle.device_files.specs.Refusals.{told_by}
 use Rattle.diag_cli.proofs.FewBits.{fault_through, fulfils_through}
-use Rattle.device_files.proofs.Choosing.{by_any, has_sum, list_gives}
+use Rattle.device_files.proofs.ForestChoices.{by_any, has_sum, list_gives}
 use Rattle.diag_cli.proofs.ServedDevices.{all_servable}
 use Rattle.diag_cli.proofs.besides.graph_in_few_bits.Goals as goal
 

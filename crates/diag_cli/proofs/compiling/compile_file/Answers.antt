@@ -2,8 +2,8 @@ use Rattle.std.proofs.Common.{refl, Result, Ok, Err}
 use Rattle.device_files.specs.Refusals.{told_by}
 use Rattle.diag_cli.proofs.WholeGraphs.{graph_gives}
 use Rattle.device_files.specs.Choices.{clauses_by}
-use Rattle.device_files.proofs.Choosing.{by_any, by_same}
-use Rattle.device_files.proofs.Refusing.{refused_told, within_refused}
+use Rattle.device_files.proofs.ForestChoices.{by_any, by_same}
+use Rattle.device_files.proofs.KeptRefusals.{refused_told, within_refused}
 use Rattle.diag_cli.proofs.compiling.compile_file.Goals as goal
 
 pub returns-in-Ok-write_nnf-clause-said : goal.returns-in-Ok-write_nnf-clause-said

@@ -3,8 +3,8 @@ use Rattle.std.proofs.lemmas.Result.{err_from_is_err_and}
 use Rattle.device_files.specs.Choices.{clauses_by}
 use Rattle.device_files.specs.Describing.{described}
 use Rattle.device_files.specs.Refusals.{told_by}
-use Rattle.device_files.proofs.Choosing.{by_any, by_same}
-use Rattle.device_files.proofs.Refusing.{refused_then}
+use Rattle.device_files.proofs.ForestChoices.{by_any, by_same}
+use Rattle.device_files.proofs.KeptRefusals.{refused_then}
 use Rattle.diag_cli.specs.Courses.{if_within, served_device, served_or_refused}
 use Rattle.diag_cli.specs.inner.Serving.{IsFor}
 use Rattle.diag_cli.proofs.Services.{refused_for, service_for, none_open}

@@ -2,8 +2,8 @@ use Rattle.std.proofs.Common.{sym, subst}
 use Rattle.std.proofs.lemmas.Result.{err_from_is_err_and}
 use Rattle.device_files.specs.Choices.{weighed_by}
 use Rattle.device_files.specs.Refusals.{told_by}
-use Rattle.device_files.proofs.Choosing.{by_any, by_same}
-use Rattle.device_files.proofs.Refusing.{refused_then}
+use Rattle.device_files.proofs.ForestChoices.{by_any, by_same}
+use Rattle.device_files.proofs.KeptRefusals.{refused_then}
 use Rattle.diag_cli.specs.Courses.{served_frames, served_or_refused}
 use Rattle.diag_cli.specs.Frames.{sequential_in, if_unrolled}
 use Rattle.diag_cli.specs.inner.Serving.{IsFor}

@@ -7,7 +7,7 @@ use Rattle.session_core.specs.Services.{CanList, CanDraw}
 use Rattle.device_files.specs.Choices.{weighed_by}
 use Rattle.device_files.specs.Weighing.{within}
 use Rattle.device_files.specs.Refusals.{told_by}
-use Rattle.device_files.proofs.Choosing.{by_any, has_sum}
+use Rattle.device_files.proofs.ForestChoices.{by_any, has_sum}
 use Rattle.diag_cli.specs.Besides.{in_few_bits}
 use Rattle.diag_cli.proofs.FewBits.{fault_through}
 use Rattle.diag_cli.proofs.ServedFrames.{not_unrolled_told, unrolled_gives, many_parts, many_costs, frames_answer}

@@ -1,6 +1,6 @@
 use Rattle.std.proofs.lemmas.Result.{err_from_is_err_and}
 use Rattle.device_files.specs.Weighing.{within}
-use Rattle.device_files.proofs.Choosing.{by_any, has_sum, list_gives}
+use Rattle.device_files.proofs.ForestChoices.{by_any, has_sum, list_gives}
 use Rattle.diag_cli.specs.inner.Compiling.{FindsGraph}
 use Rattle.diag_cli.proofs.ServedDevices.{found_or_refused}
 use Rattle.diag_cli.proofs.graphs.graph_within.Goals as goal

@@ -5,7 +5,7 @@ use Rattle.session_rules.specs.Items.{Item}
 use Rattle.session_rules.specs.Spelling.{Writes, WritesPart}
 use Rattle.device_files.specs.Inspecting.{count_line}
 use Rattle.diag_cli.specs.Loads.{names_line}
-use Rattle.device_files.proofs.Failing.{replies_then, replies_cut}
+use Rattle.device_files.proofs.FailedWrites.{replies_then, replies_cut}
 use Rattle.diag_cli.proofs.loading.put_listed.Goals as goal
 
 abbrev minimum : ℕ → Item

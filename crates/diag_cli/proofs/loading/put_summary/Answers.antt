@@ -4,7 +4,7 @@ use Rattle.session_rules.specs.Spelling.{Writes, WritesPart}
 use Rattle.diag_cli.specs.declared.summing.Summary.{Summary}
 use Rattle.device_files.specs.Inspecting.{count_line}
 use Rattle.diag_cli.specs.inner.Loading.{found_items}
-use Rattle.device_files.proofs.Failing.{replies_then, replies_cut}
+use Rattle.device_files.proofs.FailedWrites.{replies_then, replies_cut}
 use Rattle.diag_cli.proofs.LoadedAdders.{have_found}
 use Rattle.diag_cli.proofs.loading.put_summary.Goals as goal
 

@@ -5,7 +5,7 @@ use Rattle.diag_cli.specs.Courses.{course_by}
 use Rattle.diag_cli.specs.inner.Serving.{FollowsUnlessMemory}
 use Rattle.diag_cli.proofs.Shown.{at_ends, run_shown}
 use Rattle.diag_cli.proofs.Headline.{same_file, run_loaded, run_unread}
-use Rattle.device_files.proofs.Choosing.{by_any, by_same}
+use Rattle.device_files.proofs.ForestChoices.{by_any, by_same}
 use Rattle.diag_cli.proofs.Unread.{unread}
 use Rattle.diag_cli.proofs.program.run_over.Goals as goal
 

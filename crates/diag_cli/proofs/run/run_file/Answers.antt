@@ -1,4 +1,4 @@
-use Rattle.device_files.proofs.Choosing.{by_any, by_same}
+use Rattle.device_files.proofs.ForestChoices.{by_any, by_same}
 use Rattle.diag_cli.proofs.Shown.{told_shown}
 use Rattle.diag_cli.proofs.run.run_file.Goals as goal
 

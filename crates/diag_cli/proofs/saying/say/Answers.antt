@@ -1,5 +1,5 @@
 use Rattle.std.proofs.Common.{refl}
-use Rattle.device_files.proofs.Failing.{line_given, line_begun}
+use Rattle.device_files.proofs.FailedWrites.{line_given, line_begun}
 use Rattle.diag_cli.proofs.saying.say.Goals as goal
 
 pub returns-in-Ok-clause-said : goal.returns-in-Ok-clause-said

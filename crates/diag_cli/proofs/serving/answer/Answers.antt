@@ -1,13 +1,13 @@
 use Rattle.std.proofs.Common.{[], inl, inr, refl, arith, codes}
 use Rattle.text_rules.specs.TextLines.{cut, whole_lines, last_line, all_lines}
-use Rattle.diag_edge.proofs.Growing.{consumes_none}
+use Rattle.diag_edge.proofs.GrownBytes.{consumes_none}
 use Rattle.session_rules.specs.GraphSystems.{system_of}
 use Rattle.session_core.specs.Services.{moves_of}
 use Rattle.diag_cli.specs.Courses.{Ended, Failed, Cut, read_error, answers_of}
 use Rattle.device_files.specs.Output.{too_long_line}
 use Rattle.diag_cli.specs.declared.serving.TheConstants.{SCRIPT_LIMIT}
-use Rattle.device_files.proofs.Failing.{gives_all, gives_after}
-use Rattle.diag_cli.proofs.Running.{breaks_behind, breaks_at_once, ready_then, ready_begun, lines_begun, first_given, answered_first, stopped_at_once, stopped_at_end}
+use Rattle.device_files.proofs.FailedWrites.{gives_all, gives_after}
+use Rattle.diag_cli.proofs.AnsweredScripts.{breaks_behind, breaks_at_once, ready_then, ready_begun, lines_begun, first_given, answered_first, stopped_at_once, stopped_at_end}
 use Rattle.diag_cli.proofs.Shown.{served_shown}
 use Rattle.diag_cli.proofs.serving.answer.Goals as goal
 

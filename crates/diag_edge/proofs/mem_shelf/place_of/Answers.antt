@@ -1,7 +1,7 @@
 use Rattle.std.proofs.Common.{◌≡◌, ◌∙◌, sym, refl, slice_get, Some, arith}
 use Rattle.std.proofs.lemmas.Grind.{common_steps}
 use Rattle.std.proofs.lemmas.Option.{slice_get_read}
-use Rattle.diag_edge.proofs.Holding.{held_in-drop}
+use Rattle.diag_edge.proofs.HeldFiles.{held_in-drop}
 use Rattle.diag_edge.proofs.mem_shelf.place_of.Goals as goal
 
 pub returns-then-eq-clause-some : goal.returns-then-eq-clause-some

@@ -13,7 +13,7 @@ use Rattle.diagnosis_lister.proofs.Faults.{faults-at, faults-back, faults-all}
 use Rattle.diagnosis_lister.proofs.OpenMarks.{marked-odd, marked-even, word-marked, word-unmarked, length-marked}
 use Rattle.diagnosis_lister.proofs.Allowing.{allows-within}
 use Rattle.diagnosis_lister.proofs.Points.{follows-start, follows-back, none-held, none-tried, leaves-tried, tried-refines}
-use Rattle.diagnosis_lister.proofs.Answering.{has-least, least-has}
+use Rattle.diagnosis_lister.proofs.FirstAndNext.{has-least, least-has}
 use Rattle.diagnosis_lister.proofs.leaving.leave.Goals as goal
 use Rattle.diagnosis_lister.proofs.leaving.leave.Goals.{then-mark-ge2, else-mark-ge2, then-mark-eq1+then-not-is_false+else-reaches, else-mark-eq1, else-mark-eq1-via-then-mark-eq1+else-not-is_false, else-mark-eq1-via-else-mark-eq1}
 

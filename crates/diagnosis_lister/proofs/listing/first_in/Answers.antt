@@ -4,7 +4,7 @@ use Rattle.diagnosis_lister.specs.Listing.{fault_count}
 use Rattle.diagnosis_lister.specs.inner.Fixing.{fixed_bits}
 use Rattle.diagnosis_lister.proofs.Faults.{faults-few}
 use Rattle.diagnosis_lister.proofs.OpenMarks.{opened-again}
-use Rattle.diagnosis_lister.proofs.Answering.{first-diagnosis, none-first, first-passes}
+use Rattle.diagnosis_lister.proofs.FirstAndNext.{first-diagnosis, none-first, first-passes}
 use Rattle.diagnosis_lister.proofs.listing.first_in.Goals as goal
 
 pub returns-in_err-fewest-clause-first : goal.returns-in_err-fewest-clause-first

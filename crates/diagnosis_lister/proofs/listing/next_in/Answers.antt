@@ -5,7 +5,7 @@ use Rattle.diagnosis_lister.specs.inner.Fixing.{IsFirst, NoneAfter, Leaves, fixe
 use Rattle.diagnosis_lister.specs.inner.OpenMarks.{marked_bits}
 use Rattle.diagnosis_lister.proofs.Faults.{faults-few}
 use Rattle.diagnosis_lister.proofs.OpenMarks.{unmarked-state, opened-again, length-bits, length-marked}
-use Rattle.diagnosis_lister.proofs.Answering.{none-next, no-next, step-end, step-found, next-diagnosis, first-passes}
+use Rattle.diagnosis_lister.proofs.FirstAndNext.{none-next, no-next, step-end, step-found, next-diagnosis, first-passes}
 use Rattle.diagnosis_lister.proofs.Allowing.{allows-within}
 use Rattle.diagnosis_lister.proofs.Points.{leaves-first}
 use Rattle.state_rules.specs.Graphs.{Graph}

@@ -4,13 +4,13 @@ use Rattle.std.proofs.lemmas.List.Elements.{All-set}
 use Rattle.conditioner.specs.Models.{least_under}
 use Rattle.minimiser.specs.LeastStates.{Suspect, OkBelow}
 use Rattle.minimiser.proofs.Models.{least-passes, passes-least}
-use Rattle.minimiser.proofs.Sweeping.{some-least}
+use Rattle.minimiser.proofs.SpreadMarks.{some-least}
 use Rattle.diagnosis_lister.specs.Listing.{fault_count}
 use Rattle.diagnosis_lister.specs.inner.Fixing.{fixed_bits}
 use Rattle.diagnosis_lister.proofs.Faults.{faults-kept, faults-added}
 use Rattle.diagnosis_lister.proofs.Allowing.{allows-within}
-use Rattle.diagnosis_lister.proofs.Fixing.{FixesOk, Settles-start, settles-ok, settles-found, settles-end}
-use Rattle.diagnosis_lister.proofs.Answering.{has-least, least-has, first-least}
+use Rattle.diagnosis_lister.proofs.FixedParts.{FixesOk, Settles-start, settles-ok, settles-found, settles-end}
+use Rattle.diagnosis_lister.proofs.FirstAndNext.{has-least, least-has, first-least}
 use Rattle.diagnosis_lister.proofs.settling.settle.Goals as goal
 
 pub loop-part-init : goal.loop-part-init

@@ -4,7 +4,7 @@ use Rattle.minimiser.proofs.Models.{LeastIs}
 use Rattle.diagnosis_lister.specs.Listing.{fault_count}
 use Rattle.diagnosis_lister.specs.inner.Fixing.{fixed_bits}
 use Rattle.minimiser.specs.LeastStates.{ModelWithin}
-use Rattle.diagnosis_lister.proofs.Fixing.{Settles}
+use Rattle.diagnosis_lister.proofs.FixedParts.{Settles}
 use Rattle.diagnosis_lister.proofs.settling.settle.Given as goal
 
 -- the parts before one are fixed, and the values are the costs of the nodes

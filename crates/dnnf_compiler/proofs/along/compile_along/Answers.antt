@@ -4,7 +4,7 @@ use Rattle.elimination_forests.specs.declared.steps.Step.{Step}
 use Rattle.elimination_forests.specs.Forests.{Forest, width}
 use Rattle.dnnf_compiler.specs.Along.{IsWay}
 use Rattle.dnnf_compiler.specs.inner.Placing.{IsReady}
-use Rattle.dnnf_compiler.proofs.Climbing.{spots_at, start, IsNext, IsClimbing, forks_long, next_way, climb_first, climb_ready, climb_more, root_held, IsRoot, root_is}
+use Rattle.dnnf_compiler.proofs.WayUp.{spots_at, start, IsNext, IsClimbing, forks_long, next_way, climb_first, climb_ready, climb_more, root_held, IsRoot, root_is}
 use Rattle.dnnf_compiler.specs.inner.Meeting.{taken, AreHeld}
 use Rattle.dnnf_compiler.proofs.along.compile_along.Goals as goal
 use Rattle.dnnf_compiler.proofs.along.compile_along.Goals.{After-index-forks-place, After-deref-2, After-as_slice}

@@ -1,6 +1,6 @@
 use Rattle.elimination_forests.specs.Forests.{Forest, width}
 use Rattle.dnnf_compiler.specs.Along.{IsWay}
-use Rattle.dnnf_compiler.proofs.Climbing.{spots_at, start, IsClimbing}
+use Rattle.dnnf_compiler.proofs.WayUp.{spots_at, start, IsClimbing}
 use Rattle.dnnf_compiler.proofs.along.compile_along.Given as goal
 
 abbrev pub invariant-loop-place : goal.invariant-loop-place

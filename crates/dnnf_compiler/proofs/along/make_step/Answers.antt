@@ -1,6 +1,6 @@
 use Rattle.std.proofs.Common.{[], sym, subst}
 use Rattle.dnnf_compiler.specs.inner.Meeting.{IsPlaceable, AreChoices}
-use Rattle.dnnf_compiler.proofs.Stacking.{enough, placeable, raised}
+use Rattle.dnnf_compiler.proofs.PlaceNodes.{enough, placeable, raised}
 use Rattle.dnnf_compiler.proofs.along.make_step.Goals as goal
 
 pub take_top-requires : goal.take_top-requires

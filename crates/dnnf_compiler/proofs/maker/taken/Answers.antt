@@ -3,7 +3,7 @@ use Rattle.std.specs.Prelude.{Vec}
 use Rattle.std.specs.declared.alloc.Global.{Global}
 use Rattle.std.proofs.lemmas.List.{drop_all, append-nil, length-drop}
 use Rattle.dnnf_compiler.specs.inner.Meeting.{taken}
-use Rattle.dnnf_compiler.proofs.Taking.{length-held}
+use Rattle.dnnf_compiler.proofs.WayNodes.{length-held}
 use Rattle.dnnf_compiler.proofs.maker.taken.Goals as goal
 
 pub bounds-levels-i : goal.bounds-levels-i

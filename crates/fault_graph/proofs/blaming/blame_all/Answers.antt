@@ -10,7 +10,7 @@ use Rattle.diagnosis_lister.proofs.Faults.{faults-few}
 use Rattle.probe_report.specs.declared.verdicts.Blame.TheVariants.{Inconsistent}
 use Rattle.fault_graph.specs.inner.Presumed.{IsPresumed}
 use Rattle.probe_report.proofs.Blames.{is-inconsistent}
-use Rattle.fault_graph.proofs.Presuming.{first-passes-all, first-same, presumed-right}
+use Rattle.fault_graph.proofs.PresumedParts.{first-passes-all, first-same, presumed-right}
 use Rattle.fault_graph.proofs.blaming.blame_all.Goals as goal
 
 pub returns-in_default-clause-blame : goal.returns-in_default-clause-blame

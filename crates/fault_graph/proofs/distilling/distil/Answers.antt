@@ -1,11 +1,11 @@
 use Rattle.std.proofs.Common.{◌≡◌, ◌+◌, ◌-◌, ◌<◌, ℕ, List, [], ◌∷◌, ◌++◌, length, get_or, Some, refl, ap, sym, ◌∙◌, subst, arith}
 use Rattle.std.proofs.lemmas.Option.{slice_get-get_or}
 use Rattle.state_rules.specs.Graphs.{true_node, node_at}
-use Rattle.minimiser.proofs.Sweeping.{kids_before}
+use Rattle.minimiser.proofs.SpreadMarks.{kids_before}
 use Rattle.fault_graph.specs.inner.Filled.{Filled}
 use Rattle.fault_graph.specs.inner.Rows.{kept_kids, kept_node}
 use Rattle.fault_graph.proofs.Roots.{IsWhole, free-root}
-use Rattle.fault_graph.proofs.Building.{IsBuilt, has-room, built-past, built-added, root-added}
+use Rattle.fault_graph.proofs.SmallGraphs.{IsBuilt, has-room, built-past, built-added, root-added}
 use Rattle.fault_graph.proofs.distilling.distil.Goals as goal
 use Rattle.fault_graph.proofs.distilling.distil.Goals.{then-places-at-eq-MARKED, else-places-at-eq-MARKED}
 

@@ -1,5 +1,5 @@
 use Rattle.std.proofs.Common.{◌≡◌}
-use Rattle.fault_graph.proofs.Building.{IsBuilt}
+use Rattle.fault_graph.proofs.SmallGraphs.{IsBuilt}
 use Rattle.fault_graph.proofs.distilling.distil.Given as goal
 
 -- the nodes before one were met; the marks are what the places were at first

@@ -1,8 +1,8 @@
 use Rattle.std.proofs.Common.{◌≡◌, ◌+◌, ◌-◌, ℕ, get_or, subst, ◌∙◌, arith}
 use Rattle.std.proofs.Math.ListN.{length-set}
-use Rattle.minimiser.proofs.Sweeping.{kid_before, kids_before}
+use Rattle.minimiser.proofs.SpreadMarks.{kid_before, kids_before}
 use Rattle.fault_graph.specs.inner.Marks.{mark_of, AreMarks}
-use Rattle.fault_graph.proofs.Spreading.{marks-met}
+use Rattle.fault_graph.proofs.MarkSpread.{marks-met}
 use Rattle.fault_graph.proofs.marking.mark.Goals as goal
 
 pub mark_kids-requires-clause-kids : goal.mark_kids-requires-clause-kids

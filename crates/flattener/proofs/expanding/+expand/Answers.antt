@@ -4,8 +4,8 @@ use Rattle.device_model.specs.declared.limits.TheConstants.{WIRE_LIMIT}
 use Rattle.flattener.specs.declared.expanding.Flat.{Flat}
 use Rattle.flattener.specs.Flat.{below}
 use Rattle.flattener.specs.inner.Expanding.{Grows, wire_at, are_within, are_short, position_of, behind}
-use Rattle.flattener.proofs.Naming.{behind-prefix}
-use Rattle.flattener.proofs.Growing.{own_behind, block_at, block_read, part_read, own_short, start_grows, all_grow, args_few, path_short, so_far, before_here, CanExpand-inner, gate_grows, type_grows, instance_grows}
+use Rattle.flattener.proofs.PathNames.{behind-prefix}
+use Rattle.flattener.proofs.ExpandedInstances.{own_behind, block_at, block_read, part_read, own_short, start_grows, all_grow, args_few, path_short, so_far, before_here, CanExpand-inner, gate_grows, type_grows, instance_grows}
 use Rattle.flattener.proofs.expanding.+expand.Goals as goal
 use Rattle.flattener.proofs.expanding.+expand.Goals.{in-Gate+in_ok-push_part-in-Gate, in-Shape+in_ok-push_part-in-Shape, in-Block+in_ok-expand-in-Block}
 

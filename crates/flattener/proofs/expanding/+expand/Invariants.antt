@@ -1,6 +1,6 @@
 use Rattle.std.proofs.Common.{◌≡◌, map}
 use Rattle.flattener.specs.inner.Expanding.{Grows, wire_at, prefix_of}
-use Rattle.flattener.proofs.Growing.{so_far}
+use Rattle.flattener.proofs.ExpandedInstances.{so_far}
 use Rattle.flattener.proofs.expanding.+expand.Given as goal
 
 -- Blocks use only blocks before them.

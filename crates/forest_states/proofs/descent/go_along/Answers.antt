@@ -3,10 +3,10 @@ use Rattle.std.proofs.lemmas.Bool.{false≢true}
 use Rattle.std.proofs.lemmas.List.{length-map, length-set, length-replicate}
 use Rattle.forest_states.specs.inner.Walked.{stand_of, step_at, row_in, forks_of, forks_below, stands_below}
 use Rattle.forest_states.proofs.Numbers.{IsIndex}
-use Rattle.forest_states.proofs.Having.{index-is}
+use Rattle.forest_states.proofs.ClausesByVariable.{index-is}
 use Rattle.elimination_forests.specs.Forests.{leads_on}
 use Rattle.forest_states.proofs.Mapped.{ways-some, leads-push, if-some}
-use Rattle.forest_states.proofs.Going.{way-next, way-past, way-last, way-begun}
+use Rattle.forest_states.proofs.WayDown.{way-next, way-past, way-last, way-begun}
 use Rattle.forest_states.proofs.descent.go_along.Goals as goal
 use Rattle.forest_states.proofs.descent.go_along.Goals.{then-keep+in_ok-add_forks, else-keep}
 

@@ -2,7 +2,7 @@ use Rattle.std.proofs.Common.{◌≡◌, ◌≤◌, List, map, length, reverse, 
 use Rattle.elimination_forests.specs.declared.forks.Forks.{Forks}
 use Rattle.elimination_forests.specs.Forests.{Forest, steps_of, is_forest_of, leads_on}
 use Rattle.forest_states.specs.inner.Walked.{stand_of}
-use Rattle.forest_states.proofs.Going.{Way}
+use Rattle.forest_states.proofs.WayDown.{Way}
 use Rattle.forest_states.proofs.descent.go_along.Given as goal
 
 abbrev pub invariant-loop-at : goal.invariant-loop-at

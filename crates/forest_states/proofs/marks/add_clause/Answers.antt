@@ -3,7 +3,7 @@ use lib.IntN.{nat_abs}
 use Rattle.std.proofs.lemmas.Int.{to_z-of_z}
 use Rattle.std.proofs.lemmas.List.{get_or-map, length-map, map-set, length-set}
 use Rattle.clause_encoder.specs.Clauses.{var_of}
-use Rattle.forest_states.proofs.Having.{abs-var, had, has}
+use Rattle.forest_states.proofs.ClausesByVariable.{abs-var, had, has}
 use Rattle.forest_states.proofs.marks.add_clause.Goals as goal
 use Rattle.forest_states.proofs.marks.add_clause.Goals.{then-var-len+in_ok-push, else-var-len}
 

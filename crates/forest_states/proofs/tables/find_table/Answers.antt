@@ -4,7 +4,7 @@ use Rattle.std.proofs.lemmas.List.{take_all, drop_all, length-append, length-rep
 use Rattle.std.proofs.lemmas.List.Sums.{prefix_len-le-length}
 use Rattle.forest_states.specs.inner.Tables.{plain}
 use Rattle.forest_states.specs.inner.Walked.{entry_of, entry_at, after, met, entries_of, kept_of}
-use Rattle.forest_states.proofs.Meeting.{last-entries, last-kept, entries-next, kept-next, length-after}
+use Rattle.forest_states.proofs.MetClauses.{last-entries, last-kept, entries-next, kept-next, length-after}
 use Rattle.forest_states.proofs.tables.find_table.Goals as goal
 
 pub loop-number-preserved : goal.loop-number-preserved

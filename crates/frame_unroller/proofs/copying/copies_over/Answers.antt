@@ -1,6 +1,6 @@
 use Rattle.std.proofs.Common.{◌++◌, map, ap, ◌∙◌, arith}
 use Rattle.frame_unroller.specs.Times.{wire_at}
-use Rattle.frame_unroller.proofs.Pushing.{copies_more}
+use Rattle.frame_unroller.proofs.TimeCopies.{copies_more}
 use Rattle.frame_unroller.proofs.copying.copies_over.Goals as goal
 
 pub loop-time-preserved : goal.loop-time-preserved

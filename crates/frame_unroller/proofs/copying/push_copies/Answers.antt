@@ -4,7 +4,7 @@ use Rattle.std.specs.List.{flat_map, enumerate_from}
 use Rattle.device_model.specs.declared.component.Component.{Component}
 use Rattle.frame_unroller.specs.Unrolling.{Copy, input_time, copies_of}
 use Rattle.frame_unroller.specs.inner.Copying.{given_copy}
-use Rattle.frame_unroller.proofs.Pushing.{copy, copied, left_out}
+use Rattle.frame_unroller.proofs.TimeCopies.{copy, copied, left_out}
 use Rattle.frame_unroller.proofs.copying.push_copies.Goals as goal
 use Rattle.frame_unroller.proofs.copying.push_copies.Goals.{then-delays-place, else-delays-place, then-before-gt0+in_ok-copy_of+in_ok-push+in_ok-push-2, else-before-gt0}
 

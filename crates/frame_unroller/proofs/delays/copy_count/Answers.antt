@@ -1,7 +1,7 @@
 use Rattle.std.proofs.Common.{◌+◌, ◌*◌, not, length, ap, ◌∙◌, arith}
 use Rattle.std.specs.Prelude.{count_by}
 use Rattle.std.proofs.lemmas.List.{take_all}
-use Rattle.frame_unroller.proofs.Pushing.{length-copies}
+use Rattle.frame_unroller.proofs.TimeCopies.{length-copies}
 use Rattle.frame_unroller.proofs.delays.copy_count.Goals as goal
 
 pub returns : goal.returns

@@ -5,7 +5,7 @@ use Rattle.state_rules.specs.Assignments.{Assignment}
 use Rattle.clause_encoder.specs.Clauses.{ClauseList, all_hold}
 use Rattle.clause_encoder.specs.Replacing.{variable_for}
 use Rattle.frame_unroller.specs.Unrolling.{shared_variables}
-use Rattle.frame_unroller.proofs.Sharing.{other_more, length-shared, variable-within}
+use Rattle.frame_unroller.proofs.SharedVariables.{other_more, length-shared, variable-within}
 use Rattle.frame_unroller.proofs.unrolling.shared.Goals as goal
 
 pub loop-other-preserved : goal.loop-other-preserved

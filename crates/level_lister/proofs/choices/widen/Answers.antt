@@ -1,7 +1,7 @@
 use Rattle.std.proofs.Common.{length, arith}
-use Rattle.level_lister.proofs.Growing.{grown, begun, further, ended, not_yet}
-use Rattle.level_lister.proofs.Reaching.{wider_is}
-use Rattle.level_lister.proofs.Meeting.{choice_is}
+use Rattle.level_lister.proofs.PartVariables.{grown, begun, further, ended, not_yet}
+use Rattle.level_lister.proofs.TestCosts.{wider_is}
+use Rattle.level_lister.proofs.ConditionCosts.{choice_is}
 use Rattle.level_lister.proofs.choices.widen.Goals as goal
 
 pub loop-part-init : goal.loop-part-init

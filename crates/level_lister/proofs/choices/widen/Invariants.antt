@@ -3,7 +3,7 @@ use Rattle.state_rules.specs.Assignments.{Assignment}
 use Rattle.part_sets.specs.Numbers.{has_number}
 use Rattle.part_sets.specs.PartSets.{ArePartsOf}
 use Rattle.level_lister.specs.inner.CostSets.{IsCostSet}
-use Rattle.level_lister.proofs.Growing.{grown}
+use Rattle.level_lister.proofs.PartVariables.{grown}
 use Rattle.level_lister.proofs.choices.widen.Given as goal
 
 -- the parts before the place are free

@@ -1,6 +1,6 @@
 use Rattle.std.proofs.Common.{◌≡◌, ℕ, ◌*◌, List, length, sym, subst, arith}
 use Rattle.level_lister.specs.inner.CostSets.{AreSums}
-use Rattle.level_lister.proofs.Faulting.{both_and}
+use Rattle.level_lister.proofs.FaultCosts.{both_and}
 use Rattle.level_lister.proofs.fault_pass.put_both_sums.Goals as goal
 
 pub returns : goal.returns

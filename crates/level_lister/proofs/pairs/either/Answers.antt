@@ -1,4 +1,4 @@
-use Rattle.level_lister.proofs.Telling.{tells_or}
+use Rattle.level_lister.proofs.TwoWords.{tells_or}
 use Rattle.level_lister.proofs.pairs.either.Goals as goal
 
 pub returns : goal.returns

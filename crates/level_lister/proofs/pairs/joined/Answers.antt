@@ -1,6 +1,6 @@
 use Rattle.std.proofs.Common.{◌+◌, ◌*◌, ◌<◌, ◌≤◌, subst}
 use Rattle.level_lister.specs.inner.Pairs.{IsSpread}
-use Rattle.level_lister.proofs.Telling.{tells_and}
+use Rattle.level_lister.proofs.TwoWords.{tells_and}
 use Rattle.level_lister.proofs.pairs.joined.Goals as goal
 
 pub returns : goal.returns

@@ -1,6 +1,6 @@
 use Rattle.std.proofs.Common.{◌+◌, subst, sym, arith}
 use Rattle.level_lister.specs.inner.Pairs.{IsSpread}
-use Rattle.level_lister.proofs.Spreading.{spread_none, spread_more, spread_skip, spread_end}
+use Rattle.level_lister.proofs.MovedBits.{spread_none, spread_more, spread_skip, spread_end}
 use Rattle.level_lister.proofs.pairs.spread.Goals as goal
 use Rattle.level_lister.proofs.pairs.spread.Goals.{then-has_bit, else-has_bit}
 

@@ -5,9 +5,9 @@ use Rattle.level_lister.specs.inner.CostSets.{IsCostSet}
 use Rattle.part_sets.specs.PartSets.{SameBelow}
 use Rattle.scratch_pool.proofs.Counted.{block-below}
 use Rattle.part_sets.proofs.Kids.{kid-below}
-use Rattle.level_lister.proofs.Reaching.{empty_is, wider_is}
-use Rattle.level_lister.proofs.Meeting.{or_is}
-use Rattle.level_lister.proofs.Faulting.{fault_or, fault_wider}
+use Rattle.level_lister.proofs.TestCosts.{empty_is, wider_is}
+use Rattle.level_lister.proofs.ConditionCosts.{or_is}
+use Rattle.level_lister.proofs.FaultCosts.{fault_or, fault_wider}
 use Rattle.level_lister.proofs.Kids.{kid_full, or_next, or_end}
 use Rattle.level_lister.proofs.FaultNodes.{first_parts, never_faults}
 use Rattle.level_lister.proofs.pass.put_full.Goals as goal

@@ -2,7 +2,7 @@ use Rattle.std.proofs.Common.{◌≡◌, ℕ, ◌+◌, ◌-◌, get_or, ◌∙�
 use Rattle.std.proofs.Math.ListN.{length-set}
 use Rattle.minimiser.specs.inner.Swept.{is_kid}
 use Rattle.minimiser.specs.inner.Outside.{lowered, others_cost, AreOutsideCosts}
-use Rattle.minimiser.proofs.Sweeping.{kids_before}
+use Rattle.minimiser.proofs.SpreadMarks.{kids_before}
 use Rattle.minimiser.proofs.OutsideCosts.{outside-met}
 use Rattle.minimiser.proofs.outside.put_outside_costs.Goals as goal
 

@@ -1,7 +1,7 @@
 use Rattle.std.proofs.Common.{arith}
 use Rattle.conditioner.specs.Models.{least_under}
 use Rattle.minimiser.proofs.OnePass.{length-least_costs}
-use Rattle.minimiser.proofs.Sweeping.{some-least, are-values, root-low, flagged}
+use Rattle.minimiser.proofs.SpreadMarks.{some-least, are-values, root-low, flagged}
 use Rattle.minimiser.proofs.suspects.find_suspects.Goals as goal
 
 pub sweep-requires-clause-room : goal.sweep-requires-clause-room

@@ -1,5 +1,5 @@
 use Rattle.minimiser.specs.inner.Swept.{suspect_at}
-use Rattle.minimiser.proofs.Sweeping.{AreFlagged}
+use Rattle.minimiser.proofs.SpreadMarks.{AreFlagged}
 use Rattle.minimiser.proofs.suspects.find_suspects.Given as goal
 
 -- the nodes so far

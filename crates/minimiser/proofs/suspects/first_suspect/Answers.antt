@@ -2,7 +2,7 @@ use Rattle.std.proofs.Common.{◌+◌, sym, ◌∙◌, subst, arith}
 use Rattle.minimiser.specs.LeastStates.{OkBelow}
 use Rattle.conditioner.specs.Models.{least_under}
 use Rattle.minimiser.proofs.OnePass.{length-least_costs}
-use Rattle.minimiser.proofs.Sweeping.{IsLeastSuspect, some-least, are-values, root-low, ok-before, first-suspect, first-same, first-less}
+use Rattle.minimiser.proofs.SpreadMarks.{IsLeastSuspect, some-least, are-values, root-low, ok-before, first-suspect, first-same, first-less}
 use Rattle.minimiser.proofs.suspects.first_suspect.Goals as goal
 use Rattle.minimiser.proofs.suspects.first_suspect.Goals.{in-Some, in_default}
 

@@ -1,5 +1,5 @@
 use Rattle.minimiser.specs.inner.Swept.{suspect_at}
-use Rattle.minimiser.proofs.Sweeping.{IsLeastSuspect}
+use Rattle.minimiser.proofs.SpreadMarks.{IsLeastSuspect}
 use Rattle.minimiser.proofs.suspects.first_suspect.Given as goal
 
 -- the nodes so far

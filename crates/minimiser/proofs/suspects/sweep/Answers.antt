@@ -1,7 +1,7 @@
 use Rattle.std.proofs.Common.{◌≡◌, ◌+◌, ◌-◌, ℕ, get_or, subst, sym, ◌∙◌, arith}
 use Rattle.std.proofs.Math.ListN.{length-set}
 use Rattle.minimiser.specs.inner.Swept.{IsSwept, spread_value}
-use Rattle.minimiser.proofs.Sweeping.{kid_before, kids_before, swept-met}
+use Rattle.minimiser.proofs.SpreadMarks.{kid_before, kids_before, swept-met}
 use Rattle.minimiser.proofs.suspects.sweep.Goals as goal
 
 pub spread-requires-clause-kids : goal.spread-requires-clause-kids

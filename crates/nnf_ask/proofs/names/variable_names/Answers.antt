@@ -2,7 +2,7 @@ use Rattle.std.proofs.Common.{◌+◌, ◌++◌, [], ◌∷◌, length, refl, ap
 use Rattle.std.proofs.lemmas.List.FromFn.{map-range_with_len_more}
 use Rattle.text_rules.specs.Names.{names_rise}
 use Rattle.nnf_ask.specs.Asking.{five_digits}
-use Rattle.nnf_ask.proofs.Naming.{variable_names-rise, length-variable_names}
+use Rattle.nnf_ask.proofs.VariableNames.{variable_names-rise, length-variable_names}
 use Rattle.nnf_ask.proofs.names.variable_names.Goals as goal
 
 pub loop-place-preserved : goal.loop-place-preserved

@@ -1,6 +1,6 @@
 use Rattle.std.proofs.Common.{◌≡◌, ◌++◌, ◌+◌, ◌*◌, ◌-◌, ◌≤◌, length, take, drop, ap, sym, ◌∙◌, subst, arith}
 use Rattle.nnf_text.specs.inner.Sharing.{FirstOf}
-use Rattle.nnf_text.proofs.Marking.{earlier-first, take-window}
+use Rattle.nnf_text.proofs.ColumnWords.{earlier-first, take-window}
 use Rattle.nnf_text.proofs.FirstShared.{FirstOf-all}
 use Rattle.std.proofs.lemmas.List.{take_all, length-take, length-append, length-drop}
 use Rattle.nnf_text.proofs.sharing.first_shared.Goals as goal

@@ -1,7 +1,7 @@
 use Rattle.std.proofs.Common.{◌<◌, length, refl, ◌∙◌, arith}
 use Rattle.state_rules.specs.Graphs.{node_at, kind_fits}
 use Rattle.state_rules.proofs.NodesFit.{fits-at}
-use Rattle.nnf_text.proofs.Marking.{IsWord-of, have_words, marked_more, marked_inside, marked_first, marked_all}
+use Rattle.nnf_text.proofs.ColumnWords.{IsWord-of, have_words, marked_more, marked_inside, marked_first, marked_all}
 use Rattle.nnf_text.proofs.sharing.mark.Goals as goal
 
 pub word_of-word-requires-clause-kids : goal.word_of-word-requires-clause-kids

@@ -1,5 +1,5 @@
 use Rattle.std.proofs.Common.{◌≡◌, length}
-use Rattle.nnf_text.proofs.Marking.{IsMarked}
+use Rattle.nnf_text.proofs.ColumnWords.{IsMarked}
 use Rattle.nnf_text.proofs.sharing.mark.Given as goal
 
 -- the nodes before this one are marked

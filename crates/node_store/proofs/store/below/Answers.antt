@@ -3,7 +3,7 @@ use Rattle.std.specs.Prelude.{slice_get}
 use Rattle.state_rules.specs.Bits.{bit_in}
 use Rattle.node_store.specs.inner.Keeping.{shown}
 use Rattle.node_store.specs.inner.Freezing.{IsClosedFrom, IsKidOfMarked}
-use Rattle.node_store.proofs.Marking.{shown_get, length-shown, written_bits, marks_more, only_more}
+use Rattle.node_store.proofs.NodesBelow.{shown_get, length-shown, written_bits, marks_more, only_more}
 use Rattle.node_store.proofs.store.below.Goals as goal
 use Rattle.node_store.proofs.store.below.Goals.{After-as_slice, After-mark}
 

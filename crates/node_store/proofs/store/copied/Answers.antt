@@ -3,8 +3,8 @@ use Rattle.std.specs.Prelude.{slice_get, slice_index}
 use Rattle.state_rules.specs.Graphs.{Node}
 use Rattle.node_store.specs.inner.Keeping.{shown}
 use Rattle.node_store.specs.inner.Freezing.{IsCopied}
-use Rattle.node_store.proofs.Copying.{before, left_out, taken}
-use Rattle.node_store.proofs.Marking.{shown_at, the_at, length-shown}
+use Rattle.node_store.proofs.NodeCopies.{before, left_out, taken}
+use Rattle.node_store.proofs.NodesBelow.{shown_at, the_at, length-shown}
 use Rattle.node_store.proofs.store.copied.Goals as goal
 use Rattle.node_store.proofs.store.copied.Goals.{After-deref}
 

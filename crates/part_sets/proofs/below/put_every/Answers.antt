@@ -1,4 +1,4 @@
-use Rattle.part_sets.proofs.Joining.{every_more}
+use Rattle.part_sets.proofs.JoinedSets.{every_more}
 use Rattle.part_sets.proofs.below.put_every.Goals as goal
 
 pub loop-number-preserved : goal.loop-number-preserved

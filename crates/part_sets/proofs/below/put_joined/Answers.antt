@@ -1,6 +1,6 @@
 use Rattle.std.proofs.Common.{◌≡◌, length, get_or, ◌||◌, ◌∙◌, ap, arith}
 use Rattle.part_sets.specs.Numbers.{has_number, set_at}
-use Rattle.part_sets.proofs.Joining.{joined_more}
+use Rattle.part_sets.proofs.JoinedSets.{joined_more}
 use Rattle.part_sets.proofs.below.put_joined.Goals as goal
 
 pub loop-kid-preserved : goal.loop-kid-preserved

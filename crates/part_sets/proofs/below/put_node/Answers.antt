@@ -1,7 +1,7 @@
 use Rattle.std.proofs.Common.{◌*◌, ◌∙◌, length, refl, sym, ap, arith, map}
 use Rattle.state_rules.specs.Graphs.{mention_by, mentions}
 use Rattle.part_sets.proofs.Kids.{literal-fits}
-use Rattle.part_sets.proofs.Joining.{kids_room, joined_parts, variable_parts, one_has}
+use Rattle.part_sets.proofs.JoinedSets.{kids_room, joined_parts, variable_parts, one_has}
 use Rattle.part_sets.proofs.below.put_node.Goals as goal
 
 pub put_variable-requires-clause-var : goal.put_variable-requires-clause-var

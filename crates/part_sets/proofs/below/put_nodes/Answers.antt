@@ -1,5 +1,5 @@
 use Rattle.std.proofs.Common.{◌*◌, ◌∙◌, ap, arith}
-use Rattle.part_sets.proofs.Joining.{below_more, below_before}
+use Rattle.part_sets.proofs.JoinedSets.{below_more, below_before}
 use Rattle.part_sets.proofs.below.put_nodes.Goals as goal
 
 pub put_node-requires-clause-earlier : goal.put_node-requires-clause-earlier

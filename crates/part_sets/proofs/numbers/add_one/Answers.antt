@@ -1,5 +1,5 @@
 use Rattle.std.proofs.Common.{arith}
-use Rattle.part_sets.proofs.Joining.{added_one}
+use Rattle.part_sets.proofs.JoinedSets.{added_one}
 use Rattle.part_sets.proofs.numbers.add_one.Goals as goal
 
 pub returns : goal.returns

@@ -1,6 +1,6 @@
 use Rattle.std.proofs.Common.{ℕ, ◌<◌, ◌/◌, ◌^◌, ◌≤◌, get_or, arith, inr, ⊎_elim}
 use Rattle.std.proofs.lemmas.Bool.{cases_lt}
-use Rattle.part_sets.proofs.Missing.{none_missing, first_missing, none_before, lowest-low, gap-fits}
+use Rattle.part_sets.proofs.MissingNumbers.{none_missing, first_missing, none_before, lowest-low, gap-fits}
 use Rattle.part_sets.proofs.numbers.next_missing.Goals as goal
 
 pub returns-then-gap-ne0-clause-before : goal.returns-then-gap-ne0-clause-before

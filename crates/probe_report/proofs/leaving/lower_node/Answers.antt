@@ -1,5 +1,5 @@
 use Rattle.std.proofs.Common.{ℕ, get_or, arith, subst, sym}
-use Rattle.minimiser.proofs.Sweeping.{kids_before}
+use Rattle.minimiser.proofs.SpreadMarks.{kids_before}
 use Rattle.probe_report.specs.inner.Leaving.{LeftKid, LowersBlock}
 use Rattle.probe_report.proofs.Marks.{node-left}
 use Rattle.probe_report.proofs.leaving.lower_node.Goals as goal

@@ -1,5 +1,5 @@
 use Rattle.std.proofs.Common.{arith}
-use Rattle.minimiser.proofs.Sweeping.{kids_before}
+use Rattle.minimiser.proofs.SpreadMarks.{kids_before}
 use Rattle.probe_report.proofs.marking.mark_of.Goals as goal
 
 pub joined-requires : goal.joined-requires

@@ -4,7 +4,7 @@ use Rattle.std.proofs.lemmas.Bool.{and_left}
 use Rattle.std.proofs.lemmas.Grind.{common_steps}
 use Rattle.text_rules.specs.Names.{is_among}
 use Rattle.text_rules.specs.Tokens.{words, tokens_left}
-use Rattle.session_core.proofs.Naming.{AreMarked, is_among-at, is_among-nowhere, marked_more, marked_all}
+use Rattle.session_core.proofs.NamedParts.{AreMarked, is_among-at, is_among-nowhere, marked_more, marked_all}
 use Rattle.session_core.proofs.desk.mark_named.Goals as goal
 
 pub returns-in-None-find-clause-named : goal.returns-in-None-find-clause-named

@@ -2,7 +2,7 @@ use Rattle.std.proofs.Common.{◌≡◌, ◌<◌, All}
 use Rattle.std.specs.List.{list_all}
 use Rattle.text_rules.specs.Names.{is_among}
 use Rattle.text_rules.specs.Tokens.{words, tokens_left}
-use Rattle.session_core.proofs.Naming.{AreMarked}
+use Rattle.session_core.proofs.NamedParts.{AreMarked}
 use Rattle.session_core.proofs.desk.mark_named.Given as goal
 
 -- the words of the names so far are marked

@@ -9,7 +9,7 @@ use Rattle.session_core.specs.declared.listed.Listed.{Listed}
 use Rattle.session_core.specs.declared.listed.NextState.{NextState}
 use Rattle.session_core.specs.inner.Desks.{is_found}
 use Rattle.session_core.specs.inner.Obeying.{the_found, found_as, PointMoves}
-use Rattle.session_core.proofs.Holding.{known-there, case-there}
+use Rattle.session_core.proofs.ShownService.{known-there, case-there}
 use Rattle.session_core.proofs.NextStates.{found_there}
 use Rattle.session_core.proofs.listing.find.Goals as goal
 

@@ -8,9 +8,9 @@ use Rattle.session_table.specs.Tables.{Opened}
 use Rattle.session_core.specs.inner.Desks.{OnDesk}
 use Rattle.session_core.specs.inner.Holding.{HoldsTogether, shown_of}
 use Rattle.session_core.specs.inner.Texts.{next_text}
-use Rattle.session_core.proofs.Holding.{opened_with, holds_more}
+use Rattle.session_core.proofs.ShownService.{opened_with, holds_more}
 use Rattle.session_core.proofs.Told.{writes_one, part_one}
-use Rattle.session_core.proofs.Moving.{replies_part, if_failed, moves_on}
+use Rattle.session_core.proofs.SessionMoves.{replies_part, if_failed, moves_on}
 use Rattle.session_core.proofs.listing.move_on.Goals as goal
 
 together : (subject : Subject) (desk : OnDesk) (old new : Opened) → HoldsTogether subject old → desk.subject ≡ subject → new ≡ opened_with old new.table → HoldsTogether desk.subject new

@@ -2,8 +2,8 @@ use Rattle.std.proofs.Common.{◌≡◌, ◌∙◌, true, refl, sym, subst}
 use Rattle.session_core.specs.Services.{Shown}
 use Rattle.session_core.specs.inner.Desks.{is_listed}
 use Rattle.session_core.specs.inner.Holding.{shown_of}
-use Rattle.session_core.proofs.Staying.{stays_more}
-use Rattle.session_core.proofs.Moving.{lists_none, lists_more, lists_end, lists_broken, lists_all, carries_broken}
+use Rattle.session_core.proofs.KeptParts.{stays_more}
+use Rattle.session_core.proofs.SessionMoves.{lists_none, lists_more, lists_end, lists_broken, lists_all, carries_broken}
 use Rattle.session_core.proofs.listing.move_so_far.Goals as goal
 
 pub loop-init : goal.loop-init

@@ -3,7 +3,7 @@ use Rattle.session_rules.specs.Sessions.{Entry}
 use Rattle.session_table.specs.Tables.{StandsAt}
 use Rattle.session_core.specs.Services.{ChangesTable}
 use Rattle.session_core.specs.inner.Holding.{HoldsTogether, shown_of}
-use Rattle.session_core.proofs.Moving.{Lists}
+use Rattle.session_core.proofs.SessionMoves.{Lists}
 use Rattle.session_core.proofs.listing.move_so_far.Given as goal
 
 -- as many of the listing as were counted were shown, and the others are left

@@ -4,8 +4,8 @@ use Rattle.session_rules.specs.Moves.{script_moves}
 use Rattle.session_rules.specs.Carrying.{BreaksOff}
 use Rattle.session_core.specs.inner.Gathering.{Fed, ended_from}
 use Rattle.session_core.proofs.Lines.{moves_are_cut}
-use Rattle.session_core.proofs.Feeding.{fed_step, breaks_step}
-use Rattle.session_core.proofs.Staying.{stays_more, moves_stay}
+use Rattle.session_core.proofs.FedBytes.{fed_step, breaks_step}
+use Rattle.session_core.proofs.KeptParts.{stays_more, moves_stay}
 use Rattle.session_core.proofs.serving.feed.Goals as goal
 
 pub returns-in_err-take_byte-clause-err : goal.returns-in_err-take_byte-clause-err

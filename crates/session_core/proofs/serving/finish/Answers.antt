@@ -1,6 +1,6 @@
 use Rattle.std.proofs.Common.{◌≡◌, ◌==◌, ◌∙◌, ap, sym, length, false}
 use Rattle.session_core.specs.Services.{moves_of}
-use Rattle.session_core.proofs.Feeding.{carries_last}
+use Rattle.session_core.proofs.FedBytes.{carries_last}
 use Rattle.session_core.proofs.serving.finish.Goals as goal
 
 pub returns-clause-carried : goal.returns-clause-carried

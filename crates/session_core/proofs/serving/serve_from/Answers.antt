@@ -6,10 +6,10 @@ use Rattle.session_rules.specs.Sessions.{Table, Step}
 use Rattle.session_rules.specs.Carrying.{Makes, BreaksOff}
 use Rattle.text_rules.specs.TextLines.{last_line}
 use Rattle.session_core.specs.Services.{moves_of}
-use Rattle.diag_edge.proofs.Growing.{consumes_more, consumes_end}
+use Rattle.diag_edge.proofs.GrownBytes.{consumes_more, consumes_end}
 use Rattle.session_core.proofs.Lines.{moves_are_cut}
-use Rattle.session_core.proofs.Feeding.{makes_all, makes_whole, fails_at_end, fails_at_once, fed_more, consumes_kept}
-use Rattle.session_core.proofs.Staying.{stays_more, moves_stay}
+use Rattle.session_core.proofs.FedBytes.{makes_all, makes_whole, fails_at_end, fails_at_once, fed_more, consumes_kept}
+use Rattle.session_core.proofs.KeptParts.{stays_more, moves_stay}
 use Rattle.session_core.proofs.serving.serve_from.Goals as goal
 
 pub returns-clause-served : goal.returns-clause-served

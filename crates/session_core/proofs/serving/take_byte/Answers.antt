@@ -1,5 +1,5 @@
 use Rattle.session_core.specs.Services.{moves_of}
-use Rattle.session_core.proofs.Feeding.{fed_other, fed_feed, breaks_feed}
+use Rattle.session_core.proofs.FedBytes.{fed_other, fed_feed, breaks_feed}
 use Rattle.session_core.proofs.serving.take_byte.Goals as goal
 
 pub returns-in_ok-line-clause-ok : goal.returns-in_ok-line-clause-ok

@@ -1,4 +1,4 @@
-use Rattle.session_rules.proofs.Meaning.{same_fitting, same_consistent}
+use Rattle.session_rules.proofs.GraphMeaning.{same_fitting, same_consistent}
 use Rattle.session_rules.proofs.laws.same_states.Goals as goal
 
 pub returns-clause-fitting : goal.returns-clause-fitting

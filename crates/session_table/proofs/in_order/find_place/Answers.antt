@@ -2,7 +2,7 @@ use Rattle.std.proofs.Common.{rules}
 use Rattle.std.proofs.lemmas.Fn.{always_returns_same}
 use Rattle.session_table.specs.declared.in_order.Open.{Open}
 use Rattle.session_table.proofs.Lookups.{order}
-use Rattle.session_table.proofs.Searching.{searched}
+use Rattle.session_table.proofs.SessionSearch.{searched}
 use Rattle.session_table.proofs.in_order.find_place.Goals as goal
 
 pub returns-clause-found : goal.returns-clause-found

@@ -4,7 +4,7 @@ use Rattle.state_rules.specs.declared.nodes.NodeKind.TheVariants.{And}
 use Rattle.diag_edge.proofs.Added.{adds_same}
 use Rattle.nnf_text.specs.WrittenGraphs.{kind_words}
 use Rattle.smooth_nnf.proofs.FilledTexts.{filled-text}
-use Rattle.smooth_nnf.proofs.Lacking.{no-fillers}
+use Rattle.smooth_nnf.proofs.LackingParts.{no-fillers}
 use Rattle.smooth_nnf.proofs.filling.add_filled.Goals as goal
 
 pub returns-then-lacks_none-clause-bytes : goal.returns-then-lacks_none-clause-bytes

@@ -9,7 +9,7 @@ use Rattle.component_lang.specs.DesignLines.{at, with_part, part_line}
 use Rattle.component_lang.specs.inner.NameSets.{names_in}
 use Rattle.component_lang.specs.inner.Views.{library_in, block_in}
 use Rattle.component_lang.specs.inner.Words.{places_among}
-use Rattle.component_lang.proofs.Passing.{fault-passed}
+use Rattle.component_lang.proofs.PassedFaults.{fault-passed}
 use Rattle.component_lang.proofs.LineForms.{part-fault, part-named, part_of-name}
 use Rattle.component_lang.proofs.NameLists.{inserted-among, keys-more}
 use Rattle.component_lang.proofs.blocks.OpenBlock.with_part.Goals as goal

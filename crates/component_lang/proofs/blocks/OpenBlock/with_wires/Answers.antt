@@ -9,7 +9,7 @@ use Rattle.component_lang.specs.inner.NameSets.{names_in}
 use Rattle.component_lang.specs.inner.Views.{block_in}
 use Rattle.component_lang.proofs.NameLists.{more_names, more_names-first, more_names-fault, more_names-length, with_name-length}
 use Rattle.component_lang.proofs.LineForms.{wire_line-fault, wire_line-wires}
-use Rattle.component_lang.proofs.Passing.{fault-passed}
+use Rattle.component_lang.proofs.PassedFaults.{fault-passed}
 use Rattle.component_lang.proofs.blocks.OpenBlock.with_wires.Goals as goal
 
 pub returns-in_err-add_names : goal.returns-in_err-add_names

@@ -5,7 +5,7 @@ use Rattle.text_rules.specs.Tokens.{tokens_left}
 use Rattle.component_lang.specs.inner.Words.{with_names, new_ports}
 use Rattle.component_lang.specs.inner.NameSets.{names_in}
 use Rattle.component_lang.specs.inner.Views.{library_in}
-use Rattle.component_lang.proofs.Passing.{fault-passed, ports-refused}
+use Rattle.component_lang.proofs.PassedFaults.{fault-passed, ports-refused}
 use Rattle.component_lang.proofs.kinds.Library.ports_of.Goals as goal
 
 pub returns-in_err-add_names : goal.returns-in_err-add_names

@@ -6,9 +6,9 @@ use Rattle.std.proofs.lemmas.List.{length-map}
 use Rattle.device_model.specs.Order.{sorted_distinct}
 use Rattle.device_model.specs.Devices.{Device, IsDevice}
 use Rattle.device_model.specs.inner.Sorting.{numbered_from, with_places}
-use Rattle.device_model.proofs.Making.{IsDevice-device_of, component_name}
-use Rattle.device_model.proofs.Placing.{wire_name, length-wires, positions_fit, positions_differ, ports_fit, written_back, assembled}
-use Rattle.device_model.proofs.Answering.{built-arity, built-no_wire, built-device, arity_at, wire_at, all_arities, all_joined}
+use Rattle.device_model.proofs.SortedDevices.{IsDevice-device_of, component_name}
+use Rattle.device_model.proofs.WirePlaces.{wire_name, length-wires, positions_fit, positions_differ, ports_fit, written_back, assembled}
+use Rattle.device_model.proofs.BuildAnswers.{built-arity, built-no_wire, built-device, arity_at, wire_at, all_arities, all_joined}
 use Rattle.device_model.proofs.device.Device.build.Goals as goal
 
 pub returns-in-Some-clause-built : goal.returns-in-Some-clause-built

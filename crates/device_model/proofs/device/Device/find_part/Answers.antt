@@ -3,9 +3,9 @@ use Rattle.std.specs.Result.{result_ok}
 use Rattle.std.proofs.lemmas.Fn.{always_returns_same}
 use Rattle.text_rules.specs.Names.{names_rise}
 use Rattle.device_model.specs.Devices.{Device, part_names, place_of}
-use Rattle.device_model.proofs.Making.{component_name}
-use Rattle.device_model.proofs.Sorting.{Rises-from_names_rise, Rises-unmap}
-use Rattle.device_model.proofs.Looking.{order, looked_up}
+use Rattle.device_model.proofs.SortedDevices.{component_name}
+use Rattle.device_model.proofs.SortedLists.{Rises-from_names_rise, Rises-unmap}
+use Rattle.device_model.proofs.NameSearch.{order, looked_up}
 use Rattle.device_model.proofs.device.Device.find_part.Goals as goal
 use Rattle.device_model.proofs.device.Device.find_part.Goals.{After-binary_search_by}
 

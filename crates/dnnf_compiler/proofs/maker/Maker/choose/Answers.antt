@@ -1,6 +1,6 @@
 use Rattle.std.specs.Prelude.{option_map}
 use Rattle.dnnf_compiler.proofs.Bare.{named_all, names_grow}
-use Rattle.dnnf_compiler.proofs.Taking.{usable_grows, choice_one}
+use Rattle.dnnf_compiler.proofs.WayNodes.{usable_grows, choice_one}
 use Rattle.dnnf_compiler.proofs.maker.Maker.choose.Goals as goal
 
 pub take-requires-2-clause-way : goal.take-requires-2-clause-way

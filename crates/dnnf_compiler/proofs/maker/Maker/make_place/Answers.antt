@@ -2,8 +2,8 @@ use Rattle.std.proofs.Common.{◌≡◌, ◌+◌, ◌*◌, ◌<◌, ℕ, Some, N
 use Rattle.std.specs.Prelude.{slice_get, option_map, IfSome}
 use Rattle.std.proofs.lemmas.Option.{slice_get-get_or}
 use Rattle.dnnf_compiler.specs.inner.Meeting.{IsUsable}
-use Rattle.dnnf_compiler.proofs.Making.{adds_then}
-use Rattle.dnnf_compiler.proofs.Taking.{AreFirstChoices, usable_grows, choices_more}
+use Rattle.dnnf_compiler.proofs.MadeNodes.{adds_then}
+use Rattle.dnnf_compiler.proofs.WayNodes.{AreFirstChoices, usable_grows, choices_more}
 use Rattle.dnnf_compiler.proofs.maker.Maker.make_place.Goals as goal
 use Rattle.dnnf_compiler.proofs.maker.Maker.make_place.Goals.{After-get-in-loop-list}
 

@@ -1,6 +1,6 @@
 use Rattle.std.proofs.Common.{◌≡◌, ◌+◌, ◌*◌, length}
 use Rattle.dnnf_compiler.specs.inner.Making.{Adds}
-use Rattle.dnnf_compiler.proofs.Taking.{AreFirstChoices}
+use Rattle.dnnf_compiler.proofs.WayNodes.{AreFirstChoices}
 use Rattle.dnnf_compiler.proofs.maker.Maker.make_place.Given as goal
 
 abbrev pub invariant-loop-list : goal.invariant-loop-list

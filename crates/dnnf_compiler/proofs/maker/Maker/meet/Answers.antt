@@ -4,7 +4,7 @@ use Rattle.std.proofs.lemmas.List.{drop_all, append-nil}
 use Rattle.state_rules.proofs.Lists.{AllByRecursion-append}
 use Rattle.dnnf_compiler.specs.inner.Joining.{IsPlain}
 use Rattle.dnnf_compiler.proofs.Bare.{other_plain}
-use Rattle.dnnf_compiler.proofs.Meeting.{keeps_of, kept_more, kept_apart, kept_few, meet_none, meet_one, meet_more}
+use Rattle.dnnf_compiler.proofs.Conjunctions.{keeps_of, kept_more, kept_apart, kept_few, meet_none, meet_one, meet_more}
 use Rattle.dnnf_compiler.proofs.maker.Maker.meet.Goals as goal
 use Rattle.dnnf_compiler.proofs.maker.Maker.meet.Goals.{After-as_slice}
 

@@ -1,7 +1,7 @@
 use Rattle.std.proofs.Common.{◌≡◌, ◌<◌, ◌++◌, length, drop}
 use Rattle.std.specs.List.{filter, AllByRecursion}
 use Rattle.dnnf_compiler.specs.inner.Joining.{IsPlain}
-use Rattle.dnnf_compiler.proofs.Meeting.{keeps_of}
+use Rattle.dnnf_compiler.proofs.Conjunctions.{keeps_of}
 use Rattle.dnnf_compiler.proofs.maker.Maker.meet.Given as goal
 
 abbrev pub invariant-loop-i : goal.invariant-loop-i

@@ -2,7 +2,7 @@ use Rattle.std.proofs.Common.{ap, ◌∙◌, refl}
 use Rattle.state_rules.specs.Graphs.{false_node, true_node}
 use Rattle.node_store.specs.Stores.{Stored}
 use Rattle.dnnf_compiler.proofs.Bare.{first_bare}
-use Rattle.dnnf_compiler.proofs.Making.{new_maker}
+use Rattle.dnnf_compiler.proofs.MadeNodes.{new_maker}
 use Rattle.dnnf_compiler.proofs.maker.Maker.new.Goals as goal
 
 pub returns-clause-maker : goal.returns-clause-maker

@@ -2,7 +2,7 @@ use Rattle.std.proofs.Common.{◌≡◌, ◌<◌, ◌++◌, ◌∷◌, Some, Non
 use Rattle.std.specs.Prelude.{option_map, IfSome}
 use Rattle.std.proofs.lemmas.Option.{slice_get_within}
 use Rattle.dnnf_compiler.specs.inner.Meeting.{taken, AreMeetable, IsMeet, IsUsable, IsTaken}
-use Rattle.dnnf_compiler.proofs.Taking.{kids_meetable, take_false, take_some}
+use Rattle.dnnf_compiler.proofs.WayNodes.{kids_meetable, take_false, take_some}
 use Rattle.dnnf_compiler.proofs.maker.Maker.take.Goals as goal
 use Rattle.dnnf_compiler.proofs.maker.Maker.take.Goals.{After-as_slice}
 

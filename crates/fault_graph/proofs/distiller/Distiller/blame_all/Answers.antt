@@ -4,7 +4,7 @@ use Rattle.state_rules.specs.Bits.{bit_in}
 use Rattle.state_rules.specs.Ranking.{diagnoses}
 use Rattle.diagnosis_lister.specs.Listing.{fault_count}
 use Rattle.probe_report.specs.Verdicts.{verdict}
-use Rattle.fault_graph.proofs.Keeping.{last-distilled, no-models}
+use Rattle.fault_graph.proofs.LastDistilled.{last-distilled, no-models}
 use Rattle.fault_graph.proofs.distiller.Distiller.blame_all.Goals as goal
 
 pub returns-clause-blame : goal.returns-clause-blame

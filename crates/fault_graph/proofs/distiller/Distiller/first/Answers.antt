@@ -1,7 +1,7 @@
 use Rattle.std.proofs.Common.{◌≡◌, ◌∙◌, List, Bool, get_or, refl, ap, subst}
 use Rattle.state_rules.specs.Ranking.{diagnoses}
 use Rattle.conditioner.specs.Words.{bits_of}
-use Rattle.fault_graph.proofs.Keeping.{last-distilled, no-models}
+use Rattle.fault_graph.proofs.LastDistilled.{last-distilled, no-models}
 use Rattle.fault_graph.proofs.distiller.Distiller.first.Goals as goal
 
 pub returns-clause-least : goal.returns-clause-least

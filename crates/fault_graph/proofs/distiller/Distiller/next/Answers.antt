@@ -3,7 +3,7 @@ use Rattle.state_rules.specs.Ranking.{rest, diagnoses}
 use Rattle.conditioner.specs.Models.{models, diagnoses_under}
 use Rattle.conditioner.specs.Words.{bits_of}
 use Rattle.diagnosis_lister.specs.Listing.{step_of}
-use Rattle.fault_graph.proofs.Keeping.{last-distilled, step-same, no-models}
+use Rattle.fault_graph.proofs.LastDistilled.{last-distilled, step-same, no-models}
 use Rattle.fault_graph.proofs.distiller.Distiller.next.Goals as goal
 
 pub returns-clause-step : goal.returns-clause-step

@@ -1,4 +1,4 @@
-use Rattle.fault_graph.proofs.Keeping.{known-some}
+use Rattle.fault_graph.proofs.LastDistilled.{known-some}
 use Rattle.fault_graph.proofs.distiller.Distiller.prepare.Goals as goal
 
 pub returns-then-is_of-clause-some : goal.returns-then-is_of-clause-some

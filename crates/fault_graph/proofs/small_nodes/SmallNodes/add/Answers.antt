@@ -5,7 +5,7 @@ use Rattle.flat_lists.specs.Flat.{pieces, EndAt}
 use Rattle.node_store.specs.Flat.{nodes_of}
 use Rattle.fault_graph.specs.inner.Filled.{Filled}
 use Rattle.fault_graph.specs.inner.Rows.{kept_kids}
-use Rattle.fault_graph.proofs.Filling.{sizes, filled}
+use Rattle.fault_graph.proofs.AddedNodes.{sizes, filled}
 use Rattle.fault_graph.proofs.small_nodes.SmallNodes.add.Goals as goal
 use Rattle.fault_graph.proofs.small_nodes.SmallNodes.add.Goals.{After-self, After-put-2, else-not-own-via-then-not-own+else-len-before, else-not-own-via-else-not-own}
 

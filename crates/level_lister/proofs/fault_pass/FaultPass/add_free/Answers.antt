@@ -3,7 +3,7 @@ use Rattle.std.specs.Prelude.{◌==◌}
 use Rattle.part_sets.specs.Numbers.{has_number}
 use Rattle.level_lister.specs.inner.CostSets.{has_shifted}
 use Rattle.level_lister.specs.inner.FaultSets.{in_first, AreBothSets}
-use Rattle.level_lister.proofs.Faulting.{free_unmarked, free_marked}
+use Rattle.level_lister.proofs.FaultCosts.{free_unmarked, free_marked}
 use Rattle.level_lister.proofs.FaultNodes.{first_open}
 use Rattle.level_lister.proofs.fault_pass.FaultPass.add_free.Goals as goal
 use Rattle.level_lister.proofs.fault_pass.FaultPass.add_free.Goals.{then-is_marked, else-is_marked}

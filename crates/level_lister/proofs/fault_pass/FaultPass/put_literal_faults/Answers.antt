@@ -6,7 +6,7 @@ use Rattle.conditioner.specs.Words.{known_of}
 use Rattle.minimiser.specs.Costs.{known_at}
 use Rattle.level_lister.specs.inner.FaultSets.{in_first, IsFaultSet}
 use Rattle.level_lister.proofs.PairNodes.{grouped}
-use Rattle.level_lister.proofs.Faulting.{fault_one}
+use Rattle.level_lister.proofs.FaultCosts.{fault_one}
 use Rattle.level_lister.proofs.fault_pass.FaultPass.put_literal_faults.Goals as goal
 
 pub returns : goal.returns

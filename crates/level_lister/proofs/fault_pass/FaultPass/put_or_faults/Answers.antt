@@ -7,7 +7,7 @@ use Rattle.level_lister.specs.inner.Skips.{living}
 use Rattle.level_lister.specs.inner.NodeSets.{IsNodeSet}
 use Rattle.level_lister.specs.inner.FaultSets.{in_first, IsFaultSet, IsNodeFaults}
 use Rattle.level_lister.proofs.FaultNodes.{never_faults}
-use Rattle.level_lister.proofs.Faulting.{fault_or}
+use Rattle.level_lister.proofs.FaultCosts.{fault_or}
 use Rattle.level_lister.proofs.Kids.{or_next, or_end}
 use Rattle.level_lister.proofs.fault_pass.FaultPass.put_or_faults.Goals as goal
 

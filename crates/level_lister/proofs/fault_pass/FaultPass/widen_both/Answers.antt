@@ -2,8 +2,8 @@ use Rattle.std.proofs.Common.{◌≡◌, ◌<◌, length, sym, ap, subst, arith,
 use Rattle.part_sets.specs.Numbers.{part_words, set_at}
 use Rattle.part_sets.specs.PartSets.{ArePartsOf}
 use Rattle.level_lister.specs.inner.FaultSets.{in_first}
-use Rattle.level_lister.proofs.Growing.{grown, begun, further, ended, not_yet}
-use Rattle.level_lister.proofs.Faulting.{both_wider}
+use Rattle.level_lister.proofs.PartVariables.{grown, begun, further, ended, not_yet}
+use Rattle.level_lister.proofs.FaultCosts.{both_wider}
 use Rattle.level_lister.proofs.FaultNodes.{first_parts}
 use Rattle.level_lister.proofs.fault_pass.FaultPass.widen_both.Goals as goal
 

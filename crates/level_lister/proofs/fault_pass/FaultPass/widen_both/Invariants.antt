@@ -2,7 +2,7 @@ use Rattle.std.proofs.Common.{◌≡◌, ℕ, ◌-◌, ◌*◌, ◌<◌, Bool, t
 use Rattle.state_rules.specs.Assignments.{Assignment}
 use Rattle.part_sets.specs.PartSets.{ArePartsOf}
 use Rattle.level_lister.specs.inner.FaultSets.{in_first, AreBothSets}
-use Rattle.level_lister.proofs.Growing.{grown, is_missing}
+use Rattle.level_lister.proofs.PartVariables.{grown, is_missing}
 use Rattle.level_lister.proofs.fault_pass.FaultPass.widen_both.Given as goal
 
 -- the parts before the place are free

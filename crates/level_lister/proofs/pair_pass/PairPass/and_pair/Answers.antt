@@ -1,7 +1,7 @@
 use Rattle.std.proofs.Common.{◌+◌, length, get_or, sym, ap, subst, arith}
 use Rattle.level_lister.specs.inner.Pairs.{TellsNode, group_count, group_in}
 use Rattle.part_sets.proofs.Kids.{kid-below}
-use Rattle.level_lister.proofs.Telling.{tells_true}
+use Rattle.level_lister.proofs.TwoWords.{tells_true}
 use Rattle.level_lister.proofs.Kids.{apart_kids, and_before, and_end}
 use Rattle.level_lister.proofs.PairNodes.{Told}
 use Rattle.level_lister.proofs.pair_pass.PairPass.and_pair.Goals as goal

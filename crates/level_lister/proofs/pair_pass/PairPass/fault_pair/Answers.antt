@@ -3,7 +3,7 @@ use Rattle.std.specs.Prelude.{◌==◌}
 use Rattle.std.proofs.lemmas.List.{get_or_past}
 use Rattle.state_rules.proofs.WordBits.{has_bit-zero, one_bit}
 use Rattle.level_lister.specs.inner.Pairs.{group_count, group_in}
-use Rattle.level_lister.proofs.Telling.{tells_faulty}
+use Rattle.level_lister.proofs.TwoWords.{tells_faulty}
 use Rattle.level_lister.proofs.PairNodes.{none_marked}
 use Rattle.level_lister.proofs.pair_pass.PairPass.fault_pair.Goals as goal
 

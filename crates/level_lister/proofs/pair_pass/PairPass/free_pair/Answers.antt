@@ -2,7 +2,7 @@ use Rattle.std.proofs.Common.{◌≡◌, ℕ, zero, suc, ◌+◌, ◌<◌, Bool,
 use Rattle.state_rules.specs.Bits.{same_bit}
 use Rattle.conditioner.specs.Words.{known_of}
 use Rattle.level_lister.specs.inner.Pairs.{group_count, group_in}
-use Rattle.level_lister.proofs.Telling.{tells_known, tells_ok}
+use Rattle.level_lister.proofs.TwoWords.{tells_known, tells_ok}
 use Rattle.level_lister.proofs.PairNodes.{allowed_ok, said}
 use Rattle.level_lister.proofs.pair_pass.PairPass.free_pair.Goals as goal
 

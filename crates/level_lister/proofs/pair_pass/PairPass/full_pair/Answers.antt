@@ -2,7 +2,7 @@ use Rattle.std.proofs.Common.{length, get_or, sym, refl, subst, arith}
 use Rattle.std.proofs.lemmas.Bool.{false≢true}
 use Rattle.level_lister.specs.inner.Pairs.{TellsNode, group_count, group_in}
 use Rattle.part_sets.proofs.Kids.{kid-below}
-use Rattle.level_lister.proofs.Telling.{tells_none}
+use Rattle.level_lister.proofs.TwoWords.{tells_none}
 use Rattle.level_lister.proofs.Kids.{kid_full, or_next, or_end}
 use Rattle.level_lister.proofs.PairNodes.{Told, told_wider}
 use Rattle.level_lister.proofs.pair_pass.PairPass.full_pair.Goals as goal

@@ -4,8 +4,8 @@ use Rattle.state_rules.specs.Bits.{same_bit}
 use Rattle.state_rules.specs.Cases.{agrees_at}
 use Rattle.minimiser.specs.Costs.{known_at}
 use Rattle.level_lister.specs.inner.Pairs.{Tells, group_count, group_in}
-use Rattle.level_lister.proofs.Telling.{tells_ok}
-use Rattle.level_lister.proofs.Reaching.{allowed_by}
+use Rattle.level_lister.proofs.TwoWords.{tells_ok}
+use Rattle.level_lister.proofs.TestCosts.{allowed_by}
 use Rattle.level_lister.proofs.pair_pass.PairPass.literal_pair.Goals as goal
 
 pub returns-then-positive : goal.returns-then-positive

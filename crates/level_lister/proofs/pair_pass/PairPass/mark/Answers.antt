@@ -2,7 +2,7 @@ use Rattle.std.proofs.Common.{◌≡◌, ◌+◌, ◌*◌, ◌-◌, ◌/◌, ◌
 use Rattle.std.specs.Prelude.{◌==◌}
 use Rattle.std.proofs.lemmas.Bool.{eqb-true}
 use Rattle.level_lister.specs.inner.Pairs.{group_count}
-use Rattle.level_lister.proofs.Telling.{step_below}
+use Rattle.level_lister.proofs.TwoWords.{step_below}
 use Rattle.level_lister.proofs.PairNodes.{mark_is}
 use Rattle.level_lister.proofs.pair_pass.PairPass.mark.Goals as goal
 

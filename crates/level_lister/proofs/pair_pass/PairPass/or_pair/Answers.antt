@@ -6,7 +6,7 @@ use Rattle.part_sets.specs.Numbers.{part_words}
 use Rattle.part_sets.proofs.Kids.{kid-below, kid-mentions}
 use Rattle.level_lister.specs.inner.Skips.{living}
 use Rattle.level_lister.specs.inner.Pairs.{TellsNode, group_count, group_in}
-use Rattle.level_lister.proofs.Telling.{tells_none}
+use Rattle.level_lister.proofs.TwoWords.{tells_none}
 use Rattle.level_lister.proofs.Kids.{or_next, or_end}
 use Rattle.level_lister.proofs.PairNodes.{Told}
 use Rattle.level_lister.proofs.pair_pass.PairPass.or_pair.Goals as goal

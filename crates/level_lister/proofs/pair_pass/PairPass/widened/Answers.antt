@@ -4,8 +4,8 @@ use Rattle.node_costs.proofs.Conditions.{one_apart}
 use Rattle.part_sets.specs.Numbers.{part_words, set_at}
 use Rattle.part_sets.specs.PartSets.{ArePartsOf}
 use Rattle.level_lister.specs.inner.Pairs.{group_count, group_in}
-use Rattle.level_lister.proofs.Growing.{grown, begun, further, ended, not_yet}
-use Rattle.level_lister.proofs.Telling.{tells_same}
+use Rattle.level_lister.proofs.PartVariables.{grown, begun, further, ended, not_yet}
+use Rattle.level_lister.proofs.TwoWords.{tells_same}
 use Rattle.level_lister.proofs.PairNodes.{on_parts, told_wider}
 use Rattle.level_lister.proofs.pair_pass.PairPass.widened.Goals as goal
 

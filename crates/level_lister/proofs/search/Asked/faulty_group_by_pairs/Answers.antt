@@ -2,7 +2,7 @@ use Rattle.std.proofs.Common.{◌≡◌, ◌+◌, ◌*◌, ◌<◌, ◌≤◌, t
 use Rattle.std.proofs.lemmas.Bool.{cases_lt, false≢true}
 use Rattle.state_rules.specs.Bits.{has_bit}
 use Rattle.level_lister.specs.inner.Pairs.{FaultOf}
-use Rattle.level_lister.proofs.Telling.{step_below}
+use Rattle.level_lister.proofs.TwoWords.{step_below}
 use Rattle.level_lister.proofs.PairWhole.{group_sound, group_whole}
 use Rattle.level_lister.proofs.search.Asked.faulty_group_by_pairs.Goals as goal
 

@@ -1,6 +1,6 @@
 use Rattle.std.proofs.Common.{◌≡◌, ℕ, ◌+◌, ◌-◌, ◌/◌, ◌≤◌, length, ap, subst, sym, arith}
 use Rattle.level_lister.specs.Passes.{first_passes, told_groups}
-use Rattle.level_lister.proofs.Narrowing.{range_start, range_next, IsRange, PassesLeft, left_next, range_small, size_some}
+use Rattle.level_lister.proofs.FaultRanges.{range_start, range_next, IsRange, PassesLeft, left_next, range_small, size_some}
 use Rattle.level_lister.proofs.search.Asked.first_faulty.Goals as goal
 
 pub loop-span-init : goal.loop-span-init

@@ -1,7 +1,7 @@
 use Rattle.std.proofs.Common.{ℕ, ◌+◌, ◌*◌, ◌^◌, ◌<◌, ◌≤◌, length}
 use Rattle.level_lister.specs.Passes.{first_passes, told_groups}
 use Rattle.level_lister.specs.inner.NodeSets.{AreReady}
-use Rattle.level_lister.proofs.Narrowing.{IsRange, PassesLeft}
+use Rattle.level_lister.proofs.FaultRanges.{IsRange, PassesLeft}
 use Rattle.level_lister.proofs.search.Asked.first_faulty.Given as goal
 
 -- the first fault is in the range, enough passes are left, and what they go by is there

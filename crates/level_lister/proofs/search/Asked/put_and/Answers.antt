@@ -1,11 +1,11 @@
 use Rattle.std.proofs.Common.{◌≡◌, ◌*◌, List, ℕ, length, get_or, sym, subst, arith}
 use Rattle.level_lister.specs.inner.CostSets.{AreSums, IsCostSet}
 use Rattle.level_lister.specs.inner.NodeSets.{AreNodeSets, IsNodeSet}
-use Rattle.level_lister.proofs.Reaching.{zero_is}
+use Rattle.level_lister.proofs.TestCosts.{zero_is}
 use Rattle.scratch_pool.proofs.Counted.{block-below}
 use Rattle.part_sets.proofs.Kids.{kid-below}
 use Rattle.level_lister.proofs.Kids.{kids_apart, and_next, and_end}
-use Rattle.level_lister.proofs.Meeting.{and_is}
+use Rattle.level_lister.proofs.ConditionCosts.{and_is}
 use Rattle.level_lister.proofs.search.Asked.put_and.Goals as goal
 
 pub loop-kid-init : goal.loop-kid-init

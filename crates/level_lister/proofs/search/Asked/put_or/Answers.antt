@@ -6,9 +6,9 @@ use Rattle.part_sets.specs.PartSets.{ArePartsOf}
 use Rattle.part_sets.proofs.Kids.{kid-below, kid-mentions}
 use Rattle.level_lister.specs.inner.Skips.{living}
 use Rattle.level_lister.specs.inner.CostSets.{IsCostSet}
-use Rattle.level_lister.proofs.Reaching.{empty_is}
+use Rattle.level_lister.proofs.TestCosts.{empty_is}
 use Rattle.level_lister.proofs.Kids.{or_next, or_end}
-use Rattle.level_lister.proofs.Meeting.{or_is}
+use Rattle.level_lister.proofs.ConditionCosts.{or_is}
 use Rattle.level_lister.proofs.search.Asked.put_or.Goals as goal
 
 pub loop-kid-init : goal.loop-kid-init

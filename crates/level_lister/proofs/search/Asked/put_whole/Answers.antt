@@ -5,7 +5,7 @@ use Rattle.part_sets.specs.PartSets.{ArePartsOf}
 use Rattle.level_lister.specs.inner.Skips.{living}
 use Rattle.level_lister.specs.inner.CostSets.{IsCostSet}
 use Rattle.level_lister.specs.inner.NodeSets.{IsNodeSet, IsWholeSet}
-use Rattle.level_lister.proofs.Reaching.{wider_is}
+use Rattle.level_lister.proofs.TestCosts.{wider_is}
 use Rattle.level_lister.proofs.Kids.{root_full}
 use Rattle.level_lister.proofs.search.Asked.put_whole.Goals as goal
 

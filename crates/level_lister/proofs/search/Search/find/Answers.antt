@@ -5,7 +5,7 @@ use Rattle.diagnosis_lister.specs.inner.Fixing.{fixed_bits}
 use Rattle.level_lister.specs.Listing.{cost_words, point_if}
 use Rattle.level_lister.specs.Passes.{AreEnough, fixing_passes, point_faults}
 use Rattle.level_lister.specs.inner.Searching.{IsListed, FindsNext}
-use Rattle.level_lister.proofs.Finding.{finds-alike}
+use Rattle.level_lister.proofs.FirstByCost.{finds-alike}
 use Rattle.level_lister.proofs.search.Search.find.Goals as goal
 
 pub returns-then-pointed-clause-steps : goal.returns-then-pointed-clause-steps

@@ -8,7 +8,7 @@ use Rattle.level_lister.specs.inner.Searching.{OfCost, FindsFirst, IsListed}
 use Rattle.level_lister.specs.inner.Skips.{IsEnough}
 use Rattle.diagnosis_lister.proofs.Points.{leaves-first}
 use Rattle.level_lister.proofs.Exact.{allows-cost}
-use Rattle.level_lister.proofs.Finding.{Later, first-same, later-dearer, dearer-later, none-too_dear, finds-alike}
+use Rattle.level_lister.proofs.FirstByCost.{Later, first-same, later-dearer, dearer-later, none-too_dear, finds-alike}
 use Rattle.level_lister.proofs.Skips.{enough_more}
 use Rattle.level_lister.proofs.search.Search.find_after.Goals as goal
 

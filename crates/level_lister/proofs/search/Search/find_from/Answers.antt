@@ -1,6 +1,6 @@
 use Rattle.std.proofs.Common.{refl, arith}
 use Rattle.state_rules.specs.Ranking.{cost}
-use Rattle.level_lister.proofs.Finding.{listed-has, first-from}
+use Rattle.level_lister.proofs.FirstByCost.{listed-has, first-from}
 use Rattle.level_lister.proofs.search.Search.find_from.Goals as goal
 
 pub returns-in-None-clause-found : goal.returns-in-None-clause-found

@@ -3,7 +3,7 @@ use Rattle.std.proofs.lemmas.List.Elements.{All-set}
 use Rattle.diagnosis_lister.specs.Listing.{fault_count}
 use Rattle.diagnosis_lister.specs.inner.Fixing.{fixed_bits}
 use Rattle.diagnosis_lister.proofs.Faults.{faults-kept, faults-added}
-use Rattle.diagnosis_lister.proofs.Fixing.{FixesOk, Settles-start, settles-ok, settles-found, settles-end}
+use Rattle.diagnosis_lister.proofs.FixedParts.{FixesOk, Settles-start, settles-ok, settles-found, settles-end}
 use Rattle.scratch_pool.proofs.Counted.{block-below}
 use Rattle.level_lister.specs.inner.Pairs.{FaultIn, OkAmong}
 use Rattle.level_lister.proofs.Exact.{allows-cost}

@@ -2,7 +2,7 @@ use Rattle.std.proofs.Common.{ℕ, ◌+◌, ◌-◌, ◌*◌, ◌<◌, ◌≤◌
 use Rattle.diagnosis_lister.specs.Listing.{fault_count}
 use Rattle.diagnosis_lister.specs.inner.Fixing.{fixed_bits}
 use Rattle.level_lister.specs.Passes.{AreEnough}
-use Rattle.diagnosis_lister.proofs.Fixing.{Settles}
+use Rattle.diagnosis_lister.proofs.FixedParts.{Settles}
 use Rattle.level_lister.specs.inner.Searching.{OfCost}
 use Rattle.level_lister.proofs.search.Search.settle_by_groups.Given as goal
 

@@ -1,5 +1,5 @@
 use Rattle.std.proofs.Common.{◌<◌, All, length}
-use Rattle.diagnosis_lister.proofs.Fixing.{Settles}
+use Rattle.diagnosis_lister.proofs.FixedParts.{Settles}
 use Rattle.level_lister.specs.inner.Searching.{OfCost}
 use Rattle.level_lister.proofs.search.Search.settle_by_parts.Given as goal
 

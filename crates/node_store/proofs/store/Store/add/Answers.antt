@@ -3,8 +3,8 @@ use Rattle.state_rules.specs.Graphs.{Node, apart_at, mentions, node_fits}
 use Rattle.node_store.specs.declared.store.TheConstants.{MADE_LIMIT}
 use Rattle.node_store.specs.Stores.{Stored, Means}
 use Rattle.node_store.specs.inner.Keeping.{shown}
-use Rattle.node_store.proofs.Meaning.{Means-from}
-use Rattle.node_store.proofs.Adding.{IsStore-add}
+use Rattle.node_store.proofs.NodeMeaning.{Means-from}
+use Rattle.node_store.proofs.MoreNodes.{IsStore-add}
 use Rattle.node_store.proofs.store.Store.add.Goals as goal
 
 pub invariant_of-self-2 : goal.invariant_of-self-2

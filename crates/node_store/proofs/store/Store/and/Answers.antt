@@ -1,5 +1,5 @@
 use Rattle.std.proofs.Common.{length}
-use Rattle.node_store.proofs.Adding.{and_fits}
+use Rattle.node_store.proofs.MoreNodes.{and_fits}
 use Rattle.node_store.proofs.store.Store.and.Goals as goal
 
 pub add-requires-clause-fits : goal.add-requires-clause-fits

@@ -3,7 +3,7 @@ use Rattle.state_rules.specs.Graphs.{Node}
 use Rattle.node_store.specs.Stores.{Stored, IsFrozen}
 use Rattle.node_store.specs.inner.Keeping.{shown}
 use Rattle.node_store.specs.inner.Freezing.{AreBefore, IsBelow, IsCopied}
-use Rattle.node_store.proofs.Copying.{before, frozen_graph}
+use Rattle.node_store.proofs.NodeCopies.{before, frozen_graph}
 use Rattle.node_store.proofs.store.Store.frozen.Goals as goal
 
 pub below-requires-clause-kids : goal.below-requires-clause-kids

@@ -1,5 +1,5 @@
 use Rattle.std.proofs.Common.{length}
-use Rattle.node_store.proofs.Adding.{or_fits}
+use Rattle.node_store.proofs.MoreNodes.{or_fits}
 use Rattle.node_store.proofs.store.Store.or.Goals as goal
 
 pub add-requires-clause-fits : goal.add-requires-clause-fits

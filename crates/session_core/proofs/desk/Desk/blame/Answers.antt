@@ -5,7 +5,7 @@ use Rattle.probe_report.specs.declared.verdicts.Blame.{Blame}
 use Rattle.probe_report.specs.Verdicts.{verdict}
 use Rattle.session_core.specs.inner.Desks.{OnDesk, blame_asked}
 use Rattle.session_core.proofs.Desks.{diagnoses-asked, fits_after, judged_after}
-use Rattle.session_core.proofs.Holding.{written_back}
+use Rattle.session_core.proofs.ShownService.{written_back}
 use Rattle.session_core.proofs.desk.Desk.blame.Goals as goal
 
 pub returns-clause-blame : goal.returns-clause-blame

@@ -7,7 +7,7 @@ use Rattle.session_core.specs.declared.listed.Listed.TheVariants.{Diagnoses}
 use Rattle.session_core.specs.inner.Bases.{case_in}
 use Rattle.session_core.specs.inner.Desks.{OnDesk, asked_case, diagnoses_asked, next_after, of_step}
 use Rattle.session_core.proofs.Desks.{states-asked, diagnoses-asked, fits_after, stays_after}
-use Rattle.session_core.proofs.Holding.{written_back}
+use Rattle.session_core.proofs.ShownService.{written_back}
 use Rattle.session_core.proofs.NextStates.{is_first, diagnosis_next}
 use Rattle.session_core.proofs.desk.Desk.go_on.Goals as goal
 

@@ -10,7 +10,7 @@ use Rattle.session_core.specs.declared.listed.Listed.TheVariants.{Levels}
 use Rattle.session_core.specs.inner.Bases.{AreEnough, AreKnown}
 use Rattle.session_core.specs.inner.Desks.{OnDesk, asked_case, top_of, later_states, next_after, of_level_step}
 use Rattle.session_core.proofs.Desks.{states-asked, stays_after}
-use Rattle.session_core.proofs.Holding.{written_back}
+use Rattle.session_core.proofs.ShownService.{written_back}
 use Rattle.session_core.proofs.Rooms.{carved_so, run_long, is_held, released_runs, released_words}
 use Rattle.session_core.proofs.NextStates.{is_first, level_next}
 use Rattle.session_core.proofs.desk.Desk.next_level.Goals as goal

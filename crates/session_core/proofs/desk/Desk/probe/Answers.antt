@@ -2,7 +2,7 @@ use Rattle.std.proofs.Common.{◌∙◌, ◌+◌, ◌<◌, List, false, true, le
 use Rattle.text_rules.specs.Names.{Name}
 use Rattle.session_core.specs.inner.Desks.{OnDesk, least_seen}
 use Rattle.session_core.proofs.Desks.{seen-asked, fits_after}
-use Rattle.session_core.proofs.Holding.{written_back}
+use Rattle.session_core.proofs.ShownService.{written_back}
 use Rattle.session_core.proofs.desk.Desk.probe.Goals as goal
 
 pub returns-clause-zero : goal.returns-clause-zero

@@ -4,7 +4,7 @@ use Rattle.probe_report.specs.Probed.{probed}
 use Rattle.session_core.specs.inner.Bases.{AreEnough}
 use Rattle.session_core.specs.inner.Desks.{OnDesk, least_asked, least_seen}
 use Rattle.session_core.proofs.Desks.{least-asked, seen-asked}
-use Rattle.session_core.proofs.Holding.{written_back}
+use Rattle.session_core.proofs.ShownService.{written_back}
 use Rattle.session_core.proofs.Rooms.{carved_so, is_held, released_runs, released_words}
 use Rattle.session_core.proofs.desk.Desk.probe_all.Goals as goal
 

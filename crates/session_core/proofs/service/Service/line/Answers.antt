@@ -1,7 +1,7 @@
 use Rattle.std.proofs.Common.{subst}
 use Rattle.session_rules.specs.Carrying.{CarriesOut}
 use Rattle.session_core.specs.Services.{Shown, moves_of, ChangesTable}
-use Rattle.session_core.proofs.Declining.{refused_stays}
+use Rattle.session_core.proofs.RefusedLines.{refused_stays}
 use Rattle.session_core.proofs.service.Service.line.Goals as goal
 
 pub returns-clause-carried : goal.returns-clause-carried

@@ -12,8 +12,8 @@ use Rattle.session_core.specs.Services.{Shown}
 use Rattle.session_core.specs.inner.Desks.{OnDesk}
 use Rattle.session_core.specs.inner.Holding.{shown_of}
 use Rattle.session_core.specs.inner.Obeying.{Obeys, IsOpen}
-use Rattle.session_core.proofs.Holding.{opened_with, obeys_becomes}
-use Rattle.session_core.proofs.Obeying.{obeys_refusal, asked_open}
+use Rattle.session_core.proofs.ShownService.{opened_with, obeys_becomes}
+use Rattle.session_core.proofs.OneMove.{obeys_refusal, asked_open}
 use Rattle.session_core.proofs.sessions.Sessions.after.Goals as goal
 
 pub returns-then-not-mark-clause-obeys : goal.returns-then-not-mark-clause-obeys

@@ -4,7 +4,7 @@ use Rattle.session_rules.specs.declared.refusal.Refusal.TheVariants.{NoSession}
 use Rattle.session_rules.specs.Sessions.{entry_of}
 use Rattle.session_table.specs.Tables.{StandsAt}
 use Rattle.session_core.specs.Services.{Shown}
-use Rattle.session_core.proofs.Obeying.{obeys_refusal, unopened}
+use Rattle.session_core.proofs.OneMove.{obeys_refusal, unopened}
 use Rattle.session_core.proofs.sessions.Sessions.ask.Goals as goal
 
 pub ask_open-requires : goal.ask_open-requires

@@ -8,8 +8,8 @@ use Rattle.session_core.specs.inner.Desks.{OnDesk, asked_case}
 use Rattle.session_core.specs.inner.Obeying.{Obeys, IsOpen}
 use Rattle.session_core.specs.inner.Telling.{items_told}
 use Rattle.session_core.specs.inner.Holding.{shown_of}
-use Rattle.session_core.proofs.Holding.{known-there, case-there}
-use Rattle.session_core.proofs.Obeying.{obeys_told}
+use Rattle.session_core.proofs.ShownService.{known-there, case-there}
+use Rattle.session_core.proofs.OneMove.{obeys_told}
 use Rattle.session_core.proofs.sessions.Sessions.ask_case.Goals as goal
 
 pub take_up-requires : goal.take_up-requires

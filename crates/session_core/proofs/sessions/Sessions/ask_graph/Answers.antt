@@ -10,8 +10,8 @@ use Rattle.session_core.specs.Services.{Shown, case_text, served_system}
 use Rattle.session_core.specs.inner.Bases.{AreKnown, case_in}
 use Rattle.session_core.specs.inner.Obeying.{Obeys, IsOpen}
 use Rattle.session_core.specs.inner.Holding.{shown_of}
-use Rattle.session_core.proofs.Holding.{known-there, case-there}
-use Rattle.session_core.proofs.Obeying.{obeys_move}
+use Rattle.session_core.proofs.ShownService.{known-there, case-there}
+use Rattle.session_core.proofs.OneMove.{obeys_move}
 use Rattle.session_core.proofs.sessions.Sessions.ask_graph.Goals as goal
 
 -- what is told of a case

@@ -14,8 +14,8 @@ use Rattle.session_core.specs.Services.{Shown, least_case_text, exact_moves, ser
 use Rattle.session_core.specs.inner.Desks.{OnDesk, asked_case}
 use Rattle.session_core.specs.inner.Obeying.{Obeys, IsOpen}
 use Rattle.session_core.specs.inner.Holding.{shown_of}
-use Rattle.session_core.proofs.Holding.{known-there, case-there}
-use Rattle.session_core.proofs.Obeying.{obeys_move, obeys_refusal, asked_open}
+use Rattle.session_core.proofs.ShownService.{known-there, case-there}
+use Rattle.session_core.proofs.OneMove.{obeys_move, obeys_refusal, asked_open}
 use Rattle.session_core.proofs.sessions.Sessions.ask_least.Goals as goal
 
 -- what is told of a case

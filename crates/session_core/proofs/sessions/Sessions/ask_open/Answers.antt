@@ -4,7 +4,7 @@ use Rattle.script_lang.specs.declared.line.Request.{Request}
 use Rattle.session_rules.specs.declared.refusal.Refusal.TheVariants.{OpenAlready}
 use Rattle.session_rules.specs.Sessions.{when_open}
 use Rattle.session_core.specs.Services.{served_system}
-use Rattle.session_core.proofs.Obeying.{obeys_refusal, asked_open}
+use Rattle.session_core.proofs.OneMove.{obeys_refusal, asked_open}
 use Rattle.session_core.proofs.sessions.Sessions.ask_open.Goals as goal
 
 pub returns-in-Start-clause-obeys : goal.returns-in-Start-clause-obeys

@@ -8,7 +8,7 @@ use Rattle.session_core.specs.Services.{exact_moves}
 use Rattle.session_rules.specs.Carrying.{Makes, CarriesOut}
 use Rattle.session_rules.proofs.Broken.{carries_step}
 use Rattle.session_rules.proofs.Spellings.{writes_none, replies_one}
-use Rattle.session_core.proofs.Obeying.{line_carried}
+use Rattle.session_core.proofs.OneMove.{line_carried}
 use Rattle.session_core.proofs.sessions.Sessions.line.Goals as goal
 
 pub ask-requires : goal.ask-requires

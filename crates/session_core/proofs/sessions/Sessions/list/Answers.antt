@@ -5,8 +5,8 @@ use Rattle.session_core.specs.Services.{Shown}
 use Rattle.session_core.specs.inner.Desks.{is_listed}
 use Rattle.session_core.specs.inner.Holding.{shown_of}
 use Rattle.session_core.specs.inner.Obeying.{Obeys, IsOpen, list_request}
-use Rattle.session_core.proofs.Moving.{obeys_list, list_declined}
-use Rattle.session_core.proofs.Obeying.{obeys_refusal, asked_open}
+use Rattle.session_core.proofs.SessionMoves.{obeys_list, list_declined}
+use Rattle.session_core.proofs.OneMove.{obeys_refusal, asked_open}
 use Rattle.session_core.proofs.sessions.Sessions.list.Goals as goal
 
 pub returns-then-not-lists-clause-obeys : goal.returns-then-not-lists-clause-obeys

@@ -5,9 +5,9 @@ use Rattle.session_rules.specs.GraphSystems.{Subject}
 use Rattle.session_rules.specs.Sessions.{Declined, becomes, with_noted, with_number, names_of, no_such}
 use Rattle.session_core.specs.Services.{Shown, served_system}
 use Rattle.session_core.specs.inner.Obeying.{Obeys, IsOpen}
-use Rattle.session_core.proofs.Obeying.{obeys_refusal, asked_open}
+use Rattle.session_core.proofs.OneMove.{obeys_refusal, asked_open}
 use Rattle.session_core.specs.inner.Holding.{shown_of}
-use Rattle.session_core.proofs.Holding.{place-within, count-there, holds_more, obeys_becomes}
+use Rattle.session_core.proofs.ShownService.{place-within, count-there, holds_more, obeys_becomes}
 use Rattle.session_core.proofs.sessions.Sessions.note.Goals as goal
 
 pub note-requires-clause-at : goal.note-requires-clause-at

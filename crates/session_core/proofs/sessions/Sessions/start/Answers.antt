@@ -8,9 +8,9 @@ use Rattle.session_rules.specs.declared.refusal.Refusal.TheVariants.{Full}
 use Rattle.session_rules.specs.Sessions.{Declined, becomes, outcome, outcome_in, entry_of, new_entry, with_entry}
 use Rattle.session_core.specs.Services.{Shown, served_system}
 use Rattle.session_core.specs.inner.Obeying.{Obeys}
-use Rattle.session_core.proofs.Obeying.{obeys_refusal}
+use Rattle.session_core.proofs.OneMove.{obeys_refusal}
 use Rattle.session_core.specs.inner.Holding.{shown_of}
-use Rattle.session_core.proofs.Holding.{opened_with, holds_more, obeys_becomes}
+use Rattle.session_core.proofs.ShownService.{opened_with, holds_more, obeys_becomes}
 use Rattle.session_core.proofs.sessions.Sessions.start.Goals as goal
 
 -- what opens a session comes to, where it is not open

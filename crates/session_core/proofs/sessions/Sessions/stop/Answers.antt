@@ -5,9 +5,9 @@ use Rattle.session_rules.specs.Sessions.{Done, Ends, without}
 use Rattle.session_rules.proofs.Spellings.{replies_one}
 use Rattle.session_core.specs.Services.{Shown}
 use Rattle.session_core.specs.inner.Obeying.{Obeys, IsOpen}
-use Rattle.session_core.proofs.Obeying.{obeys_outcome, asked_open}
+use Rattle.session_core.proofs.OneMove.{obeys_outcome, asked_open}
 use Rattle.session_core.specs.inner.Holding.{shown_of}
-use Rattle.session_core.proofs.Holding.{holds_more}
+use Rattle.session_core.proofs.ShownService.{holds_more}
 use Rattle.session_core.proofs.sessions.Sessions.stop.Goals as goal
 
 pub returns-clause-obeys : goal.returns-clause-obeys

@@ -1,7 +1,7 @@
 use Rattle.std.proofs.Common.{List, subst}
 use Rattle.session_table.specs.inner.Ordered.{HaveBlocks}
 use Rattle.session_table.specs.declared.in_order.Open.{Open}
-use Rattle.session_table.proofs.Keeping.{out_last, given_last}
+use Rattle.session_table.proofs.KeptBlocks.{out_last, given_last}
 use Rattle.session_table.proofs.open_sessions.OpenSessions.finish.Goals as goal
 
 pub give-requires : goal.give-requires

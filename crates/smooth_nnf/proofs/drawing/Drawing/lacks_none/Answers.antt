@@ -2,7 +2,7 @@ use Rattle.std.proofs.Common.{◌≡◌, List, ℕ, Bor, Some, ap, sym, ◌∙�
 use Rattle.std.specs.Option.{option_map}
 use Rattle.std.proofs.lemmas.Bool.{eqb-true}
 use Rattle.smooth_nnf.specs.inner.Drawings.{Drawing, IsDrawing}
-use Rattle.smooth_nnf.proofs.Lacking.{none-under, is-lacking}
+use Rattle.smooth_nnf.proofs.LackingParts.{none-under, is-lacking}
 use Rattle.smooth_nnf.proofs.drawing.Drawing.lacks_none.Goals as goal
 
 pub returns-in-Some : goal.returns-in-Some

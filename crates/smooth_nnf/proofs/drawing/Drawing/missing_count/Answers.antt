@@ -5,7 +5,7 @@ use Rattle.state_rules.specs.Graphs.{mentions, IsGraph}
 use Rattle.smooth_nnf.specs.Layouts.{filler}
 use Rattle.smooth_nnf.specs.inner.Drawings.{Drawing, IsDrawing, is_over, missing_in}
 use Rattle.smooth_nnf.proofs.WordParts.{left-over}
-use Rattle.smooth_nnf.proofs.Lacking.{no-fillers, under-wider}
+use Rattle.smooth_nnf.proofs.LackingParts.{no-fillers, under-wider}
 use Rattle.smooth_nnf.proofs.drawing.Drawing.missing_count.Goals as goal
 
 pub returns-then-lacks_none-clause-count : goal.returns-then-lacks_none-clause-count

@@ -4,7 +4,7 @@ use Rattle.part_sets.specs.Numbers.{part_words}
 use Rattle.state_rules.specs.Graphs.{mentions}
 use Rattle.state_rules.specs.Bits.{has_bit}
 use Rattle.smooth_nnf.specs.inner.Drawings.{IsDrawing}
-use Rattle.smooth_nnf.proofs.Lacking.{set-bit}
+use Rattle.smooth_nnf.proofs.LackingParts.{set-bit}
 use Rattle.smooth_nnf.proofs.drawing.Drawing.node_word.Goals as goal
 
 pub returns : goal.returns

@@ -1,5 +1,5 @@
 use Rattle.std.proofs.Common.{◌≡◌, ◌∙◌, ◌-◌, sym, ap, subst, arith, take, drop, length, length-drop, take_all}
-use Rattle.system_edge.proofs.Adapting.{WroteTo, wrote_more, wrote_still}
+use Rattle.system_edge.proofs.CallSequences.{WroteTo, wrote_more, wrote_still}
 use Rattle.system_edge.proofs.adapters.StdSinkSink.put.Goals as goal
 use Rattle.system_edge.proofs.adapters.StdSinkSink.put.Goals.{in-Ok, in-Err}
 

@@ -1,5 +1,5 @@
 use Rattle.std.proofs.Common.{◌≡◌}
-use Rattle.system_edge.proofs.Adapting.{WroteTo}
+use Rattle.system_edge.proofs.CallSequences.{WroteTo}
 use Rattle.system_edge.proofs.adapters.StdSinkSink.put.Given as goal
 
 abbrev pub invariant-loop : goal.invariant-loop

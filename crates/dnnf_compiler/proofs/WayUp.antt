@@ -1,0 +1,265 @@
+-- The way up along a forest: the last step first.
+use Rattle.std.proofs.Common.{Bool, ◌≡◌, ℕ, zero, suc, ◌+◌, ◌*◌, ◌<◌, ◌≤◌, true, List, [], ◌∷◌, ◌++◌, map, length, drop, get_or, replicate, Some, refl, ap, sym, ◌∙◌, subst, arith, add-one, inl, length-append}
+use Rattle.std.specs.Prelude.{slice_get, reverse, Vec}
+use Rattle.std.specs.declared.alloc.Global.{Global}
+use Rattle.std.specs.List.{flat_map, list_all, AllByRecursion}
+use Rattle.std.proofs.lemmas.List.{append-nil, nil_from_length, drop_more, drop-drop, length-drop, length-reverse, reverse-append}
+use Rattle.std.proofs.lemmas.List.Elements.{All-from_recursion}
+use Rattle.std.proofs.lemmas.Option.{slice_get-get_or}
+use Rattle.std.proofs.lemmas.List.Concat.{flat_map-append}
+use Rattle.state_rules.specs.Graphs.{IsGraph, is_true}
+use Rattle.state_rules.proofs.Bits.{pointwise-refl}
+use Rattle.state_rules.proofs.Lists.{AllByRecursion-append}
+use Rattle.state_rules.proofs.Members.{In}
+use Rattle.node_store.specs.Stores.{IsFrozen}
+use Rattle.clause_encoder.specs.Clauses.{ClauseList, is_clause_list}
+use Rattle.branch_states.specs.declared.measuring.TheConstants.{BUDGET_LIMIT}
+use Rattle.elimination_forests.proofs.MetOrder.{clauses-valid}
+use Rattle.elimination_forests.specs.declared.forks.Forks.{Forks}
+use Rattle.elimination_forests.specs.declared.steps.Step.{Step}
+use Rattle.elimination_forests.specs.declared.steps.Weight.TheVariants.{Lists}
+use Rattle.elimination_forests.specs.Forests.{Forest, none, tree, trees, steps_of, Place, decided, root, sum_on, begins, forks_at, forks_on, width}
+use Rattle.dnnf_compiler.specs.Along.{IsWay, IsCompiledAlong}
+use Rattle.dnnf_compiler.specs.declared.compiling.Compiled.{Compiled}
+use Rattle.dnnf_compiler.specs.declared.maker.Maker.{Maker}
+use Rattle.dnnf_compiler.specs.inner.Making.{IsMaker}
+use Rattle.dnnf_compiler.specs.inner.Meeting.{AreMeetable, IsMeet, taken, AreHeld}
+use Rattle.dnnf_compiler.specs.inner.Placing.{Spot, spots_on, spots_below, IsSpot, AreLevels, IsReady, IsRaised}
+use Rattle.dnnf_compiler.proofs.ClausesLeft.{down_holds, each_spot, below_base, root_holds, root_down, root_base}
+use Rattle.dnnf_compiler.proofs.PlaceNodes.{AreBegun, begun, length-levels, length-spots, trees_few}
+use Rattle.dnnf_compiler.proofs.WayNodes.{length-taken}
+
+-- ---- the places whose nodes are made when the steps from one on are done
+
+abbrev advance : List Spot → List Spot
+advance [] = []
+advance (spot ∷ spots) = spots_below spot ++ spots
+
+abbrev pub spots_at : List Spot → ℕ → List Spot
+spots_at spots zero = spots
+spots_at spots (suc i) = advance (spots_at spots i)
+
+abbrev its_step : Spot → Step
+its_step spot = record { var = spot.v; trees = trees spot.below }
+
+abbrev its_steps : Spot → List Step
+its_steps spot = its_step spot ∷ steps_of spot.below
+
+abbrev its_forks : Spot → List Forks
+its_forks spot = forks_at spot.v spot.below spot.place ∷ forks_on spot.below (decided spot.v spot.place)
+
+abbrev pub all_sum : List Spot → ℕ
+all_sum [] = 0
+all_sum (spot ∷ spots) = (length spot.place.lists + sum_on Lists spot.below (decided spot.v spot.place)) + all_sum spots
+
+steps_on : (forest : Forest) (base : Place) → flat_map its_steps (spots_on forest base) ≡ steps_of forest
+steps_on none base = refl
+steps_on (tree v below beside) base = grind (arith, steps_on beside base)
+
+forks_along : (forest : Forest) (base : Place) → flat_map its_forks (spots_on forest base) ≡ forks_on forest base
+forks_along none base = refl
+forks_along (tree v below beside) base = grind (arith, forks_along beside base)
+
+sum_along : (forest : Forest) (base : Place) → all_sum (spots_on forest base) ≡ sum_on Lists forest base
+sum_along none base = refl
+sum_along (tree v below beside) base = omega (arith, sum_along beside base)
+
+steps_advance : (spots : List Spot) → flat_map its_steps (advance spots) ≡ drop 1 (flat_map its_steps spots)
+steps_advance [] = refl
+steps_advance (s ∷ spots) = flat_map-append its_steps (spots_below s) spots ∙ ap (λ xs. xs ++ flat_map its_steps spots) (steps_on s.below (decided s.v s.place))
+
+forks_advance : (spots : List Spot) → flat_map its_forks (advance spots) ≡ drop 1 (flat_map its_forks spots)
+forks_advance [] = refl
+forks_advance (s ∷ spots) = flat_map-append its_forks (spots_below s) spots ∙ ap (λ xs. xs ++ flat_map its_forks spots) (forks_along s.below (decided s.v s.place))
+
+all_sum-append : (xs ys : List Spot) → all_sum (xs ++ ys) ≡ all_sum xs + all_sum ys
+all_sum-append [] ys = omega arith
+all_sum-append (x ∷ xs) ys = omega (arith, all_sum-append xs ys)
+
+sum_next : (s : Spot) (rest : List Spot) → length s.place.lists + all_sum (spots_below s ++ rest) ≡ all_sum (s ∷ rest)
+sum_next s rest = omega (arith, all_sum-append (spots_below s) rest, sum_along s.below (decided s.v s.place))
+
+sum_advance : (spots : List Spot) → all_sum (advance spots) ≤ all_sum spots
+sum_advance [] = omega arith
+sum_advance (s ∷ rest) = omega (arith, sum_next s rest)
+
+trees_within : (forest : Forest) → trees forest ≤ width forest
+trees_within none = omega arith
+trees_within (tree v below beside) = omega arith
+
+narrow_on : (k : ℕ) (forest : Forest) (base : Place) → width forest ≤ k → AllByRecursion (λ (s : Spot). width s.below ≤ k) (spots_on forest base)
+narrow_on k none base h = tt
+narrow_on k (tree v below beside) base h = (omega arith, narrow_on k beside base (omega arith))
+
+each_advance : (P : Spot → Type 0) → ((s : Spot) → P s → AllByRecursion P (spots_below s)) → (spots : List Spot) → AllByRecursion P spots → AllByRecursion P (advance spots)
+each_advance P h [] are = tt
+each_advance P h (s ∷ spots) are = AllByRecursion-append P (spots_below s) spots (h s are.0) are.1
+
+-- what is known of the places when so many steps are left out
+record IsAfter (vars most sum i : ℕ) (steps : List Step) (forks : List Forks) (spots : List Spot) : Type 0 where
+  steps_are : flat_map its_steps spots ≡ drop i steps
+  forks_are : flat_map its_forks spots ≡ drop i forks
+  few : all_sum spots ≤ sum
+  each : AllByRecursion (IsSpot vars) spots
+  narrow : AllByRecursion (λ (s : Spot). width s.below ≤ most) spots
+
+drop_next : {X : Type 0} (i : ℕ) (xs : List X) → drop 1 (drop i xs) ≡ drop (suc i) xs
+drop_next i xs = drop-drop 1 i xs ∙ ap (λ n. drop n xs) (add-one i)
+
+all_after : (vars most sum i : ℕ) (steps : List Step) (forks : List Forks) (spots : List Spot) → IsAfter vars most sum 0 steps forks spots → IsAfter vars most sum i steps forks (spots_at spots i)
+all_after vars most sum zero steps forks spots is = is
+all_after vars most sum (suc i) steps forks spots is =
+    let so_far = all_after vars most sum i steps forks spots is in
+    record {
+      steps_are = steps_advance (spots_at spots i) ∙ ap (drop 1) so_far.steps_are ∙ drop_next i steps;
+      forks_are = forks_advance (spots_at spots i) ∙ ap (drop 1) so_far.forks_are ∙ drop_next i forks;
+      few = omega (arith, sum_advance (spots_at spots i), so_far.few);
+      each = each_advance (IsSpot vars) (λ s one. each_spot vars s.below (decided s.v s.place) (below_base vars s one)) (spots_at spots i) so_far.each;
+      narrow = each_advance (λ s. width s.below ≤ most) (λ s low. narrow_on most s.below (decided s.v s.place) low) (spots_at spots i) so_far.narrow;
+    }
+
+-- ---- the place of a step, and those that are after it
+
+pub record IsNext (first_spots : List Spot) (i : ℕ) : Type 0 where
+  pub spot : Spot
+  pub rest : List Spot
+  pub are : spots_at first_spots i ≡ spot ∷ rest
+
+head_at : {X : Type 0} (i : ℕ) (x : X) (xs ys : List X) → x ∷ ys ≡ drop i xs → slice_get xs i ≡ Some x
+head_at i x xs ys e =
+    let low : i < length xs = omega (arith, ap length e, length-drop i xs) in
+    let more = drop_more xs i x low in
+    slice_get-get_or xs i x low ∙ ap Some (let same : get_or xs i x ≡ x = cc in same)
+
+forks_many : (forest : Forest) (base : Place) → length (forks_on forest base) ≡ length (steps_of forest)
+forks_many none base = refl
+forks_many (tree v below beside) base = grind (arith, length-append, forks_many below, forks_many beside base)
+
+-- ---- the way up
+
+abbrev pub start : ClauseList → Forest → List Spot
+start cnf forest = spots_on forest (root cnf.clauses)
+
+-- The nodes of these places are made.
+pub record IsClimbing (cnf : ClauseList) (most : ℕ) (m : Maker) (stack : List (Vec ℕ Global)) (spots : List Spot) : Type 0 where
+  pub maker : IsMaker m
+  pub vars : m.store.vars ≡ cnf.vars
+  pub stacked : AreLevels m.store.nodes spots (reverse stack)
+  pub made : m.store.made ≤ 2 + 3 * all_sum spots
+  pub handed : m.store.handed ≤ (4 + 2 * most) * all_sum spots
+
+-- The nodes at the base of all may be met, and the graph of what they meet in is right.
+pub record IsRoot (cnf : ClauseList) (forest : Forest) (m : Maker) (kids : List ℕ) : Type 0 where
+  pub meetable : AreMeetable m kids
+  pub right : (new : Maker) (node : ℕ) (compiled : Compiled) → IsMeet m new kids node → IsGraph compiled.graph → IsFrozen new.store node compiled.graph → compiled.made ≡ new.store.made
+      → IsCompiledAlong forest cnf compiled
+
+-- the children of a place's nodes
+kids_few : (old new k most lists below all : ℕ) → new ≤ old + (4 + 2 * k) * lists → k ≤ most → old ≤ (4 + 2 * most) * below → lists + below ≡ all → new ≤ (4 + 2 * most) * all
+kids_few old new k most lists below all h low so_far e = grind arith
+
+module _ (cnf : ClauseList) (steps : List Step) (forks : List Forks) (forest : Forest) (is : IsWay cnf steps forks forest) where
+  pub forks_long : length forks ≡ length steps
+  forks_long = ap length is.forks_are ∙ forks_many forest (root cnf.clauses) ∙ sym (ap length is.steps_are)
+
+  its_after : is_clause_list cnf ≡ true → (i : ℕ) → IsAfter cnf.vars (width forest) BUDGET_LIMIT i steps forks (spots_at (start cnf forest) i)
+  its_after valid i = all_after cnf.vars (width forest) BUDGET_LIMIT i steps forks (start cnf forest) (record {
+    steps_are = steps_on forest (root cnf.clauses) ∙ sym is.steps_are;
+    forks_are = forks_along forest (root cnf.clauses) ∙ sym is.forks_are;
+    few = omega (arith, sum_along forest (root cnf.clauses), is.few);
+    each = each_spot cnf.vars forest (root cnf.clauses) (root_base cnf forest is.forest_is (clauses-valid cnf valid).2);
+    narrow = narrow_on (width forest) forest (root cnf.clauses) (omega arith);
+  })
+
+  pub next_way : is_clause_list cnf ≡ true → (i : ℕ) → i < length steps → IsNext (start cnf forest) i
+  next_way valid i h = by (spots_at (start cnf forest) i) refl where
+    by : (spots : List Spot) → spots_at (start cnf forest) i ≡ spots → IsNext (start cnf forest) i
+    by [] e = absurd (omega (arith, h, ap length (sym (ap (flat_map its_steps) e) ∙ (its_after valid i).steps_are), length-drop i steps))
+    by (spot ∷ rest) e = record { spot = spot; rest = rest; are = e }
+
+  pub climb_first : is_clause_list cnf ≡ true → (i : ℕ) (m : Maker) (stack : List (Vec ℕ Global)) → i ≡ length steps → IsMaker m → m.store.vars ≡ cnf.vars → m.store.made ≡ 2 → m.store.handed ≡ 0 → stack ≡ []
+      → IsClimbing cnf (width forest) m stack (spots_at (start cnf forest) i)
+  climb_first valid i m stack e made vars two no_kid empty = by (spots_at (start cnf forest) i) (ap length (its_after valid i).steps_are) where
+    by : (spots : List Spot) → length (flat_map its_steps spots) ≡ length (drop i steps) → IsClimbing cnf (width forest) m stack spots
+    by [] same = grind (arith, made, vars, two, no_kid, empty)
+    by (spot ∷ rest) same = absurd (omega (arith, e, same, length-drop i steps))
+
+  module _ (valid : is_clause_list cnf ≡ true) (i : ℕ) (m : Maker) (stack : List (Vec ℕ Global)) (next : IsNext (start cnf forest) i) (climbing : IsClimbing cnf (width forest) m stack (spots_at (start cnf forest) (suc i))) where
+    known : IsAfter cnf.vars (width forest) BUDGET_LIMIT i steps forks (next.spot ∷ next.rest)
+    known = subst (IsAfter cnf.vars (width forest) BUDGET_LIMIT i steps forks) next.are (its_after valid i)
+
+    climbed : IsClimbing cnf (width forest) m stack (spots_below next.spot ++ next.rest)
+    climbed = subst (λ spots. IsClimbing cnf (width forest) m stack (advance spots)) next.are climbing
+
+    pub climb_ready : (step : Step) (fork : Forks) → slice_get steps i ≡ Some step → slice_get forks i ≡ Some fork → IsReady m step fork stack next.spot next.rest
+    climb_ready step fork step_there forks_there =
+        grind (arith, step_there, forks_there, head_at i (its_step next.spot) steps _ known.steps_are, head_at i (forks_at next.spot.v next.spot.below next.spot.place) forks _ known.forks_are, climbing, climbed, known, sum_next next.spot next.rest)
+
+    pub climb_more : (new : Maker) (under : List (Vec ℕ Global)) (numbers : Vec ℕ Global) → IsRaised m new under numbers.items next.spot next.rest
+        → IsClimbing cnf (width forest) new (under ++ numbers ∷ []) (spots_at (start cnf forest) i)
+    climb_more new under numbers raised = grind (arith, next.are, raised, climbing, climbed, known, sum_next next.spot next.rest, trees_within next.spot.below, kids_few m.store.handed new.store.handed (trees next.spot.below) (width forest), reverse-append under (numbers ∷ []))
+
+  -- ---- the base of all
+
+  module _ (valid : is_clause_list cnf ≡ true) (m : Maker) (stack : List (Vec ℕ Global)) (climbing : IsClimbing cnf (width forest) m stack (spots_at (start cnf forest) 0)) where
+    abbrev all : List Bool
+    all = map (λ c. true) cnf.clauses
+
+    module _ (top under : List (Vec ℕ Global)) (are : reverse stack ≡ top ++ reverse under) (many : length top ≡ length stack) where
+      whole : reverse stack ≡ top
+      whole = grind (arith, are, length-append, length-reverse, many, append-nil, nil_from_length)
+
+      levels : AreLevels m.store.nodes (spots_on forest (root cnf.clauses)) top
+      levels = subst (AreLevels m.store.nodes (spots_on forest (root cnf.clauses))) whole climbing.stacked
+
+      there : In all (root cnf.clauses).lists
+      there = inl refl
+
+      its_begin : AreBegun m.store.nodes forest (root cnf.clauses) top all
+      its_begin = begun m.store.nodes forest (root cnf.clauses) top all (root_base cnf forest is.forest_is (clauses-valid cnf valid).2).once there levels
+
+      pub top_many : length top ≡ trees forest
+      top_many = sym (length-levels m.store.nodes (spots_on forest (root cnf.clauses)) top levels) ∙ length-spots forest (root cnf.clauses)
+
+      begin_zero : (part_forest : Forest) → begins part_forest (root cnf.clauses) all ≡ replicate (trees part_forest) 0
+      begin_zero none = refl
+      begin_zero (tree v below beside) = grind (arith, begin_zero beside, pointwise-refl)
+
+      module _ (numbers : List ℕ) (n : ℕ) (long : n ≡ length stack) (zeros : numbers ≡ replicate n 0) where
+        same_numbers : begins forest (root cnf.clauses) all ≡ numbers
+        same_numbers = begin_zero forest ∙ ap (λ k. replicate k 0) (sym (long ∙ sym many ∙ top_many)) ∙ sym zeros
+
+        pub root_held : AreHeld top numbers
+        root_held = subst (AreHeld top) same_numbers its_begin.held
+
+        module _ (kids : List ℕ) (e : kids ≡ taken top numbers) where
+          kids_are : taken top (begins forest (root cnf.clauses) all) ≡ kids
+          kids_are = ap (taken top) same_numbers ∙ sym e
+
+          kids_many : length kids ≡ trees forest
+          kids_many = ap length e ∙ length-taken top numbers root_held ∙ top_many
+
+          pub root_is : IsRoot cnf forest m kids
+          root_is = record {
+            meetable = grind (arith, climbing, All-from_recursion, kids_are, its_begin, kids_many, trees_few forest (root cnf.clauses) all there, is.few, sum_along forest (root cnf.clauses));
+            right = λ new node compiled meet valid_graph frozen made.
+                let vars : new.store.vars ≡ cnf.vars = meet.adds.vars ∙ climbing.vars in
+                record {
+                  decomposable = valid_graph;
+                  vars = frozen.vars ∙ vars;
+                  truth = λ a.
+                      frozen.truth a
+                      ∙ meet.truth a
+                      ∙ ap (list_all (λ k. is_true m.store.nodes k a)) (sym kids_are)
+                      ∙ its_begin.truth a
+                      ∙ sym (down_holds forest (root cnf.clauses) a all (root_down cnf forest is.forest_is (clauses-valid cnf valid).2))
+                      ∙ root_holds cnf.clauses a;
+                  no_bare_kid = frozen.no_bare_kid meet.adds.maker.bare;
+                  few_made = omega (arith, made, meet.adds.made, climbing.made, sum_along forest (root cnf.clauses));
+                  few_alone = λ h. let alone = (meet.alone (omega (arith, h, kids_many))).made in omega (arith, made, alone, climbing.made, sum_along forest (root cnf.clauses));
+                  few_nodes = omega (arith, frozen.few, made, vars);
+                  few_edges = omega (arith, frozen.few_edges, meet.adds.handed, kids_many, trees_within forest, last_kids m.store.handed (width forest) (sum_on Lists forest (root cnf.clauses)) (subst (λ n. m.store.handed ≤ (4 + 2 * width forest) * n) (sum_along forest (root cnf.clauses)) climbing.handed));
+                };
+          } where
+            last_kids : (handed k sum : ℕ) → handed ≤ (4 + 2 * k) * sum → handed + k ≤ (4 + 2 * k) * (1 + sum)
+            last_kids handed k sum h = grind arith

@@ -1,0 +1,187 @@
+-- A session that moves on, once and so many times.
+use Rattle.std.proofs.Common.{◌≡◌, ◌∙◌, ◌∷◌, ◌++◌, ◌+◌, ◌-◌, ◌<◌, ◌≤◌, arith, [], ℕ, zero, suc, Bool, true, false, List, map, Option, Some, Result, Ok, Err, IsErr, Ordering, refl, ap, sym, subst, append_assoc, append-nil}
+use Rattle.std.specs.Prelude.{IfOk}
+use Rattle.std.proofs.lemmas.List.{map-append}
+use Rattle.std.specs.Ordering.{nat_cmp}
+use Rattle.std.specs.Cmp.Lexicographic.{slice_cmp}
+use Rattle.std.specs.FinMap.Entries.{by_order, put}
+use Rattle.std.proofs.lemmas.Cmp.{nat_list_cmp_total, tied_itself}
+use Rattle.text_rules.specs.Names.{Name}
+use Rattle.script_lang.specs.Script.{Ask}
+use Rattle.session_rules.specs.GraphSystems.{Subject}
+use Rattle.session_rules.specs.declared.refusal.Refusal.TheVariants.{NoLevels}
+use Rattle.session_rules.specs.Items.{Item, line}
+use Rattle.session_rules.specs.Replies.{Found as Reply, listing}
+use Rattle.session_rules.specs.Sessions.{Table, Entry, Step, Declined, goes_through, entry_of, with_entry, when_open}
+use Rattle.session_rules.specs.Moves.{goes_on}
+use Rattle.session_rules.specs.Spelling.{WritesPart, Replies}
+use Rattle.session_rules.specs.Carrying.{Makes, BreaksOff, CarriesOut}
+use Rattle.session_rules.proofs.Spellings.{writes_none}
+use Rattle.session_rules.proofs.Broken.{makes_none, makes_more, breaks_after}
+use Rattle.session_table.specs.Tables.{StandsAt}
+use Rattle.session_core.specs.Services.{Shown, ChangesTable, exact_moves, served_system}
+use Rattle.session_core.specs.declared.listed.Listed.{Listed}
+use Rattle.session_core.specs.declared.listed.NextState.{NextState}
+use Rattle.session_core.specs.inner.Desks.{is_listed, is_found}
+use Rattle.session_core.specs.inner.Texts.{next_text}
+use Rattle.session_core.specs.inner.Obeying.{Obeys, next_request, list_request, the_found, found_by, found_entry, found_moves, PointMoves, MovesOn}
+use Rattle.session_core.proofs.RefusedLines.{no_more}
+use Rattle.session_core.proofs.OneMove.{obeys_outcome}
+
+-- ---- a reply that failed
+
+pub replies_part : {T E : Type 0} (before after : Option (List ℕ)) (result : Result T E) (items : List Item) → IsErr result → WritesPart before after items → Replies before after result items
+replies_part before after result items failed part = grind arith
+
+pub if_failed : {T E : Type 0} (P : T → Type 0) (result : Result T E) → IsErr result → IfOk result P
+if_failed P result failed = grind arith
+
+-- ---- an entry that is put twice
+
+twice_by : {X : Type 0} (name : Name) (v w : X) (e : Name × X) (es : List (Name × X)) (o : Ordering) → slice_cmp nat_cmp name e.0 ≡ o
+    → put (slice_cmp nat_cmp) name w (put (slice_cmp nat_cmp) name v es) ≡ put (slice_cmp nat_cmp) name w es
+    → put (slice_cmp nat_cmp) name w (by_order o ((name, v) ∷ e ∷ es) ((e.0, v) ∷ es) (e ∷ put (slice_cmp nat_cmp) name v es)) ≡ by_order o ((name, w) ∷ e ∷ es) ((e.0, w) ∷ es) (e ∷ put (slice_cmp nat_cmp) name w es)
+twice_by name v w e es o is later = grind (arith, nat_list_cmp_total)
+
+put_twice : {X : Type 0} (name : Name) (v w : X) (es : List (Name × X)) → put (slice_cmp nat_cmp) name w (put (slice_cmp nat_cmp) name v es) ≡ put (slice_cmp nat_cmp) name w es
+put_twice name v w [] = ap (λ o. by_order o ((name, w) ∷ (name, v) ∷ []) ((name, w) ∷ []) ((name, v) ∷ put (slice_cmp nat_cmp) name w [])) (tied_itself nat_list_cmp_total name)
+put_twice name v w (e ∷ es) = twice_by name v w e es (slice_cmp nat_cmp name e.0) refl (put_twice name v w es)
+
+-- ---- once
+
+pub moves_on : {E : Type 0} (old new : Shown) (listed : Listed) (place : ℕ) (session : Name) (entry : Entry) (next : NextState) (state : List Bool) (before after : Option (List ℕ)) (result : Result Bool E)
+    → PointMoves old.subject listed old.table new.table place session entry next state → ChangesTable old new
+    → Replies before after result (line (next_text session old.subject.parts next state) ∷ []) → IfOk result (λ more. more ≡ is_found next)
+    → MovesOn old new listed place session entry before after result
+moves_on old new listed place session entry next state before after result m stays reply more = grind arith
+
+-- a listing, and the request for its next state
+
+-- what is not listed is declined
+pub next_declined : (subject : Subject) (listed : Listed) (session : Name) (entry : Entry) → is_listed subject listed ≡ false → when_open (served_system subject) session entry (next_request listed) ≡ Declined NoLevels
+next_declined subject listed session entry off = grind arith
+
+pub list_declined : (subject : Subject) (listed : Listed) (session : Name) (entry : Entry) (count : ℕ) → is_listed subject listed ≡ false → when_open (served_system subject) session entry (list_request listed count) ≡ Declined NoLevels
+list_declined subject listed session entry count off = grind arith
+
+-- the request was obeyed
+pub obeys_next : {T E : Type 0} (old new : Shown) (listed : Listed) (session : Name) (entry : Entry) (before after : Option (List ℕ)) (result : Result T E)
+    → is_listed old.subject listed ≡ true → entry_of session old.table ≡ Some entry
+    → Replies before after result ((the_found old.subject listed session entry).item ∷ [])
+    → new ≡ record old { table = with_entry session (found_entry old.subject listed session entry) old.table } → Obeys old new session (next_request listed) before after result
+obeys_next old new listed session entry before after result is there reply moves = grind (arith, obeys_outcome)
+
+-- ---- so many times
+
+-- Some of a listing were shown, and so many more are left.
+pub record Lists (old now : Shown) (listed : Listed) (place : ℕ) (session : Name) (entry : Entry) (count left : ℕ) (before after : Option (List ℕ)) : Type 0 where
+  pub point : Option (List Bool)
+  pub done : List Reply
+  pub both : done ++ listing (found_by old.subject listed session entry) left point ≡ listing (found_by old.subject listed session entry) count entry.point
+  pub made : Makes old.table now.table (map (goes_on old.table session entry) done) before after
+  pub moved : now ≡ record old { table = with_entry session (record entry { point = point }) old.table }
+  pub stands : StandsAt now.table place session (record entry { point = point })
+
+-- none was shown yet
+pub lists_none : (old : Shown) (listed : Listed) (place : ℕ) (session : Name) (entry : Entry) (count : ℕ) (before : Option (List ℕ)) → StandsAt old.table place session entry → Lists old old listed place session entry count (count - 0) before before
+lists_none old listed place session entry count before stands = record {
+  point = entry.point;
+  done = [];
+  both = ap (λ (n : ℕ). listing (found_by old.subject listed session entry) n entry.point) (let e : count - 0 ≡ count = omega arith in e);
+  made = makes_none old.table before;
+  moved = ap (λ (t : Table). record old { table = t }) (sym stands.kept);
+  stands = stands;
+}
+
+module _ (old : Shown) (listed : Listed) (place : ℕ) (session : Name) (entry : Entry) (count : ℕ) where
+  abbrev next : Option (List Bool) → Reply
+  next = found_by old.subject listed session entry
+
+  abbrev move : Reply → Step
+  move = goes_on old.table session entry
+
+  abbrev at_point : Option (List Bool) → Entry
+  at_point point = record entry { point = point }
+
+  -- what comes after the next one
+  abbrev later_of : ℕ → Option (List Bool) → List Reply
+  later_of left point = elim (next point).more as (λ _. List Reply) [ true ↦ listing next left (next point).point | false ↦ [] ]
+
+  none_left : (left : ℕ) (point : Option (List Bool)) → (next point).more ≡ false → listing next (suc left) point ≡ next point ∷ []
+  none_left left point e = ap (λ (b : Bool). next point ∷ (elim b as (λ _. List Reply) [ true ↦ listing next left (next point).point | false ↦ [] ])) e
+
+  -- the move that was made, or broke off
+  module _ (now new : Shown) (counter : ℕ) (less : counter < count) (a b c : Option (List ℕ)) (lists : Lists old now listed place session entry count (count - counter) a b) where
+    abbrev left : ℕ
+    left = count - (counter + 1)
+
+    split : lists.done ++ listing next (suc left) lists.point ≡ listing next count entry.point
+    split = ap (λ (n : ℕ). lists.done ++ listing next n lists.point) (let e : suc (count - (counter + 1)) ≡ count - counter = omega arith in e) ∙ lists.both
+
+    module _ {E : Type 0} (result : Result Bool E) (m : MovesOn now new listed place session (at_point lists.point) b c result) where
+      same_next : the_found now.subject listed session (at_point lists.point) ≡ next lists.point
+      same_next = ap (λ (v : Shown). the_found v.subject listed session (at_point lists.point)) lists.moved
+
+      new_table : new.table ≡ with_entry session (at_point (next lists.point).point) old.table
+      new_table = grind (arith, put_twice)
+
+      moved_again : new ≡ record old { table = with_entry session (at_point (next lists.point).point) old.table }
+      moved_again = grind (arith, new_table)
+
+      says_next : Replies b c result ((next lists.point).item ∷ [])
+      says_next = subst (λ (f : Reply). Replies b c result (f.item ∷ [])) same_next m.reply
+
+    -- the same for each result
+    module _ {E : Type 0} (v : Bool) (m : MovesOn {E = E} now new listed place session (at_point lists.point) b c (Ok v)) where
+      made_one : Makes old.table new.table (map move (lists.done ++ next lists.point ∷ [])) a c
+      made_one =
+          subst (λ (ms : List Step). Makes old.table new.table ms a c) (sym (map-append move lists.done (next lists.point ∷ [])))
+          (makes_more lists.made (record { written = says_next (Ok v) m; table = new_table (Ok v) m }))
+
+      -- another one was shown
+      pub lists_more : v ≡ true → Lists old new listed place session entry count left a c
+      lists_more on = grind (arith, append_assoc lists.done (next lists.point ∷ []) (listing next left (next lists.point).point), split, made_one, moved_again (Ok v) m)
+
+      -- nothing was found any more
+      pub lists_end : v ≡ false → Makes old.table new.table (map move (listing next count entry.point)) a c
+      lists_end off = grind (arith, made_one)
+
+    -- a write failed
+    pub lists_broken : {E : Type 0} (e : E) → MovesOn now new listed place session (at_point lists.point) b c (Err e) → BreaksOff new.table (map move (listing next count entry.point)) a c
+    lists_broken e m =
+        subst (λ (fs : List Reply). BreaksOff new.table (map move fs) a c) split
+        (subst (λ (ms : List Step). BreaksOff new.table ms a c) (sym (map-append move lists.done (next lists.point ∷ (later_of left lists.point))))
+        (breaks_after lists.made (record {
+          made = [];
+          move = move (next lists.point);
+          others = map move (later_of left lists.point);
+          split = refl;
+          middle = b;
+          written = writes_none b;
+          begun = says_next (Err e) m;
+          table = new_table (Err e) m;
+        })))
+
+  -- all were shown
+  pub lists_all : (now : Shown) (counter : ℕ) → count ≤ counter → (a b : Option (List ℕ)) → Lists old now listed place session entry count (count - counter) a b
+      → Makes old.table now.table (map move (listing next count entry.point)) a b
+  lists_all now counter over a b lists = grind (arith, append-nil)
+
+pub carries_broken : {T E : Type 0} (old new : Table) (ms : List Step) (before after : Option (List ℕ)) (result : Result T E) → IsErr result → BreaksOff new ms before after → CarriesOut old new ms before after result
+carries_broken old new ms before after result failed broke = grind arith
+
+-- ---- the request for so many
+
+list_moves : (old : Shown) (listed : Listed) (session : Name) (entry : Entry) (n : ℕ) → is_listed old.subject listed ≡ true → entry_of session old.table ≡ Some entry
+    → found_moves old listed session entry (suc n) ≡ exact_moves old old.table (Ask session (list_request listed (suc n)))
+list_moves old listed session entry n is found = grind arith
+
+none_open : (subject : Subject) (listed : Listed) (session : Name) (entry : Entry) → is_listed subject listed ≡ true
+    → when_open (served_system subject) session entry (list_request listed zero) ≡ goes_through entry []
+none_open subject listed session entry is = grind arith
+
+-- the request was obeyed; for none it is one move, which says nothing and changes nothing
+pub obeys_list : {T E : Type 0} (old new : Shown) (listed : Listed) (place : ℕ) (session : Name) (entry : Entry) (count : ℕ) (before after : Option (List ℕ)) (result : Result T E)
+    → is_listed old.subject listed ≡ true → StandsAt old.table place session entry
+    → CarriesOut old.table new.table (found_moves old listed session entry count) before after result → ChangesTable old new → Obeys old new session (list_request listed count) before after result
+obeys_list old new listed place session entry count before after result is stands given stays = grind (arith, no_more, list_moves)

@@ -1,4 +1,4 @@
--- What stands behind the first opening bracket of a line, and the tokens behind the first that is one.
+-- What is after the first opening bracket of a line, and the tokens after the first that is one.
 use Rattle.std.proofs.Common.{◌≡◌, ℕ, ◌==◌, Bool, true, false, not, List, [], ◌∷◌, ◌++◌, codes, refl, sym, ap, ◌∙◌, arith}
 use Rattle.std.specs.List.{list_all, position_or_len}
 use Rattle.std.proofs.lemmas.Bool.{and_parts, and_from, not_from_false, false≢true}
@@ -30,7 +30,7 @@ word_is_other ends b ts others first other e = grind arith
 rest_is_other : (others : List (List ℕ)) (text first : List ℕ) → ends_word true text ≡ false → tokens true text ≡ first ∷ others → is_open first ≡ false
 rest_is_other others text first goes e = grind arith
 
--- ---- the tokens behind the first bracket
+-- ---- the tokens after the first bracket
 
 abbrev IsBehind : List ℕ → Type 0
 IsBehind line = (before after : List (List ℕ)) → tokens true line ≡ before ++ (codes "(" ∷ after) → none_opens before ≡ true → tokens true (behind_bracket line) ≡ after
@@ -67,7 +67,7 @@ unmarked_is_other word h = by (is_open word) refl
     by false e = refl
     by true e = absurd (let bracket = equal_if_same word (codes "(") e in let no : false ≡ true = sym (ap has_no_mark bracket) ∙ h in cc)
 
--- what stands behind the bracket of a gate
+-- what is after the bracket of a gate
 pub tokens_of_inputs : (line output kind bracket : List ℕ) (left behind ts : List (List ℕ)) → tokens true line ≡ output ∷ codes "=" ∷ left → left ≡ kind ∷ behind → behind ≡ bracket ∷ ts
     → bracket ≡ codes "(" → has_no_mark output ≡ true → has_no_mark kind ≡ true → tokens true (behind_bracket line) ≡ ts
 tokens_of_inputs line output kind bracket left behind ts e f g b o k =

@@ -39,7 +39,7 @@ read_are_faultless flip_flops n (line ∷ lines) = grind (arith, and_from, read_
 
 -- ---- statements one after the other
 
--- what is left of statements passes, so the next one does and those behind it
+-- what is left of statements passes, so the next one does and those after it
 pub faultless_next : {S : Type 0} (means : S → Statement) (statements : List S) (i : ℕ) (default : S) → i < length statements → list_all is_faultless (map means (drop i statements)) ≡ true
     → is_faultless (means (get_or statements i default)) ≡ true
 faultless_next means statements i default l h = grind (arith, drop_more)

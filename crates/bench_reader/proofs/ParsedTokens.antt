@@ -22,7 +22,7 @@ one_byte (b ∷ d ∷ m) k h l e = absurd (omega arith)
 some_with_first : (x : Name) (o : Option (List Name)) → is_some (option_map (λ (names : List Name). x ∷ names) o) ≡ is_some o
 some_with_first x o = grind arith
 
--- A list goes on behind a word, a comma and the next word.
+-- A list goes on after a word, a comma and the next word.
 pub listed_behind_comma : (x m y : Name) (left behind ts : List (List ℕ)) → has_no_mark x ≡ true → left ≡ m ∷ behind → m ≡ codes "," → behind ≡ y ∷ ts
     → is_some (listed_from (x ∷ left)) ≡ is_some (listed_from (y ∷ ts))
 listed_behind_comma x m y left behind ts w l c b = rw (l, b, c, w) (some_with_first x (listed_from (y ∷ ts)))

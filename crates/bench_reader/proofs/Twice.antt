@@ -1,4 +1,4 @@
--- The statements that drive a signal again: there are none exactly where the signals are found, and else the first is told.
+-- The statements that drive a signal again: there are none exactly if the signals are found, and else the first is reported.
 use Rattle.std.proofs.Common.{◌≡◌, ℕ, Bool, true, false, List, [], ◌∷◌, map, Option, Some, None, is_some, refl, sym, ap, subst, ◌∙◌, arith}
 use Rattle.std.specs.Prelude.{◌||◌, Result, Ok, Err, if◌then◌else◌}
 use Rattle.std.specs.List.{flat_map}

@@ -111,7 +111,7 @@ abbrev IsFirst : Option ℕ → List ℕ → Type 0
 IsFirst None lines = lines ≡ []
 IsFirst (Some line) lines = (rest : List ℕ) × (lines ≡ line ∷ rest)
 
--- The first line that uses what is not among the driven signals, where each of two lists has them.
+-- The first line that uses what is not among the driven signals, if each of two lists has them.
 first_without : (there signals : List Name) → ((n : Name) → is_among there n ≡ is_among signals n) → (statements : List (ℕ × Statement))
     → IsFirst (first_undriven signals statements) (lines_without there statements)
 first_without there signals alike [] = refl
@@ -123,7 +123,7 @@ all_used signals ((line, s) ∷ statements) h = grind (arith, all_used signals s
 
 -- ---- statements, from step to step
 
--- the device, where these are the faults that the statements have together
+-- the device, if these are the faults that the statements have together
 abbrev unless_together : List (ℕ × Statement) → List Fault → List Fault → List Fault → Result Device Fault
 unless_together statements twice without many = unless_fault (twice ++ without ++ many) (device_of (map said statements))
 

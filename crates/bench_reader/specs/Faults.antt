@@ -1,4 +1,4 @@
--- The faults of netlists: their numbers, their names, and which of them an error tells.
+-- The faults of netlists: their numbers, their names, and which of them an error says.
 use Rattle.std.specs.Prelude.{ℕ, List, [], ◌∷◌, codes, Option, Some, None, Result, Ok, Err}
 use Rattle.bench_reader.specs.declared.fault.BenchFault.{BenchFault}
 use Rattle.bench_reader.specs.declared.fault.BenchFault.TheVariants.{Line, Name, Kind, Inputs, Sequential, DrivenTwice, Undriven, TooMany}

@@ -62,7 +62,7 @@ netlist_of readings =
 abbrev pub readings : FlipFlops → List ℕ → List (ℕ × Result (Option Statement) BenchFault)
 readings flip_flops text = enumerate_from 1 (map (reading flip_flops) (all_lines text))
 
--- The device of a text or its first fault, where flip-flops are refused or taken.
+-- The device of a text or its first fault, if flip-flops are refused or taken.
 abbrev pub netlist_with : FlipFlops → List ℕ → Result Device Fault
 netlist_with flip_flops text = netlist_of (readings flip_flops text)
 

@@ -1,4 +1,4 @@
--- Which signals the statements of a netlist drive and use. A statement stands beside the number of its line.
+-- Which signals the statements of a netlist drive and use. A statement is beside the number of its line.
 use Rattle.std.specs.Prelude.{ℕ, Bool, false, not, List, [], ◌∷◌, ◌++◌, map, if◌then◌else◌}
 use Rattle.std.specs.List.{list_all, filter, flat_map}
 use Rattle.text_rules.specs.Names.{Name, is_among}

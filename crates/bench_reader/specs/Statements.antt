@@ -55,7 +55,7 @@ listed_from (x ∷ mark ∷ []) = if has_no_mark x && is_the_mark (codes ")") ma
 listed_from (x ∷ mark ∷ y ∷ rest) =
     if has_no_mark x && is_the_mark (codes ",") mark then option_map (λ names. x ∷ names) (listed_from (y ∷ rest)) else None
 
--- what stands behind an opening bracket
+-- what is after an opening bracket
 abbrev pub inputs_in : List (List ℕ) → Option (List Name)
 inputs_in [] = None
 inputs_in (mark ∷ []) = if is_the_mark (codes ")") mark then Some [] else None
@@ -90,12 +90,12 @@ abbrev pub inputs_fault : ℕ → Option Kind → Option BenchFault
 inputs_fault inputs None = Some NoKind
 inputs_fault inputs (Some gate) = if takes_inputs (rule gate) inputs then None else Some WrongInputs
 
--- A flip-flop that is refused is told whatever its inputs; one that is taken has those of a buffer.
+-- A flip-flop that is refused is reported whatever its inputs; one that is taken has those of a buffer.
 abbrev pub kind_fault : FlipFlops → ℕ → NamedKind → Option BenchFault
 kind_fault Refused inputs Sequential = Some KeepsItsValue
 kind_fault flip_flops inputs kind = inputs_fault inputs (part_gate kind)
 
--- A signal that is no name is told before the kind, and a kind that is not known before its inputs.
+-- A signal that is no name is reported before the kind, and a kind that is not known before its inputs.
 abbrev pub statement_fault : FlipFlops → Statement → Option BenchFault
 statement_fault flip_flops (Input signal) = if is_short_name signal then None else Some NoName
 statement_fault flip_flops (Output signal) = if is_short_name signal then None else Some NoName

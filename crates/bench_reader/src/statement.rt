@@ -41,7 +41,7 @@ impl<'a> Inputs<'a> {
     }
 }
 
-// What stands behind the first opening bracket of a line.
+// What is after the first opening bracket of a line.
 fn behind_bracket(line: &[u8]) -> &[u8]
     ensures { result.now ≡ behind_bracket line.now }
 {
@@ -117,7 +117,7 @@ fn closes(mut tokens: Tokens<'_>) -> bool
     }
 }
 
-// `signal )` behind a keyword and the opening bracket.
+// `signal )` after a keyword and the opening bracket.
 fn signal_of<'a>(keyword: &[u8], mut tokens: Tokens<'a>) -> Option<Statement<'a>>
     ensures { option_map meaning result ≡ statement_of (keyword.now ∷ codes "(" ∷ tokens_left tokens.entry) }
 {
@@ -134,7 +134,7 @@ fn signal_of<'a>(keyword: &[u8], mut tokens: Tokens<'a>) -> Option<Statement<'a>
     }
 }
 
-// `KIND ( inputs )` behind the output and the equals sign of a line.
+// `KIND ( inputs )` after the output and the equals sign of a line.
 fn gate_of<'a>(line: &'a [u8], output: &'a [u8], mut tokens: Tokens<'a>) -> Option<Statement<'a>>
     requires { line_tokens line.now ≡ output.now ∷ codes "=" ∷ tokens_left tokens }
     ensures { option_map meaning result ≡ statement_of (line_tokens line.now) }
@@ -157,7 +157,7 @@ fn gate_of<'a>(line: &'a [u8], output: &'a [u8], mut tokens: Tokens<'a>) -> Opti
     }
 }
 
-// What stands behind the first token of a line, if it makes a statement.
+// What is after the first token of a line, if it makes a statement.
 fn statement_of<'a>(
     line: &'a [u8],
     first: &'a [u8],

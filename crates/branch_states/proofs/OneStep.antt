@@ -54,7 +54,7 @@ without-at test (c ∷ cs) [] k h e = absurd (omega arith)
 without-at test (c ∷ cs) (b ∷ list) zero h e = refl
 without-at test (c ∷ cs) (b ∷ list) (suc k) h e = without-at test cs list k (omega arith) (omega arith)
 
--- Whether a clause is in the list of a state: what has no bit is, what has all bits is not, and the others' bits are one behind the other.
+-- Whether a clause is in the list of a state: what has no bit is, what has all bits is not, and the others' bits are one after the other.
 in-list : (vs : List ℕ) (i : ℕ) (cs : List Clause) (list : List Bool) (k : ℕ) → Known vs i cs list → k < length cs
     → (not (is_covered vs i (get_or cs k [])) && (not (is_touched vs i (get_or cs k [])) || bit_in (bits_of (is_open vs i) cs list) (length (filter (is_open vs i) (take k cs))))) ≡ get_or list k false
 in-list vs i [] list k h low = absurd (omega arith)

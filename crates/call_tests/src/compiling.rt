@@ -25,7 +25,7 @@ fn compiles_within_a_sum(rt: HostRuntime) -> Result<(), Fail> {
     // - 1 at the last wire: for the state in which it may be anything. In the other two it has to be 0, or 1, which is a literal.
     // - 5 at each wire between two parts: an and for 0, an and for 1, and for anything an or of two ands.
     // - 6 at each part but the first, whose input is 0 or 1: an or of two ands for each.
-    // - 6 at wire 0: an or of two ands where part 1 is faulty, and where it is ok.
+    // - 6 at wire 0: an or of two ands where part 1 is faulty, and if it is ok.
     // - 3 at part 1: an or of two ands.
     // So there are 11 a buffer, and 1. In the graph are all but the two constants, and both literals of each of the 2 * count + 1
     // variables. The sum is 5 a buffer, and 2.

@@ -131,7 +131,7 @@ ports-settle : (a : Assignment) (gate : Gate) (h z : ℕ) (ports : List ℕ) →
     (gate_bits gate.reduction (take (length (map a ports) - 1) (map a ports))) (gate_allows gate (a h) (map a ports))
 ports-settle a gate h z ports hh hz hs e = grind (arith, any_gate-settles, AllPositive-at, AllPositive-take, take-map, length-map, get_or-map)
 
--- The clauses of a part settle its inner variables, and are true besides exactly where the part allows the bits of its ports.
+-- The clauses of a part settle its inner variables, and are true besides exactly if the part allows the bits of its ports.
 pub raw-settles : (a : Assignment) (tables : List TruthTable) (rule : Rule) (h z : ℕ) (ports : List ℕ) → 1 ≤ h → 1 ≤ z → AllPositive ports
     → takes_ports tables rule (length ports) ≡ true
     → Settles a z (raw_clauses tables rule h z ports) (inner_bits rule (map a ports)) (allows tables rule (a h) (map a ports))

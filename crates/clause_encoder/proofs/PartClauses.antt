@@ -1,4 +1,4 @@
--- The clauses of a part are true exactly where the part allows the bits of its ports.
+-- The clauses of a part are true exactly if the part allows the bits of its ports.
 use Rattle.std.proofs.Common.{◌≡◌, ℕ, zero, suc, ◌^◌, ◌<◌, ◌≤◌, Bool, true, false, not, ◌&&◌, ◌||◌, List, [], ◌∷◌, ◌++◌, map, length, take, get_or, pos, neg_ℤ, Some, refl, ap, sym, ◌∙◌, arith}
 use Rattle.std.specs.Prelude.{◌==◌, nat_le, min}
 use Rattle.std.specs.List.{list_any, list_all}
@@ -64,7 +64,7 @@ all_not a (x ∷ xs) = grind (arith, all_not a xs)
 all_bits : (a : Assignment) (xs : List ℕ) → list_all (λ x. a x) xs ≡ list_all (λ b. b) (map a xs)
 all_bits a xs = sym (list_all-map (λ (b : Bool). b) a xs)
 
--- a negation may stand on either side
+-- a negation may be on either side
 negated_output : (positive y b : Bool) → same_bit (same_bit positive y) b ≡ same_bit y (same_bit positive b)
 negated_output positive y b = grind arith
 

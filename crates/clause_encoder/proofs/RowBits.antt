@@ -55,7 +55,7 @@ row_number-below (bit ∷ bits) (suc n) h = grind (arith, row_number-below bits 
 differs : (bit : Bool) (r n : ℕ) → (same_bit (not (r % 2 == 1)) bit || not (r / 2 == n)) ≡ not (r == number_of_bit bit + 2 * n)
 differs bit r n = grind arith
 
--- The literals that are false in a row are all false where the variables have that row.
+-- The literals that are false in a row are all false if the variables have that row.
 pub blocking_literals-row : (a : Assignment) (vs : List ℕ) (r : ℕ) → AllPositive vs → r < 2 ^ length vs
     → list_any (lit a) (blocking_literals vs (row_bits r vs)) ≡ not (r == row_number (map a vs))
 blocking_literals-row a [] r h lt = grind (arith, nat_tests)

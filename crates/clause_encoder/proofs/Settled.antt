@@ -1,4 +1,4 @@
--- Inner variables whose bits are settled by the others: some bits of them make all clauses true exactly where what is
+-- Inner variables whose bits are settled by the others: some bits of them make all clauses true exactly if what is
 -- left of the clauses is true.
 use Rattle.std.proofs.Common.{◌≡◌, ℕ, ◌+◌, Bool, true, false, ◌&&◌, ◌||◌, List, [], ◌∷◌, ◌++◌, map, length, ap, ◌∙◌, arith, append_assoc}
 use Rattle.std.specs.List.{list_any}
@@ -27,7 +27,7 @@ pub has_bits-append : (a : Assignment) (z : ℕ) (bits more : List Bool) → has
 has_bits-append a z [] more = grind arith
 has_bits-append a z (b ∷ bits) more = grind (arith, has_bits-append a (z + 1) bits more)
 
--- the inner variables of the second clauses come behind those of the first
+-- the inner variables of the second clauses come after those of the first
 pub Settles-append : (a : Assignment) (z y : ℕ) (cs ds : List Clause) (bits more : List Bool) (rest others : Bool) → y ≡ z + length bits
     → Settles a z cs bits rest → Settles a y ds more others → Settles a z (cs ++ ds) (bits ++ more) (rest && others)
 Settles-append a z y cs ds bits more rest others at first second = grind (arith, list_all-append, at, and_swap_inner, has_bits-append)
@@ -37,7 +37,7 @@ Settles-append a z y cs ds bits more rest others at first second = grind (arith,
 one_of_both : (b rest : Bool) → ((same_bit b false && rest) || (same_bit b true && rest)) ≡ rest
 one_of_both b rest = grind arith
 
--- the bits behind a list, as variables
+-- the bits after a list, as variables
 front-bits : (front : List Bool) (c : Bool) (inner bits : List Bool) (b : Bool)
     → has_bits (assignment (front ++ c ∷ inner)) (length front + 1) (b ∷ bits)
     ≡ (same_bit b c && has_bits (assignment ((front ++ c ∷ []) ++ inner)) (length (front ++ c ∷ []) + 1) bits)

@@ -47,7 +47,7 @@ module _ (now next start : List Clause) where
       → now ++ tidy (map f (filter keep (range_with_len r (n - r)))) ≡ start → next ++ tidy (map f (filter keep (range_with_len (r + 1) (n - (r + 1))))) ≡ start
   kept-skipped f keep r n lt k e h = grind (arith, nat_tests, rows-from)
 
--- clauses behind those that were written before
+-- clauses after those that were written before
 pub more-written : (start now next : List Clause) (front back : List Clause) → now ≡ start ++ tidy front → next ≡ now ++ tidy back → next ≡ start ++ tidy (front ++ back)
 more-written start now next front back e f = grind (arith, append_assoc, tidy-append)
 
@@ -175,7 +175,7 @@ inner_at-more device place part lt is =
     let last : inner_vars (get_or device.parts place part ∷ []) ≡ inner_vars (part ∷ []) = ap (λ p. inner_vars (p ∷ [])) (sym is) in
     omega (arith, more, last, inner_vars-append (take place device.parts) (get_or device.parts place part ∷ []))
 
--- the clauses of a part, and of those behind it
+-- the clauses of a part, and of those after it
 pub split-at : (device : Device) (place : ℕ) (part : Component) → place < length device.parts → part ≡ get_or device.parts place part
     → clauses_from device (place + 1) (inner_at device place) (drop place device.parts)
     ≡ raw_clauses device.tables (rule part.kind) (place + 1) (inner_at device place) (map (wire_variable device) part.ports)

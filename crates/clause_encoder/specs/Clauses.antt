@@ -5,7 +5,7 @@ use Rattle.state_rules.specs.Bits.{same_bit}
 use Rattle.state_rules.specs.Assignments.{Assignment}
 use Rattle.clause_encoder.specs.declared.limits.TheConstants.{CLAUSE_LIMIT, VARIABLE_LIMIT}
 
--- a literal is a variable, or below 0 where it is negated
+-- a literal is a variable, or below 0 if it is negated
 abbrev pub var_of : ℤ → ℕ
 var_of (pos n) = n
 var_of (negsuc n) = n + 1
@@ -14,7 +14,7 @@ abbrev pub is_positive : ℤ → Bool
 is_positive (pos n) = true
 is_positive (negsuc n) = false
 
--- the literal that is true where the variable has the bit
+-- the literal that is true if the variable has the bit
 abbrev pub literal : Bool → ℕ → ℤ
 literal true v = pos v
 literal false v = neg_ℤ (pos v)
@@ -27,7 +27,7 @@ pub record ClauseList : Type 0 where
   pub vars : ℕ
   pub clauses : List Clause
 
--- a clause is true where one of its literals is
+-- a clause is true if one of its literals is
 abbrev pub is_true_clause : Assignment → Clause → Bool
 is_true_clause a clause = list_any (λ l. same_bit (is_positive l) (a (var_of l))) clause
 

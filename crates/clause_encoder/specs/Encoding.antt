@@ -46,7 +46,7 @@ tidy clauses = map sorted (filter (λ c. not (is_tautology c)) clauses)
 
 -- ---- the clauses of a part, by the variables of its health and of its ports
 
--- where the part is ok, y is the and of the literals xs
+-- if the part is ok, y is the and of the literals xs
 abbrev pub and_clauses : ℤ → ℤ → List ℤ → List Clause
 and_clauses ok y xs = map (λ x. neg_ℤ ok ∷ neg_ℤ y ∷ x ∷ []) xs ++ (neg_ℤ ok ∷ y ∷ map neg_ℤ xs) ∷ []
 
@@ -64,11 +64,11 @@ blocking_literals [] bits = []
 blocking_literals (v ∷ vs) [] = []
 blocking_literals (v ∷ vs) (b ∷ bits) = literal (not b) v ∷ blocking_literals vs bits
 
--- where the part is ok and its inputs have this row, the output has this bit
+-- if the part is ok and its inputs have this row, the output has this bit
 abbrev pub row_clause : ℕ → List ℕ → ℕ → List Bool → Bool → Clause
 row_clause h xs y row value = literal false h ∷ (blocking_literals xs row ++ literal value y ∷ [])
 
--- where the part is ok, the output is 1 where the number of ones is odd, or where it is even
+-- if the part is ok, the output is 1 if the number of ones is odd, or if it is even
 abbrev pub parity_clauses : Bool → ℕ → List ℕ → ℕ → List Clause
 parity_clauses odd h xs y = map (λ r. row_clause h xs y (row_bits r xs) (same_bit odd (has_odd_ones (row_bits r xs)))) (rows_of xs)
 
@@ -81,7 +81,7 @@ abbrev pub table_clauses : Option TruthTable → ℕ → List ℕ → List Claus
 table_clauses None h ports = []
 table_clauses (Some rows) h ports = blocked_rows true rows.ok h ports ++ blocked_rows false rows.bad h ports
 
--- Where the part is ok, the output is what is asked of the inputs, or its opposite. That one input or more are 1 is that not all
+-- If the part is ok, the output is what is asked of the inputs, or its opposite. That one input or more are 1 is that not all
 -- are 0.
 abbrev pub reduction_clauses : Reduction → Bool → ℕ → List ℕ → ℕ → List Clause
 reduction_clauses AllOnes positive h xs y = and_clauses (pos h) (literal positive y) (map (literal true) xs)
@@ -94,7 +94,7 @@ gate_clauses gate h xs y = reduction_clauses gate.reduction gate.positive h xs y
 
 -- ---- a gate of more inputs than the limit: a chain of inner variables
 
--- z is the and of a and b, or their or, where all three are negated
+-- z is the and of a and b, or their or, if all three are negated
 abbrev pub and_step : Bool → ℕ → ℕ → ℕ → List Clause
 and_step as_is z a b =
     (literal (not as_is) z ∷ literal as_is a ∷ [])
@@ -196,12 +196,12 @@ abbrev pub encoded : Device → Result ClauseList EncodeError
 encoded device = if nat_lt CLAUSE_LIMIT (raw_count device) then Err (TooManyClauses (raw_count device)) else Ok (clause_list device)
 
 -- Under bits for the health of so many parts and for so many wires, all clauses hold for some bits of the variables above these
--- exactly where they fit.
+-- exactly if they fit.
 abbrev pub DescribesBy : ClauseList → ℕ → ℕ → (List Bool → List Bool → Bool) → Type 0
 DescribesBy cnf parts wires fits = (state bits : List Bool) → length state ≡ parts → length bits ≡ wires
     → list_any (λ inner. all_hold (assignment (state ++ bits ++ inner)) cnf.clauses) (lists_of_bits (cnf.vars - (parts + wires)))
     ≡ fits state bits
 
--- They do exactly where the device fits.
+-- They do exactly if the device fits.
 abbrev pub Describes : ClauseList → Device → Type 0
 Describes cnf device = DescribesBy cnf (length device.parts) (length device.wires) (fits device)

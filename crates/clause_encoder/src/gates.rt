@@ -180,7 +180,7 @@ fn push_narrow(
     }
 }
 
-// Where the part is ok, the output is the and of the inputs; what is not to be taken as it is stands negated.
+// If the part is ok, the output is the and of the inputs; what is not to be taken as it is stands negated.
 fn push_and(
     writer: &mut Writer,
     health: u32,
@@ -220,7 +220,7 @@ fn add_literals(writer: &mut Writer, positive: bool, variables: &[u32]) -> Resul
     Ok(())
 }
 
-// Where the part is ok, the output says whether the number of ones is odd, or whether it is even.
+// If the part is ok, the output says whether the number of ones is odd, or whether it is even.
 fn push_parity(
     writer: &mut Writer,
     health: u32,
@@ -267,7 +267,7 @@ fn push_table(
     push_side(writer, table, false, health, ports)
 }
 
-// Where the part is ok, or where it is faulty: the ports have none of the rows that it does not allow then.
+// If the part is ok, or if it is faulty: the ports have none of the rows that it does not allow then.
 fn push_side(
     writer: &mut Writer,
     table: &Table,
@@ -308,7 +308,7 @@ fn begin_row(writer: &mut Writer, first: i32, variables: &[u32], row: u32) -> Re
     Ok(())
 }
 
-// The literal that is true where the variable has the bit.
+// The literal that is true if the variable has the bit.
 fn literal(positive: bool, variable: u32) -> i32
     requires { variable < VARIABLE_LIMIT }
     ensures { result ≡ literal positive variable }

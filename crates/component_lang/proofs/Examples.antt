@@ -65,7 +65,7 @@ cost_outside = refl
 
 -- ---- read
 
--- Ok are the rows 00 and 11, and where it is faulty 01: its first port is 0 and its second 1. The block N stands on M.
+-- Ok are the rows 00 and 11, and if it is faulty 01: its first port is 0 and its second 1. The block N is on M.
 two_blocks : design (text_of (codes "# a design" ∷ codes "type T p q" ∷ codes "ok 00" ∷ codes "ok 11 # equal" ∷ codes "bad 01" ∷ codes "end" ∷ []
     ++ codes "block M a b" ∷ codes "wire c" ∷ codes "part u NOT a c" ∷ codes "part v T c b" ∷ codes "end" ∷ []
     ++ codes "block N x" ∷ codes "part m M x x" ∷ codes "end" ∷ codes "top N" ∷ codes "  # the end" ∷ []))

@@ -60,7 +60,7 @@ are_blocks-more types above (b ∷ blocks) block h g = grind (arith, append_asso
 
 -- ---- names that differ
 
--- two lists whose names differ, and none of the second stands in the first
+-- two lists whose names differ, and none of the second is in the first
 pub are_distinct-append : (xs ys : List Name) → are_distinct xs ≡ true → are_distinct ys ≡ true → list_any (is_among xs) ys ≡ false → are_distinct (xs ++ ys) ≡ true
 are_distinct-append [] ys h g apart = g
 are_distinct-append (x ∷ xs) ys h g apart =

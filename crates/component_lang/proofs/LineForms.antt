@@ -32,7 +32,7 @@ type_begun reader name n = at reader (InType (record { name = name; ports = n; o
 abbrev pub type_with : Reader → Name → List Name → Result Reader LangFault
 type_with reader name ports = if has_few_ports (length ports) then Ok (type_begun reader name (length ports)) else Err Ports
 
--- by the number of ports, where it is tested
+-- by the number of ports, if it is tested
 pub type_size : (reader : Reader) (name : Name) (ports : List Name) (size : ℕ) {few : Bool} → length ports ≡ size → has_few_ports size ≡ few
     → type_with reader name ports ≡ (if few then Ok (type_begun reader name size) else Err Ports)
 type_size reader name ports size {few} e t = grind arith

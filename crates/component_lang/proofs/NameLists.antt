@@ -37,7 +37,7 @@ same_name-sym a b = same_from_decides (same_name a b) (same_name b a) (same_name
 pub are_distinct-cons : (n : Name) (names : List Name) → are_distinct (n ∷ names) ≡ (not (is_among names n) && are_distinct names)
 are_distinct-cons n names = grind arith
 
--- a name after those above stands among them or is the last
+-- a name after those above is among them or is the last
 any_after : (above : List Name) (n : Name) (names : List Name) → list_any (is_among (above ++ n ∷ [])) names ≡ (list_any (is_among above) names || is_among names n)
 any_after above n [] = refl
 any_after above n (m ∷ names) = grind (arith, list_any-append, same_name-sym, any_after above n names)

@@ -16,12 +16,12 @@ use Rattle.component_lang.specs.Designs.{is_plain_name, are_distinct, used_names
 use Rattle.component_lang.specs.Kinds.{OpenType, Section, Outside, InType, InBlock, AfterTop, Reader, kind_named}
 use Rattle.component_lang.specs.TypeRows.{is_row, row_in, with_row, cost_in, shape_of}
 
--- Of the tests of a line the first that fails is its fault. Where none does, the reader goes on.
+-- Of the tests of a line the first that fails is its fault. If none does, the reader goes on.
 abbrev pub tested : List (Bool × LangFault) → Reader → Result Reader LangFault
 tested [] reader = Ok reader
 tested (t ∷ tests) reader = if t.0 then tested tests reader else Err t.1
 
--- a reader whose next line stands in another section
+-- a reader whose next line is in another section
 abbrev pub at : Reader → Section → Reader
 at reader section = record reader { section = section }
 
@@ -81,7 +81,7 @@ bad_line reader open_type row =
     tested ((is_row open_type.ports row, Row) ∷ [])
     (at reader (InType (record open_type { bad = Some (with_row (unwrap_or open_type.bad 0) (row_in row)) })))
 
--- `cost N`, which may stand once
+-- `cost N`, which may be once
 abbrev pub cost_line : Reader → OpenType → List ℕ → Result Reader LangFault
 cost_line reader open_type word =
     tested ((not (is_some open_type.cost), Twice) ∷ (is_some (cost_in word), Cost) ∷ [])
@@ -101,7 +101,7 @@ in_type reader open_type line = Err NotHere
 
 -- ---- in a block
 
--- none of these names stands among those above, or twice
+-- none of these names is among those above, or twice
 abbrev pub are_new : List Name → List Name → Bool
 are_new above names = are_distinct names && not (list_any (is_among above) names)
 
@@ -115,7 +115,7 @@ wire_line reader block names =
 abbrev pub places_in : List Name → List Name → Option (List ℕ)
 places_in wires names = if list_all (is_among wires) names then Some (map (place_in wires) names) else None
 
--- The part of this name, kind and places. How many there are is asked only where all is known.
+-- The part of this name, kind and places. How many there are is asked only if all is known.
 abbrev pub part_of : Reader → Name → Option UsedKind → Option (List ℕ) → Result Used LangFault
 part_of reader name None places = Err Unknown
 part_of reader name (Some kind) None = Err Unknown

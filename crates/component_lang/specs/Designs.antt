@@ -25,7 +25,7 @@ abbrev pub is_empty : List Name → Bool
 is_empty [] = true
 is_empty (name ∷ names) = false
 
--- no name stands twice
+-- no name is twice
 abbrev pub are_distinct : List Name → Bool
 are_distinct names = is_empty (repeated names)
 
@@ -62,7 +62,7 @@ is_block types above block =
     && (nat_le block.ports (length block.wires)
     && (list_all (is_used types above (length block.wires)) block.parts && are_distinct (used_names block.parts)))
 
--- each block uses only blocks that stand before it
+-- each block uses only blocks that are before it
 abbrev pub are_blocks : List Shape → List Block → List Block → Bool
 are_blocks types above [] = true
 are_blocks types above (block ∷ blocks) = is_block types above block && are_blocks types (above ++ block ∷ []) blocks

@@ -8,7 +8,7 @@ use Rattle.component_lang.specs.declared.design.UsedKind.TheVariants.{Gate, Shap
 use Rattle.component_lang.specs.declared.design.Shape.{Shape}
 use Rattle.component_lang.specs.declared.design.Block.{Block}
 
--- A type while its lines are read. Without a line `bad` every row is allowed where the part is faulty, and without a line
+-- A type while its lines are read. Without a line `bad` every row is allowed if the part is faulty, and without a line
 -- `cost` a failure costs 1.
 pub record OpenType : Type 0 where
   pub name : Name
@@ -17,14 +17,14 @@ pub record OpenType : Type 0 where
   pub bad : Option ℕ
   pub cost : Option ℕ
 
--- where a line stands: outside, in a type, in a block, or after the top
+-- where a line is: outside, in a type, in a block, or after the top
 pub data Section : Type 0 where
   Outside : Section
   InType : (open_type : OpenType) → Section
   InBlock : (block : Block) → Section
   AfterTop : (top : ℕ) → Section
 
--- what was closed above a line, and where the line stands
+-- what was closed above a line, and where the line is
 pub record Reader : Type 0 where
   pub types : List Shape
   pub blocks : List Block

@@ -7,7 +7,7 @@ use std::alloc::{AllocError, AllocFailed};
 /// What is wrong in a design. The first line with a fault counts, with its first one; `NoTop` comes last.
 #[derive(Clone, Copy, Debug, PartialEq, Eq)]
 pub enum LangFault {
-    /// The first word may not stand here, or has too few or too many words after it.
+    /// The first word may not be here, or has too few or too many words after it.
     Line,
     /// A word that has to be a name is none: 1 to 64 bytes of names, without a dot.
     Name,

@@ -45,12 +45,12 @@ module _ (graph : Graph) (words : List ℕ) (parts place : ℕ) (bit : Bool) (lo
       agrees-set (known words) bits place bit (omega (arith, length-map words known_of, long, within)) (inside bits l) e
       ∙ ap (λ ks. agrees ks bits) (sym (map-set known_of words place word ∙ ap (set (known words) place) says)))
 
-  -- all, where the bit is known
+  -- all, if the bit is known
   pub with_bit-known : get_or (known words) place None ≡ Some bit → passing parts (has_model graph has_bit parts) ≡ models graph words parts
   with_bit-known e = allowed-same graph parts has_bit (fits_words words) room (λ bits l.
       sym (agrees-place (known words) bits place (inside bits l) ∙ ap (λ k. agrees (known words) bits && agrees_at k (bit_in bits place)) e))
 
-  -- and none, where the other is
+  -- and none, if the other is
   pub with_bit-other : get_or (known words) place None ≡ Some (not bit) → passing parts (has_model graph has_bit parts) ≡ []
   with_bit-other e = allowed-same graph parts has_bit (λ _. false) room (λ bits l.
       ap (λ b. b && same_bit bit (bit_in bits place)) (agrees-place (known words) bits place (inside bits l) ∙ ap (λ k. agrees (known words) bits && agrees_at k (bit_in bits place)) e)

@@ -90,7 +90,7 @@ counts-have : (counts : List Count) → HaveSpellings (map line_of counts)
 counts-have [] = tt
 counts-have (count ∷ counts) = ((_, refl), counts-have counts)
 
--- what stands first, and what stands after it
+-- what is first, and what is after it
 first_and_rest : {A B : Type 0} (f : A → B) (xs : List A) (x : A) → 1 ≤ length xs → f (get_or xs 0 x) ∷ map f (take (length xs - 1) (drop 1 xs)) ≡ map f xs
 first_and_rest f [] x some = absurd (omega (arith, some))
 first_and_rest f (y ∷ xs) x some = ap (λ ys. f y ∷ map f ys) (take_all (length (y ∷ xs) - 1) xs (omega arith))

@@ -2,7 +2,7 @@
 ghost use Rattle.std.specs.Prelude.{◌≡◌, codes};
 ghost use Rattle.device_files.specs.Paths.{ends_in, is_device_path};
 
-// Whether something stands before an ending.
+// Whether something is before an ending.
 fn ends_in(ending: &[u8], path: &str) -> bool
     ensures { result ≡ ends_in ending.now path.now }
 {

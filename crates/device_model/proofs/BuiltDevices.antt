@@ -1,4 +1,4 @@
--- Where nothing is wrong with parts and wires, what is built is the device of these parts over the names of their wires.
+-- If nothing is wrong with parts and wires, what is built is the device of these parts over the names of their wires.
 use Rattle.std.proofs.Common.{◌≡◌, ℕ, ◌+◌, ◌≤◌, Bool, true, cond, not, nat_lt, List, [], ◌∷◌, map, length, get_or, Some, None, Ok, refl, sym, ap, ◌∙◌, arith}
 use Rattle.std.specs.Prelude.{position}
 use Rattle.std.specs.List.{list_all, position_or_len}

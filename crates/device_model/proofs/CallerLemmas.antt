@@ -35,11 +35,11 @@ sorted_distinct-same_tests xs ys same_test = grind (arith, sorted_distinct-same_
 
 -- ---- places
 
--- a name of a rising list stands at no other place
+-- a name of a rising list is at no other place
 pub place_in-names_rise : (names : List Name) (k : ℕ) → names_rise names ≡ true → k < length names → place_in names (get_or names k []) ≡ k
 place_in-names_rise names k h l = place_in-rising names k (Rises-from_names_rise names h) l
 
--- a name of the list stands at its place
+-- a name of the list is at its place
 pub get_or-place_in : (names : List Name) (n : Name) → In n names → get_or names (place_in names n) [] ≡ n
 get_or-place_in names n m =
     sym (equal_if_same n (get_or names (place_in names n) []) (passes_at_first (same_name n) names [] (position_or_len-among names n m)))

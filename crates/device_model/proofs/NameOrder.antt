@@ -11,7 +11,7 @@ use Rattle.std.proofs.lemmas.Slice.Eq.{bytes_eq-Decides}
 use Rattle.text_rules.specs.Names.{Name, name_below, same_name}
 use Rattle.text_rules.proofs.NameLemmas.{equal_if_same}
 
--- a name stands before another
+-- a name is before another
 abbrev pub Below : Name → Name → Type 0
 Below a b = slice_cmp nat_cmp a b ≡ Less
 

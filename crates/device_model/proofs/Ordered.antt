@@ -7,12 +7,12 @@ use Rattle.device_model.specs.Order.{placed, sorted_distinct}
 use Rattle.device_model.proofs.NameOrder.{Below, Below-trans, Below-irreflexive, Below-asymmetric, same, below, above, compared, same_name-below, same_name-above, name_below-Below, name_below-above}
 
 module _ {A : Type 0} (name : A → Name) where
-  -- the name stands before each item's
+  -- the name is before each item's
   abbrev pub BelowAll : Name → List A → Type 0
   BelowAll n [] = Unit {0}
   BelowAll n (y ∷ ys) = Below n (name y) × BelowAll n ys
 
-  -- each item's name stands before those of all items behind it
+  -- each item's name is before those of all items after it
   abbrev pub Rises : List A → Type 0
   Rises [] = Unit {0}
   Rises (x ∷ xs) = BelowAll (name x) xs × Rises xs
@@ -67,12 +67,12 @@ module _ {A : Type 0} (name : A → Name) where
     | above l ↦ subst (Named (name x)) (sym (placed-above x y ys l)) (let r = placed-has x ys in (r.0, inr r.1, r.2))
   ]
 
-  -- what stands in order was there
+  -- what is in order was there
   pub among_sorted_distinct : (xs : List A) (z : A) → In z (sorted_distinct name xs) → In z xs
   among_sorted_distinct [] z m = m
   among_sorted_distinct (x ∷ xs) z m = elim (among_placed x (sorted_distinct name xs) z m) [ inl e ↦ inl e | inr n ↦ inr (among_sorted_distinct xs z n) ]
 
-  -- and each name of what was there stands in order
+  -- and each name of what was there is in order
   pub sorted_distinct-has : (xs : List A) (x : A) → In x xs → Named (name x) (sorted_distinct name xs)
   sorted_distinct-has [] x m = absurd m
   sorted_distinct-has (y ∷ ys) x (inl e) = subst (λ (z : A). Named (name z) (sorted_distinct name (y ∷ ys))) (sym e) (placed-has y (sorted_distinct name ys))

@@ -1,4 +1,4 @@
--- The names that stand twice in a list, and the least of them.
+-- The names that are twice in a list, and the least of them.
 use Rattle.std.proofs.Common.{◌≡◌, ℕ, zero, suc, ◌+◌, ◌<◌, ◌≤◌, ◌⊎◌, inl, inr, Bool, true, false, List, [], ◌∷◌, length, get_or, Result, Err, refl, sym, ap, subst, ◌∙◌, arith}
 use Rattle.std.specs.Prelude.{if◌then◌else◌}
 use Rattle.std.specs.List.{sum_by}
@@ -16,7 +16,7 @@ use Rattle.device_model.proofs.NameOrder.{Below, Below-trans, Below-irreflexive,
 use Rattle.device_model.proofs.Ordered.{BelowAll, Below-among, Rises, Rises-sorted_distinct, among_sorted_distinct, sorted_distinct-has}
 use Rattle.device_model.proofs.SortedLists.{itself, AtMost, AtMostAll, AtMost-among, Ascends}
 
--- how often a name stands in a list
+-- how often a name is in a list
 abbrev pub one_if : Bool → ℕ
 one_if true = 1
 one_if false = 0
@@ -71,7 +71,7 @@ among_from_test n (m ∷ ms) h = grind (arith, equal_if_same, among_from_test n 
 in_repeated : (n : Name) (ns : List Name) (b : Bool) → is_among ns n ≡ b → (m : Name) → In m (repeated (n ∷ ns)) → ((m ≡ n) × In n ns) ⊎ In m (repeated ns)
 in_repeated n ns b e m h = grind (arith, among_from_test)
 
--- a repeated name stands twice
+-- a repeated name is twice
 pub twice_from_repeated : (ns : List Name) (m : Name) → In m (repeated ns) → 2 ≤ count m ns
 twice_from_repeated [] m h = absurd h
 twice_from_repeated (n ∷ ns) m h = grind (arith, in_repeated, count-same, count-among, twice_from_repeated ns m)
@@ -82,7 +82,7 @@ repeated-more n ns b e m h = grind arith
 repeated-first : (n : Name) (ns : List Name) → In n ns → In n (repeated (n ∷ ns))
 repeated-first n ns h = subst (λ (c : Bool). In n (if c then n ∷ repeated ns else repeated ns)) (sym (is_among-among n ns h)) (inl refl)
 
--- and a name that stands twice is repeated
+-- and a name that is twice is repeated
 pub repeated_from_twice : (ns : List Name) (m : Name) → 2 ≤ count m ns → In m (repeated ns)
 repeated_from_twice [] m h = absurd (omega arith)
 repeated_from_twice (n ∷ ns) m h = elim (same_or_other m n) [
@@ -90,7 +90,7 @@ repeated_from_twice (n ∷ ns) m h = elim (same_or_other m n) [
   | inr o ↦ repeated-more n ns (is_among ns n) refl m (repeated_from_twice ns m (omega (arith, count-other m n ns o)))
 ]
 
--- a name that stands twice, and is at most each such name
+-- a name that is twice, and is at most each such name
 pub record IsLeastTwice (ns : List Name) (n : Name) : Type 0 where
   twice : 2 ≤ count n ns
   least : (m : Name) → 2 ≤ count m ns → AtMost n m
@@ -124,7 +124,7 @@ least_later x y ns alone n h = record {
   ];
 }
 
--- the first two neighbours of one name in an ascending list have the least name that stands twice
+-- the first two neighbours of one name in an ascending list have the least name that is twice
 pub first_repeat_is_least : (ns : List Name) (i : ℕ) → Ascends itself ns → suc i < length ns → get_or ns i [] ≡ get_or ns (suc i) []
     → ((k : ℕ) → k < i → get_or ns k [] ≡ get_or ns (suc k) [] → ⊥) → IsLeastTwice ns (get_or ns i [])
 first_repeat_is_least [] i h l e before = absurd (omega arith)

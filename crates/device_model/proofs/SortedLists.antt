@@ -23,7 +23,7 @@ among_from_Contains xs x h = by xs h.0 h.1 h.2
 pub among_permutation : {A : Type 0} (xs ys : List A) → IsPermutation xs ys → (x : A) → In x xs → In x ys
 among_permutation xs ys h x m = among_from_Contains ys x (Contains-permutation xs ys x h (Contains-from_among xs x m))
 
--- a name stands before another or is the same
+-- a name is before another or is the same
 abbrev pub AtMost : Name → Name → Type 0
 AtMost a b = (a ≡ b) ⊎ Below a b
 
@@ -38,7 +38,7 @@ module _ {A : Type 0} (name : A → Name) where
   AtMostAll n [] = Unit {0}
   AtMostAll n (y ∷ ys) = AtMost n (name y) × AtMostAll n ys
 
-  -- no item's name stands before that of an earlier one
+  -- no item's name is before that of an earlier one
   abbrev pub Ascends : List A → Type 0
   Ascends [] = Unit {0}
   Ascends (x ∷ xs) = AtMostAll (name x) xs × Ascends xs

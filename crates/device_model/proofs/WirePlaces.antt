@@ -21,7 +21,7 @@ use Rattle.device_model.proofs.Ordered.{Below-among, Rises, Rises-sorted_distinc
 use Rattle.device_model.proofs.SortedLists.{itself, Contains-from_among, among_permutation, Rises-unmap}
 use Rattle.device_model.proofs.SortedDevices.{list_all-among, component_name, sorted_distinct-map, list_all-sorted_distinct}
 
--- a numbered name stands at its number
+-- a numbered name is at its number
 numbered-tells : (p : ℕ) (ns : List Name) (w : Name × ℕ) → In w (numbered_from p ns) → (i : ℕ) × (i < length ns) × (w.1 ≡ p + i) × (w.0 ≡ get_or ns i [])
 numbered-tells p [] w m = absurd m
 numbered-tells p (n ∷ ns) w (inl e) = (0, omega arith, (let f = ap (λ (v : Name × ℕ). v.1) e in omega arith), ap (λ (v : Name × ℕ). v.0) e)

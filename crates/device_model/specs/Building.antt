@@ -11,7 +11,7 @@ use Rattle.device_model.specs.TruthTable.{TruthTable}
 use Rattle.device_model.specs.Order.{sorted_distinct}
 use Rattle.device_model.specs.Devices.{Device, part_names, has_arity, has_wires}
 
--- where a name stands
+-- where a name is
 abbrev pub place_in : List Name → Name → ℕ
 place_in names name = position_or_len (same_name name) names
 
@@ -43,7 +43,7 @@ device_over parts wires tables =
     let sorted = sorted_distinct (λ n. n) wires in
     record { parts = sorted_distinct (λ (part : Component). part.name) (map (joined sorted) parts); wires = sorted; tables = tables }
 
--- the names that stand again behind themselves
+-- the names that are again after themselves
 abbrev pub repeated : List Name → List Name
 repeated [] = []
 repeated (name ∷ names) = if is_among names name then name ∷ repeated names else repeated names

@@ -13,7 +13,7 @@ abbrev pub is_consistent : (List Bool → List Bool → Bool) → ℕ → Case �
 is_consistent fits_by wires known state =
     agrees known.held state && list_any (λ bits. agrees known.seen bits && fits_by state bits) (lists_of_bits wires)
 
--- the system of some names and costs in which such states agree with a case, which tells nothing besides
+-- the system of some names and costs in which such states agree with a case, which says nothing besides
 abbrev pub fitting_system : (parts wires : List Name) → List ℕ → (List Bool → List Bool → Bool) → System
 fitting_system parts wires costs fits_by = record {
   parts = parts;

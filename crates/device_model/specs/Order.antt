@@ -2,7 +2,7 @@
 use Rattle.std.specs.Prelude.{List, [], ◌∷◌, if◌then◌else◌}
 use Rattle.text_rules.specs.Names.{Name, name_below, same_name}
 
--- an item in its place by name, where no other has the name
+-- an item in its place by name, if no other has the name
 abbrev pub placed : {A : Type 0} → (A → Name) → A → List A → List A
 placed name x [] = x ∷ []
 placed name x (y ∷ ys) =

@@ -2,7 +2,7 @@
 use Rattle.std.specs.Prelude.{ℕ, ◌-◌, ◌^◌, Bool, ◌&&◌, Option, Some, None, nat_le, nat_lt, if◌then◌else◌}
 use Rattle.device_model.specs.declared.limits.TheConstants.{TYPE_PORT_LIMIT, COST_LIMIT}
 
--- The numbers of the rows that a part allows are the bits that are set: where it is ok, and where it is faulty.
+-- The numbers of the rows that a part allows are the bits that are set: if it is ok, and if it is faulty.
 pub record TruthTable : Type 0 where
   pub ports : ℕ
   pub ok : ℕ

@@ -158,7 +158,7 @@ fn sorted_wires(alloc: Global, wires: Vec<Name>) -> Result<Vec<(Name, u32)>, Bui
     Ok(wires)
 }
 
-// The first place of a part behind one of the same name.
+// The first place of a part after one of the same name.
 fn repeated_part(parts: &[Component]) -> Option<usize>
     ensures { IsFirstRepeat (part_names parts.now) result }
 {

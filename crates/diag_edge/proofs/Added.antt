@@ -78,7 +78,7 @@ pub ruleset adds_each = (each_more, each_part, each_all, grown_none)
 
 -- ---- what is put in the end
 
--- all that was added is put, where nothing was there before
+-- all that was added is put, if nothing was there before
 pub put_all : {T E : Type 0} (a b c : Option (List ℕ)) (p q xs text : List ℕ) (r : Result T E) → p ≡ [] → xs ≡ text → Grown a b p q xs → Puts b c r q → Puts a c r text
 put_all a b c p q xs text (Ok v) none same g h = subst (λ t. Appends a c t) (g.all ∙ ap (λ t. t ++ xs) none ∙ same) (grows_more a b c g.put q g.grown h)
 put_all a b c p q xs text (Err e) none same g h = subst (λ t. AppendsPrefix a c t) (g.all ∙ ap (λ t. t ++ xs) none ∙ same) (begins_more a b c g.put q g.grown h)

@@ -1,4 +1,4 @@
--- The line that tells a fault, as it is put together.
+-- The line that says a fault, as it is put together.
 use Rattle.std.proofs.Common.{◌≡◌, List, ℕ, [], ◌∷◌, ◌++◌, Option, Result, IsErr, sym, ◌∙◌, ap, subst, append_assoc, append-nil, codes}
 use Rattle.std.specs.Prelude.{decimal}
 use Rattle.std.specs.List.{flat_map}

@@ -8,7 +8,7 @@ use Rattle.diag_edge.specs.Edge.{Holding, absent, holds}
 abbrev pub one_more : ℕ → ℕ
 one_more count = min (count + 1) (2 ^ 64 - 1)
 
--- calls that are numbered from 1: the numbers of those that are to fail, and how many were made, where the
+-- calls that are numbered from 1: the numbers of those that are to fail, and how many were made, if the
 -- count stops at the greatest u64
 pub record Calls : Type 0 where
   pub failing : List ℕ
@@ -61,7 +61,7 @@ pub record SinkInMemory : Type 0 where
 abbrev pub named_files : List (String Global × Vec ℕ Global) → List NamedFile
 named_files pairs = map (λ pair. record { name = string_bytes pair.0; bytes = pair.1.items }) pairs
 
--- what stands under a name: the first file with the name counts
+-- what is under a name: the first file with the name counts
 abbrev pub held_in : List NamedFile → List ℕ → Holding
 held_in [] name = absent
 held_in (file ∷ files) name = if bytes_eq file.name name then holds file.bytes else held_in files name

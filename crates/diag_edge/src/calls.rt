@@ -35,7 +35,7 @@ impl NumberedCalls {
     }
 }
 
-// Whether the number of the call after so many stands in the list.
+// Whether the number of the call after so many is in the list.
 fn has_next(failing: &[u64], made: u64) -> bool
     ensures { IsTrue result ↔ Contains failing.now (made + 1) }
 {

@@ -95,7 +95,7 @@ impl Chunk {
         Ok(())
     }
 
-    // Adds a space, and then a word that has no room behind it.
+    // Adds a space, and then a word that has no room after it.
     #[tactic(auto, using(crate::proofs::Added::adds_on))]
     fn add_apart<O: Sink>(&mut self, out: &mut O, word: &[u8]) -> Result<(), WriteFailed>
         ensures bytes { Adds (O.got out.old) (O.got out.new) self.old self.new result
@@ -143,7 +143,7 @@ impl Chunk {
         self.add(out, b"\n")
     }
 
-    // Puts what is gathered, where so many bytes have no room beside it.
+    // Puts what is gathered, if so many bytes have no room beside it.
     fn make_room<O: Sink>(&mut self, out: &mut O, needed: usize) -> Result<(), WriteFailed>
         requires { needed ≤ CHUNK_LIMIT }
         ensures bytes { Adds (O.got out.old) (O.got out.new) self.old self.new result [] }
@@ -187,7 +187,7 @@ impl Chunk {
     }
 }
 
-// Writes a text behind the first bytes of a list.
+// Writes a text after the first bytes of a list.
 fn write_at(bytes: &mut [u8], len: usize, text: &[u8])
     requires { len + length text.now ≤ length bytes.old }
     ensures { take (len + length text.now) bytes.new ≡ take len bytes.old ++ text.now }

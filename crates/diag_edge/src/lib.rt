@@ -2,7 +2,7 @@
 //!
 //! The traits are `Source`, `Shelf` and `Sink`. `load` reads a whole file from a shelf, and
 //! `put_line` writes a line of words; longer texts are gathered in a `Chunk`. `put_fault` and
-//! `put_above` write the lines that tell why a file is refused. `MemSource`,
+//! `put_above` write the lines that say why a file is refused. `MemSource`,
 //! `MemShelf` and `MemSink` are ends in memory, whose bytes and failures the caller chooses; the
 //! calls of `SureSource`, `SureShelf` and `TallySink` never fail.
 //!

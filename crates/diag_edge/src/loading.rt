@@ -79,7 +79,7 @@ pub fn load<H: Shelf>(
     let mut file = Vec::new(alloc);
     let mut piece = [0u8; PIECE];
     loop {
-        // One byte past the limit is asked for, since it tells a file that is too long.
+        // One byte past the limit is asked for, since it says a file that is too long.
         let room = (limit + 1 - file.len()).min(PIECE);
         let count = shelf.read(&mut piece[..room])?;
         if count == 0 {

@@ -43,7 +43,7 @@ pub static DESIGNS: [Row<'static>; 19] = [
         out: b"ready 1 2\nS open\nS level 0\nS level 1 u\nS end\n",
         status: 0,
     },
-    // A block of a block and a type. Part m.v is faulty only where its ports are 0 and 1, and a failure of w costs 30.
+    // A block of a block and a type. Part m.v is faulty only if its ports are 0 and 1, and a failure of w costs 30.
     Row {
         name: "f.dev",
         text: b"type T p q # two ports\nok 00\nok 11\nbad 01\nend\ntype U p\nok 1\ncost 30\nend\nblock M a b\n\
@@ -102,7 +102,7 @@ pub static DESIGNS: [Row<'static>; 19] = [
                  S probe b 12 9\nS blame p always\nS blame q never\nS blame r always\nS end\n",
         status: 0,
     },
-    // Both are faulty where the wire between them is seen too. Where the end is not seen it has a cost by each of its values.
+    // Both are faulty if the wire between them is seen too. If the end is not seen it has a cost by each of its values.
     Row {
         name: "f.dev",
         text: DEAR,

@@ -106,7 +106,7 @@ pub static GRAPHS: [Row<'static>; 21] = [
         out: b"error: read\n",
         status: 4,
     },
-    // A graph of a file tells neither.
+    // A graph of a file says neither.
     Row {
         name: "f.nnf",
         text: EITHER_FAULTY,

@@ -213,7 +213,7 @@ pub static LONG_NETLISTS: [LongRow; 25] = [
         out: b"error: parts 4160 above 4096\n",
         status: 1,
     },
-    // Of 257 wires at 64 times there are too many. Of parts and wires the parts are told.
+    // Of 257 wires at 64 times there are too many. Of parts and wires the parts are reported.
     LongRow {
         name: "f.bench",
         text: Long {

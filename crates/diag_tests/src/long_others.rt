@@ -23,7 +23,7 @@ const ONE_CHAIN: Long = Long {
 };
 
 pub static LONG_OTHERS: [LongRow; 17] = [
-    // Blocks that have two of the one before each. A number that would be above 64 bits is told as the greatest one.
+    // Blocks that have two of the one before each. A number that would be above 64 bits is reported as the greatest one.
     LongRow {
         name: "f.dev",
         text: Long {

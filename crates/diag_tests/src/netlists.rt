@@ -58,7 +58,7 @@ pub static NETLISTS: [Row<'static>; 23] = [
         out: b"ready 2 3\nS open\nS min 0\n",
         status: 0,
     },
-    // A flip-flop put out 1 where its input had been 0.
+    // A flip-flop put out 1 if its input had been 0.
     Row {
         name: "f.bench",
         text: b"INPUT(d)\nq = DFF(d)\n",
@@ -243,7 +243,7 @@ pub static WITH_OPTIONS: [Row<'static>; 27] = [
         out: b"ready 2 3\nS open\nS ok\nS ok\nS level 1 b\nS level 1 c\nS end\n",
         status: 0,
     },
-    // Neither is told where it is not asked for.
+    // Neither is reported if it is not asked for.
     Row {
         name: "f.bench",
         text: CHAIN,
@@ -263,7 +263,7 @@ pub static WITH_OPTIONS: [Row<'static>; 27] = [
         out: b"error: bits 2565577090 above 2147483648\n",
         status: 1,
     },
-    // The sum is 1 where all that is added is 0: its own gate is faulty, or the one that it reads.
+    // The sum is 1 if all that is added is 0: its own gate is faulty, or the one that it reads.
     Row {
         name: "f.bench",
         text: CHAIN,
@@ -396,7 +396,7 @@ pub static WITH_OPTIONS: [Row<'static>; 27] = [
         status: 0,
     },
     // Along a forest it is no greater than by names that rise from bit to bit. All that is added is 0, so the upper sum is to be 0: a diagnosis is its own gate,
-    // its half sum, or one of those that carry. They are told in the order of the names.
+    // its half sum, or one of those that carry. They are reported in the order of the names.
     Row {
         name: "f.bench",
         text: BY_KIND,

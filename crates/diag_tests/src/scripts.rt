@@ -45,7 +45,7 @@ pub static SCRIPTS: [Row<'static>; 13] = [
         status: 0,
     },
     // The diagnoses are b and then c. That both are faulty is none, and comes before them. What is asked leaves the point,
-    // what is told forgets it, also where nothing changes, and what is refused leaves it.
+    // what is reported forgets it, also if nothing changes, and what is refused leaves it.
     Row {
         name: "f.bench",
         text: CHAIN,
@@ -69,7 +69,7 @@ pub static SCRIPTS: [Row<'static>; 13] = [
                  B min 0\n",
         status: 0,
     },
-    // Sessions whose names are fronts of one another. What is told to one changes it alone, and one that is closed leaves room.
+    // Sessions whose names are fronts of one another. What is noted in one changes it alone, and one that is closed leaves room.
     Row {
         name: "f.bench",
         text: CHAIN,
@@ -108,7 +108,7 @@ pub static SCRIPTS: [Row<'static>; 13] = [
                  S error 10 no part\n",
         status: 0,
     },
-    // What is told to one session says nothing of another.
+    // What is noted in one session says nothing of another.
     Row {
         name: "f.bench",
         text: CHAIN,

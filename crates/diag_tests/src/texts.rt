@@ -10,7 +10,7 @@ use std::process::Abort;
 use std::test::Fail;
 
 // A run, and what it writes before a text, which comes last; its variables, how many nodes it has at most, the bits for the variables
-// under which it is true, that for the first being the lowest, and its end. A part's bit is 1 where it is ok.
+// under which it is true, that for the first being the lowest, and its end. A part's bit is 1 if it is ok.
 struct Written {
     name: &'static str,
     text: &'static [u8],
@@ -28,7 +28,7 @@ struct Written {
 // variable and two, and the text of what a session allows one more for each part that is held, and one. The text of the diagnoses has
 // at most as many nodes as a graph has nodes and edges, two for each part, and one.
 static WRITTEN: [Written; 18] = [
-    // where the inverter is faulty each row is allowed, and where it is ok those in which its wires differ
+    // if the inverter is faulty each row is allowed, and if it is ok those in which its wires differ
     Written {
         name: "f.bench",
         text: NOT,
@@ -176,7 +176,7 @@ static WRITTEN: [Written; 18] = [
         allowed: &[0b101],
         end: b"\n",
     },
-    // where a gate is faulty each row is allowed, and where it is ok those in which its output is what it is to be
+    // if a gate is faulty each row is allowed, and if it is ok those in which its output is what it is to be
     Written {
         name: "f.bench",
         text: b"INPUT(a)\nINPUT(b)\ny = AND(a, b)\n",
@@ -261,9 +261,9 @@ fn is_true(alloc: Global, graph: &Graph, bits: u32) -> Result<bool, Fail> {
     for node in 0..graph.len() {
         let mut all = true;
         let mut any = false;
-        for kid in graph.kids(node) {
+        for child in graph.kids(node) {
             let value = *values
-                .get(*kid as usize)
+                .get(*child as usize)
                 .ok_or("a child that is not there")?;
             all = all && value;
             any = any || value;

@@ -84,7 +84,7 @@ marked-open words marks i are h m = eqb-true _ _ (sym (are i h) ∙ grind arith)
 pub unmarked-held : (words marks : List ℕ) (i : ℕ) → AreMarks words marks → i < length marks → get_or marks i 0 < 2 → get_or words i 0 ≢ 0
 unmarked-held words marks i are h m e = let t : nat_le 2 (get_or marks i 0) ≡ true = are i h ∙ eq-eqb (get_or words i 0) 0 e in let g : 2 ≤ get_or marks i 0 = leb-true _ _ t in omega arith
 
--- the word that a part had: 0 where it is marked, and otherwise what it is
+-- the word that a part had: 0 if it is marked, and otherwise what it is
 pub word-marked : (old words marks : List ℕ) (i word : ℕ) → AreMarks old marks → i < length marks → word ≡ 0 → 2 ≤ get_or marks i 0 → word ≡ get_or old i 0
 word-marked old words marks i word are h e m = e ∙ sym (marked-open old marks i are h m)
 

@@ -32,7 +32,7 @@ fn follow(words: &mut [u32], state: &[u32]) -> usize
     state.len()
 }
 
-// The last part at which a later diagnosis can leave the state: the same before it, ok where the state has faulty. The words
+// The last part at which a later diagnosis can leave the state: the same before it, ok if the state has faulty. The words
 // are then fixed so far. It takes a pass for each part that is faulty in the state, at most.
 pub(crate) fn leave<L: Ledger>(
     graph: &GraphView<'_>,

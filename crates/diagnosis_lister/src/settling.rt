@@ -31,7 +31,7 @@ pub(crate) fn reaches<L: Ledger>(
     least_in(graph, words, costs, values, steps) == Some(fewest)
 }
 
-// Fixes each open part from one on, so that only the first of the states of least cost is left: faulty where that can be.
+// Fixes each open part from one on, so that only the first of the states of least cost is left: faulty if that can be.
 // The values are the costs of the nodes. It takes a pass for each part that it fixes to faulty.
 pub(crate) fn settle<L: Ledger>(
     graph: &GraphView<'_>,

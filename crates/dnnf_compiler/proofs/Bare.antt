@@ -7,7 +7,7 @@ use Rattle.state_rules.specs.declared.nodes.NodeKind.TheVariants.{Literal, And, 
 use Rattle.state_rules.specs.Graphs.{Node, true_node, mention_by, mentions, AreNodes, false_node}
 use Rattle.state_rules.proofs.NodeValues.{value_of-get}
 use Rattle.state_rules.proofs.NodesFit.{fits-get}
-use Rattle.node_store.specs.Stores.{Stored, IsStore, Makes, Means, AddsAtMost, literals, is_bare, HasNoBareKid}
+use Rattle.node_store.specs.Stores.{Stored, IsStore, Makes, Means, AddsAtMost, literals, is_bare, HasNoBareChild}
 use Rattle.node_store.proofs.NodeCopies.{before}
 use Rattle.dnnf_compiler.specs.declared.maker.Maker.{Maker}
 use Rattle.dnnf_compiler.specs.inner.Joining.{Grows, IsPlain}
@@ -52,47 +52,47 @@ other_plain m is k not_yes not_no = λ node there. by node.what node.kids there 
 
 -- ---- one more node
 
-pub bare_push : (vars : ℕ) (old new : List Node) (node : Node) → AreNodes vars old → AddsAtMost old node new → HasNoBareKid old → ((k : ℕ) → Contains node.kids k → (k < length old) × IsPlain old k) → HasNoBareKid new
-bare_push vars old new node are (inl e) none plain = subst HasNoBareKid (sym e) none
-bare_push vars old new node are (inr e) none plain = subst HasNoBareKid (sym e) (λ parent child n kid there has kid_there. by parent child n kid has kid_there (get-push old node n parent there)) where
-  earlier : (child : ℕ) (kid : Node) → child < length old → slice_get (old ++ node ∷ []) child ≡ Some kid → slice_get old child ≡ Some kid
-  earlier child kid h there = elim (get-push old node kid child there) [
+pub bare_push : (vars : ℕ) (old new : List Node) (node : Node) → AreNodes vars old → AddsAtMost old node new → HasNoBareChild old → ((k : ℕ) → Contains node.kids k → (k < length old) × IsPlain old k) → HasNoBareChild new
+bare_push vars old new node are (inl e) none plain = subst HasNoBareChild (sym e) none
+bare_push vars old new node are (inr e) none plain = subst HasNoBareChild (sym e) (λ parent number n child there has child_there. by parent number n child has child_there (get-push old node n parent there)) where
+  earlier : (number : ℕ) (child : Node) → number < length old → slice_get (old ++ node ∷ []) number ≡ Some child → slice_get old number ≡ Some child
+  earlier number child h there = elim (get-push old node child number there) [
     | inl last ↦ absurd (omega (arith, h, last.0))
     | inr is ↦ is
   ]
 
-  by : (parent child : ℕ) (n kid : Node) → Contains n.kids child → slice_get (old ++ node ∷ []) child ≡ Some kid → ((parent ≡ length old) × (node ≡ n)) ⊎ (slice_get old parent ≡ Some n) → is_bare kid.what kid.kids ≡ false
-  by parent child n kid has kid_there (inl last) =
-      let one = plain child (subst (λ (x : Node). Contains x.kids child) (sym last.1) has) in
-      one.1 kid (earlier child kid one.0 kid_there)
-  by parent child n kid has kid_there (inr there) =
-      let low : child < parent = in_all (λ k. k < parent) n.kids child has (before vars old are parent n there) in
-      none parent child n kid there has (earlier child kid (omega (arith, low, slice_get_within old parent n there)) kid_there)
+  by : (parent number : ℕ) (n child : Node) → Contains n.kids number → slice_get (old ++ node ∷ []) number ≡ Some child → ((parent ≡ length old) × (node ≡ n)) ⊎ (slice_get old parent ≡ Some n) → is_bare child.what child.kids ≡ false
+  by parent number n child has child_there (inl last) =
+      let one = plain number (subst (λ (x : Node). Contains x.kids number) (sym last.1) has) in
+      one.1 child (earlier number child one.0 child_there)
+  by parent number n child has child_there (inr there) =
+      let low : number < parent = in_all (λ k. k < parent) n.kids number has (before vars old are parent n there) in
+      none parent number n child there has (earlier number child (omega (arith, low, slice_get_within old parent n there)) child_there)
 
 pub two_plain : (P : ℕ → Type 0) (a b : ℕ) → P a → P b → (k : ℕ) → Contains (a ∷ b ∷ []) k → P k
 two_plain P a b p q k has = grind arith
 
 -- ---- at the beginning no node has a child
 
-abbrev HaveNoKids : List Node → Type 0
-HaveNoKids nodes = (i : ℕ) (n : Node) → slice_get nodes i ≡ Some n → n.kids ≡ []
+abbrev HaveNoChildren : List Node → Type 0
+HaveNoChildren nodes = (i : ℕ) (n : Node) → slice_get nodes i ≡ Some n → n.kids ≡ []
 
-one_kidless : (nodes : List Node) (node : Node) → HaveNoKids nodes → node.kids ≡ [] → HaveNoKids (nodes ++ node ∷ [])
-one_kidless nodes node none e i n there = grind (arith, get-push)
+one_childless : (nodes : List Node) (node : Node) → HaveNoChildren nodes → node.kids ≡ [] → HaveNoChildren (nodes ++ node ∷ [])
+one_childless nodes node none e i n there = grind (arith, get-push)
 
-two_kidless : (nodes : List Node) (a b : Node) → HaveNoKids nodes → a.kids ≡ [] → b.kids ≡ [] → HaveNoKids (nodes ++ (a ∷ b ∷ []))
-two_kidless nodes a b none e f = subst HaveNoKids (append_assoc nodes (a ∷ []) (b ∷ [])) (one_kidless (nodes ++ a ∷ []) b (one_kidless nodes a none e) f)
+two_childless : (nodes : List Node) (a b : Node) → HaveNoChildren nodes → a.kids ≡ [] → b.kids ≡ [] → HaveNoChildren (nodes ++ (a ∷ b ∷ []))
+two_childless nodes a b none e f = subst HaveNoChildren (append_assoc nodes (a ∷ []) (b ∷ [])) (one_childless (nodes ++ a ∷ []) b (one_childless nodes a none e) f)
 
-literals_kidless : (n : ℕ) → HaveNoKids (literals n)
-literals_kidless zero i n there = absurd (let never : ⊥ = cc in never)
-literals_kidless (suc n) i m there = grind (arith, two_kidless (literals n), literals_kidless n)
+literals_childless : (n : ℕ) → HaveNoChildren (literals n)
+literals_childless zero i n there = absurd (let never : ⊥ = cc in never)
+literals_childless (suc n) i m there = grind (arith, two_childless (literals n), literals_childless n)
 
-grown_kidless : (old new : List Node) (node : Node) → AddsAtMost old node new → HaveNoKids old → node.kids ≡ [] → HaveNoKids new
-grown_kidless old new node (inl e) none f = subst HaveNoKids (sym e) none
-grown_kidless old new node (inr e) none f = subst HaveNoKids (sym e) (one_kidless old node none f)
+grown_childless : (old new : List Node) (node : Node) → AddsAtMost old node new → HaveNoChildren old → node.kids ≡ [] → HaveNoChildren new
+grown_childless old new node (inl e) none f = subst HaveNoChildren (sym e) none
+grown_childless old new node (inr e) none f = subst HaveNoChildren (sym e) (one_childless old node none f)
 
-pub first_bare : (vars : ℕ) (nodes mid new : List Node) (a b : Node) → nodes ≡ literals vars → AddsAtMost nodes a mid → a.kids ≡ [] → AddsAtMost mid b new → b.kids ≡ [] → HasNoBareKid new
-first_bare vars nodes mid new a b is one e two f = grind (arith, grown_kidless mid new b two, grown_kidless nodes mid a one, literals_kidless vars)
+pub first_bare : (vars : ℕ) (nodes mid new : List Node) (a b : Node) → nodes ≡ literals vars → AddsAtMost nodes a mid → a.kids ≡ [] → AddsAtMost mid b new → b.kids ≡ [] → HasNoBareChild new
+first_bare vars nodes mid new a b is one e two f = grind (arith, grown_childless mid new b two, grown_childless nodes mid a one, literals_childless vars)
 
 -- ---- one of two
 

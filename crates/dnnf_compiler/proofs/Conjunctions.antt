@@ -73,7 +73,7 @@ module _ (m : Maker) (is : IsMaker m) where
   few_kept : (kids : List ℕ) → length (filter keeps kids) ≤ length kids
   few_kept kids = length-filter-le keeps kids
 
-  -- ---- while kids are gone over
+  -- ---- while children are gone over
 
   pub kept_more : (kids kept : List ℕ) (i k : ℕ) → i < length kids → k ≡ get_or kids i 0 → k ≢ m.yes → kept ++ filter keeps (drop i kids) ≡ filter keeps kids → (kept ++ k ∷ []) ++ filter keeps (drop (i + 1) kids) ≡ filter keeps kids
   kept_more kids kept i k low at e so_far = grind (arith, nat_tests, append_assoc, drop_more kids i 0 low)

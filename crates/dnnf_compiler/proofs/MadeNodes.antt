@@ -6,7 +6,7 @@ use Rattle.state_rules.specs.Assignments.{Assignment}
 use Rattle.state_rules.specs.declared.nodes.NodeKind.TheVariants.{And, Or}
 use Rattle.state_rules.specs.Graphs.{Node}
 use Rattle.state_rules.proofs.Lists.{slice_get-before}
-use Rattle.node_store.specs.Stores.{Stored, IsStore, Makes, Means, AddsAtMost, HasNoBareKid}
+use Rattle.node_store.specs.Stores.{Stored, IsStore, Makes, Means, AddsAtMost, HasNoBareChild}
 use Rattle.dnnf_compiler.specs.declared.maker.Maker.{Maker}
 use Rattle.dnnf_compiler.specs.inner.Joining.{Grows}
 use Rattle.dnnf_compiler.specs.inner.Making.{IsMaker, Adds, may_be_true, may_mention}
@@ -16,7 +16,7 @@ pub kept_in : (old new : List Node) (node : Node) → AddsAtMost old node new �
 kept_in old new node (inl e) k n there = ap (λ ns. slice_get ns k) e ∙ there
 kept_in old new node (inr e) k n there = ap (λ ns. slice_get ns k) e ∙ slice_get-before old (node ∷ []) k n there
 
-pub new_maker : (s s' : Stored) (s0 : Stored) (top bottom : ℕ) → Makes s0 s And [] top → Means s0.nodes s.nodes And [] top → Makes s s' Or [] bottom → Means s.nodes s'.nodes Or [] bottom → IsStore s' → HasNoBareKid s'.nodes
+pub new_maker : (s s' : Stored) (s0 : Stored) (top bottom : ℕ) → Makes s0 s And [] top → Means s0.nodes s.nodes And [] top → Makes s s' Or [] bottom → Means s.nodes s'.nodes Or [] bottom → IsStore s' → HasNoBareChild s'.nodes
     → IsMaker (record { store = s'; yes = top; no = bottom })
 new_maker s s' s0 top bottom make_yes mean_yes make_no mean_no store bare = grind (arith, constant_grows, grows_by, slice_get_within, kept_in)
 
@@ -25,10 +25,10 @@ new_maker s s' s0 top bottom make_yes mean_yes make_no mean_no store bare = grin
 pub adds_not : (m : Maker) (more kids : ℕ) → IsMaker m → Adds m m more kids
 adds_not m more kids is = record { maker = is; grows = grows_not m.store.nodes; vars = refl; yes = refl; made = omega arith; handed = omega arith }
 
-pub adds_then : (old mid new : Maker) (more kids more' kids' all all_kids : ℕ) → Adds old mid more kids → Adds mid new more' kids' → all ≡ more + more' → all_kids ≡ kids + kids' → Adds old new all all_kids
-adds_then old mid new more kids more' kids' all all_kids a b e f = grind arith
+pub adds_then : (old mid new : Maker) (more kids more' children' all all_children : ℕ) → Adds old mid more kids → Adds mid new more' children' → all ≡ more + more' → all_children ≡ kids + children' → Adds old new all all_children
+adds_then old mid new more kids more' children' all all_children a b e f = grind arith
 
-pub adds_store : (m : Maker) (s : Stored) (kids : ℕ) → IsMaker m → IsStore s → ((k : ℕ) (n : Node) → slice_get m.store.nodes k ≡ Some n → slice_get s.nodes k ≡ Some n) → HasNoBareKid s.nodes → Grows m.store.nodes s.nodes → s.vars ≡ m.store.vars → s.made ≤ m.store.made + 1 → s.handed ≤ m.store.handed + kids → Adds m (record m { store = s }) 1 kids
+pub adds_store : (m : Maker) (s : Stored) (kids : ℕ) → IsMaker m → IsStore s → ((k : ℕ) (n : Node) → slice_get m.store.nodes k ≡ Some n → slice_get s.nodes k ≡ Some n) → HasNoBareChild s.nodes → Grows m.store.nodes s.nodes → s.vars ≡ m.store.vars → s.made ≤ m.store.made + 1 → s.handed ≤ m.store.handed + kids → Adds m (record m { store = s }) 1 kids
 adds_store m s kids is store kept bare g vars made handed = grind arith
 
 pub may_grow : (old new : List Node) (a : Assignment) (o : Option ℕ) → Grows old new → IfSome o (λ n. n < length old) → may_be_true new a o ≡ may_be_true old a o

@@ -67,12 +67,12 @@ module _ (m : Maker) (var : ℕ) (bit : Bool) (below : List (Vec ℕ Global)) (n
   abbrev kids : List ℕ
   kids = literal ∷ taken below numbers
 
-  pub kids_meetable : IsMaker m → m.store.made < MADE_LIMIT → AreMeetable m kids
-  kids_meetable maker few = record {
+  pub children_meetable : IsMaker m → m.store.made < MADE_LIMIT → AreMeetable m kids
+  children_meetable maker few = record {
     maker = maker;
     within = All-from_recursion (λ k. k < length m.store.nodes) kids (literal_in, is.within);
     apart = by;
-    few_kids = omega (arith, is.few, length-taken below numbers is.held, length-held below numbers is.held);
+    few_children = omega (arith, is.few, length-taken below numbers is.held, length-held below numbers is.held);
     few = few;
   } where
     by : (v : ℕ) → at_most_one (map (mentions m.store.nodes v) kids) ≡ true

@@ -155,8 +155,8 @@ pub record IsRoot (cnf : ClauseList) (forest : Forest) (m : Maker) (kids : List 
       → IsCompiledAlong forest cnf compiled
 
 -- the children of a place's nodes
-kids_few : (old new k most lists below all : ℕ) → new ≤ old + (4 + 2 * k) * lists → k ≤ most → old ≤ (4 + 2 * most) * below → lists + below ≡ all → new ≤ (4 + 2 * most) * all
-kids_few old new k most lists below all h low so_far e = grind arith
+children_few : (old new k most lists below all : ℕ) → new ≤ old + (4 + 2 * k) * lists → k ≤ most → old ≤ (4 + 2 * most) * below → lists + below ≡ all → new ≤ (4 + 2 * most) * all
+children_few old new k most lists below all h low so_far e = grind arith
 
 module _ (cnf : ClauseList) (steps : List Step) (forks : List Forks) (forest : Forest) (is : IsWay cnf steps forks forest) where
   pub forks_long : length forks ≡ length steps
@@ -179,9 +179,9 @@ module _ (cnf : ClauseList) (steps : List Step) (forks : List Forks) (forest : F
 
   pub climb_first : is_clause_list cnf ≡ true → (i : ℕ) (m : Maker) (stack : List (Vec ℕ Global)) → i ≡ length steps → IsMaker m → m.store.vars ≡ cnf.vars → m.store.made ≡ 2 → m.store.handed ≡ 0 → stack ≡ []
       → IsClimbing cnf (width forest) m stack (spots_at (start cnf forest) i)
-  climb_first valid i m stack e made vars two no_kid empty = by (spots_at (start cnf forest) i) (ap length (its_after valid i).steps_are) where
+  climb_first valid i m stack e made vars two no_child empty = by (spots_at (start cnf forest) i) (ap length (its_after valid i).steps_are) where
     by : (spots : List Spot) → length (flat_map its_steps spots) ≡ length (drop i steps) → IsClimbing cnf (width forest) m stack spots
-    by [] same = grind (arith, made, vars, two, no_kid, empty)
+    by [] same = grind (arith, made, vars, two, no_child, empty)
     by (spot ∷ rest) same = absurd (omega (arith, e, same, length-drop i steps))
 
   module _ (valid : is_clause_list cnf ≡ true) (i : ℕ) (m : Maker) (stack : List (Vec ℕ Global)) (next : IsNext (start cnf forest) i) (climbing : IsClimbing cnf (width forest) m stack (spots_at (start cnf forest) (suc i))) where
@@ -197,7 +197,7 @@ module _ (cnf : ClauseList) (steps : List Step) (forks : List Forks) (forest : F
 
     pub climb_more : (new : Maker) (under : List (Vec ℕ Global)) (numbers : Vec ℕ Global) → IsRaised m new under numbers.items next.spot next.rest
         → IsClimbing cnf (width forest) new (under ++ numbers ∷ []) (spots_at (start cnf forest) i)
-    climb_more new under numbers raised = grind (arith, next.are, raised, climbing, climbed, known, sum_next next.spot next.rest, trees_within next.spot.below, kids_few m.store.handed new.store.handed (trees next.spot.below) (width forest), reverse-append under (numbers ∷ []))
+    climb_more new under numbers raised = grind (arith, next.are, raised, climbing, climbed, known, sum_next next.spot next.rest, trees_within next.spot.below, children_few m.store.handed new.store.handed (trees next.spot.below) (width forest), reverse-append under (numbers ∷ []))
 
   -- ---- the base of all
 
@@ -233,15 +233,15 @@ module _ (cnf : ClauseList) (steps : List Step) (forks : List Forks) (forest : F
         root_held = subst (AreHeld top) same_numbers its_begin.held
 
         module _ (kids : List ℕ) (e : kids ≡ taken top numbers) where
-          kids_are : taken top (begins forest (root cnf.clauses) all) ≡ kids
-          kids_are = ap (taken top) same_numbers ∙ sym e
+          children_are : taken top (begins forest (root cnf.clauses) all) ≡ kids
+          children_are = ap (taken top) same_numbers ∙ sym e
 
-          kids_many : length kids ≡ trees forest
-          kids_many = ap length e ∙ length-taken top numbers root_held ∙ top_many
+          children_many : length kids ≡ trees forest
+          children_many = ap length e ∙ length-taken top numbers root_held ∙ top_many
 
           pub root_is : IsRoot cnf forest m kids
           root_is = record {
-            meetable = grind (arith, climbing, All-from_recursion, kids_are, its_begin, kids_many, trees_few forest (root cnf.clauses) all there, is.few, sum_along forest (root cnf.clauses));
+            meetable = grind (arith, climbing, All-from_recursion, children_are, its_begin, children_many, trees_few forest (root cnf.clauses) all there, is.few, sum_along forest (root cnf.clauses));
             right = λ new node compiled meet valid_graph frozen made.
                 let vars : new.store.vars ≡ cnf.vars = meet.adds.vars ∙ climbing.vars in
                 record {
@@ -250,16 +250,16 @@ module _ (cnf : ClauseList) (steps : List Step) (forks : List Forks) (forest : F
                   truth = λ a.
                       frozen.truth a
                       ∙ meet.truth a
-                      ∙ ap (list_all (λ k. is_true m.store.nodes k a)) (sym kids_are)
+                      ∙ ap (list_all (λ k. is_true m.store.nodes k a)) (sym children_are)
                       ∙ its_begin.truth a
                       ∙ sym (down_holds forest (root cnf.clauses) a all (root_down cnf forest is.forest_is (clauses-valid cnf valid).2))
                       ∙ root_holds cnf.clauses a;
-                  no_bare_kid = frozen.no_bare_kid meet.adds.maker.bare;
+                  no_bare_child = frozen.no_bare_child meet.adds.maker.bare;
                   few_made = omega (arith, made, meet.adds.made, climbing.made, sum_along forest (root cnf.clauses));
-                  few_alone = λ h. let alone = (meet.alone (omega (arith, h, kids_many))).made in omega (arith, made, alone, climbing.made, sum_along forest (root cnf.clauses));
+                  few_alone = λ h. let alone = (meet.alone (omega (arith, h, children_many))).made in omega (arith, made, alone, climbing.made, sum_along forest (root cnf.clauses));
                   few_nodes = omega (arith, frozen.few, made, vars);
-                  few_edges = omega (arith, frozen.few_edges, meet.adds.handed, kids_many, trees_within forest, last_kids m.store.handed (width forest) (sum_on Lists forest (root cnf.clauses)) (subst (λ n. m.store.handed ≤ (4 + 2 * width forest) * n) (sum_along forest (root cnf.clauses)) climbing.handed));
+                  few_edges = omega (arith, frozen.few_edges, meet.adds.handed, children_many, trees_within forest, last_children m.store.handed (width forest) (sum_on Lists forest (root cnf.clauses)) (subst (λ n. m.store.handed ≤ (4 + 2 * width forest) * n) (sum_along forest (root cnf.clauses)) climbing.handed));
                 };
           } where
-            last_kids : (handed k sum : ℕ) → handed ≤ (4 + 2 * k) * sum → handed + k ≤ (4 + 2 * k) * (1 + sum)
-            last_kids handed k sum h = grind arith
+            last_children : (handed k sum : ℕ) → handed ≤ (4 + 2 * k) * sum → handed + k ≤ (4 + 2 * k) * (1 + sum)
+            last_children handed k sum h = grind arith

@@ -1,7 +1,7 @@
 -- What clauses and a forest of their variables are compiled to.
 use Rattle.std.specs.Prelude.{◌≡◌, ◌+◌, ◌*◌, ◌≤◌, true, List, length}
 use Rattle.state_rules.specs.Graphs.{IsGraph, edges}
-use Rattle.node_store.specs.Stores.{HasNoBareKid}
+use Rattle.node_store.specs.Stores.{HasNoBareChild}
 use Rattle.clause_encoder.specs.Clauses.{ClauseList}
 use Rattle.branch_states.specs.declared.measuring.TheConstants.{BUDGET_LIMIT}
 use Rattle.elimination_forests.specs.declared.forks.Forks.{Forks}
@@ -24,7 +24,7 @@ pub record IsCompiledAlong (forest : Forest) (list : ClauseList) (compiled : Com
   pub decomposable : IsGraph compiled.graph
   pub vars : compiled.graph.vars ≡ list.vars
   pub truth : SaysAll list.clauses compiled.graph
-  pub no_bare_kid : HasNoBareKid compiled.graph.nodes
+  pub no_bare_child : HasNoBareChild compiled.graph.nodes
   pub few_made : compiled.made ≤ 3 * forest_sum Lists forest list.clauses + 2
   -- No node is made for the base of all if no more than one tree is on it.
   pub few_alone : trees forest ≤ 1 → compiled.made ≤ 3 * sum_on Lists forest (root list.clauses) + 2

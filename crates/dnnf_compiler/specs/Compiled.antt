@@ -2,7 +2,7 @@
 use Rattle.std.specs.Prelude.{◌≡◌, ℕ, ◌+◌, ◌*◌, ◌-◌, ◌≤◌, List, length}
 use Rattle.state_rules.specs.Assignments.{Assignment}
 use Rattle.state_rules.specs.Graphs.{Graph, IsGraph, is_true, edges}
-use Rattle.node_store.specs.Stores.{HasNoBareKid}
+use Rattle.node_store.specs.Stores.{HasNoBareChild}
 use Rattle.clause_encoder.specs.Clauses.{Clause, ClauseList, all_hold}
 use Rattle.elimination_forests.specs.Branches.{sum_of}
 use Rattle.dnnf_compiler.specs.declared.compiling.Compiled.{Compiled}
@@ -22,7 +22,7 @@ pub record IsCompiled (list : ClauseList) (compiled : Compiled) : Type 0 where
   pub vars : compiled.graph.vars ≡ list.vars
   pub truth : SaysAll list.clauses compiled.graph
   -- No and or or without children, which is a constant, is a child.
-  pub no_bare_kid : HasNoBareKid compiled.graph.nodes
+  pub no_bare_child : HasNoBareChild compiled.graph.nodes
   pub few_made : compiled.made ≤ 3 * sum_of list.clauses + 2
   pub few_nodes : length compiled.graph.nodes ≤ compiled.made + 2 * list.vars
   pub few_edges : edges compiled.graph.nodes ≤ 6 * (sum_of list.clauses + 1)

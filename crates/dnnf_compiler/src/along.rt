@@ -7,7 +7,7 @@ ghost use Rattle.dnnf_compiler.specs.inner.Placing.{Spot, IsReady, IsRaised};
 
 use crate::Memory;
 use crate::compiling::Compiled;
-use crate::maker::{Kids, Maker, taken};
+use crate::maker::{Children, Maker, taken};
 use clause_encoder::Cnf;
 use elimination_forests::{Forks, Step};
 use node_store::Store;
@@ -35,7 +35,7 @@ pub fn compile_along(
     let count = stack.len();
     let trees = take_top(alloc, &mut stack, count)?;
     let first = vec![in alloc; 0; count]?;
-    let kids = taken(Kids::new(alloc), &first, &trees)?;
+    let kids = taken(Children::new(alloc), &first, &trees)?;
     let root = maker.meet(alloc, kids.as_slice())?;
     let compiled = graph_of(maker.store, root)?;
     Ok(compiled)

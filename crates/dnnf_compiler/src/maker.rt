@@ -10,7 +10,7 @@ use smallvec::SmallVec;
 use std::alloc::{AllocError, Global};
 
 /// Children: mostly two.
-pub(crate) type Kids = SmallVec<u32, 2>;
+pub(crate) type Children = SmallVec<u32, 2>;
 
 /// Makes nodes. `yes` is always true, and `no` never.
 #[derive(Drop)]
@@ -96,7 +96,7 @@ impl Maker {
             return Ok(None);
         };
         let literal = self.store.literal(var, bit);
-        let kids = taken(Kids::from_slice(alloc, &[literal])?, numbers, below)?;
+        let kids = taken(Children::from_slice(alloc, &[literal])?, numbers, below)?;
         let node = self.meet(alloc, kids.as_slice())?;
         if node == self.no {
             return Ok(None);
@@ -110,16 +110,16 @@ impl Maker {
         requires { AreMeetable self.old kids.now }
         ensures { IfOk result (IsMeet self.old self.new kids.now) }
     {
-        let mut kept = Kids::new(alloc);
+        let mut kept = Children::new(alloc);
         for i in 0..kids.len() {
-            let kid = kids[i];
-            if kid == self.no {
-                return Ok(kid);
+            let child = kids[i];
+            if child == self.no {
+                return Ok(child);
             }
-            if kid == self.yes {
+            if child == self.yes {
                 continue;
             }
-            kept.push(kid)?;
+            kept.push(child)?;
         }
         match kept.as_slice() {
             [] => Ok(self.yes),
@@ -154,7 +154,7 @@ impl Maker {
 }
 
 /// Adds to children the nodes to which numbers lead, one of each level.
-pub(crate) fn taken(kids: Kids, numbers: &[u32], levels: &[Vec<u32>]) -> Result<Kids, AllocError>
+pub(crate) fn taken(kids: Children, numbers: &[u32], levels: &[Vec<u32>]) -> Result<Children, AllocError>
     requires { AreHeld levels.now numbers.now }
     ensures { IfOk result (λ all. all.items ≡ kids.items ++ taken levels.now numbers.now) }
 {

@@ -1,4 +1,4 @@
--- Steps from one level to the next, and lists of one state: what the laws and the sum stand on.
+-- Steps from one level to the next, and lists of one state: what the laws and the sum are on.
 use Rattle.std.proofs.Common.{◌-◌, ◌≡◌, ℕ, zero, suc, ◌+◌, ◌*◌, ◌<◌, ◌≤◌, Bool, true, false, not, ◌&&◌, List, [], ◌∷◌, ◌++◌, map, length, take, drop, get_or, refl, ap, sym, ◌∙◌, arith}
 use Rattle.std.specs.List.{filter, flat_map}
 use Rattle.std.proofs.lemmas.List.Folds.{flat_map-map}

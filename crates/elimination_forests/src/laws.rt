@@ -10,7 +10,7 @@ ghost use Rattle.elimination_forests.specs.Levels.{level_forks};
 
 /// The order of a clause list is a forest of its clauses, one way down, with the same forks.
 ///
-/// Its sum is that of the levels if some bits make all clauses true, and else it is one more: at the last level, where all variables
+/// Its sum is that of the levels if some bits make all clauses true, and else it is one more: at the last level, if all variables
 /// have bits, there is one list or none.
 pub fn chain_is_order()
     ensures forest { (cnf : ClauseList) → is_clause_list cnf ≡ true → is_forest_of (chain (order cnf.clauses)) cnf ≡ true }

@@ -1,4 +1,4 @@
--- What stands for a node, by what stands for its kids.
+-- What stands for a node, by what stands for its children.
 use Rattle.std.proofs.Common.{◌≡◌, ℕ, ◌+◌, ◌<◌, ◌≤◌, Bool, true, false, cond, ◌&&◌, List, [], ◌∷◌, map, length, Option, Some, refl, ap, sym, ◌∙◌, subst, arith, inl, inr, ⊎_elim}
 use Rattle.std.specs.Prelude.{◌⊎◌, not, slice_get}
 use Rattle.std.specs.List.{list_all, list_any, filter}
@@ -10,15 +10,15 @@ use Rattle.state_rules.proofs.Members.{In, AtMost}
 use Rattle.state_rules.specs.declared.nodes.NodeKind.{NodeKind}
 use Rattle.state_rules.specs.declared.nodes.NodeKind.TheVariants.{Literal, And, Or}
 use Rattle.state_rules.specs.Graphs.{at_most_one, Graph, truth_by, is_true, mentions, IsGraph}
-use Rattle.state_rules.proofs.Kids.{at_most_one-tail, not_both}
+use Rattle.state_rules.proofs.Children.{at_most_one-tail, not_both}
 use Rattle.conditioner.specs.Words.{leaf_of}
 use Rattle.minimiser.specs.Costs.{part_cost, known_at, sum_costs, literal_cost, least_at}
 use Rattle.minimiser.proofs.Costs.{IsCost, as_cost, from_add, true_is}
 use Rattle.minimiser.proofs.Whole.{part_cost-none}
-use Rattle.minimiser.proofs.Derivations.{is_cost, true-at, mention-at, costs-at, apart-kids, kids-cost, Apart, apart-tail, apart-both, cheapest-kid, sum-kid}
+use Rattle.minimiser.proofs.Derivations.{is_cost, true-at, mention-at, costs-at, apart-kids, kids-cost, Apart, apart-tail, apart-both, cheapest-child, sum-child}
 use Rattle.fault_graph.proofs.LeastNodes.{StandsFor, StandsFor-same, stands-free, stands-literal, stands-never, stands-or, stands-other, stands-and}
 
--- ---- the variables of the kids that stay
+-- ---- the variables of the children that stay
 
 module _ (keep : ℕ → Bool) (place : ℕ → ℕ) (small large : ℕ → Bool) where
   abbrev Narrower : List ℕ → Type 0
@@ -64,25 +64,25 @@ module _ (graph : Graph) (words costs : List ℕ) (ok : IsGraph graph) (keep : �
   abbrev pub StandsAt : ℕ → ℕ → (Assignment → Bool) → Type 0
   StandsAt k c u = StandsFor (known_at words) (part_cost costs) (length costs) (λ a. is_true graph.nodes k a) (λ v. mentions graph.nodes v k) c u
 
-  -- a kid that stays costs no more, and has what stands for it
+  -- a child that stays costs no more, and has what stands for it
   pub record Stays (c j : ℕ) : Type 0 where
     pub cost : ℕ
     pub is : least_at graph words costs j ≡ Some cost
     pub cheap : cost ≤ c
     pub stands : StandsAt j cost (U (place j))
 
-  pub record KidsStand (kids : List ℕ) (c : ℕ) : Type 0 where
+  pub record ChildrenStand (kids : List ℕ) (c : ℕ) : Type 0 where
     pub stay : (j : ℕ) → In j kids → keep j ≡ true → Stays c j
     pub rest : (j d : ℕ) → In j kids → keep j ≡ false → least_at graph words costs j ≡ Some d → (d ≡ 0) ⊎ (c < d)
 
-  tail : (j c : ℕ) (kids : List ℕ) → KidsStand (j ∷ kids) c → KidsStand kids c
+  tail : (j c : ℕ) (kids : List ℕ) → ChildrenStand (j ∷ kids) c → ChildrenStand kids c
   tail j c kids h = record { stay = λ i m. h.stay i (inr m); rest = λ i d m. h.rest i d (inr m) }
 
   costs-of : (j d : ℕ) → least_at graph words costs j ≡ Some d → IsCost kn price n (λ a. T a j) (λ v. M v j) (Some d)
   costs-of j d e = subst (λ o. IsCost kn price n (λ a. T a j) (λ v. M v j) o) e (is_cost graph words costs ok j)
 
-  -- each kid of an and costs no more than it
-  ands : (kids : List ℕ) (c : ℕ) → Apart graph words costs ok kids → KidsStand kids c → ((j d : ℕ) → In j kids → least_at graph words costs j ≡ Some d → d ≤ c) → (s : ℕ) → sum_costs (map (least_at graph words costs) kids) ≡ Some s
+  -- each child of an and costs no more than it
+  ands : (kids : List ℕ) (c : ℕ) → Apart graph words costs ok kids → ChildrenStand kids c → ((j d : ℕ) → In j kids → least_at graph words costs j ≡ Some d → d ≤ c) → (s : ℕ) → sum_costs (map (least_at graph words costs) kids) ≡ Some s
       → StandsFor kn price n (λ a. list_all (λ b. b) (map (T a) kids)) (λ v. list_any (λ b. b) (map (M v) kids)) s (λ a. list_all (λ b. b) (map (λ p. U p a) (map place (filter keep kids))))
   ands [] c apart h low s e = subst (λ m. StandsFor kn price n (λ a. true) (λ v. false) m (λ a. true)) (same_Some 0 s e) (stands-free kn price n (part_cost-none costs) (λ a. true) (λ v. false) (as_cost kn price n _ _ _ (true_is kn price n)))
   ands (j ∷ kids) c apart h low s e =
@@ -108,8 +108,8 @@ module _ (graph : Graph) (words costs : List ℕ) (ok : IsGraph graph) (keep : �
             (subst (λ o. IsCost kn price n (λ a. list_all (λ b. b) (map (T a) kids)) (λ v. list_any (λ b. b) (map (M v) kids)) o) er (kids-cost graph words costs ok kids (apart-tail graph words costs ok j kids apart)))
             (subst (λ m. StandsAt j m (λ a. true)) (sym free) (stands-free kn price n (part_cost-none costs) (λ a. T a j) (λ v. M v j) (costs-of j 0 (el ∙ ap Some free)))) more)
 
-  -- each kid of an or costs at least as much as it
-  ors : (kids : List ℕ) (c : ℕ) → 0 < c → KidsStand kids c → ((j d : ℕ) → In j kids → least_at graph words costs j ≡ Some d → c ≤ d)
+  -- each child of an or costs at least as much as it
+  ors : (kids : List ℕ) (c : ℕ) → 0 < c → ChildrenStand kids c → ((j d : ℕ) → In j kids → least_at graph words costs j ≡ Some d → c ≤ d)
       → StandsFor kn price n (λ a. list_any (λ b. b) (map (T a) kids)) (λ v. list_any (λ b. b) (map (M v) kids)) c (λ a. list_any (λ b. b) (map (λ p. U p a) (map place (filter keep kids))))
   ors [] c dear h high = stands-never kn price n c
   ors (j ∷ kids) c dear h high = by_keep (ors kids c dear (tail j c kids h) (λ i d m. high i d (inr m))) (keep j) refl where
@@ -128,8 +128,8 @@ module _ (graph : Graph) (words costs : List ℕ) (ok : IsGraph graph) (keep : �
   says : (k : Option Bool) (w c : ℕ) (positive : Bool) → literal_cost (leaf_of positive k) w positive ≡ Some c → 0 < c → (positive ≡ false) × (w ≡ c)
   says k w c positive e dear = grind arith
 
-  -- What costs something has the same kind over the kids that stay standing for it.
-  pub node-stands : (k c : ℕ) (what : NodeKind) (kids : List ℕ) → slice_get graph.nodes k ≡ Some (record { what = what; kids = kids }) → least_at graph words costs k ≡ Some c → 0 < c → KidsStand kids c
+  -- What costs something has the same kind over the children that stay standing for it.
+  pub node-stands : (k c : ℕ) (what : NodeKind) (kids : List ℕ) → slice_get graph.nodes k ≡ Some (record { what = what; kids = kids }) → least_at graph words costs k ≡ Some c → 0 < c → ChildrenStand kids c
       → StandsAt k c (λ a. truth_by a what (map (λ p. U p a) (map place (filter keep kids))))
   unfolding Apart
   node-stands k c (Literal positive var) kids e is dear h =
@@ -138,8 +138,8 @@ module _ (graph : Graph) (words costs : List ℕ) (ok : IsGraph graph) (keep : �
   node-stands k c And kids e is dear h =
       let sum = sym (costs-at graph words costs ok k _ e) ∙ is in
       StandsFor-same kn price n (λ a. true-at graph words costs ok k _ e a) (λ v. mention-at graph words costs ok k _ e v) refl (λ a. refl)
-      (ands kids c (apart-kids graph words costs ok k kids e) h (λ j d m f. let x = sum-kid (least_at graph words costs) kids c j sum m in omega (arith, x.2, same_Some x.0 d (sym x.1 ∙ f))) c sum)
+      (ands kids c (apart-kids graph words costs ok k kids e) h (λ j d m f. let x = sum-child (least_at graph words costs) kids c j sum m in omega (arith, x.2, same_Some x.0 d (sym x.1 ∙ f))) c sum)
   node-stands k c Or kids e is dear h =
       let least = sym (costs-at graph words costs ok k _ e) ∙ is in
       StandsFor-same kn price n (λ a. true-at graph words costs ok k _ e a) (λ v. mention-at graph words costs ok k _ e v) refl (λ a. refl)
-      (ors kids c dear h (λ j d m f. subst (λ o. AtMost o d) least (cheapest-kid (least_at graph words costs) kids j d m f)))
+      (ors kids c dear h (λ j d m f. subst (λ o. AtMost o d) least (cheapest-child (least_at graph words costs) kids j d m f)))

@@ -22,7 +22,7 @@ last-distilled graph costs words kept small serves same is = by_last kept.last r
 no_least : (costs : List ℕ) (h : List Bool) (hs : List (List Bool)) → least costs (h ∷ hs) ≡ None → ⊥
 no_least costs h hs e = grind arith
 
--- what comes next is told alike where the least costs are the same
+-- what comes next is said alike where the least costs are the same
 pub step-same : (costs : List ℕ) (hs ks later : List (List Bool)) → least costs hs ≡ least costs ks → step_of hs later ≡ step_of ks later
 step-same costs hs ks later e = grind arith
 

@@ -13,7 +13,7 @@ fault_most None w true = omega arith
 fault_most None w false = omega arith
 fault_most (Some x) w b = omega arith
 
--- what is known of each variable, what it costs where it is false, and how many variables there are whose cost may not be 0
+-- what is known of each variable, what it costs if it is false, and how many variables there are whose cost may not be 0
 module _ (known : ℕ → Option Bool) (cost : ℕ → ℕ) (parts : ℕ) where
   abbrev g : Weights
   g = open_weights known cost parts

@@ -4,23 +4,23 @@ use Rattle.std.specs.Prelude.{◌⊎◌}
 use Rattle.std.proofs.lemmas.Bool.{and_from, leb-true, le-leb, ltb-true, lt-ltb, cases_eq}
 use Rattle.state_rules.specs.Graphs.{Node, node_at}
 use Rattle.minimiser.proofs.Costs.{and_left}
-use Rattle.minimiser.specs.inner.Swept.{is_kid}
+use Rattle.minimiser.specs.inner.Swept.{is_child}
 use Rattle.fault_graph.specs.inner.Marks.{mark_of, HasMarkedParent, AreMarks}
 
--- a mark that spreads stays, or is that of a kid that costs something, and no more
+-- a mark that spreads stays, or is that of a child that costs something, and no more
 mark-new : (kids values : List ℕ) (cost j mark : ℕ) → mark_of kids values cost j mark ≡ 1
-    → (mark ≡ 1) ⊎ ((is_kid kids j ≡ true) × (0 < get_or values j 0) × (get_or values j 0 ≤ cost))
+    → (mark ≡ 1) ⊎ ((is_child kids j ≡ true) × (0 < get_or values j 0) × (get_or values j 0 ≤ cost))
 mark-new kids values cost j mark e = grind (arith, and_left, ltb-true, leb-true)
 
 mark-kept : (kids values : List ℕ) (cost j mark : ℕ) → mark ≡ 1 → mark_of kids values cost j mark ≡ 1
 mark-kept kids values cost j mark e = grind arith
 
-mark-kid : (kids values : List ℕ) (cost j mark : ℕ) → is_kid kids j ≡ true → 0 < get_or values j 0 → get_or values j 0 ≤ cost → mark_of kids values cost j mark ≡ 1
-mark-kid kids values cost j mark i dear h = λ k. cond (and_from _ _ i (and_from _ _ (lt-ltb 0 (get_or values j 0) dear) (le-leb _ _ h)) k) 1 mark
+mark-child : (kids values : List ℕ) (cost j mark : ℕ) → is_child kids j ≡ true → 0 < get_or values j 0 → get_or values j 0 ≤ cost → mark_of kids values cost j mark ≡ 1
+mark-child kids values cost j mark i dear h = λ k. cond (and_from _ _ i (and_from _ _ (lt-ltb 0 (get_or values j 0) dear) (le-leb _ _ h)) k) 1 mark
 
 module _ (nodes : List Node) (values xs : List ℕ) (at : ℕ) (s : AreMarks nodes values xs (at + 1)) where
-  -- a marked node is met, and marks its kids that cost something and no more
-  pub marks-met : (ys : List ℕ) → at < length nodes → ((k j : ℕ) → k < length nodes → is_kid (node_at nodes k).kids j ≡ true → j < k) → get_or xs at 0 ≡ 1
+  -- a marked node is met, and marks its children that cost something and no more
+  pub marks-met : (ys : List ℕ) → at < length nodes → ((k j : ℕ) → k < length nodes → is_child (node_at nodes k).kids j ≡ true → j < k) → get_or xs at 0 ≡ 1
       → ((j : ℕ) → j < length nodes → get_or ys j 0 ≡ mark_of (node_at nodes at).kids values (get_or values at 0) j (get_or xs j 0)) → AreMarks nodes values ys at
   marks-met ys lt before m spreads = record {
     root = kept (length nodes - 1) (omega arith) s.root;
@@ -28,18 +28,18 @@ module _ (nodes : List Node) (values xs : List ℕ) (at : ℕ) (s : AreMarks nod
     low = λ k h e. ⊎_elim (λ p. s.low k h p) (λ p. omega (arith, p.2, s.low at lt m)) (new k h e);
     down = λ k j h g e i d c.
         let l : j < length nodes = omega (arith, before k j g i) in ⊎_elim
-        (λ (q : k ≡ at). spreads j l ∙ mark-kid (node_at nodes at).kids values (get_or values at 0) j (get_or xs j 0) (subst (λ n. is_kid (node_at nodes n).kids j ≡ true) q i) d (subst (λ n. get_or values j 0 ≤ get_or values n 0) q c))
+        (λ (q : k ≡ at). spreads j l ∙ mark-child (node_at nodes at).kids values (get_or values at 0) j (get_or xs j 0) (subst (λ n. is_child (node_at nodes n).kids j ≡ true) q i) d (subst (λ n. get_or values j 0 ≤ get_or values n 0) q c))
         (λ (q : k ≢ at). kept j l (s.down k j (omega arith) g (old k h g e) i d c))
         (cases_eq k at);
     up = λ k h e. ⊎_elim
-        (λ p. ⊎_elim (λ r. inl r) (λ (x : HasMarkedParent nodes values xs k). inr (record { parent = x.parent; within = x.within; marked = kept x.parent x.within x.marked; kid = x.kid; cheap = x.cheap })) (s.up k h p))
-        (λ p. inr (record { parent = at; within = lt; marked = kept at lt m; kid = p.0; cheap = p.2 }))
+        (λ p. ⊎_elim (λ r. inl r) (λ (x : HasMarkedParent nodes values xs k). inr (record { parent = x.parent; within = x.within; marked = kept x.parent x.within x.marked; child = x.child; cheap = x.cheap })) (s.up k h p))
+        (λ p. inr (record { parent = at; within = lt; marked = kept at lt m; child = p.0; cheap = p.2 }))
         (new k h e);
   } where
     kept : (k : ℕ) → k < length nodes → get_or xs k 0 ≡ 1 → get_or ys k 0 ≡ 1
     kept k h e = spreads k h ∙ mark-kept (node_at nodes at).kids values (get_or values at 0) k (get_or xs k 0) e
 
-    new : (k : ℕ) → k < length nodes → get_or ys k 0 ≡ 1 → (get_or xs k 0 ≡ 1) ⊎ ((is_kid (node_at nodes at).kids k ≡ true) × (0 < get_or values k 0) × (get_or values k 0 ≤ get_or values at 0))
+    new : (k : ℕ) → k < length nodes → get_or ys k 0 ≡ 1 → (get_or xs k 0 ≡ 1) ⊎ ((is_child (node_at nodes at).kids k ≡ true) × (0 < get_or values k 0) × (get_or values k 0 ≤ get_or values at 0))
     new k h e = mark-new (node_at nodes at).kids values (get_or values at 0) k (get_or xs k 0) (sym (spreads k h) ∙ e)
 
     old : (k : ℕ) → at ≤ k → k < length nodes → get_or ys k 0 ≡ 1 → get_or xs k 0 ≡ 1

@@ -1,4 +1,4 @@
--- What stands at the places of the smaller graph: for which nodes, and for which parents these are needed.
+-- What is at the places of the smaller graph: for which nodes, and for which parents these are needed.
 use Rattle.std.proofs.Common.{◌≡◌, ◌≢◌, ℕ, suc, ◌<◌, ◌≤◌, true, List, [], ◌∷◌, ◌++◌, length, get_or, Some, refl, ap, sym, ◌∙◌, subst, arith, inl, inr, ⊎_elim, length-append}
 use Rattle.std.specs.Prelude.{◌⊎◌, Contains}
 use Rattle.std.proofs.lemmas.List.{get_or_append_left}
@@ -23,7 +23,7 @@ In-Contains (y ∷ xs) x (inr m) = let more = In-Contains xs x m in (suc more.0,
 -- ---- what stands for a node
 
 module _ (graph : Graph) (words costs : List ℕ) where
-  -- what stands at a place for a node, with no variable that the node has not
+  -- what is at a place for a node, with no variable that the node has not
   pub record IsPlace (nodes : List Node) (k c p : ℕ) : Type 0 where
     pub there : p < length nodes
     pub stands : StandsFor (known_at words) (part_cost costs) (length costs) (λ a. is_true graph.nodes k a) (λ v. mentions graph.nodes v k) c (λ a. is_true nodes p a)
@@ -36,7 +36,7 @@ module _ (graph : Graph) (words costs : List ℕ) where
     inside = λ v e. is.inside v (sym (value_of-before (mention_by v) nodes node p is.there) ∙ e);
   }
 
-  -- the node of the graph that stands at a place, and costs something
+  -- the node of the graph that is at a place, and costs something
   pub record IsFrom (nodes : List Node) (c p : ℕ) : Type 0 where
     pub node : ℕ
     pub dear : 0 < c
@@ -46,7 +46,7 @@ module _ (graph : Graph) (words costs : List ℕ) where
   pub from-more : (nodes : List Node) (node : Node) (c p : ℕ) → IsFrom nodes c p → IsFrom (nodes ++ node ∷ []) c p
   from-more nodes node c p is = record { node = is.node; dear = is.dear; is = is.is; place = place-more nodes node is.node c p is.place }
 
-  -- each place is that of a node; and those of an or and of its kids are of nodes of one cost
+  -- each place is that of a node; and those of an or and of its children are of nodes of one cost
   pub record AreFrom (nodes : List Node) : Type 0 where
     pub each : (p : ℕ) → p < length nodes → (c : ℕ) × IsFrom nodes c p
     pub ors : (p q : ℕ) → p < length nodes → (node_at nodes p).what ≡ Or → In q (node_at nodes p).kids → (c : ℕ) × IsFrom nodes c p × IsFrom nodes c q
@@ -89,29 +89,29 @@ pub parent-more : (nodes : List Node) (node : Node) (p : ℕ) → HasParent node
 parent-more nodes node p is = record {
   parent = is.parent;
   within = omega (arith, is.within, length-append nodes (node ∷ []));
-  kid = subst (λ (x : Node). Contains x.kids p) (sym (node_at-before nodes node is.parent is.within)) is.kid;
+  child = subst (λ (x : Node). Contains x.kids p) (sym (node_at-before nodes node is.parent is.within)) is.child;
 }
 
 pub parent-last : (nodes : List Node) (node : Node) (p : ℕ) → In p node.kids → HasParent (nodes ++ node ∷ []) p
 parent-last nodes node p m = record {
   parent = length nodes;
   within = omega (arith, length-append nodes (node ∷ []));
-  kid = subst (λ (x : Node). Contains x.kids p) (sym (node_at-last nodes node)) (In-Contains node.kids p m);
+  child = subst (λ (x : Node). Contains x.kids p) (sym (node_at-last nodes node)) (In-Contains node.kids p m);
 }
 
 module _ (graph : Graph) (values marks : List ℕ) where
-  -- at a place stands a kid that stays, of a marked node from one on
+  -- at a place stands a child that stays, of a marked node from one on
   pub record Waits (places : List ℕ) (at p : ℕ) : Type 0 where
     pub parent : ℕ
     pub from : at ≤ parent
     pub within : parent < length graph.nodes
     pub marked : get_or marks parent 0 ≡ 1
-    pub kid : ℕ
-    pub met : kid < at
-    pub is_kid : In kid (node_at graph.nodes parent).kids
-    pub stays : keeps values (get_or values parent 0) kid ≡ true
-    pub there : get_or places kid 0 ≡ p
+    pub child : ℕ
+    pub met : child < at
+    pub is_child : In child (node_at graph.nodes parent).kids
+    pub stays : keeps values (get_or values parent 0) child ≡ true
+    pub there : get_or places child 0 ≡ p
 
-  -- a place is that of a kid already, or of one whose parent comes
+  -- a place is that of a child already, or of one whose parent comes
   abbrev pub IsNeeded : List ℕ → List Node → ℕ → ℕ → Type 0
   IsNeeded places nodes at p = HasParent nodes p ⊎ Waits places at p

@@ -20,18 +20,18 @@ use Rattle.node_store.proofs.NodeCopies.{take-more, edges-push}
 use Rattle.conditioner.specs.Models.{total_cost}
 use Rattle.minimiser.specs.Costs.{part_cost, known_at, sum_costs, cheapest, least_at}
 use Rattle.minimiser.specs.Stored.{AreLeastCosts}
-use Rattle.minimiser.specs.inner.Swept.{is_kid}
+use Rattle.minimiser.specs.inner.Swept.{is_child}
 use Rattle.minimiser.proofs.Costs.{from_add, and_left, and_right}
 use Rattle.minimiser.proofs.Models.{LeastIs}
 use Rattle.minimiser.proofs.Sums.{cost_in-some}
-use Rattle.minimiser.proofs.Derivations.{is_cost, mention-at, costs-at, below, all-below, cheapest-kid, sum-kid}
+use Rattle.minimiser.proofs.Derivations.{is_cost, mention-at, costs-at, below, all-below, cheapest-child, sum-child}
 use Rattle.minimiser.proofs.Valued.{value-is, cost_in-is}
-use Rattle.minimiser.proofs.SpreadMarks.{kid-in, kid-out, kid_before, root-low}
+use Rattle.minimiser.proofs.SpreadMarks.{child-in, child-out, child_before, root-low}
 use Rattle.fault_graph.specs.Small.{HasParent, Joins}
 use Rattle.fault_graph.specs.inner.Marks.{HasMarkedParent, AreMarks}
-use Rattle.fault_graph.specs.inner.Rows.{keeps, kept_kids, Adds, root_node}
+use Rattle.fault_graph.specs.inner.Rows.{keeps, kept_children, Adds, root_node}
 use Rattle.fault_graph.proofs.LeastNodes.{StandsFor, StandsFor-same}
-use Rattle.fault_graph.proofs.Kin.{KidsStand, node-stands, narrower-any, narrower-apart}
+use Rattle.fault_graph.proofs.Kin.{ChildrenStand, node-stands, narrower-any, narrower-apart}
 use Rattle.fault_graph.proofs.PlaceCosts.{faults_in-all}
 use Rattle.fault_graph.proofs.Places.{IsPlace, place-more, IsFrom, AreFrom, from-push, AllJoin, joins-before, joins-push, parent-more, parent-last, Waits, IsNeeded}
 use Rattle.fault_graph.proofs.Smallness.{small-from}
@@ -39,7 +39,7 @@ use Rattle.fault_graph.proofs.Roots.{IsWhole, whole}
 
 -- ---- lists
 
-row-le : (values places : List ℕ) (cost : ℕ) (kids : List ℕ) → length (kept_kids values places cost kids) ≤ length kids
+row-le : (values places : List ℕ) (cost : ℕ) (kids : List ℕ) → length (kept_children values places cost kids) ≤ length kids
 row-le values places cost kids = omega (arith, length-map (filter (keeps values cost) kids) (λ k. get_or places k 0), length-filter-le (keeps values cost) kids)
 
 -- a sum of nothing costs nothing
@@ -49,7 +49,7 @@ free-sum C (k ∷ kids) c e h =
     let s = from_add (C k) (sum_costs (map C kids)) c e in
     omega (arith, s.sum_is, h k s.left (inl refl) s.left_is, free-sum C kids s.right s.right_is (λ j d i. h j d (inr i)))
 
--- what is in a row is the place of a kid that stays
+-- what is in a row is the place of a child that stays
 row-source : (keep : ℕ → Bool) (place : ℕ → ℕ) (kids : List ℕ) (q : ℕ) → In q (map place (filter keep kids)) → (j : ℕ) × In j kids × (keep j ≡ true) × (place j ≡ q)
 row-source keep place kids q m = let x = from_map place q (filter keep kids) m in let r = In-filter keep x.item kids x.is_in in (x.item, r.0, r.1, sym x.gives)
 
@@ -58,7 +58,7 @@ row-below keep place own kids h =
     let row : List ℕ = map place (filter keep kids) in
     are_below-from own row (λ i d lt. let x = row-source keep place kids (get_or row i d) (In-at row i d lt) in subst (λ k. k < own) x.3 (h x.0 x.1 x.2))
 
-row-kind : (vars : ℕ) (values places : List ℕ) (cost : ℕ) (what : NodeKind) (kids : List ℕ) → kind_fits vars what kids ≡ true → kind_fits vars what (kept_kids values places cost kids) ≡ true
+row-kind : (vars : ℕ) (values places : List ℕ) (cost : ℕ) (what : NodeKind) (kids : List ℕ) → kind_fits vars what kids ≡ true → kind_fits vars what (kept_children values places cost kids) ≡ true
 row-kind vars values places cost what kids fit = grind (arith, row-le, ltb-true)
 
 keeps-out : (values : List ℕ) (cost j : ℕ) → keeps values cost j ≡ true → (0 < get_or values j 0) × (get_or values j 0 ≤ cost)
@@ -125,9 +125,9 @@ module _ (graph : Graph) (words costs : List ℕ) (ok : IsGraph graph) (long : l
           (cases_eq w.parent at);
       within = w.within;
       marked = w.marked;
-      kid = w.kid;
+      child = w.child;
       met = omega (arith, w.met);
-      is_kid = w.is_kid;
+      is_child = w.is_child;
       stays = w.stays;
       there = w.there;
     })
@@ -144,7 +144,7 @@ module _ (graph : Graph) (words costs : List ℕ) (ok : IsGraph graph) (long : l
     place j = get_or places j 0
 
     abbrev row : List ℕ
-    row = kept_kids values places c kids
+    row = kept_children values places c kids
 
     node-mark : get_or marks at 0 ≡ 1
     node-mark = sym (is.ahead at (omega arith)) ∙ mark
@@ -158,18 +158,18 @@ module _ (graph : Graph) (words costs : List ℕ) (ok : IsGraph graph) (long : l
     earlier : (j : ℕ) → In j kids → j < at
     earlier j i = all-below at kids j (below graph words costs ok at _ e) i
 
-    kid-mark : (j : ℕ) → In j kids → 0 < get_or values j 0 → get_or values j 0 ≤ c → get_or marks j 0 ≡ 1
-    kid-mark j i dear h = m.down at j (omega arith) lt node-mark (subst (λ (n : Node). is_kid n.kids j ≡ true) (sym (get_or_from_slice_get graph.nodes at _ true_node e)) (kid-in kids j i)) dear h
+    child-mark : (j : ℕ) → In j kids → 0 < get_or values j 0 → get_or values j 0 ≤ c → get_or marks j 0 ≡ 1
+    child-mark j i dear h = m.down at j (omega arith) lt node-mark (subst (λ (n : Node). is_child n.kids j ≡ true) (sym (get_or_from_slice_get graph.nodes at _ true_node e)) (child-in kids j i)) dear h
 
-    kid-place : (j : ℕ) → In j kids → keep j ≡ true → IsPlace graph words costs nodes j (get_or values j 0) (place j)
-    kid-place j i k =
+    child-place : (j : ℕ) → In j kids → keep j ≡ true → IsPlace graph words costs nodes j (get_or values j 0) (place j)
+    child-place j i k =
         let p = keeps-out values c j k in
-        let h = kid-mark j i p.0 p.1 in
+        let h = child-mark j i p.0 p.1 in
         is.built j (get_or values j 0) (earlier j i) h (marked-cost j (omega (arith, earlier j i)) h) p.0
 
-    kids-stand : KidsStand graph words costs ok keep place (λ p a. is_true nodes p a) kids c
+    kids-stand : ChildrenStand graph words costs ok keep place (λ p a. is_true nodes p a) kids c
     kids-stand = record {
-      stay = grind (arith, marked-cost, earlier, kid-mark, kid-place);
+      stay = grind (arith, marked-cost, earlier, child-mark, child-place);
       rest = λ j d i k f.
           let same = cost-value j d (omega (arith, earlier j i)) f in
           subst (λ x. (x ≡ 0) ⊎ (c < x)) same (keeps-not values c j k);
@@ -181,7 +181,7 @@ module _ (graph : Graph) (words costs : List ℕ) (ok : IsGraph graph) (long : l
     inside : (w : ℕ) → mention_by w what (map (mentions nodes w) row) ≡ true → mentions graph.nodes w at ≡ true
     inside w h = mention-at graph words costs ok at _ e w ∙ by_kind what h where
       any : list_any (λ b. b) (map (mentions nodes w) row) ≡ true → list_any (λ b. b) (map (mentions graph.nodes w) kids) ≡ true
-      any h = narrower-any keep place (mentions nodes w) (mentions graph.nodes w) kids (λ j i k s. (kid-place j i k).inside w s) h
+      any h = narrower-any keep place (mentions nodes w) (mentions graph.nodes w) kids (λ j i k s. (child-place j i k).inside w s) h
 
       by_kind : (what : NodeKind) → mention_by w what (map (mentions nodes w) row) ≡ true → mention_by w what (map (mentions graph.nodes w) kids) ≡ true
       by_kind (Literal positive var) h = h
@@ -189,7 +189,7 @@ module _ (graph : Graph) (words costs : List ℕ) (ok : IsGraph graph) (long : l
       by_kind Or h = any h
 
     below-all : are_below (length nodes) row ≡ true
-    below-all = row-below keep place (length nodes) kids (λ j i k. (kid-place j i k).there)
+    below-all = row-below keep place (length nodes) kids (λ j i k. (child-place j i k).there)
 
     fits : node_fits graph.vars (length nodes) (record { what = what; kids = row }) ≡ true
     fits = and_from _ _ below-all (row-kind graph.vars values places c what kids (fits-get graph.vars graph.nodes at _ ok.nodes.fit e).kind)
@@ -198,7 +198,7 @@ module _ (graph : Graph) (words costs : List ℕ) (ok : IsGraph graph) (long : l
     apart w = by_kind what (apart-get (mentions graph.nodes w) graph.nodes at _ (ok.nodes.apart w) e) where
       by_kind : (what : NodeKind) → apart_at (mentions graph.nodes w) what kids ≡ true → apart_at (mentions nodes w) what row ≡ true
       by_kind (Literal positive var) h = refl
-      by_kind And h = narrower-apart keep place (mentions nodes w) (mentions graph.nodes w) kids (λ j i k s. (kid-place j i k).inside w s) h
+      by_kind And h = narrower-apart keep place (mentions nodes w) (mentions graph.nodes w) kids (λ j i k s. (child-place j i k).inside w s) h
       by_kind Or h = refl
 
     pub are-pushed : AreNodes graph.vars (nodes ++ record { what = what; kids = row } ∷ [])
@@ -211,7 +211,7 @@ module _ (graph : Graph) (words costs : List ℕ) (ok : IsGraph graph) (long : l
       inside = λ w h. inside w (sym (value_of-last (mention_by w) nodes (record { what = what; kids = row })) ∙ h);
     }
 
-    -- one kid that stays stands for the node
+    -- one child that stays stands for the node
     only : (p : ℕ) → row ≡ p ∷ [] → IsPlace graph words costs nodes at c p
     only p one = record {
       there = ltb-true p (length nodes) (and_left _ _ (subst (λ ks. are_below (length nodes) ks ≡ true) one below-all));
@@ -221,7 +221,7 @@ module _ (graph : Graph) (words costs : List ℕ) (ok : IsGraph graph) (long : l
       no-literal : (var : ℕ) (positive : Bool) → slice_get graph.nodes at ≡ Some (record { what = Literal positive var; kids = kids }) → ⊥
       no-literal var positive f =
           let alone : kids ≡ [] = (literal graph.vars var positive kids (fits-get graph.vars graph.nodes at _ ok.nodes.fit f).kind).alone in
-          absurd (let none : [] ≡ p ∷ [] = sym (ap (kept_kids values places c) alone) ∙ one in cc)
+          absurd (let none : [] ≡ p ∷ [] = sym (ap (kept_children values places c) alone) ∙ one in cc)
 
       truth-one : (a : Assignment) (what : NodeKind) → slice_get graph.nodes at ≡ Some (record { what = what; kids = kids }) → truth_by a what (map (λ q. is_true nodes q a) (p ∷ [])) ≡ is_true nodes p a
       truth-one a (Literal positive var) f = absurd (no-literal var positive f)
@@ -235,21 +235,21 @@ module _ (graph : Graph) (words costs : List ℕ) (ok : IsGraph graph) (long : l
 
     -- ---- where it comes from, and what it is needed for
 
-    or-kid : what ≡ Or → (q : ℕ) → In q row → IsFrom graph words costs nodes c q
-    or-kid o q i =
+    or-child : what ≡ Or → (q : ℕ) → In q row → IsFrom graph words costs nodes c q
+    or-child o q i =
         let x = row-source keep place kids q i in
         let p = keeps-out values c x.0 x.2 in
-        let is_cost = marked-cost x.0 (omega (arith, earlier x.0 x.1)) (kid-mark x.0 x.1 p.0 p.1) in
+        let is_cost = marked-cost x.0 (omega (arith, earlier x.0 x.1)) (child-mark x.0 x.1 p.0 p.1) in
         let least : cheapest (map (least_at graph words costs) kids) ≡ Some c = sym (costs-at graph words costs ok at _ (e ∙ ap (λ (w : NodeKind). Some (record { what = w; kids = kids })) o)) ∙ cost-is in
-        let high : c ≤ get_or values x.0 0 = subst (λ d. AtMost d (get_or values x.0 0)) least (cheapest-kid (least_at graph words costs) kids x.0 (get_or values x.0 0) x.1 is_cost) in
+        let high : c ≤ get_or values x.0 0 = subst (λ d. AtMost d (get_or values x.0 0)) least (cheapest-child (least_at graph words costs) kids x.0 (get_or values x.0 0) x.1 is_cost) in
         let same : get_or values x.0 0 ≡ c = omega (arith, high, p.1) in
         subst (λ d. IsFrom graph words costs nodes d q) same
-        (subst (λ r. IsFrom graph words costs nodes (get_or values x.0 0) r) x.3 (record { node = x.0; dear = p.0; is = is_cost; place = kid-place x.0 x.1 x.2 }))
+        (subst (λ r. IsFrom graph words costs nodes (get_or values x.0 0) r) x.3 (record { node = x.0; dear = p.0; is = is_cost; place = child-place x.0 x.1 x.2 }))
 
     pub from-pushed : AreFrom graph words costs (nodes ++ record { what = what; kids = row } ∷ [])
-    from-pushed = from-push graph words costs nodes (record { what = what; kids = row }) c is.from (record { node = at; dear = omega arith; is = cost-is; place = pushed }) or-kid
+    from-pushed = from-push graph words costs nodes (record { what = what; kids = row }) c is.from (record { node = at; dear = omega arith; is = cost-is; place = pushed }) or-child
 
-    -- an and or an or that costs something has a kid that stays
+    -- an and or an or that costs something has a child that stays
     joined : length row ≢ 1 → Joins what (length row)
     joined many = by_kind what refl where
       out : row ≡ [] → (j : ℕ) → In j kids → keep j ≡ false
@@ -260,7 +260,7 @@ module _ (graph : Graph) (words costs : List ℕ) (ok : IsGraph graph) (long : l
           let sum : sum_costs (map (least_at graph words costs) kids) ≡ Some c = sym (costs-at graph words costs ok at _ (e ∙ ap (λ (w : NodeKind). Some (record { what = w; kids = kids })) o)) ∙ cost-is in
           costly (free-sum (least_at graph words costs) kids c sum
           (λ j d i f.
-          let most = sum-kid (least_at graph words costs) kids c j sum i in
+          let most = sum-child (least_at graph words costs) kids c j sum i in
           let same : get_or values j 0 ≡ d = cost-value j d (omega (arith, earlier j i)) f in
           ⊎_elim (λ (z : get_or values j 0 ≡ 0). omega (arith, z, same)) (λ (q : c < get_or values j 0). absurd (omega (arith, q, same, most.2, same_Some most.0 d (sym most.1 ∙ f)))) (keeps-not values c j (out none j i))))
 
@@ -286,9 +286,9 @@ module _ (graph : Graph) (words costs : List ℕ) (ok : IsGraph graph) (long : l
     carry new p q w met = ⊎_elim
         (λ (s : w.parent ≡ at). met (in-row q w s))
         (λ (ne : w.parent ≢ at).
-        let other : w.kid ≢ at = omega (arith, w.met) in
-        let same : get_or (set places at p) w.kid 0 ≡ get_or places w.kid 0 = rw get_or-set_other refl in
-        inr (record { parent = w.parent; from = omega (arith, ne, w.from); within = w.within; marked = w.marked; kid = w.kid; met = omega (arith, w.met); is_kid = w.is_kid; stays = w.stays; there = same ∙ w.there }))
+        let other : w.child ≢ at = omega (arith, w.met) in
+        let same : get_or (set places at p) w.child 0 ≡ get_or places w.child 0 = rw get_or-set_other refl in
+        inr (record { parent = w.parent; from = omega (arith, ne, w.from); within = w.within; marked = w.marked; child = w.child; met = omega (arith, w.met); is_child = w.is_child; stays = w.stays; there = same ∙ w.there }))
         (cases_eq w.parent at)
 
     -- the node waits for a marked parent
@@ -297,12 +297,12 @@ module _ (graph : Graph) (words costs : List ℕ) (ok : IsGraph graph) (long : l
         (λ (r : at ≡ length graph.nodes - 1). absurd (omega (arith, r, early)))
         (λ (h : HasMarkedParent graph.nodes values marks at). record {
           parent = h.parent;
-          from = omega (arith, kid_before graph h.parent at ok h.within h.kid);
+          from = omega (arith, child_before graph h.parent at ok h.within h.child);
           within = h.within;
           marked = h.marked;
-          kid = at;
+          child = at;
           met = omega arith;
-          is_kid = kid-out (node_at graph.nodes h.parent).kids at h.kid;
+          is_child = child-out (node_at graph.nodes h.parent).kids at h.child;
           stays = and_from _ _ (lt-ltb 0 c (omega arith)) (le-leb _ _ h.cheap);
           there = rw get_or-set_same refl;
         })

@@ -5,7 +5,7 @@ use Rattle.conditioner.specs.Models.{least_under, diagnoses_under}
 use Rattle.fault_graph.specs.Small.{IsSmall}
 
 -- Under the same words and costs it has the same least cost and the same diagnoses, over the same variables. It has no more nodes,
--- and they have no more kids.
+-- and they have no more children.
 pub record IsDistilled (graph : Graph) (words costs : List ℕ) (small : Graph) : Type 0 where
   pub vars : small.vars ≡ graph.vars
   pub least : least_under small words costs ≡ least_under graph words costs
@@ -18,7 +18,7 @@ pub record Last : Type 0 where
   pub words : List ℕ
   pub small : Graph
 
--- room for a graph of so many nodes, kids of all of them, and variables, and what was distilled last
+-- room for a graph of so many nodes, children of all of them, and variables, and what was distilled last
 pub record Kept : Type 0 where
   pub nodes : ℕ
   pub kids : ℕ

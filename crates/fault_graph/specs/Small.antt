@@ -8,7 +8,7 @@ use Rattle.minimiser.specs.Costs.{least_at}
 pub record HasParent (nodes : List Node) (node : ℕ) : Type 0 where
   pub parent : ℕ
   pub within : parent < length nodes
-  pub kid : Contains (node_at nodes parent).kids node
+  pub child : Contains (node_at nodes parent).kids node
 
 -- where it is a literal, it says that an open part is faulty; so many variables are parts
 abbrev pub SaysFaulty : List ℕ → ℕ → NodeKind → Type 0
@@ -29,5 +29,5 @@ pub record IsSmall (words costs : List ℕ) (small : Graph) : Type 0 where
   pub needed : (node : ℕ) → node + 1 < length small.nodes → HasParent small.nodes node
   pub joins : (node : ℕ) → node + 1 < length small.nodes → Joins (node_at small.nodes node).what (length (node_at small.nodes node).kids)
   pub cheap : (node : ℕ) → node < length small.nodes → (node_at small.nodes node).what ≡ Or
-      → All (λ kid. least_at small words costs kid ≡ least_at small words costs node) (node_at small.nodes node).kids
+      → All (λ child. least_at small words costs child ≡ least_at small words costs node) (node_at small.nodes node).kids
   pub faulty : (node : ℕ) → node < length small.nodes → SaysFaulty words (length costs) (node_at small.nodes node).what

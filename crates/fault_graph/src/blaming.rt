@@ -15,7 +15,7 @@ use std::sync::ledger::Ledger;
 
 /// What [`blame`](probe_report::blame) says of each part, in their order.
 ///
-/// One pass and one sweep tell which parts are faulty in no diagnosis, and only those of the first one can be faulty in all: a pass
+/// One pass and one sweep say which parts are faulty in no diagnosis, and only those of the first one can be faulty in all: a pass
 /// for each of them. The state is spoilt; the words are the same afterwards.
 pub fn blame_all<L: Ledger>(
     graph: &GraphView<'_>,
@@ -78,7 +78,7 @@ fn presumed(word: u32, suspect: u32) -> Blame
     }
 }
 
-// Asks for each open part that is faulty in one diagnosis whether it is so in all. The others, where they are faulty in some
+// Asks for each open part that is faulty in one diagnosis whether it is so in all. The others, if they are faulty in some
 // diagnosis, are ok in this one.
 fn confirm<L: Ledger>(
     graph: &GraphView<'_>,

@@ -35,7 +35,7 @@ impl Model for Distiller {
 
     ghost view = { λ d. record {
       nodes = length d.places.items;
-      kids = d.nodes.kid_room;
+      kids = d.nodes.child_room;
       vars = length d.words.items;
       last = option_map (λ vars. record {
         words = d.words.items;

@@ -32,7 +32,7 @@ pub(crate) fn distil<L: Ledger>(
     requires room { length values.old ≡ length graph.now.nodes }
     requires places { length places.old ≡ length graph.now.nodes }
     requires node_room { nodes.old.node_room ≡ length graph.now.nodes }
-    requires kid_room { nodes.old.kid_room ≡ edges graph.now.nodes }
+    requires child_room { nodes.old.child_room ≡ edges graph.now.nodes }
     ensures distilled { MatchOption result
         (least_under graph.now words.now costs.now ≡ None)
         (λ cost. (least_under graph.now words.now costs.now ≡ Some cost)

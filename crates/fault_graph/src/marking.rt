@@ -4,7 +4,7 @@ ghost use Rattle.fault_graph.specs.inner.Marks.{AreMarks, mark_of};
 use crate::distilling::MARKED;
 use node_store::Graph;
 
-// Marks the root, which costs something, and from each marked node on its kids that cost something and no more: all such kids of
+// Marks the root, which costs something, and from each marked node on its children that cost something and no more: all such children of
 // an And, and those of an Or that make it true at its cost.
 pub(crate) fn mark(graph: &Graph, values: &[u32], places: &mut [u32])
     requires values { length values.now ≡ length graph.now.nodes }
@@ -17,12 +17,12 @@ pub(crate) fn mark(graph: &Graph, values: &[u32], places: &mut [u32])
     places[count as usize - 1] = MARKED;
     for at in (0..count).rev() {
         if places[at as usize] == MARKED {
-            mark_kids(places, graph.kids(at), values, values[at as usize]);
+            mark_children(places, graph.kids(at), values, values[at as usize]);
         }
     }
 }
 
-fn mark_kids(places: &mut [u32], kids: &[u32], values: &[u32], cost: u32)
+fn mark_children(places: &mut [u32], kids: &[u32], values: &[u32], cost: u32)
     requires room { length places.old ≡ length values.now }
     requires kids { All (λ k. k < length values.now) kids.now }
     ensures { (j : ℕ) → j < length places.old

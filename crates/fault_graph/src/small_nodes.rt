@@ -1,6 +1,6 @@
 ghost use Rattle.std.specs.Prelude.{◌≡◌, ◌+◌, ◌<◌, ◌≤◌, ◌++◌, [], ◌∷◌, true, false, length, All, IfOk, vec_len, vec_capacity};
 ghost use Rattle.state_rules.specs.Graphs.{edges};
-ghost use Rattle.fault_graph.specs.inner.Rows.{kept_kids, Adds};
+ghost use Rattle.fault_graph.specs.inner.Rows.{kept_children, Adds};
 
 use crate::Memory;
 use flat_lists::Lists;
@@ -13,11 +13,11 @@ use std::marker::Model;
 #[derive(Drop)]
 pub(crate) struct SmallNodes {
     kinds: Vec<NodeKind>,
-    // where the kids of each node end, and the kids of all nodes
+    // where the children of each node end, and the children of all nodes
     ends: Vec<usize>,
     kids: Vec<u32>,
     node_room: usize,
-    kid_room: usize,
+    child_room: usize,
 }
 
 impl Model for SmallNodes {
@@ -31,24 +31,24 @@ impl Model for SmallNodes {
     ghost view = { λ s. record {
       nodes = nodes_of s.kinds.items (pieces s.kids.items 0 s.ends.items);
       node_room = s.node_room;
-      kid_room = s.kid_room;
+      child_room = s.child_room;
     } };
 
     ghost invariant = { λ s. (length s.ends.items ≡ length s.kinds.items) × EndAt (length s.kids.items) 0 s.ends.items
-        × (s.node_room ≤ vec_capacity s.kinds) × (s.node_room ≤ vec_capacity s.ends) × (s.kid_room ≤ vec_capacity s.kids) };
+        × (s.node_room ≤ vec_capacity s.kinds) × (s.node_room ≤ vec_capacity s.ends) × (s.child_room ≤ vec_capacity s.kids) };
 }
 
 impl SmallNodes {
-    /// No nodes, with room for so many, and for so many kids of all of them.
+    /// No nodes, with room for so many, and for so many children of all of them.
     pub(crate) fn new(alloc: Global, nodes: usize, kids: usize) -> Result<SmallNodes, Memory>
-        ensures { IfOk result (λ made. made ≡ record { nodes = []; node_room = nodes; kid_room = kids }) }
+        ensures { IfOk result (λ made. made ≡ record { nodes = []; node_room = nodes; child_room = kids }) }
     {
         Ok(SmallNodes {
             kinds: Vec::with_capacity(alloc, nodes)?,
             ends: Vec::with_capacity(alloc, nodes)?,
             kids: Vec::with_capacity(alloc, kids)?,
             node_room: nodes,
-            kid_room: kids,
+            child_room: kids,
         })
     }
 
@@ -68,8 +68,8 @@ impl SmallNodes {
         self.kids.clear();
     }
 
-    /// Adds a node over the places of the kids that cost something, and no more than so much. If it need not stay a node of its own
-    /// and one kid is left, nothing is added. Gives the place of what stands for the node: itself, or that kid.
+    /// Adds a node over the places of the children that cost something, and no more than so much. If it need not stay a node of its own
+    /// and one child is left, nothing is added. Gives the place of what stands for the node: itself, or that child.
     pub(crate) fn add(
         &mut self,
         what: NodeKind,
@@ -80,14 +80,14 @@ impl SmallNodes {
         own: bool,
     ) -> u32
         requires node_room { length self.old.nodes < self.old.node_room }
-        requires kid_room { edges self.old.nodes + length kids.now ≤ self.old.kid_room }
+        requires child_room { edges self.old.nodes + length kids.now ≤ self.old.child_room }
         requires kids { All (λ k. k < length values.now) kids.now }
         requires places { length places.now ≡ length values.now }
         requires few { length self.old.nodes ≤ u32.MAX }
         ensures adds { own ≡ false → Adds self.old.nodes
-            (record { what = what; kids = kept_kids values.now places.now cost kids.now }) self.new.nodes result }
+            (record { what = what; kids = kept_children values.now places.now cost kids.now }) self.new.nodes result }
         ensures own { own ≡ true → self.new.nodes ≡ self.old.nodes
-            ++ record { what = what; kids = kept_kids values.now places.now cost kids.now } ∷ [] }
+            ++ record { what = what; kids = kept_children values.now places.now cost kids.now } ∷ [] }
         ensures stays { self.new ≡ record self.old { nodes = self.new.nodes } }
     {
         let before = self.kids.len();
@@ -104,12 +104,12 @@ impl SmallNodes {
     }
 }
 
-// Adds the places of the kids that cost something, and no more than so much.
+// Adds the places of the children that cost something, and no more than so much.
 fn gather(all: &mut Vec<u32>, kids: &[u32], values: &[u32], places: &[u32], cost: u32)
     requires kids { All (λ k. k < length values.now) kids.now }
     requires places { length places.now ≡ length values.now }
     requires room { vec_len all.old + length kids.now ≤ vec_capacity all.old }
-    ensures kept { all.new.items ≡ all.old.items ++ kept_kids values.now places.now cost kids.now }
+    ensures kept { all.new.items ≡ all.old.items ++ kept_children values.now places.now cost kids.now }
     ensures room { vec_capacity all.old ≤ vec_capacity all.new }
 {
     for k in kids {

@@ -73,6 +73,6 @@ module _ (design : Design) (valid : is_design design ≡ true) (passed : refusal
     pub only_memory : (error : BuildError) → IsExpectedFault (reason error) (built parts wires tables) → error ≡ NoMemory
     only_memory = only_memory_of parts wires tables _ built-here
 
--- a reason of the design's is told
+-- a reason of the design's is reported
 pub told-refusal : (design : Design) (error : FlattenError) → flattened design ≡ Err error → IsExpectedFault (told error) (flattened design)
 told-refusal design error h = grind arith

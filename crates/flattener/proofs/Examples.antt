@@ -22,7 +22,7 @@ inverter = record {
   parts = record { name = codes "g"; kind = Gate Not; args = 0 ∷ 1 ∷ [] } ∷ [];
 }
 
--- ---- a dash stands before a dot
+-- ---- a dash is before a dot
 
 abbrev dashed : Design
 dashed = record {

@@ -217,7 +217,7 @@ module _ {design : Design} {place : ℕ} {path : Name} {passed : List ℕ} {old 
   pub start_grows : (parts : List Component) (wires added : List Name) → are_joined old parts ≡ true → wires ≡ old ++ added → added ≡ own → Grows parts old (so_far design place 0 path names) parts wires
   start_grows parts wires added h g f = grind (arith, append-nil, shown_stay, joined_stay)
 
-  -- ---- behind all of them
+  -- ---- after all of them
 
   pub all_grow : (old_parts parts : List Component) (wires : List Name) (i : ℕ) → length (block_at design place).parts ≤ i
       → Grows old_parts old (so_far design place i path names) parts wires → Grows old_parts old (instance_at design place path names) parts wires
@@ -289,7 +289,7 @@ module _ {design : Design} {place : ℕ} {path : Name} {passed : List ℕ} {old 
       pub few_used : length wires + length (content used).wires ≤ WIRE_LIMIT
       few_used = grind (arith, length-append, few-wires, whole_is)
 
-      -- behind a gate or a part of a type
+      -- after a gate or a part of a type
       part_grows : (kind : Kind) (more_parts : List Component) → content used ≡ one_part (below path used.name) kind (map (wire_at (names ++ own)) used.args)
           → more_parts ≡ parts ++ record { name = below path used.name; kind = kind; ports = map (position_of passed (length old)) used.args } ∷ []
           → Grows old_parts old (so_far design place (i + 1) path names) more_parts wires
@@ -316,7 +316,7 @@ module _ {design : Design} {place : ℕ} {path : Name} {passed : List ℕ} {old 
           → Grows old_parts old (so_far design place (i + 1) path names) more_parts wires
       type_grows shape more_parts e is = part_grows (Table shape) more_parts (as_kind (OfShape shape) e) is
 
-      -- behind an instance of a block
+      -- after an instance of a block
       module _ {inner : ℕ} (kind_is : used.kind ≡ OfBlock inner) {path_now : Name} (path_is : path_now ≡ below path used.name)
           {ports_now : List ℕ} (ports_are : ports_now ≡ map (position_of passed (length old)) used.args) where
         inner_before : IsBefore design.blocks place inner (length used.args)
@@ -363,7 +363,7 @@ module _ {design : Design} {place : ℕ} {path : Name} {passed : List ℕ} {old 
             (wires-more ∙ ap (λ (ns : List Name). (so_far design place i path names).wires ++ ns) (ap (λ (d : Content). d.wires) as_content ∙ ap (λ (d : Content). d.wires) (sym inner_is)))
             (parts-more ∙ ap (λ (ns : List NamedPart). (so_far design place i path names).parts ++ ns) (ap (λ (d : Content). d.parts) as_content ∙ ap (λ (d : Content). d.parts) (sym inner_is)))
 
--- the wires of an instance behind what was there, as the code writes them
+-- the wires of an instance after what was there, as the code writes them
 pub own_behind : (block there : Block) (path prefix : Name) (ns : List Name) → block ≡ there → prefix ≡ prefix_of path → ns ≡ drop block.ports block.wires
     → map (behind prefix) ns ≡ map (below path) (drop there.ports there.wires)
 own_behind block there path prefix ns b e h = grind (arith, map-behind)

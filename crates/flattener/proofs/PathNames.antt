@@ -80,7 +80,7 @@ Different-from_test (n ∷ ns) h = grind (arith, is_among-among, Different-from_
 pub Different-below : (path : Name) (ns : List Name) → Different ns → Different (map (below path) ns)
 Different-below path ns h = Different-made (below path) (below-same path) ns h
 
--- names whose heads tell which of several lists they stand in
+-- names whose heads say which of several lists they are in
 module _ {A : Type 0} (name : A → Name) (g : A → List Name) where
   abbrev pub Headed : A → Type 0
   Headed u = (n : Name) → In n (g u) → head_of n ≡ name u

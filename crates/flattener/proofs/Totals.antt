@@ -43,7 +43,7 @@ wires_from front (n ∷ names) a e =
     first (x ∷ xs) zero g = absurd (omega arith)
     first (x ∷ xs) (suc k) g = first xs k (omega arith)
 
--- each name stands at its place
+-- each name is at its place
 pub wires_all : (names : List Name) → map (wire_at names) (range_with_len 0 (length names)) ≡ names
 wires_all names = wires_from [] names 0 refl
 

@@ -51,7 +51,7 @@ pub(crate) fn expand(
     Ok(())
 }
 
-// What stands before each name in the instance of a path.
+// What is before each name in the instance of a path.
 fn prefix_of(alloc: Global, path: &[u8]) -> Result<Vec<u8>, AllocError>
     ensures { IfOk result (λ prefix. prefix.items ≡ prefix_of path.now) }
 {
@@ -63,7 +63,7 @@ fn prefix_of(alloc: Global, path: &[u8]) -> Result<Vec<u8>, AllocError>
     Ok(prefix)
 }
 
-// A name behind a prefix, which is written and taken away again.
+// A name after a prefix, which is written and taken away again.
 fn with_prefix(alloc: Global, prefix: &mut Vec<u8>, name: &[u8]) -> Result<Name, AllocError>
     requires some { 1 ≤ length name.now }
     requires short { length (behind prefix.old.items name.now) ≤ NAME_LIMIT }
@@ -112,7 +112,7 @@ fn read_positions(
     Ok(())
 }
 
-// The passed wires are the first of a block, and its own stand from `start` on.
+// The passed wires are the first of a block, and its own are from `start` on.
 fn position_of(wire: u32, passed: &[u32], start: u32) -> u32
     requires start { start ≤ WIRE_LIMIT }
     requires wire { wire < length passed.now + WIRE_LIMIT }

@@ -63,7 +63,7 @@ pub fn flatten(alloc: Global, design: &Design) -> Result<Device, FlattenError>
     }
 }
 
-// All parts and wires, where no limit is passed.
+// All parts and wires, if no limit is passed.
 fn flat_of(alloc: Global, design: &Design) -> Result<Flat, AllocError>
     requires { refusal (counts_of_design design.now) ≡ None }
     ensures { IfOk result (λ flat. IsFlat design.now flat.parts.items flat.wires.items) }

@@ -14,7 +14,7 @@ use Rattle.frame_unroller.specs.Frames.{is_delayed, inputs, output}
 use Rattle.frame_unroller.specs.Diagnosis.{frame_wires}
 use Rattle.frame_unroller.specs.Unrolling.{Copy, copies_of, copies_for, copies, wires_at, named_copy, frame_device}
 
--- ---- the clauses of parts behind one another
+-- ---- the clauses of parts after one another
 
 module _ (device : Device) where
   clauses-append : (h z : ℕ) (xs ys : List Component)

@@ -30,7 +30,7 @@ module _ (P : ℕ → Type 0) where
 
 -- ---- a clause names the health of one part at most
 
--- the health of a part, or no health, where there are so many parts
+-- the health of a part, or no health, if there are so many parts
 abbrev pub Names : ℕ → ℕ → ℕ → Type 0
 Names parts h v = (v ≡ h) ⊎ (parts < v)
 

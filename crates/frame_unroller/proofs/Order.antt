@@ -27,7 +27,7 @@ copies_rise m n x y l = times_rise m n (64 ∷ x) (64 ∷ y) l
 pub copies_below : (t : ℕ) (x y : Name) → Below x y → Below (copy_at t x) (copy_at t y)
 copies_below t x y h = grind arith
 
--- ---- lists behind one another
+-- ---- lists after one another
 
 module _ {A : Type 0} (name : A → Name) where
   BelowAll-append : (n : Name) (xs ys : List A) → BelowAll name n xs → BelowAll name n ys → BelowAll name n (xs ++ ys)

@@ -18,7 +18,7 @@ use Rattle.frame_unroller.proofs.Members.{among-flat_map, among-range, length-ch
 
 -- ---- names
 
--- the last five bytes tell the time
+-- the last five bytes say the time
 abbrev last_five : Name → Name
 last_five n = drop (length n - 5) n
 

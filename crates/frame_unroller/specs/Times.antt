@@ -1,4 +1,4 @@
--- Times, and the names of what stands at a time.
+-- Times, and the names of what is at a time.
 use Rattle.std.specs.Prelude.{ℕ, ◌+◌, ◌/◌, ◌%◌, List, [], ◌∷◌, ◌++◌}
 use Rattle.std.specs.List.{range_with_len}
 use Rattle.text_rules.specs.Names.{Name}

@@ -42,7 +42,7 @@ copies_of seq t p =
 abbrev pub copies_for : Sequential → ℕ → List Copy
 copies_for seq t = flat_map (copies_of seq t) (enumerate_from 0 seq.device.parts)
 
--- All copies, by time: so they stand in the order of their names.
+-- All copies, by time: so they are in the order of their names.
 abbrev pub copies : Sequential → ℕ → List Copy
 copies seq frames = flat_map (copies_for seq) (times frames)
 

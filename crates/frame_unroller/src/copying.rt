@@ -114,7 +114,7 @@ fn copy_of(
     })
 }
 
-// Adds wires, which stand from a position on.
+// Adds wires, which are from a position on.
 fn push_ports(ports: &mut Vec<u32>, wires: &[u32], from: u32) -> Result<(), AllocError>
     requires from { from ≤ FRAME_LIMIT * WIRE_LIMIT }
     requires wires { All (λ wire. wire < WIRE_LIMIT) wires.now }

@@ -15,7 +15,7 @@ use Rattle.level_lister.specs.inner.CostSets.{has_shifted, fault_weights, AreSum
 use Rattle.level_lister.specs.inner.FaultSets.{AreCostsOf}
 use Rattle.level_lister.proofs.TestCosts.{only_parts, part_cost-at}
 
--- a set that is as long as another tells as much
+-- a set that is as long as another says as much
 resized : (C : ℕ → Type 0) (left set : List ℕ) → length left ≡ length set → IsRow (has_number left) (32 * length left) C → IsRow (has_number left) (32 * length set) C
 resized C left set l is = subst (λ n. IsRow (has_number left) (32 * n) C) l is
 
@@ -69,7 +69,7 @@ module _ (words costs : List ℕ) where
         ∙ (λ i. ((not_two (get_or words p 0) small ∙ word true) i && sym (unmoved old n) i) || ((not_one (get_or words p 0) ∙ word false) i && has_shifted old (price i) n)))
         (row-bit (32 * length set) g (p + 1) true (has_number old) _ row) (row-bit (32 * length set) g (p + 1) false (has_number old) _ row))
 
-    -- and where it is open and faulty, besides
+    -- and if it is open and faulty, besides
     pub of_faulty : (Q : Assignment → Type 0) (old left set : List ℕ) → get_or words p 0 ≡ 0 → length old ≡ length set → length left ≡ length set
         → ((n : ℕ) → n < 32 * length set → has_number set n ≡ (has_number left n || has_shifted old (get_or costs p 0) n))
         → AreCostsOf words costs some P old → AreCostsOf words costs (λ v. some v || (p + 1 == v)) Q left

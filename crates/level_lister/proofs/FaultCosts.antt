@@ -79,7 +79,7 @@ module _ (words costs : List ℕ) (group : ℕ → Bool) where
           (λ q. absurd (false≢true (sym none ∙ ap group (eqb-true (p + 1) f.var q) ∙ f.of_group)))
           (or_cases (some f.var) (p + 1 == f.var) f.among)
 
-    -- and where it is, and open
+    -- and if it is, and open
     pub free_marked : (new_faults : List ℕ) → group (p + 1) ≡ true → get_or words p 0 ≡ 0 → length set ≡ length new_faults → length mid ≡ length new_faults
         → ((n : ℕ) → n < 32 * length new_faults → has_number new_faults n ≡ (has_number mid n || has_shifted set (get_or costs p 0) n))
         → AreBothSets words costs group t (λ v. some v || (p + 1 == v)) new_set new_faults

@@ -1,4 +1,4 @@
--- The sets of the costs with a fault, from those of the kids.
+-- The sets of the costs with a fault, from those of the children.
 use Rattle.std.proofs.Common.{◌≡◌, ◌≢◌, ℕ, ◌+◌, ◌-◌, ◌*◌, ◌/◌, ◌<◌, ◌≤◌, Bool, true, false, List, length, get_or, ap, sym, ◌∙◌, subst, arith, ⊎_elim}
 use Rattle.std.specs.Prelude.{◌==◌, nat_lt}
 use Rattle.std.proofs.lemmas.Bool.{cases_lt, lt-ltb, le-ltb, false≢true}
@@ -45,7 +45,7 @@ first_open words costs groups part e = ap (λ k. get_or words k 0) (let back : p
 pub first_parts : (words costs : List ℕ) (groups : Groups) (v : ℕ) → in_first words costs groups v ≡ true → (1 ≤ v) × (v < 1 + length costs)
 first_parts words costs groups v e = on_parts words (length costs) groups 0 v e
 
--- no kid at all
+-- no child at all
 pub both_zero : (words costs : List ℕ) (group : ℕ → Bool) (set faults : List ℕ) → ((n : ℕ) → n < 32 * length set → has_number set n ≡ (n == 0)) → ((n : ℕ) → has_number faults n ≡ false)
     → AreBothSets words costs group (λ a. true) (λ v. false) set faults
 both_zero words costs group set faults one none = record { all = zero_is words costs set one; faulty = row-none (32 * length faults) (has_number faults) _ (λ n lt. none n) (λ n c. false≢true c.meets.1.among) }

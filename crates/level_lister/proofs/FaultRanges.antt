@@ -19,7 +19,7 @@ module _ (graph : Graph) (words costs : List ℕ) (c from : ℕ) where
     pub to : part < low + span
     pub fault : FaultIn graph words costs c part
 
-  -- The open parts before the range are ok in all states. In the range one is faulty in some, or the range reaches behind all parts.
+  -- The open parts before the range are ok in all states. In the range one is faulty in some, or the range reaches after all parts.
   pub record IsRange (low span : ℕ) : Type 0 where
     pub le : from ≤ low
     pub ok : OkAmong graph words costs c from low

@@ -5,7 +5,7 @@ pub mod PartVariables
 pub mod TestCosts
 pub mod ConditionCosts
 pub mod LivingNodes
-pub mod Kids
+pub mod Children
 pub mod Stacks
 pub mod Whole
 pub mod StateCosts

@@ -8,7 +8,7 @@ use Rattle.state_rules.specs.declared.nodes.NodeKind.TheVariants.{Literal, And, 
 use Rattle.state_rules.specs.Graphs.{Graph, Node, false_node, node_at, truth_by, is_true, IsGraph}
 use Rattle.state_rules.proofs.NodeValues.{are_below, value_of-at}
 use Rattle.state_rules.proofs.NodesFit.{fits-at}
-use Rattle.part_sets.proofs.Kids.{kid-below}
+use Rattle.part_sets.proofs.Children.{child-below}
 use Rattle.level_lister.specs.inner.Skips.{living}
 
 length-living : (nodes : List Node) (skips : List ℕ) → length (living nodes skips) ≡ length nodes
@@ -28,7 +28,7 @@ skipped-at (node ∷ nodes) [] k h ne = absurd (ne refl)
 skipped-at (node ∷ nodes) (skip ∷ skips) zero h ne = ap (λ b. cond b node false_node) (ne_eqb skip 0 ne)
 skipped-at (node ∷ nodes) (skip ∷ skips) (suc k) h ne = skipped-at nodes skips k (omega arith) ne
 
--- a node is true where it was, if its kids are
+-- a node is true if it was, if its children are
 all_more : (f g : ℕ → Bool) (kids : List ℕ) → ((j : ℕ) → j < length kids → f (get_or kids j 0) ≡ true → g (get_or kids j 0) ≡ true) → list_all (λ b. b) (map f kids) ≡ true → list_all (λ b. b) (map g kids) ≡ true
 all_more f g [] more h = refl
 all_more f g (k ∷ kids) more h =
@@ -55,11 +55,11 @@ module _ (graph : Graph) (skips : List ℕ) (ok : IsGraph graph) where
   there : (at : ℕ) → at < length graph.nodes → at < length (living graph.nodes skips)
   there at inside = subst (λ n. at < n) (sym (length-living graph.nodes skips)) inside
 
-  -- a node of the graph, by its kids
+  -- a node of the graph, by its children
   pub graph-is : (at : ℕ) → at < length graph.nodes → (a : Assignment) → is_true graph.nodes at a ≡ truth_by a (node_at graph.nodes at).what (map (λ k. is_true graph.nodes k a) (node_at graph.nodes at).kids)
   graph-is at inside a = value_of-at (truth_by a) graph.nodes at inside (below at inside)
 
-  -- one that is not skipped, by what is left of its kids
+  -- one that is not skipped, by what is left of its children
   pub living-is : (at : ℕ) → at < length graph.nodes → get_or skips at 0 ≡ 0 → (a : Assignment)
       → is_true (living graph.nodes skips) at a ≡ truth_by a (node_at graph.nodes at).what (map (λ k. is_true (living graph.nodes skips) k a) (node_at graph.nodes at).kids)
   living-is at inside e a =
@@ -74,12 +74,12 @@ module _ (graph : Graph) (skips : List ℕ) (ok : IsGraph graph) where
       value_of-at (truth_by a) (living graph.nodes skips) at (there at inside) (subst (λ (n : Node). are_below at n.kids ≡ true) (sym same) refl)
       ∙ ap (λ (n : Node). truth_by a n.what (map (λ k. is_true (living graph.nodes skips) k a) n.kids)) same
 
-  -- what is left is true only where the graph is
+  -- what is left is true only if the graph is
   sound : (fuel k : ℕ) → k < fuel → k < length graph.nodes → (a : Assignment) → is_true (living graph.nodes skips) k a ≡ true → is_true graph.nodes k a ≡ true
   sound zero k h inside a e = absurd (omega arith)
   sound (suc fuel) k h inside a e = ⊎_elim
       (λ (q : get_or skips k 0 ≡ 0). graph-is k inside a ∙ truth_more a (node_at graph.nodes k).what (λ j. is_true (living graph.nodes skips) j a) (λ j. is_true graph.nodes j a) (node_at graph.nodes k).kids
-      (λ j lt. let low = kid-below graph k (node_at graph.nodes k).kids ok inside refl j lt in sound fuel (get_or (node_at graph.nodes k).kids j 0) (omega arith) (omega arith) a)
+      (λ j lt. let low = child-below graph k (node_at graph.nodes k).kids ok inside refl j lt in sound fuel (get_or (node_at graph.nodes k).kids j 0) (omega arith) (omega arith) a)
       (sym (living-is k inside q a) ∙ e))
       (λ (ne : get_or skips k 0 ≢ 0). absurd (false≢true (sym (skipped-is k inside ne a) ∙ e)))
       (cases_eq (get_or skips k 0) 0)

@@ -13,11 +13,11 @@ use Rattle.state_rules.proofs.NodesFit.{fits-at}
 use Rattle.minimiser.specs.Costs.{known_at, part_cost}
 use Rattle.minimiser.specs.Stored.{AreLeastCosts}
 use Rattle.minimiser.proofs.Costs.{faults_in, faults_in-le}
-use Rattle.minimiser.proofs.Derivations.{any-kid, true-at, mention-at, costs-at, apart-kids, kid-excess, Apart}
+use Rattle.minimiser.proofs.Derivations.{any-child, true-at, mention-at, costs-at, apart-kids, child-excess, Apart}
 use Rattle.minimiser.proofs.OnePass.{the_node}
 use Rattle.minimiser.proofs.Valued.{has_least}
 use Rattle.minimiser.proofs.Whole.{state_of}
-use Rattle.part_sets.proofs.Kids.{kid-below}
+use Rattle.part_sets.proofs.Children.{child-below}
 use Rattle.level_lister.specs.inner.CostSets.{Follows}
 use Rattle.level_lister.specs.inner.Skips.{living, IsEnough, others_cost, rest_below, AreRests, skip_of}
 use Rattle.level_lister.proofs.LivingNodes.{truth_more, graph-is, living-is}
@@ -29,7 +29,7 @@ use Rattle.level_lister.proofs.Whole.{cost_among-all}
 pub lowered : (xs : List ℕ) (i v k : ℕ) → i < length xs → v ≤ get_or xs i 0 → get_or (set xs i v) k 0 ≤ get_or xs k 0
 lowered xs i v k h le = grind (arith, get_or-set_same, get_or-set_other)
 
--- the kids of one more node are lowered
+-- the children of one more node are lowered
 pub rests_met : (graph : Graph) (least xs ys : List ℕ) (at : ℕ) → IsGraph graph → at < length graph.nodes → AreRests graph.nodes least xs (at + 1)
     → ((k : ℕ) → get_or ys k 0 ≤ get_or xs k 0) → ((k : ℕ) → at ≤ k → get_or ys k 0 ≡ get_or xs k 0)
     → ((j : ℕ) → j < length (node_at graph.nodes at).kids → get_or ys (get_or (node_at graph.nodes at).kids j 0) 0 ≤ rest_below graph.nodes least xs at j)
@@ -49,27 +49,27 @@ module _ (graph : Graph) (words costs : List ℕ) (ok : IsGraph graph) (least : 
   faults m a = faults_in (known_at words) (part_cost costs) (length costs) m a
 
   module _ (a : Assignment) (follows : Follows words a) where
-    -- a true kid of a true node, with the others
-    kid-cheap : (k : ℕ) → k < length graph.nodes → is_true graph.nodes k a ≡ true → (j : ℕ) → j < length (node_at graph.nodes k).kids → get_or (node_at graph.nodes k).kids j 0 < length graph.nodes
+    -- a true child of a true node, with the others
+    child-cheap : (k : ℕ) → k < length graph.nodes → is_true graph.nodes k a ≡ true → (j : ℕ) → j < length (node_at graph.nodes k).kids → get_or (node_at graph.nodes k).kids j 0 < length graph.nodes
         → is_true graph.nodes (get_or (node_at graph.nodes k).kids j 0) a ≡ true
         → others_cost (node_at graph.nodes k).what (get_or least k 0) (get_or least (get_or (node_at graph.nodes k).kids j 0) 0) + faults (λ v. mentions graph.nodes v (get_or (node_at graph.nodes k).kids j 0)) a
         ≤ faults (λ v. mentions graph.nodes v k) a
     unfolding Apart
-    kid-cheap k inside e j lt within t = by_kind (node_at graph.nodes k).what refl where
+    child-cheap k inside e j lt within t = by_kind (node_at graph.nodes k).what refl where
       by_kind : (what : NodeKind) → what ≡ (node_at graph.nodes k).what → others_cost what (get_or least k 0) (get_or least (get_or (node_at graph.nodes k).kids j 0) 0) + faults (λ v. mentions graph.nodes v (get_or (node_at graph.nodes k).kids j 0)) a ≤ faults (λ v. mentions graph.nodes v k) a
       by_kind (Literal positive var) q = grind (arith, fits-at graph.vars graph.nodes k ok.nodes.fit inside)
       by_kind And q =
           let there = the_node graph.nodes k And (node_at graph.nodes k).kids inside q refl in
           let own = has_least graph words costs least are_least ok a follows k inside e in
           let below = has_least graph words costs least are_least ok a follows (get_or (node_at graph.nodes k).kids j 0) within t in
-          let x = kid-excess graph words costs ok a follows (node_at graph.nodes k).kids (apart-kids graph words costs ok k (node_at graph.nodes k).kids there) (sym (true-at graph words costs ok k _ there a) ∙ e) (get_or least k 0) (sym (costs-at graph words costs ok k _ there) ∙ own.is) (get_or (node_at graph.nodes k).kids j 0) (In-at (node_at graph.nodes k).kids j 0 lt) in
+          let x = child-excess graph words costs ok a follows (node_at graph.nodes k).kids (apart-kids graph words costs ok k (node_at graph.nodes k).kids there) (sym (true-at graph words costs ok k _ there a) ∙ e) (get_or least k 0) (sym (costs-at graph words costs ok k _ there) ∙ own.is) (get_or (node_at graph.nodes k).kids j 0) (In-at (node_at graph.nodes k).kids j 0 lt) in
           let same : x.cost ≡ get_or least (get_or (node_at graph.nodes k).kids j 0) 0 = same_Some x.cost _ (sym x.is ∙ below.is) in
           let all = faults_in-le (known_at words) (part_cost costs) (length costs) (λ v. list_any (λ b. b) (map (mentions graph.nodes v) (node_at graph.nodes k).kids)) (λ v. mentions graph.nodes v k) a (λ v r. mention-at graph words costs ok k _ there v ∙ r) in
-          let one = faults_in-le (known_at words) (part_cost costs) (length costs) (λ v. mentions graph.nodes v (get_or (node_at graph.nodes k).kids j 0)) (λ v. mentions graph.nodes v k) a (λ v r. mention-at graph words costs ok k _ there v ∙ any-kid (mentions graph.nodes v) (node_at graph.nodes k).kids (get_or (node_at graph.nodes k).kids j 0) (In-at (node_at graph.nodes k).kids j 0 lt) r) in
+          let one = faults_in-le (known_at words) (part_cost costs) (length costs) (λ v. mentions graph.nodes v (get_or (node_at graph.nodes k).kids j 0)) (λ v. mentions graph.nodes v k) a (λ v r. mention-at graph words costs ok k _ there v ∙ any-child (mentions graph.nodes v) (node_at graph.nodes k).kids (get_or (node_at graph.nodes k).kids j 0) (In-at (node_at graph.nodes k).kids j 0 lt) r) in
           omega (arith, x.excess, same, all, one)
       by_kind Or q =
           let there = the_node graph.nodes k Or (node_at graph.nodes k).kids inside q refl in
-          let one = faults_in-le (known_at words) (part_cost costs) (length costs) (λ v. mentions graph.nodes v (get_or (node_at graph.nodes k).kids j 0)) (λ v. mentions graph.nodes v k) a (λ v r. mention-at graph words costs ok k _ there v ∙ any-kid (mentions graph.nodes v) (node_at graph.nodes k).kids (get_or (node_at graph.nodes k).kids j 0) (In-at (node_at graph.nodes k).kids j 0 lt) r) in
+          let one = faults_in-le (known_at words) (part_cost costs) (length costs) (λ v. mentions graph.nodes v (get_or (node_at graph.nodes k).kids j 0)) (λ v. mentions graph.nodes v k) a (λ v r. mention-at graph words costs ok k _ there v ∙ any-child (mentions graph.nodes v) (node_at graph.nodes k).kids (get_or (node_at graph.nodes k).kids j 0) (In-at (node_at graph.nodes k).kids j 0 lt) r) in
           omega (arith, one)
 
     module _ (rests skips : List ℕ) (top : ℕ) (are : AreRests graph.nodes least rests 0) (marks : (k : ℕ) → k < length graph.nodes → get_or skips k 0 ≡ skip_of top (get_or least k 0) (get_or rests k 0)) where
@@ -77,7 +77,7 @@ module _ (graph : Graph) (words costs : List ℕ) (ok : IsGraph graph) (least : 
       lives : (fuel k : ℕ) → k < fuel → k < length graph.nodes → is_true graph.nodes k a ≡ true → get_or rests k 0 + faults (λ v. mentions graph.nodes v k) a ≤ top → is_true (living graph.nodes skips) k a ≡ true
       lives zero k h inside e le = absurd (omega arith)
       lives (suc fuel) k h inside e le = ⊎_elim
-          grind (arith, living-is, truth_more, kid-below, kid-cheap, graph-is, lives fuel)
+          grind (arith, living-is, truth_more, child-below, child-cheap, graph-is, lives fuel)
           (λ (ne : get_or skips k 0 ≢ 0). absurd (omega (arith, le, skipped-dear top (get_or least k 0) (get_or rests k 0) (λ q. ne (marks k inside ∙ q)), (has_least graph words costs least are_least ok a follows k inside e).low)))
           (cases_eq (get_or skips k 0) 0)
 

@@ -1,4 +1,4 @@
--- Sets of costs that stand one behind the other.
+-- Sets of costs that stand one after the other.
 use Rattle.std.proofs.Common.{◌≡◌, ℕ, ◌+◌, ◌*◌, ◌<◌, List, ◌++◌, length, sym, subst, arith}
 use Rattle.std.proofs.lemmas.Bool.Decides.{nat_tests}
 use Rattle.std.proofs.lemmas.Bool.{cases_lt}
@@ -16,7 +16,7 @@ module _ (Is : ℕ → List ℕ → Type 0) (size : ℕ) where
   pub sets_before : (sets front back : List ℕ) (at : ℕ) → sets ≡ front ++ back → length front ≡ at * size → ((k : ℕ) → k < at → Is k (set_at sets k size)) → (k : ℕ) → k < at → Is k (set_at front k size)
   sets_before sets front back at e h are k lt = grind (arith, nat_tests, Is, set_at-front, block-below, are)
 
-  -- words may come behind them
+  -- words may come after them
   pub sets_front : (front back : List ℕ) (n : ℕ) → length front ≡ n * size → ((k : ℕ) → k < n → Is k (set_at front k size)) → (k : ℕ) → k < n → Is k (set_at (front ++ back) k size)
   sets_front front back n h are k lt = subst (Is k) (sym (set_at-front front back k size (omega (arith, h, block-below k n size lt)))) (are k lt)
 

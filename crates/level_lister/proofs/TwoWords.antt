@@ -1,4 +1,4 @@
--- What two words tell, from what they tell of kids.
+-- What two words tell, from what they say of children.
 use Rattle.std.proofs.Common.{◌≡◌, ℕ, zero, suc, ◌+◌, ◌-◌, ◌*◌, ◌<◌, ◌≤◌, Bool, true, false, not, ◌&&◌, ◌||◌, List, length, get_or, refl, ap, sym, ◌∙◌, subst, arith, inl, inr, ⊎_elim, bit_or}
 use Rattle.std.specs.Prelude.{◌⊎◌, ◌==◌}
 use Rattle.std.proofs.Math.Bool.{and-true}

@@ -10,7 +10,7 @@ use Rattle.part_sets.specs.PartSets.{AreBelow, AreLacking}
 use Rattle.level_lister.specs.declared.levels.LevelStep.{LevelStep}
 use Rattle.level_lister.specs.declared.levels.LevelStep.TheVariants.{Found, End, Inconsistent}
 
--- the costs of the parts, the greatest cost that is listed, and for each node of a graph the parts below it and whether a kid lacks
+-- the costs of the parts, the greatest cost that is listed, and for each node of a graph the parts below it and whether a child lacks
 -- one of them
 pub record Kept : Type 0 where
   pub costs : List ℕ

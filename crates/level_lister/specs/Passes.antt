@@ -6,7 +6,7 @@ use Rattle.diagnosis_lister.specs.Listing.{fault_count}
 abbrev pub group_count : ℕ → ℕ
 group_count top = 32 / (top + 1)
 
--- a pass tells in which of so many groups of parts the first fault is, or that none of them has one: as many as a word has room for, and
+-- a pass says in which of so many groups of parts the first fault is, or that none of them has one: as many as a word has room for, and
 -- at least one
 abbrev pub told_groups : ℕ → ℕ
 told_groups top = max 1 (group_count top)

@@ -1,4 +1,4 @@
-//! Parts that are free to be ok or faulty, since a kid of a node does not mention them.
+//! Parts that are free to be ok or faulty, since a child of a node does not mention them.
 ghost use Rattle.std.specs.Prelude.{◌≡◌, ℕ, ◌+◌, ◌*◌, ◌<◌, ◌≤◌, Bool, true, not, ◌&&◌, ◌||◌, length, All, ◌==◌};
 ghost use Rattle.state_rules.specs.Assignments.{Assignment};
 ghost use Rattle.part_sets.specs.Numbers.{has_number, part_words};
@@ -9,7 +9,7 @@ use crate::sets::{add_shifted, shift};
 use conditioner::known_of;
 use part_sets::{PART_LIMIT, next_missing};
 
-// Lets each part be free that is below a node and not below a kid of it: the set of the kid's costs becomes one of the costs of all
+// Lets each part be free that is below a node and not below a child of it: the set of the child's costs becomes one of the costs of all
 // parts below the node.
 pub(crate) fn widen(
     outer: &[u32],
@@ -37,7 +37,7 @@ pub(crate) fn widen(
     }
 }
 
-// Adds to a set the costs with one part more: with its cost where it can be faulty, and without it where it can be ok.
+// Adds to a set the costs with one part more: with its cost if it can be faulty, and without it where it can be ok.
 pub(crate) fn add_part(word: u32, cost: u32, set: &mut [u32], spare: &mut [u32])
     requires word { word < 3 }
     requires spare { length spare.old ≡ length set.old }

@@ -155,7 +155,7 @@ impl FaultPass<'_> {
         put_one(set, self.levels.costs()[part] as usize);
     }
 
-    // The set of an And: a part of one kid is faulty. Its kids share no variable.
+    // The set of an And: a part of one child is faulty. Its children share no variable.
     fn put_and_faults(
         &self,
         earlier: &[u32],
@@ -184,14 +184,14 @@ impl FaultPass<'_> {
         let size = self.levels.size();
         clear(set);
         put_one(all, 0);
-        for kid in self.graph.kids(at) {
-            let own = set_at(self.sets, *kid as usize, size);
-            let faults = set_at(earlier, *kid as usize, size);
+        for child in self.graph.kids(at) {
+            let own = set_at(self.sets, *child as usize, size);
+            let faults = set_at(earlier, *child as usize, size);
             put_both_sums(set, other, all, spare, own, faults);
         }
     }
 
-    // The set of an Or: parts that a kid does not mention are free where it is true.
+    // The set of an Or: parts that a child does not mention are free where it is true.
     fn put_or_faults(
         &self,
         earlier: &[u32],
@@ -219,10 +219,10 @@ impl FaultPass<'_> {
         let _vars = self.graph.vars();
         let size = self.levels.size();
         clear(set);
-        for kid in self.graph.kids(at) {
-            all.copy_from_slice(set_at(self.sets, *kid as usize, size));
-            own.copy_from_slice(set_at(earlier, *kid as usize, size));
-            self.widen_both(*kid as usize, at as usize, all, own, spare);
+        for child in self.graph.kids(at) {
+            all.copy_from_slice(set_at(self.sets, *child as usize, size));
+            own.copy_from_slice(set_at(earlier, *child as usize, size));
+            self.widen_both(*child as usize, at as usize, all, own, spare);
             add_shifted(set, own, 0);
         }
     }

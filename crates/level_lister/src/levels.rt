@@ -83,7 +83,7 @@ impl Levels {
         self.top
     }
 
-    // In how many groups of parts a pass tells the first fault.
+    // In how many groups of parts a pass says the first fault.
     pub(crate) fn told_groups(&self) -> u32
         requires { self.now.top < 2 ^ 31 }
         ensures count { result ≡ told_groups self.now.top }
@@ -233,7 +233,7 @@ impl Levels {
         ensures state { All (λ s. s < 2) state.new }
         ensures words { words.new ≡ words.old }
 
-        // How many passes are made at most, where there is room for the fast way.
+        // How many passes are made at most, if there is room for the fast way.
         ensures steps { fast_words graph.now self.now ≤ length scratch.old
             → (search : ℕ) → AreEnough (length self.now.costs) self.now.top search → steps.new ≤ steps.old
             + most_passes search (point_if pointed (bits_of state.old)) (bits_of state.new) }

@@ -60,7 +60,7 @@ struct PairPass<'a> {
 }
 
 impl Levels {
-    // How many groups a word tells apart at each cost.
+    // How many groups a word keeps apart at each cost.
     pub(crate) fn group_count(&self) -> u32
         requires { self.now.top < 32 }
         ensures count { result ≡ group_count self.now.top }
@@ -106,7 +106,7 @@ impl PairPass<'_> {
         }
     }
 
-    // What is told where a part is faulty. There may be no such part: then it is another variable that is false.
+    // What is said if a part is faulty. There may be no such part: then it is another variable that is false.
     fn fault_pair(&self, part: usize) -> Pair
         requires part { part < length self.now.words.now }
         requires allowed { agrees_at (known_at self.now.words.now (part + 1)) false ≡ true }
@@ -140,7 +140,7 @@ impl PairPass<'_> {
         one(count * cost + group as u32)
     }
 
-    // What is told of a part about which nothing is asked.
+    // What is said of a part about which nothing is asked.
     fn free_pair(&self, part: usize) -> Pair
         requires part { part < length self.now.levels.now.costs }
         ensures { Tells self.now.words.now self.now.levels.now.costs self.now.levels.now.top (group_count self.now.levels.now.top) (group_in self.now.words.now (length self.now.levels.now.costs) self.now.groups)
@@ -232,10 +232,10 @@ impl PairPass<'_> {
         // Its contract says that this is a graph.
         let _vars = self.graph.vars();
         let mut pair = FREE;
-        for kid in self.graph.kids(at) {
+        for child in self.graph.kids(at) {
             // The second one is to have few costs: what was joined so far is of literals, mostly.
             pair = joined(
-                pair_at(values, *kid as usize),
+                pair_at(values, *child as usize),
                 pair,
                 self.levels.group_count(),
                 self.levels.top() + 1,
@@ -244,7 +244,7 @@ impl PairPass<'_> {
         pair
     }
 
-    // The words of an Or whose kids lack no part.
+    // The words of an Or whose children lack no part.
     fn full_pair(&self, values: &[u32], at: u32) -> Pair
         requires at { at < length self.now.graph.now.nodes }
         requires what { (node_at self.now.graph.now.nodes at).what ≡ Or }
@@ -258,13 +258,13 @@ impl PairPass<'_> {
         // Its contract says that this is a graph.
         let _vars = self.graph.vars();
         let mut pair = NEVER;
-        for kid in self.graph.kids(at) {
-            pair = either(pair, pair_at(values, *kid as usize));
+        for child in self.graph.kids(at) {
+            pair = either(pair, pair_at(values, *child as usize));
         }
         pair
     }
 
-    // The words of an Or: parts that a kid does not mention are free where it is true.
+    // The words of an Or: parts that a child does not mention are free where it is true.
     fn or_pair(&self, values: &[u32], at: u32) -> Pair
         requires at { at < length self.now.graph.now.nodes }
         requires what { (node_at self.now.graph.now.nodes at).what ≡ Or }
@@ -276,9 +276,9 @@ impl PairPass<'_> {
         // Its contract says that this is a graph.
         let _vars = self.graph.vars();
         let mut pair = NEVER;
-        for kid in self.graph.kids(at) {
-            let own = pair_at(values, *kid as usize);
-            pair = either(pair, self.widened(own, *kid as usize, at as usize));
+        for child in self.graph.kids(at) {
+            let own = pair_at(values, *child as usize);
+            pair = either(pair, self.widened(own, *child as usize, at as usize));
         }
         pair
     }

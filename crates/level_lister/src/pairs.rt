@@ -58,7 +58,7 @@ fn spread(left: u32, right: u32, step: u32, count: u32) -> u32
     set
 }
 
-// What is told of two tests together that share no variable.
+// What is said of two tests together that share no variable.
 pub(crate) fn joined(left: Pair, right: Pair, step: u32, count: u32) -> Pair
     requires step { 0 < step }
     requires count { 0 < count }
@@ -75,7 +75,7 @@ pub(crate) fn joined(left: Pair, right: Pair, step: u32, count: u32) -> Pair
     }
 }
 
-// What is told of one of two tests.
+// What is said of one of two tests.
 pub(crate) fn either(left: Pair, right: Pair) -> Pair
     ensures { (words costs : List ℕ) (top step : ℕ) (group : ℕ → ℕ → Bool) (test other : Assignment → Bool) (some : ℕ → Bool)
         → Tells words costs top step group test some left → Tells words costs top step group other some right

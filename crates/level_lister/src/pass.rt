@@ -96,7 +96,7 @@ impl Asked<'_> {
         }
     }
 
-    // The set of an And: its kids share no variable.
+    // The set of an And: its children share no variable.
     fn put_and(&self, sets: &[u32], at: u32, set: &mut [u32], spare: &mut [u32])
         requires room { length set.old ≤ SET_LIMIT }
         requires at { at < length self.now.graph.now.nodes }
@@ -111,13 +111,13 @@ impl Asked<'_> {
         let _vars = self.graph.vars();
         let size = set.len();
         put_one(set, 0);
-        for kid in self.graph.kids(at) {
+        for child in self.graph.kids(at) {
             spare.copy_from_slice(set);
-            put_sums(set, spare, set_at(sets, *kid as usize, size));
+            put_sums(set, spare, set_at(sets, *child as usize, size));
         }
     }
 
-    // The set of an Or: parts that a kid does not mention are free where it is true.
+    // The set of an Or: parts that a child does not mention are free where it is true.
     fn put_or(&self, sets: &[u32], at: u32, set: &mut [u32], spare: &mut [u32], other: &mut [u32])
         requires at { at < length self.now.graph.now.nodes }
         requires what { (node_at self.now.graph.now.nodes at).what ≡ Or }
@@ -136,11 +136,11 @@ impl Asked<'_> {
         let parts = part_words(costs.len());
         let own = set_at(below, at as usize, parts);
         clear(set);
-        for kid in self.graph.kids(at) {
-            spare.copy_from_slice(set_at(sets, *kid as usize, size));
+        for child in self.graph.kids(at) {
+            spare.copy_from_slice(set_at(sets, *child as usize, size));
             widen(
                 own,
-                set_at(below, *kid as usize, parts),
+                set_at(below, *child as usize, parts),
                 self.words,
                 costs,
                 spare,
@@ -151,7 +151,7 @@ impl Asked<'_> {
     }
 }
 
-// The set of an Or whose kids lack no part, from those of the kids: that of its costs, or that of those with a fault.
+// The set of an Or whose children lack no part, from those of the children: that of its costs, or that of those with a fault.
 pub(crate) fn put_full(graph: &Graph, sets: &[u32], at: u32, set: &mut [u32])
     requires at { at < length graph.now.nodes }
     requires what { (node_at graph.now.nodes at).what ≡ Or }
@@ -165,8 +165,8 @@ pub(crate) fn put_full(graph: &Graph, sets: &[u32], at: u32, set: &mut [u32])
     let _vars = graph.vars();
     let size = set.len();
     clear(set);
-    for kid in graph.kids(at) {
-        add_shifted(set, set_at(sets, *kid as usize, size), 0);
+    for child in graph.kids(at) {
+        add_shifted(set, set_at(sets, *child as usize, size), 0);
     }
 }
 

@@ -14,7 +14,7 @@ use minimiser::Steps;
 use node_store::Graph;
 use std::sync::ledger::Ledger;
 
-// What is searched: a graph, what is kept of it, and for each node whether the passes skip it: 0 where they do not.
+// What is searched: a graph, what is kept of it, and for each node whether the passes skip it: 0 if they do not.
 #[derive(Drop)]
 pub(crate) struct Search<'a> {
     pub(crate) levels: &'a Levels,

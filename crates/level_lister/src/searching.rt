@@ -31,7 +31,7 @@ impl Asked<'_> {
         self.put_sets(sets, spare, other);
     }
 
-    // The first of the groups that are told in which an open part is faulty in some state of this cost, or the number of them where
+    // The first of the groups that are said in which an open part is faulty in some state of this cost, or the number of them where
     // there is none. It takes one pass, and leaves what was prepared.
     fn faulty_group(&self, work: &mut [u32], cost: u32, groups: Groups) -> u32
         requires size { 0 < groups.size }
@@ -109,8 +109,8 @@ impl Asked<'_> {
         }
     }
 
-    // The first open part from one on that is faulty in some state of this cost. Behind what is prepared each pass tells in which of
-    // some groups it is, or behind them.
+    // The first open part from one on that is faulty in some state of this cost. After what is prepared each pass says in which of
+    // some groups it is, or after them.
     pub(crate) fn first_faulty<L: Ledger>(
         &self,
         work: &mut [u32],

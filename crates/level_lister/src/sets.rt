@@ -77,7 +77,7 @@ pub(crate) fn put_sums(set: &mut [u32], left: &[u32], right: &[u32])
     }
 }
 
-// True only where a set has no number.
+// True only if a set has no number.
 fn is_empty(set: &[u32]) -> bool
     ensures { result ≡ true → (n : ℕ) → has_number set.now n ≡ false }
 {

@@ -24,7 +24,7 @@ const NO_GROUPS: Groups = Groups {
 };
 
 impl Asked<'_> {
-    // Whether two words a node are there, where two words tell all that is listed of a node.
+    // Whether two words a node are there, if two words say all that is listed of a node.
     fn has_pairs(&self, work: &[u32]) -> bool
         ensures few { result ≡ true → self.now.levels.now.top < 32 }
         ensures room { result ≡ true → 2 * length self.now.graph.now.nodes ≤ length work.now }
@@ -166,7 +166,7 @@ impl Search<'_> {
         fix_ok(words, from, self.levels.costs().len());
     }
 
-    // The same, for less room: each open part is fixed to faulty where that leaves a state, and else to ok. It takes a pass for each.
+    // The same, for less room: each open part is fixed to faulty if that leaves a state, and else to ok. It takes a pass for each.
     fn settle_by_parts<L: Ledger>(
         &self,
         words: &mut [u32],
@@ -204,7 +204,7 @@ impl Search<'_> {
         }
     }
 
-    // The last part at which a later state of this cost can leave a state: the same before it, ok where the state has faulty. The
+    // The last part at which a later state of this cost can leave a state: the same before it, ok if the state has faulty. The
     // words are then fixed so far. It takes a pass for each part that is faulty in the state, at most.
     pub(crate) fn leave<L: Ledger>(
         &self,

@@ -53,12 +53,12 @@ fn put_rests(graph: &Graph, least: &[u32], rests: &mut [u32])
     rests.fill(u32::MAX);
     rests[count as usize - 1] = 0;
     for at in (0..count).rev() {
-        lower_kids(graph, least, at, rests);
+        lower_children(graph, least, at, rests);
     }
 }
 
-// Lowers the rests of a node's kids to what the node lets them cost.
-fn lower_kids(graph: &Graph, least: &[u32], at: u32, rests: &mut [u32])
+// Lowers the rests of a node's children to what the node lets them cost.
+fn lower_children(graph: &Graph, least: &[u32], at: u32, rests: &mut [u32])
     requires at { at < length graph.now.nodes }
     requires least { length least.now ≡ length graph.now.nodes }
     requires rests { length rests.old ≡ length graph.now.nodes }
@@ -72,19 +72,19 @@ fn lower_kids(graph: &Graph, least: &[u32], at: u32, rests: &mut [u32])
     let what = graph.what(at);
     let own = least[at as usize];
     let rest = rests[at as usize];
-    for kid in graph.kids(at) {
-        let kid = *kid as usize;
-        let outside = rest.saturating_add(others_cost(what, own, least[kid]));
-        rests[kid] = rests[kid].min(outside);
+    for child in graph.kids(at) {
+        let child = *child as usize;
+        let outside = rest.saturating_add(others_cost(what, own, least[child]));
+        rests[child] = rests[child].min(outside);
     }
 }
 
-// What the other kids of an And cost at least, where it and a kid of it cost so much.
-fn others_cost(what: NodeKind, own: u32, kid: u32) -> u32
-    ensures { result ≡ others_cost what own kid }
+// What the other children of an And cost at least, if it and a child of it cost so much.
+fn others_cost(what: NodeKind, own: u32, child: u32) -> u32
+    ensures { result ≡ others_cost what own child }
 {
     match what {
-        NodeKind::And => own.saturating_sub(kid),
+        NodeKind::And => own.saturating_sub(child),
         NodeKind::Literal { .. } | NodeKind::Or => 0,
     }
 }

@@ -1,4 +1,4 @@
--- The least cost at which a node is true, from those of its kids.
+-- The least cost at which a node is true, from those of its children.
 use Rattle.std.proofs.Common.{◌≡◌, ℕ, ◌+◌, ◌<◌, ◌≤◌, Bool, true, false, cond, ◌&&◌, ◌||◌, Option, Some, None, refl, ap, sym, ◌∙◌, subst, arith, eqb}
 use Rattle.std.specs.Prelude.{◌⊎◌}
 use Rattle.std.proofs.lemmas.Bool.{and_parts, or_left, or_right, eq-eqb, false≢true}
@@ -20,7 +20,7 @@ fault None cost false = cost
 fault None cost true = 0
 fault (Some b) cost x = 0
 
--- what is known of each variable, what it costs where it is false, and how many variables there are whose cost may not be 0
+-- what is known of each variable, what it costs if it is false, and how many variables there are whose cost may not be 0
 abbrev pub open_weights : (ℕ → Option Bool) → (ℕ → ℕ) → ℕ → Weights
 open_weights known cost parts = record { known = known; weight = λ v b. fault (known v) (cost v) b; parts = parts }
 
@@ -60,7 +60,7 @@ module _ (C D : ℕ → Type 0) where
 
 -- ---- the nodes
 
--- a literal costs what its bit does, where that is allowed
+-- a literal costs what its bit does, if that is allowed
 literal_weight : (positive : Bool) (k : Option Bool) (w : ℕ) → literal_cost (leaf_of positive k) w positive ≡ cond (agrees_at k positive) (Some (fault k w positive)) None
 literal_weight positive k w = grind arith
 

@@ -15,7 +15,7 @@ use Rattle.state_rules.specs.declared.nodes.NodeKind.{NodeKind}
 use Rattle.state_rules.specs.declared.nodes.NodeKind.TheVariants.{Literal, And, Or}
 use Rattle.state_rules.specs.Graphs.{at_most_one, Node, Graph, true_node, truth, truth_by, mention_by, mentions, is_true, IsGraph, node_at}
 use Rattle.state_rules.proofs.NodeValues.{are_below, value_of-get}
-use Rattle.state_rules.proofs.Kids.{at_most_one-tail, not_both}
+use Rattle.state_rules.proofs.Children.{at_most_one-tail, not_both}
 use Rattle.state_rules.proofs.NodesFit.{fits-get, apart-get}
 use Rattle.conditioner.specs.Words.{leaf_of}
 use Rattle.minimiser.specs.Costs.{part_cost, known_at, sum_costs, cheapest, cost_by, literal_cost, least_at}
@@ -25,32 +25,32 @@ pub use Rattle.node_costs.proofs.Nodes.{all-below}
 use Rattle.minimiser.proofs.Nodes as nodes
 use Rattle.minimiser.proofs.Whole.{part_cost-none}
 
--- ---- members of the kids
+-- ---- members of the children
 
-pub any-kid : (f : ℕ → Bool) (kids : List ℕ) (k : ℕ) → In k kids → f k ≡ true → list_any (λ b. b) (map f kids) ≡ true
-any-kid f kids k m e = list_any-map (λ b. b) f kids ∙ any_in f k kids m e
+pub any-child : (f : ℕ → Bool) (kids : List ℕ) (k : ℕ) → In k kids → f k ≡ true → list_any (λ b. b) (map f kids) ≡ true
+any-child f kids k m e = list_any-map (λ b. b) f kids ∙ any_in f k kids m e
 
-pub kid-with : (f : ℕ → Bool) (kids : List ℕ) → list_any (λ b. b) (map f kids) ≡ true → Passing f kids
-kid-with f kids e = any_from f kids (sym (list_any-map (λ b. b) f kids) ∙ e)
+pub child-with : (f : ℕ → Bool) (kids : List ℕ) → list_any (λ b. b) (map f kids) ≡ true → Passing f kids
+child-with f kids e = any_from f kids (sym (list_any-map (λ b. b) f kids) ∙ e)
 
-pub all-kid : (f : ℕ → Bool) (kids : List ℕ) (k : ℕ) → In k kids → list_all (λ b. b) (map f kids) ≡ true → f k ≡ true
-all-kid f [] k m e = absurd m
-all-kid f (j ∷ kids) k (inl q) e = ap f q ∙ and_left _ _ e
-all-kid f (j ∷ kids) k (inr m) e = all-kid f kids k m (and_right (f j) _ e)
+pub all-child : (f : ℕ → Bool) (kids : List ℕ) (k : ℕ) → In k kids → list_all (λ b. b) (map f kids) ≡ true → f k ≡ true
+all-child f [] k m e = absurd m
+all-child f (j ∷ kids) k (inl q) e = ap f q ∙ and_left _ _ e
+all-child f (j ∷ kids) k (inr m) e = all-child f kids k m (and_right (f j) _ e)
 
--- an or costs no more than a kid
-pub cheapest-kid : (C : ℕ → Option ℕ) (kids : List ℕ) (j d : ℕ) → In j kids → C j ≡ Some d → AtMost (cheapest (map C kids)) d
-cheapest-kid C [] j d m e = absurd m
-cheapest-kid C (i ∷ kids) j d (inl q) e = AtMost-min_left (C i) (cheapest (map C kids)) d (subst (λ o. AtMost o d) (sym (ap C (sym q) ∙ e)) (omega arith))
-cheapest-kid C (i ∷ kids) j d (inr r) e = AtMost-min_right (C i) (cheapest (map C kids)) d (cheapest-kid C kids j d r e)
+-- an or costs no more than a child
+pub cheapest-child : (C : ℕ → Option ℕ) (kids : List ℕ) (j d : ℕ) → In j kids → C j ≡ Some d → AtMost (cheapest (map C kids)) d
+cheapest-child C [] j d m e = absurd m
+cheapest-child C (i ∷ kids) j d (inl q) e = AtMost-min_left (C i) (cheapest (map C kids)) d (subst (λ o. AtMost o d) (sym (ap C (sym q) ∙ e)) (omega arith))
+cheapest-child C (i ∷ kids) j d (inr r) e = AtMost-min_right (C i) (cheapest (map C kids)) d (cheapest-child C kids j d r e)
 
 -- and an and no less
-pub sum-kid : (C : ℕ → Option ℕ) (kids : List ℕ) (c j : ℕ) → sum_costs (map C kids) ≡ Some c → In j kids → (d : ℕ) × (C j ≡ Some d) × (d ≤ c)
-sum-kid C [] c j e m = absurd m
-sum-kid C (k ∷ kids) c j e (inl q) = let s = from_add (C k) (sum_costs (map C kids)) c e in (s.left, ap C q ∙ s.left_is, omega (arith, s.sum_is))
-sum-kid C (k ∷ kids) c j e (inr r) =
+pub sum-child : (C : ℕ → Option ℕ) (kids : List ℕ) (c j : ℕ) → sum_costs (map C kids) ≡ Some c → In j kids → (d : ℕ) × (C j ≡ Some d) × (d ≤ c)
+sum-child C [] c j e m = absurd m
+sum-child C (k ∷ kids) c j e (inl q) = let s = from_add (C k) (sum_costs (map C kids)) c e in (s.left, ap C q ∙ s.left_is, omega (arith, s.sum_is))
+sum-child C (k ∷ kids) c j e (inr r) =
     let s = from_add (C k) (sum_costs (map C kids)) c e in
-    let more = sum-kid C kids s.right j s.right_is r in (more.0, more.1, omega (arith, more.2, s.sum_is))
+    let more = sum-child C kids s.right j s.right_is r in (more.0, more.1, omega (arith, more.2, s.sum_is))
 
 module _ (graph : Graph) (words costs : List ℕ) (ok : IsGraph graph) where
   abbrev kn : ℕ → Option Bool
@@ -107,7 +107,7 @@ module _ (graph : Graph) (words costs : List ℕ) (ok : IsGraph graph) where
 
   pub kids-cost : (kids : List ℕ) → Apart kids → IsCost kn price n (TA kids) (MA kids) (SA kids)
   unfolding Apart
-  kids-cost kids apart = as_cost kn price n _ _ _ (nodes.kids_cost kn price n (part_cost-none costs) graph ok kids apart)
+  kids-cost kids apart = as_cost kn price n _ _ _ (nodes.children_cost kn price n (part_cost-none costs) graph ok kids apart)
 
   pub apart-tail : (j : ℕ) (kids : List ℕ) → Apart (j ∷ kids) → Apart kids
   unfolding Apart
@@ -141,14 +141,14 @@ module _ (graph : Graph) (words costs : List ℕ) (ok : IsGraph graph) where
   pub outside-root : Outside root 0
   outside-root c a h = record { by = a; achieves = record { agrees = h.agrees; holds = h.holds; cheap = omega (arith, h.cheap) }; same = λ v m. refl }
 
-  record KidsBy (kids : List ℕ) (k most : ℕ) (a : Assignment) : Type 0 where
+  record ChildrenBy (kids : List ℕ) (k most : ℕ) (a : Assignment) : Type 0 where
     by : Assignment
     agrees : Agrees kn price n by
     holds : TA kids by ≡ true
     cheap : all_faults kn price n by ≤ most
     same : (v : ℕ) → M v k ≡ true → by v ≡ a v
 
-  kids-by : (kids : List ℕ) → Apart kids → (k : ℕ) → In k kids → (d : ℕ) → C k ≡ Some d → (x : ℕ) (a : Assignment) → Achieves k x a → (r : ℕ) → SA kids ≡ Some (r + d) → KidsBy kids k (r + x) a
+  kids-by : (kids : List ℕ) → Apart kids → (k : ℕ) → In k kids → (d : ℕ) → C k ≡ Some d → (x : ℕ) (a : Assignment) → Achieves k x a → (r : ℕ) → SA kids ≡ Some (r + d) → ChildrenBy kids k (r + x) a
   kids-by [] apart k m d e x a h r s = absurd m
   kids-by (j ∷ kids) apart k (inl q) d e x a h r s =
       let sum = from_add (C j) (SA kids) (r + d) s in
@@ -165,7 +165,7 @@ module _ (graph : Graph) (words costs : List ℕ) (ok : IsGraph graph) where
       }
   kids-by (j ∷ kids) apart k (inr m) d e x a h r s =
       let sum = from_add (C j) (SA kids) (r + d) s in
-      let own = sum-kid C kids sum.right k sum.right_is m in
+      let own = sum-child C kids sum.right k sum.right_is m in
       let there : own.0 ≡ d = same_Some own.0 d (sym own.1 ∙ e) in
       let more = kids-by kids (apart-tail j kids apart) k m d e x a h (sum.right - d) (sum.right_is ∙ ap Some (omega (arith, own.2, there))) in
       let b = (is_cost j).reached sum.left sum.left_is in
@@ -175,22 +175,22 @@ module _ (graph : Graph) (words costs : List ℕ) (ok : IsGraph graph) where
         agrees = y.agrees;
         holds = and_from (T y.by j) (TA kids y.by) ((is_cost j).local y.by b.by y.as_left ∙ b.holds) ((kids-cost kids (apart-tail j kids apart)).local y.by more.by y.as_right ∙ more.holds);
         cheap = omega (arith, joined-le (open_weights kn price n) (λ v. M v j) (MA kids) (λ v. true) b.by more.by y, b.cheap, more.cheap, sum.sum_is, own.2, there);
-        same = λ v t. y.as_right v (any-kid (M v) kids k m t) ∙ more.same v t;
+        same = λ v t. y.as_right v (any-child (M v) kids k m t) ∙ more.same v t;
       }
 
-  -- the kids of an and: the other kids are true too
+  -- the children of an and: the other children are true too
   pub outside-and : (p : ℕ) (kids : List ℕ) (o : ℕ) → slice_get graph.nodes p ≡ Some (record { what = And; kids = kids }) → Outside p o → (k : ℕ) → In k kids → (d : ℕ) → C k ≡ Some d → (r : ℕ) → C p ≡ Some (r + d) → Outside k (o + r)
   unfolding Apart
   outside-and p kids o e out k m d f r is x a h =
       let b = kids-by kids (apart-kids p kids e) k m d f x a h r (sym (costs-at p _ e) ∙ is) in
       let y = out (r + x) b.by (record { agrees = b.agrees; holds = true-at p _ e b.by ∙ b.holds; cheap = b.cheap }) in
-      extends-le k (o + (r + x)) (o + r + x) a (omega arith) (record { by = y.by; achieves = y.achieves; same = λ v t. y.same v (mention-at p _ e v ∙ any-kid (M v) kids k m t) ∙ b.same v t })
+      extends-le k (o + (r + x)) (o + r + x) a (omega arith) (record { by = y.by; achieves = y.achieves; same = λ v t. y.same v (mention-at p _ e v ∙ any-child (M v) kids k m t) ∙ b.same v t })
 
   -- and of an or
   pub outside-or : (p : ℕ) (kids : List ℕ) (o : ℕ) → slice_get graph.nodes p ≡ Some (record { what = Or; kids = kids }) → Outside p o → (k : ℕ) → In k kids → Outside k o
   outside-or p kids o e out k m x a h =
-      let y = out x a (record { agrees = h.agrees; holds = true-at p _ e a ∙ any-kid (T a) kids k m h.holds; cheap = h.cheap }) in
-      record { by = y.by; achieves = y.achieves; same = λ v t. y.same v (mention-at p _ e v ∙ any-kid (M v) kids k m t) }
+      let y = out x a (record { agrees = h.agrees; holds = true-at p _ e a ∙ any-child (T a) kids k m h.holds; cheap = h.cheap }) in
+      record { by = y.by; achieves = y.achieves; same = λ v t. y.same v (mention-at p _ e v ∙ any-child (M v) kids k m t) }
 
   -- the node is part of making the root true at its least cost
   abbrev pub Useful : ℕ → Type 0
@@ -199,15 +199,15 @@ module _ (graph : Graph) (words costs : List ℕ) (ok : IsGraph graph) where
   pub useful-root : Useful root
   useful-root c m e f = (0, outside-root, (let same = same_Some c m (sym e ∙ f) in omega arith))
 
-  -- the kids of an and
+  -- the children of an and
   pub useful-and : (p : ℕ) (kids : List ℕ) (c : ℕ) → slice_get graph.nodes p ≡ Some (record { what = And; kids = kids }) → C p ≡ Some c → Useful p → (k : ℕ) → In k kids → Useful k
   useful-and p kids c e is useful k i d m f g =
       let u = useful c m is g in
-      let own = sum-kid C kids c k (sym (costs-at p _ e) ∙ is) i in
+      let own = sum-child C kids c k (sym (costs-at p _ e) ∙ is) i in
       let same : own.0 ≡ d = same_Some own.0 d (sym own.1 ∙ f) in
       (u.0 + (c - d), outside-and p kids u.0 e u.1 k i d f (c - d) (is ∙ ap Some (omega (arith, own.2, same))), omega (arith, own.2, same, u.2))
 
-  -- the kids of an or that cost as much
+  -- the children of an or that cost as much
   pub useful-or : (p : ℕ) (kids : List ℕ) (c : ℕ) → slice_get graph.nodes p ≡ Some (record { what = Or; kids = kids }) → C p ≡ Some c → Useful p → (k : ℕ) → In k kids → C k ≡ Some c → Useful k
   useful-or p kids c e is useful k i s d m f g =
       let u = useful c m is g in
@@ -231,17 +231,17 @@ module _ (graph : Graph) (words costs : List ℕ) (ok : IsGraph graph) where
 
   -- ---- what costs more than it has to
 
-  -- a true kid of an and: it costs no more above its least cost than the and does
-  pub record KidExcess (kids : List ℕ) (c j : ℕ) (a : Assignment) : Type 0 where
+  -- a true child of an and: it costs no more above its least cost than the and does
+  pub record ChildExcess (kids : List ℕ) (c j : ℕ) (a : Assignment) : Type 0 where
     pub holds : is_true graph.nodes j a ≡ true
     pub cost : ℕ
     pub is : least_at graph words costs j ≡ Some cost
     pub excess : c + faults_in (known_at words) (part_cost costs) (length costs) (λ v. mentions graph.nodes v j) a
         ≤ faults_in (known_at words) (part_cost costs) (length costs) (λ v. list_any (λ b. b) (map (mentions graph.nodes v) kids)) a + cost
 
-  pub kid-excess : (a : Assignment) → Agrees kn price n a → (kids : List ℕ) → Apart kids → TA kids a ≡ true → (c : ℕ) → SA kids ≡ Some c → (j : ℕ) → In j kids → KidExcess kids c j a
-  kid-excess a ag [] apart h c s j m = absurd m
-  kid-excess a ag (i ∷ kids) apart h c s j m =
+  pub child-excess : (a : Assignment) → Agrees kn price n a → (kids : List ℕ) → Apart kids → TA kids a ≡ true → (c : ℕ) → SA kids ≡ Some c → (j : ℕ) → In j kids → ChildExcess kids c j a
+  child-excess a ag [] apart h c s j m = absurd m
+  child-excess a ag (i ∷ kids) apart h c s j m =
       let sum = from_add (C i) (SA kids) c s in
       let rest = apart-tail i kids apart in
       let here : T a i ≡ true = and_left _ _ h in
@@ -250,18 +250,18 @@ module _ (graph : Graph) (words costs : List ℕ) (ok : IsGraph graph) where
       let low_there = subst (λ o. AtMost o (faults_in kn price n (MA kids) a)) sum.right_is ((kids-cost kids rest).bound a ag there) in
       let all = cost_among-apart (open_weights kn price n) (λ v. M v i) (MA kids) a (apart-both i kids apart) in
       ⊎_elim
-      (λ (q : j ≡ i). subst (λ x. KidExcess (i ∷ kids) c x a) (sym q) (record { holds = here; cost = sum.left; is = sum.left_is; excess = omega (arith, all, low_there, sum.sum_is) }))
-      (λ (r : In j kids). let x = kid-excess a ag kids rest there sum.right sum.right_is j r in record { holds = x.holds; cost = x.cost; is = x.is; excess = omega (arith, all, low_here, x.excess, sum.sum_is) }) m
+      (λ (q : j ≡ i). subst (λ x. ChildExcess (i ∷ kids) c x a) (sym q) (record { holds = here; cost = sum.left; is = sum.left_is; excess = omega (arith, all, low_there, sum.sum_is) }))
+      (λ (r : In j kids). let x = child-excess a ag kids rest there sum.right sum.right_is j r in record { holds = x.holds; cost = x.cost; is = x.is; excess = omega (arith, all, low_here, x.excess, sum.sum_is) }) m
 
-  -- a true kid of an or that costs no more than it has to: it costs as much
-  pub or-kid : (a : Assignment) → Agrees kn price n a → (k : ℕ) (kids : List ℕ) (c : ℕ) → slice_get graph.nodes k ≡ Some (record { what = Or; kids = kids }) → C k ≡ Some c → faults_in kn price n (λ v. M v k) a ≤ c
+  -- a true child of an or that costs no more than it has to: it costs as much
+  pub or-child : (a : Assignment) → Agrees kn price n a → (k : ℕ) (kids : List ℕ) (c : ℕ) → slice_get graph.nodes k ≡ Some (record { what = Or; kids = kids }) → C k ≡ Some c → faults_in kn price n (λ v. M v k) a ≤ c
       → (j : ℕ) → In j kids → T a j ≡ true → C j ≡ Some c
-  or-kid a ag k kids c e is few j m h = by_cost (C j) refl ((is_cost j).bound a ag h) where
+  or-child a ag k kids c e is few j m h = by_cost (C j) refl ((is_cost j).bound a ag h) where
     by_cost : (o : Option ℕ) → C j ≡ o → AtMost o (faults_in kn price n (λ v. M v j) a) → C j ≡ Some c
     by_cost None q low = absurd low
     by_cost (Some d) q low =
-        let most : c ≤ d = subst (λ o. AtMost o d) (sym (costs-at k _ e) ∙ is) (cheapest-kid C kids j d m q) in
-        q ∙ ap Some (omega (arith, low, few, most, faults_in-le kn price n (λ v. M v j) (λ v. M v k) a (λ v r. mention-at k _ e v ∙ any-kid (M v) kids j m r)))
+        let most : c ≤ d = subst (λ o. AtMost o d) (sym (costs-at k _ e) ∙ is) (cheapest-child C kids j d m q) in
+        q ∙ ap Some (omega (arith, low, few, most, faults_in-le kn price n (λ v. M v j) (λ v. M v k) a (λ v r. mention-at k _ e v ∙ any-child (M v) kids j m r)))
 
   -- ---- from the root to a fault
 
@@ -299,34 +299,34 @@ module _ (graph : Graph) (words costs : List ℕ) (ok : IsGraph graph) where
     pub on-root : (c : ℕ) → C root ≡ Some c → T a root ≡ true → all_faults kn price n a ≤ c → OnFault root
     on-root c e h cheap = grind (arith, bound-at, faults-lt, faults-le)
 
-    pub record KidOnFault (kids : List ℕ) : Type 0 where
-      pub kid : ℕ
-      pub is_in : In kid kids
-      pub on : OnFault kid
+    pub record ChildOnFault (kids : List ℕ) : Type 0 where
+      pub child : ℕ
+      pub is_in : In child kids
+      pub on : OnFault child
 
-    -- some kid of an and
-    on-and : (k : ℕ) (kids : List ℕ) → slice_get graph.nodes k ≡ Some (record { what = And; kids = kids }) → OnFault k → KidOnFault kids
+    -- some child of an and
+    on-and : (k : ℕ) (kids : List ℕ) → slice_get graph.nodes k ≡ Some (record { what = And; kids = kids }) → OnFault k → ChildOnFault kids
     unfolding Apart
     on-and k kids e on =
-        let j = kid-with (M p) kids (sym (mention-at k _ e p) ∙ on.has) in
-        let x = kid-excess a agree kids (apart-kids k kids e) (sym (true-at k _ e a) ∙ on.holds) on.cost (sym (costs-at k _ e) ∙ on.is) j.item j.is_in in
+        let j = child-with (M p) kids (sym (mention-at k _ e p) ∙ on.has) in
+        let x = child-excess a agree kids (apart-kids k kids e) (sym (true-at k _ e a) ∙ on.holds) on.cost (sym (costs-at k _ e) ∙ on.is) j.item j.is_in in
         let most = faults-le (MA kids) (λ v. M v k) (λ v q. mention-at k _ e v ∙ q) in
-        record { kid = j.item; is_in = j.is_in; on = record { holds = x.holds; has = j.passes; cost = x.cost; is = x.is; tight = omega (arith, x.excess, on.tight, most) } }
+        record { child = j.item; is_in = j.is_in; on = record { holds = x.holds; has = j.passes; cost = x.cost; is = x.is; tight = omega (arith, x.excess, on.tight, most) } }
 
-    -- some kid of an or, that costs as much
-    pub record CheapKid (kids : List ℕ) (cost : ℕ) : Type 0 where
-      pub kid : ℕ
-      pub is_in : In kid kids
-      pub same : least_at graph words costs kid ≡ Some cost
-      pub on : OnFault kid
+    -- some child of an or, that costs as much
+    pub record CheapChild (kids : List ℕ) (cost : ℕ) : Type 0 where
+      pub child : ℕ
+      pub is_in : In child kids
+      pub same : least_at graph words costs child ≡ Some cost
+      pub on : OnFault child
 
-    on-or : (k : ℕ) (kids : List ℕ) → slice_get graph.nodes k ≡ Some (record { what = Or; kids = kids }) → (on : OnFault k) → CheapKid kids on.cost
+    on-or : (k : ℕ) (kids : List ℕ) → slice_get graph.nodes k ≡ Some (record { what = Or; kids = kids }) → (on : OnFault k) → CheapChild kids on.cost
     on-or k kids e on =
-        let j = kid-with (T a) kids (sym (true-at k _ e a) ∙ on.holds) in
-        let cost_is = or-kid a agree k kids on.cost e on.is on.tight j.item j.is_in j.passes in
-        let inside : (v : ℕ) → M v j.item ≡ true → M v k ≡ true = λ v r. mention-at k _ e v ∙ any-kid (M v) kids j.item j.is_in r in
+        let j = child-with (T a) kids (sym (true-at k _ e a) ∙ on.holds) in
+        let cost_is = or-child a agree k kids on.cost e on.is on.tight j.item j.is_in j.passes in
+        let inside : (v : ℕ) → M v j.item ≡ true → M v k ≡ true = λ v r. mention-at k _ e v ∙ any-child (M v) kids j.item j.is_in r in
         record {
-          kid = j.item;
+          child = j.item;
           is_in = j.is_in;
           same = cost_is;
           on = record {
@@ -338,7 +338,7 @@ module _ (graph : Graph) (words costs : List ℕ) (ok : IsGraph graph) where
           };
         }
 
-    -- Marks that go from the root to all kids of an and and to the cheap kids of an or come to a literal that says faulty.
+    -- Marks that go from the root to all children of an and and to the cheap children of an or come to a literal that says faulty.
     module _ (Marked : ℕ → Type 0)
         (ands : (k : ℕ) (kids : List ℕ) (c : ℕ) → slice_get graph.nodes k ≡ Some (record { what = And; kids = kids })
         → least_at graph words costs k ≡ Some c → Marked k → (j : ℕ) → In j kids → Marked j)
@@ -358,5 +358,5 @@ module _ (graph : Graph) (words costs : List ℕ) (ok : IsGraph graph) where
         by_kind more (Literal positive var) kids e =
             let at : var ≡ p = eqb-true _ _ (sym (mention-at k _ e p) ∙ on.has) in
             record { node = k; kids = kids; is = e ∙ (λ i. Some (record { what = Literal ((same_bit-equal positive (a var) (sym (true-at k _ e a) ∙ on.holds) ∙ ap a at ∙ false_at) i) (at i); kids = kids })); marked = mark }
-        by_kind more And kids e = let x = on-and k kids e on in more x.kid (omega (arith, all-below k kids x.kid (below k _ e) x.is_in)) (ands k kids on.cost e on.is mark x.kid x.is_in) x.on
-        by_kind more Or kids e = let x = on-or k kids e on in more x.kid (omega (arith, all-below k kids x.kid (below k _ e) x.is_in)) (ors k kids on.cost e on.is mark x.kid x.is_in x.same) x.on
+        by_kind more And kids e = let x = on-and k kids e on in more x.child (omega (arith, all-below k kids x.child (below k _ e) x.is_in)) (ands k kids on.cost e on.is mark x.child x.is_in) x.on
+        by_kind more Or kids e = let x = on-or k kids e on in more x.child (omega (arith, all-below k kids x.child (below k _ e) x.is_in)) (ors k kids on.cost e on.is mark x.child x.is_in x.same) x.on

@@ -10,7 +10,7 @@ use Rattle.state_rules.proofs.NodeValues.{map-below}
 use Rattle.state_rules.proofs.NodesFit.{fits-at}
 use Rattle.state_rules.proofs.Values.{length-values_after, values-at, values-before}
 use Rattle.conditioner.specs.Words.{leaf_of}
-use Rattle.node_costs.proofs.Nodes.{value_by, AreLaws, all_nodes, kids_and}
+use Rattle.node_costs.proofs.Nodes.{value_by, AreLaws, all_nodes, children_and}
 use Rattle.minimiser.specs.Costs.{sum_costs, cheapest, cost_at, literal_cost, cost_by, node_cost}
 use Rattle.minimiser.proofs.Costs.{IsLeastCost, and_is, or_is, true_is, false_is, literal_is}
 
@@ -39,7 +39,7 @@ module _ (known : ℕ → Option Bool) (price : ℕ → ℕ) (parts : ℕ) (none
     abbrev C : ℕ → Option ℕ
     C k = cost_at (values (node_cost known price) graph.nodes) k
 
-    -- the cost at a node, by those of its kids
+    -- the cost at a node, by those of its children
     pub cost-of : (i : ℕ) → i < length graph.nodes → C i ≡ cost_by known price (node_at graph.nodes i).what (map C (node_at graph.nodes i).kids)
     cost-of i h =
         let f = node_cost known price in
@@ -54,7 +54,7 @@ module _ (known : ℕ → Option Bool) (price : ℕ → ℕ) (parts : ℕ) (none
         grind (arith, cost_at-get, get_or_past, length-values_after)
         (cases_lt k (length graph.nodes))
 
-    -- and of kids that share no variable
-    pub kids_cost : (kids : List ℕ) → ((v : ℕ) → at_most_one (map (mentions graph.nodes v) kids) ≡ true)
+    -- and of children that share no variable
+    pub children_cost : (kids : List ℕ) → ((v : ℕ) → at_most_one (map (mentions graph.nodes v) kids) ≡ true)
         → IsLeastCost known price parts (λ a. list_all (λ b. b) (map (λ k. is_true graph.nodes k a) kids)) (λ v. list_any (λ b. b) (map (mentions graph.nodes v) kids)) (sum_costs (map C kids))
-    kids_cost kids apart = kids_and literal sum_costs cheapest (IsLeastCost known price parts) laws (λ k a. is_true graph.nodes k a) (λ k v. mentions graph.nodes v k) C kids (λ k m. is_cost k) apart
+    children_cost kids apart = children_and literal sum_costs cheapest (IsLeastCost known price parts) laws (λ k a. is_true graph.nodes k a) (λ k v. mentions graph.nodes v k) C kids (λ k m. is_cost k) apart

@@ -49,11 +49,11 @@ cost_small graph words costs k ok n e =
 
 -- ---- what a node of a graph is
 
-pub kids_below : (graph : Graph) (i : ℕ) (n : Node) → IsGraph graph → slice_get graph.nodes i ≡ Some n → All (λ k. k < i) n.kids
-kids_below graph i n ok e = below-each i n.kids (fits-get graph.vars graph.nodes i n ok.nodes.fit e).below
+pub children_below : (graph : Graph) (i : ℕ) (n : Node) → IsGraph graph → slice_get graph.nodes i ≡ Some n → All (λ k. k < i) n.kids
+children_below graph i n ok e = below-each i n.kids (fits-get graph.vars graph.nodes i n ok.nodes.fit e).below
 
-pub few_kids : (graph : Graph) (i : ℕ) (kids : List ℕ) → IsGraph graph → slice_get graph.nodes i ≡ Some (record { what = And; kids = kids }) → length kids < 2 ^ 32
-few_kids graph i kids ok e = ltb-true (length kids) 4294967296 (fits-get graph.vars graph.nodes i _ ok.nodes.fit e).kind
+pub few_children : (graph : Graph) (i : ℕ) (kids : List ℕ) → IsGraph graph → slice_get graph.nodes i ≡ Some (record { what = And; kids = kids }) → length kids < 2 ^ 32
+few_children graph i kids ok e = ltb-true (length kids) 4294967296 (fits-get graph.vars graph.nodes i _ ok.nodes.fit e).kind
 
 pub the_node : (nodes : List Node) (i : ℕ) (w : NodeKind) (ks : List ℕ) → i < length nodes → w ≡ (node_at nodes i).what → ks ≡ (node_at nodes i).kids
     → slice_get nodes i ≡ Some (record { what = w; kids = ks })
@@ -86,7 +86,7 @@ node_fits_room graph words costs i most n before ok few e v = if_some _ most (λ
 
 -- ---- the whole pass
 
--- A node stands at a place, and others behind it.
+-- A node is at a place, and others after it.
 pub record StandsAt (graph : Graph) (i : ℕ) (n : Node) (others : List Node) : Type 0 where
   pub there : slice_get graph.nodes i ≡ Some n
   pub behind : drop (i + 1) graph.nodes ≡ others

@@ -11,35 +11,35 @@ use Rattle.state_rules.proofs.Members.{In}
 use Rattle.conditioner.specs.Models.{total_cost}
 use Rattle.minimiser.specs.Costs.{part_cost, known_at, least_at}
 use Rattle.minimiser.specs.Stored.{AreLeastCosts}
-use Rattle.minimiser.specs.inner.Swept.{is_kid}
+use Rattle.minimiser.specs.inner.Swept.{is_child}
 use Rattle.minimiser.specs.inner.Outside.{lowered, others_cost, outside_below, HasOutsideParent, AreOutsideCosts}
 use Rattle.minimiser.proofs.Costs.{Agrees, faults_in, faults_in-le}
 use Rattle.minimiser.proofs.Sums.{cost_in-some}
 use Rattle.minimiser.proofs.OnePass.{cost_small}
-use Rattle.minimiser.proofs.Derivations.{any-kid, true-at, mention-at, costs-at, apart-kids, sum-kid, Apart, Achieves, Extends, extends-le, Outside, outside-root, outside-and, outside-or, kid-excess}
+use Rattle.minimiser.proofs.Derivations.{any-child, true-at, mention-at, costs-at, apart-kids, sum-child, Apart, Achieves, Extends, extends-le, Outside, outside-root, outside-and, outside-or, child-excess}
 use Rattle.minimiser.proofs.Valued.{value-is, has_least}
-use Rattle.minimiser.proofs.SpreadMarks.{no-kids, kid-out, kid_before}
+use Rattle.minimiser.proofs.SpreadMarks.{no-kids, child-out, child_before}
 
 -- ---- the sweep
 
 lowered-is : (b : Bool) (cost old new : ℕ) → new ≡ lowered b cost old → (new ≤ old) × (b ≡ true → new ≤ cost) × ((new ≡ old) ⊎ ((b ≡ true) × (new ≡ cost)))
 lowered-is b cost old new e = grind arith
 
--- one more node lowers what is outside its kids
+-- one more node lowers what is outside its children
 module _ (graph : Graph) (ok : IsGraph graph) (values xs ys : List ℕ) (at : ℕ) (lt : at < length graph.nodes) (s : AreOutsideCosts graph.nodes values xs (at + 1))
-    (lowers : (k : ℕ) → k < length graph.nodes → get_or ys k 0 ≡ lowered (is_kid (node_at graph.nodes at).kids k) (outside_below graph.nodes values xs at k) (get_or xs k 0)) where
-  moves : (k : ℕ) → k < length graph.nodes → (get_or ys k 0 ≤ get_or xs k 0) × (is_kid (node_at graph.nodes at).kids k ≡ true → get_or ys k 0 ≤ outside_below graph.nodes values xs at k)
-      × ((get_or ys k 0 ≡ get_or xs k 0) ⊎ ((is_kid (node_at graph.nodes at).kids k ≡ true) × (get_or ys k 0 ≡ outside_below graph.nodes values xs at k)))
+    (lowers : (k : ℕ) → k < length graph.nodes → get_or ys k 0 ≡ lowered (is_child (node_at graph.nodes at).kids k) (outside_below graph.nodes values xs at k) (get_or xs k 0)) where
+  moves : (k : ℕ) → k < length graph.nodes → (get_or ys k 0 ≤ get_or xs k 0) × (is_child (node_at graph.nodes at).kids k ≡ true → get_or ys k 0 ≤ outside_below graph.nodes values xs at k)
+      × ((get_or ys k 0 ≡ get_or xs k 0) ⊎ ((is_child (node_at graph.nodes at).kids k ≡ true) × (get_or ys k 0 ≡ outside_below graph.nodes values xs at k)))
   moves k h = lowered-is _ _ _ _ (lowers k h)
 
   -- the nodes from this one on stay
   stays : (k : ℕ) → at ≤ k → k < length graph.nodes → get_or ys k 0 ≡ get_or xs k 0
-  stays k h g = ⊎_elim (λ e. e) (λ r. absurd (omega (arith, kid_before graph at k ok lt r.0))) (moves k g).2
+  stays k h g = ⊎_elim (λ e. e) (λ r. absurd (omega (arith, child_before graph at k ok lt r.0))) (moves k g).2
 
   pub outside-met : AreOutsideCosts graph.nodes values ys at
   outside-met = record {
     root = stays (length graph.nodes - 1) (omega arith) (omega arith) ∙ s.root;
-    down = grind (arith, kid_before, s.down);
+    down = grind (arith, child_before, s.down);
     up = grind (arith, moves);
   }
 
@@ -58,7 +58,7 @@ module _ (graph : Graph) (words costs : List ℕ) (ok : IsGraph graph) (vs os : 
   outside-is total (suc fuel) k f h q x a ach = ⊎_elim
       (λ (r : k ≡ length graph.nodes - 1). extends-le graph words costs ok k (0 + x) (O k + x) a (omega arith) (subst (λ j. Extends graph words costs ok j (0 + x) a) (sym r) (outside-root graph words costs ok x a (subst (λ j. Achieves graph words costs ok j x a) r ach))))
       (λ (p : HasOutsideParent graph.nodes vs os k). by_kind (outside-is total fuel) p.parent p.within (node_at graph.nodes p.parent).what (node_at graph.nodes p.parent).kids
-      (slice_get-get_or graph.nodes p.parent true_node p.within) (kid-out (node_at graph.nodes p.parent).kids k p.kid) (kid_before graph p.parent k ok p.within p.kid) p.cheap)
+      (slice_get-get_or graph.nodes p.parent true_node p.within) (child-out (node_at graph.nodes p.parent).kids k p.child) (child_before graph p.parent k ok p.within p.child) p.cheap)
       (outside.up k h q) where
         by_kind : ((j : ℕ) → length graph.nodes ≤ j + fuel → j < length graph.nodes → O j < 2147483647 → Outside graph words costs ok j (O j)) → (p : ℕ) → p < length graph.nodes → (what : NodeKind) (kids : List ℕ)
             → slice_get graph.nodes p ≡ Some (record { what = what; kids = kids }) → In k kids → k < p → O p + others_cost what (W p) (W k) ≤ O k → Extends graph words costs ok k (O k + x) a
@@ -67,7 +67,7 @@ module _ (graph : Graph) (words costs : List ℕ) (ok : IsGraph graph) (vs os : 
             let own = has_least graph words costs vs least ok a ach.agrees k h ach.holds in
             let small = cost_small graph words costs k ok (W k) own.is in
             let all : least_at graph words costs p ≡ Some (W p) = sym (value-is graph words costs vs least p g) ∙ cost_in-some (W p) (λ z. absurd (omega (arith, small, z))) in
-            let there = sum-kid (least_at graph words costs) kids (W p) k (sym (costs-at graph words costs ok p _ e) ∙ all) i in
+            let there = sum-child (least_at graph words costs) kids (W p) k (sym (costs-at graph words costs ok p _ e) ∙ all) i in
             let le : W k ≤ W p = omega (arith, there.2, same_Some there.0 (W k) (sym there.1 ∙ own.is)) in
             extends-le graph words costs ok k (O p + (W p - W k) + x) (O k + x) a (omega arith)
             (outside-and graph words costs ok p kids (O p) e (more p (omega arith) g (omega arith)) k i (W k) own.is (W p - W k) (all ∙ ap Some (omega arith)) x a ach)
@@ -77,22 +77,22 @@ module _ (graph : Graph) (words costs : List ℕ) (ok : IsGraph graph) (vs os : 
     abbrev faults : ℕ → ℕ
     faults k = faults_in (known_at words) (part_cost costs) (length costs) (λ v. mentions graph.nodes v k) a
 
-    -- what is true comes to no more with the rest at a true kid than at the node
-    pub kid-fits : (k j : ℕ) → k < length graph.nodes → is_kid (node_at graph.nodes k).kids j ≡ true → is_true graph.nodes k a ≡ true → is_true graph.nodes j a ≡ true → O j + faults j ≤ O k + faults k
+    -- what is true comes to no more with the rest at a true child than at the node
+    pub child-fits : (k j : ℕ) → k < length graph.nodes → is_child (node_at graph.nodes k).kids j ≡ true → is_true graph.nodes k a ≡ true → is_true graph.nodes j a ≡ true → O j + faults j ≤ O k + faults k
     unfolding Apart
-    kid-fits k j h i t u =
+    child-fits k j h i t u =
         let d = outside.down k j (omega arith) h i in
-        let x = by_kind (node_at graph.nodes k).what (node_at graph.nodes k).kids (slice_get-get_or graph.nodes k true_node h) (kid-out (node_at graph.nodes k).kids j i) in
+        let x = by_kind (node_at graph.nodes k).what (node_at graph.nodes k).kids (slice_get-get_or graph.nodes k true_node h) (child-out (node_at graph.nodes k).kids j i) in
         omega arith where
           by_kind : (what : NodeKind) (kids : List ℕ) → slice_get graph.nodes k ≡ Some (record { what = what; kids = kids }) → In j kids → others_cost what (W k) (W j) + faults j ≤ faults k
           by_kind (Literal positive v) kids e m = absurd (no-kids graph ok k j v positive kids e m)
           by_kind And kids e m =
               let own = has_least graph words costs vs least ok a agree k h t in
               let sum = sym (costs-at graph words costs ok k _ e) ∙ own.is in
-              let y = kid-excess graph words costs ok a agree kids (apart-kids graph words costs ok k kids e) (sym (true-at graph words costs ok k _ e a) ∙ t) (W k) sum j m in
-              let same = same_Some y.cost (W j) (sym y.is ∙ (has_least graph words costs vs least ok a agree j (omega (arith, kid_before graph k j ok h i)) u).is) in
-              let most = sum-kid (least_at graph words costs) kids (W k) j sum m in
+              let y = child-excess graph words costs ok a agree kids (apart-kids graph words costs ok k kids e) (sym (true-at graph words costs ok k _ e a) ∙ t) (W k) sum j m in
+              let same = same_Some y.cost (W j) (sym y.is ∙ (has_least graph words costs vs least ok a agree j (omega (arith, child_before graph k j ok h i)) u).is) in
+              let most = sum-child (least_at graph words costs) kids (W k) j sum m in
               let less = same_Some most.0 y.cost (sym most.1 ∙ y.is) in
               let all = faults_in-le (known_at words) (part_cost costs) (length costs) (λ v. list_any (λ b. b) (map (mentions graph.nodes v) kids)) (λ v. mentions graph.nodes v k) a (λ v r. mention-at graph words costs ok k _ e v ∙ r) in
               omega (arith, y.excess, most.2)
-          by_kind Or kids e m = omega (arith, faults_in-le (known_at words) (part_cost costs) (length costs) (λ v. mentions graph.nodes v j) (λ v. mentions graph.nodes v k) a (λ v r. mention-at graph words costs ok k _ e v ∙ any-kid (mentions graph.nodes v) kids j m r))
+          by_kind Or kids e m = omega (arith, faults_in-le (known_at words) (part_cost costs) (length costs) (λ v. mentions graph.nodes v j) (λ v. mentions graph.nodes v k) a (λ v r. mention-at graph words costs ok k _ e v ∙ any-child (mentions graph.nodes v) kids j m r))

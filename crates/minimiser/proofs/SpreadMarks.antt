@@ -17,13 +17,13 @@ use Rattle.minimiser.specs.Costs.{part_cost, known_at, least_at}
 use Rattle.minimiser.specs.inner.Held.{held_cost}
 use Rattle.minimiser.specs.Stored.{cost_in, AreLeastCosts}
 use Rattle.minimiser.specs.LeastStates.{Suspect, LeastState, OkBelow}
-use Rattle.minimiser.specs.inner.Swept.{IsValue, has_mark, unmarked, IsMarked, is_kid, spread_value, HasMarkedParent, IsSwept, suspect_of, suspect_at}
+use Rattle.minimiser.specs.inner.Swept.{IsValue, has_mark, unmarked, IsMarked, is_child, spread_value, HasMarkedParent, IsSwept, suspect_of, suspect_at}
 use Rattle.minimiser.proofs.Costs.{fault, and_left, and_right}
 use Rattle.minimiser.proofs.Sums.{cost_in-some}
 use Rattle.minimiser.proofs.Whole.{least_is, state_of, assignment_of}
-use Rattle.minimiser.proofs.OnePass.{value_small, length-least_costs, kids_below, literal_at}
+use Rattle.minimiser.proofs.OnePass.{value_small, length-least_costs, children_below, literal_at}
 use Rattle.minimiser.proofs.Valued.{cost_in-is, value-is}
-use Rattle.minimiser.proofs.Derivations.{sum-kid, cheapest-kid, Useful, useful-root, useful-and, useful-or, useful-literal, on-root, descend, costs-at, below, all-below}
+use Rattle.minimiser.proofs.Derivations.{sum-child, cheapest-child, Useful, useful-root, useful-and, useful-or, useful-literal, on-root, descend, costs-at, below, all-below}
 use Rattle.minimiser.proofs.Models.{LeastIs}
 
 pub some-least : (o : Option ℕ) → IsSome o → (m : ℕ) × (o ≡ Some m)
@@ -44,24 +44,24 @@ no-mark v h = false_from_ne_true (has_mark v) (λ e. ⊎_elim (λ (q : v < 21474
 marked : (v : ℕ) → v < 2147483647 → has_mark (v + 2147483648) ≡ true
 marked v h = mark-in (v + 2147483648) (omega arith) (omega arith)
 
-pub kid-out : (kids : List ℕ) (j : ℕ) → is_kid kids j ≡ true → In j kids
-kid-out [] j e = absurd (cc)
-kid-out (k ∷ kids) j e = grind (arith, kid-out kids j)
+pub child-out : (kids : List ℕ) (j : ℕ) → is_child kids j ≡ true → In j kids
+child-out [] j e = absurd (cc)
+child-out (k ∷ kids) j e = grind (arith, child-out kids j)
 
-pub kid-in : (kids : List ℕ) (j : ℕ) → In j kids → is_kid kids j ≡ true
-kid-in [] j m = absurd m
-kid-in (k ∷ kids) j (inl q) = ap (λ b. b || is_kid kids j) (eq-eqb k j (sym q))
-kid-in (k ∷ kids) j (inr r) = ap (λ b. eqb k j || b) (kid-in kids j r) ∙ or-true (eqb k j)
+pub child-in : (kids : List ℕ) (j : ℕ) → In j kids → is_child kids j ≡ true
+child-in [] j m = absurd m
+child-in (k ∷ kids) j (inl q) = ap (λ b. b || is_child kids j) (eq-eqb k j (sym q))
+child-in (k ∷ kids) j (inr r) = ap (λ b. eqb k j || b) (child-in kids j r) ∙ or-true (eqb k j)
 
 -- a value that spreads from a marked node: it stays, or it was low and is marked
 data Spread (kids : List ℕ) (cost j v : ℕ) : ℕ → Type 0 where
   stays : Spread kids cost j v v
-  grows : is_kid kids j ≡ true → v ≤ cost → Spread kids cost j v (v + 2147483648)
+  grows : is_child kids j ≡ true → v ≤ cost → Spread kids cost j v (v + 2147483648)
 
 spread-is : (kids : List ℕ) (cost j v : ℕ) → Spread kids cost j v (spread_value kids cost j v)
-spread-is kids cost j v = by_test (is_kid kids j && nat_le v cost) refl where
-  by_test : (b : Bool) → (is_kid kids j && nat_le v cost) ≡ b → Spread kids cost j v (cond b (v + 2147483648) v)
-  by_test true e = grows (and_left _ _ e) (leb-true _ _ (and_right (is_kid kids j) _ e))
+spread-is kids cost j v = by_test (is_child kids j && nat_le v cost) refl where
+  by_test : (b : Bool) → (is_child kids j && nat_le v cost) ≡ b → Spread kids cost j v (cond b (v + 2147483648) v)
+  by_test true e = grows (and_left _ _ e) (leb-true _ _ (and_right (is_child kids j) _ e))
   by_test false e = stays
 
 spread-marked : (kids : List ℕ) (cost j v w : ℕ) → cost < 2147483647 → Spread kids cost j v w → has_mark v ≡ true → has_mark w ≡ true
@@ -76,8 +76,8 @@ own-cost : (v c : ℕ) → unmarked v ≡ c → has_mark v ≡ true → (v - 214
 own-cost v c e m = grind arith
 
 module _ (nodes : List Node) (cs : List ℕ) where
-  -- a marked node is met, and marks its kids that cost no more
-  module _ (xs ys : List ℕ) (at : ℕ) (lt : at < length nodes) (before : (j : ℕ) → is_kid (node_at nodes at).kids j ≡ true → j < at)
+  -- a marked node is met, and marks its children that cost no more
+  module _ (xs ys : List ℕ) (at : ℕ) (lt : at < length nodes) (before : (j : ℕ) → is_child (node_at nodes at).kids j ≡ true → j < at)
       (s : IsSwept nodes cs xs (at + 1)) (m : has_mark (get_or xs at 0) ≡ true)
       (spreads : (j : ℕ) → j < length nodes → get_or ys j 0 ≡ spread_value (node_at nodes at).kids (get_or xs at 0 - 2147483648) j (get_or xs j 0)) where
     abbrev kids : List ℕ
@@ -98,31 +98,31 @@ module _ (nodes : List Node) (cs : List ℕ) where
     more : (j : ℕ) → j < length nodes → has_mark (get_or xs j 0) ≡ true → has_mark (get_or ys j 0) ≡ true
     more j h q = spread-marked kids own j (get_or xs j 0) (get_or ys j 0) small (moves j h) q
 
-    kid-marked : (j : ℕ) → is_kid kids j ≡ true → get_or cs j 0 ≤ get_or cs at 0 → has_mark (get_or ys j 0) ≡ true
-    kid-marked j i h = grind (arith, nat_tests, before, more, spreads)
+    child-marked : (j : ℕ) → is_child kids j ≡ true → get_or cs j 0 ≤ get_or cs at 0 → has_mark (get_or ys j 0) ≡ true
+    child-marked j i h = grind (arith, nat_tests, before, more, spreads)
 
     new-parent : (k : ℕ) → HasMarkedParent nodes cs xs k → HasMarkedParent nodes cs ys k
-    new-parent k p = record { parent = p.parent; within = p.within; marked = more p.parent p.within p.marked; kid = p.kid; cheap = p.cheap }
+    new-parent k p = record { parent = p.parent; within = p.within; marked = more p.parent p.within p.marked; child = p.child; cheap = p.cheap }
 
     pub swept-met : IsSwept nodes cs ys at
     swept-met = record {
       kept = λ k h. spread-unmarked kids own k (get_or xs k 0) (get_or ys k 0) small (moves k h) ∙ s.kept k h;
       root = more (length nodes - 1) (omega arith) s.root;
-      down = grind (arith, nat_tests, kid-marked, more);
+      down = grind (arith, nat_tests, child-marked, more);
       up = grind (arith, new-parent);
     }
 
 pub no-kids : (graph : Graph) → IsGraph graph → (k j var : ℕ) (positive : Bool) (kids : List ℕ) → slice_get graph.nodes k ≡ Some (record { what = Literal positive var; kids = kids }) → In j kids → ⊥
 no-kids graph ok k j var positive kids e i = subst (In j) (literal graph.vars var positive kids (fits-get graph.vars graph.nodes k _ ok.nodes.fit e).kind).alone i
 
--- kids stand before their parents
-pub kids_before : (graph : Graph) (k : ℕ) (kids : List ℕ) → IsGraph graph → k < length graph.nodes → kids ≡ (node_at graph.nodes k).kids → All (λ j. j < k) kids
-kids_before graph k _ ok h e = subst (λ ks. All (λ j. j < k) ks) (sym e) (kids_below graph k (node_at graph.nodes k) ok (slice_get-get_or graph.nodes k true_node h))
+-- children are before their parents
+pub children_before : (graph : Graph) (k : ℕ) (kids : List ℕ) → IsGraph graph → k < length graph.nodes → kids ≡ (node_at graph.nodes k).kids → All (λ j. j < k) kids
+children_before graph k _ ok h e = subst (λ ks. All (λ j. j < k) ks) (sym e) (children_below graph k (node_at graph.nodes k) ok (slice_get-get_or graph.nodes k true_node h))
 
-pub kid_before : (graph : Graph) (k j : ℕ) → IsGraph graph → k < length graph.nodes → is_kid (node_at graph.nodes k).kids j ≡ true → j < k
-kid_before graph k j ok h i =
+pub child_before : (graph : Graph) (k j : ℕ) → IsGraph graph → k < length graph.nodes → is_child (node_at graph.nodes k).kids j ≡ true → j < k
+child_before graph k j ok h i =
     let e = slice_get-get_or graph.nodes k true_node h in
-    all-below k (node_at graph.nodes k).kids j (fits-get graph.vars graph.nodes k (node_at graph.nodes k) ok.nodes.fit e).below (kid-out (node_at graph.nodes k).kids j i)
+    all-below k (node_at graph.nodes k).kids j (fits-get graph.vars graph.nodes k (node_at graph.nodes k) ok.nodes.fit e).below (child-out (node_at graph.nodes k).kids j i)
 
 -- ---- the costs that the sweep begins with
 
@@ -193,25 +193,25 @@ module _ (graph : Graph) (words costs : List ℕ) (ok : IsGraph graph) (long : l
     cost-of : (k : ℕ) → k < length graph.nodes → IsMarked xs k → least_at graph words costs k ≡ Some (get_or cs k 0)
     cost-of k h m = sym (value-is graph words costs cs v k h) ∙ cost_in-some (get_or cs k 0) (λ e. absurd (omega (arith, (own-cost (get_or xs k 0) (get_or cs k 0) (s.kept k h) m).1)))
 
-    kid-useful : (p k : ℕ) → p < length graph.nodes → k < length graph.nodes → IsMarked xs p → IsMarked xs k → is_kid (node_at graph.nodes p).kids k ≡ true → get_or cs k 0 ≤ get_or cs p 0
+    child-useful : (p k : ℕ) → p < length graph.nodes → k < length graph.nodes → IsMarked xs p → IsMarked xs k → is_child (node_at graph.nodes p).kids k ≡ true → get_or cs k 0 ≤ get_or cs p 0
         → Useful graph words costs ok p → Useful graph words costs ok k
-    kid-useful p k hp hk mp mk kid cheap useful = by_kind (node_at graph.nodes p).what (node_at graph.nodes p).kids (slice_get-get_or graph.nodes p true_node hp) kid where
-      by_kind : (what : NodeKind) (kids : List ℕ) → slice_get graph.nodes p ≡ Some (record { what = what; kids = kids }) → is_kid kids k ≡ true → Useful graph words costs ok k
-      by_kind (Literal positive var) kids e i = absurd (no-kids graph ok p k var positive kids e (kid-out kids k i))
-      by_kind And kids e i = useful-and graph words costs ok p kids (get_or cs p 0) e (cost-of p hp mp) useful k (kid-out kids k i)
+    child-useful p k hp hk mp mk child cheap useful = by_kind (node_at graph.nodes p).what (node_at graph.nodes p).kids (slice_get-get_or graph.nodes p true_node hp) child where
+      by_kind : (what : NodeKind) (kids : List ℕ) → slice_get graph.nodes p ≡ Some (record { what = what; kids = kids }) → is_child kids k ≡ true → Useful graph words costs ok k
+      by_kind (Literal positive var) kids e i = absurd (no-kids graph ok p k var positive kids e (child-out kids k i))
+      by_kind And kids e i = useful-and graph words costs ok p kids (get_or cs p 0) e (cost-of p hp mp) useful k (child-out kids k i)
       by_kind Or kids e i =
           let least : get_or cs p 0 ≤ get_or cs k 0 = subst (λ o. AtMost o (get_or cs k 0)) (sym (costs-at graph words costs ok p _ e) ∙ cost-of p hp mp)
-          (cheapest-kid (least_at graph words costs) kids k (get_or cs k 0) (kid-out kids k i) (cost-of k hk mk)) in
+          (cheapest-child (least_at graph words costs) kids k (get_or cs k 0) (child-out kids k i) (cost-of k hk mk)) in
           let same : get_or cs k 0 ≡ get_or cs p 0 = omega arith in
-          useful-or graph words costs ok p kids (get_or cs p 0) e (cost-of p hp mp) useful k (kid-out kids k i) (cost-of k hk mk ∙ ap Some same)
+          useful-or graph words costs ok p kids (get_or cs p 0) e (cost-of p hp mp) useful k (child-out kids k i) (cost-of k hk mk ∙ ap Some same)
 
     -- each marked node is part of making the root true at its least cost
     marked-useful : (fuel k : ℕ) → length graph.nodes ≤ k + fuel → k < length graph.nodes → IsMarked xs k → Useful graph words costs ok k
     marked-useful zero k f h m = absurd (omega arith)
     marked-useful (suc fuel) k f h m = ⊎_elim
         (λ (e : k ≡ length graph.nodes - 1). subst (Useful graph words costs ok) (sym e) (useful-root graph words costs ok))
-        (λ (p : HasMarkedParent graph.nodes cs xs k). kid-useful p.parent k p.within h p.marked m p.kid p.cheap
-        (marked-useful fuel p.parent (omega (arith, kid_before graph p.parent k ok p.within p.kid)) p.within p.marked))
+        (λ (p : HasMarkedParent graph.nodes cs xs k). child-useful p.parent k p.within h p.marked m p.child p.cheap
+        (marked-useful fuel p.parent (omega (arith, child_before graph p.parent k ok p.within p.child)) p.within p.marked))
         (s.up k h m)
 
     -- a marked literal is of a suspect
@@ -241,16 +241,16 @@ module _ (graph : Graph) (words costs : List ℕ) (ok : IsGraph graph) (long : l
       by_mark true m q = by_kind m (node_at graph.nodes k).what (node_at graph.nodes k).kids (slice_get-get_or graph.nodes k true_node h) q
       by_mark false m q = absurd (cc)
 
-    -- a kid of a marked node is marked where it costs no more
-    kid-swept : (k j c d : ℕ) (node : Node) → slice_get graph.nodes k ≡ Some node → least_at graph words costs k ≡ Some c → IsMarked xs k → In j node.kids → least_at graph words costs j ≡ Some d → d ≤ c
+    -- a child of a marked node is marked if it costs no more
+    child-swept : (k j c d : ℕ) (node : Node) → slice_get graph.nodes k ≡ Some node → least_at graph words costs k ≡ Some c → IsMarked xs k → In j node.kids → least_at graph words costs j ≡ Some d → d ≤ c
         → IsMarked xs j
-    kid-swept k j c d node e f m i g le =
+    child-swept k j c d node e f m i g le =
         let h : k < length graph.nodes = slice_get_within graph.nodes k node e in
         let earlier : j < k = all-below k node.kids j (below graph words costs ok k node e) i in
         let at : node_at graph.nodes k ≡ node = get_or_from_slice_get graph.nodes k node true_node e in
         let own : get_or cs k 0 ≡ c = cost_in-is (get_or cs k 0) c (value-is graph words costs cs v k h ∙ f) in
         let his : get_or cs j 0 ≡ d = cost_in-is (get_or cs j 0) d (value-is graph words costs cs v j (omega arith) ∙ g) in
-        s.down k j (omega arith) h m (omega arith) (subst (λ (n : Node). is_kid n.kids j ≡ true) (sym at) (kid-in node.kids j i)) (omega arith)
+        s.down k j (omega arith) h m (omega arith) (subst (λ (n : Node). is_child n.kids j ≡ true) (sym at) (child-in node.kids j i)) (omega arith)
 
     -- where an open part is faulty in a state of least cost, a marked literal says so
     pub suspect-found : All (λ c. 0 < c) costs → (part : ℕ) → part < length costs → get_or words part 0 ≡ 0 → (h : List Bool) → LeastState graph words costs h → bit_in h part ≡ false
@@ -266,8 +266,8 @@ module _ (graph : Graph) (words costs : List ℕ) (ok : IsGraph graph) (long : l
         subst (λ n. 0 < n) (sym (λ i. fault (kn i) (part_cost costs (suc part)) (false_at i))) (dears part 0 lt) in
         let on = on-root graph words costs ok a.by a.agrees (suc part) (omega arith) (omega arith) false_at dear r.cost r.is a.holds (omega (arith, a.cost_is, p.cheap, same, r.sum)) in
         let x = descend graph words costs ok a.by a.agrees (suc part) (omega arith) (omega arith) false_at dear (IsMarked xs)
-        (λ k kids c f g m j i. let y = sum-kid (least_at graph words costs) kids c j (sym (costs-at graph words costs ok k _ f) ∙ g) i in kid-swept k j c y.0 _ f g m i y.1 y.2)
-        (λ k kids c f g m j i t. kid-swept k j c c _ f g m i t (omega arith))
+        (λ k kids c f g m j i. let y = sum-child (least_at graph words costs) kids c j (sym (costs-at graph words costs ok k _ f) ∙ g) i in child-swept k j c y.0 _ f g m i y.1 y.2)
+        (λ k kids c f g m j i t. child-swept k j c c _ f g m i t (omega arith))
         (length graph.nodes) (length graph.nodes - 1) (omega (arith, ok.some)) s.root on in
         (x.node, slice_get_within graph.nodes x.node _ x.is, found x.node x.kids x.is x.marked) where
           found : (k : ℕ) (kids : List ℕ) → slice_get graph.nodes k ≡ Some (record { what = Literal false (suc part); kids = kids }) → IsMarked xs k → suspect_at graph.nodes words (length costs) xs k ≡ Some part

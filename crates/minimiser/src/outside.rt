@@ -1,6 +1,6 @@
 ghost use Rattle.std.specs.Prelude.{◌≡◌, ℕ, ◌+◌, ◌<◌, length, All, slice_index};
 ghost use Rattle.minimiser.specs.inner.Outside.{others_cost, lowered, AreOutsideCosts};
-ghost use Rattle.minimiser.specs.inner.Swept.{is_kid};
+ghost use Rattle.minimiser.specs.inner.Swept.{is_child};
 
 use crate::pass::NONE;
 use node_store::Graph;
@@ -18,7 +18,7 @@ pub fn put_outside_costs(graph: &Graph, values: &[u32], outside: &mut [u32])
     outside[count as usize - 1] = 0;
     for at in (0..count).rev() {
         let rest = outside[at as usize];
-        lower_kids(
+        lower_children(
             graph.what(at),
             values[at as usize],
             rest,
@@ -29,8 +29,8 @@ pub fn put_outside_costs(graph: &Graph, values: &[u32], outside: &mut [u32])
     }
 }
 
-// Lowers what is outside the kids of a node to what it lets the rest cost.
-fn lower_kids(
+// Lowers what is outside the children of a node to what it lets the rest cost.
+fn lower_children(
     what: NodeKind,
     own: u32,
     rest: u32,
@@ -41,7 +41,7 @@ fn lower_kids(
     requires kids { All (λ k. k < length values.now) kids.now }
     requires room { length outside.old ≡ length values.now }
     ensures { (j : ℕ) → j < length outside.old → slice_index outside.new j
-        ≡ lowered (is_kid kids.now j) (rest + others_cost what own (slice_index values.now j)) (slice_index outside.old j) }
+        ≡ lowered (is_child kids.now j) (rest + others_cost what own (slice_index values.now j)) (slice_index outside.old j) }
 {
     for k in kids {
         let below = rest.saturating_add(others_cost(what, own, values[*k as usize]));
@@ -49,12 +49,12 @@ fn lower_kids(
     }
 }
 
-// What the other kids of an And cost, if it and one of its kids cost so much.
-fn others_cost(what: NodeKind, own: u32, kid: u32) -> u32
-    ensures { result ≡ others_cost what own kid }
+// What the other children of an And cost, if it and one of its children cost so much.
+fn others_cost(what: NodeKind, own: u32, child: u32) -> u32
+    ensures { result ≡ others_cost what own child }
 {
     match what {
-        NodeKind::And => own.saturating_sub(kid),
+        NodeKind::And => own.saturating_sub(child),
         NodeKind::Literal { .. } | NodeKind::Or => 0,
     }
 }

@@ -117,7 +117,7 @@ fn node_value(node: &NodeRef<'_>, words: &[u32], costs: &[u32], values: &[u32]) 
     }
 }
 
-// That of a gate over two kids, as most are.
+// That of a gate over two children, as most are.
 //
 // What stands for no cost is the greatest number, so that a sum with it is not below it.
 fn pair_value(what: NodeKind, one: u32, other: u32) -> u32
@@ -131,7 +131,7 @@ fn pair_value(what: NodeKind, one: u32, other: u32) -> u32
     value.min(u64::from(NONE)) as u32
 }
 
-// One of two numbers, by what a gate is. Both are worked out before, so that no branch hangs on it.
+// One of two numbers, by what a gate is. Both are worked out before, so that no branch depends on it.
 fn either(what: NodeKind, of_and: u64, of_or: u64) -> u64
     requires gate { (what ≡ NodeKind.And) ⊎ (what ≡ NodeKind.Or) }
     ensures and { what ≡ NodeKind.And → result ≡ of_and }

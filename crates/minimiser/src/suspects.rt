@@ -79,7 +79,7 @@ pub fn find_suspects(
     }
 }
 
-// Marks the root, and from each marked node on its kids that cost no more. All kids of an And are such, and those of an Or that
+// Marks the root, and from each marked node on its children that cost no more. All children of an And are such, and those of an Or that
 // make it true at its cost.
 fn sweep(graph: &GraphView<'_>, values: &mut [u32])
     requires room { length values.old ≡ length graph.now.nodes }

@@ -36,7 +36,7 @@ digits_rise m n a b c d e f g h i j xs ys p q l =
     (λ u. next_digit d i xs-5 ys-5 (λ k. omega arith)
     (λ v. next_digit e j xs ys (λ k. omega arith) (λ w. absurd (omega arith))))))
 
--- whatever stands behind the digits
+-- whatever is after the digits
 pub five_digits-rise : (m n : ℕ) (xs ys : List ℕ) → m < n → slice_cmp nat_cmp (five_digits m ++ xs) (five_digits n ++ ys) ≡ Less
 five_digits-rise m n xs ys l =
     digits_rise m n (m / 10000) (m / 1000 % 10) (m / 100 % 10) (m / 10 % 10) (m % 10) (n / 10000) (n / 1000 % 10) (n / 100 % 10) (n / 10 % 10) (n % 10)

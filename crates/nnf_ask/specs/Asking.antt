@@ -1,4 +1,4 @@
--- Questions to a graph of which no device is known. Its first variables are parts, true where the part is ok, and all others are
+-- Questions to a graph of which no device is known. Its first variables are parts, true if the part is ok, and all others are
 -- wires. Every failure costs 1.
 use Rattle.std.specs.Prelude.{ℕ, ◌+◌, ◌-◌, ◌/◌, ◌%◌, List, [], ◌∷◌, map, Option, Some, None, Result, Ok, Err, nat_lt, if◌then◌else◌}
 use Rattle.std.specs.List.{range_with_len}
@@ -31,7 +31,7 @@ abbrev pub told : AskError → Option AskError
 told Memory = None
 told error = Some error
 
--- what is asked over a graph, so many of whose variables are parts; nothing is told besides
+-- what is asked over a graph, so many of whose variables are parts; nothing is answered besides
 abbrev pub asked_subject : ℕ → Graph → Subject
 asked_subject health graph = record {
   parts = variable_names 1 health;

@@ -19,7 +19,7 @@ more-than-one : (bs : List Bool) (x : Bool) → not (at_most_one (bs ++ x ∷ []
 more-than-one [] x = grind (arith, nat_tests)
 more-than-one (bit ∷ bs) x = grind (arith, nat_tests, any-push, more-than-one bs x)
 
--- the words of the kids before a place were joined, and then one more
+-- the words of the children before a place were joined, and then one more
 pub both_more : (column kids : List ℕ) (i any twice word : ℕ) → i < length kids → word ≡ get_or column (get_or kids i 0) 0 → IsJoined column (take i kids) any twice
     → IsJoined column (take (i + 1) kids) (bit_or any word) (bit_or twice (bit_and any word))
 both_more column kids i any twice word lt is joined = record {

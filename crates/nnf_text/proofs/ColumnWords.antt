@@ -19,22 +19,22 @@ use Rattle.state_rules.specs.Bits.{has_bit}
 use Rattle.nnf_text.specs.inner.Sharing.{has, IsWord, first_of, IsFirstOf, FirstOf, earlier}
 use Rattle.nnf_text.proofs.Sparse.{find-none_at, find-first_at}
 
--- kids of the node of a number share a variable
+-- children of the node of a number share a variable
 abbrev pub share : List Node → ℕ → ℕ → Bool
 share nodes k v = shares nodes (node_at nodes k) v
 
--- the nodes before a number have their words, and none of them has kids that share
+-- the nodes before a number have their words, and none of them has children that share
 pub record IsMarked (nodes : List Node) (variables : List ℕ) (i : ℕ) (column : List ℕ) : Type 0 where
   pub words : (k b : ℕ) → k < i → b < 64 → has column b k ≡ mentions nodes (get_or variables b 0) k
   pub none : (k b : ℕ) → k < i → b < 64 → share nodes k (get_or variables b 0) ≡ false
 
--- the kids of a node have words
-pub have_words : (vars : ℕ) (nodes : List Node) (i len : ℕ) (kids : List ℕ) → nodes_fit vars 0 nodes ≡ true → i < length nodes → i ≤ len → kids ≡ (node_at nodes i).kids → All (λ kid. kid < len) kids
+-- the children of a node have words
+pub have_words : (vars : ℕ) (nodes : List Node) (i len : ℕ) (kids : List ℕ) → nodes_fit vars 0 nodes ≡ true → i < length nodes → i ≤ len → kids ≡ (node_at nodes i).kids → All (λ child. child < len) kids
 have_words vars nodes i len kids fit inside le is k d h =
     let below = below-each i (node_at nodes i).kids (fits-at vars nodes i fit inside).below in
-    omega (arith, subst (All (λ kid. kid < i)) (sym is) below k d h)
+    omega (arith, subst (All (λ child. child < i)) (sym is) below k d h)
 
--- the word of a node, by what it is and its kids
+-- the word of a node, by what it is and its children
 pub IsWord-of : (column kids : List ℕ) (what : NodeKind) (node : Node) (variables : List ℕ) (word twice : ℕ) → what ≡ node.what → kids ≡ node.kids → IsWord column what kids variables word twice → IsWord column node.what node.kids variables word twice
 IsWord-of column kids what node variables word twice e f is = subst (λ ks. IsWord column node.what ks variables word twice) f (subst (λ w. IsWord column w kids variables word twice) e is)
 
@@ -62,7 +62,7 @@ module _ (vars : ℕ) (nodes : List Node) (variables : List ℕ) (i : ℕ) (colu
   before_or_here : (k : ℕ) → k < i + 1 → (k < i) ⊎ (k ≡ i)
   before_or_here k h = elim (cases_lt k i) [ inl below ↦ inl below | inr not_below ↦ inr (omega arith) ]
 
-  -- the next node has no kids that share
+  -- the next node has no children that share
   pub marked_more : twice ≡ 0 → IsMarked nodes variables (i + 1) (set column i word)
   marked_more zero_twice = grind (arith, nat_tests, word-at, before_or_here, none-at)
 
@@ -87,7 +87,7 @@ module _ (vars : ℕ) (nodes : List Node) (variables : List ℕ) (i : ℕ) (colu
       before = λ k h. find-none_at (share nodes k) variables (λ b g. marked.none k b h (omega arith));
     }
 
--- no node has kids that share
+-- no node has children that share
 pub marked_all : (nodes : List Node) (variables : List ℕ) (i : ℕ) (column : List ℕ) → length variables ≤ 64 → length nodes ≤ i → IsMarked nodes variables i column → FirstOf nodes variables None
 marked_all nodes variables i column short past marked k h = find-none_at (share nodes k) variables (λ b g. marked.none k b (omega arith) (omega arith))
 

@@ -14,7 +14,7 @@ text (l ∷ ls) = l ++ (10 ∷ text ls)
 abbrev either : Graph
 either = record { nodes = literal_node 1 true ∷ literal_node 1 false ∷ record { what = Or; kids = 0 ∷ 1 ∷ [] } ∷ []; vars = 1 }
 
--- the number behind O is left out
+-- the number after O is left out
 an_or : parsed (text (map codes ("nnf 3 2 1" ∷ "L 1" ∷ "L -1" ∷ "O 1 2 0 1" ∷ []))) ≡ Ok either
 an_or = refl
 
@@ -33,8 +33,8 @@ variable = refl
 no_form : parsed (text (map codes ("nnf 1 0 1" ∷ "X 1" ∷ []))) ≡ Err (AtLine 2 WrongLine)
 no_form = refl
 
-many_kids : parsed (text (map codes ("nnf 1 0 1" ∷ "A 4294967295 0" ∷ []))) ≡ Err (AtLine 2 WrongLine)
-many_kids = refl
+many_children : parsed (text (map codes ("nnf 1 0 1" ∷ "A 4294967295 0" ∷ []))) ≡ Err (AtLine 2 WrongLine)
+many_children = refl
 
 great_header : parsed (text (map codes ("nnf 4294967296 0 1" ∷ "A 0" ∷ []))) ≡ Err NoHeader
 great_header = refl
@@ -54,8 +54,8 @@ over_more_variables = refl
 shared : read_graph (text (map codes ("nnf 3 2 1" ∷ "L 1" ∷ "L -1" ∷ "A 2 0 1" ∷ []))) ≡ Err (Shared 2 1)
 shared = refl
 
-a_kid_named_twice : read_graph (text (map codes ("nnf 2 2 1" ∷ "L 1" ∷ "A 2 0 0" ∷ []))) ≡ Err (Shared 1 1)
-a_kid_named_twice = refl
+a_child_named_twice : read_graph (text (map codes ("nnf 2 2 1" ∷ "L 1" ∷ "A 2 0 0" ∷ []))) ≡ Err (Shared 1 1)
+a_child_named_twice = refl
 
 too_large : read_graph (text (map codes ("nnf 1 0 2147483649" ∷ "A 0" ∷ []))) ≡ Err (TooLarge 2147483649)
 too_large = refl
@@ -75,7 +75,7 @@ no_nodes_said = refl
 line_behind_blank_ones : read_graph (text (map codes ("" ∷ "nnf 1 0 1" ∷ " " ∷ "" ∷ "L 1 1" ∷ []))) ≡ Err (AtLine 5 WrongLine)
 line_behind_blank_ones = refl
 
--- the form is told before a child
+-- the form is reported before a child
 form_before_child : read_graph (text (map codes ("nnf 1 0 1" ∷ "A 3 7" ∷ []))) ≡ Err (AtLine 2 WrongLine)
 form_before_child = refl
 
@@ -103,7 +103,7 @@ most_variables = refl
 accepted_false : read_graph (text (map codes ("nnf 1 0 0" ∷ "O 0 0" ∷ []))) ≡ Ok (record { nodes = false_node ∷ []; vars = 0 })
 accepted_false = refl
 
--- zeros before a number, and what stands behind O
+-- zeros before a number, and what is after O
 accepted_spellings : read_graph (text (map codes ("nnf 02 0000000000000000001 01" ∷ "L 0000000001" ∷ "O 4294967295 1 00" ∷ [])))
     ≡ Ok (record { nodes = literal_node 1 true ∷ record { what = Or; kids = 0 ∷ [] } ∷ []; vars = 1 })
 accepted_spellings = refl

@@ -22,14 +22,14 @@ module _ (vars line : ℕ) (done : List Node) (ws : List (List ℕ)) (node : Nod
       → nodes_behind vars done ((line, ws) ∷ []) ≡ read_unless (record { nodes = done ++ node ∷ []; vars = vars }) (cons_option (fault_at line fault) [])
   line-node fault e = ap (by_node vars line done) is ∙ ap (λ f. read_unless (record { nodes = done ++ node ∷ []; vars = vars }) (cons_option (fault_at line f) [])) e
 
-  pub line-child : list_all (λ kid. nat_lt kid (length done)) node.kids ≡ false → nodes_behind vars done ((line, ws) ∷ []) ≡ Err (AtLine line WrongChild)
+  pub line-child : list_all (λ child. nat_lt child (length done)) node.kids ≡ false → nodes_behind vars done ((line, ws) ∷ []) ≡ Err (AtLine line WrongChild)
   line-child late = line-node (Some WrongChild) (cond-true _ _ _ (not_from_false _ late))
 
-  pub line-right : list_all (λ kid. nat_lt kid (length done)) node.kids ≡ true → variable_fits vars node.what ≡ true
+  pub line-right : list_all (λ child. nat_lt child (length done)) node.kids ≡ true → variable_fits vars node.what ≡ true
       → nodes_behind vars done ((line, ws) ∷ []) ≡ Ok (record { nodes = done ++ node ∷ []; vars = vars })
   line-right early fits = line-node None (cond-false _ _ _ (ap not early) ∙ cond-true _ _ _ fits)
 
--- ---- the lines behind it
+-- ---- the lines after it
 
 module _ (vars number : ℕ) (done : List Node) (lines : List (List ℕ)) where
   -- the lines that follow

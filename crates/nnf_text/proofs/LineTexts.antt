@@ -8,13 +8,13 @@ use Rattle.text_rules.specs.Tokens.{spaced}
 use Rattle.state_rules.specs.Graphs.{Node, edges}
 use Rattle.state_rules.specs.declared.nodes.NodeKind.TheVariants.{And, Or}
 use Rattle.diag_edge.proofs.Added.{spaced-first}
-use Rattle.nnf_text.specs.WrittenGraphs.{kid_words, kind_words, node_words, graph_text}
+use Rattle.nnf_text.specs.WrittenGraphs.{child_words, kind_words, node_words, graph_text}
 
--- a word, numbers that stand behind a space each, and a line feed
+-- a word, numbers that are after a space each, and a line feed
 pub listed-spaced : (w : List ℕ) (ns : List ℕ) → w ++ (flat_map (λ n. 32 ∷ decimal n) ns ++ 10 ∷ []) ≡ spaced (w ∷ map decimal ns)
 listed-spaced w ns = ap (λ t. w ++ (t ++ 10 ∷ [])) (sym (flat_map-map (λ word. 32 ∷ word) decimal ns)) ∙ spaced-first w (map decimal ns)
 
-counted-spaced : (w kids : List ℕ) → w ++ ((32 ∷ decimal (length kids)) ++ (flat_map (λ n. 32 ∷ decimal n) kids ++ 10 ∷ [])) ≡ spaced (w ∷ kid_words kids)
+counted-spaced : (w kids : List ℕ) → w ++ ((32 ∷ decimal (length kids)) ++ (flat_map (λ n. 32 ∷ decimal n) kids ++ 10 ∷ [])) ≡ spaced (w ∷ child_words kids)
 counted-spaced w kids = grind (arith, nat_tests, append_assoc, listed-spaced)
 
 pub and-spaced : (kids : List ℕ) → codes "A" ++ ((32 ∷ decimal (length kids)) ++ (flat_map (λ n. 32 ∷ decimal n) kids ++ 10 ∷ [])) ≡ spaced (kind_words And kids)

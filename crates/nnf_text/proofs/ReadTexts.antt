@@ -17,7 +17,7 @@ use Rattle.nnf_text.proofs.Options.{none≢some}
 
 -- ---- the node of a line
 
--- a literal has no kids, and no node has more than a count can say
+-- a literal has no children, and no node has more than a count can say
 record IsShaped (node : Node) : Type 0 where
   few : length node.kids < CHILD_LIMIT
   literal : (v : ℕ) (positive : Bool) → node.what ≡ Literal positive v → node.kids ≡ []

@@ -20,7 +20,7 @@ use Rattle.state_rules.specs.declared.nodes.TheConstants.{CHILD_LIMIT}
 use Rattle.state_rules.proofs.NodeValues.{are_below}
 use Rattle.state_rules.proofs.NodesFit.{Fits, fits}
 use Rattle.nnf_text.specs.GraphTexts.{small_number, great_number, numbers, literal_of, literal_with, counted, node_of, node_fault, line_fault, node_at_line, has_words, filled_lines, header_of, differs, Refusal, Parsed, read_unless, parsed}
-use Rattle.nnf_text.specs.WrittenGraphs.{literal_word, kid_words, kind_words, node_words, header_words, graph_text}
+use Rattle.nnf_text.specs.WrittenGraphs.{literal_word, child_words, kind_words, node_words, header_words, graph_text}
 
 -- ---- numbers
 
@@ -44,7 +44,7 @@ digits_word w some all = grind (arith, nat_tests, and_from, passes_too, digit_in
 pub decimal-is_line_word : (n : ℕ) → n < 2 ^ 64 → is_line_word (decimal n) ≡ true
 decimal-is_line_word n h = digits_word (decimal n) (decimal_nonempty n h) (decimal_digits n h)
 
--- the same behind a minus sign
+-- the same after a minus sign
 minus_word : (w : List ℕ) → is_line_word w ≡ true → is_line_word (45 ∷ w) ≡ true
 minus_word w word = grind (arith, nat_tests, and_parts, and_from)
 
@@ -58,10 +58,10 @@ numbers-decimal : (ns : List ℕ) → are_small ns ≡ true → numbers (map dec
 numbers-decimal [] all = refl
 numbers-decimal (n ∷ ns) all = grind (arith, nat_tests, and_parts, small_number-decimal, ltb-true, numbers-decimal ns)
 
-counted-kids : (kind : NodeKind) (kids : List ℕ) → length kids < 2 ^ 32 → are_small kids ≡ true → counted kind (numbers (kid_words kids)) ≡ Some (record { what = kind; kids = kids })
+counted-kids : (kind : NodeKind) (kids : List ℕ) → length kids < 2 ^ 32 → are_small kids ≡ true → counted kind (numbers (child_words kids)) ≡ Some (record { what = kind; kids = kids })
 counted-kids kind kids few small = grind (arith, nat_tests, small_number-decimal, numbers-decimal, cond-true, eq-eqb)
 
-node_of-and : (kids : List ℕ) → node_of (codes "A" ∷ kid_words kids) ≡ counted And (numbers (kid_words kids))
+node_of-and : (kids : List ℕ) → node_of (codes "A" ∷ child_words kids) ≡ counted And (numbers (child_words kids))
 node_of-and kids = grind (arith, nat_tests)
 
 literal_of-digits : (w : List ℕ) → 0 < length w → list_all is_digit w ≡ true → literal_of w ≡ literal_with true (small_number w)
@@ -110,7 +110,7 @@ numbers-are_words : (ns : List ℕ) → are_small ns ≡ true → list_all is_li
 numbers-are_words [] all = refl
 numbers-are_words (n ∷ ns) all = grind (arith, nat_tests, and_parts, ltb-true, and_from, decimal-is_line_word, numbers-are_words ns)
 
-kids-are_words : (kids : List ℕ) → length kids < 2 ^ 32 → are_small kids ≡ true → list_all is_line_word (kid_words kids) ≡ true
+kids-are_words : (kids : List ℕ) → length kids < 2 ^ 32 → are_small kids ≡ true → list_all is_line_word (child_words kids) ≡ true
 kids-are_words kids few small = and_from _ _ (decimal-is_line_word (length kids) (omega arith)) (numbers-are_words kids small)
 
 module _ (vars own : ℕ) (few : own < 2 ^ 32) (vars_fit : vars < 2 ^ 32) where

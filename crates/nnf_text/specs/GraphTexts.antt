@@ -58,7 +58,7 @@ counted kind None = None
 counted kind (Some []) = None
 counted kind (Some (c ∷ kids)) = if c == length kids then Some (record { what = kind; kids = kids }) else None
 
--- nothing is drawn from the number behind O
+-- nothing is drawn from the number after O
 abbrev pub or_of : Option ℕ → List (List ℕ) → Option Node
 or_of None ws = None
 or_of (Some j) ws = counted Or (numbers ws)
@@ -88,7 +88,7 @@ pub data LineFault : Type 0 where
 abbrev pub node_fault : ℕ → ℕ → Option Node → Option LineFault
 node_fault vars own None = Some WrongLine
 node_fault vars own (Some node) =
-    if not (list_all (λ kid. nat_lt kid own) node.kids) then Some WrongChild
+    if not (list_all (λ child. nat_lt child own) node.kids) then Some WrongChild
     else (if variable_fits vars node.what then None else Some WrongVariable)
 
 -- Refusals: no header, a line with its fault, numbers that are not those said, too many bits, and a variable shared by
@@ -145,12 +145,12 @@ parsed_lines (first ∷ rest) = parsed_below rest (header_of first.1)
 abbrev pub parsed : List ℕ → Parsed
 parsed text = parsed_lines (filled_lines text)
 
--- the node of this number, where its kids share this variable
+-- the node of this number, if its children share this variable
 abbrev pub shared_at : ℕ → Option ℕ → Option Refusal
 shared_at own None = None
 shared_at own (Some v) = Some (Shared own v)
 
--- the least variable that kids of a node share
+-- the least variable that children of a node share
 abbrev pub node_shared : Graph → ℕ × Node → Option Refusal
 node_shared graph n = shared_at n.0 (find (shares graph.nodes n.1) (range_with_len 1 graph.vars))
 

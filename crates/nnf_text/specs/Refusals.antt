@@ -1,4 +1,4 @@
--- Which refusal of a text an error tells.
+-- Which refusal of a text an error says.
 use Rattle.std.specs.Prelude.{Option, Some, None}
 use Rattle.nnf_text.specs.GraphTexts as refusals
 use Rattle.nnf_text.specs.GraphTexts.{Refusal}

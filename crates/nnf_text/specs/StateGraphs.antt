@@ -20,7 +20,7 @@ abbrev pub all_same : List Bool → Bool
 all_same [] = true
 all_same (b ∷ bs) = list_all (same_bit b) bs
 
--- an or has a variable below all of its kids or below none
+-- an or has a variable below all of its children or below none
 abbrev pub smooth_at : (ℕ → Bool) → NodeKind → List ℕ → Bool
 smooth_at mentioned (Literal positive var) kids = true
 smooth_at mentioned And kids = true
@@ -29,7 +29,7 @@ smooth_at mentioned Or kids = all_same (map mentioned kids)
 abbrev pub Smooth : List Node → Type 0
 Smooth nodes = (v : ℕ) → AllByRecursion (λ node. smooth_at (mentions nodes v) node.what node.kids ≡ true) nodes
 
--- a graph of these states that is smooth, and where there is a state has each part below its last node
+-- a graph of these states that is smooth, and if there is a state has each part below its last node
 abbrev pub IsSmoothGraphOfStates : ℕ → List (List Bool) → Parsed → Type 0
 IsSmoothGraphOfStates parts states (Err refusal) = ⊥
 IsSmoothGraphOfStates parts states (Ok graph) =

@@ -6,20 +6,20 @@ use Rattle.state_rules.specs.declared.nodes.NodeKind.{NodeKind}
 use Rattle.state_rules.specs.declared.nodes.NodeKind.TheVariants.{Literal, And, Or}
 use Rattle.state_rules.specs.Graphs.{Node, Graph, edges}
 
--- a variable, behind a minus sign where it is negated
+-- a variable, after a minus sign where it is negated
 abbrev pub literal_word : Bool → ℕ → List ℕ
 literal_word true var = decimal var
 literal_word false var = 45 ∷ decimal var
 
--- how many kids there are, and then each
-abbrev pub kid_words : List ℕ → List (List ℕ)
-kid_words kids = decimal (length kids) ∷ map decimal kids
+-- how many children there are, and then each
+abbrev pub child_words : List ℕ → List (List ℕ)
+child_words kids = decimal (length kids) ∷ map decimal kids
 
--- the number behind O is always 0
+-- the number after O is always 0
 abbrev pub kind_words : NodeKind → List ℕ → List (List ℕ)
 kind_words (Literal positive var) kids = codes "L" ∷ literal_word positive var ∷ []
-kind_words And kids = codes "A" ∷ kid_words kids
-kind_words Or kids = codes "O" ∷ codes "0" ∷ kid_words kids
+kind_words And kids = codes "A" ∷ child_words kids
+kind_words Or kids = codes "O" ∷ codes "0" ∷ child_words kids
 
 abbrev pub node_words : Node → List (List ℕ)
 node_words node = kind_words node.what node.kids

@@ -38,8 +38,8 @@ pub fn add_node<O: Sink>(
 {
     match kind {
         NodeKind::Literal { var, positive } => add_literal(chunk, out, var, positive),
-        NodeKind::And => add_kids(chunk, out, b"A", kids),
-        NodeKind::Or => add_kids(chunk, out, b"O 0", kids),
+        NodeKind::And => add_children(chunk, out, b"A", kids),
+        NodeKind::Or => add_children(chunk, out, b"O 0", kids),
     }
 }
 
@@ -90,7 +90,7 @@ fn add_end<O: Sink>(chunk: &mut Chunk, out: &mut O, number: u32) -> Result<(), W
 
 // Adds a line: a text, how many children there are, and each of them.
 #[tactic(auto, using(diag_edge::proofs::Added::adds_on))]
-fn add_kids<O: Sink>(
+fn add_children<O: Sink>(
     chunk: &mut Chunk,
     out: &mut O,
     text: &[u8],
@@ -98,26 +98,26 @@ fn add_kids<O: Sink>(
 ) -> Result<(), WriteFailed>
     ensures bytes { Adds (O.got out.old) (O.got out.new) chunk.old chunk.new result
         (text.now ++ ((32 ∷ decimal (length kids.now))
-        ++ (flat_map (λ kid. 32 ∷ decimal kid) kids.now ++ 10 ∷ []))) }
+        ++ (flat_map (λ child. 32 ∷ decimal child) kids.now ++ 10 ∷ []))) }
     ensures cause { HasCause (O.faults out.old) (O.faults out.new) result }
 {
     chunk.add(out, text)?;
     add_counted(chunk, out, kids)
 }
 
-// Adds how many children there are and each of them, each number behind a space, and a line feed.
+// Adds how many children there are and each of them, each number after a space, and a line feed.
 #[tactic(auto, using(diag_edge::proofs::Added::adds_on))]
 fn add_counted<O: Sink>(chunk: &mut Chunk, out: &mut O, kids: &[u32]) -> Result<(), WriteFailed>
     ensures bytes { Adds (O.got out.old) (O.got out.new) chunk.old chunk.new result
         ((32 ∷ decimal (length kids.now))
-        ++ (flat_map (λ kid. 32 ∷ decimal kid) kids.now ++ 10 ∷ [])) }
+        ++ (flat_map (λ child. 32 ∷ decimal child) kids.now ++ 10 ∷ [])) }
     ensures cause { HasCause (O.faults out.old) (O.faults out.new) result }
 {
     chunk.add_count(out, kids.len() as u64)?;
     add_listed(chunk, out, kids)
 }
 
-// Adds numbers, each behind a space, and a line feed.
+// Adds numbers, each after a space, and a line feed.
 #[tactic(auto, using(diag_edge::proofs::Added::adds_on))]
 fn add_listed<O: Sink, I: Integer>(
     chunk: &mut Chunk,
@@ -132,7 +132,7 @@ fn add_listed<O: Sink, I: Integer>(
     chunk.add(out, b"\n")
 }
 
-// Adds numbers, each behind a space.
+// Adds numbers, each after a space.
 #[tactic(auto, using(diag_edge::proofs::Added::adds_each))]
 fn add_each<O: Sink, I: Integer>(
     chunk: &mut Chunk,

@@ -8,7 +8,7 @@ ghost use Rattle.nnf_text.specs.Refusals.{told};
 ghost use Rattle.nnf_text.specs.inner.Reading.{node_with, childless, filled_from, nodes_behind};
 
 use crate::error::NnfError;
-use crate::numbers::{over_kids, small_number};
+use crate::numbers::{over_children, small_number};
 use node_store::Nodes;
 use state_rules::NodeKind;
 use std::alloc::AllocError;
@@ -32,7 +32,7 @@ fn literal_of(word: &[u8]) -> Option<NodeKind>
     }
 }
 
-// The literal of what stands behind `L`.
+// The literal of what is after `L`.
 fn read_literal(mut words: Tokens<'_>) -> Option<NodeKind>
     ensures { option_map childless result ≡ node_of (codes "L" ∷ tokens_left words.entry) }
 {
@@ -43,7 +43,7 @@ fn read_literal(mut words: Tokens<'_>) -> Option<NodeKind>
     literal_of(word)
 }
 
-// The or of what stands behind `O`, over `kids`.
+// The or of what is after `O`, over `kids`.
 fn read_or(kids: &mut Vec<u32>, mut words: Tokens<'_>) -> Result<Option<NodeKind>, AllocError>
     ensures { IfOk result (λ kind. option_map (node_with kids.new.items) kind
         ≡ node_of (codes "O" ∷ tokens_left words.entry)) }
@@ -53,7 +53,7 @@ fn read_or(kids: &mut Vec<u32>, mut words: Tokens<'_>) -> Result<Option<NodeKind
     };
     match small_number(first) {
         None => Ok(None),
-        Some(_) => over_kids(NodeKind::Or, kids, words),
+        Some(_) => over_children(NodeKind::Or, kids, words),
     }
 }
 
@@ -67,7 +67,7 @@ fn node_of(kids: &mut Vec<u32>, mut words: Tokens<'_>) -> Result<Option<NodeKind
             kids.clear();
             Ok(read_literal(words))
         }
-        Some(b"A") => over_kids(NodeKind::And, kids, words),
+        Some(b"A") => over_children(NodeKind::And, kids, words),
         Some(b"O") => read_or(kids, words),
         _ => Ok(None),
     }
@@ -75,9 +75,9 @@ fn node_of(kids: &mut Vec<u32>, mut words: Tokens<'_>) -> Result<Option<NodeKind
 
 // Whether all children are nodes before this one.
 fn are_earlier(own: u32, kids: &[u32]) -> bool
-    ensures { result ≡ list_all (λ kid. nat_lt kid own) kids.now }
+    ensures { result ≡ list_all (λ child. nat_lt child own) kids.now }
 {
-    kids.iter().all(|kid| *kid < own)
+    kids.iter().all(|child| *child < own)
 }
 
 // Whether the variable of a literal is there.

@@ -32,7 +32,7 @@ pub(crate) fn great_number(word: &[u8]) -> Option<u64>
     number(GREAT_DIGITS, 0, u64::MAX, word)
 }
 
-// Makes `kids` the numbers of words up to the first word that is none, and tells whether there is none such.
+// Makes `kids` the numbers of words up to the first word that is none, and says whether there is none such.
 fn read_numbers(kids: &mut Vec<u32>, words: Tokens<'_>) -> Result<bool, AllocError>
     ensures { IfOk result (λ all. numbers (tokens_left words.entry)
         ≡ (if all then Some kids.new.items else None)) }
@@ -48,7 +48,7 @@ fn read_numbers(kids: &mut Vec<u32>, words: Tokens<'_>) -> Result<bool, AllocErr
 }
 
 // What is said to be over children, where words say how many there are and then each; these are then `kids`.
-pub(crate) fn over_kids(
+pub(crate) fn over_children(
     what: NodeKind,
     kids: &mut Vec<u32>,
     mut words: Tokens<'_>,

@@ -38,7 +38,7 @@ fn add_range_end<O: Sink>(
     chunk.add(out, b"\n")
 }
 
-// Adds so many numbers from a first one on, each behind a space.
+// Adds so many numbers from a first one on, each after a space.
 fn add_range<O: Sink>(
     chunk: &mut Chunk,
     out: &mut O,

@@ -32,7 +32,7 @@ fn first_header(lines: &mut Lines<'_>) -> Option<(Header, u32)>
     None
 }
 
-// The nodes of the lines behind so many others.
+// The nodes of the lines after so many others.
 fn nodes_in(alloc: Global, vars: u32, above: u32, lines: Lines<'_>) -> Result<Nodes, NnfError>
     requires { above + length (all_lines lines) ≤ TEXT_LIMIT }
     ensures { Fulfils (λ nodes. record { nodes = nodes; vars = vars }) told

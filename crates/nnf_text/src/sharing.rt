@@ -92,7 +92,7 @@ fn mark(nodes: &Nodes, variables: &[u32], column: &mut [u64]) -> Option<(u32, u3
 
 // The variables that a node mentions, and those that two of its children do.
 fn word_of(what: NodeKind, kids: &[u32], variables: &[u32], column: &[u64]) -> (u64, u64)
-    requires kids { All (λ kid. kid < length column.now) kids.now }
+    requires kids { All (λ child. child < length column.now) kids.now }
     requires fits { (vars : ℕ) × (kind_fits vars what kids.now ≡ true) }
     requires rise { IsStrictlyIncreasing variables.now }
     requires short { length variables.now ≤ WIDTH }
@@ -120,13 +120,13 @@ fn literal_word(var: u32, variables: &[u32]) -> u64
 
 // The bits that some word of the children has, and those that two of them have.
 fn joined(column: &[u64], kids: &[u32]) -> (u64, u64)
-    requires { All (λ kid. kid < length column.now) kids.now }
+    requires { All (λ child. child < length column.now) kids.now }
     ensures { IsJoined column.now kids.now result.0 result.1 }
 {
     let mut any = 0;
     let mut twice = 0;
-    for kid in kids {
-        let word = column[*kid as usize];
+    for child in kids {
+        let word = column[*child as usize];
         twice |= any & word;
         any |= word;
     }

@@ -80,7 +80,7 @@ module _ (limit : ℕ) where
         (record { left = s.left; right = s.right; on_left = is_c.whole s.left (omega (arith, s.sum_is)) s.on_left; on_right = is_d.whole s.right (omega (arith, s.sum_is)) s.on_right; sum_is = s.sum_is });
   }
 
-  -- a bit of a variable more, where it is allowed
+  -- a bit of a variable more, if it is allowed
   pub row-bit : (g : Weights) (var : ℕ) (bit : Bool) (left : ℕ → Bool) (C : ℕ → Type 0) → IsRow left limit C
       → IsRow (λ n. agrees_at (g.known var) bit && (nat_le (g.weight var bit) n && left (n - g.weight var bit))) limit (SumOf C (LiteralCost g var bit))
   row-bit g var bit left C is = record {

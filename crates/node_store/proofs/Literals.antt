@@ -95,7 +95,7 @@ literals_store vars nodes e few once = record {
   few_vars = few;
 }
 
--- what stands at the place of a literal
+-- what is at the place of a literal
 pub record IsLiteral (nodes : List Node) (at var : ℕ) (positive : Bool) : Type 0 where
   pub there : slice_get nodes at ≡ Some (literal_node var positive)
   pub truth : (a : Assignment) → is_true nodes at a ≡ same_bit positive (a var)

@@ -15,8 +15,8 @@ use Rattle.node_store.specs.Stores.{Stored, IsStore, EachOnce, AddsAtMost, liter
 pub IsStore-add : (old : Stored) (nodes : List Node) (node : Node) → IsStore old → AddsAtMost old.nodes node nodes → EachOnce nodes → node_fits old.vars (length old.nodes) node ≡ true
     → ((v : ℕ) → apart_at (mentions old.nodes v) node.what node.kids ≡ true) → old.made < MADE_LIMIT → length node.kids < CHILD_LIMIT
     → IsStore (record { nodes = nodes; vars = old.vars; made = old.made + 1; handed = old.handed + length node.kids })
-IsStore-add old nodes node is (inl e) once fits apart few few_kids = grind arith
-IsStore-add old nodes node is (inr e) once fits apart few few_kids = record {
+IsStore-add old nodes node is (inl e) once fits apart few few_children = grind arith
+IsStore-add old nodes node is (inr e) once fits apart few few_children = record {
   nodes = subst (AreNodes old.vars) (sym e) (AreNodes-push old.vars old.nodes node is.nodes fits apart);
   once = once;
   literals = λ v positive some within. ap (λ ns. slice_get ns (literal_place v positive)) e ∙ slice_get-before old.nodes (node ∷ []) (literal_place v positive) (literal_node v positive) (is.literals v positive some within);

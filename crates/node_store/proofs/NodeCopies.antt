@@ -14,11 +14,11 @@ use Rattle.state_rules.specs.declared.nodes.NodeKind.TheVariants.{Literal, And, 
 use Rattle.state_rules.specs.Graphs.{Node, truth_by, mention_by, is_true, mentions, at_most_one, apart_at, kind_fits, node_fits, AreNodes, IsGraph, edges}
 use Rattle.state_rules.proofs.NodeValues.{below-each, value_of-get, value_of-last, value_of-before}
 use Rattle.state_rules.proofs.NodesFit.{fits-get, apart-get, AreNodes-push}
-use Rattle.node_store.specs.Stores.{Stored, EachOnce, IsStore, IsUsed, is_bare, HasNoBareKid, IsFrozen}
-use Rattle.node_store.specs.inner.Freezing.{AreBefore, IsClosed, IsKidOfMarked, IsBelow, IsCopy, IsCopied}
+use Rattle.node_store.specs.Stores.{Stored, EachOnce, IsStore, IsUsed, is_bare, HasNoBareChild, IsFrozen}
+use Rattle.node_store.specs.inner.Freezing.{AreBefore, IsClosed, IsChildOfMarked, IsBelow, IsCopy, IsCopied}
 use Rattle.node_store.proofs.NodesBelow.{the_at}
 
--- kids come before
+-- children come before
 pub before : (vars : ℕ) (nodes : List Node) → AreNodes vars nodes → AreBefore nodes
 before vars nodes are i node there = below-each i node.kids (fits-get vars nodes i node are.fit there).below
 
@@ -38,7 +38,7 @@ copy-more nodes copies node k number is = record {
   variables = λ v. value_of-before (mention_by v) copies node number is.within ∙ is.variables v;
 }
 
--- kids that come before a place have the same numbers
+-- children that come before a place have the same numbers
 map_same : (at : ℕ) (ks : List ℕ) (f g : ℕ → ℕ) → All (λ k. k < at) ks → ((k : ℕ) → k < at → f k ≡ g k) → map f ks ≡ map g ks
 map_same at [] f g lt same = refl
 map_same at (k ∷ ks) f g lt same = λ j. same k (lt 0 0 (omega arith)) j ∷ map_same at ks f g (λ i d h. lt (suc i) d (omega arith)) same j
@@ -73,13 +73,13 @@ module _ (vars : ℕ) (nodes : List Node) (marks : List Bool) (copies : List Nod
     by k m (inr e) = absurd (clash (bit_in marks k) m (ap (bit_in marks) e ∙ unmarked))
 
   module _ (node : Node) (kids : List ℕ) (are : AreNodes vars nodes) (closed : IsClosed nodes marks) (there : slice_get nodes at ≡ Some node) (marked : bit_in marks at ≡ true) (renumbered : kids ≡ map (slice_index numbers) node.kids) where
-    kids_same : (ks : List ℕ) (f g : ℕ → Bool) → All (λ k. k < at) ks → All (λ k. bit_in marks k ≡ true) ks → ((k : ℕ) → k < at → bit_in marks k ≡ true → f (slice_index numbers k) ≡ g k) → map f (map (slice_index numbers) ks) ≡ map g ks
-    kids_same [] f g lt m same = refl
-    kids_same (k ∷ ks) f g lt m same = λ j. same k (lt 0 0 (omega arith)) (m 0 0 (omega arith)) j ∷ kids_same ks f g (λ i d h. lt (suc i) d (omega arith)) (λ i d h. m (suc i) d (omega arith)) same j
+    children_same : (ks : List ℕ) (f g : ℕ → Bool) → All (λ k. k < at) ks → All (λ k. bit_in marks k ≡ true) ks → ((k : ℕ) → k < at → bit_in marks k ≡ true → f (slice_index numbers k) ≡ g k) → map f (map (slice_index numbers) ks) ≡ map g ks
+    children_same [] f g lt m same = refl
+    children_same (k ∷ ks) f g lt m same = λ j. same k (lt 0 0 (omega arith)) (m 0 0 (omega arith)) j ∷ children_same ks f g (λ i d h. lt (suc i) d (omega arith)) (λ i d h. m (suc i) d (omega arith)) same j
 
-    kids_within : (ks : List ℕ) → All (λ k. k < at) ks → All (λ k. bit_in marks k ≡ true) ks → list_all (λ kid. nat_lt kid (length copies)) (map (slice_index numbers) ks) ≡ true
-    kids_within [] lt m = refl
-    kids_within (k ∷ ks) lt m = λ j. lt-ltb (slice_index numbers k) (length copies) (is.same k (lt 0 0 (omega arith)) (m 0 0 (omega arith))).within j && kids_within ks (λ i d h. lt (suc i) d (omega arith)) (λ i d h. m (suc i) d (omega arith)) j
+    children_within : (ks : List ℕ) → All (λ k. k < at) ks → All (λ k. bit_in marks k ≡ true) ks → list_all (λ child. nat_lt child (length copies)) (map (slice_index numbers) ks) ≡ true
+    children_within [] lt m = refl
+    children_within (k ∷ ks) lt m = λ j. lt-ltb (slice_index numbers k) (length copies) (is.same k (lt 0 0 (omega arith)) (m 0 0 (omega arith))).within j && children_within ks (λ i d h. lt (suc i) d (omega arith)) (λ i d h. m (suc i) d (omega arith)) j
 
     kind_same : (what : NodeKind) (ks : List ℕ) → kind_fits vars what ks ≡ true → kind_fits vars what (map (slice_index numbers) ks) ≡ true
     kind_same what ks e = grind (arith, length-map)
@@ -87,16 +87,16 @@ module _ (vars : ℕ) (nodes : List Node) (marks : List Bool) (copies : List Nod
     lt_at : All (λ k. k < at) node.kids
     lt_at = before vars nodes are at node there
 
-    marked_kids : All (λ k. bit_in marks k ≡ true) node.kids
-    marked_kids = closed at node (omega arith) marked there
+    marked_children : All (λ k. bit_in marks k ≡ true) node.kids
+    marked_children = closed at node (omega arith) marked there
 
     fits : node_fits vars (length copies) (record { what = node.what; kids = kids }) ≡ true
     fits = subst (λ ks. node_fits vars (length copies) (record { what = node.what; kids = ks }) ≡ true) (sym renumbered)
-        (and_from _ _ (kids_within node.kids lt_at marked_kids) (kind_same node.what node.kids (fits-get vars nodes at node are.fit there).kind))
+        (and_from _ _ (children_within node.kids lt_at marked_children) (kind_same node.what node.kids (fits-get vars nodes at node are.fit there).kind))
 
     apart : (v : ℕ) → apart_at (mentions copies v) node.what kids ≡ true
     apart v =
-        let maps : map (mentions nodes v) node.kids ≡ map (mentions copies v) kids = sym (ap (map (mentions copies v)) renumbered ∙ kids_same node.kids (mentions copies v) (mentions nodes v) lt_at marked_kids (λ k h m. (is.same k h m).variables v)) in
+        let maps : map (mentions nodes v) node.kids ≡ map (mentions copies v) kids = sym (ap (map (mentions copies v)) renumbered ∙ children_same node.kids (mentions copies v) (mentions nodes v) lt_at marked_children (λ k h m. (is.same k h m).variables v)) in
         by node.what maps (apart-get (mentions nodes v) nodes at node (are.apart v) there) where
           by : (what : NodeKind) → map (mentions nodes v) node.kids ≡ map (mentions copies v) kids → apart_at (mentions nodes v) what node.kids ≡ true → apart_at (mentions copies v) what kids ≡ true
           by (Literal positive var) e h = refl
@@ -107,10 +107,10 @@ module _ (vars : ℕ) (nodes : List Node) (marks : List Bool) (copies : List Nod
     new_copy = record {
       within = omega (arith, length-append copies (record { what = node.what; kids = kids } ∷ []));
       truth = λ a. value_of-last (truth_by a) copies (record { what = node.what; kids = kids })
-          ∙ ap (truth_by a node.what) (ap (map (λ k. is_true copies k a)) renumbered ∙ kids_same node.kids (λ k. is_true copies k a) (λ k. is_true nodes k a) lt_at marked_kids (λ k h m. (is.same k h m).truth a))
+          ∙ ap (truth_by a node.what) (ap (map (λ k. is_true copies k a)) renumbered ∙ children_same node.kids (λ k. is_true copies k a) (λ k. is_true nodes k a) lt_at marked_children (λ k h m. (is.same k h m).truth a))
           ∙ sym (value_of-get (truth_by a) nodes at node there (fits-get vars nodes at node are.fit there).below);
       variables = λ v. value_of-last (mention_by v) copies (record { what = node.what; kids = kids })
-          ∙ ap (mention_by v node.what) (ap (map (mentions copies v)) renumbered ∙ kids_same node.kids (mentions copies v) (mentions nodes v) lt_at marked_kids (λ k h m. (is.same k h m).variables v))
+          ∙ ap (mention_by v node.what) (ap (map (mentions copies v)) renumbered ∙ children_same node.kids (mentions copies v) (mentions nodes v) lt_at marked_children (λ k h m. (is.same k h m).variables v))
           ∙ sym (value_of-get (mention_by v) nodes at node there (fits-get vars nodes at node are.fit there).below);
     }
 
@@ -135,15 +135,15 @@ module _ (vars : ℕ) (nodes : List Node) (marks : List Bool) (copies : List Nod
       added : (k : ℕ) → k ≡ at → slice_index (numbers ++ length copies ∷ []) k ≡ length copies
       added k e = get_or_push numbers (length copies) 0 k (omega (arith, e, is.long))
 
-      kept_kids : (k : ℕ) (n : Node) → k < at + 1 → slice_get nodes k ≡ Some n → map (slice_index numbers) n.kids ≡ map (slice_index (numbers ++ length copies ∷ [])) n.kids
-      kept_kids k n h e = map_same k n.kids (slice_index numbers) (slice_index (numbers ++ length copies ∷ [])) (before vars nodes are k n e) (λ x lt. sym (kept x (omega (arith, lt, h))))
+      kept_children : (k : ℕ) (n : Node) → k < at + 1 → slice_get nodes k ≡ Some n → map (slice_index numbers) n.kids ≡ map (slice_index (numbers ++ length copies ∷ [])) n.kids
+      kept_children k n h e = map_same k n.kids (slice_index numbers) (slice_index (numbers ++ length copies ∷ [])) (before vars nodes are k n e) (λ x lt. sym (kept x (omega (arith, lt, h))))
 
       copied : (k : ℕ) (n : Node) → bit_in marks k ≡ true → slice_get nodes k ≡ Some n → (k < at) ⊎ (k ≡ at)
           → slice_get (copies ++ new_node ∷ []) (slice_index (numbers ++ length copies ∷ []) k) ≡ Some (record { what = n.what; kids = map (slice_index (numbers ++ length copies ∷ [])) n.kids })
       copied k n m e (inl lt) =
           ap (slice_get (copies ++ new_node ∷ [])) (kept k lt)
           ∙ slice_get-before copies (new_node ∷ []) (slice_index numbers k) (record { what = n.what; kids = map (slice_index numbers) n.kids }) (is.copy k n lt m e)
-          ∙ (λ j. Some (record { what = n.what; kids = kept_kids k n (omega (arith, lt)) e j }))
+          ∙ (λ j. Some (record { what = n.what; kids = kept_children k n (omega (arith, lt)) e j }))
       copied k n m e (inr same) =
           let one : Some node ≡ Some n = sym there ∙ (ap (slice_get nodes) (sym same) ∙ e) in
           let is_node : node ≡ n = cc in
@@ -151,7 +151,7 @@ module _ (vars : ℕ) (nodes : List Node) (marks : List Bool) (copies : List Nod
           ∙ slice_get-last copies new_node
           ∙ (λ j. Some (record { what = node.what; kids = renumbered j }))
           ∙ ap (λ (x : Node). Some (record { what = x.what; kids = map (slice_index numbers) x.kids })) is_node
-          ∙ (λ j. Some (record { what = n.what; kids = kept_kids k n (omega (arith, same)) e j }))
+          ∙ (λ j. Some (record { what = n.what; kids = kept_children k n (omega (arith, same)) e j }))
 
       origin_by : (n : ℕ) → (n < length copies) ⊎ (n ≡ length copies) → (k : ℕ) × (k < at + 1) × (bit_in marks k ≡ true) × (slice_index (numbers ++ length copies ∷ []) k ≡ n)
       origin_by n (inl lt) = let o = is.origin n lt in (o.0, omega (arith, o.1), o.2, kept o.0 o.1 ∙ o.3)
@@ -181,7 +181,7 @@ unmapped f ks x (j, h, e) =
     let k = get_or ks j 0 in
     (k, (j, inside, get_or_from_slice_get ks j k k (slice_get-get_or ks j 0 inside)), sym (get_or-map f ks j 0 x inside) ∙ e)
 
--- a list of such numbers is known by what a function that tells them apart gives
+-- a list of such numbers is known by what a function that says them apart gives
 map_apart : (P : ℕ → Type 0) (f : ℕ → ℕ) → ((a b : ℕ) → P a → P b → f a ≡ f b → a ≡ b) → (xs ys : List ℕ) → All P xs → All P ys → map f xs ≡ map f ys → xs ≡ ys
 map_apart P f apart [] [] p q e = refl
 map_apart P f apart [] (y ∷ ys) p q e = absurd (let never : ⊥ = cc in never)
@@ -197,7 +197,7 @@ module _ (store : Stored) (root : ℕ) (marks : List Bool) (copies : List Node) 
   all_used number h =
       let from = copied.origin number (omega (arith, h)) in
       by from.0 from.3 (below.only from.0 from.2) where
-        by : (k : ℕ) → slice_index numbers k ≡ number → (k ≡ root) ⊎ IsKidOfMarked store.nodes marks k → IsUsed copies number
+        by : (k : ℕ) → slice_index numbers k ≡ number → (k ≡ root) ⊎ IsChildOfMarked store.nodes marks k → IsUsed copies number
         by k e (inl at_root) = absurd (omega (arith, h, e, ap (slice_index numbers) at_root, copied.last root (sym below.long) below.has))
         by k e (inr (j, node, marked, there, has)) = (
           slice_index numbers j,
@@ -213,8 +213,8 @@ module _ (store : Stored) (root : ℕ) (marks : List Bool) (copies : List Node) 
   tell_apart : (a b : ℕ) → IsTaken a → IsTaken b → slice_index numbers a ≡ slice_index numbers b → a ≡ b
   tell_apart a b p q e = grind arith
 
-  kids_taken : (k : ℕ) (node : Node) → IsTaken k → slice_get store.nodes k ≡ Some node → All IsTaken node.kids
-  kids_taken k node taken there = λ i d h.
+  children_taken : (k : ℕ) (node : Node) → IsTaken k → slice_get store.nodes k ≡ Some node → All IsTaken node.kids
+  children_taken k node taken there = λ i d h.
       let marked = below.closed k node (omega arith) taken.1 there i d h in (within_bits marks (get_or node.kids i d) marked, marked)
 
   node_of : (k : ℕ) → IsTaken k → (node : Node) × (slice_get store.nodes k ≡ Some node)
@@ -230,7 +230,7 @@ module _ (store : Stored) (root : ℕ) (marks : List Bool) (copies : List Node) 
       let two : Some (record { what = second.0.what; kids = map (slice_index numbers) second.0.kids }) ≡ Some node = sym (copied.copy b.0 second.0 b.1 b.2 second.1) ∙ (ap (slice_get copies) b.3 ∙ f) in
       let both : Some (record { what = first.0.what; kids = map (slice_index numbers) first.0.kids }) ≡ Some (record { what = second.0.what; kids = map (slice_index numbers) second.0.kids }) = one ∙ sym two in
       let kinds : first.0.what ≡ second.0.what = kinds_of first.0 second.0 both in
-      let kids : first.0.kids ≡ second.0.kids = map_apart IsTaken (slice_index numbers) tell_apart first.0.kids second.0.kids (kids_taken a.0 first.0 (a.1, a.2) first.1) (kids_taken b.0 second.0 (b.1, b.2) second.1) (kids_of first.0 second.0 both) in
+      let kids : first.0.kids ≡ second.0.kids = map_apart IsTaken (slice_index numbers) tell_apart first.0.kids second.0.kids (children_taken a.0 first.0 (a.1, a.2) first.1) (children_taken b.0 second.0 (b.1, b.2) second.1) (children_of first.0 second.0 both) in
       let same : first.0 ≡ second.0 = λ k. record { what = kinds k; kids = kids k } in
       sym a.3 ∙ (ap (slice_index numbers) (is.once a.0 b.0 second.0 (first.1 ∙ ap Some same) second.1) ∙ b.3) where
         renamed : Node → Node
@@ -239,8 +239,8 @@ module _ (store : Stored) (root : ℕ) (marks : List Bool) (copies : List Node) 
         kinds_of : (m n : Node) → Some (renamed m) ≡ Some (renamed n) → m.what ≡ n.what
         kinds_of m n e = let inner : renamed m ≡ renamed n = cc in ap (λ (x : Node). x.what) inner
 
-        kids_of : (m n : Node) → Some (renamed m) ≡ Some (renamed n) → map (slice_index numbers) m.kids ≡ map (slice_index numbers) n.kids
-        kids_of m n e = let inner : renamed m ≡ renamed n = cc in ap (λ (x : Node). x.kids) inner
+        children_of : (m n : Node) → Some (renamed m) ≡ Some (renamed n) → map (slice_index numbers) m.kids ≡ map (slice_index numbers) n.kids
+        children_of m n e = let inner : renamed m ≡ renamed n = cc in ap (λ (x : Node). x.kids) inner
 
   -- ---- where a copy comes from
 
@@ -260,11 +260,11 @@ module _ (store : Stored) (root : ℕ) (marks : List Bool) (copies : List Node) 
       let from = copied.origin number less in
       (from.0, (from.1, from.2), from.3, origin_is from.0 number (from.1, from.2) from.3 less)
 
-  kids_back : (ks : List ℕ) → All IsTaken ks → map origin_of (map (slice_index numbers) ks) ≡ ks
-  kids_back [] all = refl
-  kids_back (k ∷ ks) all =
+  children_back : (ks : List ℕ) → All IsTaken ks → map origin_of (map (slice_index numbers) ks) ≡ ks
+  children_back [] all = refl
+  children_back (k ∷ ks) all =
       let taken = all 0 0 (omega arith) in
-      λ j. origin_is k (slice_index numbers k) taken refl (copied.same k taken.0 taken.1).within j ∷ kids_back ks (λ i d h. all (suc i) d (omega arith)) j
+      λ j. origin_is k (slice_index numbers k) taken refl (copied.same k taken.0 taken.1).within j ∷ children_back ks (λ i d h. all (suc i) d (omega arith)) j
 
   abbrev renumbered : Node → Node
   renumbered node = record { what = node.what; kids = map (slice_index numbers) node.kids }
@@ -273,7 +273,7 @@ module _ (store : Stored) (root : ℕ) (marks : List Bool) (copies : List Node) 
   as_before node = record { what = node.what; kids = map origin_of node.kids }
 
   node_back : (node : Node) → All IsTaken node.kids → Some node ≡ Some (as_before (renumbered node))
-  node_back node all = ap (λ ks. Some (record { what = node.what; kids = ks })) (sym (kids_back node.kids all))
+  node_back node all = ap (λ ks. Some (record { what = node.what; kids = ks })) (sym (children_back node.kids all))
 
   all_copied : (number : ℕ) (node : Node) → slice_get copies number ≡ Some node → slice_get store.nodes (origin_of number) ≡ Some (as_before node)
   all_copied number node e =
@@ -281,7 +281,7 @@ module _ (store : Stored) (root : ℕ) (marks : List Bool) (copies : List Node) 
       let old = node_of from.0 from.1 in
       let one : Some (renumbered old.0) ≡ Some node = sym (copied.copy from.0 old.0 from.1.0 from.1.1 old.1) ∙ (ap (slice_get copies) from.2 ∙ e) in
       let is_node : renumbered old.0 ≡ node = cc in
-      let back : Some old.0 ≡ Some (as_before (renumbered old.0)) = node_back old.0 (kids_taken from.0 old.0 from.1 old.1) in
+      let back : Some old.0 ≡ Some (as_before (renumbered old.0)) = node_back old.0 (children_taken from.0 old.0 from.1 old.1) in
       let there : slice_get store.nodes (origin_of number) ≡ Some old.0 = ap (slice_get store.nodes) from.3 ∙ old.1 in
       there ∙ (back ∙ ap (λ (n : Node). Some (as_before n)) is_node)
 
@@ -294,19 +294,19 @@ module _ (store : Stored) (root : ℕ) (marks : List Bool) (copies : List Node) 
   bare_same : (what : NodeKind) (ks : List ℕ) → is_bare what (map (slice_index numbers) ks) ≡ is_bare what ks
   bare_same what ks = grind (arith, length-map)
 
-  -- a copy of a kid is that of a kid
-  all_not_bare : HasNoBareKid store.nodes → HasNoBareKid copies
-  all_not_bare none i k node kid e has f =
+  -- a copy of a child is that of a child
+  all_not_bare : HasNoBareChild store.nodes → HasNoBareChild copies
+  all_not_bare none i k node child e has f =
       let a = copied.origin i (slice_get_within copies i node e) in
       let parent = node_of a.0 (a.1, a.2) in
       let one : Some (renumbered parent.0) ≡ Some node = sym (copied.copy a.0 parent.0 a.1 a.2 parent.1) ∙ (ap (slice_get copies) a.3 ∙ e) in
       let is_node : node ≡ renumbered parent.0 = cc in
       let from = unmapped (slice_index numbers) parent.0.kids k (subst (λ (n : Node). Contains n.kids k) is_node has) in
-      let taken_kid : IsTaken from.0 = all_in parent.0.kids from.0 from.1 (kids_taken a.0 parent.0 (a.1, a.2) parent.1) in
-      let child = node_of from.0 taken_kid in
-      let two : Some (renumbered child.0) ≡ Some kid = sym (copied.copy from.0 child.0 taken_kid.0 taken_kid.1 child.1) ∙ (ap (slice_get copies) from.2 ∙ f) in
-      let is_kid : kid ≡ renumbered child.0 = cc in
-      ap (λ (n : Node). is_bare n.what n.kids) is_kid ∙ (bare_same child.0.what child.0.kids ∙ none a.0 from.0 parent.0 child.0 parent.1 from.1 child.1) where
+      let taken_child : IsTaken from.0 = all_in parent.0.kids from.0 from.1 (children_taken a.0 parent.0 (a.1, a.2) parent.1) in
+      let source = node_of from.0 taken_child in
+      let two : Some (renumbered source.0) ≡ Some child = sym (copied.copy from.0 source.0 taken_child.0 taken_child.1 source.1) ∙ (ap (slice_get copies) from.2 ∙ f) in
+      let is_child : child ≡ renumbered source.0 = cc in
+      ap (λ (n : Node). is_bare n.what n.kids) is_child ∙ (bare_same source.0.what source.0.kids ∙ none a.0 from.0 parent.0 source.0 parent.1 from.1 source.1) where
         renumbered : Node → Node
         renumbered n = record { what = n.what; kids = map (slice_index numbers) n.kids }
 
@@ -332,7 +332,7 @@ frozen_graph store root marks copies numbers is within below copied =
         in_order = all_in_order store root marks copies numbers is within below copied;
         used = all_used store root marks copies numbers is within below copied;
         once = all_once store root marks copies numbers is within below copied;
-        no_bare_kid = all_not_bare store root marks copies numbers is within below copied;
+        no_bare_child = all_not_bare store root marks copies numbers is within below copied;
       },
       record { some = omega (arith, last); few = omega (arith, copied.few, below.long, is.few, is.few_made, is.few_vars); nodes = copied.are },
     )

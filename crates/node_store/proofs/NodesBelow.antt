@@ -7,7 +7,7 @@ use Rattle.state_rules.specs.Bits.{bit_in}
 use Rattle.state_rules.specs.Graphs.{Node}
 use Rattle.node_store.specs.declared.store.Kept.{Kept}
 use Rattle.node_store.specs.inner.Keeping.{shown}
-use Rattle.node_store.specs.inner.Freezing.{AreBefore, IsClosedFrom, IsKidOfMarked, Marks}
+use Rattle.node_store.specs.inner.Freezing.{AreBefore, IsClosedFrom, IsChildOfMarked, Marks}
 
 pub written_bits : (len : ℕ) (new old : List Bool) → length new ≡ length old → len ≡ length old → take len (new ++ drop (length new) old) ≡ new
 written_bits len new old e f = grind (arith, drop_of_length-le, append-nil, take_all)
@@ -29,9 +29,9 @@ length-shown xs = length-map xs shown
 pub marks_more : (nodes : List Node) (old new : List Bool) (from at root : ℕ) (kids : List ℕ) (node : Node) → at + 1 ≡ from → slice_get nodes at ≡ Some node → kids ≡ node.kids → Marks old at kids new → IsClosedFrom from nodes old → AreBefore nodes → IsClosedFrom at nodes new
 marks_more nodes old new from at root kids node e there same marks closed before_ i n le m f = grind arith
 
--- nothing is marked but the root and the kids of what is
+-- nothing is marked but the root and the children of what is
 pub only_more : (nodes : List Node) (old new : List Bool) (at root : ℕ) (kids : List ℕ) (node : Node) → slice_get nodes at ≡ Some node → kids ≡ node.kids → Marks old at kids new
-    → ((i : ℕ) → bit_in old i ≡ true → (i ≡ root) ⊎ IsKidOfMarked nodes old i) → (i : ℕ) → bit_in new i ≡ true → (i ≡ root) ⊎ IsKidOfMarked nodes new i
+    → ((i : ℕ) → bit_in old i ≡ true → (i ≡ root) ⊎ IsChildOfMarked nodes old i) → (i : ℕ) → bit_in new i ≡ true → (i ≡ root) ⊎ IsChildOfMarked nodes new i
 only_more nodes old new at root kids node there same marks only i m = grind arith
 
 pub shown_get : (xs : List Kept) (i : ℕ) (r : Kept) → i < length xs → slice_get (map shown xs) i ≡ Some (shown (get_or xs i r))

@@ -1,9 +1,9 @@
--- Nodes whose kinds stand in one list, and their kids in another.
+-- Nodes whose kinds are in one list, and their children in another.
 use Rattle.std.specs.Prelude.{ℕ, List, [], ◌∷◌}
 use Rattle.state_rules.specs.declared.nodes.NodeKind.{NodeKind}
 use Rattle.state_rules.specs.Graphs.{Node}
 
--- the nodes of these kinds, each over the kids that stand at its place
+-- the nodes of these kinds, each over the children that are at its place
 abbrev pub nodes_of : List NodeKind → List (List ℕ) → List Node
 nodes_of [] lists = []
 nodes_of (kind ∷ kinds) [] = []

@@ -7,14 +7,14 @@ use Rattle.state_rules.specs.declared.nodes.NodeKind.TheVariants.{Literal, And, 
 use Rattle.state_rules.specs.Graphs.{Node, Graph, literal_node, truth_by, is_true, mention_by, mentions, AreNodes, edges}
 use Rattle.node_store.specs.declared.store.TheConstants.{MADE_LIMIT, VARIABLE_LIMIT}
 
--- The nodes, whose numbers are their places; how often one was made, and how many kids were handed in for all of these.
+-- The nodes, whose numbers are their places; how often one was made, and how many children were handed in for all of these.
 pub record Stored : Type 0 where
   pub nodes : List Node
   pub vars : ℕ
   pub made : ℕ
   pub handed : ℕ
 
--- the two literals of each variable, first the one that is true where the variable is
+-- the two literals of each variable, first the one that is true if the variable is
 abbrev pub literals : ℕ → List Node
 literals zero = []
 literals (suc n) = literals n ++ (literal_node (n + 1) true ∷ literal_node (n + 1) false ∷ [])
@@ -23,7 +23,7 @@ literals (suc n) = literals n ++ (literal_node (n + 1) true ∷ literal_node (n 
 abbrev pub literal_place : ℕ → Bool → ℕ
 literal_place var positive = 2 * (var - 1) + (if positive then 0 else 1)
 
--- no two nodes have one kind and the same kids
+-- no two nodes have one kind and the same children
 abbrev pub EachOnce : List Node → Type 0
 EachOnce nodes = (i j : ℕ) (node : Node) → slice_get nodes i ≡ Some node → slice_get nodes j ≡ Some node → i ≡ j
 
@@ -38,7 +38,7 @@ pub record IsStore (store : Stored) : Type 0 where
   pub few_handed : store.handed ≤ store.made * CHILD_LIMIT
   pub few_vars : store.vars < VARIABLE_LIMIT
 
--- nodes stay, and this one may have come behind them
+-- nodes stay, and this one may have come after them
 abbrev pub AddsAtMost : List Node → Node → List Node → Type 0
 AddsAtMost old node new = (new ≡ old) ⊎ (new ≡ old ++ node ∷ [])
 
@@ -51,42 +51,42 @@ pub record Makes (old new : Stored) (kind : NodeKind) (kids : List ℕ) (number 
   pub made : new.made ≡ old.made + 1
   pub handed : new.handed ≡ old.handed + length kids
 
--- The node is true by its kind and the truth of its kids, and its variables are theirs. What the nodes before it mean stays.
+-- The node is true by its kind and the truth of its children, and its variables are theirs. What the nodes before it mean stays.
 pub record Means (old new : List Node) (kind : NodeKind) (kids : List ℕ) (number : ℕ) : Type 0 where
   pub truth : (a : Assignment) → is_true new number a ≡ truth_by a kind (map (λ k. is_true old k a) kids)
   pub variables : (v : ℕ) → mentions new v number ≡ mention_by v kind (map (mentions old v) kids)
   pub true_before : (k : ℕ) (a : Assignment) → k < length old → is_true new k a ≡ is_true old k a
   pub variables_before : (k v : ℕ) → k < length old → mentions new v k ≡ mentions old v k
 
--- a node is a kid of another
+-- a node is a child of another
 abbrev pub IsUsed : List Node → ℕ → Type 0
 IsUsed nodes number = (parent : ℕ) × (node : Node) × (slice_get nodes parent ≡ Some node) × Contains node.kids number
 
--- an and or an or without kids, which is a constant
+-- an and or an or without children, which is a constant
 abbrev pub is_bare : NodeKind → List ℕ → Bool
 is_bare (Literal positive var) kids = false
 is_bare And kids = length kids == 0
 is_bare Or kids = length kids == 0
 
--- none of them is a kid
-abbrev pub HasNoBareKid : List Node → Type 0
-HasNoBareKid nodes = (parent child : ℕ) (node kid : Node) → slice_get nodes parent ≡ Some node → Contains node.kids child
-    → slice_get nodes child ≡ Some kid → is_bare kid.what kid.kids ≡ false
+-- none of them is a child
+abbrev pub HasNoBareChild : List Node → Type 0
+HasNoBareChild nodes = (parent number : ℕ) (node child : Node) → slice_get nodes parent ≡ Some node → Contains node.kids number
+    → slice_get nodes number ≡ Some child → is_bare child.what child.kids ≡ false
 
--- The graph of a node and of those below it: its root is true where the node is.
+-- The graph of a node and of those below it: its root is true if the node is.
 pub record IsFrozen (store : Stored) (root : ℕ) (graph : Graph) : Type 0 where
   pub vars : graph.vars ≡ store.vars
   pub truth : (a : Assignment) → is_true graph.nodes (length graph.nodes - 1) a ≡ is_true store.nodes root a
   pub few : length graph.nodes ≤ store.made + 2 * store.vars
   pub few_edges : edges graph.nodes ≤ store.handed
-  -- Each node stands in the store too, over the nodes that its kids are there, and the root is this one. Nodes stand in the same order.
+  -- Each node is in the store too, over the nodes that its children are there, and the root is this one. Nodes are in the same order.
   pub origin : ℕ → ℕ
   pub copied : (number : ℕ) (node : Node) → slice_get graph.nodes number ≡ Some node
       → slice_get store.nodes (origin number) ≡ Some (record { what = node.what; kids = map origin node.kids })
   pub root_last : origin (length graph.nodes - 1) ≡ root
   pub in_order : (first second : ℕ) → first < second → second < length graph.nodes → origin first < origin second
-  -- No node stands in it in vain: each but the root is a kid of another, and no two are equal.
+  -- No node is in it in vain: each but the root is a child of another, and no two are equal.
   pub used : (number : ℕ) → number + 1 < length graph.nodes → IsUsed graph.nodes number
   pub once : EachOnce graph.nodes
-  -- Where no constant is a kid in the store, none is in the graph.
-  pub no_bare_kid : HasNoBareKid store.nodes → HasNoBareKid graph.nodes
+  -- If no constant is a child in the store, none is in the graph.
+  pub no_bare_child : HasNoBareChild store.nodes → HasNoBareChild graph.nodes

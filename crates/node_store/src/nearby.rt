@@ -26,7 +26,7 @@ impl BuildHasher for Nearby {
 ///
 /// Of a node these words are the numbers of its children; what is not four bytes long is passed over, since nodes of the same
 /// children seldom differ by it. A table takes the group of a hash from its low bits, and separates the hashes in a group by its
-/// high ones. So nodes have one group whose last children are the same but for 4 numbers, and whose other children are the same but
+/// high ones. So nodes have one group whose last children are the same except for 4 numbers, and whose other children are the same but
 /// for 64: those that are made one after the other, and few more. The groups themselves lie anywhere. Were they in the order of the
 /// children, full ones would lie side by side, and a search would walk through all of them. Nodes that share their last child are
 /// spread over as many groups as there are 64 numbers among the others. The high bits mix all children.

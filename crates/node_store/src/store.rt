@@ -25,13 +25,13 @@ pub const MADE_LIMIT: u64 = 2_147_483_648;
 pub const VARIABLE_LIMIT: u32 = 536_870_912;
 
 // Children as they are kept. Two need no memory of their own.
-type Kids = SmallVec<u32, 2>;
+type Children = SmallVec<u32, 2>;
 
 // A node as it is kept.
 #[derive(Debug, PartialEq, Eq, Hash, Drop)]
 struct Kept {
     what: NodeKind,
-    kids: Kids,
+    kids: Children,
 }
 
 /// Nodes that are shared: each is there once, and its number is its place.
@@ -205,13 +205,13 @@ fn insert(
     ensures once { OnOk result (EachOnce (map shown nodes.new.keys)) }
     ensures err { OnErr result (map shown nodes.new.keys ≡ map shown nodes.old.keys) }
 {
-    let kids = kept_kids(alloc, kids)?;
+    let kids = kept_children(alloc, kids)?;
     let (place, _) = nodes.insert_full(Kept { what, kids })?;
     Ok(place)
 }
 
 // Children as they are kept. Most nodes have two, and then nothing is copied in a loop.
-fn kept_kids(alloc: Global, kids: &[u32]) -> Result<Kids, Memory>
+fn kept_children(alloc: Global, kids: &[u32]) -> Result<Children, Memory>
     ensures { IfOk result (λ kept. kept.items ≡ kids.now) }
 {
     match kids {
@@ -259,8 +259,8 @@ fn mark(below: &mut [bool], at: usize, kids: &[u32])
     if !below[at] {
         return;
     }
-    for kid in kids {
-        below[*kid as usize] = true;
+    for child in kids {
+        below[*child as usize] = true;
     }
 }
 
@@ -295,8 +295,8 @@ fn renumber(kids: &mut Vec<u32>, old: &[u32], numbers: &[u32]) -> Result<(), Mem
     ensures { OnOk result (kids.new.items ≡ map (slice_index numbers.now) old.now) }
 {
     kids.clear();
-    for kid in old {
-        kids.push(numbers[*kid as usize])?;
+    for child in old {
+        kids.push(numbers[*child as usize])?;
     }
     Ok(())
 }

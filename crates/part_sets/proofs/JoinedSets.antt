@@ -1,4 +1,4 @@
--- The parts below a node, from those below its kids.
+-- The parts below a node, from those below its children.
 use Rattle.std.proofs.Common.{◌≡◌, ℕ, suc, ◌+◌, ◌*◌, ◌/◌, ◌%◌, ◌^◌, ◌<◌, ◌≤◌, Bool, true, false, ◌&&◌, ◌||◌, List, [], ◌∷◌, ◌++◌, map, take, length, get_or, set, refl, ap, sym, ◌∙◌, arith, ⊎_elim, bit_or}
 use Rattle.std.specs.Prelude.{◌==◌, nat_lt}
 use Rattle.std.specs.List.{list_any}
@@ -14,7 +14,7 @@ use Rattle.scratch_pool.proofs.Counted.{block-below}
 use Rattle.part_sets.specs.Numbers.{has_number, part_words, set_at}
 use Rattle.part_sets.specs.PartSets.{ArePartsOf, ArePartsBelow}
 use Rattle.part_sets.proofs.SetBits.{has-within, same_place}
-use Rattle.part_sets.proofs.Kids.{kid-below, mention-is}
+use Rattle.part_sets.proofs.Children.{child-below, mention-is}
 use Rattle.part_sets.proofs.Stacks.{set_at-front, set_at-here}
 
 -- ---- one number more
@@ -49,14 +49,14 @@ joined_more sets kids old new j n lt long are added =
 
 -- ---- a node
 
--- a set has no number behind its words
+-- a set has no number after its words
 past : (parts : ℕ) (set : List ℕ) (some : ℕ → Bool) (n : ℕ) → length set ≡ part_words parts → 32 * length set ≤ n → has_number set n ≡ (nat_lt n parts && some (n + 1))
 past parts set some n long h = grind (arith, has-within)
 
 pub parts_from : (parts : ℕ) (set : List ℕ) (some : ℕ → Bool) → length set ≡ part_words parts → ((n : ℕ) → n < 32 * length set → has_number set n ≡ (nat_lt n parts && some (n + 1))) → ArePartsOf parts some set
 parts_from parts set some long are n = ⊎_elim (λ p. are n p) (λ p. past parts set some n long p) (cases_lt n (32 * length set))
 
--- what is below one of the kids
+-- what is below one of the children
 any_below : (graph : Graph) (parts at n : ℕ) (sets kids : List ℕ) → ArePartsBelow graph parts sets at → ((j : ℕ) → j < length kids → get_or kids j 0 < at)
     → one_has sets (part_words parts) n kids ≡ (nat_lt n parts && list_any (λ b. b) (map (mentions graph.nodes (n + 1)) kids))
 any_below graph parts at n sets [] are below = sym (and-false (nat_lt n parts))
@@ -68,13 +68,13 @@ any_below graph parts at n sets (k ∷ kids) are below =
       both false y z = refl
 
 module _ (graph : Graph) (at parts : ℕ) (kids : List ℕ) (ok : IsGraph graph) (inside : at < length graph.nodes) (are : kids ≡ (node_at graph.nodes at).kids) where
-  pub kids_room : (sets : List ℕ) (size j : ℕ) → length sets ≡ at * size → j < length kids → get_or kids j 0 * size + size ≤ length sets
-  kids_room sets size j long lt = omega (arith, long, block-below (get_or kids j 0) at size (kid-below graph at kids ok inside are j lt))
+  pub children_room : (sets : List ℕ) (size j : ℕ) → length sets ≡ at * size → j < length kids → get_or kids j 0 * size + size ≤ length sets
+  children_room sets size j long lt = omega (arith, long, block-below (get_or kids j 0) at size (child-below graph at kids ok inside are j lt))
 
   pub joined_parts : (sets set : List ℕ) → length set ≡ part_words parts → ArePartsBelow graph parts sets at → ((v : ℕ) → mention_by v (node_at graph.nodes at).what (map (mentions graph.nodes v) kids) ≡ list_any (λ b. b) (map (mentions graph.nodes v) kids))
       → ((n : ℕ) → n < 32 * length set → has_number set n ≡ one_has sets (length set) n kids) → ArePartsOf parts (λ v. mentions graph.nodes v at) set
   joined_parts sets set long below what joined = parts_from parts set (λ v. mentions graph.nodes v at) long (λ n h.
-      joined n h ∙ ap (λ m. one_has sets m n kids) long ∙ any_below graph parts at n sets kids below (kid-below graph at kids ok inside are)
+      joined n h ∙ ap (λ m. one_has sets m n kids) long ∙ any_below graph parts at n sets kids below (child-below graph at kids ok inside are)
       ∙ ap (λ b. nat_lt n parts && b) (sym (mention-is graph at kids ok inside are (n + 1) ∙ what (n + 1))))
 
   pub variable_parts : (var : ℕ) (positive : Bool) (set : List ℕ) → Literal positive var ≡ (node_at graph.nodes at).what → ArePartsOf parts (λ v. var == v) set → ArePartsOf parts (λ v. mentions graph.nodes v at) set

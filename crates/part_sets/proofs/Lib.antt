@@ -1,5 +1,5 @@
 pub mod SetBits
-pub mod Kids
+pub mod Children
 pub mod Stacks
 pub mod JoinedSets
 pub mod Flags

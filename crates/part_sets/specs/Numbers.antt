@@ -11,6 +11,6 @@ has_number set n = bit_at (slice_index set (n / 32)) (n % 32) == 1
 abbrev pub part_words : ℕ → ℕ
 part_words parts = (parts + 31) / 32
 
--- the set of one of those that stand one behind the other
+-- the set of one of those that stand one after the other
 abbrev pub set_at : List ℕ → ℕ → ℕ → List ℕ
 set_at sets k size = words_at sets (k * size) size

@@ -1,4 +1,4 @@
--- Sets of parts: those below each node of a graph, and whether the kids of a node lack one.
+-- Sets of parts: those below each node of a graph, and whether the children of a node lack one.
 use Rattle.std.specs.Prelude.{◌≡◌, ◌↔◌, ℕ, ◌+◌, ◌-◌, ◌*◌, ◌<◌, ◌≤◌, Bool, true, ◌&&◌, List, length, slice_index, nat_lt}
 use Rattle.state_rules.specs.declared.nodes.NodeKind.TheVariants.{Or}
 use Rattle.state_rules.specs.Graphs.{Graph, node_at, mentions}
@@ -13,23 +13,23 @@ abbrev pub ArePartsBelow : Graph → ℕ → List ℕ → ℕ → Type 0
 ArePartsBelow graph parts below n =
     (k : ℕ) → k < n → ArePartsOf parts (λ v. mentions graph.nodes v k) (set_at below k (part_words parts))
 
--- and behind those of all nodes the set of all parts
+-- and after those of all nodes the set of all parts
 pub record AreBelow (graph : Graph) (parts : ℕ) (below : List ℕ) : Type 0 where
   pub long : length below ≡ (length graph.nodes + 1) * part_words parts
   pub nodes : ArePartsBelow graph parts below (length graph.nodes)
   pub all : ArePartsOf parts (λ v. true) (set_at below (length graph.nodes) (part_words parts))
 
--- all kids of a node have the same parts below them as the node
+-- all children of a node have the same parts below them as the node
 abbrev pub SameBelow : Graph → ℕ → ℕ → Type 0
 SameBelow graph parts k =
     (j v : ℕ) → j < length (node_at graph.nodes k).kids → 1 ≤ v → v ≤ parts
     → mentions graph.nodes v (slice_index (node_at graph.nodes k).kids j) ≡ mentions graph.nodes v k
 
--- a node is no or, or its kids lack none of its parts
+-- a node is no or, or its children lack none of its parts
 abbrev pub LacksNone : Graph → ℕ → ℕ → Type 0
 LacksNone graph parts k = (node_at graph.nodes k).what ≡ Or → SameBelow graph parts k
 
--- The word of a node is 0 exactly where this is so, and the word behind those of all nodes where the last node lacks no part at all.
+-- The word of a node is 0 exactly if this is so, and the word after those of all nodes if the last node lacks no part at all.
 pub record AreLacking (graph : Graph) (parts : ℕ) (lacking : List ℕ) : Type 0 where
   pub long : length lacking ≡ length graph.nodes + 1
   pub nodes : (k : ℕ) → k < length graph.nodes → (slice_index lacking k ≡ 0) ↔ LacksNone graph parts k

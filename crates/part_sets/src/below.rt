@@ -12,7 +12,7 @@ use node_store::Graph;
 use state_rules::NodeKind;
 use std::alloc::Global;
 
-// The sets of the parts below the nodes of a graph, and behind them the set of all parts.
+// The sets of the parts below the nodes of a graph, and after them the set of all parts.
 pub(crate) fn parts_below(alloc: Global, graph: &Graph, parts: usize) -> Result<Vec<u32>, Memory>
     requires { parts ≤ PART_LIMIT }
     ensures { IfOk result (λ below. AreBelow graph.now parts below.items) }
@@ -90,8 +90,8 @@ fn put_joined(kids: &[u32], sets: &[u32], set: &mut [u32])
 {
     let size = set.len();
     clear(set);
-    for kid in kids {
-        add_all(set, set_at(sets, *kid as usize, size));
+    for child in kids {
+        add_all(set, set_at(sets, *child as usize, size));
     }
 }
 

@@ -16,9 +16,9 @@ pub const PART_LIMIT: usize = 4_096;
 /// variables.
 #[derive(Drop)]
 pub struct PartSets {
-    // for each node the parts below it, and behind them all parts
+    // for each node the parts below it, and after them all parts
     below: Vec<u32>,
-    // for each node a word that is 0 where it is no or, or no kid of it lacks a part; and behind them one that is 0 where the last node
+    // for each node a word that is 0 if it is no or, or no child of it lacks a part; and after them one that is 0 where the last node
     // lacks none at all
     lacking: Vec<u32>,
 }

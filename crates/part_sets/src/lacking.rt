@@ -1,4 +1,4 @@
-//! Which nodes have a kid that lacks a part.
+//! Which nodes have a child that lacks a part.
 ghost use Rattle.std.specs.Prelude.{◌≡◌, ◌↔◌, ℕ, ◌+◌, ◌*◌, ◌<◌, ◌≤◌, false, not, ◌&&◌, length, IfOk};
 ghost use Rattle.state_rules.specs.declared.nodes.NodeKind.TheVariants.{Or};
 ghost use Rattle.state_rules.specs.Graphs.{node_at};
@@ -12,7 +12,7 @@ use node_store::Graph;
 use state_rules::NodeKind;
 use std::alloc::Global;
 
-// For each node a word that is 0 where it is no or, or no kid of it lacks a part; and behind them one that is 0 where the last node
+// For each node a word that is 0 if it is no or, or no child of it lacks a part; and after them one that is 0 where the last node
 // lacks none at all.
 pub(crate) fn nodes_lacking(
     alloc: Global,
@@ -37,7 +37,7 @@ fn put_lacking(graph: &Graph, below: &[u32], parts: usize, lacking: &mut [u32])
 {
     let count = graph.len();
     for at in 0..count {
-        lacking[at as usize] = flag(kid_lacks(graph, below, parts, at));
+        lacking[at as usize] = flag(child_lacks(graph, below, parts, at));
     }
     let root = count as usize - 1;
     lacking[root + 1] = flag(lacks(below, parts, root + 1, root));
@@ -50,8 +50,8 @@ fn flag(lacks: bool) -> u32
     u32::from(lacks)
 }
 
-// Whether a node is an Or of which a kid lacks a part.
-fn kid_lacks(graph: &Graph, below: &[u32], parts: usize, at: u32) -> bool
+// Whether a node is an Or of which a child lacks a part.
+fn child_lacks(graph: &Graph, below: &[u32], parts: usize, at: u32) -> bool
     requires parts { parts ≤ PART_LIMIT }
     requires below { AreBelow graph.now parts below.now }
     requires at { at < length graph.now.nodes }
@@ -73,8 +73,8 @@ fn one_lacks(graph: &Graph, below: &[u32], parts: usize, at: u32) -> bool
 {
     // Its contract says that this is a graph.
     let _vars = graph.vars();
-    for kid in graph.kids(at) {
-        if lacks(below, parts, at as usize, *kid as usize) {
+    for child in graph.kids(at) {
+        if lacks(below, parts, at as usize, *child as usize) {
             return true;
         }
     }

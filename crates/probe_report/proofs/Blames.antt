@@ -59,7 +59,7 @@ module _ (graph : Graph) (words costs : List ℕ) (i most : ℕ) (lt : i < lengt
   abbrev faulty : List Bool → Bool
   faulty state = not (bit_in state i)
 
-  -- where it is ok in all, or faulty in all
+  -- if it is ok in all, or faulty in all
   pub all-ok : ((h : List Bool) → ModelWithin graph words costs most h → bit_in h i ≡ true) → Never ≡ blame_of graph words costs i
   all-ok all =
       let some = least-some graph costs within words most e in

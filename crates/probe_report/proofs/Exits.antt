@@ -18,16 +18,16 @@ use Rattle.conditioner.proofs.FittingWords.{known_of-word_of}
 use Rattle.node_costs.proofs.Totals.{total-same}
 use Rattle.minimiser.specs.Costs.{part_cost, known_at, literal_cost, least_at}
 use Rattle.minimiser.specs.Stored.{AreLeastCosts}
-use Rattle.minimiser.specs.inner.Swept.{is_kid}
+use Rattle.minimiser.specs.inner.Swept.{is_child}
 use Rattle.minimiser.proofs.Costs.{fault, Agrees, faults_in, faults_in-le, all_faults}
 use Rattle.minimiser.proofs.Sums.{cost_in-some}
 use Rattle.minimiser.proofs.OnePass.{cost_small}
-use Rattle.minimiser.proofs.Derivations.{any-kid, all-kid, kid-with, is_cost, true-at, mention-at, costs-at, below, all-below, Achieves}
+use Rattle.minimiser.proofs.Derivations.{any-child, all-child, child-with, is_cost, true-at, mention-at, costs-at, below, all-below, Achieves}
 use Rattle.minimiser.proofs.Valued.{value-is, has_least}
 use Rattle.minimiser.proofs.Whole.{from_bounds}
-use Rattle.minimiser.proofs.SpreadMarks.{kid-in, kid-out}
+use Rattle.minimiser.proofs.SpreadMarks.{child-in, child-out}
 use Rattle.minimiser.specs.inner.Outside.{AreOutsideCosts}
-use Rattle.minimiser.proofs.OutsideCosts.{outside-is, kid-fits}
+use Rattle.minimiser.proofs.OutsideCosts.{outside-is, child-fits}
 use Rattle.probe_report.specs.inner.Outside.{IsLowered, Without, With}
 
 -- ---- what derivations cost outside of a node
@@ -51,8 +51,8 @@ module _ (graph : Graph) (words costs : List ℕ) (ok : IsGraph graph) (vs os : 
   abbrev faults : ℕ → Assignment → ℕ
   faults k a = faults_in (known_at words) (part_cost costs) (length costs) (λ v. mentions graph.nodes v k) a
 
-  kid-below : (p : ℕ) (node : Node) → slice_get graph.nodes p ≡ Some node → (j : ℕ) → In j node.kids → j < p
-  kid-below p node e j i = all-below p node.kids j (below graph words costs ok p node e) i
+  child-below : (p : ℕ) (node : Node) → slice_get graph.nodes p ≡ Some node → (j : ℕ) → In j node.kids → j < p
+  child-below p node e j i = all-below p node.kids j (below graph words costs ok p node e) i
 
   -- ---- where a variable is left
 
@@ -70,7 +70,7 @@ module _ (graph : Graph) (words costs : List ℕ) (ok : IsGraph graph) (vs os : 
     descends zero k f h m t g = absurd (omega arith)
     descends (suc fuel) k f h m t g = by_kind (descends fuel) (node_at graph.nodes k).what (node_at graph.nodes k).kids (slice_get-get_or graph.nodes k true_node h) refl refl where
       fits : (kids : List ℕ) (j : ℕ) → (node_at graph.nodes k).kids ≡ kids → In j kids → is_true graph.nodes j b ≡ true → O j + faults j b ≤ O k + faults k b
-      fits kids j ks i u = kid-fits graph words costs ok vs os least outer b agree k j h (subst (λ z. is_kid z j ≡ true) (sym ks) (kid-in kids j i)) t u
+      fits kids j ks i u = child-fits graph words costs ok vs os least outer b agree k j h (subst (λ z. is_child z j ≡ true) (sym ks) (child-in kids j i)) t u
 
       by_kind : ((j : ℕ) → j < fuel → j < n → M j ≡ true → is_true graph.nodes j b ≡ true → O j + faults j b ≤ c → Found var bit c)
           → (what : NodeKind) (kids : List ℕ) → slice_get graph.nodes k ≡ Some (record { what = what; kids = kids }) → (node_at graph.nodes k).what ≡ what → (node_at graph.nodes k).kids ≡ kids → Found var bit c
@@ -79,20 +79,20 @@ module _ (graph : Graph) (words costs : List ℕ) (ok : IsGraph graph) (vs os : 
           let sign : positive ≡ bit = same_bit-equal positive (b v) (sym (true-at graph words costs ok k _ x b) ∙ t) ∙ ap b same ∙ has_bit in
           record { cost = O k; le = omega (arith, g); exit = inr (k, record { within = h; literal = w ∙ (λ i. Literal (sign i) (same i)); is = refl }) }
       by_kind more And kids x w ks =
-          let j = kid-with M kids (sym (mention-at graph words costs ok k _ x var) ∙ m) in
-          let low = kid-below k _ x j.item j.is_in in
-          let holds = all-kid (λ i. is_true graph.nodes i b) kids j.item j.is_in (sym (true-at graph words costs ok k _ x b) ∙ t) in
+          let j = child-with M kids (sym (mention-at graph words costs ok k _ x var) ∙ m) in
+          let low = child-below k _ x j.item j.is_in in
+          let holds = all-child (λ i. is_true graph.nodes i b) kids j.item j.is_in (sym (true-at graph words costs ok k _ x b) ∙ t) in
           more j.item (omega (arith, low)) (omega (arith, low)) j.passes holds (omega (arith, fits kids j.item ks j.is_in holds, g))
       by_kind more Or kids x w ks =
-          let j = kid-with (λ i. is_true graph.nodes i b) kids (sym (true-at graph words costs ok k _ x b) ∙ t) in
-          let low = kid-below k _ x j.item j.is_in in
+          let j = child-with (λ i. is_true graph.nodes i b) kids (sym (true-at graph words costs ok k _ x b) ∙ t) in
+          let low = child-below k _ x j.item j.is_in in
           ⊎_elim
           (λ (r : M j.item ≡ true). more j.item (omega (arith, low)) (omega (arith, low)) r j.passes (omega (arith, fits kids j.item ks j.is_in j.passes, g)))
           (λ (r : M j.item ≡ false).
-          let mine : is_kid (node_at graph.nodes k).kids j.item ≡ true = subst (λ z. is_kid z j.item ≡ true) (sym ks) (kid-in kids j.item j.is_in) in
+          let mine : is_child (node_at graph.nodes k).kids j.item ≡ true = subst (λ z. is_child z j.item ≡ true) (sym ks) (child-in kids j.item j.is_in) in
           let value = (has_least graph words costs vs least ok b agree j.item (omega (arith, low)) j.passes).low in
-          let within = faults_in-le (known_at words) (part_cost costs) (length costs) (λ v. mentions graph.nodes v j.item) (λ v. mentions graph.nodes v k) b (λ v q. mention-at graph words costs ok k _ x v ∙ any-kid (mentions graph.nodes v) kids j.item j.is_in q) in
-          record { cost = O k + W j.item; le = omega (arith, value, within, g); exit = inl (inl (k, record { within = h; or_ = w; kid = j.item; is_kid_of = mine; has = m; lacks = r; outer = omega (arith, g, q); value = omega (arith, value, within, g, q); is = refl })) })
+          let within = faults_in-le (known_at words) (part_cost costs) (length costs) (λ v. mentions graph.nodes v j.item) (λ v. mentions graph.nodes v k) b (λ v q. mention-at graph words costs ok k _ x v ∙ any-child (mentions graph.nodes v) kids j.item j.is_in q) in
+          record { cost = O k + W j.item; le = omega (arith, value, within, g); exit = inl (inl (k, record { within = h; or_ = w; child = j.item; is_child_of = mine; has = m; lacks = r; outer = omega (arith, g, q); value = omega (arith, value, within, g, q); is = refl })) })
           (cases_Bool (M j.item))
 
   -- ---- a variable that is open and costs nothing, fixed to a bit
@@ -194,13 +194,13 @@ module _ (graph : Graph) (words costs : List ℕ) (ok : IsGraph graph) (vs os : 
         let k : ℕ = w.0 in
         let l = w.1 in
         let e : slice_get graph.nodes k ≡ Some (record { what = Or; kids = (node_at graph.nodes k).kids }) = slice_get-get_or graph.nodes k true_node l.within ∙ (λ i. Some (record { what = l.or_ i; kids = (node_at graph.nodes k).kids })) in
-        let i = kid-out (node_at graph.nodes k).kids l.kid l.is_kid_of in
-        let is : C l.kid ≡ Some (W l.kid) = sym (value-is graph words costs vs least l.kid (let b = kid-below k _ e l.kid i in omega (arith, b, l.within))) ∙ cost_in-some (W l.kid) (λ z. absurd (omega (arith, l.value))) in
-        let r = (is_cost graph words costs ok l.kid).reached (W l.kid) is in
-        let t = turns l.kid (W l.kid) r.by l.lacks (record { agrees = r.agrees; holds = r.holds; cheap = r.cheap }) in
-        let y = outside-is graph words costs ok vs os least outer total n k (omega arith) l.within l.outer (W l.kid) (turned r.by)
-        (record { agrees = t.agrees; holds = true-at graph words costs ok k _ e (turned r.by) ∙ any-kid (λ j. is_true graph.nodes j (turned r.by)) (node_at graph.nodes k).kids l.kid i t.holds; cheap = t.cheap }) in
-        AtMost-le (D root) (O k + W l.kid) c (with-bit (O k + W l.kid) y.by y.achieves (y.same var l.has ∙ turned-here r.by)) (omega (arith, l.is))
+        let i = child-out (node_at graph.nodes k).kids l.child l.is_child_of in
+        let is : C l.child ≡ Some (W l.child) = sym (value-is graph words costs vs least l.child (let b = child-below k _ e l.child i in omega (arith, b, l.within))) ∙ cost_in-some (W l.child) (λ z. absurd (omega (arith, l.value))) in
+        let r = (is_cost graph words costs ok l.child).reached (W l.child) is in
+        let t = turns l.child (W l.child) r.by l.lacks (record { agrees = r.agrees; holds = r.holds; cheap = r.cheap }) in
+        let y = outside-is graph words costs ok vs os least outer total n k (omega arith) l.within l.outer (W l.child) (turned r.by)
+        (record { agrees = t.agrees; holds = true-at graph words costs ok k _ e (turned r.by) ∙ any-child (λ j. is_true graph.nodes j (turned r.by)) (node_at graph.nodes k).kids l.child i t.holds; cheap = t.cheap }) in
+        AtMost-le (D root) (O k + W l.child) c (with-bit (O k + W l.child) y.by y.achieves (y.same var l.has ∙ turned-here r.by)) (omega (arith, l.is))
     sound c q (inl (inr l)) =
         let is : C root ≡ Some (W root) = sym (value-is graph words costs vs least root (omega (arith, ok.some))) ∙ cost_in-some (W root) (λ z. absurd (omega (arith, l.is))) in
         let r = (is_cost graph words costs ok root).reached (W root) is in

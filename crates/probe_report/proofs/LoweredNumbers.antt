@@ -5,7 +5,7 @@ use Rattle.std.proofs.lemmas.Bool.{cases_lt, leb-true, le-leb, ltb-true, lt-ltb}
 use Rattle.std.proofs.lemmas.List.{take_more}
 use Rattle.state_rules.specs.Bits.{has_bit}
 use Rattle.state_rules.proofs.Lists.{any-push}
-use Rattle.minimiser.specs.inner.Swept.{is_kid}
+use Rattle.minimiser.specs.inner.Swept.{is_child}
 use Rattle.minimiser.specs.inner.Outside.{lowered}
 use Rattle.probe_report.specs.inner.Outside.{IsLowered, is_left}
 use Rattle.probe_report.specs.inner.Leaving.{LowersBlock}
@@ -37,28 +37,28 @@ lowered-as a b p to back = record { below = p.below; low = λ x r. p.low x (back
 pub lowered-none : {P : ℕ → Type 0} (a b : ℕ) → b ≡ a → ((x : ℕ) → P x → ⊥) → IsLowered P a b
 lowered-none a b e none = record { below = omega arith; low = λ x p. absurd (none x p); from = inl e }
 
--- ---- kids
+-- ---- children
 
-pub is_kid-more : (kids : List ℕ) (i j : ℕ) → i < length kids → is_kid (take (i + 1) kids) j ≡ (is_kid (take i kids) j || (get_or kids i 0 == j))
-is_kid-more kids i j h = ap (λ ks. is_kid ks j) (take_more kids i 0 h) ∙ any-push (λ k. k == j) (take i kids) (get_or kids i 0)
+pub is_child-more : (kids : List ℕ) (i j : ℕ) → i < length kids → is_child (take (i + 1) kids) j ≡ (is_child (take i kids) j || (get_or kids i 0 == j))
+is_child-more kids i j h = ap (λ ks. is_child ks j) (take_more kids i 0 h) ∙ any-push (λ k. k == j) (take i kids) (get_or kids i 0)
 
 -- ---- the wires that are left
 
-pub is_left-before : (start word kid i : ℕ) → i < start → is_left start word kid i ≡ false
-is_left-before start word kid i h = by (nat_le start i) refl where
-  by : (b : Bool) → nat_le start i ≡ b → ((b && nat_lt i (start + 64)) && (has_bit word (i - start) && not (has_bit kid (i - start)))) ≡ false
+pub is_left-before : (start word child i : ℕ) → i < start → is_left start word child i ≡ false
+is_left-before start word child i h = by (nat_le start i) refl where
+  by : (b : Bool) → nat_le start i ≡ b → ((b && nat_lt i (start + 64)) && (has_bit word (i - start) && not (has_bit child (i - start)))) ≡ false
   by true e = absurd (omega (arith, leb-true start i e))
   by false e = refl
 
-pub is_left-behind : (start word kid i : ℕ) → start + 64 ≤ i → is_left start word kid i ≡ false
-is_left-behind start word kid i h = by (nat_le start i) (nat_lt i (start + 64)) refl where
-  by : (a b : Bool) → nat_lt i (start + 64) ≡ b → ((a && b) && (has_bit word (i - start) && not (has_bit kid (i - start)))) ≡ false
+pub is_left-behind : (start word child i : ℕ) → start + 64 ≤ i → is_left start word child i ≡ false
+is_left-behind start word child i h = by (nat_le start i) (nat_lt i (start + 64)) refl where
+  by : (a b : Bool) → nat_lt i (start + 64) ≡ b → ((a && b) && (has_bit word (i - start) && not (has_bit child (i - start)))) ≡ false
   by a true e = absurd (omega (arith, ltb-true i (start + 64) e))
   by true false e = refl
   by false false e = refl
 
-pub is_left-in : (start word kid i : ℕ) → start ≤ i → i < start + 64 → is_left start word kid i ≡ (has_bit word (i - start) && not (has_bit kid (i - start)))
-is_left-in start word kid i h g = λ j. (le-leb start i h j && lt-ltb i (start + 64) g j) && (has_bit word (i - start) && not (has_bit kid (i - start)))
+pub is_left-in : (start word child i : ℕ) → start ≤ i → i < start + 64 → is_left start word child i ≡ (has_bit word (i - start) && not (has_bit child (i - start)))
+is_left-in start word child i h g = λ j. (le-leb start i h j && lt-ltb i (start + 64) g j) && (has_bit word (i - start) && not (has_bit child (i - start)))
 
 -- ---- 64 wires
 

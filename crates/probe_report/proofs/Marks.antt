@@ -12,64 +12,64 @@ use Rattle.state_rules.proofs.NodeValues.{map-below, value_of-at}
 use Rattle.state_rules.proofs.NodesFit.{fits-at}
 use Rattle.state_rules.proofs.WordBits.{has_bit-zero}
 use Rattle.state_rules.specs.Bits.{has_bit}
-use Rattle.minimiser.specs.inner.Swept.{is_kid}
-use Rattle.minimiser.proofs.SpreadMarks.{kid_before}
+use Rattle.minimiser.specs.inner.Swept.{is_child}
+use Rattle.minimiser.proofs.SpreadMarks.{child_before}
 use Rattle.minimiser.specs.inner.Outside.{lowered}
-use Rattle.probe_report.specs.inner.Outside.{IsLowered, AtLiteral, AtKid, Without, With, mark_at, is_left}
-use Rattle.probe_report.specs.inner.Leaving.{IsMarked, LeftKid, LeftNode, LowersBlock}
-use Rattle.probe_report.proofs.LoweredNumbers.{lowered-is, lowered-then, lowered-as, is_kid-more, is_left-before, is_left-behind, is_left-in, block-lowered, block-then, block-as, block-none}
+use Rattle.probe_report.specs.inner.Outside.{IsLowered, AtLiteral, AtChild, Without, With, mark_at, is_left}
+use Rattle.probe_report.specs.inner.Leaving.{IsMarked, LeftChild, LeftNode, LowersBlock}
+use Rattle.probe_report.proofs.LoweredNumbers.{lowered-is, lowered-then, lowered-as, is_child-more, is_left-before, is_left-behind, is_left-in, block-lowered, block-then, block-as, block-none}
 use Rattle.probe_report.proofs.Bits.{has_bit-all}
 
--- ---- one more kid
+-- ---- one more child
 
 module _ (values marks kids : List ℕ) (mark outer start i : ℕ) (lt : i < length kids) where
-  abbrev kid : ℕ
-  kid = get_or kids i 0
+  abbrev child : ℕ
+  child = get_or kids i 0
 
   abbrev Left : ℕ → ℕ → ℕ → Type 0
-  Left n place cost = LeftKid values marks (take n kids) mark outer start place cost
+  Left n place cost = LeftChild values marks (take n kids) mark outer start place cost
 
   wider : (place cost : ℕ) → Left i place cost → Left (i + 1) place cost
-  wider place cost l = record { kid = l.kid; is_kid_of = is_kid-more kids i l.kid lt ∙ or_left _ _ l.is_kid_of; has = l.has; lacks = l.lacks; value = l.value; is = l.is }
+  wider place cost l = record { child = l.child; is_child_of = is_child-more kids i l.child lt ∙ or_left _ _ l.is_child_of; has = l.has; lacks = l.lacks; value = l.value; is = l.is }
 
-  -- a kid that is left is one of those before, or this one
-  narrower : (place cost : ℕ) → (l : Left (i + 1) place cost) → Left i place cost ⊎ (get_or kids i 0 ≡ l.kid)
+  -- a child that is left is one of those before, or this one
+  narrower : (place cost : ℕ) → (l : Left (i + 1) place cost) → Left i place cost ⊎ (get_or kids i 0 ≡ l.child)
   narrower place cost l = ⊎_elim
-      (λ e. inl (record { kid = l.kid; is_kid_of = e; has = l.has; lacks = l.lacks; value = l.value; is = l.is }))
+      (λ e. inl (record { child = l.child; is_child_of = e; has = l.has; lacks = l.lacks; value = l.value; is = l.is }))
       (λ e. inr (eqb-true _ _ e))
-      (or_cases (is_kid (take i kids) l.kid) (get_or kids i 0 == l.kid) (sym (is_kid-more kids i l.kid lt) ∙ l.is_kid_of))
+      (or_cases (is_child (take i kids) l.child) (get_or kids i 0 == l.child) (sym (is_child-more kids i l.child lt) ∙ l.is_child_of))
 
   left-bits : (place : ℕ) → start ≤ place → place < start + 64 → is_left start mark (mark_at marks (get_or kids i 0)) place ≡ true
       → (has_bit mark (place - start) ≡ true) × (has_bit (mark_at marks (get_or kids i 0)) (place - start) ≡ false)
   left-bits place h g e =
-      let p = and_parts (has_bit mark (place - start)) (not (has_bit (mark_at marks kid) (place - start))) (sym (is_left-in start mark (mark_at marks kid) place h g) ∙ e) in
+      let p = and_parts (has_bit mark (place - start)) (not (has_bit (mark_at marks child) (place - start))) (sym (is_left-in start mark (mark_at marks child) place h g) ∙ e) in
       (p.0, not-true _ p.1)
 
-  pub left-more : (a b c : List ℕ) → length b ≡ length a → LowersBlock start (λ p. LeftKid values marks (take i kids) mark outer start p) a b → get_or values (get_or kids i 0) 0 < 2147483647
+  pub left-more : (a b c : List ℕ) → length b ≡ length a → LowersBlock start (λ p. LeftChild values marks (take i kids) mark outer start p) a b → get_or values (get_or kids i 0) 0 < 2147483647
       → ((p : ℕ) → p < length b → get_or c p 0 ≡ lowered (is_left start mark (mark_at marks (get_or kids i 0)) p) (outer + get_or values (get_or kids i 0) 0) (get_or b p 0))
-      → LowersBlock start (λ p. LeftKid values marks (take (i + 1) kids) mark outer start p) a c
+      → LowersBlock start (λ p. LeftChild values marks (take (i + 1) kids) mark outer start p) a c
   left-more a b c long before small each =
-      block-then {P = Left i} {Q = λ p x. (is_left start mark (mark_at marks kid) p ≡ true) × (x ≡ outer + get_or values kid 0)} {R = Left (i + 1)} start a b c long before
-      (block-lowered start (λ p. is_left start mark (mark_at marks kid) p) (outer + get_or values kid 0) b c each
-      (λ p out. ⊎_elim (λ h. is_left-before start mark (mark_at marks kid) p h) (λ h. is_left-behind start mark (mark_at marks kid) p h) out))
+      block-then {P = Left i} {Q = λ p x. (is_left start mark (mark_at marks child) p ≡ true) × (x ≡ outer + get_or values child 0)} {R = Left (i + 1)} start a b c long before
+      (block-lowered start (λ p. is_left start mark (mark_at marks child) p) (outer + get_or values child 0) b c each
+      (λ p out. ⊎_elim (λ h. is_left-before start mark (mark_at marks child) p h) (λ h. is_left-behind start mark (mark_at marks child) p h) out))
       wider
       (λ p x h g q. let bits = left-bits p h g q.0 in
-      record { kid = kid; is_kid_of = is_kid-more kids i kid lt ∙ or_right (is_kid (take i kids) kid) (kid == kid) (eq-eqb kid kid refl); has = bits.0; lacks = bits.1; value = small; is = q.1 })
+      record { child = child; is_child_of = is_child-more kids i child lt ∙ or_right (is_child (take i kids) child) (child == child) (eq-eqb child child refl); has = bits.0; lacks = bits.1; value = small; is = q.1 })
       (λ p x h g l. ⊎_elim (λ w. inl w)
-      (λ (e : kid ≡ l.kid). inr (
-        is_left-in start mark (mark_at marks kid) p h g ∙ and_from _ _ l.has (ap not (ap (λ k. has_bit (mark_at marks k) (p - start)) e ∙ l.lacks)),
+      (λ (e : child ≡ l.child). inr (
+        is_left-in start mark (mark_at marks child) p h g ∙ and_from _ _ l.has (ap not (ap (λ k. has_bit (mark_at marks k) (p - start)) e ∙ l.lacks)),
         l.is ∙ ap (λ k. outer + get_or values k 0) (sym e),
       ))
       (narrower p x l))
 
-  -- a kid that mentions all that its parent does, or that has no value, changes nothing
-  pub left-same : (a b : List ℕ) → LowersBlock start (λ p. LeftKid values marks (take i kids) mark outer start p) a b → (mark_at marks (get_or kids i 0) ≡ mark) ⊎ (2147483647 ≤ get_or values (get_or kids i 0) 0)
-      → LowersBlock start (λ p. LeftKid values marks (take (i + 1) kids) mark outer start p) a b
+  -- a child that mentions all that its parent does, or that has no value, changes nothing
+  pub left-same : (a b : List ℕ) → LowersBlock start (λ p. LeftChild values marks (take i kids) mark outer start p) a b → (mark_at marks (get_or kids i 0) ≡ mark) ⊎ (2147483647 ≤ get_or values (get_or kids i 0) 0)
+      → LowersBlock start (λ p. LeftChild values marks (take (i + 1) kids) mark outer start p) a b
   left-same a b before why = block-as {P = Left i} {R = Left (i + 1)} start a b before (λ p x h g. wider p x)
       (λ p x h g l. ⊎_elim (λ w. w)
-      (λ (e : kid ≡ l.kid). absurd (⊎_elim
-      (λ (m : mark_at marks kid ≡ mark). false≢true (sym (sym (ap (λ w. has_bit w (p - start)) m) ∙ ap (λ k. has_bit (mark_at marks k) (p - start)) e ∙ l.lacks) ∙ l.has))
-      (λ (v : 2147483647 ≤ get_or values kid 0). omega (arith, v, l.value, ap (λ k. get_or values k 0) e))
+      (λ (e : child ≡ l.child). absurd (⊎_elim
+      (λ (m : mark_at marks child ≡ mark). false≢true (sym (sym (ap (λ w. has_bit w (p - start)) m) ∙ ap (λ k. has_bit (mark_at marks k) (p - start)) e ∙ l.lacks) ∙ l.has))
+      (λ (v : 2147483647 ≤ get_or values child 0). omega (arith, v, l.value, ap (λ k. get_or values k 0) e))
       why))
       (narrower p x l))
 
@@ -126,15 +126,15 @@ module _ (graph : Graph) (ok : IsGraph graph) (first at : ℕ) (lt : at < length
 pub marked-none : (nodes : List Node) (first at : ℕ) (marks : List ℕ) → NoneMarked nodes first at → ((node : ℕ) → node < at → mark_at marks node ≡ 0) → IsMarked nodes first at marks
 marked-none nodes first at marks none clear node b h small = ap (λ m. has_bit m b) (clear node h) ∙ has_bit-zero b ∙ sym (none node b h small)
 
-pub none-left : (nodes : List Node) (values outers : List ℕ) (parts start at : ℕ) (list : List ℕ) → NoneMarked nodes (parts + start + 1) at → LowersBlock start (λ p x. (node : ℕ) × (node < at) × AtKid nodes values outers (parts + p + 1) node x) list list
-none-left nodes values outers parts start at list none = block-none {P = λ p x. (node : ℕ) × (node < at) × AtKid nodes values outers (parts + p + 1) node x} start list
+pub none-left : (nodes : List Node) (values outers : List ℕ) (parts start at : ℕ) (list : List ℕ) → NoneMarked nodes (parts + start + 1) at → LowersBlock start (λ p x. (node : ℕ) × (node < at) × AtChild nodes values outers (parts + p + 1) node x) list list
+none-left nodes values outers parts start at list none = block-none {P = λ p x. (node : ℕ) × (node < at) × AtChild nodes values outers (parts + p + 1) node x} start list
     (λ p x h g m.
     let same : parts + start + 1 + (p - start) ≡ parts + p + 1 = omega arith in
     false≢true (sym (sym (ap (λ v. mentions nodes v m.0) same) ∙ none m.0 (p - start) m.1 (omega arith)) ∙ m.2.has))
 
 module _ (graph : Graph) (ok : IsGraph graph) (values outers marks : List ℕ) (parts start at : ℕ) (lt : at < length graph.nodes) (marked : IsMarked graph.nodes (parts + start + 1) (at + 1) marks) where
   abbrev Met : ℕ → ℕ → ℕ → Type 0
-  Met n place cost = (node : ℕ) × (node < n) × AtKid graph.nodes values outers (parts + place + 1) node cost
+  Met n place cost = (node : ℕ) × (node < n) × AtChild graph.nodes values outers (parts + place + 1) node cost
 
   -- the mark of a node says whether it mentions the variable of a place
   says : (node place : ℕ) → node < at + 1 → start ≤ place → place < start + 64 → has_bit (mark_at marks node) (place - start) ≡ mentions graph.nodes (parts + place + 1) node
@@ -142,39 +142,39 @@ module _ (graph : Graph) (ok : IsGraph graph) (values outers marks : List ℕ) (
       let same : parts + start + 1 + (place - start) ≡ parts + place + 1 = omega arith in
       marked node (place - start) h (omega arith) ∙ ap (λ v. mentions graph.nodes v node) same
 
-  pub node-more : (a b c : List ℕ) → length b ≡ length a → LowersBlock start (λ p x. (node : ℕ) × (node < at) × AtKid graph.nodes values outers (parts + p + 1) node x) a b
+  pub node-more : (a b c : List ℕ) → length b ≡ length a → LowersBlock start (λ p x. (node : ℕ) × (node < at) × AtChild graph.nodes values outers (parts + p + 1) node x) a b
       → LowersBlock start (λ p. LeftNode graph.nodes values outers marks at start p) b c
-      → LowersBlock start (λ p x. (node : ℕ) × (node < at + 1) × AtKid graph.nodes values outers (parts + p + 1) node x) a c
+      → LowersBlock start (λ p x. (node : ℕ) × (node < at + 1) × AtChild graph.nodes values outers (parts + p + 1) node x) a c
   node-more a b c long before here = block-then {P = Met at} {Q = λ p. LeftNode graph.nodes values outers marks at start p} {R = Met (at + 1)} start a b c long before here
       (λ p x m. (m.0, omega (arith, m.1), m.2))
-      (λ p x h g l. let inside : l.left.kid < at = kid_before graph at l.left.kid ok lt l.left.is_kid_of in (
+      (λ p x h g l. let inside : l.left.child < at = child_before graph at l.left.child ok lt l.left.is_child_of in (
         at,
         omega arith,
         record {
           within = lt;
           or_ = l.or_;
-          kid = l.left.kid;
-          is_kid_of = l.left.is_kid_of;
+          child = l.left.child;
+          is_child_of = l.left.is_child_of;
           has = sym (says at p (omega arith) h g) ∙ l.left.has;
-          lacks = sym (says l.left.kid p (omega arith) h g) ∙ l.left.lacks;
+          lacks = sym (says l.left.child p (omega arith) h g) ∙ l.left.lacks;
           outer = l.outer;
           value = l.left.value;
           is = l.left.is;
         },
       ))
       (λ p x h g m. ⊎_elim
-      (λ (e : m.0 ≡ at). inr (of_node p x h g (subst (λ k. AtKid graph.nodes values outers (parts + p + 1) k x) e m.2)))
+      (λ (e : m.0 ≡ at). inr (of_node p x h g (subst (λ k. AtChild graph.nodes values outers (parts + p + 1) k x) e m.2)))
       (λ (ne : m.0 ≢ at). inl (m.0, omega (arith, m.1), m.2))
       (cases_eq m.0 at)) where
-        of_node : (p x : ℕ) → start ≤ p → p < start + 64 → AtKid graph.nodes values outers (parts + p + 1) at x → LeftNode graph.nodes values outers marks at start p x
+        of_node : (p x : ℕ) → start ≤ p → p < start + 64 → AtChild graph.nodes values outers (parts + p + 1) at x → LeftNode graph.nodes values outers marks at start p x
         of_node p x h g k = record {
           or_ = k.or_;
           outer = k.outer;
           left = record {
-            kid = k.kid;
-            is_kid_of = k.is_kid_of;
+            child = k.child;
+            is_child_of = k.is_child_of;
             has = says at p (omega arith) h g ∙ k.has;
-            lacks = says k.kid p (omega (arith, kid_before graph at k.kid ok lt k.is_kid_of)) h g ∙ k.lacks;
+            lacks = says k.child p (omega (arith, child_before graph at k.child ok lt k.is_child_of)) h g ∙ k.lacks;
             value = k.value;
             is = k.is;
           };
@@ -195,11 +195,11 @@ module _ (graph : Graph) (ok : IsGraph graph) (values outers marks : List ℕ) (
   root-left place h g = is_left-in start 18446744073709551615 (mark_at marks root) place h g
       ∙ (λ i. has_bit-all (place - start) (omega arith) i && not (root-says place h g i))
 
-  pub root-more : (a b c : List ℕ) → length b ≡ length a → LowersBlock start (λ p x. (node : ℕ) × (node < count) × AtKid graph.nodes values outers (parts + p + 1) node x) a b
+  pub root-more : (a b c : List ℕ) → length b ≡ length a → LowersBlock start (λ p x. (node : ℕ) × (node < count) × AtChild graph.nodes values outers (parts + p + 1) node x) a b
       → ((p : ℕ) → p < length b → get_or c p 0 ≡ lowered (is_left start 18446744073709551615 (mark_at marks (length graph.nodes - 1)) p) (get_or values (length graph.nodes - 1) 0) (get_or b p 0))
       → LowersBlock start (λ p. Without graph.nodes values outers (parts + p + 1)) a c
   root-more a b c long before each = block-then
-      {P = λ p x. (node : ℕ) × (node < count) × AtKid graph.nodes values outers (parts + p + 1) node x}
+      {P = λ p x. (node : ℕ) × (node < count) × AtChild graph.nodes values outers (parts + p + 1) node x}
       {Q = λ p x. (is_left start 18446744073709551615 (mark_at marks root) p ≡ true) × (x ≡ get_or values root 0)}
       {R = λ p. Without graph.nodes values outers (parts + p + 1)} start a b c long before
       (block-lowered start (λ p. is_left start 18446744073709551615 (mark_at marks root) p) (get_or values root 0) b c each
@@ -212,10 +212,10 @@ module _ (graph : Graph) (ok : IsGraph graph) (values outers marks : List ℕ) (
 
 -- what an or lowers
 pub node-left : (nodes : List Node) (values outers marks : List ℕ) (at start : ℕ) (a b kids : List ℕ) → (node_at nodes at).what ≡ Or → get_or outers at 0 < 2147483647 → kids ≡ (node_at nodes at).kids
-    → LowersBlock start (λ p. LeftKid values marks kids (mark_at marks at) (get_or outers at 0) start p) a b → LowersBlock start (λ p. LeftNode nodes values outers marks at start p) a b
+    → LowersBlock start (λ p. LeftChild values marks kids (mark_at marks at) (get_or outers at 0) start p) a b → LowersBlock start (λ p. LeftNode nodes values outers marks at start p) a b
 node-left nodes values outers marks at start a b kids or_is small same before = block-as
-    {P = λ p. LeftKid values marks (node_at nodes at).kids (mark_at marks at) (get_or outers at 0) start p} {R = λ p. LeftNode nodes values outers marks at start p} start a b
-    (subst (λ (ks : List ℕ). LowersBlock start (λ p. LeftKid values marks ks (mark_at marks at) (get_or outers at 0) start p) a b) same before)
+    {P = λ p. LeftChild values marks (node_at nodes at).kids (mark_at marks at) (get_or outers at 0) start p} {R = λ p. LeftNode nodes values outers marks at start p} start a b
+    (subst (λ (ks : List ℕ). LowersBlock start (λ p. LeftChild values marks ks (mark_at marks at) (get_or outers at 0) start p) a b) same before)
     (λ p x h g l. record { or_ = or_is; outer = small; left = l })
     (λ p x h g l. l.left)
 

@@ -1,7 +1,7 @@
--- What is told of all wires at once.
+-- What is said of all wires at once.
 use Rattle.std.specs.Prelude.{ℕ, ◌+◌, ◌/◌, Bool, Option, List, length, slice_index, if◌then◌else◌}
 use Rattle.minimiser.specs.Stored.{cost_in}
 
--- The least cost where a wire has a bit, by the numbers of the wires: those where a wire is 0, and behind them those where it is 1.
+-- The least cost if a wire has a bit, by the numbers of the wires: those if a wire is 0, and after them those if it is 1.
 abbrev pub probed : List ℕ → ℕ → Bool → Option ℕ
 probed numbers wire bit = cost_in (slice_index numbers (if bit then length numbers / 2 + wire else wire))

@@ -1,7 +1,7 @@
 ghost use Rattle.std.specs.Prelude.{◌≡◌, ℕ, ◌+◌, ◌-◌, ◌*◌, ◌/◌, ◌<◌, ◌≤◌, ◌≢◌, length, All, false, slice_index};
 ghost use Rattle.minimiser.specs.inner.Outside.{lowered};
 ghost use Rattle.probe_report.specs.inner.Outside.{is_left, mark_at, IsLowered, Without};
-ghost use Rattle.probe_report.specs.inner.Leaving.{LeftKid, LeftNode, LowersBlock};
+ghost use Rattle.probe_report.specs.inner.Leaving.{LeftChild, LeftNode, LowersBlock};
 
 use crate::marking::{WIDTH, clear_marks, first_marked, has_bit, mark_at, mark_of, set_mark};
 use conditioner::is_open;
@@ -11,7 +11,7 @@ use state_rules::NodeKind;
 use std::sync::ledger::Ledger;
 
 // Lowers the number of each wire that is not seen to the least cost of a derivation without it. The wires' variables are those
-// behind the parts'. One sweep over the nodes for each 64 wires of which one is not seen.
+// after the parts'. One sweep over the nodes for each 64 wires of which one is not seen.
 pub(crate) fn lower_without<L: Ledger>(
     graph: &Graph,
     values: &[u32],
@@ -88,7 +88,7 @@ fn lower_block(
     lower_all(start, u64::MAX, mark_at(marks, root), values[root], list);
 }
 
-// Lowers the numbers of the wires that a node mentions, and one of its kids does not, if it is an or.
+// Lowers the numbers of the wires that a node mentions, and one of its children does not, if it is an or.
 fn lower_node(
     graph: &Graph,
     values: &[u32],
@@ -128,7 +128,7 @@ fn lower_node(
     }
 }
 
-// Lowers the numbers of the wires that an or mentions and a kid does not to what the or costs with that kid.
+// Lowers the numbers of the wires that an or mentions and a child does not to what the or costs with that child.
 fn lower_left(
     values: &[u32],
     marks: &[u32],
@@ -142,26 +142,26 @@ fn lower_left(
     requires kids { All (λ k. k < length values.now) kids.now }
     requires marks { length marks.now ≡ 2 * length values.now }
     requires outer { outer < TOTAL_LIMIT }
-    ensures { LowersBlock start (λ i. LeftKid values.now marks.now kids.now mark outer start i) list.old list.new }
+    ensures { LowersBlock start (λ i. LeftChild values.now marks.now kids.now mark outer start i) list.old list.new }
 {
     for k in kids {
         let value = values[*k as usize];
-        let kid = mark_at(marks, *k as usize);
-        if kid != mark && value < TOTAL_LIMIT {
-            lower_all(start, mark, kid, outer + value, list);
+        let child = mark_at(marks, *k as usize);
+        if child != mark && value < TOTAL_LIMIT {
+            lower_all(start, mark, child, outer + value, list);
         }
     }
 }
 
 // Lowers the numbers of the wires that are left to a cost.
-fn lower_all(start: usize, mark: u64, kid: u64, cost: u32, list: &mut [u32])
+fn lower_all(start: usize, mark: u64, child: u64, cost: u32, list: &mut [u32])
     requires { start < length list.old }
     ensures { (i : ℕ) → i < length list.old
-        → slice_index list.new i ≡ lowered (is_left start mark kid i) cost (slice_index list.old i) }
+        → slice_index list.new i ≡ lowered (is_left start mark child i) cost (slice_index list.old i) }
 {
     let end = (start + WIDTH as usize).min(list.len());
     for i in start..end {
-        if has_bit(mark, i - start) && !has_bit(kid, i - start) {
+        if has_bit(mark, i - start) && !has_bit(child, i - start) {
             list[i] = list[i].min(cost);
         }
     }

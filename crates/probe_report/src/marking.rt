@@ -10,7 +10,7 @@ use state_rules::NodeKind;
 /// How many variables have a bit in a mark.
 pub(crate) const WIDTH: u32 = 64;
 
-// A mark stands in two words, and one in the second counts so much.
+// A mark is in two words, and one in the second counts so much.
 const HALF: u64 = 4_294_967_296;
 
 // The first node that mentions one of 64 variables from the first on, or the number of nodes.
@@ -54,7 +54,7 @@ fn literal_mark(var: u32, first: u32) -> u64
     1 << (var - first)
 }
 
-// The bits that some mark of the kids has.
+// The bits that some mark of the children has.
 fn joined(marks: &[u32], kids: &[u32]) -> u64
     requires { All (λ k. 2 * k + 1 < length marks.now) kids.now }
     ensures { (b : ℕ) → has_bit result b ≡ list_any (λ x. x) (map (λ k. has_bit (mark_at marks.now k) b) kids.now) }

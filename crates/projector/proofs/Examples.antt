@@ -37,7 +37,7 @@ none_held : projected_text always (0 ∷ 0 ∷ []) 2 ≡ text (map codes ("nnf 2
 unfolding digits
 none_held = refl
 
--- A buffer: variable 1 is its health, 2 its input and 3 its output. These are equal where it is ok.
+-- A buffer: variable 1 is its health, 2 its input and 3 its output. These are equal if it is ok.
 abbrev buffer : Graph
 buffer = record {
   nodes = literal_node 1 true ∷ literal_node 1 false ∷ literal_node 2 true ∷ literal_node 2 false ∷ literal_node 3 true ∷ literal_node 3 false
@@ -73,7 +73,7 @@ either = refl
 ok_too : holds (projection buffer (0 ∷ 1 ∷ 0 ∷ []) 1) (true ∷ []) ≡ true
 ok_too = refl
 
--- the same where it is held to be ok, with a literal of its own behind the nodes
+-- the same where it is held to be ok, with a literal of its own after the nodes
 held_too : projected_text buffer (1 ∷ 1 ∷ 0 ∷ []) 1 ≡ text (map codes (
     "nnf 13 12 1" ∷ "A 0" ∷ "O 0 0" ∷ "A 0" ∷ "O 0 0" ∷ "A 0" ∷ "A 0"
     ∷ "A 2 2 4" ∷ "A 2 3 5" ∷ "O 0 2 6 7" ∷ "A 2 0 8" ∷ "O 0 2 1 9" ∷ "L 1" ∷ "A 2 10 11" ∷ []

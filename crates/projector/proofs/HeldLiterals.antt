@@ -10,7 +10,7 @@ use Rattle.state_rules.specs.Cases.{agrees}
 use Rattle.state_rules.specs.declared.nodes.NodeKind.{NodeKind}
 use Rattle.state_rules.specs.Graphs.{Node, literal_node, true_node, node_at, at_most_one, truth_by, mention_by, apart_at, nodes_fit, edges}
 use Rattle.state_rules.proofs.NodeValues.{are_below, value_of, value_of-at}
-use Rattle.state_rules.proofs.Kids.{at_most_one-from}
+use Rattle.state_rules.proofs.Children.{at_most_one-from}
 use Rattle.projector.specs.Projecting.{held_literal}
 
 -- those of parts of which the first has this number
@@ -22,7 +22,7 @@ length-held s [] = omega arith
 length-held s (None ∷ known) = omega (arith, length-held (s + 1) known)
 length-held s (Some ok ∷ known) = omega (arith, length-held (s + 1) known)
 
--- ---- they have no kids
+-- ---- they have no children
 
 pub held-alone : (s : ℕ) (known : List (Option Bool)) → AllByRecursion (λ (node : Node). node.kids ≡ []) (held_from s known)
 held-alone s [] = tt
@@ -45,7 +45,7 @@ held-fit parts own s (None ∷ known) some few = held-fit parts own (s + 1) know
 held-fit parts own s (Some ok ∷ known) some few =
     and_from _ _ (and_from _ _ (le-leb 1 s some) (le-leb s parts (omega arith))) (held-fit parts (own + 1) (s + 1) known (omega arith) (omega arith))
 
--- the values of nodes without kids that stand between others
+-- the values of nodes without children that are between others
 pub values-alone : (by : NodeKind → List Bool → Bool) (front middle back : List Node) → AllByRecursion (λ (node : Node). node.kids ≡ []) middle
     → map (value_of by (front ++ (middle ++ back))) (range_with_len (length front) (length middle)) ≡ map (λ node. by node.what []) middle
 values-alone by front [] back alone = refl
@@ -61,7 +61,7 @@ values-alone by front (node ∷ middle) back alone =
     (λ i. here i ∷ map (value_of by (sym regrouped i)) (range_with_len (sym longer i) (length middle)))
     ∙ ap (λ bs. by node.what [] ∷ bs) (values-alone by (front ++ node ∷ []) middle back alone.1)
 
--- ---- they are true where the bits agree
+-- ---- they are true if the bits agree
 
 pub held-agrees : (a : Assignment) (s : ℕ) (known : List (Option Bool)) (bits : List Bool) → length known ≡ length bits → ((i : ℕ) → a (s + i) ≡ bit_in bits i)
     → list_all (λ b. b) (map (λ node. truth_by a node.what []) (held_from s known)) ≡ agrees known bits

@@ -54,7 +54,7 @@ held-count s (suc (suc n) ∷ health) =
 
 -- ---- the line of the root
 
--- its kids stand one behind the other
+-- its children stand one after the other
 root-kids : (nodes held : ℕ) → 0 < nodes → range_with_len (nodes - 1) (held + 1) ≡ (nodes - 1) ∷ range_with_len nodes held
 root-kids nodes held some =
     let more : held + 1 ≡ suc held = omega arith in
@@ -75,7 +75,7 @@ projected-line words parts node kind become kids b k s = (λ i. spaced (kind_wor
 
 -- ---- the whole text
 
--- kids stay, and so does their number
+-- children stay, and so does their number
 projected-edges : (words : List ℕ) (parts : ℕ) (nodes : List Node) → edges (map (projected_node words parts) nodes) ≡ edges nodes
 projected-edges words parts [] = refl
 projected-edges words parts (node ∷ nodes) =

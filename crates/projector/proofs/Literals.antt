@@ -60,7 +60,7 @@ module _ (parts var : ℕ) (positive : Bool) where
   fixed-silent v true = refl
   fixed-silent v false = refl
 
-  -- it mentions no variable but its own, and that only where nothing is known of it
+  -- it mentions no variable but its own, and that only if nothing is known of it
   pub literal-mentions : (v : ℕ) (k : Option Bool) → mention_by v (become k) [] ≡ true → (var ≡ v) × (k ≡ None)
   literal-mentions v None e = (kept-mentions v (nat_le var parts) e, refl)
   literal-mentions v (Some c) e = absurd (let no : true ≡ false = sym e ∙ fixed-silent v (same_bit positive c) in cc)

@@ -25,7 +25,7 @@ use Rattle.state_rules.specs.Graphs.{Node, Graph, true_node, node_at, at_most_on
 use Rattle.state_rules.proofs.NodeValues.{are_below, value_of, value_of-at}
 use Rattle.state_rules.proofs.NodesFit.{Fits, fits, fits-at, literal}
 use Rattle.state_rules.proofs.Mentions.{mentioned-range}
-use Rattle.state_rules.proofs.Kids.{each_below, any_more, at_most_one-from, at_most_one-less, range-below}
+use Rattle.state_rules.proofs.Children.{each_below, any_more, at_most_one-from, at_most_one-less, range-below}
 use Rattle.nnf_text.specs.GraphTexts.{parsed}
 use Rattle.nnf_text.proofs.ReadingBack.{IsList, graph_text-read, graph_text-is_neat}
 use Rattle.nnf_text.specs.StateGraphs.{IsGraphOfStates}
@@ -61,7 +61,7 @@ part_bit : (k : Option Bool) (bit b : Bool) → agrees_at (wanted_of k true bit)
 part_bit (Some c) bit b e f = sym (same_bit-equal c bit f) ∙ same_bit-equal c b e
 part_bit None bit b e f = same_bit-equal bit b e
 
--- ---- a node, by its kids
+-- ---- a node, by its children
 
 -- what the words say of a variable
 abbrev known_of_var : List ℕ → ℕ → Option Bool
@@ -72,7 +72,7 @@ module _ (words : List ℕ) (parts : ℕ) where
   abbrev pub wanted : Assignment → ℕ → Option Bool
   wanted a v = wanted_of (known_of_var words v) (nat_lt (v - 1) parts) (a v)
 
-  -- a projected node is true where the node can be
+  -- a projected node is true if the node can be
   kind-truth : (a : Assignment) (vars : ℕ) (kind : NodeKind) (kids : List ℕ) → kind_fits vars kind kids ≡ true → (c : ℕ → Bool)
       → truth_by a (projected_kind words parts kind) (map c kids) ≡ can_by (wanted a) kind (map c kids)
   kind-truth a vars (Literal positive var) kids fits c =
@@ -254,7 +254,7 @@ module _ (graph : Graph) (words : List ℕ) (parts : ℕ) (is : IsGraph graph) (
     root-meets = all_nodes (can_literal (wanted words parts a)) (all_can (wanted words parts a)) (any_can (wanted words parts a)) (Meets (wanted words parts a)) (can_laws (wanted words parts a)) graph is can_be
         (λ i lt. value-at (truth_by a) i lt ∙ kind-truth words parts a graph.vars (node_at graph.nodes i).what (node_at graph.nodes i).kids (fits_at i lt).kind can_be) old_root (omega (arith, is.some))
 
-    -- it is true where the root can be and the held literals agree
+    -- it is true if the root can be and the held literals agree
     holds-projected : holds (projection graph words parts) h ≡ (can_be old_root && agrees known_parts h)
     holds-projected = root-value (truth_by a)
         ∙ ap (λ b. can_be old_root && b) (held-agrees a 1 known_parts h (length-known ∙ sym long) (λ j. let e : (1 + j) - 1 ≡ j = omega arith in ap (bit_in h) e))

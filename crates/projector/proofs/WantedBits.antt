@@ -30,7 +30,7 @@ module _ (wanted : ℕ → Option Bool) where
     pub row : IsRow (λ n. can) 1 (TestCost (no_weights wanted) m t)
     pub local : Depends m t
 
-  -- of a literal, of all and of any of the kids
+  -- of a literal, of all and of any of the children
   abbrev pub can_literal : ℕ → Bool → Bool
   can_literal var positive = agrees_at (wanted var) positive
 

@@ -9,8 +9,8 @@ use Rattle.conditioner.specs.declared.leaves.Leaf.{Leaf}
 use Rattle.conditioner.specs.declared.leaves.Leaf.TheVariants.{True, False, Open}
 use Rattle.conditioner.specs.Words.{known_of, known, leaf_of}
 
--- A literal, which has no kids, becomes an and where it is true, and an or where it is false. An open one stays where its
--- variable is a part's, and becomes an and where it is any other's, since that can have the bit that makes it true.
+-- A literal, which has no children, becomes an and if it is true, and an or if it is false. An open one stays where its
+-- variable is a part's, and becomes an and if it is any other's, since that can have the bit that makes it true.
 abbrev pub projected_literal : ℕ → ℕ → Bool → Leaf → NodeKind
 projected_literal parts var positive True = And
 projected_literal parts var positive False = Or
@@ -23,7 +23,7 @@ projected_kind words parts (Literal positive var) =
 projected_kind words parts And = And
 projected_kind words parts Or = Or
 
--- kids stay
+-- children stay
 abbrev pub projected_node : List ℕ → ℕ → Node → Node
 projected_node words parts node = record { what = projected_kind words parts node.what; kids = node.kids }
 

@@ -49,7 +49,7 @@ length-run region sound run held =
     let room = sound.1 in
     length-words_at region.words run.start run.len (omega (arith, lies, room))
 
--- a run keeps its words when another is carved behind it
+-- a run keeps its words when another is carved after it
 pub carved-others : (region : Carved) → regions.IsSound region → (run other : Span) → run.start ≡ words_used region.runs → run.start + run.len ≤ length region.words
     → Contains region.runs other → run_words (carved region run) other ≡ run_words region other
 carved-others region sound run other at fits held =

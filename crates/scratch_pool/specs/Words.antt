@@ -6,7 +6,7 @@ use Rattle.std.specs.List.{refill}
 abbrev pub words_at : List ℕ → ℕ → ℕ → List ℕ
 words_at words start len = take len (drop start words)
 
--- the buffer with these words from a place on; no word behind its end is written
+-- the buffer with these words from a place on; no word after its end is written
 abbrev pub written : List ℕ → ℕ → List ℕ → List ℕ
 written words start new = refill (length words) words (take start words ++ (new ++ drop (length new) (drop start words)))
 

@@ -22,7 +22,7 @@ use Rattle.script_lang.specs.declared.refusal.LineRefusal.TheVariants.{UnknownCo
 use Rattle.script_lang.specs.Refusals.{refusal_of}
 use Rattle.script_lang.specs.declared.limits.TheConstants.{COUNT_LIMIT, LINE_LIMIT}
 
--- what is told of a session's case, which stays as it is
+-- what is answered of a session's case, which stays as it is
 pub data Question : Type 0 where
   Min : Question
   Probe : (wire : Name) → Question
@@ -63,7 +63,7 @@ abbrev pub on_name : (Name → Request) → List (List ℕ) → Line
 on_name request (s ∷ name ∷ []) = if is_short_name s && is_script_name name then Ask s (request name) else Refused BadName
 on_name request ws = Refused BadWords
 
--- what stands before the first equals sign, and after it
+-- what is before the first equals sign, and after it
 abbrev pub at_equals : List ℕ → Option (List ℕ × List ℕ)
 at_equals [] = None
 at_equals (b ∷ bytes) = if b == 61 then Some ([], bytes) else option_map (λ (pair : List ℕ × List ℕ). (b ∷ pair.0, pair.1)) (at_equals bytes)
@@ -101,7 +101,7 @@ abbrev pub on_names : (List Name → Request) → List (List ℕ) → Line
 on_names request [] = Refused BadWords
 on_names request (s ∷ names) = if is_short_name s && list_all is_script_name names then Ask s (request names) else Refused BadName
 
--- the command words, and how the words behind each are read
+-- the command words, and how the words after each are read
 abbrev pub commands : List (List ℕ × (List (List ℕ) → Line))
 commands = (codes "open", on_session Start)
     ∷ (codes "close", on_session Stop)
@@ -145,7 +145,7 @@ line_of bytes = if nat_lt LINE_LIMIT (length bytes) then Refused TooLong else li
 
 -- ---- what the values that the code hands on mean
 
--- what is told of a session's case
+-- what is answered of a session's case
 abbrev pub question_of : QuestionRead → Question
 question_of question.Min = Min
 question_of (question.Probe wire) = Probe wire.now

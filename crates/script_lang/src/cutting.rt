@@ -6,7 +6,7 @@ ghost use Rattle.script_lang.specs.Script.{at_equals};
 
 use text_rules::is_blank;
 
-// The first word of a text, and the text behind it.
+// The first word of a text, and the text after it.
 pub fn split_word(text: &[u8]) -> Option<(&[u8], &[u8])>
     ensures { MatchOption result (words text.now ≡ [])
         (λ found. words text.now ≡ found.0.now ∷ words found.1.now) }
@@ -41,7 +41,7 @@ pub fn two_words(text: &[u8]) -> Option<(&[u8], &[u8])>
     Some((first, second))
 }
 
-// What stands before the first equals sign, and after it.
+// What is before the first equals sign, and after it.
 pub fn at_equals(word: &[u8]) -> Option<(&[u8], &[u8])>
     ensures { option_map (λ found. (found.0.now, found.1.now)) result ≡ at_equals word.now }
 {

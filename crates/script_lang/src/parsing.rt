@@ -94,7 +94,7 @@ fn are_script_names(text: &[u8]) -> bool
     Tokens::words(text).all(is_script_name)
 }
 
-// A session, and the text of the names behind it.
+// A session, and the text of the names after it.
 fn names_in(text: &[u8]) -> Result<(&[u8], &[u8]), LineRefusal>
     ensures { (request : List Name → script.Request)
         → asked_by (λ found. Ask found.0.now (request (words found.1.now))) result
@@ -114,7 +114,7 @@ fn same_word(word: &[u8], other: &[u8]) -> bool
     word == other
 }
 
-// What a command and the text behind it say, if the command is one of a session's life or of its case.
+// What a command and the text after it say, if the command is one of a session's life or of its case.
 fn read_command<'a>(command: &[u8], text: &'a [u8]) -> Result<Line<'a>, LineRefusal>
     ensures { asked_by meaning result ≡ read_as command.now (words text.now) }
 {

@@ -126,7 +126,7 @@ module _ (shown : Shown) (is_graph : IsGraph shown.subject.graph) (room : length
       → Makes old new (script_moves (moves_of shown) old lines) a b → Makes old new (script_moves (line_moves (system_of shown.subject) shown.limit) old lines) a b
   makes_over old new lines a b h = makes_same old new _ _ a b (script_exact old lines h)
 
-  -- and where they broke off, those over the system did
+  -- and if they broke off, those over the system did
   pub breaks_over : (old new : Table) (lines : List (List ℕ)) (a b : Option (List ℕ)) → HasCasesOf (system_of shown.subject) old
       → BreaksOff new (script_moves (moves_of shown) old lines) a b → BreaksOff new (script_moves (line_moves (system_of shown.subject) shown.limit) old lines) a b
   breaks_over old new lines a b h = breaks_same new _ _ a b (script_exact old lines h)

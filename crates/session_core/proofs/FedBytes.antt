@@ -39,7 +39,7 @@ rest-take line (b ∷ bs) = elim (b == 10) as (λ v. kept (if v then rest_from [
 alike_rest : (l k bytes : List ℕ) → kept l ≡ kept k → kept (rest_from l bytes) ≡ kept (rest_from k bytes)
 alike_rest l k bytes e = sym (rest-take l bytes) ∙ ap (λ j. kept (rest_from j bytes)) e ∙ rest-take k bytes
 
--- the same lines, but for the first, of which no more than counts is the same
+-- the same lines, except for the first, of which no more than counts is the same
 abbrev FirstAlike : List (List ℕ) → List (List ℕ) → Type 0
 FirstAlike [] [] = ⊤
 FirstAlike [] (k ∷ ks) = ⊥
@@ -71,7 +71,7 @@ module _ (one : Table → List ℕ → List Step) (h : IsCut one) where
   script_moves-alike t (l ∷ ls) (k ∷ ks) (same, rest) =
       ap₂ (λ first lines. first ++ script_moves one (left_by t first) lines) (alike_moves t l k same) rest
 
-  -- also where they come after other lines
+  -- also if they come after other lines
   moves_behind : (s t : Table) (ls ks ms : List (List ℕ)) → t ≡ left_by s (script_moves one s ls) → FirstAlike ks ms → script_moves one s ls ++ script_moves one t ks ≡ script_moves one s (ls ++ ms)
   moves_behind s t ls ks ms is alike =
       ap (λ moves. script_moves one s ls ++ moves) (script_moves-alike t ks ms alike ∙ ap (λ u. script_moves one u ms) is)

@@ -22,7 +22,7 @@ pub is_among-nowhere : (name : Name) (names : List Name) → None ≡ place_of n
 is_among-nowhere name names missing = grind (arith, list_any_none, fails_before_first)
 
 module _ (parts : List Name) where
-  -- a part is among all names exactly where its word is marked, or where it is among the names that are left
+  -- a part is among all names exactly if its word is marked, or if it is among the names that are left
   abbrev pub AreMarked : List Name → List ℕ → List Name → Type 0
   AreMarked all state left = (k : ℕ) → k < length parts
       → is_among all (get_or parts k []) ≡ (not (get_or state k 0 == 0) || is_among left (get_or parts k []))

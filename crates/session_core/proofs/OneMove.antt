@@ -32,7 +32,7 @@ abbrev pub IsOneMove : Request → Type 0
 IsOneMove request = (shown : Shown) (table : Table) (session : Name)
     → exact_moves shown table (Ask session request) ≡ carried table session (outcome_in (served_system shown.subject) shown.limit table session request) ∷ []
 
--- what an open session answers is told by its entry
+-- what an open session answers is answered by its entry
 pub asked_open : (old : Shown) (session : Name) (request : Request) (entry : Entry) → entry_of session old.table ≡ Some entry → outcome_in (served_system old.subject) old.limit old.table session request ≡ when_open (served_system old.subject) session entry request
 asked_open old session request entry found = ap (λ (e : Option Entry). outcome (served_system old.subject) session (nat_le old.limit (length old.table)) e request) found
 
@@ -45,7 +45,7 @@ obeys_move old new session request move before after result is becomes reply = r
   stays = becomes ∙ sym (ap (λ (s : Shown). with_table old s.table) becomes);
 }
 
--- what a request comes to, where it is one move
+-- what a request comes to, if it is one move
 pub obeys_outcome : {T E : Type 0} (old : Shown) (session : Name) (request : Request) → IsOneMove request → (before after : Option (List ℕ)) (result : Result T E)
     → (to : Outcome) (new : Shown) → outcome_in (served_system old.subject) old.limit old.table session request ≡ to
     → new ≡ with_table old (carried old.table session to).table → Replies before after result (carried old.table session to).items → Obeys old new session request before after result
@@ -61,12 +61,12 @@ obeys_refusal old session request before after result refusal is put =
     obeys_move old old session request (carried old.table session (Declined refusal)) before after result (declined old session refusal request is) refl
     (replies_one before after result (line (session ∷ error_words (refusal_row refusal))) _ refl put)
 
--- what is told, line by line or as a refusal, and the table stays
+-- what is answered, line by line or as a refusal, and the table stays
 told_step : (table : Table) (session : Name) (lines : Result (List (List (List ℕ))) Refusal) → record { table = table; items = items_told session lines } ≡ carried table session (tells_lines lines)
 told_step table session (Ok lines) = refl
 told_step table session (Err refusal) = refl
 
--- an open session was told what it asked
+-- an open session was answered what it asked
 pub obeys_told : {T E : Type 0} (old new : Shown) (session : Name) (entry : Entry) (question : Question) (before after : Option (List ℕ)) (result : Result T E) → entry_of session old.table ≡ Some entry → new ≡ old
     → Replies before after result (items_told session (told (served_system old.subject) session entry.known question)) → Obeys old new session (Tell question) before after result
 obeys_told old new session entry question before after result found same reply =

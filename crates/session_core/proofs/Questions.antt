@@ -1,4 +1,4 @@
--- What is told of a case, by what the graph answers under its words.
+-- What is answered of a case, by what the graph answers under its words.
 use Rattle.std.proofs.Common.{◌≡◌, ◌≢◌, ℕ, suc, ◌+◌, ◌<◌, Bool, true, false, not, List, [], ◌∷◌, ◌++◌, map, length, get_or, drop, Option, Some, None, refl, ap, ap₂, ◌∙◌, arith, codes}
 use Rattle.std.specs.Prelude.{is_some, slice_get}
 use Rattle.std.proofs.lemmas.List.{drop_more}

@@ -39,7 +39,7 @@ module _ (subject : Subject) (is : IsGraph subject.graph) (room : length subject
       let text = plain_spelled (said written) (script-plain shown table lines) in
       grind (arith, said-replies (system_of subject) limit table lines, each_spelled (said over) text.0 (same_said written over (script_exact shown is room few least table lines h) text.0 text.1))
 
-  -- What was written where it broke off begins its replies, also if more lines were to come.
+  -- What was written if it broke off begins its replies, also if more lines were to come.
   pub broken_begins_more : (limit : ℕ) (old new : Table) (lines more : List (List ℕ)) (a b : Option (List ℕ)) → HasCasesOf (system_of subject) old
       → BreaksOff new (script_moves (line_moves (system_of subject) limit) old lines) a b → WritesPart a b (replies (system_of subject) limit old (lines ++ more))
   broken_begins_more limit old new lines more a b h broke = grind (arith, broken_replies (system_of subject) limit old new (lines ++ more) a b, script_moves-append (line_moves (system_of subject) limit) old lines more, breaks_before, replies-have limit old (lines ++ more) h)

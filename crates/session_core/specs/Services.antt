@@ -21,7 +21,7 @@ use Rattle.session_core.specs.declared.limits.TheConstants.{SERVED_BITS}
 pub record CanList (graph : Graph) (parts top : ℕ) : Type 0 where
   pub few : length graph.nodes * (parts + 32 * cost_words top) ≤ SERVED_BITS
 
--- The graph of the diagnoses is told. Its lines can be numbered, and it is drawn with few bits.
+-- The graph of the diagnoses is answered. Its lines can be numbered, and it is drawn with few bits.
 pub record CanDraw (graph : Graph) (parts : ℕ) : Type 0 where
   pub lines : length graph.nodes + edges graph.nodes + 2 * parts + 1 < 2 ^ 32
   pub few : drawing_bits (length graph.nodes) parts ≤ SERVED_BITS
@@ -34,13 +34,13 @@ pub record Shown : Type 0 where
 
 -- What holds of every service. From this it follows that what a service writes spells the replies of its system.
 pub record IsSound (shown : Shown) : Type 0 where
-  -- In the graph children stand before their parents, and no two children of an and share a variable.
+  -- In the graph children are before their parents, and no two children of an and share a variable.
   pub valid : IsGraph shown.subject.graph
   -- Each part and each wire is a variable of the graph.
   pub room : length shown.subject.parts + length shown.subject.wires ≤ shown.subject.graph.vars
   -- The text of a graph over the parts has numbers of 32 bits.
   pub few : length shown.subject.graph.nodes + length shown.subject.parts + 1 < 2 ^ 32
-  -- Where the graph of the diagnoses is told, each part has a cost above 0, and the lines of that graph can be numbered.
+  -- If the graph of the diagnoses is answered, each part has a cost above 0, and the lines of that graph can be numbered.
   pub least : shown.subject.extras.least ≡ true → HasLeastTexts shown.subject
   -- Each open session knows something, or nothing, of each wire and each part.
   pub cases : HasCasesOf (system_of shown.subject) shown.table
@@ -64,7 +64,7 @@ exact_moves shown table line = moves (served_system shown.subject) shown.limit t
 abbrev pub moves_of : Shown → Table → List ℕ → List Step
 moves_of shown table bytes = exact_moves shown table (line_of bytes)
 
--- A line is refused: it is none of the language, or what it asks is declined, as where its session is not open or where it names
+-- A line is refused: it is none of the language, or what it asks is declined, as if its session is not open or if it names
 -- no part or wire. A blank line is not refused.
 abbrev pub IsRefused : Shown → Line → Type 0
 IsRefused shown Blank = ⊥
@@ -78,13 +78,13 @@ ChangesTable old new = new ≡ record old { table = new.table }
 
 -- What a service writes for these lines, from this table, is one text of what its system answers.
 pub record SpellReplies (shown : Shown) (old : Table) (lines : List (List ℕ)) : Type 0 where
-  -- Where the moves of the lines were made, those over the system were, the text spells its replies, and cases fit as before.
+  -- If the moves of the lines were made, those over the system were, the text spells its replies, and cases fit as before.
   pub made : (new : Table) (before after : Option (List ℕ)) → Makes old new (script_moves (moves_of shown) old lines) before after
       → Makes old new (script_moves (line_moves (system_of shown.subject) shown.limit) old lines) before after
   pub replies : (new : Table) (before after : Option (List ℕ)) → Makes old new (script_moves (moves_of shown) old lines) before after
       → Writes before after (replies (system_of shown.subject) shown.limit old lines)
   pub cases : (new : Table) (before after : Option (List ℕ)) → Makes old new (script_moves (moves_of shown) old lines) before after
       → HasCasesOf (system_of shown.subject) new
-  -- Where they broke off, those over the system did.
+  -- If they broke off, those over the system did.
   pub broke : (new : Table) (before after : Option (List ℕ)) → BreaksOff new (script_moves (moves_of shown) old lines) before after
       → BreaksOff new (script_moves (line_moves (system_of shown.subject) shown.limit) old lines) before after

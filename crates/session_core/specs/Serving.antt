@@ -8,7 +8,7 @@ use Rattle.session_core.specs.declared.serving.TheConstants.{READ_LIMIT}
 use Rattle.session_core.specs.declared.serving.ServeEnd.{ServeEnd}
 use Rattle.session_core.specs.declared.serving.ServeEnd.TheVariants.{Done, ReadFault, WriteFault, Limit}
 
--- Some lines were answered, and a write failed in the lines behind them.
+-- Some lines were answered, and a write failed in the lines after them.
 pub record FailsBehind (one : Table → List ℕ → List Step) (old new : Table) (answered lines : List (List ℕ)) (before after : Option (List ℕ)) : Type 0 where
   pub table : Table
   pub middle : Option (List ℕ)
@@ -26,7 +26,7 @@ pub record FailsAtOnce (one : Table → List ℕ → List Step) (old new : Table
   pub ended : whole_lines bytes ≡ whole_lines fed ++ lines
   pub failed : FailsBehind one old new (whole_lines fed) lines before after
 
--- What was done with the bytes that were taken, by how the script ended, where each line has these moves. At the end of the script
+-- What was done with the bytes that were taken, by how the script ended, if each line has these moves. At the end of the script
 -- a write may also fail in a last line that no line feed ended.
 abbrev pub Served : ServeEnd → (Table → List ℕ → List Step) → Table → Table → List ℕ → ℕ → Type 0 → Option (List ℕ) → Option (List ℕ) → Type 0
 Served Done one old new bytes limit at_end before after =

@@ -92,7 +92,7 @@ impl Basis {
         ensures { IfOk result (λ basis. basis
             ≡ record { parts = parts.items; wires = wires.items; costs = costs.items; graph = graph; extras = extras }) }
     {
-        // a graph is one whose children stand before it and share no variable below an and
+        // a graph is one whose children are before it and share no variable below an and
         let _nodes = graph.len();
         let levels = levels_of(alloc, &graph, &costs, extras.levels)?;
         let sets = sets_of(alloc, &graph, costs.len(), extras)?;
@@ -146,7 +146,7 @@ impl Basis {
         &self.graph
     }
 
-    /// The place of a wire, or of a part. There is none exactly where none has the name.
+    /// The place of a wire, or of a part. There is none exactly if none has the name.
     pub(crate) fn find(&self, what: Noted, name: &[u8]) -> Option<u32>
         ensures { result ≡ place_of name.now (names_of (served_system self.now) what) }
     {

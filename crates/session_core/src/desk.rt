@@ -266,7 +266,7 @@ impl Desk {
         );
     }
 
-    /// The least cost where a wire is 0, and where it is 1.
+    /// The least cost if a wire is 0, and if it is 1.
     pub(crate) fn probe<L: Ledger>(
         &mut self,
         wire: u32,

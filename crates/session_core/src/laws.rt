@@ -26,7 +26,7 @@ pub fn told_alone()
 {}
 
 /// What a service writes spells the replies of its system: the moves of a script, from a table whose cases fit the system, are moves
-/// over the system, and where they break off, those do.
+/// over the system, and if they break off, those do.
 pub fn spells_replies()
     ensures { (shown : Shown) → IsSound shown → (table : Table) → HasCasesOf (system_of shown.subject) table
         → (lines : List (List ℕ)) → SpellReplies shown table lines }

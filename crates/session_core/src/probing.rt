@@ -1,4 +1,4 @@
-//! What is told of all wires at once.
+//! What is answered of all wires at once.
 ghost use Rattle.std.specs.Prelude.{◌≡◌, ◌<◌, [], length, map, slice_index_or};
 ghost use Rattle.diag_edge.specs.Edge.{HasCause};
 ghost use Rattle.session_rules.specs.Items.{line};

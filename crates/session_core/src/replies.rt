@@ -193,7 +193,7 @@ fn add_faulty<O: Sink>(
     Ok(())
 }
 
-// The line of `probe`: the least cost where a wire is 0, and where it is 1.
+// The line of `probe`: the least cost if a wire is 0, and if it is 1.
 pub(crate) fn put_probe<O: Sink>(
     out: &mut O,
     session: &[u8],

@@ -80,7 +80,7 @@ impl Sessions {
         self.desk.basis().wires().len()
     }
 
-    /// Answers one line. Where a write fails, the line is carried out up to the reply that met the
+    /// Answers one line. If a write fails, the line is carried out up to the reply that met the
     /// failure.
     pub(crate) fn line<O: Sink>(&mut self, line: &[u8], out: &mut O) -> Result<(), WriteFailed>
         ensures carried { CarriesOut self.old.table self.new.table

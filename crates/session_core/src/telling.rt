@@ -1,4 +1,4 @@
-//! What is told of a case that stays as it is.
+//! What is answered of a case that stays as it is.
 ghost use Rattle.std.specs.Prelude.{◌≡◌, ◌<◌, ◌++◌, ◌∷◌, [], map};
 ghost use Rattle.diag_edge.specs.Edge.{HasCause};
 ghost use Rattle.device_model.specs.Devices.{place_of};

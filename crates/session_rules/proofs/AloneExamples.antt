@@ -7,7 +7,7 @@ use Rattle.device_model.specs.Diagnosis.{device_system}
 use Rattle.session_rules.specs.Alone.{Answer, lines_of, dialogue, own_answers}
 use Rattle.session_rules.proofs.Examples.{text_of, text, replied, chain}
 
--- what one session is told over two buffers, from the first of these lines on
+-- what one session is answered over two buffers, from the first of these lines on
 abbrev own : List ℕ → List (List ℕ) → List Answer
 own session lines = own_answers session (dialogue (device_system chain) 16 [] lines)
 

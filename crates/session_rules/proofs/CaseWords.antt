@@ -24,7 +24,7 @@ small_word : (k : Option Bool) → word_of_known k < 3
 small_word k = grind arith
 
 module _ (vars : ℕ) where
-  -- the words behind those of parts and wires
+  -- the words after those of parts and wires
   abbrev inner : ℕ → ℕ → List ℕ
   inner parts wires = replicate (vars - (parts + wires)) 0
 

@@ -25,7 +25,7 @@ any-split (suc m) n p =
     let e : suc m + n ≡ suc (m + n) = omega arith in
     rw (e, any-suc p (m + n), any-suc (λ front. list_any (λ rest. p (front ++ rest)) (lists_of_bits n)) m, any-split m n (λ bits. p (false ∷ bits)), any-split m n (λ bits. p (true ∷ bits))) refl
 
--- what does not hang on the list stands before the search
+-- what does not depend on the list is before the search
 pub any-and : {A : Type 0} (b : Bool) (p : A → Bool) (xs : List A) → list_any (λ x. b && p x) xs ≡ b && list_any p xs
 any-and true p xs = refl
 any-and false p [] = refl

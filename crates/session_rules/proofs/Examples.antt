@@ -11,7 +11,7 @@ use Rattle.device_model.specs.Diagnosis.{device_system}
 use Rattle.session_rules.specs.Items.{Item, Plain, Projected, LeastText, Whole, line}
 use Rattle.session_rules.specs.Sessions.{replies}
 
--- the texts of the items, where all are plain
+-- the texts of the items, if all are plain
 abbrev pub text_of : List Item → List ℕ
 text_of [] = []
 text_of (Plain bytes ∷ items) = bytes ++ text_of items
@@ -24,7 +24,7 @@ abbrev pub text : List (List ℕ) → List ℕ
 text [] = []
 text (l ∷ ls) = l ++ (10 ∷ text ls)
 
--- what a script is told over a device, where at most so many sessions may be open
+-- what a script is answered over a device, where at most so many sessions may be open
 abbrev pub replied : ℕ → Device → List (List ℕ) → List ℕ
 replied limit device lines = text_of (replies (device_system device) limit [] lines)
 
@@ -106,7 +106,7 @@ c17 = record {
 abbrev c17_seen : List ℕ → List ℕ → List (List ℕ)
 c17_seen first second = map codes ("open S" ∷ "see S 1=0" ∷ "see S 2=0" ∷ "see S 3=0" ∷ "see S 6=0" ∷ "see S 7=0" ∷ []) ++ (codes "see S 22=" ++ first) ∷ (codes "see S 23=" ++ second) ∷ []
 
--- what a script goes on to be told then
+-- what a script goes on to be answered then
 abbrev c17_told : List ℕ → List ℕ → List (List ℕ) → List (List ℕ) → Type 0
 c17_told first second lines told =
     replied 16 c17 (c17_seen first second ++ lines) ≡ text (map codes ("S open" ∷ "S ok" ∷ "S ok" ∷ "S ok" ∷ "S ok" ∷ "S ok" ∷ "S ok" ∷ "S ok" ∷ []) ++ told)

@@ -49,7 +49,7 @@ unequal_bits = refl
 a_faulty_buffer : holds_for graph (false ∷ []) (true ∷ false ∷ []) ≡ true
 a_faulty_buffer = refl
 
--- where nothing is seen both states agree, where the wires differ the faulty one alone
+-- where nothing is seen both states agree, if the wires differ the faulty one alone
 all_models : models graph (0 ∷ 0 ∷ 0 ∷ 0 ∷ []) 1 ≡ (false ∷ []) ∷ (true ∷ []) ∷ []
 all_models = refl
 

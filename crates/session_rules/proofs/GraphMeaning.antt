@@ -1,4 +1,4 @@
--- A graph that is true exactly where bits fit has the consistent states of what fits.
+-- A graph that is true exactly if bits fit has the consistent states of what fits.
 use Rattle.std.proofs.Common.{◌≡◌, ℕ, zero, suc, ◌+◌, ◌-◌, Bool, true, ◌&&◌, List, [], ◌∷◌, ◌++◌, map, length, replicate, refl, ap, ap₂, sym, subst, ◌∙◌, Option, arith, append_assoc}
 use Rattle.std.specs.List.{list_any}
 use Rattle.std.proofs.Math.Bool.{and_assoc}
@@ -19,7 +19,7 @@ use Rattle.session_rules.specs.GraphSystems.{case_words, graph_system, compiled_
 use Rattle.session_rules.specs.CaseSizes.{IsCaseOf}
 use Rattle.session_rules.proofs.Enumerated.{Agree, passing-same, any-same, any-split, any-and}
 
--- what is known of some bits and of others behind them
+-- what is known of some bits and of others after them
 agrees-append : (ks js : List (Option Bool)) (bits others : List Bool) → length ks ≡ length bits → agrees (ks ++ js) (bits ++ others) ≡ (agrees ks bits && agrees js others)
 agrees-append [] js [] others e = refl
 agrees-append (k ∷ ks) js [] others e = absurd (omega (arith, e))
@@ -44,7 +44,7 @@ pub known-case_words : (vars : ℕ) (known : Case) → map known_of (case_words 
     ≡ known.held ++ (known.seen ++ map known_of (replicate (vars - (length known.held + length known.seen)) 0))
 known-case_words vars known = grind (arith, map-append, all_known)
 
--- bits fit the words of a case where they agree with the case
+-- bits fit the words of a case if they agree with the case
 pub fits-case_words : (vars : ℕ) (known : Case) (state wires inner : List Bool) → length known.held ≡ length state → length known.seen ≡ length wires
     → fits_words (case_words vars known) (state ++ (wires ++ inner)) ≡ (agrees known.held state && agrees known.seen wires)
 fits-case_words vars known state wires inner held seen = grind (arith, known-case_words, agrees-append, agrees-zeros)

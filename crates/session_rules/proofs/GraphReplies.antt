@@ -15,7 +15,7 @@ use Rattle.session_rules.specs.GraphSystems.{graph_system, compiled_system}
 use Rattle.session_rules.proofs.GraphMeaning.{same_fitting, over_names}
 use Rattle.session_rules.proofs.Same.{replies-same, script_moves-same}
 
--- Both systems have the same names, so that the cases of the one are those of the other; and they tell the same besides.
+-- Both systems have the same names, so that the cases of the one are those of the other; and they say the same besides.
 module _ (parts wires : List Name) (costs : List ℕ) (fits_by : List Bool → List Bool → Bool) (graph : Graph) (is : IsGraphOver (length parts) (length wires) fits_by graph)
     (extras : Extras) (limit : ℕ) (table : Table) (cases : HasCasesOf (fitting_system parts wires costs fits_by) table) (lines : List (List ℕ)) where
   abbrev over_graph : System

@@ -1,4 +1,4 @@
--- A line hangs on the entry of the session that it names, and leaves every other.
+-- A line depends on the entry of the session that it names, and leaves every other.
 use Rattle.std.proofs.Common.{◌≡◌, ℕ, true, false, cond, refl, ap, ◌∙◌, Some, None, Option, arith}
 use Rattle.std.specs.Ordering.{nat_cmp}
 use Rattle.std.specs.Cmp.Lexicographic.{slice_cmp}
@@ -36,7 +36,7 @@ apart_back r s e = grind (arith, same_if_equal, equal_if_same)
 own_change : (s : Name) (change : Change) (table : Table) → entry_of s (changed s change table) ≡ after_change change (entry_of s table)
 own_change s change table = grind (arith, entry_of-with, same_as_itself, entry_of-without)
 
--- a session's own line changes its entry by what it is told
+-- a session's own line changes its entry by what it is answered
 pub own_step : (s : Name) (o : Outcome) (table : Table) → entry_of s (carried table s o).table ≡ after_outcome o (entry_of s table)
 own_step s o table = grind (arith, own_change)
 
@@ -68,6 +68,6 @@ module _ (system : System) where
     pub others-stay : (line : Line) (table : Table) (s : Name) → names_session s line ≡ false → entry_of s (step system limit table line).table ≡ entry_of s table
     others-stay line table s apart = grind (arith, other_outcome, apart_back)
 
-    -- each line hangs on its session alone, and changes no other
+    -- each line depends on its session alone, and changes no other
     pub is_its_own : (line : Line) → IsItsOwn system limit line
     is_its_own line = grind (arith, answer-same, named-same, others-stay)

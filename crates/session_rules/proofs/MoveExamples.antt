@@ -23,11 +23,11 @@ either = record {
 abbrev neither : System
 neither = record either { consistent = λ known. [] }
 
--- one session, which knows nothing and stands at this point
+-- one session, which knows nothing and is at this point
 abbrev at_point : Option (List Bool) → Table
 at_point point = (codes "S", record { known = empty_case 1 2; point = point }) ∷ []
 
--- the one that stands after `b`, and after `c`
+-- the one that is after `b`, and after `c`
 abbrev after_b : Table
 after_b = at_point (Some (false ∷ true ∷ []))
 
@@ -71,7 +71,7 @@ after_a_point : line_moves up_to_two 16 after_c (codes "level S") ≡ says after
 unfolding digits
 after_a_point = refl
 
--- where nothing is told besides, the session and then the option is missed
+-- where nothing is answered besides, the session and then the option is missed
 no_levels : line_moves either 16 after_b (codes "levels S 9") ≡ says after_b (codes "S error 11 no levels") ∷ []
 unfolding digits
 no_levels = refl

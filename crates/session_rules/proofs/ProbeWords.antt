@@ -1,4 +1,4 @@
--- What a graph costs at least where a wire has a bit too, under the words of a case.
+-- What a graph costs at least if a wire has a bit too, under the words of a case.
 use Rattle.std.proofs.Common.{◌≡◌, ℕ, ◌+◌, ◌-◌, ◌≤◌, ◌<◌, Bool, ◌&&◌, List, map, length, get_or, not, replicate, refl, ap, ap₂, sym, ◌∙◌, subst, Option, Some, None, arith, set}
 use Rattle.std.proofs.lemmas.List.{get_or-append-add, get_or_append_left}
 use Rattle.text_rules.specs.Names.{Name}
@@ -67,7 +67,7 @@ module _ (parts wires : List Name) (costs : List ℕ) (graph : Graph) (vars : �
   asked-told : (bit : Bool) (seen : Option Bool) → seen_at the_case wire ≡ seen → least_asked bit ≡ told bit seen
   asked-told bit seen e = grind (arith, asked-open, asked-same, asked-other)
 
-  -- What a graph costs at least where a wire has a bit too is what a probe is told.
+  -- What a graph costs at least if a wire has a bit too is what a probe is answered.
   pub least_with-by_words : (bit : Bool) → least_with graph words costs (length parts + wire + 1) bit
       ≡ least_at (graph_system parts wires costs graph) (case_of_words (length parts) (length wires) words) wire bit (seen_at (case_of_words (length parts) (length wires) words) wire)
   least_with-by_words bit =

@@ -39,7 +39,7 @@ module _ (system : System) (consistent : Case → List (List Bool)) (same : (kno
   probe_told-same s known name None h = refl
   probe_told-same s known name (Some wire) h = ap₂ (λ hs l. Ok (if_any s hs (l ∷ []))) (same known h) (probe_line-same s known name wire h)
 
-  -- what a question is told
+  -- what a question is answered
   told-same : (s : Name) (known : Case) (question : Question) → IsCaseOf system known → told system s known question ≡ told other s known question
   told-same s known question h = grind (arith, probe_told-same, probe_lines-same)
 

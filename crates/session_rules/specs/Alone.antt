@@ -52,12 +52,12 @@ AreAnsweredAlone system limit table lines =
     → dialogue system limit table lines ≡ before ++ opening ∷ later → Opens session opening
     → let own = own_answers session (opening ∷ later) in own ≡ dialogue system 1 [] (lines_of own)
 
--- A line sees of a table the entry of the session that it names, and where it opens one whether there is room.
+-- A line sees of a table the entry of the session that it names, and if it opens one whether there is room.
 pub record LooksSame (limit : ℕ) (line : Line) (one other : Table) : Type 0 where
   pub entries : (session : Name) → names_session session line ≡ true → entry_of session one ≡ entry_of session other
   pub room : (session : Name) → line ≡ Ask session Start → nat_le limit (length one) ≡ nat_le limit (length other)
 
--- What a line is answered, and what becomes of the session that it names, hangs on no more than that, and it changes no other.
+-- What a line is answered, and what becomes of the session that it names, depends on no more than that, and it changes no other.
 pub record IsItsOwn (system : System) (limit : ℕ) (line : Line) : Type 0 where
   pub answer : (one other : Table) → LooksSame limit line one other
       → (step system limit one line).items ≡ (step system limit other line).items

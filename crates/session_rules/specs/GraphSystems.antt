@@ -25,7 +25,7 @@ graph_system parts wires costs graph = record {
   texts = open_texts;
 }
 
--- what a service asks over: the names of parts and wires, what the failure of each part costs, a graph, and what is told besides
+-- what a service asks over: the names of parts and wires, what the failure of each part costs, a graph, and what is answered besides
 pub record Subject : Type 0 where
   pub parts : List Name
   pub wires : List Name

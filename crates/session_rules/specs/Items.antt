@@ -5,7 +5,7 @@ use Rattle.state_rules.specs.Cases.{Case}
 use Rattle.device_model.specs.Devices.{Device}
 
 -- A text, or a graph whose text is left open: over so many parts, true for these states alone; or that and smooth; or over so
--- many variables, with at most so many nodes, true where this device fits.
+-- many variables, with at most so many nodes, true if this device fits.
 pub data Item : Type 0 where
   Plain : (bytes : List ℕ) → Item
   Projected : (parts : ℕ) (states : List (List Bool)) → Item

@@ -1,4 +1,4 @@
--- The lines of replies: the diagnoses one after the other, and what is told of a case.
+-- The lines of replies: the diagnoses one after the other, and what is answered of a case.
 use Rattle.std.specs.Prelude.{ℕ, zero, suc, ◌+◌, Bool, true, false, not, List, [], ◌∷◌, ◌++◌, map, length, Option, Some, None, Result, Ok, Err, set, slice_index_or, codes, is_some, if◌then◌else◌}
 use Rattle.std.specs.Fmt.{decimal}
 use Rattle.std.specs.List.{list_any, list_all}
@@ -75,7 +75,7 @@ abbrev pub min_line : System → Name → Option ℕ → List (List Bool) → Li
 min_line system session fewest [] = inconsistent session
 min_line system session fewest (state ∷ states) = session ∷ codes "min" ∷ count_text fewest ∷ faulty_names system.parts state
 
--- the least cost where a wire is seen so too, if that is not against what was seen
+-- the least cost if a wire is seen so too, if that is not against what was seen
 abbrev pub least_at : System → Case → ℕ → Bool → Option Bool → Option ℕ
 least_at system known wire bit None = least_cost system (record known { seen = set known.seen wire (Some bit) })
 least_at system known wire true (Some true) = least_cost system known
@@ -123,7 +123,7 @@ probe_told system session known name None = Err NoWire
 probe_told system session known name (Some wire) =
     Ok (if_any session (system.consistent known) (probe_line system session known name wire ∷ []))
 
--- what a question is told, line by line, or why it is not
+-- what a question is answered, line by line, or why it is not
 abbrev pub told : System → Name → Case → Question → Result (List (List (List ℕ))) Refusal
 told system session known Min = Ok (min_line system session (least_cost system known) (all_diagnoses system known) ∷ [])
 told system session known (Probe name) = probe_told system session known name (place_of name system.wires)

@@ -55,7 +55,7 @@ pub data Outcome : Type 0 where
 abbrev pub tells : List Item → Outcome
 tells items = Done Stays items
 
--- what is told, line by line, or the refusal
+-- what is answered, line by line, or the refusal
 abbrev pub tells_lines : Result (List (List (List ℕ))) Refusal → Outcome
 tells_lines (Ok lines) = tells (map line lines)
 tells_lines (Err refusal) = Declined refusal
@@ -133,7 +133,7 @@ when_open system s entry LeastNnf =
     then tells (line (s ∷ codes "leastnnf" ∷ []) ∷ least_item system entry.known ∷ [])
     else Declined NoLeast
 
--- What is answered hangs on the session's own entry alone, and where it is not open on whether there is room.
+-- What is answered depends on the session's own entry alone, and if it is not open on whether there is room.
 abbrev pub outcome : System → Name → Bool → Option Entry → Request → Outcome
 outcome system s full (Some entry) request = when_open system s entry request
 outcome system s full None Start = if full then Declined Full else becomes s (new_entry system) (codes "open")

@@ -10,7 +10,7 @@ use Rattle.nnf_text.specs.StateGraphs.{IsGraphOfStates, IsSmoothGraphOfStates}
 use Rattle.device_model.specs.Devices.{Device, fits}
 use Rattle.session_rules.specs.Items.{Item, Plain, Projected, LeastText, Whole}
 
--- a graph is true exactly where the device fits
+-- a graph is true exactly if the device fits
 abbrev pub IsGraphOf : Device → Graph → Type 0
 IsGraphOf device graph = IsGraphOver (length device.parts) (length device.wires) (fits device) graph
 

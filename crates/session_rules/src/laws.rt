@@ -23,7 +23,7 @@ pub fn answered_alone()
         → AreAnsweredAlone system limit table lines }
 {}
 
-/// What a line is answered, and what becomes of the session that it names, hangs on that session's entry, and if the line
+/// What a line is answered, and what becomes of the session that it names, depends on that session's entry, and if the line
 /// opens it on whether there is room. It changes no other session.
 pub fn is_its_own()
     ensures { (system : System) (limit : ℕ) (line : Line) → IsItsOwn system limit line }

@@ -1,4 +1,4 @@
--- What is done to the fields of the open sessions is what their contracts tell of the table.
+-- What is done to the fields of the open sessions is what their contracts say of the table.
 use Rattle.std.proofs.Common.{◌≡◌, ℕ, ◌<◌, ◌≤◌, T, List, length, get_or, set, replicate, ap, ap₂, sym, ◌∙◌, subst, Some, None, Result, Ok, Err, IfOk, IfErr, arith}
 use Rattle.std.specs.Prelude.{not, slice_get, IsErr, IfSome, IfNone, vec_capacity}
 use Rattle.std.specs.List.{insert, remove}

@@ -87,7 +87,7 @@ module _ {X : Type 0} where
   without_below name [] all = refl
   without_below name (f ∷ es) all = grind (arith, differ, above, without_below name es (back_so (is_lt (order name f.0)) (below_all order name es) all))
 
-  -- what stands there already
+  -- what is there already
   pub put_same : (es : List (Name × X)) (place : ℕ) (name : Name) (x : X) → T (is_sorted order es) → slice_get es place ≡ Some (name, x) → put order name x es ≡ es
   put_same es place name x sorted at = put_at es place name x x sorted at ∙ set_same es place (name, x) at
 

@@ -11,7 +11,7 @@ use Rattle.session_table.specs.inner.Ordered.{IsGapFor}
 use Rattle.session_table.specs.declared.in_order.Open.{Open}
 use Rattle.session_table.proofs.Lookups.{order, IsGap}
 
--- whatever stands beside the names, they rise alike
+-- whatever is beside the names, they rise alike
 module _ {X Y : Type 0} (f : Open → X) (g : Open → Y) where
   below_alike : (name : Name) (sessions : List Open)
       → below_all order name (map (λ (s : Open). (s.name, f s)) sessions) ≡ below_all order name (map (λ (s : Open). (s.name, g s)) sessions)

@@ -27,7 +27,7 @@ abbrev pub count_of : (parts wires : ℕ) → Noted → ℕ
 count_of parts wires Wire = wires
 count_of parts wires Part = parts
 
--- the session stands at this place of the table, with this entry, and nothing changes where that is put there again
+-- the session is at this place of the table, with this entry, and nothing changes where that is put there again
 pub record StandsAt (table : Table) (place : ℕ) (session : Name) (entry : Entry) : Type 0 where
   pub at : slice_get table place ≡ Some (session, entry)
   pub found : entry_of session table ≡ Some entry

@@ -58,7 +58,7 @@ impl OpenSessions {
         ensures { IfOk result (λ opened. opened
             ≡ record { parts = parts; wires = wires; vars = vars; limit = sessions; table = [] }) }
     {
-        // Where no session may be open there is no block, and the number of its words might not fit.
+        // If no session may be open there is no block, and the number of its words might not fit.
         let size = if sessions == 0 { 0 } else { vars + 1 + parts };
         Ok(OpenSessions {
             layout: Layout { parts, wires, vars },

@@ -21,14 +21,14 @@ use Rattle.state_rules.specs.declared.nodes.NodeKind.TheVariants.{Literal, And, 
 use Rattle.state_rules.specs.Graphs.{at_most_one, Node, Graph, true_node, false_node, truth_by, mention_by, mentions, is_true, IsGraph}
 use Rattle.state_rules.proofs.NodeValues.{are_below, value_of, are_below-from}
 use Rattle.state_rules.proofs.NodesFit.{Fits, fits-get, literal}
-use Rattle.state_rules.proofs.Kids.{at_most_one-from, at_most_one-less, range-below}
+use Rattle.state_rules.proofs.Children.{at_most_one-from, at_most_one-less, range-below}
 use Rattle.nnf_text.specs.StateGraphs.{all_same}
 use Rattle.minimiser.specs.Costs.{part_cost, known_at, cost_at, cheapest, node_cost, least_at}
 use Rattle.minimiser.proofs.Costs.{from_min}
-use Rattle.minimiser.proofs.Derivations.{mention-at, apart-kids, costs-at, all-below, sum-kid}
-use Rattle.smooth_nnf.specs.Layouts.{Layout, layout_of, own_line, literal_pairs, literal_line, literal_kids, filling, fillers, costs_just, cheapest_kids, lines_before, lines_to, own_lines, kid_line, or_behind, or_lines, lines_by, lines_at, node_lines, and_over}
+use Rattle.minimiser.proofs.Derivations.{mention-at, apart-kids, costs-at, all-below, sum-child}
+use Rattle.smooth_nnf.specs.Layouts.{Layout, layout_of, own_line, literal_pairs, literal_line, literal_children, filling, fillers, costs_just, cheapest_children, lines_before, lines_to, own_lines, child_line, or_behind, or_lines, lines_by, lines_at, node_lines, and_over}
 use Rattle.smooth_nnf.proofs.LaterLines.{value_of-front, value_of-there, values-behind, Stand, MayFollow, stand-behind}
-use Rattle.smooth_nnf.proofs.DrawnMeaning.{is_part, Means, NodeMeans, filled, part-means, other-means, and-means, or-means, kid-inside, cheapest-in, cheapest-is}
+use Rattle.smooth_nnf.proofs.DrawnMeaning.{is_part, Means, NodeMeans, filled, part-means, other-means, and-means, or-means, child-inside, cheapest-in, cheapest-is}
 use Rattle.smooth_nnf.proofs.Fillers.{length-literal_pairs, pairs-stand, literal_line-lt, literal-value, fillers-below, fillers-mention, fillers-once, fillers-true, fillers-say, map-in}
 
 -- ---- lists
@@ -57,7 +57,7 @@ one_alone b = grind (arith, nat_tests)
 pub below_filled : (p m o : Bool) → (m ≡ true → o ≡ true) → ((p && m) || (p && (o && not m))) ≡ (p && o)
 below_filled p m o h = grind (arith, nat_tests)
 
--- the least cost is that of some kid
+-- the least cost is that of some child
 cheapest-has : (C : ℕ → Option ℕ) (kids : List ℕ) (c : ℕ) → cheapest (map C kids) ≡ Some c → (k : ℕ) × (In k kids × (C k ≡ Some c))
 cheapest-has C [] c s = absurd (let no : None ≡ Some c = s in cc)
 cheapest-has C (j ∷ kids) c s = grind (arith, nat_tests, from_min, cheapest-has C kids c)
@@ -100,7 +100,7 @@ module _ (graph : Graph) (words costs : List ℕ) (ok : IsGraph graph) (dear : A
     means = Means-same (λ a. value_of-front (truth_by a) lines more (own k) d.inside) d.means;
   }
 
-  -- the lines of the nodes before one, behind those of the literals
+  -- the lines of the nodes before one, after those of the literals
   pub record Upto (i : ℕ) (more : List Node) : Type 0 where
     pub stand : Stand (length costs) (literal_pairs (length costs) ++ more)
     pub drawn : (k c : ℕ) → k < i → least_at graph words costs k ≡ Some c → Drawn (literal_pairs (length costs) ++ more) k c
@@ -197,7 +197,7 @@ module _ (graph : Graph) (words costs : List ℕ) (ok : IsGraph graph) (dear : A
       other_none : (v : ℕ) → part_of var ≡ false → false ≡ (part_of v && (var == v))
       other_none v other = grind (arith, nat_tests, and_left, eqb-true, and-false)
 
-      literal-adds : Adds (and_over (literal_kids parts var positive) ∷ [])
+      literal-adds : Adds (and_over (literal_children parts var positive) ∷ [])
       literal-adds = by_part (nat_le var parts) refl where
         by_part : (b : Bool) → nat_le var parts ≡ b → Adds (and_over (cond b (literal_line var positive ∷ []) []) ∷ [])
         by_part true p =
@@ -217,47 +217,47 @@ module _ (graph : Graph) (words costs : List ℕ) (ok : IsGraph graph) (dear : A
     and-adds : (kids : List ℕ) → slice_get graph.nodes i ≡ Some (record { what = And; kids = kids }) → (cost : ℕ) → least_at graph words costs i ≡ Some cost → own i ≡ length before → Adds (and_over (map own kids) ∷ [])
     and-adds kids e cost cost_is at =
         let fit = fits-get graph.vars graph.nodes i _ ok.nodes.fit e in
-        let drawn_kid : (k : ℕ) → In k kids → (d : ℕ) × Drawn before k d = λ k m.
-        let d = sum-kid (least_at graph words costs) kids cost k (sym (costs-at graph words costs ok i _ e) ∙ cost_is) m in
+        let drawn_child : (k : ℕ) → In k kids → (d : ℕ) × Drawn before k d = λ k m.
+        let d = sum-child (least_at graph words costs) kids cost k (sym (costs-at graph words costs ok i _ e) ∙ cost_is) m in
         (d.0, upto.drawn k d.0 (all-below i kids k fit.below m) d.1) in
-        let mention_kids : (v : ℕ) → map (mentions before v) (map own kids) ≡ map (λ k. part_of v && M v k) kids = λ v.
-        map-map (mentions before v) own kids ∙ map-in (λ k. mentions before v (own k)) (λ k. part_of v && M v k) kids (λ k m. (drawn_kid k m).1.mentioned v) in
+        let mention_children : (v : ℕ) → map (mentions before v) (map own kids) ≡ map (λ k. part_of v && M v k) kids = λ v.
+        map-map (mentions before v) own kids ∙ map-in (λ k. mentions before v (own k)) (λ k. part_of v && M v k) kids (λ k m. (drawn_child k m).1.mentioned v) in
         one-adds (and_over (map own kids))
         (record {
-          below = are_below-from (length before) (map own kids) (λ j d lt. let x = from_map own (get_or (map own kids) j d) kids (In-at (map own kids) j d lt) in subst (λ q. q < length before) (sym x.gives) (drawn_kid x.item x.is_in).1.inside);
+          below = are_below-from (length before) (map own kids) (λ j d lt. let x = from_map own (get_or (map own kids) j d) kids (In-at (map own kids) j d lt) in subst (λ q. q < length before) (sym x.gives) (drawn_child x.item x.is_in).1.inside);
           kind = ap (λ n. nat_lt n CHILD_LIMIT) (length-map kids own) ∙ fit.kind;
-          apart = λ v. ap at_most_one (mention_kids v) ∙ at_most_one-less (λ k. part_of v && M v k) (M v) i kids fit.below (λ k h q. (and_parts (part_of v) (M v k) q).1) (apart-kids graph words costs ok i kids e v);
+          apart = λ v. ap at_most_one (mention_children v) ∙ at_most_one-less (λ k. part_of v && M v k) (M v) i kids fit.below (λ k h q. (and_parts (part_of v) (M v k) q).1) (apart-kids graph words costs ok i kids e v);
           smooth = λ v. refl;
         })
         at
-        (λ v c q. ap (list_any (λ b. b)) (mention_kids v) ∙ any-part (part_of v) (M v) kids ∙ ap (λ b. part_of v && b) (sym (mention-at graph words costs ok i _ e v)))
+        (λ v c q. ap (list_any (λ b. b)) (mention_children v) ∙ any-part (part_of v) (M v) kids ∙ ap (λ b. part_of v && b) (sym (mention-at graph words costs ok i _ e v)))
         (λ c q. Means-same (λ a. ap (list_all (λ b. b)) (map-map (λ p. is_true before p a) own kids))
         (and-means graph words costs ok dear (λ k a. is_true before (own k) a) i kids c e q (λ k d m r. (upto.drawn k d (all-below i kids k fit.below m) r).means)))
 
-    -- an or, behind a line for each of its cheapest kids
+    -- an or, after a line for each of its cheapest children
     module _ (kids : List ℕ) (e : slice_get graph.nodes i ≡ Some (record { what = Or; kids = kids })) (cost : ℕ) (cost_is : least_at graph words costs i ≡ Some cost)
-        (at : own i ≡ length before + length (cheapest_kids least cost kids)) where
+        (at : own i ≡ length before + length (cheapest_children least cost kids)) where
       abbrev best : List ℕ
-      best = cheapest_kids least cost kids
+      best = cheapest_children least cost kids
 
       fit : Fits graph.vars i (record { what = Or; kids = kids })
       fit = fits-get graph.vars graph.nodes i _ ok.nodes.fit e
 
       wider : (k : ℕ) → In k kids → (v : ℕ) → M v k ≡ true → M v i ≡ true
-      wider k m = kid-inside graph words costs ok dear i kids cost e cost_is k m
+      wider k m = child-inside graph words costs ok dear i kids cost e cost_is k m
 
-      drawn_kid : (k : ℕ) → In k kids → least_at graph words costs k ≡ Some cost → Drawn before k cost
-      drawn_kid k m c = upto.drawn k cost (all-below i kids k fit.below m) c
+      drawn_child : (k : ℕ) → In k kids → least_at graph words costs k ≡ Some cost → Drawn before k cost
+      drawn_child k m c = upto.drawn k cost (all-below i kids k fit.below m) c
 
       abbrev block : List Node
-      block = map (kid_line L i) best
+      block = map (child_line L i) best
 
-      -- what is asked of the cheapest kids holds of each line
-      follows : (ks : List ℕ) → ((k : ℕ) → In k ks → In k best) → AllByRecursion (MayFollow parts before) (map (kid_line L i) ks)
+      -- what is asked of the cheapest children holds of each line
+      follows : (ks : List ℕ) → ((k : ℕ) → In k ks → In k best) → AllByRecursion (MayFollow parts before) (map (child_line L i) ks)
       follows [] are = tt
       follows (k ∷ ks) are =
           let m = cheapest-is least cost kids k (are k (inl refl)) in
-          (over-follows more k cost m.1 (drawn_kid k m.0 m.1) (λ v. M v i) (wider k m.0), follows ks (λ j n. are j (inr n)))
+          (over-follows more k cost m.1 (drawn_child k m.0 m.1) (λ v. M v i) (wider k m.0), follows ks (λ j n. are j (inr n)))
 
       below-all : (xs : List Node) → AllByRecursion (MayFollow parts before) xs → AllByRecursion (λ (x : Node). are_below (length before) x.kids ≡ true) xs
       below-all [] all = tt
@@ -266,29 +266,29 @@ module _ (graph : Graph) (words costs : List ℕ) (ok : IsGraph graph) (dear : A
       block-follows : AllByRecursion (MayFollow parts before) block
       block-follows = follows best (λ k m. m)
 
-      all_kids : List Node
-      all_kids = before ++ block
+      all_children : List Node
+      all_children = before ++ block
 
-      kids-stand : Stand parts all_kids
-      unfolding all_kids
+      kids-stand : Stand parts all_children
+      unfolding all_children
       kids-stand = stand-behind parts before block upto.stand block-follows
 
       length-block : length block ≡ length best
-      length-block = length-map best (kid_line L i)
+      length-block = length-map best (child_line L i)
 
-      -- what the lines of the kids are worth
-      block-values : (by : NodeKind → List Bool → Bool) → map (value_of by all_kids) (range_with_len (length before) (length best)) ≡ map (λ k. by And (map (value_of by before) (kid_line L i k).kids)) best
-      unfolding all_kids
+      -- what the lines of the children are worth
+      block-values : (by : NodeKind → List Bool → Bool) → map (value_of by all_children) (range_with_len (length before) (length best)) ≡ map (λ k. by And (map (value_of by before) (child_line L i k).kids)) best
+      unfolding all_children
       block-values by =
           let start : length before ≡ length before + 0 = omega arith in
           (λ j. map (value_of by (before ++ sym (append-nil block) j)) (range_with_len (start j) (sym length-block j)))
           ∙ values-behind by before [] block [] (below-all block block-follows)
-          ∙ map-map (λ (x : Node). by x.what (map (value_of by before) x.kids)) (kid_line L i) best
+          ∙ map-map (λ (x : Node). by x.what (map (value_of by before) x.kids)) (child_line L i) best
 
-      block-mentions : (v : ℕ) → map (mentions all_kids v) (range_with_len (length before) (length best)) ≡ map (λ k. part_of v && M v i) best
-      block-mentions v = block-values (mention_by v) ∙ map-in (λ k. list_any (λ b. b) (map (mentions before v) (kid_line L i k).kids)) (λ k. part_of v && M v i) best (λ k m.
+      block-mentions : (v : ℕ) → map (mentions all_children v) (range_with_len (length before) (length best)) ≡ map (λ k. part_of v && M v i) best
+      block-mentions v = block-values (mention_by v) ∙ map-in (λ k. list_any (λ b. b) (map (mentions before v) (child_line L i k).kids)) (λ k. part_of v && M v i) best (λ k m.
           let is = cheapest-is least cost kids k m in
-          over-mention more k cost is.1 (drawn_kid k is.0 is.1) (λ u. M u i) (wider k is.0) v)
+          over-mention more k cost is.1 (drawn_child k is.0 is.1) (λ u. M u i) (wider k is.0) v)
 
       some-best : best ≡ [] → ⊥
       some-best none =
@@ -301,42 +301,42 @@ module _ (graph : Graph) (words costs : List ℕ) (ok : IsGraph graph) (dear : A
       start-is : own i - length best ≡ length before
       start-is = omega (arith, at)
 
-      or_kids : or_node.kids ≡ range_with_len (length before) (length best)
-      or_kids = ap (λ n. range_with_len n (length best)) start-is
+      or_children : or_node.kids ≡ range_with_len (length before) (length best)
+      or_children = ap (λ n. range_with_len n (length best)) start-is
 
-      length-all_kids : length all_kids ≡ length before + length best
-      unfolding all_kids
-      length-all_kids = omega (arith, length-append before block, length-block)
+      length-all_children : length all_children ≡ length before + length best
+      unfolding all_children
+      length-all_children = omega (arith, length-append before block, length-block)
 
-      or-follows : MayFollow parts all_kids or_node
+      or-follows : MayFollow parts all_children or_node
       or-follows = record {
-        below = ap (are_below (length all_kids)) or_kids ∙ range-below (length before) (length best) (length all_kids) (omega (arith, length-all_kids));
-        kind = lt-ltb (length or_node.kids) CHILD_LIMIT (omega (arith, length-range_with_len (own i - length best) (length best), length-filter-le (λ kid. costs_just cost (cost_at least kid)) kids, ltb-true (length kids) CHILD_LIMIT fit.kind));
+        below = ap (are_below (length all_children)) or_children ∙ range-below (length before) (length best) (length all_children) (omega (arith, length-all_children));
+        kind = lt-ltb (length or_node.kids) CHILD_LIMIT (omega (arith, length-range_with_len (own i - length best) (length best), length-filter-le (λ child. costs_just cost (cost_at least child)) kids, ltb-true (length kids) CHILD_LIMIT fit.kind));
         apart = λ v. refl;
-        smooth = λ v. ap (λ ks. all_same (map (mentions all_kids v) ks)) or_kids ∙ ap all_same (block-mentions v) ∙ same-const (part_of v && M v i) best;
+        smooth = λ v. ap (λ ks. all_same (map (mentions all_children v) ks)) or_children ∙ ap all_same (block-mentions v) ∙ same-const (part_of v && M v i) best;
       }
 
-      here : (by : NodeKind → List Bool → Bool) → value_of by (all_kids ++ or_node ∷ []) (own i) ≡ by Or (map (λ k. by And (map (value_of by before) (kid_line L i k).kids)) best)
-      here by = grind (arith, nat_tests, all_kids, length-all_kids, value_of-there, or_kids, block-values)
+      here : (by : NodeKind → List Bool → Bool) → value_of by (all_children ++ or_node ∷ []) (own i) ≡ by Or (map (λ k. by And (map (value_of by before) (child_line L i k).kids)) best)
+      here by = grind (arith, nat_tests, all_children, length-all_children, value_of-there, or_children, block-values)
 
-      or-drawn : Drawn (all_kids ++ or_node ∷ []) i cost
+      or-drawn : Drawn (all_children ++ or_node ∷ []) i cost
       or-drawn = record {
-        inside = omega (arith, at, length-all_kids, length-append all_kids (or_node ∷ []));
-        mentioned = λ v. ap (value_of (mention_by v) (all_kids ++ or_node ∷ [])) (at ∙ sym length-all_kids) ∙ value_of-there (mention_by v) all_kids or_node []
-            ∙ ap (λ ks. list_any (λ b. b) (map (mentions all_kids v) ks)) or_kids ∙ ap (list_any (λ b. b)) (block-mentions v) ∙ any-const (part_of v && M v i) best some-best;
+        inside = omega (arith, at, length-all_children, length-append all_children (or_node ∷ []));
+        mentioned = λ v. ap (value_of (mention_by v) (all_children ++ or_node ∷ [])) (at ∙ sym length-all_children) ∙ value_of-there (mention_by v) all_children or_node []
+            ∙ ap (λ ks. list_any (λ b. b) (map (mentions all_children v) ks)) or_children ∙ ap (list_any (λ b. b)) (block-mentions v) ∙ any-const (part_of v && M v i) best some-best;
         means = Means-same (λ a. here (truth_by a))
-            (or-means graph words costs ok dear i kids cost e cost_is (λ k a. list_all (λ b. b) (map (λ q. is_true before q a) (kid_line L i k).kids))
-            (λ k m c. over-means more k cost c (drawn_kid k m c) (λ v. M v i) (wider k m)));
+            (or-means graph words costs ok dear i kids cost e cost_is (λ k a. list_all (λ b. b) (map (λ q. is_true before q a) (child_line L i k).kids))
+            (λ k m c. over-means more k cost c (drawn_child k m c) (λ v. M v i) (wider k m)));
       }
 
-      whole : all_kids ++ or_node ∷ [] ≡ literal_pairs parts ++ (more ++ (block ++ or_node ∷ []))
-      unfolding all_kids
+      whole : all_children ++ or_node ∷ [] ≡ literal_pairs parts ++ (more ++ (block ++ or_node ∷ []))
+      unfolding all_children
       whole = append_assoc before block (or_node ∷ []) ∙ regroup (block ++ or_node ∷ [])
 
       or-adds : Adds (or_lines L i best)
       or-adds = record {
-        stand = subst (Stand parts) whole (stand-behind parts all_kids (or_node ∷ []) kids-stand (or-follows, tt));
-        drawn = λ c q. subst (λ lines. Drawn lines i c) whole (subst (Drawn (all_kids ++ or_node ∷ []) i) (same_Some cost c (sym cost_is ∙ q)) or-drawn);
+        stand = subst (Stand parts) whole (stand-behind parts all_children (or_node ∷ []) kids-stand (or-follows, tt));
+        drawn = λ c q. subst (λ lines. Drawn lines i c) whole (subst (Drawn (all_children ++ or_node ∷ []) i) (same_Some cost c (sym cost_is ∙ q)) or-drawn);
       }
 
     -- the lines of a node, whatever it is

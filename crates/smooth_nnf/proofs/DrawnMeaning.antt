@@ -1,4 +1,4 @@
--- What lines say that are drawn for nodes: one is true where its node can be, at its least cost, with the same bits of the parts below it.
+-- What lines say that are drawn for nodes: one is true if its node can be, at its least cost, with the same bits of the parts below it.
 use Rattle.std.proofs.Common.{◌≡◌, ℕ, zero, suc, ◌<◌, ◌≤◌, Bool, true, false, not, ◌&&◌, All, List, [], ◌∷◌, map, length, Option, Some, refl, ap, sym, ◌∙◌, subst, arith, ⊎_elim, inl, inr}
 use Rattle.std.proofs.lemmas.Bool.Decides.{nat_tests}
 use Rattle.std.specs.Prelude.{slice_get, nat_le}
@@ -12,14 +12,14 @@ use Rattle.state_rules.proofs.Bits.{same_bit-equal, same_bit-refl}
 use Rattle.state_rules.proofs.Members.{In, In-filter, In-filtered, AtMost}
 use Rattle.state_rules.specs.declared.nodes.NodeKind.TheVariants.{Literal, And, Or}
 use Rattle.state_rules.specs.Graphs.{at_most_one, Graph, mentions, is_true, IsGraph}
-use Rattle.state_rules.proofs.Kids.{at_most_one-tail, not_both}
+use Rattle.state_rules.proofs.Children.{at_most_one-tail, not_both}
 use Rattle.minimiser.specs.Costs.{part_cost, known_at, cost_at, sum_costs, node_cost, least_at}
 use Rattle.node_costs.proofs.Conditions.{cost_among-apart, join, joined-le}
 use Rattle.minimiser.proofs.Costs.{fault, open_weights, Agrees, faults_in, faults_in-le, from_add, Reaches}
-use Rattle.minimiser.proofs.Derivations.{is_cost, kids-cost, Apart, true-at, mention-at, apart-kids, costs-at, any-kid, kid-with, faults-lt, or-kid}
-use Rattle.smooth_nnf.specs.Layouts.{filling, costs_just, cheapest_kids}
+use Rattle.minimiser.proofs.Derivations.{is_cost, kids-cost, Apart, true-at, mention-at, apart-kids, costs-at, any-child, child-with, faults-lt, or-child}
+use Rattle.smooth_nnf.specs.Layouts.{filling, costs_just, cheapest_children}
 
--- ---- costs of kids
+-- ---- costs of children
 
 costs_just-is : (c : ℕ) (o : Option ℕ) → costs_just c o ≡ true → o ≡ Some c
 costs_just-is c o e = grind (arith, nat_tests, eqb-true)
@@ -27,11 +27,11 @@ costs_just-is c o e = grind (arith, nat_tests, eqb-true)
 costs_just-of : (c : ℕ) (o : Option ℕ) → o ≡ Some c → costs_just c o ≡ true
 costs_just-of c o e = ap (costs_just c) e ∙ eq-eqb c c refl
 
--- a kid of least cost
-pub cheapest-in : (least : List (Option ℕ)) (c : ℕ) (kids : List ℕ) (k : ℕ) → In k kids → cost_at least k ≡ Some c → In k (cheapest_kids least c kids)
+-- a child of least cost
+pub cheapest-in : (least : List (Option ℕ)) (c : ℕ) (kids : List ℕ) (k : ℕ) → In k kids → cost_at least k ≡ Some c → In k (cheapest_children least c kids)
 cheapest-in least c kids k m e = In-filtered (λ j. costs_just c (cost_at least j)) k kids m (costs_just-of c (cost_at least k) e)
 
-pub cheapest-is : (least : List (Option ℕ)) (c : ℕ) (kids : List ℕ) (k : ℕ) → In k (cheapest_kids least c kids) → In k kids × (cost_at least k ≡ Some c)
+pub cheapest-is : (least : List (Option ℕ)) (c : ℕ) (kids : List ℕ) (k : ℕ) → In k (cheapest_children least c kids) → In k kids × (cost_at least k ≡ Some c)
 cheapest-is least c kids k m = let r = In-filter (λ j. costs_just c (cost_at least j)) k kids m in (r.0, costs_just-is c (cost_at least k) r.1)
 
 -- a bit that agrees and costs nothing is that which fills in
@@ -69,7 +69,7 @@ module _ (graph : Graph) (words costs : List ℕ) (ok : IsGraph graph) (dear : A
     pub is : Reaches (known_at words) (part_cost costs) (length costs) t c
     pub same : (v : ℕ) → is_part v ≡ true → m v ≡ true → a v ≡ is.by v
 
-  -- A line is true where its test can be passed at no more than a cost, with the same bits of the parts that the test is about.
+  -- A line is true if its test can be passed at no more than a cost, with the same bits of the parts that the test is about.
   pub record Means (t : Assignment → Bool) (m : ℕ → Bool) (c : ℕ) (line : Assignment → Bool) : Type 0 where
     pub sound : (a b : Assignment) → Agrees (known_at words) (part_cost costs) (length costs) b → t b ≡ true → faults_in (known_at words) (part_cost costs) (length costs) m b ≤ c
         → ((v : ℕ) → is_part v ≡ true → m v ≡ true → a v ≡ b v) → line a ≡ true
@@ -172,7 +172,7 @@ module _ (graph : Graph) (words costs : List ℕ) (ok : IsGraph graph) (dear : A
         let later : (v : ℕ) → at_most_one (map (M v) kids) ≡ true = λ v. at_most_one-tail (M v j) (map (M v) kids) (apart v) in
         let both : (v : ℕ) → (M v j && list_any (λ b. b) (map (M v) kids)) ≡ false = λ v. not_both (M v j) (map (M v) kids) (apart v) in
         let j_is = is_cost graph words costs ok j in
-        let kids_are = kids-cost graph words costs ok kids later in
+        let children_are = kids-cost graph words costs ok kids later in
         let first = are j sum.left (inl refl) sum.left_is in
         let rest = all_lines kids later (λ k d m. are k d (inr m)) sum.right sum.right_is in
         record {
@@ -180,7 +180,7 @@ module _ (graph : Graph) (words costs : List ℕ) (ok : IsGraph graph) (dear : A
               let parts = and_parts (T b j) (list_all (λ x. x) (map (T b) kids)) h in
               let low_here : sum.left ≤ faults_in kn price n (λ v. M v j) b = subst (λ o. AtMost o (faults_in kn price n (λ v. M v j) b)) sum.left_is (j_is.bound b ag parts.0) in
               let low_there : sum.right ≤ faults_in kn price n (λ v. list_any (λ x. x) (map (M v) kids)) b =
-              subst (λ o. AtMost o (faults_in kn price n (λ v. list_any (λ x. x) (map (M v) kids)) b)) sum.right_is (kids_are.bound b ag parts.1) in
+              subst (λ o. AtMost o (faults_in kn price n (λ v. list_any (λ x. x) (map (M v) kids)) b)) sum.right_is (children_are.bound b ag parts.1) in
               let all = cost_among-apart (open_weights kn price n) (λ v. M v j) (λ v. list_any (λ x. x) (map (M v) kids)) b both in
               and_from _ _
               (first.sound a b ag parts.0 (omega (arith, all, low_there, sum.sum_is, few)) (λ v p q. same v p (or_left _ _ q)))
@@ -196,7 +196,7 @@ module _ (graph : Graph) (words costs : List ℕ) (ok : IsGraph graph) (dear : A
                 is = record {
                   by = x.by;
                   agrees = x.agrees;
-                  holds = and_from _ _ (j_is.local x.by p.by x.as_left ∙ p.holds) (kids_are.local x.by q.by x.as_right ∙ q.holds);
+                  holds = and_from _ _ (j_is.local x.by p.by x.as_left ∙ p.holds) (children_are.local x.by q.by x.as_right ∙ q.holds);
                   cheap = omega (arith, joined-le (open_weights kn price n) (λ v. M v j) (λ v. list_any (λ y. y) (map (M v) kids)) (λ v. true) p.by q.by x, p.cheap, q.cheap, sum.sum_is);
                 };
                 same = λ v p q. ⊎_elim
@@ -206,7 +206,7 @@ module _ (graph : Graph) (words costs : List ℕ) (ok : IsGraph graph) (dear : A
               };
         }
 
-    -- all lines of the kids of an and
+    -- all lines of the children of an and
     pub and-means : (i : ℕ) (kids : List ℕ) (c : ℕ) → slice_get graph.nodes i ≡ Some (record { what = And; kids = kids }) → least_at graph words costs i ≡ Some c
         → ((k d : ℕ) → In k kids → least_at graph words costs k ≡ Some d → NodeMeans k d (line k)) → NodeMeans i c (λ a. list_all (λ b. b) (map (λ k. line k a) kids))
     and-means i kids c e is are =
@@ -226,29 +226,29 @@ module _ (graph : Graph) (words costs : List ℕ) (ok : IsGraph graph) (dear : A
   -- ---- an or
 
   module _ (i : ℕ) (kids : List ℕ) (c : ℕ) (e : slice_get graph.nodes i ≡ Some (record { what = Or; kids = kids })) (is : least_at graph words costs i ≡ Some c) where
-    -- what is below a kid is below the or
-    pub kid-inside : (k : ℕ) → In k kids → (v : ℕ) → M v k ≡ true → M v i ≡ true
-    kid-inside k m v h = mention-at graph words costs ok i _ e v ∙ any-kid (M v) kids k m h
+    -- what is below a child is below the or
+    pub child-inside : (k : ℕ) → In k kids → (v : ℕ) → M v k ≡ true → M v i ≡ true
+    child-inside k m v h = mention-at graph words costs ok i _ e v ∙ any-child (M v) kids k m h
 
     abbrev cheapest : List ℕ
-    cheapest = cheapest_kids (values (node_cost kn price) graph.nodes) c kids
+    cheapest = cheapest_children (values (node_cost kn price) graph.nodes) c kids
 
-    -- the lines of its cheapest kids, each filled in
+    -- the lines of its cheapest children, each filled in
     pub or-means : (line : ℕ → Assignment → Bool)
         → ((k : ℕ) → In k kids → least_at graph words costs k ≡ Some c → Means (λ a. is_true graph.nodes k a) (λ v. mentions graph.nodes v i) c (line k))
-        → NodeMeans i c (λ a. list_any (λ b. b) (map (λ k. line k a) (cheapest_kids (values (node_cost (known_at words) (part_cost costs)) graph.nodes) c kids)))
+        → NodeMeans i c (λ a. list_any (λ b. b) (map (λ k. line k a) (cheapest_children (values (node_cost (known_at words) (part_cost costs)) graph.nodes) c kids)))
     or-means line are = record {
       sound = λ a b ag h few same.
-          let j = kid-with (T b) kids (sym (true-at graph words costs ok i _ e b) ∙ h) in
-          let cost_is = or-kid graph words costs ok b ag i kids c e is few j.item j.is_in j.passes in
-          any-kid (λ k. line k a) cheapest j.item (cheapest-in (values (node_cost kn price) graph.nodes) c kids j.item j.is_in cost_is)
+          let j = child-with (T b) kids (sym (true-at graph words costs ok i _ e b) ∙ h) in
+          let cost_is = or-child graph words costs ok b ag i kids c e is few j.item j.is_in j.passes in
+          any-child (λ k. line k a) cheapest j.item (cheapest-in (values (node_cost kn price) graph.nodes) c kids j.item j.is_in cost_is)
           ((are j.item j.is_in cost_is).sound a b ag j.passes few same);
       reached = λ a h.
-          let j = kid-with (λ k. line k a) cheapest h in
+          let j = child-with (λ k. line k a) cheapest h in
           let m = cheapest-is (values (node_cost kn price) graph.nodes) c kids j.item j.is_in in
           let g = (are j.item m.0 m.1).reached a j.passes in
           record {
-            is = record { by = g.is.by; agrees = g.is.agrees; holds = true-at graph words costs ok i _ e g.is.by ∙ any-kid (T g.is.by) kids j.item m.0 g.is.holds; cheap = g.is.cheap };
+            is = record { by = g.is.by; agrees = g.is.agrees; holds = true-at graph words costs ok i _ e g.is.by ∙ any-child (T g.is.by) kids j.item m.0 g.is.holds; cheap = g.is.cheap };
             same = g.same;
           };
     }

@@ -14,27 +14,27 @@ use Rattle.nnf_text.proofs.LineTexts.{header, lines, text-lines}
 use Rattle.minimiser.specs.Costs.{cost_at}
 use Rattle.minimiser.specs.Stored.{cost_in}
 use Rattle.minimiser.proofs.Sums.{cost_in-some}
-use Rattle.smooth_nnf.specs.Layouts.{Layout, literal_pair, literal_pairs, costs_just, cheapest_kids, kid_line, or_lines, node_lines, last_line, all_lines}
+use Rattle.smooth_nnf.specs.Layouts.{Layout, literal_pair, literal_pairs, costs_just, cheapest_children, child_line, or_lines, node_lines, last_line, all_lines}
 use Rattle.smooth_nnf.specs.inner.Drawings.{Drawing, shown, filled_line}
-use Rattle.smooth_nnf.specs.inner.Texts.{lines_text, kid_edges}
+use Rattle.smooth_nnf.specs.inner.Texts.{lines_text, child_edges}
 
 pub last-kids : (d : Drawing) (root value : ℕ) → root ≡ length d.graph.nodes - 1 → cost_in value ≡ cost_at (map cost_in d.values) root → (value ≡ 4294967295 → ⊥)
     → length (filled_line d None root).kids ≡ length (last_line (shown d)).kids
 last-kids d root value at is some = grind (arith, nat_tests, cost_in-some)
 
-kid-lines : (d : Drawing) (node cost : ℕ) (kids : List ℕ) → sum_by (kid_edges d node cost) kids
-    ≡ edges (map (kid_line (shown d) node) (cheapest_kids (map cost_in d.values) cost kids)) + length (cheapest_kids (map cost_in d.values) cost kids)
-kid-lines d node cost [] = refl
-kid-lines d node cost (k ∷ kids) = sum_by-cons (kid_edges d node cost) k kids ∙ by (kid-lines d node cost kids) (costs_just cost (cost_at (map cost_in d.values) k)) where
-  by : sum_by (kid_edges d node cost) kids ≡ edges (map (kid_line (shown d) node) (cheapest_kids (map cost_in d.values) cost kids)) + length (cheapest_kids (map cost_in d.values) cost kids) → (b : Bool)
-      → cond b (length (kid_line (shown d) node k).kids + 1) 0 + sum_by (kid_edges d node cost) kids
-      ≡ edges (map (kid_line (shown d) node) (cond b (k ∷ cheapest_kids (map cost_in d.values) cost kids) (cheapest_kids (map cost_in d.values) cost kids)))
-      + length (cond b (k ∷ cheapest_kids (map cost_in d.values) cost kids) (cheapest_kids (map cost_in d.values) cost kids))
-  by more true = omega (arith, more, sum_by-cons (λ (n : Node). length n.kids) (kid_line (shown d) node k) (map (kid_line (shown d) node) (cheapest_kids (map cost_in d.values) cost kids)))
+child-lines : (d : Drawing) (node cost : ℕ) (kids : List ℕ) → sum_by (child_edges d node cost) kids
+    ≡ edges (map (child_line (shown d) node) (cheapest_children (map cost_in d.values) cost kids)) + length (cheapest_children (map cost_in d.values) cost kids)
+child-lines d node cost [] = refl
+child-lines d node cost (k ∷ kids) = sum_by-cons (child_edges d node cost) k kids ∙ by (child-lines d node cost kids) (costs_just cost (cost_at (map cost_in d.values) k)) where
+  by : sum_by (child_edges d node cost) kids ≡ edges (map (child_line (shown d) node) (cheapest_children (map cost_in d.values) cost kids)) + length (cheapest_children (map cost_in d.values) cost kids) → (b : Bool)
+      → cond b (length (child_line (shown d) node k).kids + 1) 0 + sum_by (child_edges d node cost) kids
+      ≡ edges (map (child_line (shown d) node) (cond b (k ∷ cheapest_children (map cost_in d.values) cost kids) (cheapest_children (map cost_in d.values) cost kids)))
+      + length (cond b (k ∷ cheapest_children (map cost_in d.values) cost kids) (cheapest_children (map cost_in d.values) cost kids))
+  by more true = omega (arith, more, sum_by-cons (λ (n : Node). length n.kids) (child_line (shown d) node k) (map (child_line (shown d) node) (cheapest_children (map cost_in d.values) cost kids)))
   by more false = omega (arith, more)
 
-pub or-edges : (d : Drawing) (node cost : ℕ) (kids : List ℕ) → sum_by (kid_edges d node cost) kids ≡ edges (or_lines (shown d) node (cheapest_kids (map cost_in d.values) cost kids))
-or-edges d node cost kids = grind (arith, nat_tests, kid-lines, sum_by-append, sum_by-cons, length-range_with_len)
+pub or-edges : (d : Drawing) (node cost : ℕ) (kids : List ℕ) → sum_by (child_edges d node cost) kids ≡ edges (or_lines (shown d) node (cheapest_children (map cost_in d.values) cost kids))
+or-edges d node cost kids = grind (arith, nat_tests, child-lines, sum_by-append, sum_by-cons, length-range_with_len)
 
 -- ---- one node after the other
 

@@ -64,7 +64,7 @@ filled-text d node over count is =
     let long : count ≡ length kids = omega arith in
     (λ i. 65 ∷ ((32 ∷ decimal (long i)) ++ sym (append_assoc (32 ∷ decimal (slice_index d.lines node)) (numbers_text (fillers d.words d.parts (missing_in d over node))) (10 ∷ [])) i)) ∙ and-spaced kids
 
--- ---- what stands at a place
+-- ---- what is at a place
 
 pub first-numbers : (n i : ℕ) → i < n → i ≡ get_or (range_with_len 0 n) i 0
 first-numbers n i lt = omega (arith, get_or-range_with_len 0 n i 0 lt)

@@ -14,9 +14,9 @@ use Rattle.state_rules.specs.declared.nodes.NodeKind.{NodeKind}
 use Rattle.state_rules.specs.declared.nodes.NodeKind.TheVariants.{Literal}
 use Rattle.state_rules.specs.Graphs.{Node, literal_node, node_at, at_most_one, truth_by, mention_by, is_true, mentions}
 use Rattle.state_rules.proofs.NodeValues.{are_below, value_of, value_of-at, are_below-from}
-use Rattle.state_rules.proofs.Kids.{at_most_one-from}
+use Rattle.state_rules.proofs.Children.{at_most_one-from}
 use Rattle.minimiser.specs.Costs.{known_at}
-use Rattle.minimiser.proofs.Derivations.{any-kid, all-kid, kid-with}
+use Rattle.minimiser.proofs.Derivations.{any-child, all-child, child-with}
 use Rattle.smooth_nnf.specs.Layouts.{literal_pair, literal_pairs, literal_line, filling, filler, fillers}
 use Rattle.smooth_nnf.proofs.LaterLines.{MayFollow, Stand, stand-none, stand-behind}
 
@@ -110,7 +110,7 @@ module _ (parts : ℕ) (more : List Node) where
         → map (value_of by (literal_pairs parts ++ more)) (fillers words parts missing) ≡ map (λ p. by (Literal (filling (known_at words p)) p) []) (filter missing (range_with_len 1 parts))
     fillers-values by = map-map (value_of by lines) (filler words) chosen ∙ map-in (λ p. value_of by lines (filler words p)) (λ p. by (Literal (filling (known_at words p)) p) []) chosen (filler-value by)
 
-    -- they stand before all that fills parts in
+    -- they are before all that fills parts in
     pub fillers-below : (own : ℕ) → 2 * parts ≤ own → are_below own (fillers words parts missing) ≡ true
     fillers-below own le = are_below-from own (map (filler words) chosen) (λ i d h.
         let x = from_map (filler words) (get_or (map (filler words) chosen) i d) chosen (In-at (map (filler words) chosen) i d h) in
@@ -122,13 +122,13 @@ module _ (parts : ℕ) (more : List Node) where
     fillers-mention v = ap (list_any (λ b. b)) (fillers-values (mention_by v)) ∙ both_ways _ _ from to where
       from : list_any (λ b. b) (map (λ p. p == v) chosen) ≡ true → ((nat_le 1 v && nat_le v parts) && missing v) ≡ true
       from any =
-          let r = kid-with (λ p. p == v) chosen any in
+          let r = child-with (λ p. p == v) chosen any in
           let is = chosen-is r.item r.is_in in
           subst (λ u. ((nat_le 1 u && nat_le u parts) && missing u) ≡ true) (eqb-true r.item v r.passes)
           (and_from _ _ (and_from _ _ (le-leb 1 r.item is.0) (le-leb r.item parts is.1)) is.2)
 
       to : ((nat_le 1 v && nat_le v parts) && missing v) ≡ true → list_any (λ b. b) (map (λ p. p == v) chosen) ≡ true
-      to all = grind (arith, nat_tests, and_parts, any-kid, chosen-has, leb-true, eq-eqb)
+      to all = grind (arith, nat_tests, and_parts, any-child, chosen-has, leb-true, eq-eqb)
 
     -- each once
     pub fillers-once : (v : ℕ) → at_most_one (map (mentions (literal_pairs parts ++ more) v) (fillers words parts missing)) ≡ true
@@ -138,7 +138,7 @@ module _ (parts : ℕ) (more : List Node) where
       once s (suc n) = by_test (once (s + 1) n) (missing s) where
         other : list_any (λ b. b) (map (λ p. p == v) (filter missing (range_with_len (s + 1) n))) ≡ true → (s == v) ≡ false
         other any =
-            let r = kid-with (λ p. p == v) (filter missing (range_with_len (s + 1) n)) any in
+            let r = child-with (λ p. p == v) (filter missing (range_with_len (s + 1) n)) any in
             let range = in_range (s + 1) n r.item (In-filter missing r.item (range_with_len (s + 1) n) r.is_in).0 in
             let same = eqb-true r.item v r.passes in
             ne_eqb s v (λ e. omega (arith, range.0))
@@ -160,4 +160,4 @@ module _ (parts : ℕ) (more : List Node) where
 
     pub fillers-say : (a : Assignment) → list_all (λ b. b) (map (λ k. is_true (literal_pairs parts ++ more) k a) (fillers words parts missing)) ≡ true
         → (v : ℕ) → (nat_le 1 v && nat_le v parts) ≡ true → missing v ≡ true → a v ≡ filling (known_at words v)
-    fillers-say a all v part is = grind (arith, nat_tests, and_parts, same_bit-equal, all-kid, chosen-has, leb-true, as_bits)
+    fillers-say a all v part is = grind (arith, nat_tests, and_parts, same_bit-equal, all-child, chosen-has, leb-true, as_bits)

@@ -15,14 +15,14 @@ use Rattle.smooth_nnf.specs.Layouts.{filler, fillers}
 use Rattle.smooth_nnf.specs.inner.Sets.{part_at}
 use Rattle.smooth_nnf.specs.inner.Drawings.{Drawing, IsDrawing, IsUnder, is_over, missing_in}
 use Rattle.smooth_nnf.proofs.Fillers.{in_range}
-use Rattle.smooth_nnf.proofs.LineLemmas.{kid-wider}
+use Rattle.smooth_nnf.proofs.LineLemmas.{child-wider}
 
 -- a set of parts, bit by bit
 pub set-bit : (parts : ℕ) (some : ℕ → Bool) (sets : List ℕ) (k word b : ℕ) → ArePartsOf parts some (set_at sets k (part_words parts)) → word < part_words parts → b < 32
     → has_bit (get_or sets (k * part_words parts + word) 0) b ≡ (nat_le (part_at word b) parts && some (part_at word b))
 set-bit parts some sets k word b are w s = grind (arith, nat_tests, get_or-take, get_or-drop, are, lt-ltb, le-leb, le-ltb, lt-leb, cases_lt)
 
--- nothing is missing below the last node, or below a kid of an or, where its word says so
+-- nothing is missing below the last node, or below a child of an or, if its word says so
 pub none-of_all : (d : Drawing) (lacking : List ℕ) → AreLacking d.graph d.parts lacking → get_or lacking (length d.graph.nodes) 0 ≡ 0 → (node part : ℕ) → IsUnder d None node → 1 ≤ part → part ≤ d.parts → missing_in d None node part ≡ false
 none-of_all d lacking is zero node part under low high = ap (λ b. true && not b) (ap (mentions d.graph.nodes part) under ∙ is.all.0 zero part low high)
 
@@ -44,4 +44,4 @@ no-fillers d over node none =
 
 -- what is below such a node is among what its line is filled in up to
 pub under-wider : (d : Drawing) → IsDrawing d → IsGraph d.graph → (over : Option ℕ) (node : ℕ) → IsUnder d over node → (part : ℕ) → mentions d.graph.nodes part node ≡ true → is_over d.graph.nodes over part ≡ true
-under-wider d is valid over node under part m = grind (arith, nat_tests, kid-wider)
+under-wider d is valid over node under part m = grind (arith, nat_tests, child-wider)

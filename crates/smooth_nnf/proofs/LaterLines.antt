@@ -1,4 +1,4 @@
--- Lines that stand behind others: what their nodes are worth, and that all of them are still nodes of a smooth graph.
+-- Lines that are after others: what their nodes are worth, and that all of them are still nodes of a smooth graph.
 use Rattle.std.proofs.Common.{◌≡◌, ℕ, ◌+◌, ◌<◌, ◌≤◌, Bool, true, List, [], ◌∷◌, ◌++◌, map, length, refl, ap, sym, ◌∙◌, subst, arith, append_assoc, append-nil, length-append}
 use Rattle.std.proofs.lemmas.Bool.Decides.{nat_tests}
 use Rattle.std.specs.List.{range_with_len, AllByRecursion}
@@ -14,18 +14,18 @@ use Rattle.nnf_text.specs.StateGraphs.{smooth_at, Smooth}
 -- ---- what nodes are worth
 
 module _ (by : NodeKind → List Bool → Bool) where
-  -- what stands before others is worth the same
+  -- what is before others is worth the same
   pub value_of-front : (front back : List Node) (k : ℕ) → k < length front → value_of by (front ++ back) k ≡ value_of by front k
   value_of-front front back k lt = grind (arith, nat_tests, values_after-append, values_after-keeps, length-values_after)
 
-  -- and what stands behind is worth what its kind makes of its kids
+  -- and what is after is worth what its kind makes of its children
   pub value_of-there : (front : List Node) (node : Node) (back : List Node) → value_of by (front ++ (node ∷ back)) (length front) ≡ by node.what (map (value_of by front) node.kids)
   value_of-there front node back =
       ap (λ ns. value_of by ns (length front)) (sym (append_assoc front (node ∷ []) back))
       ∙ value_of-front (front ++ node ∷ []) back (length front) (omega (arith, length-append front (node ∷ [])))
       ∙ value_of-last by front node
 
-  -- nodes one behind the other whose kids stand before all of them
+  -- nodes one after the other whose children are before all of them
   pub values-behind : (base seen middle back : List Node) → AllByRecursion (λ (x : Node). are_below (length base) x.kids ≡ true) middle
       → map (value_of by (base ++ (seen ++ (middle ++ back)))) (range_with_len (length base + length seen) (length middle)) ≡ map (λ x. by x.what (map (value_of by base) x.kids)) middle
   values-behind base seen [] back below = refl
@@ -55,7 +55,7 @@ pub record Stand (vars : ℕ) (lines : List Node) : Type 0 where
   pub nodes : AreNodes vars lines
   pub smooth : Smooth lines
 
--- a node that may stand behind them
+-- a node that may be after them
 pub record MayFollow (vars : ℕ) (base : List Node) (node : Node) : Type 0 where
   pub below : are_below (length base) node.kids ≡ true
   pub kind : kind_fits vars node.what node.kids ≡ true
@@ -88,7 +88,7 @@ stand-more : (vars : ℕ) (base seen middle : List Node) → Stand vars (base ++
 stand-more vars base seen [] s h = subst (λ t. Stand vars (base ++ t)) (sym (append-nil seen)) s
 stand-more vars base seen (x ∷ middle) s h = grind (arith, nat_tests, append_assoc, stand-push, may_follow-later, stand-more vars base (seen ++ x ∷ []) middle (subst (Stand vars) (append_assoc base seen (x ∷ [])) (stand-push vars (base ++ seen) x s (may_follow-later vars base seen x h.0))) h.1)
 
--- nodes that may each follow stand one behind the other
+-- nodes that may each follow stand one after the other
 pub stand-behind : (vars : ℕ) (base middle : List Node) → Stand vars base → AllByRecursion (MayFollow vars base) middle → Stand vars (base ++ middle)
 stand-behind vars base middle s h = stand-more vars base [] middle (subst (Stand vars) (sym (append-nil base)) s) h
 

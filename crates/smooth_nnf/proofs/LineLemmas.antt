@@ -8,7 +8,7 @@ use Rattle.std.proofs.lemmas.List.{length-map}
 use Rattle.std.proofs.lemmas.List.Concat.{flat_map-append}
 use Rattle.std.proofs.lemmas.List.Folds.{flat_map-map}
 use Rattle.std.proofs.lemmas.List.FromFn.{get_or-enumerate_from, get_or-range_with_len}
-use Rattle.part_sets.proofs.Kids.{kid-mentions}
+use Rattle.part_sets.proofs.Children.{child-mentions}
 use Rattle.text_rules.specs.Tokens.{spaced}
 use Rattle.state_rules.specs.declared.nodes.TheConstants.{CHILD_LIMIT}
 use Rattle.state_rules.specs.declared.nodes.NodeKind.{NodeKind}
@@ -21,9 +21,9 @@ use Rattle.nnf_text.proofs.LineTexts.{and-spaced, or-spaced}
 use Rattle.minimiser.specs.Costs.{cost_at}
 use Rattle.minimiser.specs.Stored.{cost_in}
 use Rattle.minimiser.proofs.Sums.{cost_in-some}
-use Rattle.smooth_nnf.specs.Layouts.{and_over, own_line, cheapest_kids, kid_line, or_behind, or_lines, lines_to, own_lines, last_line}
+use Rattle.smooth_nnf.specs.Layouts.{and_over, own_line, cheapest_children, child_line, or_behind, or_lines, lines_to, own_lines, last_line}
 use Rattle.smooth_nnf.specs.inner.Drawings.{Drawing, IsDrawing, IsUnder, shown, filled_line}
-use Rattle.smooth_nnf.specs.inner.Texts.{numbers_text, lines_text, kid_text}
+use Rattle.smooth_nnf.specs.inner.Texts.{numbers_text, lines_text, child_text}
 
 pub numbered : (nodes : List Node) (i : ℕ) → i < length nodes → (i, node_at nodes i) ≡ get_or (enumerate_from 0 nodes) i (0, true_node)
 numbered nodes i lt = let e : i ≡ 0 + i = omega arith in (λ j. (e j, node_at nodes i)) ∙ sym (get_or-enumerate_from 0 nodes i (0, true_node) lt)
@@ -47,22 +47,22 @@ or-text first count =
       length-range (suc n) s = ap suc (length-range n (s + 1))
 
 -- and of an and
-pub and-text : (d : Drawing) (kids : List ℕ) → codes "A" ++ ((32 ∷ decimal (length kids)) ++ (flat_map (λ kid. 32 ∷ decimal (slice_index d.lines kid)) kids ++ 10 ∷ []))
+pub and-text : (d : Drawing) (kids : List ℕ) → codes "A" ++ ((32 ∷ decimal (length kids)) ++ (flat_map (λ child. 32 ∷ decimal (slice_index d.lines child)) kids ++ 10 ∷ []))
     ≡ lines_text (and_over (map (own_line (shown d)) kids) ∷ [])
 and-text d kids =
     (λ i. codes "A" ++ ((32 ∷ decimal (sym (length-map kids (own_line (shown d))) i)) ++ (sym (flat_map-map (λ n. 32 ∷ decimal n) (own_line (shown d)) kids) i ++ 10 ∷ [])))
     ∙ and-spaced (map (own_line (shown d)) kids) ∙ sym (append-nil (spaced (node_words (and_over (map (own_line (shown d)) kids)))))
 
-kids-text : (d : Drawing) (node cost : ℕ) (kids : List ℕ) → flat_map (kid_text d node cost) kids ≡ lines_text (map (kid_line (shown d) node) (cheapest_kids (map cost_in d.values) cost kids))
+kids-text : (d : Drawing) (node cost : ℕ) (kids : List ℕ) → flat_map (child_text d node cost) kids ≡ lines_text (map (child_line (shown d) node) (cheapest_children (map cost_in d.values) cost kids))
 kids-text d node cost [] = refl
 kids-text d node cost (k ∷ kids) = grind (arith, nat_tests, kids-text d node cost kids)
 
 pub or-lines-text : (d : Drawing) (node cost : ℕ) (kids : List ℕ)
-    → flat_map (kid_text d node cost) kids ++ spaced (node_words (or_behind (slice_index d.lines node) (length (cheapest_kids (map cost_in d.values) cost kids))))
-    ≡ lines_text (or_lines (shown d) node (cheapest_kids (map cost_in d.values) cost kids))
+    → flat_map (child_text d node cost) kids ++ spaced (node_words (or_behind (slice_index d.lines node) (length (cheapest_children (map cost_in d.values) cost kids))))
+    ≡ lines_text (or_lines (shown d) node (cheapest_children (map cost_in d.values) cost kids))
 or-lines-text d node cost kids = grind (arith, nat_tests, kids-text, append-nil, flat_map-append)
 
--- ---- what holds of a node's kids and of its line
+-- ---- what holds of a node's children and of its line
 
 own-at : (least : List (Option ℕ)) (line number : ℕ) (nodes : List Node) (i : ℕ) → i < length nodes
     → lines_to least (node_at nodes i) (cost_at least (number + i)) ≤ get_or (own_lines least line number nodes) i 0
@@ -70,15 +70,15 @@ own-at least line number [] i lt = absurd (omega arith)
 own-at least line number (node ∷ nodes) zero lt = let e : number ≡ number + 0 = omega arith in subst (λ n. lines_to least node (cost_at least n) ≤ line + lines_to least node (cost_at least number)) e (omega arith)
 own-at least line number (node ∷ nodes) (suc i) lt = grind (arith, nat_tests, own-at least (line + lines_to least node (cost_at least number) + 1) (number + 1) nodes i)
 
--- a kid of an or
-pub kid-under : (d : Drawing) (node : ℕ) (kids : List ℕ) → node < length d.graph.nodes → node_at d.graph.nodes node ≡ record { what = Or; kids = kids } → (i : ℕ) → i < length kids → IsUnder d (Some node) (get_or kids i 0)
-kid-under d node kids lt at i h = (
+-- a child of an or
+pub child-under : (d : Drawing) (node : ℕ) (kids : List ℕ) → node < length d.graph.nodes → node_at d.graph.nodes node ≡ record { what = Or; kids = kids } → (i : ℕ) → i < length kids → IsUnder d (Some node) (get_or kids i 0)
+child-under d node kids lt at i h = (
   lt,
   record {
     what = ap (λ (n : Node). n.what) at;
     place = i;
     within = subst (λ (n : Node). i < length n.kids) (sym at) h;
-    kid_is = ap (λ (n : Node). get_or n.kids i 0) at;
+    child_is = ap (λ (n : Node). get_or n.kids i 0) at;
   },
 )
 
@@ -86,16 +86,16 @@ module _ (d : Drawing) (is : IsDrawing d) (valid : IsGraph d.graph) (node : ℕ)
   fit : Fits d.graph.vars node (record { what = what; kids = kids })
   fit = subst (Fits d.graph.vars node) at (fits-at d.graph.vars d.graph.nodes node valid.nodes.fit lt)
 
-  pub kids-inside : All (λ kid. kid < length d.graph.nodes) kids
+  pub kids-inside : All (λ child. child < length d.graph.nodes) kids
   kids-inside k default h = let below = below-each node kids fit.below k default h in omega (arith, below, lt)
 
   pub few-kids-of : what ≡ Or → length kids < 2 ^ 32
   few-kids-of or = ltb-true (length kids) CHILD_LIMIT (ap (λ w. kind_fits d.graph.vars w kids) (sym or) ∙ fit.kind)
 
-  pub kid-wider : what ≡ Or → (i part : ℕ) → i < length kids → mentions d.graph.nodes part (get_or kids i 0) ≡ true → mentions d.graph.nodes part node ≡ true
-  kid-wider or i part h m = kid-mentions d.graph node kids valid lt (ap (λ (n : Node). n.kids) (sym at)) i (ap (λ (n : Node). n.what) at ∙ or) h part m
+  pub child-wider : what ≡ Or → (i part : ℕ) → i < length kids → mentions d.graph.nodes part (get_or kids i 0) ≡ true → mentions d.graph.nodes part node ≡ true
+  child-wider or i part h m = child-mentions d.graph node kids valid lt (ap (λ (n : Node). n.kids) (sym at)) i (ap (λ (n : Node). n.what) at ∙ or) h part m
 
-  pub line-room : what ≡ Or → (cost : ℕ) → cost_at (map cost_in d.values) node ≡ Some cost → length (cheapest_kids (map cost_in d.values) cost kids) ≤ slice_index d.lines node
+  pub line-room : what ≡ Or → (cost : ℕ) → cost_at (map cost_in d.values) node ≡ Some cost → length (cheapest_children (map cost_in d.values) cost kids) ≤ slice_index d.lines node
   line-room or cost e = grind (arith, nat_tests, own-at)
 
   pub literal-low : (var : ℕ) (positive : Bool) → what ≡ Literal positive var → 1 ≤ var

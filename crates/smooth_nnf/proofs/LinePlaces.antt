@@ -9,26 +9,26 @@ use Rattle.state_rules.specs.Graphs.{Node, node_at, edges}
 use Rattle.minimiser.specs.Costs.{cost_at}
 use Rattle.minimiser.specs.Stored.{cost_in}
 use Rattle.minimiser.proofs.Sums.{cost_at-map, cost_in-some}
-use Rattle.smooth_nnf.specs.Layouts.{costs_just, cheapest_kids, lines_to, own_lines}
+use Rattle.smooth_nnf.specs.Layouts.{costs_just, cheapest_children, lines_to, own_lines}
 use Rattle.smooth_nnf.specs.inner.Drawings.{lines_after}
 
--- ---- kids of a cost
+-- ---- children of a cost
 
 pub just-stored : (cost n : ℕ) → (cost ≡ 4294967295 → ⊥) → costs_just cost (cost_in n) ≡ (n == cost)
 just-stored cost n some = grind (arith, nat_tests, cases_eq, cond-true, eq-eqb, ne_eqb, some, cost_in-some)
 
-cheapest-more : (values kids : List ℕ) (cost i count : ℕ) → i < length kids → get_or kids i 0 < length values → (cost ≡ 4294967295 → ⊥) → count ≡ length (cheapest_kids (map cost_in values) cost (take i kids))
-    → count + cond (get_or values (get_or kids i 0) 0 == cost) 1 0 ≡ length (cheapest_kids (map cost_in values) cost (take (i + 1) kids))
+cheapest-more : (values kids : List ℕ) (cost i count : ℕ) → i < length kids → get_or kids i 0 < length values → (cost ≡ 4294967295 → ⊥) → count ≡ length (cheapest_children (map cost_in values) cost (take i kids))
+    → count + cond (get_or values (get_or kids i 0) 0 == cost) 1 0 ≡ length (cheapest_children (map cost_in values) cost (take (i + 1) kids))
 cheapest-more values kids cost i count lt inside some is =
-    let test : ℕ → Bool = λ kid. costs_just cost (cost_at (map cost_in values) kid) in
+    let test : ℕ → Bool = λ child. costs_just cost (cost_at (map cost_in values) child) in
     let here : test (get_or kids i 0) ≡ (get_or values (get_or kids i 0) 0 == cost) = ap (costs_just cost) (cost_at-map values (get_or kids i 0) inside) ∙ just-stored cost (get_or values (get_or kids i 0) 0) some in
     (λ j. is j + cond (sym here j) 1 0) ∙ sym (length-filter_more test kids i 0 lt)
 
-module _ (values kids : List ℕ) (cost i count : ℕ) (lt : i < length kids) (inside : get_or kids i 0 < length values) (some : cost ≡ 4294967295 → ⊥) (is : count ≡ length (cheapest_kids (map cost_in values) cost (take i kids))) where
-  pub one-cheapest : get_or values (get_or kids i 0) 0 ≡ cost → count + 1 ≡ length (cheapest_kids (map cost_in values) cost (take (i + 1) kids))
+module _ (values kids : List ℕ) (cost i count : ℕ) (lt : i < length kids) (inside : get_or kids i 0 < length values) (some : cost ≡ 4294967295 → ⊥) (is : count ≡ length (cheapest_children (map cost_in values) cost (take i kids))) where
+  pub one-cheapest : get_or values (get_or kids i 0) 0 ≡ cost → count + 1 ≡ length (cheapest_children (map cost_in values) cost (take (i + 1) kids))
   one-cheapest hit = ap (λ b. count + cond b 1 0) (sym (eq-eqb (get_or values (get_or kids i 0) 0) cost hit)) ∙ cheapest-more values kids cost i count lt inside some is
 
-  pub none-cheapest : (get_or values (get_or kids i 0) 0 ≡ cost → ⊥) → count ≡ length (cheapest_kids (map cost_in values) cost (take (i + 1) kids))
+  pub none-cheapest : (get_or values (get_or kids i 0) 0 ≡ cost → ⊥) → count ≡ length (cheapest_children (map cost_in values) cost (take (i + 1) kids))
   none-cheapest miss =
       let same : count ≡ count + 0 = omega arith in
       same ∙ ap (λ b. count + cond b 1 0) (sym (ne_eqb (get_or values (get_or kids i 0) 0) cost miss)) ∙ cheapest-more values kids cost i count lt inside some is

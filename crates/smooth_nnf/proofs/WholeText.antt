@@ -111,7 +111,7 @@ module _ (graph : Graph) (words costs : List ℕ) (ok : IsGraph graph) (long : l
   least-under : (o : Option ℕ) → least_at graph words costs root ≡ o → least_under graph words costs ≡ AddHeld held o
   least-under o e = least_is graph words costs ok long within ∙ ap (AddHeld held) e
 
-  -- there is a least cost where there is a diagnosis
+  -- there is a least cost if there is a diagnosis
   has-cost : (d : List Bool) → In d ds → (c : ℕ) × (least_at graph words costs root ≡ Some c)
   has-cost d m = by_cost (least_at graph words costs root) refl where
     by_cost : (o : Option ℕ) → least_at graph words costs root ≡ o → (c : ℕ) × (least_at graph words costs root ≡ Some c)
@@ -166,7 +166,7 @@ module _ (graph : Graph) (words costs : List ℕ) (ok : IsGraph graph) (long : l
     lines-le (i + 1) nodes,
   )
 
-  -- at most a line for each node and each kid, two for each part, and one more
+  -- at most a line for each node and each child, two for each part, and one more
   pub all-le : length all ≤ length graph.nodes + edges graph.nodes + 2 * length costs + 1
   all-le = omega (arith, length-all, length-append (literal_pairs parts) lines, length-literal_pairs parts, lines-le 0 graph.nodes)
 

@@ -75,7 +75,7 @@ word-parts test word bits is = filter_same (λ part. has_bit bits (part - (32 * 
     let e : part_at word (p - (32 * word + 1)) ≡ p = omega (arith, range.0) in
     is (p - (32 * word + 1)) (omega (arith, range.0, range.1)) ∙ ap test e)
 
--- behind the last part there is none
+-- after the last part there is none
 pub all-words : (test : ℕ → Bool) (parts n : ℕ) → parts ≤ n → filter (λ p. nat_le p parts && test p) (range_with_len 1 n) ≡ filter test (range_with_len 1 parts)
 all-words test parts n le =
     let all : n ≡ parts + (n - parts) = omega arith in

@@ -37,30 +37,30 @@ filler words part = literal_line part (filling (known_at words part))
 abbrev pub fillers : List ℕ → ℕ → (ℕ → Bool) → List ℕ
 fillers words parts missing = map (filler words) (filter missing (range_with_len 1 parts))
 
--- ---- the kids of least cost
+-- ---- the children of least cost
 
 abbrev pub costs_just : ℕ → Option ℕ → Bool
 costs_just cost None = false
 costs_just cost (Some other) = other == cost
 
--- the kids of which the least cost is this
-abbrev pub cheapest_kids : List (Option ℕ) → ℕ → List ℕ → List ℕ
-cheapest_kids least cost kids = filter (λ kid. costs_just cost (cost_at least kid)) kids
+-- the children of which the least cost is this
+abbrev pub cheapest_children : List (Option ℕ) → ℕ → List ℕ → List ℕ
+cheapest_children least cost kids = filter (λ child. costs_just cost (cost_at least child)) kids
 
--- ---- where the lines of the nodes stand
+-- ---- where the lines of the nodes are
 
--- an or has a line for each of its kids of least cost before its own
+-- an or has a line for each of its children of least cost before its own
 abbrev pub lines_before : List (Option ℕ) → ℕ → NodeKind → List ℕ → ℕ
 lines_before least cost (Literal positive var) kids = 0
 lines_before least cost And kids = 0
-lines_before least cost Or kids = length (cheapest_kids least cost kids)
+lines_before least cost Or kids = length (cheapest_children least cost kids)
 
 -- a node that is never true has one line
 abbrev pub lines_to : List (Option ℕ) → Node → Option ℕ → ℕ
 lines_to least node None = 0
 lines_to least node (Some cost) = lines_before least cost node.what node.kids
 
--- the own line of each node, where the first one has this number and its lines begin at this line
+-- the own line of each node, if the first one has this number and its lines begin at this line
 abbrev pub own_lines : List (Option ℕ) → ℕ → ℕ → List Node → List ℕ
 own_lines least line number [] = []
 own_lines least line number (node ∷ nodes) =
@@ -91,16 +91,16 @@ own_line layout node = slice_index layout.lines node
 -- ---- the lines of a node
 
 -- a literal of a part stands for the part's line, and any other for what is true
-abbrev pub literal_kids : ℕ → ℕ → Bool → List ℕ
-literal_kids parts var positive = if nat_le var parts then literal_line var positive ∷ [] else []
+abbrev pub literal_children : ℕ → ℕ → Bool → List ℕ
+literal_children parts var positive = if nat_le var parts then literal_line var positive ∷ [] else []
 
--- one kid of an or, with the parts that are below the or and not below the kid
+-- one child of an or, with the parts that are below the or and not below the child
 abbrev pub missing : Layout → ℕ → ℕ → ℕ → Bool
-missing layout number kid part = mentions layout.graph.nodes part number && not (mentions layout.graph.nodes part kid)
+missing layout number child part = mentions layout.graph.nodes part number && not (mentions layout.graph.nodes part child)
 
-abbrev pub kid_line : Layout → ℕ → ℕ → Node
-kid_line layout number kid =
-    and_over (own_line layout kid ∷ fillers layout.words layout.parts (missing layout number kid))
+abbrev pub child_line : Layout → ℕ → ℕ → Node
+child_line layout number child =
+    and_over (own_line layout child ∷ fillers layout.words layout.parts (missing layout number child))
 
 -- an or over so many lines that come before its own
 abbrev pub or_behind : ℕ → ℕ → Node
@@ -108,12 +108,12 @@ or_behind own count = record { what = Or; kids = range_with_len (own - count) co
 
 abbrev pub or_lines : Layout → ℕ → List ℕ → List Node
 or_lines layout number cheapest =
-    map (kid_line layout number) cheapest ++ or_behind (own_line layout number) (length cheapest) ∷ []
+    map (child_line layout number) cheapest ++ or_behind (own_line layout number) (length cheapest) ∷ []
 
 abbrev pub lines_by : Layout → ℕ → ℕ → NodeKind → List ℕ → List Node
-lines_by layout number cost (Literal positive var) kids = and_over (literal_kids layout.parts var positive) ∷ []
+lines_by layout number cost (Literal positive var) kids = and_over (literal_children layout.parts var positive) ∷ []
 lines_by layout number cost And kids = and_over (map (own_line layout) kids) ∷ []
-lines_by layout number cost Or kids = or_lines layout number (cheapest_kids layout.least cost kids)
+lines_by layout number cost Or kids = or_lines layout number (cheapest_children layout.least cost kids)
 
 -- a node that is never true is false
 abbrev pub lines_at : Layout → ℕ → Node → Option ℕ → List Node

@@ -2,7 +2,7 @@
 use Rattle.std.specs.Prelude.{ℕ, ◌+◌, ◌*◌}
 use Rattle.part_sets.specs.Numbers.{part_words}
 
--- how many words the graph of the diagnoses is drawn with, of so many nodes, where the sets of the parts below the nodes are kept: two
+-- how many words the graph of the diagnoses is drawn with, of so many nodes, if the sets of the parts below the nodes are kept: two
 -- for each
 abbrev pub drawing_words : ℕ → ℕ
 drawing_words nodes = nodes * 2

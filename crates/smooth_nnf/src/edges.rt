@@ -3,7 +3,7 @@ ghost use Rattle.std.specs.Prelude.{◌≡◌, ◌≢◌, ◌+◌, ◌*◌, ◌^
 ghost use Rattle.state_rules.specs.Graphs.{node_at, IsGraph, edges};
 ghost use Rattle.smooth_nnf.specs.Layouts.{all_lines, last_line, lines_by, node_lines};
 ghost use Rattle.smooth_nnf.specs.inner.Drawings.{IsUnder, shown};
-ghost use Rattle.smooth_nnf.specs.inner.Texts.{kid_edges};
+ghost use Rattle.smooth_nnf.specs.inner.Texts.{child_edges};
 
 use crate::drawing::Drawing;
 use minimiser::NONE;
@@ -65,35 +65,35 @@ fn edges_by(drawing: &Drawing<'_>, node: u32, what: NodeKind, kids: &[u32], cost
     }
 }
 
-// That of the lines of an or: each of its cheapest kids has one, and is one of its own.
+// That of the lines of an or: each of its cheapest children has one, and is one of its own.
 fn or_edges(drawing: &Drawing<'_>, node: u32, kids: &[u32], cost: u32) -> u64
     requires node { node < length drawing.now.graph.nodes }
-    requires kids { All (λ kid. kid < length drawing.now.graph.nodes) kids.now }
+    requires kids { All (λ child. child < length drawing.now.graph.nodes) kids.now }
     requires few { length kids.now < 2 ^ 32 }
     requires cost { cost ≢ NONE }
     requires is { node_at drawing.now.graph.nodes node ≡ record { what = NodeKind.Or; kids = kids.now } }
-    ensures { result ≡ sum_by (kid_edges drawing.now node cost) kids.now }
+    ensures { result ≡ sum_by (child_edges drawing.now node cost) kids.now }
 {
     let mut total = 0;
-    for kid in kids {
-        total += kid_edges(drawing, node, *kid, cost);
+    for child in kids {
+        total += child_edges(drawing, node, *child, cost);
     }
     total
 }
 
-// That of a kid's line, and one more, where it has the cost.
-fn kid_edges(drawing: &Drawing<'_>, node: u32, kid: u32, cost: u32) -> u64
+// That of a child's line, and one more, if it has the cost.
+fn child_edges(drawing: &Drawing<'_>, node: u32, child: u32, cost: u32) -> u64
     requires node { node < length drawing.now.graph.nodes }
-    requires kid { kid < length drawing.now.graph.nodes }
+    requires child { child < length drawing.now.graph.nodes }
     requires cost { cost ≢ NONE }
-    requires under { IsUnder drawing.now (Some node) kid }
-    ensures count { result ≡ kid_edges drawing.now node cost kid }
+    requires under { IsUnder drawing.now (Some node) child }
+    ensures count { result ≡ child_edges drawing.now node cost child }
     ensures most { result ≤ 2 ^ 31 + 2 }
 {
     // Its contract says that this is a drawing.
     let _parts = drawing.parts();
-    if drawing.value(kid) != cost {
+    if drawing.value(child) != cost {
         return 0;
     }
-    u64::from(drawing.missing_count(Some(node), kid) + 2)
+    u64::from(drawing.missing_count(Some(node), child) + 2)
 }

@@ -116,7 +116,7 @@ fn add_end<O: Sink>(
     chunk.add(out, b"\n")
 }
 
-// Adds the lines that fill in what is missing below a node, each behind a space.
+// Adds the lines that fill in what is missing below a node, each after a space.
 fn add_fillers<O: Sink>(
     chunk: &mut Chunk,
     out: &mut O,
@@ -159,7 +159,7 @@ fn add_word_fillers<O: Sink>(
     add_bits(chunk, out, drawing, word, bits)
 }
 
-// Adds the lines that fill in the parts of a word's bits, each behind a space.
+// Adds the lines that fill in the parts of a word's bits, each after a space.
 fn add_bits<O: Sink>(
     chunk: &mut Chunk,
     out: &mut O,
@@ -178,7 +178,7 @@ fn add_bits<O: Sink>(
     Ok(())
 }
 
-// Adds the line that fills in the part of one bit, where the word has it.
+// Adds the line that fills in the part of one bit, if the word has it.
 fn add_bit<O: Sink>(
     chunk: &mut Chunk,
     out: &mut O,

@@ -8,9 +8,9 @@ ghost use Rattle.diag_edge.specs.Edge.{HasCause};
 ghost use Rattle.nnf_text.specs.WrittenGraphs.{node_words};
 ghost use Rattle.minimiser.specs.Costs.{cost_at};
 ghost use Rattle.minimiser.specs.Stored.{cost_in};
-ghost use Rattle.smooth_nnf.specs.Layouts.{and_over, literal_pair, lines_by, literal_kids, cheapest_kids, or_behind, node_lines, last_line};
+ghost use Rattle.smooth_nnf.specs.Layouts.{and_over, literal_pair, lines_by, literal_children, cheapest_children, or_behind, node_lines, last_line};
 ghost use Rattle.smooth_nnf.specs.inner.Drawings.{IsUnder, shown};
-ghost use Rattle.smooth_nnf.specs.inner.Texts.{lines_text, kid_text};
+ghost use Rattle.smooth_nnf.specs.inner.Texts.{lines_text, child_text};
 
 use crate::drawing::{Drawing, literal_line};
 use crate::filling::add_filled;
@@ -114,7 +114,7 @@ fn add_node_lines<O: Sink>(
     add_lines_by(chunk, out, drawing, node, drawing.graph().kids(node), cost)
 }
 
-// Adds the lines of a node that can be true, by what it is and its kids.
+// Adds the lines of a node that can be true, by what it is and its children.
 fn add_lines_by<O: Sink>(
     chunk: &mut Chunk,
     out: &mut O,
@@ -153,7 +153,7 @@ fn add_literal<O: Sink>(
     requires var { 1 ≤ var }
     requires few { 2 * parts < 2 ^ 32 }
     ensures bytes { Adds (O.got out.old) (O.got out.new) chunk.old chunk.new result
-        (spaced (node_words (and_over (literal_kids parts var positive)))) }
+        (spaced (node_words (and_over (literal_children parts var positive)))) }
     ensures cause { HasCause (O.faults out.old) (O.faults out.new) result }
 {
     if var <= parts {
@@ -170,26 +170,26 @@ fn add_and<O: Sink>(
     drawing: &Drawing<'_>,
     kids: &[u32],
 ) -> Result<(), WriteFailed>
-    requires { All (λ kid. kid < length drawing.now.graph.nodes) kids.now }
+    requires { All (λ child. child < length drawing.now.graph.nodes) kids.now }
     ensures bytes { Adds (O.got out.old) (O.got out.new) chunk.old chunk.new result
         (65 ∷ ((32 ∷ decimal (length kids.now))
-        ++ (flat_map (λ kid. 32 ∷ decimal (slice_index drawing.now.lines kid)) kids.now ++ 10 ∷ []))) }
+        ++ (flat_map (λ child. 32 ∷ decimal (slice_index drawing.now.lines child)) kids.now ++ 10 ∷ []))) }
     ensures cause { HasCause (O.faults out.old) (O.faults out.new) result }
 {
     chunk.add(out, b"A")?;
-    add_and_kids(chunk, out, drawing, kids)
+    add_and_children(chunk, out, drawing, kids)
 }
 
-fn add_and_kids<O: Sink>(
+fn add_and_children<O: Sink>(
     chunk: &mut Chunk,
     out: &mut O,
     drawing: &Drawing<'_>,
     kids: &[u32],
 ) -> Result<(), WriteFailed>
-    requires { All (λ kid. kid < length drawing.now.graph.nodes) kids.now }
+    requires { All (λ child. child < length drawing.now.graph.nodes) kids.now }
     ensures bytes { Adds (O.got out.old) (O.got out.new) chunk.old chunk.new result
         ((32 ∷ decimal (length kids.now))
-        ++ (flat_map (λ kid. 32 ∷ decimal (slice_index drawing.now.lines kid)) kids.now ++ 10 ∷ [])) }
+        ++ (flat_map (λ child. 32 ∷ decimal (slice_index drawing.now.lines child)) kids.now ++ 10 ∷ [])) }
     ensures cause { HasCause (O.faults out.old) (O.faults out.new) result }
 {
     chunk.add_count(out, kids.len() as u64)?;
@@ -203,34 +203,34 @@ fn add_and_end<O: Sink>(
     drawing: &Drawing<'_>,
     kids: &[u32],
 ) -> Result<(), WriteFailed>
-    requires { All (λ kid. kid < length drawing.now.graph.nodes) kids.now }
+    requires { All (λ child. child < length drawing.now.graph.nodes) kids.now }
     ensures bytes { Adds (O.got out.old) (O.got out.new) chunk.old chunk.new result
-        (flat_map (λ kid. 32 ∷ decimal (slice_index drawing.now.lines kid)) kids.now ++ 10 ∷ []) }
+        (flat_map (λ child. 32 ∷ decimal (slice_index drawing.now.lines child)) kids.now ++ 10 ∷ []) }
     ensures cause { HasCause (O.faults out.old) (O.faults out.new) result }
 {
     add_own_lines(chunk, out, drawing, kids)?;
     chunk.add(out, b"\n")
 }
 
-// Adds the own lines of nodes, each behind a space.
+// Adds the own lines of nodes, each after a space.
 fn add_own_lines<O: Sink>(
     chunk: &mut Chunk,
     out: &mut O,
     drawing: &Drawing<'_>,
     kids: &[u32],
 ) -> Result<(), WriteFailed>
-    requires { All (λ kid. kid < length drawing.now.graph.nodes) kids.now }
+    requires { All (λ child. child < length drawing.now.graph.nodes) kids.now }
     ensures bytes { Adds (O.got out.old) (O.got out.new) chunk.old chunk.new result
-        (flat_map (λ kid. 32 ∷ decimal (slice_index drawing.now.lines kid)) kids.now) }
+        (flat_map (λ child. 32 ∷ decimal (slice_index drawing.now.lines child)) kids.now) }
     ensures cause { HasCause (O.faults out.old) (O.faults out.new) result }
 {
-    for kid in kids {
-        chunk.add_count(out, drawing.line(*kid))?;
+    for child in kids {
+        chunk.add_count(out, drawing.line(*child))?;
     }
     Ok(())
 }
 
-// Adds the lines of an or: one for each of its cheapest kids, and its own over these.
+// Adds the lines of an or: one for each of its cheapest children, and its own over these.
 fn add_or<O: Sink>(
     chunk: &mut Chunk,
     out: &mut O,
@@ -240,21 +240,21 @@ fn add_or<O: Sink>(
     cost: u32,
 ) -> Result<(), WriteFailed>
     requires node { node < length drawing.now.graph.nodes }
-    requires kids { All (λ kid. kid < length drawing.now.graph.nodes) kids.now }
+    requires kids { All (λ child. child < length drawing.now.graph.nodes) kids.now }
     requires few { length kids.now < 2 ^ 32 }
     requires cost { cost ≢ NONE }
     requires is { node_at drawing.now.graph.nodes node ≡ record { what = NodeKind.Or; kids = kids.now } }
-    requires room { length (cheapest_kids (map cost_in drawing.now.values) cost kids.now) ≤ slice_index drawing.now.lines node }
+    requires room { length (cheapest_children (map cost_in drawing.now.values) cost kids.now) ≤ slice_index drawing.now.lines node }
     ensures bytes { Adds (O.got out.old) (O.got out.new) chunk.old chunk.new result
-        (flat_map (kid_text drawing.now node cost) kids.now ++ spaced (node_words
-        (or_behind (slice_index drawing.now.lines node) (length (cheapest_kids (map cost_in drawing.now.values) cost kids.now))))) }
+        (flat_map (child_text drawing.now node cost) kids.now ++ spaced (node_words
+        (or_behind (slice_index drawing.now.lines node) (length (cheapest_children (map cost_in drawing.now.values) cost kids.now))))) }
     ensures cause { HasCause (O.faults out.old) (O.faults out.new) result }
 {
     // Its contract says that this is a drawing.
     let _parts = drawing.parts();
     let count = cheapest_count(kids, drawing.values(), cost);
     let first = drawing.line(node) - count;
-    add_kid_lines(chunk, out, drawing, node, kids, cost)?;
+    add_child_lines(chunk, out, drawing, node, kids, cost)?;
     add_or_line(chunk, out, first, count)
 }
 
@@ -274,8 +274,8 @@ fn add_or_line<O: Sink>(
     add_counted_range(chunk, out, first, count)
 }
 
-// Adds the lines of the cheapest kids of an or.
-fn add_kid_lines<O: Sink>(
+// Adds the lines of the cheapest children of an or.
+fn add_child_lines<O: Sink>(
     chunk: &mut Chunk,
     out: &mut O,
     drawing: &Drawing<'_>,
@@ -284,38 +284,38 @@ fn add_kid_lines<O: Sink>(
     cost: u32,
 ) -> Result<(), WriteFailed>
     requires node { node < length drawing.now.graph.nodes }
-    requires kids { All (λ kid. kid < length drawing.now.graph.nodes) kids.now }
+    requires kids { All (λ child. child < length drawing.now.graph.nodes) kids.now }
     requires cost { cost ≢ NONE }
     requires is { node_at drawing.now.graph.nodes node ≡ record { what = NodeKind.Or; kids = kids.now } }
     ensures bytes { Adds (O.got out.old) (O.got out.new) chunk.old chunk.new result
-        (flat_map (kid_text drawing.now node cost) kids.now) }
+        (flat_map (child_text drawing.now node cost) kids.now) }
     ensures cause { HasCause (O.faults out.old) (O.faults out.new) result }
 {
-    for kid in kids {
-        add_kid_line(chunk, out, drawing, node, *kid, cost)?;
+    for child in kids {
+        add_child_line(chunk, out, drawing, node, *child, cost)?;
     }
     Ok(())
 }
 
-// Adds the line of a kid, where it has the cost.
-fn add_kid_line<O: Sink>(
+// Adds the line of a child, if it has the cost.
+fn add_child_line<O: Sink>(
     chunk: &mut Chunk,
     out: &mut O,
     drawing: &Drawing<'_>,
     node: u32,
-    kid: u32,
+    child: u32,
     cost: u32,
 ) -> Result<(), WriteFailed>
     requires node { node < length drawing.now.graph.nodes }
-    requires kid { kid < length drawing.now.graph.nodes }
+    requires child { child < length drawing.now.graph.nodes }
     requires cost { cost ≢ NONE }
-    requires under { IsUnder drawing.now (Some node) kid }
+    requires under { IsUnder drawing.now (Some node) child }
     ensures bytes { Adds (O.got out.old) (O.got out.new) chunk.old chunk.new result
-        (kid_text drawing.now node cost kid) }
+        (child_text drawing.now node cost child) }
     ensures cause { HasCause (O.faults out.old) (O.faults out.new) result }
 {
-    if drawing.value(kid) != cost {
+    if drawing.value(child) != cost {
         return Ok(());
     }
-    add_filled(chunk, out, drawing, Some(node), kid)
+    add_filled(chunk, out, drawing, Some(node), child)
 }

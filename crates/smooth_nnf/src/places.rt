@@ -1,7 +1,7 @@
 ghost use Rattle.std.specs.Prelude.{◌≡◌, ◌≢◌, ◌+◌, ◌*◌, ◌^◌, ◌<◌, ◌≤◌, map, length, All};
 ghost use Rattle.state_rules.specs.Graphs.{edges};
 ghost use Rattle.minimiser.specs.Stored.{cost_in};
-ghost use Rattle.smooth_nnf.specs.Layouts.{cheapest_kids, lines_to, own_lines};
+ghost use Rattle.smooth_nnf.specs.Layouts.{cheapest_children, lines_to, own_lines};
 ghost use Rattle.smooth_nnf.specs.inner.Drawings.{lines_after};
 
 use minimiser::NONE;
@@ -27,7 +27,7 @@ pub(crate) fn place_lines(graph: &Graph, parts: u32, values: &[u32], lines: &mut
 
 // How many lines a node has before its own.
 fn lines_to(what: NodeKind, kids: &[u32], values: &[u32], cost: u32) -> u32
-    requires kids { All (λ kid. kid < length values.now) kids.now }
+    requires kids { All (λ child. child < length values.now) kids.now }
     requires few { length kids.now < 2 ^ 32 }
     ensures { result ≡ lines_to (map cost_in values.now) (record { what = what; kids = kids.now }) (cost_in cost) }
 {
@@ -40,17 +40,17 @@ fn lines_to(what: NodeKind, kids: &[u32], values: &[u32], cost: u32) -> u32
     }
 }
 
-// How many kids have a cost.
+// How many children have a cost.
 pub(crate) fn cheapest_count(kids: &[u32], values: &[u32], cost: u32) -> u32
-    requires kids { All (λ kid. kid < length values.now) kids.now }
+    requires kids { All (λ child. child < length values.now) kids.now }
     requires few { length kids.now < 2 ^ 32 }
     requires cost { cost ≢ NONE }
-    ensures count { result ≡ length (cheapest_kids (map cost_in values.now) cost kids.now) }
+    ensures count { result ≡ length (cheapest_children (map cost_in values.now) cost kids.now) }
     ensures most { result ≤ length kids.now }
 {
     let mut count = 0;
-    for kid in kids {
-        if values[*kid as usize] == cost {
+    for child in kids {
+        if values[*child as usize] == cost {
             count += 1;
         }
     }

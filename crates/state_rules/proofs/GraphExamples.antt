@@ -9,19 +9,19 @@ either = record { nodes = literal_node 1 true ∷ literal_node 1 false ∷ recor
 always_true : holds either (true ∷ []) ≡ true
 always_true = refl
 
--- two kids of an and share a variable, also where they are one kid named twice
+-- two children of an and share a variable, also if they are one child named twice
 share_a_variable : apart_at (mentions either.nodes 1) And (0 ∷ 1 ∷ []) ≡ false
 share_a_variable = refl
 
 shares_with_itself : apart_at (mentions either.nodes 1) And (0 ∷ 0 ∷ []) ≡ false
 shares_with_itself = refl
 
--- a kid comes before its parent, a variable is there, and a literal has no kid
-an_earlier_kid : nodes_fit 1 0 either.nodes ≡ true
-an_earlier_kid = refl
+-- a child comes before its parent, a variable is there, and a literal has no child
+an_earlier_child : nodes_fit 1 0 either.nodes ≡ true
+an_earlier_child = refl
 
-a_kid_of_its_own : node_fits 1 2 (record { what = And; kids = 2 ∷ [] }) ≡ false
-a_kid_of_its_own = refl
+a_child_of_its_own : node_fits 1 2 (record { what = And; kids = 2 ∷ [] }) ≡ false
+a_child_of_its_own = refl
 
 a_variable_above : node_fits 1 0 (literal_node 2 true) ≡ false
 a_variable_above = refl

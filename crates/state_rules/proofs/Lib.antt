@@ -9,5 +9,5 @@ pub mod Order
 pub mod WordBits
 pub mod NodeValues
 pub mod NodesFit
-pub mod Kids
+pub mod Children
 pub mod Mentions

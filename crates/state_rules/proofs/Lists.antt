@@ -31,13 +31,13 @@ pub filter-filter : {A : Type 0} (p q : A → Bool) (xs : List A) → filter p (
 filter-filter p q [] = refl
 filter-filter p q (x ∷ xs) = grind (arith, filter-filter p q xs)
 
--- what stands at a place stays there where more follows
+-- what is at a place stays there where more follows
 pub slice_get-before : {A : Type 0} (xs ys : List A) (i : ℕ) (x : A) → slice_get xs i ≡ Some x → slice_get (xs ++ ys) i ≡ Some x
 slice_get-before [] ys i x e = absurd (cc)
 slice_get-before (y ∷ xs) ys zero x e = e
 slice_get-before (y ∷ xs) ys (suc i) x e = slice_get-before xs ys i x e
 
--- one more item stands behind all others
+-- one more item is after all others
 pub slice_get-last : {A : Type 0} (xs : List A) (x : A) → slice_get (xs ++ x ∷ []) (length xs) ≡ Some x
 slice_get-last [] x = refl
 slice_get-last (y ∷ xs) x = slice_get-last xs x

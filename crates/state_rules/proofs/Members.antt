@@ -10,7 +10,7 @@ abbrev pub In : {A : Type 0} → A → List A → Type 0
 In x [] = ⊥
 In x (y ∷ ys) = (x ≡ y) ⊎ In x ys
 
--- what stands at a place of a list is in it
+-- what is at a place of a list is in it
 pub In-at : {A : Type 0} (xs : List A) (i : ℕ) (d : A) → i < length xs → In (get_or xs i d) xs
 In-at [] i d h = absurd (omega arith)
 In-at (x ∷ xs) zero d h = inl refl

@@ -1,4 +1,4 @@
--- A variable that no literal has is mentioned nowhere, and shared by no kids.
+-- A variable that no literal has is mentioned nowhere, and shared by no children.
 use Rattle.std.proofs.Common.{◌≡◌, ℕ, zero, suc, ◌<◌, ◌≤◌, Bool, true, false, not, ◌==◌, List, [], ◌∷◌, ◌++◌, map, length, refl, ap, arith, inl, inr}
 use Rattle.std.specs.List.{list_any}
 use Rattle.std.proofs.lemmas.Bool.{or_cases}
@@ -8,7 +8,7 @@ use Rattle.state_rules.specs.declared.nodes.NodeKind.{NodeKind}
 use Rattle.state_rules.specs.declared.nodes.NodeKind.TheVariants.{Literal, And, Or}
 use Rattle.state_rules.specs.Graphs.{Node, node_at, mention, mention_by, mentions, apart_at, nodes_fit, shares}
 use Rattle.state_rules.proofs.NodesFit.{fits-at}
-use Rattle.state_rules.proofs.Kids.{at_most_one-none}
+use Rattle.state_rules.proofs.Children.{at_most_one-none}
 
 abbrev has_variable : ℕ → NodeKind → Bool
 has_variable v (Literal positive var) = var == v
@@ -81,6 +81,6 @@ IsUsed-range vars nodes v fit used = grind (arith, fits-at vars nodes used.at fi
 pub mentioned-range : (vars : ℕ) (nodes : List Node) (v i : ℕ) → nodes_fit vars 0 nodes ≡ true → mentions nodes v i ≡ true → InRange vars v
 mentioned-range vars nodes v i fit mentioned = IsUsed-range vars nodes v fit (IsUsed-mentioned nodes v i mentioned)
 
--- no kids share variable 0
+-- no children share variable 0
 pub unshared-0 : (vars : ℕ) (nodes : List Node) (node : Node) → nodes_fit vars 0 nodes ≡ true → shares nodes node 0 ≡ false
 unshared-0 vars nodes node fit = grind (arith, IsUsed-range, IsUsed-shared)

@@ -1,4 +1,4 @@
--- Values of nodes: each is by the node's kind and the values of its kids.
+-- Values of nodes: each is by the node's kind and the values of its children.
 use Rattle.std.proofs.Common.{◌≡◌, ℕ, suc, ◌<◌, Bool, true, List, [], ◌∷◌, ◌++◌, map, length, get_or, Some, All, refl, arith, length-append}
 use Rattle.std.specs.Prelude.{nat_lt, slice_get}
 use Rattle.std.specs.List.{list_all}
@@ -14,19 +14,19 @@ use Rattle.state_rules.specs.Graphs.{Node, true_node, node_at}
 use Rattle.state_rules.proofs.Lists.{list_all-at}
 
 abbrev pub are_below : ℕ → List ℕ → Bool
-are_below own kids = list_all (λ kid. nat_lt kid own) kids
+are_below own kids = list_all (λ child. nat_lt child own) kids
 
 pub are_below-from : (own : ℕ) (kids : List ℕ) → All (λ k. k < own) kids → are_below own kids ≡ true
 are_below-from own [] all = refl
-are_below-from own (kid ∷ kids) all = and_from _ _ (lt-ltb kid own (all 0 0 (omega arith))) (are_below-from own kids (λ k d h. all (suc k) d (omega arith)))
+are_below-from own (child ∷ kids) all = and_from _ _ (lt-ltb child own (all 0 0 (omega arith))) (are_below-from own kids (λ k d h. all (suc k) d (omega arith)))
 
 pub below-each : (own : ℕ) (kids : List ℕ) → are_below own kids ≡ true → All (λ k. k < own) kids
-below-each own kids below k d h = ltb-true (get_or kids k d) own (list_all-at (λ kid. nat_lt kid own) kids k d below h)
+below-each own kids below k d h = ltb-true (get_or kids k d) own (list_all-at (λ child. nat_lt child own) kids k d below h)
 
--- where two functions agree below a number, they agree on kids that are below it
+-- where two functions agree below a number, they agree on children that are below it
 pub map-below : {A : Type 0} (f g : ℕ → A) (own : ℕ) (kids : List ℕ) → are_below own kids ≡ true → ((k : ℕ) → k < own → f k ≡ g k) → map f kids ≡ map g kids
 map-below f g own [] below same = refl
-map-below f g own (kid ∷ kids) below same = grind (arith, map-below f g own kids)
+map-below f g own (child ∷ kids) below same = grind (arith, map-below f g own kids)
 
 pub node_at-last : (nodes : List Node) (node : Node) → node_at (nodes ++ node ∷ []) (length nodes) ≡ node
 node_at-last nodes node = get_or_at nodes node [] true_node (length nodes) refl

@@ -58,7 +58,7 @@ same_bits (b ∷ h) (c ∷ k) e alike =
     let one : b ≡ c = alike zero (omega arith) in
     let more : h ≡ k = same_bits h k (omega arith) (λ i g. alike (suc i) (omega arith)) in λ i. one i ∷ more i
 
--- each state stands before those behind it
+-- each state is before those after it
 abbrev pub Sorted : List (List Bool) → Type 0
 Sorted [] = Unit {0}
 Sorted (x ∷ xs) = ((y : List Bool) → In y xs → is_before x y ≡ true) × Sorted xs

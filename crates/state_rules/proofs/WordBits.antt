@@ -28,9 +28,9 @@ has_bit-zero b = ap (λ n. n == 1) (bit_at-zero b)
 pub one_bit : (width k b : ℕ) → k < width → has_bit (1 * 2 ^ k % 2 ^ width) b ≡ (b == k)
 one_bit width k b lt = grind (arith, one_shl, bit_at-pow_same, bit_at-pow_other)
 
--- ---- the words of some kids, joined
+-- ---- the words of some children, joined
 
--- the words of the kids before a place were joined, and then one more
+-- the words of the children before a place were joined, and then one more
 pub joined_more : (word : ℕ → ℕ) (kids : List ℕ) (i any b : ℕ) → i < length kids → has_bit any b ≡ list_any (λ x. x) (map (λ k. has_bit (word k) b) (take i kids))
     → has_bit (bit_or any (word (get_or kids i 0))) b ≡ list_any (λ x. x) (map (λ k. has_bit (word k) b) (take (i + 1) kids))
 joined_more word kids i any b lt joined = grind (arith, has_bit-or any (word (get_or kids i 0)) b, any-push, take_more kids i 0 lt, map-append)

@@ -21,11 +21,11 @@ pub record Node : Type 0 where
 abbrev pub literal_node : ℕ → Bool → Node
 literal_node var positive = record { what = Literal positive var; kids = [] }
 
--- an and without kids is true
+-- an and without children is true
 abbrev pub true_node : Node
 true_node = record { what = And; kids = [] }
 
--- an or without kids is never true
+-- an or without children is never true
 abbrev pub false_node : Node
 false_node = record { what = Or; kids = [] }
 
@@ -38,7 +38,7 @@ pub record Graph : Type 0 where
   pub nodes : List Node
   pub vars : ℕ
 
--- a literal by the assignment, an and when all its kids are true, an or when one is
+-- a literal by the assignment, an and when all its children are true, an or when one is
 abbrev pub truth_by : Assignment → NodeKind → List Bool → Bool
 truth_by a (Literal positive var) kids = same_bit positive (a var)
 truth_by a And kids = list_all (λ b. b) kids
@@ -50,7 +50,7 @@ truth a node earlier = truth_by a node.what (map (bit_in earlier) node.kids)
 abbrev pub is_true : List Node → ℕ → Assignment → Bool
 is_true nodes i a = bit_in (values (truth a) nodes) i
 
--- whether a variable stands at a node or below it
+-- whether a variable is at a node or below it
 abbrev pub mention_by : ℕ → NodeKind → List Bool → Bool
 mention_by v (Literal positive var) kids = var == v
 mention_by v And kids = list_any (λ b. b) kids
@@ -62,13 +62,13 @@ mention v node earlier = mention_by v node.what (map (bit_in earlier) node.kids)
 abbrev pub mentions : List Node → ℕ → ℕ → Bool
 mentions nodes v i = bit_in (values (mention v) nodes) i
 
--- an and has a variable below one of its kids at most, kids being counted by position
+-- an and has a variable below one of its children at most, children being counted by position
 abbrev pub apart_at : (ℕ → Bool) → NodeKind → List ℕ → Bool
 apart_at mentioned (Literal positive var) kids = true
 apart_at mentioned And kids = at_most_one (map mentioned kids)
 apart_at mentioned Or kids = true
 
--- two kids of an and share a variable
+-- two children of an and share a variable
 abbrev pub shares : List Node → Node → ℕ → Bool
 shares nodes node v = not (apart_at (mentions nodes v) node.what node.kids)
 
@@ -80,22 +80,22 @@ Decomposable nodes =
 abbrev pub holds : Graph → List Bool → Bool
 holds graph bits = is_true graph.nodes (length graph.nodes - 1) (assignment bits)
 
--- a literal has a variable from 1 to the greatest and no kids; an and or an or has fewer kids than the limit
+-- a literal has a variable from 1 to the greatest and no children; an and or an or has fewer children than the limit
 abbrev pub kind_fits : ℕ → NodeKind → List ℕ → Bool
 kind_fits vars (Literal positive var) kids = (length kids == 0) && (nat_le 1 var && nat_le var vars)
 kind_fits vars And kids = nat_lt (length kids) CHILD_LIMIT
 kind_fits vars Or kids = nat_lt (length kids) CHILD_LIMIT
 
--- and the kids of the node with this number come before it
+-- and the children of the node with this number come before it
 abbrev pub node_fits : ℕ → ℕ → Node → Bool
-node_fits vars own node = list_all (λ kid. nat_lt kid own) node.kids && kind_fits vars node.what node.kids
+node_fits vars own node = list_all (λ child. nat_lt child own) node.kids && kind_fits vars node.what node.kids
 
 -- so stand all nodes, of which the first has this number
 abbrev pub nodes_fit : ℕ → ℕ → List Node → Bool
 nodes_fit vars own [] = true
 nodes_fit vars own (node ∷ nodes) = node_fits vars own node && nodes_fit vars (own + 1) nodes
 
--- kids come before their parents and have variables that are there, and an and joins what shares none
+-- children come before their parents and have variables that are there, and an and joins what shares none
 pub record AreNodes (vars : ℕ) (nodes : List Node) : Type 0 where
   pub fit : nodes_fit vars 0 nodes ≡ true
   pub apart : Decomposable nodes
@@ -106,6 +106,6 @@ pub record IsGraph (graph : Graph) : Type 0 where
   pub few : length graph.nodes < 2 ^ 32
   pub nodes : AreNodes graph.vars graph.nodes
 
--- how many kids the nodes have together
+-- how many children the nodes have together
 abbrev pub edges : List Node → ℕ
 edges nodes = sum_by (λ (n : Node). length n.kids) nodes

@@ -9,7 +9,7 @@ abbrev pub holds_for : Graph → List Bool → List Bool → Bool
 holds_for graph state wires =
     list_any (λ inner. holds graph (state ++ wires ++ inner)) (lists_of_bits (graph.vars - (length state + length wires)))
 
--- The variables are so many parts, then so many wires, then inner ones, and the graph is true exactly where bits of these fit.
+-- The variables are so many parts, then so many wires, then inner ones, and the graph is true exactly if bits of these fit.
 pub record IsGraphOver (parts wires : ℕ) (fits_by : List Bool → List Bool → Bool) (graph : Graph) : Type 0 where
   pub room : parts + wires ≤ graph.vars
   pub meaning : (state bits : List Bool) → length state ≡ parts → length bits ≡ wires → holds_for graph state bits ≡ fits_by state bits

@@ -1,4 +1,4 @@
--- Health states in their order, and those of least cost. A state is one bit for each part, 1 where the part is ok.
+-- Health states in their order, and those of least cost. A state is one bit for each part, 1 if the part is ok.
 use Rattle.std.specs.Prelude.{ℕ, ◌+◌, Bool, true, false, List, [], ◌∷◌, map, replicate, Option, Some, None, min, nat_le}
 use Rattle.std.specs.List.{filter}
 use Rattle.state_rules.specs.Bits.{lists_of_bits}

@@ -1,4 +1,4 @@
--- What sessions are asked over. Everything that a session is told follows from a system.
+-- What sessions are asked over. Everything that a session is answered follows from a system.
 use Rattle.std.specs.Prelude.{ℕ, Bool, false, List, Option, None}
 use Rattle.state_rules.specs.declared.extras.Extras.{Extras}
 use Rattle.state_rules.specs.Cases.{Case}
@@ -15,7 +15,7 @@ pub record Texts : Type 0 where
 abbrev pub open_texts : Texts
 open_texts = record { dnnf = None; least = None }
 
--- the names of parts and wires, what the failure of each part costs, the health states that agree with a case, what is told besides,
+-- the names of parts and wires, what the failure of each part costs, the health states that agree with a case, what is answered besides,
 -- and the texts of the graphs
 pub record System : Type 0 where
   pub parts : List (List ℕ)

@@ -18,11 +18,11 @@ is_capital b = nat_le 65 b && nat_le b 90
 abbrev pub line_tokens : List ℕ → List (List ℕ)
 line_tokens line = tokens true line
 
--- what stands behind the first opening bracket
+-- what is after the first opening bracket
 abbrev pub behind_bracket : List ℕ → List ℕ
 behind_bracket line = drop (position_or_len (λ b. b == 40) line + 1) line
 
--- the names and the marks behind the opening bracket of a gate
+-- the names and the marks after the opening bracket of a gate
 abbrev pub input_tokens : Inputs → List (List ℕ)
 input_tokens inputs = line_tokens inputs.text.now
 

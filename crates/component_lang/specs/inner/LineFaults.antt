@@ -1,4 +1,4 @@
--- What is told where a line is not read.
+-- What is reported if a line is not read.
 use Rattle.std.specs.Prelude.{ℕ, Option, Some, None}
 use Rattle.component_lang.specs.declared.fault.LangFault.{LangFault}
 use Rattle.component_lang.specs.declared.fault.LangError.{LangError}

@@ -12,6 +12,6 @@ open_type_in open_type = record { name = open_type.name.now; ports = open_type.p
 abbrev pub block_in : OpenBlock → Block
 block_in block = record { name = block.name.now; ports = block.ports; wires = names_in block.wires; parts = block.parts.items }
 
--- what is closed above a line that stands outside
+-- what is closed above a line that is outside
 abbrev pub library_in : Library → Reader
 library_in library = record { types = library.types.items; blocks = library.blocks.items; section = Outside }

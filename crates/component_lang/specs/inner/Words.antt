@@ -9,7 +9,7 @@ use Rattle.component_lang.specs.Designs.{is_plain_name}
 use Rattle.component_lang.specs.Kinds.{Reader}
 use Rattle.component_lang.specs.DesignLines.{is_new, are_new, places_in}
 
--- a list with one name more, unless the name stands there, and whether it is new
+-- a list with one name more, unless the name is there, and whether it is new
 abbrev pub with_name : List Name → Name → Result (List Name × Bool) LangFault
 with_name names name = if is_plain_name name then Ok (insert_key same_name names name, not (is_among names name)) else Err NoName
 

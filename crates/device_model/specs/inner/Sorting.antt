@@ -27,7 +27,7 @@ IsFirstRepeat names (Some place) =
     (1 ≤ place) × (place < length names) × NeighboursDiffer names place
     × ((k : ℕ) → k + 1 ≡ place → slice_index_or names k [] ≡ slice_index_or names place [])
 
--- this error is the answer for the least name that stands twice
+-- this error is the answer for the least name that is twice
 abbrev pub IsTwice : (Name → BuildError) → List Name → BuildError → Type 0
 IsTwice error names e =
     (otherwise : Result Device BuildError) → unless_name error (sorted_distinct (λ n. n) (repeated names)) otherwise ≡ Err e

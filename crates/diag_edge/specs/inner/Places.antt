@@ -1,4 +1,4 @@
--- What stands at a place of a shelf.
+-- What is at a place of a shelf.
 use Rattle.std.specs.Prelude.{ℕ, List, [], Vec, String, Option, Some, None, slice_get}
 use Rattle.std.specs.declared.alloc.Global.{Global}
 

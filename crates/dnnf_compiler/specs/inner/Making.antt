@@ -2,7 +2,7 @@
 use Rattle.std.specs.Prelude.{◌≡◌, ℕ, ◌+◌, ◌<◌, ◌≤◌, Bool, true, false, ◌||◌, List, length, Option, Some, None, slice_get}
 use Rattle.state_rules.specs.Assignments.{Assignment}
 use Rattle.state_rules.specs.Graphs.{Node, true_node, is_true, mentions, false_node}
-use Rattle.node_store.specs.Stores.{IsStore, HasNoBareKid}
+use Rattle.node_store.specs.Stores.{IsStore, HasNoBareChild}
 use Rattle.dnnf_compiler.specs.declared.maker.Maker.{Maker}
 use Rattle.dnnf_compiler.specs.inner.Joining.{Grows, IsConstant}
 
@@ -13,13 +13,13 @@ pub record IsMaker (m : Maker) : Type 0 where
   pub no : IsConstant m.store.nodes false m.no
   pub yes_node : slice_get m.store.nodes m.yes ≡ Some true_node
   pub no_node : slice_get m.store.nodes m.no ≡ Some false_node
-  pub bare : HasNoBareKid m.store.nodes
+  pub bare : HasNoBareChild m.store.nodes
 
 -- a variable that has literals
 abbrev pub IsVariable : Maker → ℕ → Type 0
 IsVariable m var = (1 ≤ var) × (var ≤ m.store.vars)
 
--- Nodes came, and at most so many were made over at most so many kids.
+-- Nodes came, and at most so many were made over at most so many children.
 pub record Adds (old new : Maker) (more kids : ℕ) : Type 0 where
   pub maker : IsMaker new
   pub grows : Grows old.store.nodes new.store.nodes

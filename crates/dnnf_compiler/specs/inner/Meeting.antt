@@ -20,7 +20,7 @@ pub record AreMeetable (m : Maker) (kids : List ℕ) : Type 0 where
   pub maker : IsMaker m
   pub within : All (λ k. k < length m.store.nodes) kids
   pub apart : AreApart m.store.nodes kids
-  pub few_kids : length kids ≤ BUDGET_LIMIT + 1
+  pub few_children : length kids ≤ BUDGET_LIMIT + 1
   pub few : m.store.made < MADE_LIMIT
 
 -- The node is true if all of these are, and mentions no more than they do. It is the one that is never true, or mentions all.

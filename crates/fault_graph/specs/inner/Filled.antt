@@ -2,8 +2,8 @@
 use Rattle.std.specs.Prelude.{ℕ, List}
 use Rattle.state_rules.specs.Graphs.{Node}
 
--- with room for so many nodes, and for so many kids of all of them
+-- with room for so many nodes, and for so many children of all of them
 pub record Filled : Type 0 where
   pub nodes : List Node
   pub node_room : ℕ
-  pub kid_room : ℕ
+  pub child_room : ℕ

@@ -6,7 +6,7 @@ use Rattle.probe_report.specs.declared.verdicts.Blame.{Blame}
 use Rattle.probe_report.specs.declared.verdicts.Blame.TheVariants.{Always, Sometimes, Never}
 use Rattle.probe_report.specs.Verdicts.{blame_of}
 
--- by a part's word, and by 1 where it is open and faulty in some diagnosis
+-- by a part's word, and by 1 if it is open and faulty in some diagnosis
 abbrev pub presumed : ℕ → ℕ → Blame
 presumed zero suspect = if suspect == 1 then Sometimes else Never
 presumed (suc zero) suspect = Never

@@ -5,16 +5,16 @@ use Rattle.state_rules.specs.Graphs.{Node, Graph, node_at}
 
 -- what costs nothing is true, and left out; what costs more is not on a derivation of least cost
 abbrev pub keeps : List ℕ → ℕ → ℕ → Bool
-keeps values cost kid = nat_lt 0 (slice_index values kid) && nat_le (slice_index values kid) cost
+keeps values cost child = nat_lt 0 (slice_index values child) && nat_le (slice_index values child) cost
 
--- the places of the kids that stay
-abbrev pub kept_kids : List ℕ → List ℕ → ℕ → List ℕ → List ℕ
-kept_kids values places cost kids = map (slice_index places) (filter (keeps values cost) kids)
+-- the places of the children that stay
+abbrev pub kept_children : List ℕ → List ℕ → ℕ → List ℕ → List ℕ
+kept_children values places cost kids = map (slice_index places) (filter (keeps values cost) kids)
 
 abbrev pub kept_node : List ℕ → List ℕ → ℕ → Node → Node
-kept_node values places cost node = record { what = node.what; kids = kept_kids values places cost node.kids }
+kept_node values places cost node = record { what = node.what; kids = kept_children values places cost node.kids }
 
--- a node left with one kid is that kid; else it comes after the others
+-- a node left with one child is that child; else it comes after the others
 abbrev pub Adds : List Node → Node → List Node → ℕ → Type 0
 Adds old node new place = ((new ≡ old) × (node.kids ≡ place ∷ [])) ⊎ ((new ≡ old ++ node ∷ []) × (place ≡ length old) × (length node.kids ≢ 1))
 

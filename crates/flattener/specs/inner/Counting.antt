@@ -37,7 +37,7 @@ added a b = record {
 abbrev pub counts_of_part : Name → Counts
 counts_of_part name = record { parts = 1; wires = 0; instances = 0; longest = length name }
 
--- the longest path below a name of so many bytes, where the longest below has so many, or has none
+-- the longest path below a name of so many bytes, if the longest below has so many, or has none
 abbrev pub below_name : ℕ → ℕ → ℕ
 below_name name longest = if nat_eq longest 0 then name else saturated (name + 1 + longest)
 

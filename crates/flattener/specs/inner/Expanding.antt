@@ -27,7 +27,7 @@ are_joined wires parts = list_all (has_wires (length wires)) parts
 abbrev pub are_within : ℕ → List ℕ → Bool
 are_within wires positions = list_all (λ position. nat_lt position wires) positions
 
--- The position of a block's wire: the passed ones stand somewhere, and its own from `start` on.
+-- The position of a block's wire: the passed ones are somewhere, and its own from `start` on.
 abbrev pub position_of : List ℕ → ℕ → ℕ → ℕ
 position_of passed start wire = if nat_lt wire (length passed) then slice_index passed wire else start + (wire - length passed)
 
@@ -46,7 +46,7 @@ paths_of content = map (λ (part : NamedPart). part.name) content.parts ++ (cont
 abbrev pub are_short : List Name → Bool
 are_short names = list_all (λ (name : Name). nat_le (length name) NAME_LIMIT) names
 
--- what stands before each name in the instance of a path
+-- what is before each name in the instance of a path
 abbrev pub prefix_of : Name → Name
 prefix_of [] = []
 prefix_of (b ∷ path) = (b ∷ path) ++ 46 ∷ []
@@ -63,7 +63,7 @@ pub record CanExpand (design : Design) (place : ℕ) (path : Name) (passed : Lis
   pub few : length wires + length (instance_at design place path (map (wire_at wires) passed)).wires ≤ WIRE_LIMIT
   pub short : are_short (paths_of (instance_at design place path (map (wire_at wires) passed))) ≡ true
 
--- parts and wires, and those with the content of an instance behind them
+-- parts and wires, and those with the content of an instance after them
 pub record Grows (parts : List Component) (wires : List Name) (content : Content) (more_parts : List Component) (more_wires : List Name) : Type 0 where
   pub wires_grow : more_wires ≡ wires ++ content.wires
   pub parts_grow : map (shown more_wires) more_parts ≡ map (shown wires) parts ++ content.parts

@@ -21,7 +21,7 @@ pub record AreSums (left right : List ℕ) (limit : ℕ) (set : List ℕ) : Type
   pub whole : (j k : ℕ) → has_number left j ≡ true → has_number right k ≡ true → k < limit → j + k < 32 * length set
       → has_number set (j + k) ≡ true
 
--- what the words say of the variables, and what a part costs where it is faulty
+-- what the words say of the variables, and what a part costs if it is faulty
 abbrev pub fault_weights : List ℕ → List ℕ → Weights
 fault_weights words costs = record { known = known_at words; weight = λ v b. if b then 0 else part_cost costs v; parts = length costs }
 

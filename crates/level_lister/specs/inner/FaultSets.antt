@@ -26,7 +26,7 @@ pub record AreBothSets (words costs : List ℕ) (group : ℕ → Bool) (test : A
   pub all : IsCostSet words costs test some set
   pub faulty : IsFaultSet words costs group test some faults
 
--- the set of the costs at which a node can be true, where some are skipped, and an open part of the first group below it faulty
+-- the set of the costs at which a node can be true, if some are skipped, and an open part of the first group below it faulty
 abbrev pub IsNodeFaults : Graph → List ℕ → List ℕ → List ℕ → Groups → ℕ → List ℕ → Type 0
 IsNodeFaults graph skips words costs groups k set =
     IsFaultSet words costs (in_first words costs groups) (λ a. is_true (living graph.nodes skips) k a) (λ v. mentions graph.nodes v k) set

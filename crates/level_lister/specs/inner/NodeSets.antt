@@ -1,4 +1,4 @@
--- The sets of the costs that the nodes of a graph can have, where some of them are skipped.
+-- The sets of the costs that the nodes of a graph can have, if some of them are skipped.
 use Rattle.std.specs.Prelude.{ℕ, ◌-◌, ◌<◌, ◌≤◌, true, List, length}
 use Rattle.state_rules.specs.Graphs.{Graph, is_true, mentions}
 use Rattle.part_sets.specs.Numbers.{set_at}

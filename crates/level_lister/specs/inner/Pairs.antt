@@ -1,4 +1,4 @@
--- What two words tell of a node: its costs, where few are listed, and at which of them a part of a group is faulty.
+-- What two words say of a node: its costs, where few are listed, and at which of them a part of a group is faulty.
 use Rattle.std.specs.Prelude.{◌≡◌, ℕ, ◌+◌, ◌-◌, ◌*◌, ◌/◌, ◌<◌, ◌≤◌, Bool, true, false, ◌&&◌, List, length, slice_index, nat_le, ◌==◌}
 use Rattle.state_rules.specs.Assignments.{Assignment}
 use Rattle.state_rules.specs.Bits.{bit_in, has_bit}
@@ -26,7 +26,7 @@ pub record IsSpread (left right step count word : ℕ) : Type 0 where
   pub whole : (m j : ℕ) → has_bit left m ≡ true → j < count → has_bit right j ≡ true → m + step * j < 32
       → has_bit word (m + step * j) ≡ true
 
--- the bits of a word that are a step apart, from one on, tell the costs of a condition up to a greatest one
+-- the bits of a word that are a step apart, from one on, say the costs of a condition up to a greatest one
 abbrev pub AreCosts : List ℕ → List ℕ → ℕ → ℕ → ℕ → (ℕ → Bool) → (Assignment → Type 0) → ℕ → Type 0
 AreCosts words costs top step first some P word =
     IsRow (λ n. has_bit word (step * n + first)) (top + 1) (CostOf (fault_weights words costs) some P)
@@ -38,7 +38,7 @@ pub record HasFault (group some : ℕ → Bool) (a : Assignment) : Type 0 where
   pub of_group : group var ≡ true
   pub faulty : a var ≡ false
 
--- The first word tells the costs at which a test is true, of some parts, and the second one at which of them a part of each group is
+-- The first word says the costs at which a test is true, of some parts, and the second one at which of them a part of each group is
 -- faulty. The test depends on these variables alone.
 pub record Tells (words costs : List ℕ) (top step : ℕ) (group : ℕ → ℕ → Bool) (test : Assignment → Bool) (some : ℕ → Bool) (pair : Pair) : Type 0 where
   pub cost_bits : AreCosts words costs top 1 0 some (λ a. test a ≡ true) pair.costs
@@ -50,7 +50,7 @@ abbrev pub group_in : List ℕ → ℕ → Groups → ℕ → ℕ → Bool
 group_in words parts groups g v =
     (nat_le (groups.low + 1) v && nat_le v parts) && ((slice_index words (v - 1) == 0) && ((v - 1 - groups.low) / groups.size == g))
 
--- what is told of a node, where some are skipped
+-- what is said of a node, if some are skipped
 abbrev pub TellsNode : Graph → List ℕ → List ℕ → List ℕ → ℕ → Groups → ℕ → Pair → Type 0
 TellsNode graph skips words costs top groups k pair =
     Tells words costs top (group_count top) (group_in words (length costs) groups) (λ a. is_true (living graph.nodes skips) k a) (λ v. mentions graph.nodes v k) pair
@@ -63,7 +63,7 @@ pair_at values k = record { costs = slice_index values (2 * k); faults = slice_i
 abbrev pub TellNodes : Graph → List ℕ → List ℕ → List ℕ → ℕ → Groups → List ℕ → ℕ → Type 0
 TellNodes graph skips words costs top groups values n = (k : ℕ) → k < n → TellsNode graph skips words costs top groups k (pair_at values k)
 
--- what is told of the last node, of all faulty parts
+-- what is said of the last node, of all faulty parts
 abbrev pub TellsWhole : Graph → List ℕ → List ℕ → List ℕ → ℕ → Groups → Pair → Type 0
 TellsWhole graph skips words costs top groups pair =
     Tells words costs top (group_count top) (group_in words (length costs) groups) (λ a. is_true (living graph.nodes skips) (length graph.nodes - 1) a) (λ v. true) pair

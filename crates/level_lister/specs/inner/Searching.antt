@@ -24,7 +24,7 @@ pub record IsListed (graph : Graph) (words costs : List ℕ) (from top : ℕ) (h
   pub low : from ≤ cost costs h
   pub high : cost costs h ≤ top
 
--- a state that meets P, and stands before all others that do, by cost and then by order
+-- a state that meets P, and is before all others that do, by cost and then by order
 pub record IsFirstLevel (costs : List ℕ) (P : List Bool → Type 0) (h : List Bool) : Type 0 where
   pub meets : P h
   pub before : (k : List Bool) → P k → (k ≡ h) ⊎ (is_level_before costs h k ≡ true)

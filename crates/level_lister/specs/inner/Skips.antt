@@ -13,19 +13,19 @@ living [] skips = []
 living (node ∷ nodes) [] = node ∷ nodes
 living (node ∷ nodes) (skip ∷ skips) = (if skip == 0 then node else false_node) ∷ living nodes skips
 
--- What is left is enough for the costs up to a greatest one: it is true where the graph is, under an assignment that agrees with the
+-- What is left is enough for the costs up to a greatest one: it is true if the graph is, under an assignment that agrees with the
 -- words.
 pub record IsEnough (graph : Graph) (skips words costs : List ℕ) (top : ℕ) : Type 0 where
   pub left : (a : Assignment) → Follows words a → is_true graph.nodes (length graph.nodes - 1) a ≡ true → cost_among (fault_weights words costs) (λ v. true) a ≤ top
       → is_true (living graph.nodes skips) (length graph.nodes - 1) a ≡ true
 
--- what the other kids of an and cost at least
+-- what the other children of an and cost at least
 abbrev pub others_cost : NodeKind → ℕ → ℕ → ℕ
-others_cost (Literal positive var) own kid = 0
-others_cost And own kid = own - kid
-others_cost Or own kid = 0
+others_cost (Literal positive var) own child = 0
+others_cost And own child = own - child
+others_cost Or own child = 0
 
--- what a node lets the rest of a derivation cost for a kid of it, at a place among its kids
+-- what a node lets the rest of a derivation cost for a child of it, at a place among its children
 abbrev pub rest_below : List Node → List ℕ → List ℕ → ℕ → ℕ → ℕ
 rest_below nodes least rests node place =
     slice_index rests node + others_cost (node_at nodes node).what (slice_index least node) (slice_index least (slice_index (node_at nodes node).kids place))

@@ -3,33 +3,33 @@ use Rattle.std.specs.Prelude.{◌≡◌, ℕ, ◌+◌, ◌-◌, ◌<◌, ◌≤�
 use Rattle.state_rules.specs.declared.nodes.NodeKind.{NodeKind}
 use Rattle.state_rules.specs.declared.nodes.NodeKind.TheVariants.{Literal, And, Or}
 use Rattle.state_rules.specs.Graphs.{Node, node_at}
-use Rattle.minimiser.specs.inner.Swept.{is_kid}
+use Rattle.minimiser.specs.inner.Swept.{is_child}
 
 abbrev pub lowered : Bool → ℕ → ℕ → ℕ
 lowered lower cost old = if lower then min old cost else old
 
--- what the other kids of an and cost, if it and one of its kids cost so much
+-- what the other children of an and cost, if it and one of its children cost so much
 abbrev pub others_cost : NodeKind → ℕ → ℕ → ℕ
-others_cost (Literal positive var) own kid = 0
-others_cost And own kid = own - kid
-others_cost Or own kid = 0
+others_cost (Literal positive var) own child = 0
+others_cost And own child = own - child
+others_cost Or own child = 0
 
--- what a node lets the rest of a derivation cost outside a kid of it
+-- what a node lets the rest of a derivation cost outside a child of it
 abbrev pub outside_below : List Node → List ℕ → List ℕ → ℕ → ℕ → ℕ
-outside_below nodes values outside node kid =
-    slice_index outside node + others_cost (node_at nodes node).what (slice_index values node) (slice_index values kid)
+outside_below nodes values outside node child =
+    slice_index outside node + others_cost (node_at nodes node).what (slice_index values node) (slice_index values child)
 
 -- some parent lets the rest cost no more than this
 pub record HasOutsideParent (nodes : List Node) (values outside : List ℕ) (node : ℕ) : Type 0 where
   pub parent : ℕ
   pub within : parent < length nodes
-  pub kid : is_kid (node_at nodes parent).kids node ≡ true
+  pub child : is_child (node_at nodes parent).kids node ≡ true
   pub cheap : outside_below nodes values outside parent node ≤ slice_index outside node
 
--- The least costs outside all nodes, of which those from one on have lowered their kids'. Costs from the limit on are none.
+-- The least costs outside all nodes, of which those from one on have lowered their children'. Costs from the limit on are none.
 pub record AreOutsideCosts (nodes : List Node) (values outside : List ℕ) (from : ℕ) : Type 0 where
   pub root : slice_index outside (length nodes - 1) ≡ 0
-  pub down : (parent kid : ℕ) → from ≤ parent → parent < length nodes → is_kid (node_at nodes parent).kids kid ≡ true
-      → slice_index outside kid ≤ outside_below nodes values outside parent kid
+  pub down : (parent child : ℕ) → from ≤ parent → parent < length nodes → is_child (node_at nodes parent).kids child ≡ true
+      → slice_index outside child ≤ outside_below nodes values outside parent child
   pub up : (node : ℕ) → node < length nodes → slice_index outside node < 2147483647
       → (node ≡ length nodes - 1) ⊎ HasOutsideParent nodes values outside node

@@ -19,27 +19,27 @@ unmarked value = if has_mark value then value - 2147483648 else value
 abbrev pub IsMarked : List ℕ → ℕ → Type 0
 IsMarked values node = has_mark (slice_index values node) ≡ true
 
-abbrev pub is_kid : List ℕ → ℕ → Bool
-is_kid kids node = list_any (λ k. k == node) kids
+abbrev pub is_child : List ℕ → ℕ → Bool
+is_child kids node = list_any (λ k. k == node) kids
 
--- a kid's value is marked where it is at most a cost
+-- a child's value is marked if it is at most a cost
 abbrev pub spread_value : List ℕ → ℕ → ℕ → ℕ → ℕ
-spread_value kids cost node value = if is_kid kids node && nat_le value cost then value + 2147483648 else value
+spread_value kids cost node value = if is_child kids node && nat_le value cost then value + 2147483648 else value
 
--- a node is a kid of a marked one, and costs no more
+-- a node is a child of a marked one, and costs no more
 pub record HasMarkedParent (nodes : List Node) (costs values : List ℕ) (node : ℕ) : Type 0 where
   pub parent : ℕ
   pub within : parent < length nodes
   pub marked : IsMarked values parent
-  pub kid : is_kid (node_at nodes parent).kids node ≡ true
+  pub child : is_child (node_at nodes parent).kids node ≡ true
   pub cheap : slice_index costs node ≤ slice_index costs parent
 
--- the costs with marks: at the root, and below it, where the nodes from one on have marked their kids that cost no more
+-- the costs with marks: at the root, and below it, if the nodes from one on have marked their children that cost no more
 pub record IsSwept (nodes : List Node) (costs values : List ℕ) (from : ℕ) : Type 0 where
   pub kept : (k : ℕ) → k < length nodes → unmarked (slice_index values k) ≡ slice_index costs k
   pub root : IsMarked values (length nodes - 1)
   pub down : (k j : ℕ) → from ≤ k → k < length nodes → IsMarked values k → j < length nodes
-      → is_kid (node_at nodes k).kids j ≡ true → slice_index costs j ≤ slice_index costs k → IsMarked values j
+      → is_child (node_at nodes k).kids j ≡ true → slice_index costs j ≤ slice_index costs k → IsMarked values j
   pub up : (k : ℕ) → k < length nodes → IsMarked values k → (k ≡ length nodes - 1) ⊎ HasMarkedParent nodes costs values k
 
 -- the part of an open literal that says faulty

@@ -7,7 +7,7 @@ use Rattle.state_rules.specs.Graphs.{Node, edges}
 use Rattle.nnf_text.specs.GraphTexts.{Header, Parsed, read_unless, has_words, node_at_line, line_fault, differs}
 use Rattle.nnf_text.specs.declared.header.Header.{Header as DeclaredHeader}
 
--- a node over these kids
+-- a node over these children
 abbrev pub node_with : List ℕ → NodeKind → Node
 node_with kids kind = record { what = kind; kids = kids }
 
@@ -21,7 +21,7 @@ said_by header = record { nodes = header.nodes; edges = header.edges; vars = hea
 abbrev pub filled_from : ℕ → List (List ℕ) → List (ℕ × List (List ℕ))
 filled_from number lines = filter has_words (enumerate_from number (map words lines))
 
--- these nodes and those of lines behind them, or the first refusal of such a line
+-- these nodes and those of lines after them, or the first refusal of such a line
 abbrev pub nodes_behind : ℕ → List Node → List (ℕ × List (List ℕ)) → Parsed
 nodes_behind vars nodes lines =
     read_unless (record { nodes = nodes ++ filter_map node_at_line lines; vars = vars }) (filter_map (line_fault vars) (enumerate_from (length nodes) lines))

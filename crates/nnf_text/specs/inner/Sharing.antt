@@ -27,17 +27,17 @@ pub record IsJoined (column kids : List ℕ) (any twice : ℕ) : Type 0 where
   pub some : (b : ℕ) → has_bit any b ≡ list_any (λ x. x) (map (has column b) kids)
   pub more : (b : ℕ) → has_bit twice b ≡ not (at_most_one (map (has column b) kids))
 
--- Which of some variables a node mentions, and which of them two of its kids do. Behind the last one stands variable 0, which
+-- Which of some variables a node mentions, and which of them two of its children do. After the last one stands variable 0, which
 -- no node mentions.
 pub record IsWord (column : List ℕ) (what : NodeKind) (kids variables : List ℕ) (word twice : ℕ) : Type 0 where
   pub some : (b : ℕ) → b < 64 → has_bit word b ≡ mention_by (slice_index variables b) what (map (has column b) kids)
   pub more : (b : ℕ) → b < 64 → has_bit twice b ≡ not (apart_at (has column b) what kids)
 
--- the first of some variables that kids of a node share
+-- the first of some variables that children of a node share
 abbrev pub first_of : List Node → List ℕ → ℕ → Option ℕ
 first_of nodes variables node = find (shares nodes (node_at nodes node)) variables
 
--- the first node whose kids share one of some variables, and the first such variable
+-- the first node whose children share one of some variables, and the first such variable
 pub record IsFirstOf (nodes : List Node) (variables : List ℕ) (node var : ℕ) : Type 0 where
   pub inside : node < length nodes
   pub found : first_of nodes variables node ≡ Some var

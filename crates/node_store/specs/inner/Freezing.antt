@@ -4,29 +4,29 @@ use Rattle.state_rules.specs.Bits.{bit_in}
 use Rattle.state_rules.specs.Assignments.{Assignment}
 use Rattle.state_rules.specs.Graphs.{Node, is_true, mentions, AreNodes, edges}
 
--- kids come before their parents
+-- children come before their parents
 abbrev pub AreBefore : List Node → Type 0
 AreBefore nodes = (i : ℕ) (node : Node) → slice_get nodes i ≡ Some node → All (λ k. k < i) node.kids
 
--- from a place on, the kids of what is marked are marked
+-- from a place on, the children of what is marked are marked
 abbrev pub IsClosedFrom : ℕ → List Node → List Bool → Type 0
 IsClosedFrom from nodes marks = (i : ℕ) (node : Node) → from ≤ i → bit_in marks i ≡ true → slice_get nodes i ≡ Some node → All (λ k. bit_in marks k ≡ true) node.kids
 
 abbrev pub IsClosed : List Node → List Bool → Type 0
 IsClosed nodes marks = IsClosedFrom 0 nodes marks
 
--- a node is a kid of one that is marked
-abbrev pub IsKidOfMarked : List Node → List Bool → ℕ → Type 0
-IsKidOfMarked nodes marks i = (j : ℕ) × (node : Node) × (bit_in marks j ≡ true) × (slice_get nodes j ≡ Some node) × Contains node.kids i
+-- a node is a child of one that is marked
+abbrev pub IsChildOfMarked : List Node → List Bool → ℕ → Type 0
+IsChildOfMarked nodes marks i = (j : ℕ) × (node : Node) × (bit_in marks j ≡ true) × (slice_get nodes j ≡ Some node) × Contains node.kids i
 
--- the root is marked, the kids of what is marked are, and nothing else is
+-- the root is marked, the children of what is marked are, and nothing else is
 pub record IsBelow (nodes : List Node) (root : ℕ) (marks : List Bool) : Type 0 where
   pub long : length marks ≡ root + 1
   pub has : bit_in marks root ≡ true
   pub closed : IsClosed nodes marks
-  pub only : (i : ℕ) → bit_in marks i ≡ true → (i ≡ root) ⊎ IsKidOfMarked nodes marks i
+  pub only : (i : ℕ) → bit_in marks i ≡ true → (i ≡ root) ⊎ IsChildOfMarked nodes marks i
 
--- the kids of a node are marked if it is, and no other node
+-- the children of a node are marked if it is, and no other node
 pub record Marks (old : List Bool) (at : ℕ) (kids : List ℕ) (new : List Bool) : Type 0 where
   pub kept : (i : ℕ) → bit_in old i ≡ true → bit_in new i ≡ true
   pub above : (i : ℕ) → at ≤ i → bit_in new i ≡ bit_in old i

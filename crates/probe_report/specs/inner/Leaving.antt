@@ -3,7 +3,7 @@ use Rattle.std.specs.Prelude.{◌≡◌, ℕ, ◌+◌, ◌-◌, ◌<◌, ◌≤�
 use Rattle.state_rules.specs.declared.nodes.NodeKind.TheVariants.{Or}
 use Rattle.state_rules.specs.Graphs.{Node, node_at, mentions}
 use Rattle.state_rules.specs.Bits.{has_bit}
-use Rattle.minimiser.specs.inner.Swept.{is_kid}
+use Rattle.minimiser.specs.inner.Swept.{is_child}
 use Rattle.probe_report.specs.inner.Outside.{IsLowered, mark_at}
 
 -- the marks of the nodes before one say which of the variables from the first on they mention
@@ -11,20 +11,20 @@ abbrev pub IsMarked : List Node → ℕ → ℕ → List ℕ → Type 0
 IsMarked nodes first at marks =
     (node b : ℕ) → node < at → b < 64 → has_bit (mark_at marks node) b ≡ mentions nodes (first + b) node
 
--- by the marks of an or and of its kid
-pub record LeftKid (values marks kids : List ℕ) (mark outer start place cost : ℕ) : Type 0 where
-  pub kid : ℕ
-  pub is_kid_of : is_kid kids kid ≡ true
+-- by the marks of an or and of its child
+pub record LeftChild (values marks kids : List ℕ) (mark outer start place cost : ℕ) : Type 0 where
+  pub child : ℕ
+  pub is_child_of : is_child kids child ≡ true
   pub has : has_bit mark (place - start) ≡ true
-  pub lacks : has_bit (mark_at marks kid) (place - start) ≡ false
-  pub value : slice_index values kid < 2147483647
-  pub is : cost ≡ outer + slice_index values kid
+  pub lacks : has_bit (mark_at marks child) (place - start) ≡ false
+  pub value : slice_index values child < 2147483647
+  pub is : cost ≡ outer + slice_index values child
 
 -- at a node
 pub record LeftNode (nodes : List Node) (values outers marks : List ℕ) (node start place cost : ℕ) : Type 0 where
   pub or_ : (node_at nodes node).what ≡ Or
   pub outer : slice_index outers node < 2147483647
-  pub left : LeftKid values marks (node_at nodes node).kids (mark_at marks node) (slice_index outers node) start place cost
+  pub left : LeftChild values marks (node_at nodes node).kids (mark_at marks node) (slice_index outers node) start place cost
 
 -- the numbers of 64 wires from a start on are lowered, and the others stay
 pub record LowersBlock (start : ℕ) (Cost : ℕ → ℕ → Type 0) (old new : List ℕ) : Type 0 where

@@ -3,7 +3,7 @@ use Rattle.std.specs.Prelude.{◌≡◌, ℕ, ◌+◌, ◌-◌, ◌*◌, ◌<◌
 use Rattle.state_rules.specs.declared.nodes.NodeKind.TheVariants.{Literal, Or}
 use Rattle.state_rules.specs.Graphs.{Node, node_at, mentions}
 use Rattle.state_rules.specs.Bits.{has_bit}
-use Rattle.minimiser.specs.inner.Swept.{is_kid}
+use Rattle.minimiser.specs.inner.Swept.{is_child}
 
 -- a number is lowered to the least of some costs, if one of them is less
 pub record IsLowered (Cost : ℕ → Type 0) (old new : ℕ) : Type 0 where
@@ -19,17 +19,17 @@ pub record AtLiteral (nodes : List Node) (outers : List ℕ) (var : ℕ) (bit : 
   pub literal : (node_at nodes node).what ≡ Literal bit var
   pub is : cost ≡ slice_index outers node
 
--- at a kid that does not mention the variable, of an or that does
-pub record AtKid (nodes : List Node) (values outers : List ℕ) (var node cost : ℕ) : Type 0 where
+-- at a child that does not mention the variable, of an or that does
+pub record AtChild (nodes : List Node) (values outers : List ℕ) (var node cost : ℕ) : Type 0 where
   pub within : node < length nodes
   pub or_ : (node_at nodes node).what ≡ Or
-  pub kid : ℕ
-  pub is_kid_of : is_kid (node_at nodes node).kids kid ≡ true
+  pub child : ℕ
+  pub is_child_of : is_child (node_at nodes node).kids child ≡ true
   pub has : mentions nodes var node ≡ true
-  pub lacks : mentions nodes var kid ≡ false
+  pub lacks : mentions nodes var child ≡ false
   pub outer : slice_index outers node < 2147483647
-  pub value : slice_index values kid < 2147483647
-  pub is : cost ≡ slice_index outers node + slice_index values kid
+  pub value : slice_index values child < 2147483647
+  pub is : cost ≡ slice_index outers node + slice_index values child
 
 -- at a root that does not mention it
 pub record AtRoot (nodes : List Node) (values : List ℕ) (var cost : ℕ) : Type 0 where
@@ -38,7 +38,7 @@ pub record AtRoot (nodes : List Node) (values : List ℕ) (var cost : ℕ) : Typ
 
 -- what a derivation costs that has no literal of the variable
 abbrev pub Without : List Node → List ℕ → List ℕ → ℕ → ℕ → Type 0
-Without nodes values outers var cost = ((node : ℕ) × AtKid nodes values outers var node cost) ⊎ AtRoot nodes values var cost
+Without nodes values outers var cost = ((node : ℕ) × AtChild nodes values outers var node cost) ⊎ AtRoot nodes values var cost
 
 -- and one that has the literal that says a bit
 abbrev pub With : List Node → List ℕ → ℕ → Bool → ℕ → Type 0
@@ -46,11 +46,11 @@ With nodes outers var bit cost = (node : ℕ) × AtLiteral nodes outers var bit 
 
 -- ---- marks of 64 variables
 
--- the mark of a node stands in two words
+-- the mark of a node is in two words
 abbrev pub mark_at : List ℕ → ℕ → ℕ
 mark_at marks node = slice_index marks (2 * node) + 4294967296 * slice_index marks (2 * node + 1)
 
--- Whether a variable is left that has a place: it is one of the 64 from a start on, the mark has its bit, and the kid's has not.
+-- Whether a variable is left that has a place: it is one of the 64 from a start on, the mark has its bit, and the child's has not.
 abbrev pub is_left : ℕ → ℕ → ℕ → ℕ → Bool
-is_left start mark kid place =
-    (nat_le start place && nat_lt place (start + 64)) && (has_bit mark (place - start) && not (has_bit kid (place - start)))
+is_left start mark child place =
+    (nat_le start place && nat_lt place (start + 64)) && (has_bit mark (place - start) && not (has_bit child (place - start)))

@@ -1,4 +1,4 @@
--- What is answered for a wire, from its word, and from the least cost outside of what is held where its variable has a bit.
+-- What is answered for a wire, from its word, and from the least cost outside of what is held if its variable has a bit.
 use Rattle.std.specs.Prelude.{ℕ, zero, suc, ◌+◌, Bool, nat_lt, if◌then◌else◌}
 
 -- the greatest number stands for none

@@ -1,4 +1,4 @@
--- What is found in the text behind a command.
+-- What is found in the text after a command.
 use Rattle.std.specs.Prelude.{ℕ, List, [], ◌∷◌, Option, Some, None, Result, Ok, Err}
 use Rattle.script_lang.specs.declared.refusal.LineRefusal.{LineRefusal}
 use Rattle.script_lang.specs.Script as script

@@ -30,7 +30,7 @@ pub record IsBasis (subject : Subject) : Type 0 where
   pub levels : IfSome subject.extras.levels (CanList subject.graph (length subject.parts))
   pub least : subject.extras.least ≡ true → CanDraw subject.graph (length subject.parts)
 
--- what is shown of names, costs and a graph, and of what lists states by rising cost, where they are told
+-- what is shown of names, costs and a graph, and of what lists states by rising cost, if they are known
 abbrev pub basis_of : List Name → List Name → List ℕ → Graph → Option Kept → Bool → Subject
 basis_of parts wires costs graph levels least = record {
   parts = parts;

@@ -113,7 +113,7 @@ is_found (Found cost) = true
 is_found End = false
 is_found Inconsistent = false
 
--- the least cost where a wire is seen so too, if that is not against what was seen
+-- the least cost if a wire is seen so too, if that is not against what was seen
 abbrev pub least_seen : OnDesk → ℕ → Bool → Option ℕ
 least_seen desk wire bit =
     let known = asked_case desk in least_at (served_system desk.subject) known wire bit (seen_at known wire)

@@ -5,7 +5,7 @@ use Rattle.session_rules.specs.Sessions.{Table, Step}
 use Rattle.session_rules.specs.Moves.{script_moves}
 use Rattle.session_rules.specs.Carrying.{Makes}
 
--- the lines that line feeds end, where a line has begun already
+-- the lines that line feeds end, if a line has begun already
 abbrev pub ended_from : List ℕ → List ℕ → List (List ℕ)
 ended_from line [] = []
 ended_from line (byte ∷ bytes) = if byte == 10 then line ∷ ended_from [] bytes else ended_from (line ++ byte ∷ []) bytes

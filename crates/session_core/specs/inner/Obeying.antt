@@ -23,7 +23,7 @@ pub record Obeys {T E : Type 0} (old new : Shown) (session : Name) (request : Re
   pub carried : CarriesOut old.table new.table (exact_moves old old.table (Ask session request)) before after result
   pub stays : ChangesTable old new
 
--- A session stands at its place of the table, with some entry.
+-- A session is at its place of the table, with some entry.
 pub record IsOpen (table : Table) (session : OpenSession) : Type 0 where
   pub within : session.place < length table
   pub entry : Entry

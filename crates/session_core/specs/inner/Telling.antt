@@ -1,4 +1,4 @@
--- What is told of a case that stays as it is.
+-- What is answered of a case that stays as it is.
 use Rattle.std.specs.Prelude.{◌≡◌, ℕ, ◌<◌, Bool, Option, Result, Ok, Err, List, [], ◌∷◌, ◌++◌, map, length, codes, is_some, true, false}
 use Rattle.text_rules.specs.Names.{Name}
 use Rattle.state_rules.specs.Cases.{Case}
@@ -14,12 +14,12 @@ use Rattle.session_rules.specs.Spelling.{Writes}
 use Rattle.session_core.specs.inner.Texts.{blame_text}
 use Rattle.session_core.specs.inner.Desks.{OnDesk, least_seen}
 
--- what is told, line by line, or the line of the refusal
+-- what is answered, line by line, or the line of the refusal
 abbrev pub items_told : Name → Result (List (List (List ℕ))) Refusal → List Item
 items_told session (Ok lines) = map line lines
 items_told session (Err refusal) = line (session ∷ error_words (refusal_row refusal)) ∷ []
 
--- what is told of all wires
+-- what is answered of all wires
 abbrev pub probes_told : System → Name → Case → List (List (List ℕ))
 probes_told system session known =
     if_any session (system.consistent known) (probe_lines system session known 0 system.wires ++ end_line session ∷ [])

@@ -13,7 +13,7 @@ known_in layout block = take layout.vars block
 abbrev pub state_in : Layout → List ℕ → List ℕ
 state_in layout block = drop (layout.vars + 1) block
 
--- a point of words, where the first number says that there is one
+-- a point of words, if the first number says that there is one
 abbrev pub point_of : ℕ → List ℕ → Option (List Bool)
 point_of zero state = None
 point_of (suc n) state = Some (bits_of state)

@@ -49,7 +49,7 @@ pub record AreKept (layout : Layout) (limit : ℕ) (pool : Blocks) (sessions : L
   pub vars : layout.parts + layout.wires ≤ layout.vars
   pub room : limit ≤ capacity
 
--- the session of a name stands at a place
+-- the session of a name is at a place
 abbrev pub HasName : List Open → ℕ → Name → Type 0
 HasName sessions place name = (session : Open) × (slice_get sessions place ≡ Some session) × (session.name ≡ name)
 

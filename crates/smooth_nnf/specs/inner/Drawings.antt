@@ -10,7 +10,7 @@ use Rattle.part_sets.specs.Numbers.{part_words}
 use Rattle.part_sets.specs.PartSets.{ArePartsBelow, AreLacking}
 use Rattle.smooth_nnf.specs.Layouts.{Layout, and_over, fillers, lines_to, own_lines}
 
--- a layout, with its costs as numbers, the sets of the parts below each node, and, if it is known, whether a kid lacks one
+-- a layout, with its costs as numbers, the sets of the parts below each node, and, if it is known, whether a child lacks one
 pub record Drawing : Type 0 where
   pub graph : Graph
   pub words : List ℕ
@@ -43,7 +43,7 @@ pub record IsDrawing (drawing : Drawing) : Type 0 where
   pub below : ArePartsBelow drawing.graph drawing.parts drawing.sets (length drawing.graph.nodes)
   pub lacks : IfSome drawing.lacking (AreLacking drawing.graph drawing.parts)
 
--- how many lines there are up to the last one of these nodes, where the first one has this number and its lines begin at this line
+-- how many lines there are up to the last one of these nodes, if the first one has this number and its lines begin at this line
 abbrev pub lines_after : List (Option ℕ) → ℕ → ℕ → List Node → ℕ
 lines_after least line number [] = line
 lines_after least line number (node ∷ nodes) =
@@ -68,17 +68,17 @@ abbrev pub IsNodeOf : Drawing → Option ℕ → Type 0
 IsNodeOf drawing None = Unit {0}
 IsNodeOf drawing (Some node) = node < length drawing.graph.nodes
 
--- a kid of an or
-pub record IsKidOf (nodes : List Node) (node kid : ℕ) : Type 0 where
+-- a child of an or
+pub record IsChildOf (nodes : List Node) (node child : ℕ) : Type 0 where
   pub what : (node_at nodes node).what ≡ Or
   pub place : ℕ
   pub within : place < length (node_at nodes node).kids
-  pub kid_is : slice_index (node_at nodes node).kids place ≡ kid
+  pub child_is : slice_index (node_at nodes node).kids place ≡ child
 
--- a line is filled in up to the parts of an or for a kid of it, and up to all parts for the last node
+-- a line is filled in up to the parts of an or for a child of it, and up to all parts for the last node
 abbrev pub IsUnder : Drawing → Option ℕ → ℕ → Type 0
-IsUnder drawing None kid = kid ≡ length drawing.graph.nodes - 1
-IsUnder drawing (Some node) kid = (node < length drawing.graph.nodes) × IsKidOf drawing.graph.nodes node kid
+IsUnder drawing None child = child ≡ length drawing.graph.nodes - 1
+IsUnder drawing (Some node) child = (node < length drawing.graph.nodes) × IsChildOf drawing.graph.nodes node child
 
 -- the parts of the bits of a word
 abbrev pub word_parts : ℕ → ℕ → List ℕ

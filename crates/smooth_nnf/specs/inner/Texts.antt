@@ -7,18 +7,18 @@ use Rattle.state_rules.specs.Bits.{has_bit}
 use Rattle.nnf_text.specs.WrittenGraphs.{node_words}
 use Rattle.minimiser.specs.Costs.{cost_at}
 use Rattle.minimiser.specs.Stored.{cost_in}
-use Rattle.smooth_nnf.specs.Layouts.{filler, costs_just, kid_line}
+use Rattle.smooth_nnf.specs.Layouts.{filler, costs_just, child_line}
 use Rattle.smooth_nnf.specs.inner.Sets.{part_at}
 use Rattle.smooth_nnf.specs.inner.Drawings.{Drawing, shown, missing_in}
 
--- numbers, each behind a space
+-- numbers, each after a space
 abbrev pub numbers_text : List ℕ → List ℕ
 numbers_text numbers = flat_map (λ n. 32 ∷ decimal n) numbers
 
 abbrev pub lines_text : List Node → List ℕ
 lines_text nodes = flat_map (λ node. spaced (node_words node)) nodes
 
--- the line that fills in the part of a bit, where the word has the bit
+-- the line that fills in the part of a bit, if the word has the bit
 abbrev pub bit_text : List ℕ → ℕ → ℕ → ℕ → List ℕ
 bit_text words word bits b = if has_bit bits b then 32 ∷ decimal (filler words (part_at word b)) else []
 
@@ -28,12 +28,12 @@ word_text drawing node over word =
     numbers_text (map (filler drawing.words)
     (filter (λ part. nat_le part drawing.parts && missing_in drawing over node part) (range_with_len (32 * word + 1) 32)))
 
--- the line of a kid that has a cost, and nothing of any other
-abbrev pub kid_text : Drawing → ℕ → ℕ → ℕ → List ℕ
-kid_text drawing node cost kid =
-    if costs_just cost (cost_at (map cost_in drawing.values) kid) then spaced (node_words (kid_line (shown drawing) node kid)) else []
+-- the line of a child that has a cost, and nothing of any other
+abbrev pub child_text : Drawing → ℕ → ℕ → ℕ → List ℕ
+child_text drawing node cost child =
+    if costs_just cost (cost_at (map cost_in drawing.values) child) then spaced (node_words (child_line (shown drawing) node child)) else []
 
--- the edges of the line of a kid that has a cost, and the one to it
-abbrev pub kid_edges : Drawing → ℕ → ℕ → ℕ → ℕ
-kid_edges drawing node cost kid =
-    if costs_just cost (cost_at (map cost_in drawing.values) kid) then length (kid_line (shown drawing) node kid).kids + 1 else 0
+-- the edges of the line of a child that has a cost, and the one to it
+abbrev pub child_edges : Drawing → ℕ → ℕ → ℕ → ℕ
+child_edges drawing node cost child =
+    if costs_just cost (cost_at (map cost_in drawing.values) child) then length (child_line (shown drawing) node child).kids + 1 else 0

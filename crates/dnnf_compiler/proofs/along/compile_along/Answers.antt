@@ -82,8 +82,8 @@ many c = c.in_ok-trees.ensures.count ∙ long c
 zeros : (c : After-deref-2) → c.in_ok-first.first.items ≡ replicate c.len-count.result 0
 zeros c = c.in_ok-first.ensures.items_if_clones_equal (λ y h. h)
 
-its_kids : (c : After-as_slice) → c.as_slice.result.now ≡ taken c.in_ok-trees.trees.items c.in_ok-first.first.items
-its_kids c = c.as_slice.ensures ∙ c.in_ok-kids.ensures
+its_children : (c : After-as_slice) → c.as_slice.result.now ≡ taken c.in_ok-trees.trees.items c.in_ok-first.first.items
+its_children c = c.as_slice.ensures ∙ c.in_ok-kids.ensures
     ∙ (λ j. c.new-2.ensures.items j ++ taken (c.deref-2.ensures.value j) (c.deref.ensures.value j))
 
 pub taken-requires : goal.taken-requires
@@ -102,10 +102,10 @@ its_root c forest way =
 pub meet-requires : goal.meet-requires
 meet-requires c =
     let at = goal.at.meet-requires c in
-    (its_root at.After-deref-2 c.requires.0 c.requires.1 c.as_slice.result.now (its_kids at.After-as_slice)).meetable
+    (its_root at.After-deref-2 c.requires.0 c.requires.1 c.as_slice.result.now (its_children at.After-as_slice)).meetable
 
 pub returns : goal.returns
 returns c = λ forest way.
     let at = goal.at.returns c in
-    (its_root at.After-deref-2 forest way c.as_slice.result.now (its_kids at.After-as_slice)).right
+    (its_root at.After-deref-2 forest way c.as_slice.result.now (its_children at.After-as_slice)).right
     c.meet.new.self c.in_ok-root.root c.in_ok-compiled.compiled c.in_ok-root.ensures c.in_ok-compiled.ensures.valid c.in_ok-compiled.ensures.graph c.in_ok-compiled.ensures.made

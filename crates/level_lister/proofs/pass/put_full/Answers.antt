@@ -4,62 +4,62 @@ use Rattle.level_lister.specs.inner.FaultSets.{in_first, IsFaultSet, IsNodeFault
 use Rattle.level_lister.specs.inner.CostSets.{IsCostSet}
 use Rattle.part_sets.specs.PartSets.{SameBelow}
 use Rattle.scratch_pool.proofs.Counted.{block-below}
-use Rattle.part_sets.proofs.Kids.{kid-below}
+use Rattle.part_sets.proofs.Children.{child-below}
 use Rattle.level_lister.proofs.TestCosts.{empty_is, wider_is}
 use Rattle.level_lister.proofs.ConditionCosts.{or_is}
 use Rattle.level_lister.proofs.FaultCosts.{fault_or, fault_wider}
-use Rattle.level_lister.proofs.Kids.{kid_full, or_next, or_end}
+use Rattle.level_lister.proofs.Children.{child_full, or_next, or_end}
 use Rattle.level_lister.proofs.FaultNodes.{first_parts, never_faults}
 use Rattle.level_lister.proofs.pass.put_full.Goals as goal
 
-pub loop-kid-init : goal.loop-kid-init
-loop-kid-init c = record {
+pub loop-child-init : goal.loop-child-init
+loop-child-init c = record {
   all = λ skips words costs lives same sets. empty_is words costs _ c.clear.new.set c.clear.ensures;
   faulty = λ skips words costs groups lives same sets. never_faults words costs _ _ c.clear.new.set c.clear.ensures;
 }
 
 pub set_at-requires : goal.set_at-requires
 set_at-requires c =
-    let kids = c.kids-kid-items.result.now in
-    omega (arith, c.requires.sets, block-below (get_or kids c.loop-kid.kid-index 0) c.args.at (length c.args.set.now) (kid-below c.args.graph.now c.args.at kids c.vars-vars.ensures.valid c.requires.at c.kids-kid-items.ensures c.loop-kid.kid-index c.loop-kid-test.true))
+    let kids = c.kids-child-items.result.now in
+    omega (arith, c.requires.sets, block-below (get_or kids c.loop-child.child-index 0) c.args.at (length c.args.set.now) (child-below c.args.graph.now c.args.at kids c.vars-vars.ensures.valid c.requires.at c.kids-child-items.ensures c.loop-child.child-index c.loop-child-test.true))
 
-pub loop-kid-preserved : goal.loop-kid-preserved
-loop-kid-preserved c =
+pub loop-child-preserved : goal.loop-child-preserved
+loop-child-preserved c =
     let graph = c.args.graph.now in
     let at = c.args.at in
     let earlier = c.args.sets.now in
-    let kids = c.kids-kid-items.result.now in
-    let j = c.loop-kid.kid-index in
-    let kid = c.set_at.result.now in
+    let kids = c.kids-child-items.result.now in
+    let j = c.loop-child.child-index in
+    let child = c.set_at.result.now in
     let new = c.add_shifted.new.set in
     let ok = c.vars-vars.ensures.valid in
-    let lt = c.loop-kid-test.true in
-    let size : length c.add_shifted.new.set ≡ length c.loop-kid.set = omega arith in
+    let lt = c.loop-child-test.true in
+    let size : length c.add_shifted.new.set ≡ length c.loop-child.set = omega arith in
     let own : length c.add_shifted.new.set ≡ length c.args.set.now = omega arith in
-    let full = λ (costs : List ℕ) (same : SameBelow graph (length costs) at). kid_full graph at kids ok c.requires.at c.kids-kid-items.ensures (length costs) j c.requires.what lt same in
-    let below = kid-below graph at kids ok c.requires.at c.kids-kid-items.ensures j lt in record {
+    let full = λ (costs : List ℕ) (same : SameBelow graph (length costs) at). child_full graph at kids ok c.requires.at c.kids-child-items.ensures (length costs) j c.requires.what lt same in
+    let below = child-below graph at kids ok c.requires.at c.kids-child-items.ensures j lt in record {
       all = λ skips words costs lives same sets.
-          or_next graph at kids ok c.requires.at c.kids-kid-items.ensures skips lives (λ t m. IsCostSet words costs t m new) j lt
-          (or_is words costs _ _ _ c.loop-kid.set kid new (sym size) (omega (arith, c.set_at.ensures.long)) (λ n h. c.add_shifted.ensures n (omega arith))
-          (c.loop-kid.invariant.all skips words costs lives same (subst (λ n. AreNodeSets graph skips words costs n earlier at) size sets))
-          (wider_is words costs _ _ _ kid (full costs same)
+          or_next graph at kids ok c.requires.at c.kids-child-items.ensures skips lives (λ t m. IsCostSet words costs t m new) j lt
+          (or_is words costs _ _ _ c.loop-child.set child new (sym size) (omega (arith, c.set_at.ensures.long)) (λ n h. c.add_shifted.ensures n (omega arith))
+          (c.loop-child.invariant.all skips words costs lives same (subst (λ n. AreNodeSets graph skips words costs n earlier at) size sets))
+          (wider_is words costs _ _ _ child (full costs same)
           (subst (IsNodeSet graph skips words costs (get_or kids j 0)) (sym c.set_at.ensures.set) (subst (λ n. AreNodeSets graph skips words costs n earlier at) own sets (get_or kids j 0) below))));
       faulty = λ skips words costs groups lives same sets.
-          or_next graph at kids ok c.requires.at c.kids-kid-items.ensures skips lives (λ t m. IsFaultSet words costs (in_first words costs groups) t m new) j lt
-          (fault_or words costs (in_first words costs groups) _ _ _ c.loop-kid.set kid new (sym size) (omega (arith, c.set_at.ensures.long)) (λ n h. c.add_shifted.ensures n (omega arith))
-          (c.loop-kid.invariant.faulty skips words costs groups lives same (subst (λ n. AreNodeFaults graph skips words costs groups n earlier at) size sets))
-          (fault_wider words costs (in_first words costs groups) (first_parts words costs groups) _ _ _ kid (full costs same)
+          or_next graph at kids ok c.requires.at c.kids-child-items.ensures skips lives (λ t m. IsFaultSet words costs (in_first words costs groups) t m new) j lt
+          (fault_or words costs (in_first words costs groups) _ _ _ c.loop-child.set child new (sym size) (omega (arith, c.set_at.ensures.long)) (λ n h. c.add_shifted.ensures n (omega arith))
+          (c.loop-child.invariant.faulty skips words costs groups lives same (subst (λ n. AreNodeFaults graph skips words costs groups n earlier at) size sets))
+          (fault_wider words costs (in_first words costs groups) (first_parts words costs groups) _ _ _ child (full costs same)
           (subst (IsNodeFaults graph skips words costs groups (get_or kids j 0)) (sym c.set_at.ensures.set) (subst (λ n. AreNodeFaults graph skips words costs groups n earlier at) own sets (get_or kids j 0) below))));
     }
 
 pub returns-clause-all : goal.returns-clause-all
 returns-clause-all c skips words costs lives same sets =
-    let size : length c.args.set.now ≡ length c.loop-kid.set = omega arith in
-    or_end c.args.graph.now c.args.at c.kids-kid-items.result.now c.vars-vars.ensures.valid c.requires.at c.kids-kid-items.ensures skips lives (λ t m. IsCostSet words costs t m c.loop-kid.set) c.loop-kid.kid-index c.requires.what (omega arith)
-    (c.loop-kid.invariant.all skips words costs lives same (subst (λ n. AreNodeSets c.args.graph.now skips words costs n c.args.sets.now c.args.at) size sets))
+    let size : length c.args.set.now ≡ length c.loop-child.set = omega arith in
+    or_end c.args.graph.now c.args.at c.kids-child-items.result.now c.vars-vars.ensures.valid c.requires.at c.kids-child-items.ensures skips lives (λ t m. IsCostSet words costs t m c.loop-child.set) c.loop-child.child-index c.requires.what (omega arith)
+    (c.loop-child.invariant.all skips words costs lives same (subst (λ n. AreNodeSets c.args.graph.now skips words costs n c.args.sets.now c.args.at) size sets))
 
 pub returns-clause-faulty : goal.returns-clause-faulty
 returns-clause-faulty c skips words costs groups lives same sets =
-    let size : length c.args.set.now ≡ length c.loop-kid.set = omega arith in
-    or_end c.args.graph.now c.args.at c.kids-kid-items.result.now c.vars-vars.ensures.valid c.requires.at c.kids-kid-items.ensures skips lives (λ t m. IsFaultSet words costs (in_first words costs groups) t m c.loop-kid.set) c.loop-kid.kid-index c.requires.what (omega arith)
-    (c.loop-kid.invariant.faulty skips words costs groups lives same (subst (λ n. AreNodeFaults c.args.graph.now skips words costs groups n c.args.sets.now c.args.at) size sets))
+    let size : length c.args.set.now ≡ length c.loop-child.set = omega arith in
+    or_end c.args.graph.now c.args.at c.kids-child-items.result.now c.vars-vars.ensures.valid c.requires.at c.kids-child-items.ensures skips lives (λ t m. IsFaultSet words costs (in_first words costs groups) t m c.loop-child.set) c.loop-child.child-index c.requires.what (omega arith)
+    (c.loop-child.invariant.faulty skips words costs groups lives same (subst (λ n. AreNodeFaults c.args.graph.now skips words costs groups n c.args.sets.now c.args.at) size sets))

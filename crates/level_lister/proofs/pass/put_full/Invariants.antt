@@ -9,11 +9,11 @@ use Rattle.level_lister.specs.inner.NodeSets.{AreNodeSets}
 use Rattle.level_lister.specs.inner.FaultSets.{in_first, IsFaultSet, AreNodeFaults}
 use Rattle.level_lister.proofs.pass.put_full.Given as goal
 
--- the set is that of an Or of the kids before the place, over the variables below all of them
-abbrev pub invariant-loop-kid : goal.invariant-loop-kid
-invariant-loop-kid l = record {
+-- the set is that of an Or of the children before the place, over the variables below all of them
+abbrev pub invariant-loop-child : goal.invariant-loop-child
+invariant-loop-child l = record {
   all : (skips words costs : List ℕ) → get_or skips l.at 0 ≡ 0 → SameBelow l.graph (length costs) l.at → AreNodeSets l.graph skips words costs (length l.set) l.sets l.at
-      → IsCostSet words costs (λ a. list_any (λ b. b) (map (λ k. is_true (living l.graph.nodes skips) k a) (take l.kid-index l.kid-items))) (λ v. mentions l.graph.nodes v l.at) l.set;
+      → IsCostSet words costs (λ a. list_any (λ b. b) (map (λ k. is_true (living l.graph.nodes skips) k a) (take l.child-index l.child-items))) (λ v. mentions l.graph.nodes v l.at) l.set;
   faulty : (skips words costs : List ℕ) (groups : Groups) → get_or skips l.at 0 ≡ 0 → SameBelow l.graph (length costs) l.at → AreNodeFaults l.graph skips words costs groups (length l.set) l.sets l.at
-      → IsFaultSet words costs (in_first words costs groups) (λ a. list_any (λ b. b) (map (λ k. is_true (living l.graph.nodes skips) k a) (take l.kid-index l.kid-items))) (λ v. mentions l.graph.nodes v l.at) l.set;
+      → IsFaultSet words costs (in_first words costs groups) (λ a. list_any (λ b. b) (map (λ k. is_true (living l.graph.nodes skips) k a) (take l.child-index l.child-items))) (λ v. mentions l.graph.nodes v l.at) l.set;
 }

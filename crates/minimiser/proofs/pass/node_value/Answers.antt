@@ -6,16 +6,16 @@ use Rattle.state_rules.proofs.NodeValues.{below-each}
 use Rattle.state_rules.proofs.NodesFit.{fits}
 use Rattle.minimiser.specs.Costs.{cost_at, cost_by, node_cost, known_at, part_cost, sum_costs}
 use Rattle.minimiser.specs.Stored.{cost_in}
-use Rattle.minimiser.proofs.Sums.{two_kids}
+use Rattle.minimiser.proofs.Sums.{two_children}
 use Rattle.minimiser.proofs.pass.node_value.Goals as goal
 use Rattle.minimiser.proofs.pass.node_value.Goals.{In-len2}
 
--- what its two kids cost
+-- what its two children cost
 both : (c : In-len2) → map (cost_at (map cost_in c.args.values.now)) c.node.inside.kids.now
     ≡ cost_in (slice_index c.args.values.now (slice_index c.node.inside.kids.now 0)) ∷ cost_in (slice_index c.args.values.now (slice_index c.node.inside.kids.now 1)) ∷ []
 both c =
     let fit = subst (λ (n : Node). node_fits (length c.args.words.now) (length c.args.values.now) n ≡ true) (sym c.node.view_is) c.requires.fits in
-    two_kids c.args.values.now c.node.inside.kids.now (omega (arith, c.in-len2.len_at_least, c.in-len2.len_below))
+    two_children c.args.values.now c.node.inside.kids.now (omega (arith, c.in-len2.len_at_least, c.in-len2.len_below))
     (below-each (length c.args.values.now) c.node.inside.kids.now (fits (length c.args.words.now) (length c.args.values.now) _ fit).below)
 
 pub pair_value-requires-clause-small : goal.pair_value-requires-clause-small

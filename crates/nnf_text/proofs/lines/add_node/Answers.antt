@@ -7,8 +7,8 @@ use Rattle.nnf_text.proofs.lines.add_node.Goals as goal
 
 pub returns-in-And-clause-bytes : goal.returns-in-And-clause-bytes
 returns-in-And-clause-bytes g c =
-    adds_same _ _ _ _ _ _ _ (and-spaced c.args.kids.now ∙ ap (λ kind. spaced (kind_words kind c.args.kids.now)) (sym c.in-And.is)) c.add_kids.ensures.bytes
+    adds_same _ _ _ _ _ _ _ (and-spaced c.args.kids.now ∙ ap (λ kind. spaced (kind_words kind c.args.kids.now)) (sym c.in-And.is)) c.add_children.ensures.bytes
 
 pub returns-in-Or-clause-bytes : goal.returns-in-Or-clause-bytes
 returns-in-Or-clause-bytes g c =
-    adds_same _ _ _ _ _ _ _ (or-spaced c.args.kids.now ∙ ap (λ kind. spaced (kind_words kind c.args.kids.now)) (sym c.in-Or.is)) c.add_kids-in-Or.ensures.bytes
+    adds_same _ _ _ _ _ _ _ (or-spaced c.args.kids.now ∙ ap (λ kind. spaced (kind_words kind c.args.kids.now)) (sym c.in-Or.is)) c.add_children-in-Or.ensures.bytes

@@ -2,7 +2,7 @@ use Rattle.std.proofs.Common.{◌≡◌, ◌⊎◌, ℕ, ◌<◌, ◌-◌, ◌++
 use Rattle.std.specs.Prelude.{slice_get}
 use Rattle.state_rules.specs.Bits.{bit_in}
 use Rattle.node_store.specs.inner.Keeping.{shown}
-use Rattle.node_store.specs.inner.Freezing.{IsClosedFrom, IsKidOfMarked}
+use Rattle.node_store.specs.inner.Freezing.{IsClosedFrom, IsChildOfMarked}
 use Rattle.node_store.proofs.NodesBelow.{shown_get, length-shown, written_bits, marks_more, only_more}
 use Rattle.node_store.proofs.store.below.Goals as goal
 use Rattle.node_store.proofs.store.below.Goals.{After-as_slice, After-mark}
@@ -24,8 +24,8 @@ loop-at-preserved c =
       has = subst (λ (m : List Bool). bit_in m c.args.root ≡ true) b (c.mark.ensures.kept c.args.root (ap (λ (m : List Bool). bit_in m c.args.root) c.deref_mut.ensures.value ∙ c.loop-at.invariant.has));
       closed = subst (IsClosedFrom (c.loop-at.at - 1) (map shown c.args.nodes.now)) b (marks_more (map shown c.args.nodes.now) c.deref_mut.result.now c.mark.new.below c.loop-at.at (c.loop-at.at - 1) c.args.root c.as_slice.result.now (shown (get_or c.args.nodes.now (c.loop-at.at - 1) c.index-nodes-at.result)) (omega arith)
           (there (goal.at.loop-at-preserved c).After-as_slice) c.as_slice.ensures c.mark.ensures (subst (IsClosedFrom c.loop-at.at (map shown c.args.nodes.now)) (sym c.deref_mut.ensures.value) c.loop-at.invariant.closed) c.requires.kids);
-      only = subst (λ (m : List Bool). (i : ℕ) → bit_in m i ≡ true → (i ≡ c.args.root) ⊎ IsKidOfMarked (map shown c.args.nodes.now) m i) b
+      only = subst (λ (m : List Bool). (i : ℕ) → bit_in m i ≡ true → (i ≡ c.args.root) ⊎ IsChildOfMarked (map shown c.args.nodes.now) m i) b
           (only_more (map shown c.args.nodes.now) c.deref_mut.result.now c.mark.new.below (c.loop-at.at - 1) c.args.root c.as_slice.result.now (shown (get_or c.args.nodes.now (c.loop-at.at - 1) c.index-nodes-at.result))
           (there (goal.at.loop-at-preserved c).After-as_slice) c.as_slice.ensures c.mark.ensures
-          (subst (λ (m : List Bool). (i : ℕ) → bit_in m i ≡ true → (i ≡ c.args.root) ⊎ IsKidOfMarked (map shown c.args.nodes.now) m i) (sym c.deref_mut.ensures.value) c.loop-at.invariant.only));
+          (subst (λ (m : List Bool). (i : ℕ) → bit_in m i ≡ true → (i ≡ c.args.root) ⊎ IsChildOfMarked (map shown c.args.nodes.now) m i) (sym c.deref_mut.ensures.value) c.loop-at.invariant.only));
     }

@@ -1,7 +1,7 @@
 use Rattle.std.proofs.Common.{◌*◌, ◌∙◌, length, refl, sym, ap, arith, map}
 use Rattle.state_rules.specs.Graphs.{mention_by, mentions}
-use Rattle.part_sets.proofs.Kids.{literal-fits}
-use Rattle.part_sets.proofs.JoinedSets.{kids_room, joined_parts, variable_parts, one_has}
+use Rattle.part_sets.proofs.Children.{literal-fits}
+use Rattle.part_sets.proofs.JoinedSets.{children_room, joined_parts, variable_parts, one_has}
 use Rattle.part_sets.proofs.below.put_node.Goals as goal
 
 pub put_variable-requires-clause-var : goal.put_variable-requires-clause-var
@@ -12,7 +12,7 @@ returns-in-Literal c = variable_parts c.args.graph.now c.args.at c.args.parts _ 
 
 pub put_joined-requires : goal.put_joined-requires
 put_joined-requires c = record {
-  room = λ j lt. kids_room c.args.graph.now c.args.at c.args.parts c.kids-kids.result.now c.vars-vars.ensures.valid c.requires.at c.kids-kids.ensures c.args.earlier.now (length c.args.set.now) j (c.requires.sets ∙ ap (λ n. c.args.at * n) (sym c.requires.long)) lt;
+  room = λ j lt. children_room c.args.graph.now c.args.at c.args.parts c.kids-kids.result.now c.vars-vars.ensures.valid c.requires.at c.kids-kids.ensures c.args.earlier.now (length c.args.set.now) j (c.requires.sets ∙ ap (λ n. c.args.at * n) (sym c.requires.long)) lt;
 }
 
 pub returns-in-And : goal.returns-in-And
@@ -22,7 +22,7 @@ returns-in-And c = joined_parts c.args.graph.now c.args.at c.args.parts c.kids-k
 
 pub put_joined-requires-in-Or : goal.put_joined-requires-in-Or
 put_joined-requires-in-Or c = record {
-  room = λ j lt. kids_room c.args.graph.now c.args.at c.args.parts c.kids-kids.result.now c.vars-vars.ensures.valid c.requires.at c.kids-kids.ensures c.args.earlier.now (length c.args.set.now) j (c.requires.sets ∙ ap (λ n. c.args.at * n) (sym c.requires.long)) lt;
+  room = λ j lt. children_room c.args.graph.now c.args.at c.args.parts c.kids-kids.result.now c.vars-vars.ensures.valid c.requires.at c.kids-kids.ensures c.args.earlier.now (length c.args.set.now) j (c.requires.sets ∙ ap (λ n. c.args.at * n) (sym c.requires.long)) lt;
 }
 
 pub returns-in-Or : goal.returns-in-Or

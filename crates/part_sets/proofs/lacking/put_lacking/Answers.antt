@@ -10,7 +10,7 @@ use Rattle.part_sets.proofs.lacking.put_lacking.Goals as goal
 pub loop-at-preserved : goal.loop-at-preserved
 loop-at-preserved c = record {
   flags = flags_more c.args.graph.now c.args.parts c.loop-at.lacking c.loop-at.at c.flag.result (omega (arith, c.requires.long, c.loop-at.auto.lacking, c.loop-at.invariant.end, c.loop-at-test.true)) c.loop-at.invariant.flags
-      (λ zero. c.kid_lacks.ensures.0 (c.flag.ensures.0 zero), λ same. c.flag.ensures.1 (c.kid_lacks.ensures.1 same));
+      (λ zero. c.child_lacks.ensures.0 (c.flag.ensures.0 zero), λ same. c.flag.ensures.1 (c.child_lacks.ensures.1 same));
   end = c.loop-at.invariant.end;
 }
 

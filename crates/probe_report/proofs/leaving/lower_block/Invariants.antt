@@ -1,5 +1,5 @@
 use Rattle.std.proofs.Common.{ℕ, ◌+◌, ◌<◌}
-use Rattle.probe_report.specs.inner.Outside.{AtKid}
+use Rattle.probe_report.specs.inner.Outside.{AtChild}
 use Rattle.probe_report.specs.inner.Leaving.{IsMarked, LowersBlock}
 use Rattle.probe_report.proofs.leaving.lower_block.Given as goal
 
@@ -7,5 +7,5 @@ use Rattle.probe_report.proofs.leaving.lower_block.Given as goal
 abbrev pub invariant-loop-at : goal.invariant-loop-at
 invariant-loop-at l = record {
   marked : IsMarked l.graph.nodes l.first l.at l.marks;
-  lowers : LowersBlock l.start (λ i cost. (node : ℕ) × (node < l.at) × AtKid l.graph.nodes l.values l.outers (l.parts + i + 1) node cost) l.fn.list l.list;
+  lowers : LowersBlock l.start (λ i cost. (node : ℕ) × (node < l.at) × AtChild l.graph.nodes l.values l.outers (l.parts + i + 1) node cost) l.fn.list l.list;
 }

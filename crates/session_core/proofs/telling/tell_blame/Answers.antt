@@ -37,7 +37,7 @@ told_lines desk s verdicts long some each =
     let z : i ≡ 0 + i = omega arith in
     each i h ∙ ap (λ n. Some (verdict (map (λ (state : List Bool). not (bit_in state n)) ds))) z)
 
--- and those that a desk has told are those lines
+-- and those that a desk has answered are those lines
 told_by : (old middle new : OnDesk) (s : Name) → middle ≡ old → new ≡ record middle { state = new.state; verdicts = new.verdicts }
     → length new.verdicts ≡ length new.subject.parts → true ≡ is_some (least_asked old)
     → ((part : ℕ) → part < length middle.subject.parts → slice_get new.verdicts part ≡ Some (blame_asked middle part))

@@ -17,7 +17,7 @@ use Rattle.session_core.proofs.ShownService.{place-within}
 use Rattle.session_core.proofs.Questions.{if_any-none, if_any-some}
 use Rattle.session_core.proofs.telling.tell_probe.Goals as goal
 
--- what is told of the name of a wire, by its place
+-- what is answered of the name of a wire, by its place
 told_at : {T E : Type 0} (desk : OnDesk) (s name : Name) (place placed : Option ℕ) (before after : Option (List ℕ)) (result : Result T E) → place ≡ placed
     → Replies before after result (items_told s (probe_told (served_system desk.subject) s (asked_case desk) name place))
     → Replies before after result (items_told s (probe_told (served_system desk.subject) s (asked_case desk) name placed))

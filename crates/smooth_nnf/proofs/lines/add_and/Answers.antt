@@ -5,7 +5,7 @@ use Rattle.diag_edge.proofs.Added.{adds_first, adds_second}
 use Rattle.smooth_nnf.proofs.lines.add_and.Goals as goal
 
 pub returns-in_err-add-clause-bytes : goal.returns-in_err-add-clause-bytes
-returns-in_err-add-clause-bytes g c = adds_first _ _ _ _ _ (codes "A") ((32 ∷ decimal (length c.args.kids.now)) ++ (flat_map (λ kid. 32 ∷ decimal (slice_index c.args.drawing.now.lines kid)) c.args.kids.now ++ 10 ∷ [])) c.from_residual.ensures.0 c.in_err-add.ensures.bytes
+returns-in_err-add-clause-bytes g c = adds_first _ _ _ _ _ (codes "A") ((32 ∷ decimal (length c.args.kids.now)) ++ (flat_map (λ child. 32 ∷ decimal (slice_index c.args.drawing.now.lines child)) c.args.kids.now ++ 10 ∷ [])) c.from_residual.ensures.0 c.in_err-add.ensures.bytes
 
 pub returns-clause-bytes : goal.returns-clause-bytes
-returns-clause-bytes g c = adds_second _ _ _ _ _ _ _ (codes "A") ((32 ∷ decimal (length c.args.kids.now)) ++ (flat_map (λ kid. 32 ∷ decimal (slice_index c.args.drawing.now.lines kid)) c.args.kids.now ++ 10 ∷ [])) c.in_ok-add.ensures.bytes c.add_and_kids.ensures.bytes
+returns-clause-bytes g c = adds_second _ _ _ _ _ _ _ (codes "A") ((32 ∷ decimal (length c.args.kids.now)) ++ (flat_map (λ child. 32 ∷ decimal (slice_index c.args.drawing.now.lines child)) c.args.kids.now ++ 10 ∷ [])) c.in_ok-add.ensures.bytes c.add_and_children.ensures.bytes

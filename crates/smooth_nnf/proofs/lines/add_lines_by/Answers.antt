@@ -11,7 +11,7 @@ use Rattle.smooth_nnf.proofs.lines.add_lines_by.Goals as goal
 what-of : (found graph : Graph) (node : ℕ) (what : NodeKind) → what ≡ (node_at found.nodes node).what → found ≡ graph → what ≡ (node_at graph.nodes node).what
 what-of found graph node what is same = is ∙ ap (λ (x : Graph). (node_at x.nodes node).what) same
 
--- the graph that is found is the drawing's, and the node is what it is, over its kids
+-- the graph that is found is the drawing's, and the node is what it is, over its children
 here : (found graph : Graph) (node : ℕ) (what : NodeKind) (kids : List ℕ) → found ≡ graph → IsGraph found → what ≡ (node_at found.nodes node).what → kids ≡ (node_at graph.nodes node).kids
     → IsGraph graph × (node_at graph.nodes node ≡ record { what = what; kids = kids })
 here found graph node what kids same valid is over = (subst IsGraph same valid, λ i. record { what = sym (what-of found graph node what is same) i; kids = sym over i })

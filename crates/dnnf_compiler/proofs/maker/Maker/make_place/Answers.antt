@@ -29,8 +29,8 @@ choose-requires-clause-one c =
     let d = (goal.at.choose-requires-clause-one c).After-get-in-loop-list in
     usable_grows c.args.self.now.store.nodes c.loop-list.self.store.nodes c.args.var c.args.below.now (option_map (λ numbers. numbers.now) c.get-in-loop-list.result) c.loop-list.invariant.adds.grows (one_usable d)
 
-more_kids : (b n : ℕ) → (4 + 2 * b) * (n + 1) ≡ (4 + 2 * b) * n + (4 + 2 * b)
-more_kids b n = omega arith
+more_children : (b n : ℕ) → (4 + 2 * b) * (n + 1) ≡ (4 + 2 * b) * n + (4 + 2 * b)
+more_children b n = omega arith
 
 pub loop-list-preserved : goal.loop-list-preserved
 loop-list-preserved c =
@@ -44,7 +44,7 @@ loop-list-preserved c =
     let more : length c.push.new.self.items ≡ length nodes + 1 = omega (arith, ap length c.in_ok-push.ensures.items, length-append nodes (c.in_ok-node.node ∷ [])) in
     record {
       adds = adds_then old mid new (3 * length nodes) ((4 + 2 * b) * length nodes) 3 (4 + 2 * b) (3 * length c.push.new.self.items) ((4 + 2 * b) * length c.push.new.self.items) c.loop-list.invariant.adds c.in_ok-node.ensures.adds
-          (omega (arith, more)) (ap (λ n. (4 + 2 * length c.args.below.now) * n) more ∙ more_kids b (length nodes));
+          (omega (arith, more)) (ap (λ n. (4 + 2 * length c.args.below.now) * n) more ∙ more_children b (length nodes));
       long = omega (arith, more, c.loop-list.invariant.long);
       right = subst (AreFirstChoices c.args.self.now c.choose.new.self c.args.var c.args.below.now c.args.forks.now.zero.ways c.args.forks.now.one.ways) (sym c.in_ok-push.ensures.items)
           (choices_more old mid new c.args.var c.args.below.now c.args.forks.now.zero.ways c.args.forks.now.one.ways nodes (option_map (λ numbers. numbers.now) c.get.result) (option_map (λ numbers. numbers.now) c.get-in-loop-list.result) c.in_ok-node.node

@@ -11,7 +11,7 @@ use Rattle.dnnf_compiler.proofs.maker.Maker.meet.Goals.{After-as_slice}
 pub loop-i-preserved : goal.loop-i-preserved
 loop-i-preserved c = grind (arith, kept_more c.args.self.now c.requires.maker c.args.kids.now c.loop-i.kept.items c.loop-i.i (get_or c.args.kids.now c.loop-i.i 0), AllByRecursion-append, other_plain c.args.self.now c.requires.maker)
 
--- all kids are gone over
+-- all children are gone over
 whole : (c : After-as_slice) → c.as_slice.result.now ≡ filter (keeps_of c.args.self.now) c.args.kids.now
 whole c =
     c.as_slice.ensures

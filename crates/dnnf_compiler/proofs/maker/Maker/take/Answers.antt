@@ -2,12 +2,12 @@ use Rattle.std.proofs.Common.{◌≡◌, ◌<◌, ◌++◌, ◌∷◌, Some, Non
 use Rattle.std.specs.Prelude.{option_map, IfSome}
 use Rattle.std.proofs.lemmas.Option.{slice_get_within}
 use Rattle.dnnf_compiler.specs.inner.Meeting.{taken, AreMeetable, IsMeet, IsUsable, IsTaken}
-use Rattle.dnnf_compiler.proofs.WayNodes.{kids_meetable, take_false, take_some}
+use Rattle.dnnf_compiler.proofs.WayNodes.{children_meetable, take_false, take_some}
 use Rattle.dnnf_compiler.proofs.maker.Maker.take.Goals as goal
 use Rattle.dnnf_compiler.proofs.maker.Maker.take.Goals.{After-as_slice}
 
-its_kids : (c : After-as_slice) → c.as_slice.result.now ≡ c.literal-literal.result ∷ taken c.args.below.now c.in-Some.numbers.now
-its_kids c = c.as_slice.ensures ∙ c.in_ok-kids.ensures ∙ ap (λ ks. ks ++ taken c.args.below.now c.in-Some.numbers.now) c.in_ok-from_slice.ensures.ok
+its_children : (c : After-as_slice) → c.as_slice.result.now ≡ c.literal-literal.result ∷ taken c.args.below.now c.in-Some.numbers.now
+its_children c = c.as_slice.ensures ∙ c.in_ok-kids.ensures ∙ ap (λ ks. ks ++ taken c.args.below.now c.in-Some.numbers.now) c.in_ok-from_slice.ensures.ok
 
 usable : (c : After-as_slice) → IsUsable c.args.self.now.store.nodes c.args.var c.args.below.now c.in-Some.numbers.now
 usable c = subst (λ way. IfSome (option_map (λ numbers. numbers.now) way) (IsUsable c.args.self.now.store.nodes c.args.var c.args.below.now)) c.in-Some.is c.requires.way
@@ -18,8 +18,8 @@ literal_in c = slice_get_within c.args.self.now.store.nodes c.literal-literal.re
 pub meet-requires : goal.meet-requires
 meet-requires c =
     let d = (goal.at.meet-requires c).After-as_slice in
-    subst (AreMeetable c.args.self.now) (sym (its_kids d))
-    (kids_meetable c.args.self.now c.args.var c.args.bit c.args.below.now c.in-Some.numbers.now c.literal-literal.result (usable d) (literal_in d) c.literal-literal.ensures.truth c.literal-literal.ensures.variables
+    subst (AreMeetable c.args.self.now) (sym (its_children d))
+    (children_meetable c.args.self.now c.args.var c.args.bit c.args.below.now c.in-Some.numbers.now c.literal-literal.result (usable d) (literal_in d) c.literal-literal.ensures.truth c.literal-literal.ensures.variables
     c.requires.maker c.requires.few)
 
 pub returns-then-node-self : goal.returns-then-node-self
@@ -28,7 +28,7 @@ returns-then-node-self c =
     let m = c.args.self.now in
     subst (λ way. IsTaken c.args.self.now c.meet.new.self c.args.var c.args.bit c.args.below.now (option_map (λ numbers. numbers.now) way) None) (sym c.in-Some.is)
     (take_false m c.args.var c.args.bit c.args.below.now c.in-Some.numbers.now c.literal-literal.result (usable d) (literal_in d) c.literal-literal.ensures.truth c.literal-literal.ensures.variables
-    c.meet.new.self c.in_ok-node.node (subst (λ ks. IsMeet c.args.self.now c.meet.new.self ks c.in_ok-node.node) (its_kids d) c.in_ok-node.ensures) c.if-node-self.true)
+    c.meet.new.self c.in_ok-node.node (subst (λ ks. IsMeet c.args.self.now c.meet.new.self ks c.in_ok-node.node) (its_children d) c.in_ok-node.ensures) c.if-node-self.true)
 
 pub returns : goal.returns
 returns c =
@@ -36,4 +36,4 @@ returns c =
     let m = c.args.self.now in
     subst (λ way. IsTaken c.args.self.now c.meet.new.self c.args.var c.args.bit c.args.below.now (option_map (λ numbers. numbers.now) way) (Some c.in_ok-node.node)) (sym c.in-Some.is)
     (take_some m c.args.var c.args.bit c.args.below.now c.in-Some.numbers.now c.literal-literal.result (usable d) (literal_in d) c.literal-literal.ensures.truth c.literal-literal.ensures.variables
-    c.meet.new.self c.in_ok-node.node (subst (λ ks. IsMeet c.args.self.now c.meet.new.self ks c.in_ok-node.node) (its_kids d) c.in_ok-node.ensures) c.if-node-self.false)
+    c.meet.new.self c.in_ok-node.node (subst (λ ks. IsMeet c.args.self.now c.meet.new.self ks c.in_ok-node.node) (its_children d) c.in_ok-node.ensures) c.if-node-self.false)

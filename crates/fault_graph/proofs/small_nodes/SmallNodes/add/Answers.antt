@@ -4,7 +4,7 @@ use Rattle.state_rules.specs.Graphs.{edges}
 use Rattle.flat_lists.specs.Flat.{pieces, EndAt}
 use Rattle.node_store.specs.Flat.{nodes_of}
 use Rattle.fault_graph.specs.inner.Filled.{Filled}
-use Rattle.fault_graph.specs.inner.Rows.{kept_kids}
+use Rattle.fault_graph.specs.inner.Rows.{kept_children}
 use Rattle.fault_graph.proofs.AddedNodes.{sizes, filled}
 use Rattle.fault_graph.proofs.small_nodes.SmallNodes.add.Goals as goal
 use Rattle.fault_graph.proofs.small_nodes.SmallNodes.add.Goals.{After-self, After-put-2, else-not-own-via-then-not-own+else-len-before, else-not-own-via-else-not-own}
@@ -14,7 +14,7 @@ there c = sizes c.self.inside.kinds.items c.self.inside.ends.items c.self.inside
 
 pub gather-requires-clause-room : goal.gather-requires-clause-room
 gather-requires-clause-room c =
-    omega (arith, (there (goal.at.gather-requires-clause-room c).After-self).1, ap (λ (f : Filled). f.kid_room) c.self.view_is, c.requires.kid_room, c.self.inside.kids.ok.0, c.self.invariant.4)
+    omega (arith, (there (goal.at.gather-requires-clause-room c).After-self).1, ap (λ (f : Filled). f.child_room) c.self.view_is, c.requires.child_room, c.self.inside.kids.ok.0, c.self.invariant.4)
 
 pub put-requires : goal.put-requires
 put-requires c =
@@ -26,9 +26,9 @@ put-requires-2 c =
 
 more : (c : After-put-2) → EndAt (length c.gather.new.all.items) 0 c.put.new.all.items
     × (nodes_of c.put-2.new.all.items (pieces c.gather.new.all.items 0 c.put.new.all.items)
-    ≡ c.args.self.now.nodes ++ record { what = c.args.what; kids = kept_kids c.args.values.now c.args.places.now c.args.cost c.args.kids.now } ∷ [])
+    ≡ c.args.self.now.nodes ++ record { what = c.args.what; kids = kept_children c.args.values.now c.args.places.now c.args.cost c.args.kids.now } ∷ [])
 more c = filled c.self.inside.kinds.items c.put-2.new.all.items c.self.inside.ends.items c.put.new.all.items c.self.inside.kids.items c.gather.new.all.items
-    (kept_kids c.args.values.now c.args.places.now c.args.cost c.args.kids.now) c.args.self.now.nodes c.args.what c.len-2.result c.put-2.ensures.items c.put.ensures.items c.gather.ensures.kept
+    (kept_children c.args.values.now c.args.places.now c.args.cost c.args.kids.now) c.args.self.now.nodes c.args.what c.len-2.result c.put-2.ensures.items c.put.ensures.items c.gather.ensures.kept
     (c.len-2.ensures ∙ c.gather.new.all.ok.0) c.self.invariant.0 c.self.invariant.1 (ap (λ (f : Filled). f.nodes) c.self.view_is)
 
 pub invariant_of-self-2 : goal.invariant_of-self-2
@@ -46,7 +46,7 @@ overflow_cast-place c = omega (arith, (there (goal.at.overflow_cast-place c).Aft
 
 pub returns-clause-adds : goal.returns-clause-adds
 returns-clause-adds c = λ kept.
-    let row = kept_kids c.args.values.now c.args.places.now c.args.cost c.args.kids.now in
+    let row = kept_children c.args.values.now c.args.places.now c.args.cost c.args.kids.now in
     inr (
       (more (goal.at.returns-clause-adds c).After-put-2).1,
       omega (arith, (there (goal.at.returns-clause-adds c).After-self).0, c.len-place.ensures, c.self.inside.kinds.ok.0),

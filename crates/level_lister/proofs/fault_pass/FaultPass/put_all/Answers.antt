@@ -5,7 +5,7 @@ use Rattle.part_sets.specs.PartSets.{ArePartsOf}
 use Rattle.level_lister.specs.inner.Skips.{living}
 use Rattle.level_lister.specs.inner.NodeSets.{IsNodeSet}
 use Rattle.level_lister.specs.inner.FaultSets.{in_first, IsNodeFaults}
-use Rattle.level_lister.proofs.Kids.{root_full}
+use Rattle.level_lister.proofs.Children.{root_full}
 use Rattle.level_lister.proofs.FaultCosts.{fault_wider}
 use Rattle.level_lister.proofs.FaultNodes.{first_parts}
 use Rattle.level_lister.proofs.fault_pass.FaultPass.put_all.Goals as goal

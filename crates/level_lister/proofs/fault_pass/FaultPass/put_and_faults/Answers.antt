@@ -1,60 +1,60 @@
 use Rattle.std.proofs.Common.{◌*◌, ◌<◌, length, get_or, sym, ◌∙◌, ap, subst, arith}
 use Rattle.part_sets.specs.Numbers.{set_at}
 use Rattle.scratch_pool.proofs.Counted.{block-below}
-use Rattle.part_sets.proofs.Kids.{kid-below}
+use Rattle.part_sets.proofs.Children.{child-below}
 use Rattle.level_lister.specs.inner.NodeSets.{IsNodeSet}
 use Rattle.level_lister.specs.inner.FaultSets.{in_first, IsFaultSet, AreBothSets, IsNodeFaults}
 use Rattle.level_lister.proofs.FaultNodes.{both_zero}
-use Rattle.level_lister.proofs.Kids.{kids_apart, and_next, and_end}
+use Rattle.level_lister.proofs.Children.{children_apart, and_next, and_end}
 use Rattle.level_lister.proofs.fault_pass.FaultPass.put_and_faults.Goals as goal
 
-pub loop-kid-init : goal.loop-kid-init
-loop-kid-init c = both_zero c.args.self.now.words.now c.args.self.now.levels.now.costs _ c.put_one.new.set c.clear.new.set (λ n h. c.put_one.ensures n (omega arith)) c.clear.ensures
+pub loop-child-init : goal.loop-child-init
+loop-child-init c = both_zero c.args.self.now.words.now c.args.self.now.levels.now.costs _ c.put_one.new.set c.clear.new.set (λ n h. c.put_one.ensures n (omega arith)) c.clear.ensures
 
 pub set_at-own-requires : goal.set_at-own-requires
 set_at-own-requires c =
     let graph = c.args.self.now.graph.now in
-    let kids = c.kids-kid-items.result.now in
-    let below = kid-below graph c.args.at kids c.vars-vars.ensures.valid c.requires.at c.kids-kid-items.ensures c.loop-kid.kid-index c.loop-kid-test.true in
+    let kids = c.kids-child-items.result.now in
+    let below = child-below graph c.args.at kids c.vars-vars.ensures.valid c.requires.at c.kids-child-items.ensures c.loop-child.child-index c.loop-child-test.true in
     omega (
       arith,
       c.args.self.now.room,
-      block-below (get_or kids c.loop-kid.kid-index 0) (length graph.nodes) c.size-size.result (omega (arith, below, c.requires.at)),
+      block-below (get_or kids c.loop-child.child-index 0) (length graph.nodes) c.size-size.result (omega (arith, below, c.requires.at)),
       ap (λ n. length graph.nodes * n) c.size-size.ensures,
     )
 
 pub set_at-faults-requires : goal.set_at-faults-requires
 set_at-faults-requires c =
     let graph = c.args.self.now.graph.now in
-    let kids = c.kids-kid-items.result.now in
-    let below = kid-below graph c.args.at kids c.vars-vars.ensures.valid c.requires.at c.kids-kid-items.ensures c.loop-kid.kid-index c.loop-kid-test.true in
-    omega (arith, c.requires.sets, block-below (get_or kids c.loop-kid.kid-index 0) c.args.at c.size-size.result below, ap (λ n. c.args.at * n) c.size-size.ensures)
+    let kids = c.kids-child-items.result.now in
+    let below = child-below graph c.args.at kids c.vars-vars.ensures.valid c.requires.at c.kids-child-items.ensures c.loop-child.child-index c.loop-child-test.true in
+    omega (arith, c.requires.sets, block-below (get_or kids c.loop-child.child-index 0) c.args.at c.size-size.result below, ap (λ n. c.args.at * n) c.size-size.ensures)
 
-pub loop-kid-preserved : goal.loop-kid-preserved
-loop-kid-preserved c =
+pub loop-child-preserved : goal.loop-child-preserved
+loop-child-preserved c =
     let graph = c.args.self.now.graph.now in
     let at = c.args.at in
     let words = c.args.self.now.words.now in
     let costs = c.args.self.now.levels.now.costs in
     let groups = c.args.self.now.groups in
-    let kids = c.kids-kid-items.result.now in
-    let j = c.loop-kid.kid-index in
-    let kid = get_or kids j 0 in
+    let kids = c.kids-child-items.result.now in
+    let j = c.loop-child.child-index in
+    let child = get_or kids j 0 in
     let ok = c.vars-vars.ensures.valid in
-    let lt = c.loop-kid-test.true in
-    let below = kid-below graph at kids ok c.requires.at c.kids-kid-items.ensures j lt in
-    let inside : kid < length graph.nodes = omega (arith, below, c.requires.at) in
-    let own : IsNodeSet graph c.args.self.now.skips.now words costs kid c.set_at-own.result.now =
-    subst (IsNodeSet graph c.args.self.now.skips.now words costs kid) (sym (c.set_at-own.ensures.set ∙ ap (λ n. set_at c.args.self.now.sets.now kid n) c.size-size.ensures)) (c.requires.are kid inside) in
-    let faults : IsNodeFaults graph c.args.self.now.skips.now words costs groups kid c.set_at-faults.result.now =
-    subst (IsNodeFaults graph c.args.self.now.skips.now words costs groups kid) (sym (c.set_at-faults.ensures.set ∙ ap (λ n. set_at c.args.earlier.now kid n) c.size-size.ensures)) (c.requires.earlier kid below) in
-    and_next graph at kids ok c.requires.at c.kids-kid-items.ensures c.args.self.now.skips.now c.requires.lives (λ t m. AreBothSets words costs (in_first words costs groups) t m c.put_both_sums.new.all c.put_both_sums.new.set) j lt
-    (c.put_both_sums.ensures words costs (in_first words costs groups) _ _ _ _ (kids_apart graph at kids ok c.requires.at c.kids-kid-items.ensures j c.requires.what lt)
-    c.loop-kid.invariant (record { all = own; faulty = faults }))
+    let lt = c.loop-child-test.true in
+    let below = child-below graph at kids ok c.requires.at c.kids-child-items.ensures j lt in
+    let inside : child < length graph.nodes = omega (arith, below, c.requires.at) in
+    let own : IsNodeSet graph c.args.self.now.skips.now words costs child c.set_at-own.result.now =
+    subst (IsNodeSet graph c.args.self.now.skips.now words costs child) (sym (c.set_at-own.ensures.set ∙ ap (λ n. set_at c.args.self.now.sets.now child n) c.size-size.ensures)) (c.requires.are child inside) in
+    let faults : IsNodeFaults graph c.args.self.now.skips.now words costs groups child c.set_at-faults.result.now =
+    subst (IsNodeFaults graph c.args.self.now.skips.now words costs groups child) (sym (c.set_at-faults.ensures.set ∙ ap (λ n. set_at c.args.earlier.now child n) c.size-size.ensures)) (c.requires.earlier child below) in
+    and_next graph at kids ok c.requires.at c.kids-child-items.ensures c.args.self.now.skips.now c.requires.lives (λ t m. AreBothSets words costs (in_first words costs groups) t m c.put_both_sums.new.all c.put_both_sums.new.set) j lt
+    (c.put_both_sums.ensures words costs (in_first words costs groups) _ _ _ _ (children_apart graph at kids ok c.requires.at c.kids-child-items.ensures j c.requires.what lt)
+    c.loop-child.invariant (record { all = own; faulty = faults }))
 
 pub returns : goal.returns
 returns c =
     let words = c.args.self.now.words.now in
     let costs = c.args.self.now.levels.now.costs in
-    and_end c.args.self.now.graph.now c.args.at c.kids-kid-items.result.now c.vars-vars.ensures.valid c.requires.at c.kids-kid-items.ensures c.args.self.now.skips.now c.requires.lives (λ t m. IsFaultSet words costs (in_first words costs c.args.self.now.groups) t m c.loop-kid.set)
-    c.loop-kid.kid-index c.requires.what (omega arith) c.loop-kid.invariant.faulty
+    and_end c.args.self.now.graph.now c.args.at c.kids-child-items.result.now c.vars-vars.ensures.valid c.requires.at c.kids-child-items.ensures c.args.self.now.skips.now c.requires.lives (λ t m. IsFaultSet words costs (in_first words costs c.args.self.now.groups) t m c.loop-child.set)
+    c.loop-child.child-index c.requires.what (omega arith) c.loop-child.invariant.faulty

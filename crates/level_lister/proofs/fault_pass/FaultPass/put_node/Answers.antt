@@ -1,8 +1,8 @@
 use Rattle.std.proofs.Common.{get_or, refl, sym, ◌∙◌, ap, subst}
-use Rattle.part_sets.proofs.Kids.{literal-fits}
+use Rattle.part_sets.proofs.Children.{literal-fits}
 use Rattle.level_lister.specs.inner.FaultSets.{in_first, IsFaultSet, AreNodeFaults}
 use Rattle.level_lister.proofs.FaultNodes.{skipped_faults}
-use Rattle.level_lister.proofs.Kids.{literal_at}
+use Rattle.level_lister.proofs.Children.{literal_at}
 use Rattle.level_lister.proofs.fault_pass.FaultPass.put_node.Goals as goal
 
 pub put_literal_faults-requires : goal.put_literal_faults-requires

@@ -2,70 +2,70 @@ use Rattle.std.proofs.Common.{◌*◌, ◌<◌, length, get_or, sym, ◌∙◌, 
 use Rattle.state_rules.specs.Graphs.{is_true, mentions}
 use Rattle.scratch_pool.proofs.Counted.{block-below}
 use Rattle.part_sets.specs.Numbers.{set_at}
-use Rattle.part_sets.proofs.Kids.{kid-below, kid-mentions}
+use Rattle.part_sets.proofs.Children.{child-below, child-mentions}
 use Rattle.level_lister.specs.inner.Skips.{living}
 use Rattle.level_lister.specs.inner.NodeSets.{IsNodeSet}
 use Rattle.level_lister.specs.inner.FaultSets.{in_first, IsFaultSet, IsNodeFaults}
 use Rattle.level_lister.proofs.FaultNodes.{never_faults}
 use Rattle.level_lister.proofs.FaultCosts.{fault_or}
-use Rattle.level_lister.proofs.Kids.{or_next, or_end}
+use Rattle.level_lister.proofs.Children.{or_next, or_end}
 use Rattle.level_lister.proofs.fault_pass.FaultPass.put_or_faults.Goals as goal
 
-pub loop-kid-init : goal.loop-kid-init
-loop-kid-init c = never_faults c.args.self.now.words.now c.args.self.now.levels.now.costs _ _ c.clear.new.set c.clear.ensures
+pub loop-child-init : goal.loop-child-init
+loop-child-init c = never_faults c.args.self.now.words.now c.args.self.now.levels.now.costs _ _ c.clear.new.set c.clear.ensures
 
 pub set_at-requires : goal.set_at-requires
 set_at-requires c =
     let graph = c.args.self.now.graph.now in
-    let kids = c.kids-kid-items.result.now in
-    let below = kid-below graph c.args.at kids c.vars-vars.ensures.valid c.requires.at c.kids-kid-items.ensures c.loop-kid.kid-index c.loop-kid-test.true in
+    let kids = c.kids-child-items.result.now in
+    let below = child-below graph c.args.at kids c.vars-vars.ensures.valid c.requires.at c.kids-child-items.ensures c.loop-child.child-index c.loop-child-test.true in
     omega (
       arith,
       c.args.self.now.room,
-      block-below (get_or kids c.loop-kid.kid-index 0) (length graph.nodes) c.size-size.result (omega (arith, below, c.requires.at)),
+      block-below (get_or kids c.loop-child.child-index 0) (length graph.nodes) c.size-size.result (omega (arith, below, c.requires.at)),
       ap (λ n. length graph.nodes * n) c.size-size.ensures,
     )
 
-pub set_at-requires-in-loop-kid : goal.set_at-requires-in-loop-kid
-set_at-requires-in-loop-kid c =
+pub set_at-requires-in-loop-child : goal.set_at-requires-in-loop-child
+set_at-requires-in-loop-child c =
     let graph = c.args.self.now.graph.now in
-    let kids = c.kids-kid-items.result.now in
-    let below = kid-below graph c.args.at kids c.vars-vars.ensures.valid c.requires.at c.kids-kid-items.ensures c.loop-kid.kid-index c.loop-kid-test.true in
-    omega (arith, c.requires.sets, block-below (get_or kids c.loop-kid.kid-index 0) c.args.at c.size-size.result below, ap (λ n. c.args.at * n) c.size-size.ensures)
+    let kids = c.kids-child-items.result.now in
+    let below = child-below graph c.args.at kids c.vars-vars.ensures.valid c.requires.at c.kids-child-items.ensures c.loop-child.child-index c.loop-child-test.true in
+    omega (arith, c.requires.sets, block-below (get_or kids c.loop-child.child-index 0) c.args.at c.size-size.result below, ap (λ n. c.args.at * n) c.size-size.ensures)
 
 pub widen_both-requires-clause-inner : goal.widen_both-requires-clause-inner
 widen_both-requires-clause-inner c =
-    let kids = c.kids-kid-items.result.now in
-    omega (arith, c.requires.at, kid-below c.args.self.now.graph.now c.args.at kids c.vars-vars.ensures.valid c.requires.at c.kids-kid-items.ensures c.loop-kid.kid-index c.loop-kid-test.true)
+    let kids = c.kids-child-items.result.now in
+    omega (arith, c.requires.at, child-below c.args.self.now.graph.now c.args.at kids c.vars-vars.ensures.valid c.requires.at c.kids-child-items.ensures c.loop-child.child-index c.loop-child-test.true)
 
-pub loop-kid-preserved : goal.loop-kid-preserved
-loop-kid-preserved c =
+pub loop-child-preserved : goal.loop-child-preserved
+loop-child-preserved c =
     let graph = c.args.self.now.graph.now in
     let kept = c.args.self.now.levels.now in
     let at = c.args.at in
     let words = c.args.self.now.words.now in
     let costs = kept.costs in
     let groups = c.args.self.now.groups in
-    let kids = c.kids-kid-items.result.now in
-    let j = c.loop-kid.kid-index in
-    let kid = get_or kids j 0 in
+    let kids = c.kids-child-items.result.now in
+    let j = c.loop-child.child-index in
+    let child = get_or kids j 0 in
     let ok = c.vars-vars.ensures.valid in
-    let lt = c.loop-kid-test.true in
-    let below = kid-below graph at kids ok c.requires.at c.kids-kid-items.ensures j lt in
-    let inside : kid < length graph.nodes = omega (arith, below, c.requires.at) in
-    let all : IsNodeSet graph c.args.self.now.skips.now words costs kid c.copy_from_slice.new.self =
-    subst (IsNodeSet graph c.args.self.now.skips.now words costs kid) (sym (c.copy_from_slice.ensures.after ∙ c.set_at.ensures.set ∙ ap (λ n. set_at c.args.self.now.sets.now kid n) c.size-size.ensures)) (c.requires.are kid inside) in
-    let faults : IsNodeFaults graph c.args.self.now.skips.now words costs groups kid c.copy_from_slice-in-loop-kid.new.self =
-    subst (IsNodeFaults graph c.args.self.now.skips.now words costs groups kid) (sym (c.copy_from_slice-in-loop-kid.ensures.after ∙ c.set_at-in-loop-kid.ensures.set ∙ ap (λ n. set_at c.args.earlier.now kid n) c.size-size.ensures)) (c.requires.earlier kid below) in
-    let wide = c.widen_both.ensures (λ a. is_true (living graph.nodes c.args.self.now.skips.now) kid a) (λ v. mentions graph.nodes v kid) (λ v. mentions graph.nodes v at)
-    (c.args.self.now.for_graph.below.nodes kid inside) (c.args.self.now.for_graph.below.nodes at c.requires.at)
-    (kid-mentions graph at kids ok c.requires.at c.kids-kid-items.ensures j c.requires.what lt) (record { all = all; faulty = faults }) in
-    or_next graph at kids ok c.requires.at c.kids-kid-items.ensures c.args.self.now.skips.now c.requires.lives (λ t m. IsFaultSet words costs (in_first words costs groups) t m c.add_shifted.new.set) j lt
-    (fault_or words costs (in_first words costs groups) _ _ _ c.loop-kid.set c.widen_both.new.faults c.add_shifted.new.set (omega arith) (omega arith) (λ n h. c.add_shifted.ensures n (omega arith)) c.loop-kid.invariant wide.faulty)
+    let lt = c.loop-child-test.true in
+    let below = child-below graph at kids ok c.requires.at c.kids-child-items.ensures j lt in
+    let inside : child < length graph.nodes = omega (arith, below, c.requires.at) in
+    let all : IsNodeSet graph c.args.self.now.skips.now words costs child c.copy_from_slice.new.self =
+    subst (IsNodeSet graph c.args.self.now.skips.now words costs child) (sym (c.copy_from_slice.ensures.after ∙ c.set_at.ensures.set ∙ ap (λ n. set_at c.args.self.now.sets.now child n) c.size-size.ensures)) (c.requires.are child inside) in
+    let faults : IsNodeFaults graph c.args.self.now.skips.now words costs groups child c.copy_from_slice-in-loop-child.new.self =
+    subst (IsNodeFaults graph c.args.self.now.skips.now words costs groups child) (sym (c.copy_from_slice-in-loop-child.ensures.after ∙ c.set_at-in-loop-child.ensures.set ∙ ap (λ n. set_at c.args.earlier.now child n) c.size-size.ensures)) (c.requires.earlier child below) in
+    let wide = c.widen_both.ensures (λ a. is_true (living graph.nodes c.args.self.now.skips.now) child a) (λ v. mentions graph.nodes v child) (λ v. mentions graph.nodes v at)
+    (c.args.self.now.for_graph.below.nodes child inside) (c.args.self.now.for_graph.below.nodes at c.requires.at)
+    (child-mentions graph at kids ok c.requires.at c.kids-child-items.ensures j c.requires.what lt) (record { all = all; faulty = faults }) in
+    or_next graph at kids ok c.requires.at c.kids-child-items.ensures c.args.self.now.skips.now c.requires.lives (λ t m. IsFaultSet words costs (in_first words costs groups) t m c.add_shifted.new.set) j lt
+    (fault_or words costs (in_first words costs groups) _ _ _ c.loop-child.set c.widen_both.new.faults c.add_shifted.new.set (omega arith) (omega arith) (λ n h. c.add_shifted.ensures n (omega arith)) c.loop-child.invariant wide.faulty)
 
 pub returns : goal.returns
 returns c =
     let words = c.args.self.now.words.now in
     let costs = c.args.self.now.levels.now.costs in
-    or_end c.args.self.now.graph.now c.args.at c.kids-kid-items.result.now c.vars-vars.ensures.valid c.requires.at c.kids-kid-items.ensures c.args.self.now.skips.now c.requires.lives (λ t m. IsFaultSet words costs (in_first words costs c.args.self.now.groups) t m c.loop-kid.set)
-    c.loop-kid.kid-index c.requires.what (omega arith) c.loop-kid.invariant
+    or_end c.args.self.now.graph.now c.args.at c.kids-child-items.result.now c.vars-vars.ensures.valid c.requires.at c.kids-child-items.ensures c.args.self.now.skips.now c.requires.lives (λ t m. IsFaultSet words costs (in_first words costs c.args.self.now.groups) t m c.loop-child.set)
+    c.loop-child.child-index c.requires.what (omega arith) c.loop-child.invariant

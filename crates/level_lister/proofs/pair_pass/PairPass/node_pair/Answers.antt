@@ -1,6 +1,6 @@
 use Rattle.std.proofs.Common.{get_or, refl, ap, sym, ◌∙◌, arith}
-use Rattle.part_sets.proofs.Kids.{literal-fits}
-use Rattle.level_lister.proofs.Kids.{literal_at}
+use Rattle.part_sets.proofs.Children.{literal-fits}
+use Rattle.level_lister.proofs.Children.{literal_at}
 use Rattle.level_lister.proofs.PairNodes.{Told, skipped_told}
 use Rattle.level_lister.proofs.pair_pass.PairPass.node_pair.Goals as goal
 

@@ -3,31 +3,31 @@ use Rattle.std.proofs.lemmas.Bool.{false≢true}
 use Rattle.state_rules.specs.Graphs.{is_true, mentions}
 use Rattle.scratch_pool.proofs.Counted.{block-below}
 use Rattle.part_sets.specs.Numbers.{part_words}
-use Rattle.part_sets.proofs.Kids.{kid-below, kid-mentions}
+use Rattle.part_sets.proofs.Children.{child-below, child-mentions}
 use Rattle.level_lister.specs.inner.Skips.{living}
 use Rattle.level_lister.specs.inner.Pairs.{TellsNode, group_count, group_in}
 use Rattle.level_lister.proofs.TwoWords.{tells_none}
-use Rattle.level_lister.proofs.Kids.{or_next, or_end}
+use Rattle.level_lister.proofs.Children.{or_next, or_end}
 use Rattle.level_lister.proofs.PairNodes.{Told}
 use Rattle.level_lister.proofs.pair_pass.PairPass.or_pair.Goals as goal
 
-pub loop-kid-init : goal.loop-kid-init
-loop-kid-init c = tells_none c.args.self.now.words.now c.args.self.now.levels.now.costs c.args.self.now.levels.now.top (group_count c.args.self.now.levels.now.top) (group_in c.args.self.now.words.now (length c.args.self.now.levels.now.costs) c.args.self.now.groups) _ _ (λ a f e. false≢true e) (λ a b h. refl)
+pub loop-child-init : goal.loop-child-init
+loop-child-init c = tells_none c.args.self.now.words.now c.args.self.now.levels.now.costs c.args.self.now.levels.now.top (group_count c.args.self.now.levels.now.top) (group_in c.args.self.now.words.now (length c.args.self.now.levels.now.costs) c.args.self.now.groups) _ _ (λ a f e. false≢true e) (λ a b h. refl)
 
 pub pair_at-own-requires : goal.pair_at-own-requires
 pair_at-own-requires c =
-    let kids = c.kids-kid-items.result.now in
-    omega (arith, c.requires.room, c.requires.at, kid-below c.args.self.now.graph.now c.args.at kids c.vars-vars.ensures.valid c.requires.at c.kids-kid-items.ensures c.loop-kid.kid-index c.loop-kid-test.true)
+    let kids = c.kids-child-items.result.now in
+    omega (arith, c.requires.room, c.requires.at, child-below c.args.self.now.graph.now c.args.at kids c.vars-vars.ensures.valid c.requires.at c.kids-child-items.ensures c.loop-child.child-index c.loop-child-test.true)
 
 pub widened-requires-clause-inner : goal.widened-requires-clause-inner
 widened-requires-clause-inner c =
-    let kids = c.kids-kid-items.result.now in
+    let kids = c.kids-child-items.result.now in
     let size = part_words (length c.args.self.now.levels.now.costs) in
     omega (
       arith,
       c.args.self.now.for_graph.below.long,
-      block-below (get_or kids c.loop-kid.kid-index 0) (length c.args.self.now.graph.now.nodes + 1) size
-          (omega (arith, c.requires.at, kid-below c.args.self.now.graph.now c.args.at kids c.vars-vars.ensures.valid c.requires.at c.kids-kid-items.ensures c.loop-kid.kid-index c.loop-kid-test.true)),
+      block-below (get_or kids c.loop-child.child-index 0) (length c.args.self.now.graph.now.nodes + 1) size
+          (omega (arith, c.requires.at, child-below c.args.self.now.graph.now c.args.at kids c.vars-vars.ensures.valid c.requires.at c.kids-child-items.ensures c.loop-child.child-index c.loop-child-test.true)),
     )
 
 pub widened-requires-clause-outer : goal.widened-requires-clause-outer
@@ -35,28 +35,28 @@ widened-requires-clause-outer c =
     let size = part_words (length c.args.self.now.levels.now.costs) in
     omega (arith, c.args.self.now.for_graph.below.long, block-below c.args.at (length c.args.self.now.graph.now.nodes + 1) size (omega (arith, c.requires.at)))
 
-pub loop-kid-preserved : goal.loop-kid-preserved
-loop-kid-preserved c =
+pub loop-child-preserved : goal.loop-child-preserved
+loop-child-preserved c =
     let graph = c.args.self.now.graph.now in
     let at = c.args.at in
     let words = c.args.self.now.words.now in
     let groups = c.args.self.now.groups in
-    let kids = c.kids-kid-items.result.now in
+    let kids = c.kids-child-items.result.now in
     let costs = c.args.self.now.levels.now.costs in
     let top = c.args.self.now.levels.now.top in
-    let j = c.loop-kid.kid-index in
+    let j = c.loop-child.child-index in
     let ok = c.vars-vars.ensures.valid in
-    let lt = c.loop-kid-test.true in
-    let below = kid-below graph at kids ok c.requires.at c.kids-kid-items.ensures j lt in
+    let lt = c.loop-child-test.true in
+    let below = child-below graph at kids ok c.requires.at c.kids-child-items.ensures j lt in
     let inside : get_or kids j 0 < length graph.nodes = omega (arith, below, c.requires.at) in
-    let kid = subst (TellsNode graph c.args.self.now.skips.now words costs top groups (get_or kids j 0)) (sym c.pair_at-own.ensures) (c.requires.earlier (get_or kids j 0) below) in
-    or_next graph at kids ok c.requires.at c.kids-kid-items.ensures c.args.self.now.skips.now c.requires.lives (Told words costs top groups c.either-pair.result) j lt
-    (c.either-pair.ensures words costs top (group_count top) (group_in words (length costs) groups) _ _ _ c.loop-kid.invariant
+    let child = subst (TellsNode graph c.args.self.now.skips.now words costs top groups (get_or kids j 0)) (sym c.pair_at-own.ensures) (c.requires.earlier (get_or kids j 0) below) in
+    or_next graph at kids ok c.requires.at c.kids-child-items.ensures c.args.self.now.skips.now c.requires.lives (Told words costs top groups c.either-pair.result) j lt
+    (c.either-pair.ensures words costs top (group_count top) (group_in words (length costs) groups) _ _ _ c.loop-child.invariant
     (c.widened.ensures (λ a. is_true (living graph.nodes c.args.self.now.skips.now) (get_or kids j 0) a) (λ v. mentions graph.nodes v (get_or kids j 0)) (λ v. mentions graph.nodes v at)
     (c.args.self.now.for_graph.below.nodes (get_or kids j 0) inside) (c.args.self.now.for_graph.below.nodes at c.requires.at)
-    (kid-mentions graph at kids ok c.requires.at c.kids-kid-items.ensures j c.requires.what lt) kid))
+    (child-mentions graph at kids ok c.requires.at c.kids-child-items.ensures j c.requires.what lt) child))
 
 pub returns : goal.returns
 returns c =
-    or_end c.args.self.now.graph.now c.args.at c.kids-kid-items.result.now c.vars-vars.ensures.valid c.requires.at c.kids-kid-items.ensures c.args.self.now.skips.now c.requires.lives (Told c.args.self.now.words.now c.args.self.now.levels.now.costs c.args.self.now.levels.now.top c.args.self.now.groups c.loop-kid.pair) c.loop-kid.kid-index c.requires.what (omega arith)
-    c.loop-kid.invariant
+    or_end c.args.self.now.graph.now c.args.at c.kids-child-items.result.now c.vars-vars.ensures.valid c.requires.at c.kids-child-items.ensures c.args.self.now.skips.now c.requires.lives (Told c.args.self.now.words.now c.args.self.now.levels.now.costs c.args.self.now.levels.now.top c.args.self.now.groups c.loop-child.pair) c.loop-child.child-index c.requires.what (omega arith)
+    c.loop-child.invariant

@@ -5,7 +5,7 @@ use Rattle.part_sets.specs.Numbers.{part_words, set_at}
 use Rattle.part_sets.specs.PartSets.{ArePartsOf}
 use Rattle.level_lister.specs.inner.Skips.{living}
 use Rattle.level_lister.specs.inner.Pairs.{TellsNode, pair_at}
-use Rattle.level_lister.proofs.Kids.{root_full}
+use Rattle.level_lister.proofs.Children.{root_full}
 use Rattle.level_lister.proofs.PairNodes.{nodes_more, told_wider}
 use Rattle.level_lister.proofs.pair_pass.PairPass.put_all.Goals as goal
 

@@ -3,61 +3,61 @@ use Rattle.state_rules.specs.Graphs.{is_true, mentions}
 use Rattle.scratch_pool.proofs.Counted.{block-below}
 use Rattle.part_sets.specs.Numbers.{part_words, set_at}
 use Rattle.part_sets.specs.PartSets.{ArePartsOf}
-use Rattle.part_sets.proofs.Kids.{kid-below, kid-mentions}
+use Rattle.part_sets.proofs.Children.{child-below, child-mentions}
 use Rattle.level_lister.specs.inner.Skips.{living}
 use Rattle.level_lister.specs.inner.CostSets.{IsCostSet}
 use Rattle.level_lister.proofs.TestCosts.{empty_is}
-use Rattle.level_lister.proofs.Kids.{or_next, or_end}
+use Rattle.level_lister.proofs.Children.{or_next, or_end}
 use Rattle.level_lister.proofs.ConditionCosts.{or_is}
 use Rattle.level_lister.proofs.search.Asked.put_or.Goals as goal
 
-pub loop-kid-init : goal.loop-kid-init
-loop-kid-init c = empty_is c.args.self.now.words.now c.args.self.now.levels.now.costs _ c.clear.new.set c.clear.ensures
+pub loop-child-init : goal.loop-child-init
+loop-child-init c = empty_is c.args.self.now.words.now c.args.self.now.levels.now.costs _ c.clear.new.set c.clear.ensures
 
 pub set_at-requires : goal.set_at-requires
 set_at-requires c =
-    let kids = c.kids-kid-items.result.now in
-    omega (arith, c.requires.sets, block-below (get_or kids c.loop-kid.kid-index 0) c.args.at (length c.args.set.now) (kid-below c.args.self.now.graph.now c.args.at kids c.vars-vars.ensures.valid c.requires.at c.kids-kid-items.ensures c.loop-kid.kid-index c.loop-kid-test.true))
+    let kids = c.kids-child-items.result.now in
+    omega (arith, c.requires.sets, block-below (get_or kids c.loop-child.child-index 0) c.args.at (length c.args.set.now) (child-below c.args.self.now.graph.now c.args.at kids c.vars-vars.ensures.valid c.requires.at c.kids-child-items.ensures c.loop-child.child-index c.loop-child-test.true))
 
-pub set_at-requires-in-loop-kid : goal.set_at-requires-in-loop-kid
-set_at-requires-in-loop-kid c =
-    let kids = c.kids-kid-items.result.now in
+pub set_at-requires-in-loop-child : goal.set_at-requires-in-loop-child
+set_at-requires-in-loop-child c =
+    let kids = c.kids-child-items.result.now in
     let graph = c.args.self.now.graph.now in
     let size = c.part_words-parts.result in
     let parts = length c.args.self.now.levels.now.costs in
     let same : c.part_words-parts.result ≡ part_words (length c.args.self.now.levels.now.costs) = c.part_words-parts.ensures ∙ ap (λ (cs : List ℕ). part_words (length cs)) c.costs-costs.ensures in
-    let below = kid-below graph c.args.at kids c.vars-vars.ensures.valid c.requires.at c.kids-kid-items.ensures c.loop-kid.kid-index c.loop-kid-test.true in
+    let below = child-below graph c.args.at kids c.vars-vars.ensures.valid c.requires.at c.kids-child-items.ensures c.loop-child.child-index c.loop-child-test.true in
     let long : length c.below-below.result.now ≡ (length graph.nodes + 1) * c.part_words-parts.result =
     ap length c.below-below.ensures ∙ c.args.self.now.for_graph.below.long ∙ ap (λ n. (length graph.nodes + 1) * n) (sym same) in
-    omega (arith, long, block-below (get_or kids c.loop-kid.kid-index 0) (length graph.nodes + 1) size (omega arith))
+    omega (arith, long, block-below (get_or kids c.loop-child.child-index 0) (length graph.nodes + 1) size (omega arith))
 
-pub loop-kid-preserved : goal.loop-kid-preserved
-loop-kid-preserved c =
+pub loop-child-preserved : goal.loop-child-preserved
+loop-child-preserved c =
     let graph = c.args.self.now.graph.now in
     let kept = c.args.self.now.levels.now in
     let words = c.args.self.now.words.now in
-    let kids = c.kids-kid-items.result.now in
-    let j = c.loop-kid.kid-index in
-    let kid = get_or kids j 0 in
+    let kids = c.kids-child-items.result.now in
+    let j = c.loop-child.child-index in
+    let child = get_or kids j 0 in
     let ok = c.vars-vars.ensures.valid in
     let parts = length kept.costs in
-    let below = kid-below graph c.args.at kids ok c.requires.at c.kids-kid-items.ensures j c.loop-kid-test.true in
-    let inside : kid < length graph.nodes = omega arith in
+    let below = child-below graph c.args.at kids ok c.requires.at c.kids-child-items.ensures j c.loop-child-test.true in
+    let inside : child < length graph.nodes = omega arith in
     let many : length kept.costs ≡ length c.costs-costs.result.now = sym (ap length c.costs-costs.ensures) in
     let size : c.part_words-parts.result ≡ part_words (length kept.costs) = c.part_words-parts.ensures ∙ ap part_words (sym many) in
     let on_outer : ArePartsOf parts (λ v. mentions graph.nodes v c.args.at) c.set_at-own.result.now =
     subst (ArePartsOf parts (λ v. mentions graph.nodes v c.args.at)) (sym (c.set_at-own.ensures.set ∙ (λ i. set_at (c.below-below.ensures i) c.args.at (size i)))) (c.args.self.now.for_graph.below.nodes c.args.at c.requires.at) in
-    let on_inner : ArePartsOf parts (λ v. mentions graph.nodes v kid) c.set_at-in-loop-kid.result.now =
-    subst (ArePartsOf parts (λ v. mentions graph.nodes v kid)) (sym (c.set_at-in-loop-kid.ensures.set ∙ (λ i. set_at (c.below-below.ensures i) kid (size i)))) (c.args.self.now.for_graph.below.nodes kid inside) in
-    let is = subst (λ (cs : List ℕ). IsCostSet words cs (λ a. is_true (living graph.nodes c.args.self.now.skips.now) kid a) (λ v. mentions graph.nodes v kid) (set_at c.args.sets.now kid (length c.args.set.now))) (sym c.costs-costs.ensures) (c.requires.earlier kid below) in
-    let own = subst (IsCostSet words c.costs-costs.result.now (λ a. is_true (living graph.nodes c.args.self.now.skips.now) kid a) (λ v. mentions graph.nodes v kid)) (sym (c.copy_from_slice.ensures.after ∙ c.set_at.ensures.set)) is in
-    or_next graph c.args.at kids ok c.requires.at c.kids-kid-items.ensures c.args.self.now.skips.now c.requires.lives (λ t m. IsCostSet words kept.costs t m c.add_shifted.new.set) j c.loop-kid-test.true
-    (or_is words kept.costs _ _ _ c.loop-kid.set c.widen.new.set c.add_shifted.new.set (omega arith) (omega arith) (λ n h. c.add_shifted.ensures n (omega arith)) c.loop-kid.invariant
-    (subst (λ (cs : List ℕ). IsCostSet words cs (λ a. is_true (living graph.nodes c.args.self.now.skips.now) kid a) (λ v. mentions graph.nodes v c.args.at) c.widen.new.set) c.costs-costs.ensures
-    (c.widen.ensures (λ a. is_true (living graph.nodes c.args.self.now.skips.now) kid a) (λ v. mentions graph.nodes v kid) (λ v. mentions graph.nodes v c.args.at)
-    (subst (λ n. ArePartsOf n (λ v. mentions graph.nodes v kid) c.set_at-in-loop-kid.result.now) many on_inner)
+    let on_inner : ArePartsOf parts (λ v. mentions graph.nodes v child) c.set_at-in-loop-child.result.now =
+    subst (ArePartsOf parts (λ v. mentions graph.nodes v child)) (sym (c.set_at-in-loop-child.ensures.set ∙ (λ i. set_at (c.below-below.ensures i) child (size i)))) (c.args.self.now.for_graph.below.nodes child inside) in
+    let is = subst (λ (cs : List ℕ). IsCostSet words cs (λ a. is_true (living graph.nodes c.args.self.now.skips.now) child a) (λ v. mentions graph.nodes v child) (set_at c.args.sets.now child (length c.args.set.now))) (sym c.costs-costs.ensures) (c.requires.earlier child below) in
+    let own = subst (IsCostSet words c.costs-costs.result.now (λ a. is_true (living graph.nodes c.args.self.now.skips.now) child a) (λ v. mentions graph.nodes v child)) (sym (c.copy_from_slice.ensures.after ∙ c.set_at.ensures.set)) is in
+    or_next graph c.args.at kids ok c.requires.at c.kids-child-items.ensures c.args.self.now.skips.now c.requires.lives (λ t m. IsCostSet words kept.costs t m c.add_shifted.new.set) j c.loop-child-test.true
+    (or_is words kept.costs _ _ _ c.loop-child.set c.widen.new.set c.add_shifted.new.set (omega arith) (omega arith) (λ n h. c.add_shifted.ensures n (omega arith)) c.loop-child.invariant
+    (subst (λ (cs : List ℕ). IsCostSet words cs (λ a. is_true (living graph.nodes c.args.self.now.skips.now) child a) (λ v. mentions graph.nodes v c.args.at) c.widen.new.set) c.costs-costs.ensures
+    (c.widen.ensures (λ a. is_true (living graph.nodes c.args.self.now.skips.now) child a) (λ v. mentions graph.nodes v child) (λ v. mentions graph.nodes v c.args.at)
+    (subst (λ n. ArePartsOf n (λ v. mentions graph.nodes v child) c.set_at-in-loop-child.result.now) many on_inner)
     (subst (λ n. ArePartsOf n (λ v. mentions graph.nodes v c.args.at) c.set_at-own.result.now) many on_outer)
-    (kid-mentions graph c.args.at kids ok c.requires.at c.kids-kid-items.ensures j c.requires.what c.loop-kid-test.true) own)))
+    (child-mentions graph c.args.at kids ok c.requires.at c.kids-child-items.ensures j c.requires.what c.loop-child-test.true) own)))
 
 pub returns : goal.returns
-returns c = or_end c.args.self.now.graph.now c.args.at c.kids-kid-items.result.now c.vars-vars.ensures.valid c.requires.at c.kids-kid-items.ensures c.args.self.now.skips.now c.requires.lives (λ t m. IsCostSet c.args.self.now.words.now c.args.self.now.levels.now.costs t m c.loop-kid.set) c.loop-kid.kid-index c.requires.what (omega arith) c.loop-kid.invariant
+returns c = or_end c.args.self.now.graph.now c.args.at c.kids-child-items.result.now c.vars-vars.ensures.valid c.requires.at c.kids-child-items.ensures c.args.self.now.skips.now c.requires.lives (λ t m. IsCostSet c.args.self.now.words.now c.args.self.now.levels.now.costs t m c.loop-child.set) c.loop-child.child-index c.requires.what (omega arith) c.loop-child.invariant

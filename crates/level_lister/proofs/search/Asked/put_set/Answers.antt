@@ -1,7 +1,7 @@
 use Rattle.std.proofs.Common.{get_or, refl, sym, ◌∙◌, ap, arith}
 use Rattle.minimiser.specs.Costs.{part_cost}
-use Rattle.part_sets.proofs.Kids.{literal-fits}
-use Rattle.level_lister.proofs.Kids.{literal_set, skipped_set}
+use Rattle.part_sets.proofs.Children.{literal-fits}
+use Rattle.level_lister.proofs.Children.{literal_set, skipped_set}
 use Rattle.level_lister.proofs.search.Asked.put_set.Goals as goal
 
 pub leaf-requires-clause-var : goal.leaf-requires-clause-var

@@ -6,7 +6,7 @@ use Rattle.level_lister.specs.inner.Skips.{living}
 use Rattle.level_lister.specs.inner.CostSets.{IsCostSet}
 use Rattle.level_lister.specs.inner.NodeSets.{IsNodeSet, IsWholeSet}
 use Rattle.level_lister.proofs.TestCosts.{wider_is}
-use Rattle.level_lister.proofs.Kids.{root_full}
+use Rattle.level_lister.proofs.Children.{root_full}
 use Rattle.level_lister.proofs.search.Asked.put_whole.Goals as goal
 
 pub returns : goal.returns

@@ -14,7 +14,7 @@ use Rattle.session_core.proofs.ShownService.{known-there, case-there}
 use Rattle.session_core.proofs.OneMove.{obeys_move}
 use Rattle.session_core.proofs.sessions.Sessions.ask_graph.Goals as goal
 
--- what is told of a case
+-- what is answered of a case
 abbrev items : Subject → List ℕ → Case → List Item
 items subject session known = line (session ∷ codes "dnnf" ∷ []) ∷ Plain (case_text subject known) ∷ []
 

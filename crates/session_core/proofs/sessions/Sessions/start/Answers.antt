@@ -13,7 +13,7 @@ use Rattle.session_core.specs.inner.Holding.{shown_of}
 use Rattle.session_core.proofs.ShownService.{opened_with, holds_more, obeys_becomes}
 use Rattle.session_core.proofs.sessions.Sessions.start.Goals as goal
 
--- what opens a session comes to, where it is not open
+-- what opens a session comes to, if it is not open
 opened : (shown : Shown) (s : Name) (full : Bool) → entry_of s shown.table ≡ None → full ≡ nat_le shown.limit (length shown.table)
     → outcome_in (served_system shown.subject) shown.limit shown.table s Start ≡ (if full then Declined Full else becomes s (new_entry (served_system shown.subject)) (codes "open"))
 opened shown s full none e =

@@ -1,4 +1,4 @@
--- Kids of a node: which of them are true, and that at most one is. What holds of the nodes below a number, one after the other.
+-- Children of a node: which of them are true, and that at most one is. What holds of the nodes below a number, one after the other.
 use Rattle.std.proofs.Common.{◌≡◌, ℕ, zero, suc, ◌+◌, ◌<◌, ◌≤◌, Bool, true, false, ◌&&◌, List, [], ◌∷◌, map, refl, sym, arith}
 use Rattle.std.specs.Prelude.{nat_lt}
 use Rattle.std.specs.List.{list_any, range_with_len}
@@ -13,11 +13,11 @@ each_below P n step (suc m) most k h = grind (arith, each_below P n step m)
 
 -- ---- any of them
 
--- where f is true of a kid, g is, and something else holds
+-- where f is true of a child, g is, and something else holds
 pub any_more : (Q : Type 0) (f g : ℕ → Bool) (own : ℕ) (kids : List ℕ) → are_below own kids ≡ true → ((k : ℕ) → k < own → f k ≡ true → (g k ≡ true) × Q)
     → list_any (λ b. b) (map f kids) ≡ true → (list_any (λ b. b) (map g kids) ≡ true) × Q
 any_more Q f g own [] below more any = absurd (let no : false ≡ true = any in cc)
-any_more Q f g own (kid ∷ kids) below more any = grind (arith, any_more Q f g own kids)
+any_more Q f g own (child ∷ kids) below more any = grind (arith, any_more Q f g own kids)
 
 -- ---- at most one of them
 
@@ -39,11 +39,11 @@ at_most_one-from bit bs h e = grind arith
 pub at_most_one-less : (f g : ℕ → Bool) (own : ℕ) (kids : List ℕ) → are_below own kids ≡ true → ((k : ℕ) → k < own → f k ≡ true → g k ≡ true)
     → at_most_one (map g kids) ≡ true → at_most_one (map f kids) ≡ true
 at_most_one-less f g own [] below less e = refl
-at_most_one-less f g own (kid ∷ kids) below less e =
-    let parts = and_parts (nat_lt kid own) (are_below own kids) below in
-    at_most_one-from (f kid) (map f kids)
-    (λ any. off (f kid) (g kid) _ (less kid (ltb-true kid own parts.0)) (any_more (Unit {0}) f g own kids parts.1 (λ k h t. (less k h t, tt)) any).0 (not_both (g kid) (map g kids) e))
-    (at_most_one-less f g own kids parts.1 less (at_most_one-tail (g kid) (map g kids) e)) where
+at_most_one-less f g own (child ∷ kids) below less e =
+    let parts = and_parts (nat_lt child own) (are_below own kids) below in
+    at_most_one-from (f child) (map f kids)
+    (λ any. off (f child) (g child) _ (less child (ltb-true child own parts.0)) (any_more (Unit {0}) f g own kids parts.1 (λ k h t. (less k h t, tt)) any).0 (not_both (g child) (map g kids) e))
+    (at_most_one-less f g own kids parts.1 less (at_most_one-tail (g child) (map g kids) e)) where
       off : (a b x : Bool) → (a ≡ true → b ≡ true) → x ≡ true → (b && x) ≡ false → a ≡ false
       off false b x h e f = refl
       off true true true h e f = absurd (let no : true ≡ false = f in cc)

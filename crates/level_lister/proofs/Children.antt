@@ -1,4 +1,4 @@
--- What holds of a node, from what holds of the kids before a place.
+-- What holds of a node, from what holds of the children before a place.
 use Rattle.std.proofs.Common.{◌≡◌, ◌≢◌, ℕ, zero, suc, ◌+◌, ◌-◌, ◌*◌, ◌<◌, ◌≤◌, Bool, true, false, cond, ◌&&◌, ◌||◌, List, [], ◌∷◌, ◌++◌, map, take, length, get_or, refl, ap, sym, ◌∙◌, arith, inl, inr, ⊎_elim}
 use Rattle.std.specs.Prelude.{◌⊎◌, ◌==◌}
 use Rattle.std.specs.List.{list_all, list_any}
@@ -6,7 +6,7 @@ use Rattle.std.proofs.Math.Bool.{and_comm, or_comm, and-true}
 use Rattle.std.proofs.lemmas.Bool.{false_from_ne_true, and_parts, and_from, or_cases, false≢true}
 use Rattle.std.proofs.lemmas.List.{map_more, take_all}
 use Rattle.std.proofs.lemmas.List.Folds.{list_all-append}
-use Rattle.minimiser.proofs.Derivations.{any-kid}
+use Rattle.minimiser.proofs.Derivations.{any-child}
 use Rattle.state_rules.proofs.Members.{In-at}
 use Rattle.state_rules.proofs.Lists.{any-push}
 use Rattle.state_rules.specs.Assignments.{Assignment}
@@ -15,14 +15,14 @@ use Rattle.state_rules.specs.declared.nodes.NodeKind.{NodeKind}
 use Rattle.state_rules.specs.declared.nodes.NodeKind.TheVariants.{Literal, And, Or}
 use Rattle.state_rules.specs.Graphs.{Graph, node_at, truth_by, mention_by, is_true, mentions, at_most_one, apart_at, IsGraph}
 use Rattle.state_rules.proofs.NodesFit.{each_apart}
-use Rattle.state_rules.proofs.Kids.{at_most_one-tail, not_both}
+use Rattle.state_rules.proofs.Children.{at_most_one-tail, not_both}
 use Rattle.conditioner.specs.declared.leaves.Leaf.{Leaf}
 use Rattle.conditioner.specs.declared.leaves.Leaf.TheVariants.{True, False, Open}
 use Rattle.conditioner.specs.Words.{leaf_of}
 use Rattle.minimiser.specs.Costs.{known_at, part_cost}
 use Rattle.part_sets.specs.Numbers.{has_number}
 use Rattle.part_sets.specs.PartSets.{SameBelow}
-use Rattle.part_sets.proofs.Kids.{mention-is, kid-mentions}
+use Rattle.part_sets.proofs.Children.{mention-is, child-mentions}
 use Rattle.node_costs.proofs.Tests.{same_tests}
 use Rattle.level_lister.proofs.PartVariables.{Wider}
 use Rattle.level_lister.specs.inner.CostSets.{IsCostSet}
@@ -34,27 +34,27 @@ use Rattle.level_lister.proofs.TestCosts.{empty_is, false_literal_is, literal_is
 all_push : (bs : List Bool) (b : Bool) → list_all (λ x. x) (bs ++ b ∷ []) ≡ (list_all (λ x. x) bs && b)
 all_push bs b = list_all-append (λ x. x) bs (b ∷ []) ∙ ap (λ c. list_all (λ x. x) bs && c) (and-true b)
 
--- kids of which at most one is 1: not both one and one before it
+-- children of which at most one is 1: not both one and one before it
 pub apart_from : (f : ℕ → Bool) (kids : List ℕ) (j : ℕ) → at_most_one (map f kids) ≡ true → j < length kids → (list_any (λ x. x) (map f (take j kids)) && f (get_or kids j 0)) ≡ false
 apart_from f [] j e lt = absurd (omega arith)
 apart_from f (k ∷ kids) zero e lt = refl
 apart_from f (k ∷ kids) (suc j) e lt = false_from_ne_true ((f k || list_any (λ x. x) (map f (take j kids))) && f (get_or kids j 0)) (λ h.
     let p = and_parts (f k || list_any (λ x. x) (map f (take j kids))) (f (get_or kids j 0)) h in ⊎_elim
-    (λ a. false≢true (sym (not_both (f k) (map f kids) e) ∙ and_from _ _ a (any-kid f kids (get_or kids j 0) (In-at kids j 0 (omega arith)) p.1)))
+    (λ a. false≢true (sym (not_both (f k) (map f kids) e) ∙ and_from _ _ a (any-child f kids (get_or kids j 0) (In-at kids j 0 (omega arith)) p.1)))
     (λ b. false≢true (sym (apart_from f kids j (at_most_one-tail (f k) (map f kids) e) (omega arith)) ∙ and_from _ _ b p.1))
     (or_cases (f k) (list_any (λ x. x) (map f (take j kids))) p.0))
 
 module _ (graph : Graph) (at : ℕ) (kids : List ℕ) (ok : IsGraph graph) (inside : at < length graph.nodes) (are : kids ≡ (node_at graph.nodes at).kids) where
   -- one and those before it share no variable
-  pub kids_apart : (j : ℕ) → (node_at graph.nodes at).what ≡ And → j < length kids → (v : ℕ) → (list_any (λ b. b) (map (mentions graph.nodes v) (take j kids)) && mentions graph.nodes v (get_or kids j 0)) ≡ false
-  kids_apart j what lt v = apart_from (mentions graph.nodes v) kids j ((λ i. apart_at (mentions graph.nodes v) (sym what i) (are i)) ∙ each_apart (mentions graph.nodes v) graph.nodes at (ok.nodes.apart v) inside) lt
+  pub children_apart : (j : ℕ) → (node_at graph.nodes at).what ≡ And → j < length kids → (v : ℕ) → (list_any (λ b. b) (map (mentions graph.nodes v) (take j kids)) && mentions graph.nodes v (get_or kids j 0)) ≡ false
+  children_apart j what lt v = apart_from (mentions graph.nodes v) kids j ((λ i. apart_at (mentions graph.nodes v) (sym what i) (are i)) ∙ each_apart (mentions graph.nodes v) graph.nodes at (ok.nodes.apart v) inside) lt
 
-  pub apart_kids : (j : ℕ) → (node_at graph.nodes at).what ≡ And → j < length kids → (v : ℕ) → (mentions graph.nodes v (get_or kids j 0) && list_any (λ b. b) (map (mentions graph.nodes v) (take j kids))) ≡ false
-  apart_kids j what lt v = and_comm (mentions graph.nodes v (get_or kids j 0)) (list_any (λ b. b) (map (mentions graph.nodes v) (take j kids))) ∙ kids_apart j what lt v
+  pub apart_children : (j : ℕ) → (node_at graph.nodes at).what ≡ And → j < length kids → (v : ℕ) → (mentions graph.nodes v (get_or kids j 0) && list_any (λ b. b) (map (mentions graph.nodes v) (take j kids))) ≡ false
+  apart_children j what lt v = and_comm (mentions graph.nodes v (get_or kids j 0)) (list_any (λ b. b) (map (mentions graph.nodes v) (take j kids))) ∙ children_apart j what lt v
 
   -- one that lacks no part of an Or
-  pub kid_full : (parts j : ℕ) → (node_at graph.nodes at).what ≡ Or → j < length kids → SameBelow graph parts at → Wider parts (λ v. mentions graph.nodes v (get_or kids j 0)) (λ v. mentions graph.nodes v at)
-  kid_full parts j what lt below = grind (arith, kid-mentions)
+  pub child_full : (parts j : ℕ) → (node_at graph.nodes at).what ≡ Or → j < length kids → SameBelow graph parts at → Wider parts (λ v. mentions graph.nodes v (get_or kids j 0)) (λ v. mentions graph.nodes v at)
+  child_full parts j what lt below = grind (arith, child-mentions)
 
   module _ (skips : List ℕ) (lives : get_or skips at 0 ≡ 0) where
     abbrev T : ℕ → Assignment → Bool
@@ -63,7 +63,7 @@ module _ (graph : Graph) (at : ℕ) (kids : List ℕ) (ok : IsGraph graph) (insi
     abbrev M : ℕ → ℕ → Bool
     M k v = mentions graph.nodes v k
 
-    -- what the node says, by its kids
+    -- what the node says, by its children
     truth-is : (a : Assignment) → T at a ≡ truth_by a (node_at graph.nodes at).what (map (λ k. T k a) kids)
     truth-is a = living-is graph skips ok at inside lives a ∙ ap (λ ks. truth_by a (node_at graph.nodes at).what (map (λ k. T k a) ks)) (sym are)
 
@@ -73,7 +73,7 @@ module _ (graph : Graph) (at : ℕ) (kids : List ℕ) (ok : IsGraph graph) (insi
     mention-of : (what : NodeKind) → (node_at graph.nodes at).what ≡ what → (v : ℕ) → mention_by v what (map (mentions graph.nodes v) kids) ≡ M at v
     mention-of what e v = sym (mention-is graph at kids ok inside are v ∙ ap (λ w. mention_by v w (map (mentions graph.nodes v) kids)) e)
 
-    -- what holds of a test and of variables, of one kid after the other, and of the node
+    -- what holds of a test and of variables, of one child after the other, and of the node
     module _ (Is : (Assignment → Bool) → (ℕ → Bool) → Type 0) where
       pub literal_at : (var : ℕ) (positive : Bool) → Literal positive var ≡ (node_at graph.nodes at).what → Is (λ a. same_bit positive (a var)) (λ v. var == v) → Is (λ a. is_true (living graph.nodes skips) at a) (λ v. mentions graph.nodes v at)
       literal_at var positive what is = same_tests Is (truth-of (Literal positive var) (sym what)) (mention-of (Literal positive var) (sym what)) is
@@ -118,6 +118,6 @@ module _ (graph : Graph) (at : ℕ) (kids : List ℕ) (ok : IsGraph graph) (insi
 pub skipped_set : (graph : Graph) (skips words costs : List ℕ) (at : ℕ) (set : List ℕ) → IsGraph graph → at < length graph.nodes → get_or skips at 0 ≢ 0 → ((n : ℕ) → has_number set n ≡ false) → IsNodeSet graph skips words costs at set
 skipped_set graph skips words costs at set ok inside ne none = same_tests (λ t m. IsCostSet words costs t m set) (λ a. sym (skipped-is graph skips ok at inside ne a)) (λ v. refl) (empty_is words costs (λ v. mentions graph.nodes v at) set none)
 
--- the last node, where it lacks no part
+-- the last node, if it lacks no part
 pub root_full : (graph : Graph) (parts : ℕ) → ((v : ℕ) → 1 ≤ v → v ≤ parts → mentions graph.nodes v (length graph.nodes - 1) ≡ true) → Wider parts (λ v. mentions graph.nodes v (length graph.nodes - 1)) (λ v. true)
 root_full graph parts all = record { within = λ v e. refl; same = λ v l h. all v l (omega arith) }

@@ -24,4 +24,3 @@ numbered ReadFailed = refl
 numbered WriteFailed = refl
 numbered NoMemory = refl
 numbered CutShort = refl
-

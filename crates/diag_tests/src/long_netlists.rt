@@ -190,10 +190,7 @@ pub static LONG_NETLISTS: [LongRow; 25] = [
     },
     LongRow {
         name: "f.bench",
-        text: Long {
-            count: 17,
-            ..WIDE
-        },
+        text: Long { count: 17, ..WIDE },
         words: &["serve", "f.bench", "--frames", "64"],
         script: NOTHING,
         out: b"error: clauses 274176 above 262144\n",

@@ -154,7 +154,11 @@ impl Maker {
 }
 
 /// Adds to children the nodes to which numbers lead, one of each level.
-pub(crate) fn taken(kids: Children, numbers: &[u32], levels: &[Vec<u32>]) -> Result<Children, AllocError>
+pub(crate) fn taken(
+    kids: Children,
+    numbers: &[u32],
+    levels: &[Vec<u32>],
+) -> Result<Children, AllocError>
     requires { AreHeld levels.now numbers.now }
     ensures { IfOk result (λ all. all.items ≡ kids.items ++ taken levels.now numbers.now) }
 {

@@ -92,4 +92,3 @@ given-stays_out pool number other ne out = get_or-set_other pool.out number othe
 -- the one that was carved is the region's, and every other one stays so
 pub carved-held : (region : Carved) (run : Span) → Contains (carved region run).runs run
 carved-held region run = Contains-append_right region.runs (run ∷ []) run (0, omega arith, refl)
-

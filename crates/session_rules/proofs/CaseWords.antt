@@ -132,4 +132,3 @@ module _ (parts wires vars : ℕ) (words : List ℕ) (are : AreWords parts wires
 -- ---- the graph's answers under the words are those of its system
 
 module _ (parts wires : List Name) (costs : List ℕ) (graph : Graph) (vars : ℕ) (words : List ℕ) (priced : length costs ≡ length parts) (wide : graph.vars ≡ vars) (are : AreWords (length parts) (length wires) vars words) where
-

@@ -47,7 +47,7 @@ pub record HasDetails (choose : ClauseList → Option Forest) (form : Option For
   pub read_fault : status ≢ WriteFailed → (status ≡ ReadFailed) ↔ ((shelf.faults < new_shelf.faults) ⊎ (input.faults < new_input.faults))
   -- With any other status no read failed.
   pub no_fault : status ≢ ReadFailed → status ≢ WriteFailed → (new_shelf.faults ≡ shelf.faults) × (new_input.faults ≡ input.faults)
-  -- Otherwise it is `Usage` exactly if the words have no form.
+  -- Without a failed write it is `Usage` exactly if the words have no form.
   pub usage : status ≢ WriteFailed → (status ≡ Usage) ↔ (form ≡ None)
   -- If the file is not read, the script is not begun, and one line is written.
   pub no_file : shelf.faults < new_shelf.faults → IsIdle input new_input × Gives (says read_error ReadFailed) status out.got new_out.got

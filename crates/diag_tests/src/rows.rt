@@ -32,7 +32,7 @@ pub fn answer(rt: &impl Abort, alloc: Global, row: &Row<'_>, meeting: &Meeting) 
     let words = row.words;
     let ran = run(alloc, row.name, row.text, words, row.script, meeting)?;
     let out = ran.out.as_slice();
-    if !words.is_empty() && words[0] == "plan" {
+    if row.status == 0 && !words.is_empty() && words[0] == "plan" {
         assert!(rt; out.ends_with(row.out), "{words:?}");
     } else {
         assert_eq!(rt; out, row.out, "{words:?}");

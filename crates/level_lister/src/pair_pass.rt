@@ -43,7 +43,7 @@ fn pair_at(values: &[u32], k: usize) -> Pair
     }
 }
 
-// What the words of the nodes are put from: a graph, words of its variables, groups, and which nodes are skipped.
+// What a pass puts the words of the nodes from: a graph, words of its variables, groups, and which nodes are skipped.
 #[derive(Drop)]
 struct PairPass<'a> {
     levels: &'a Levels,
@@ -72,7 +72,7 @@ impl Levels {
 }
 
 impl Asked<'_> {
-    // Puts the two words of each node, and brings those of all parts.
+    // Puts the two words of each node, and gives those of all parts.
     pub(crate) fn put_pairs(&self, groups: Groups, values: &mut [u32]) -> Pair
         requires top { self.now.levels.now.top < 32 }
         requires size { 0 < groups.size }
@@ -177,7 +177,7 @@ impl PairPass<'_> {
         pair
     }
 
-    // Puts the two words of each node, and brings those of all parts.
+    // Puts the two words of each node, and gives those of all parts.
     fn put_all(&self, values: &mut [u32]) -> Pair
         requires room { 2 * length self.now.graph.now.nodes ≤ length values.old }
         ensures { TellsWhole self.now.graph.now self.now.skips.now self.now.words.now self.now.levels.now.costs self.now.levels.now.top self.now.groups result }

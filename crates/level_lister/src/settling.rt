@@ -24,7 +24,7 @@ const NO_GROUPS: Groups = Groups {
 };
 
 impl Asked<'_> {
-    // Whether two words a node are there, if two words say all that is listed of a node.
+    // Whether there are two words for each node, and two words say all that is listed of a node.
     fn has_pairs(&self, work: &[u32]) -> bool
         ensures few { result ≡ true → self.now.levels.now.top < 32 }
         ensures room { result ≡ true → 2 * length self.now.graph.now.nodes ≤ length work.now }
@@ -32,7 +32,7 @@ impl Asked<'_> {
         self.levels.top() < 32 && 2 * self.graph.len() as usize <= work.len()
     }
 
-    // Puts the set of the costs up to the greatest that the states have which agree with the words.
+    // Puts the set of the costs of the states that agree with the words, up to the greatest cost that is listed.
     fn put_costs(&self, set: &mut [u32], work: &mut [u32])
         requires set { length set.old ≡ cost_words self.now.levels.now.top }
         requires work { (length self.now.graph.now.nodes + 1) * cost_words self.now.levels.now.top ≤ length work.old }

@@ -7,7 +7,7 @@ use node_store::Graph;
 use state_rules::NodeKind;
 
 /// Outside each node, what the rest of a derivation of the root costs at least, from the values that [`least`](crate::least) left: one
-/// sweep over the nodes, from the root down.
+/// sweep over the nodes, from the root down. Outside a node that has no value the number says nothing.
 pub fn put_outside_costs(graph: &Graph, values: &[u32], outside: &mut [u32])
     requires values { length values.now ≡ length graph.now.nodes }
     requires room { length outside.old ≡ length graph.now.nodes }

@@ -8,8 +8,8 @@ ghost use Rattle.session_rules.specs.CaseSizes.{HasCasesOf};
 ghost use Rattle.session_rules.specs.GraphSystems.{system_of};
 ghost use Rattle.session_core.specs.Services.{Shown, IsSound, SpellReplies, served_system, moves_of};
 
-/// What a service writes is one text: where the moves of a script were made twice, from one table and after the same bytes, the
-/// same bytes stand, and the same table.
+/// What a service writes is one text: if the moves of a script were made twice, from one table and after the same bytes, they left the
+/// same bytes and the same table.
 pub fn one_text()
     ensures { (shown : Shown) (old new other : Table) (lines : List (List ℕ)) (bytes : List ℕ) (a b : Option (List ℕ))
         → Makes old new (script_moves (moves_of shown) old lines) (Some bytes) a
@@ -18,8 +18,8 @@ pub fn one_text()
 {}
 
 /// What a service answers a session, byte for byte, is what it answers it alone: wherever it opens among some lines, its own lines
-/// from there to its end have the answers that they have with no other line before, between or after them, if one session may be
-/// open.
+/// from there to its end have the answers that they have alone, with room for one session and no other line before, between or after
+/// them.
 pub fn told_alone()
     ensures { (shown : Shown) (table : Table) (lines : List (List ℕ))
         → AreAnsweredAlone (served_system shown.subject) shown.limit table lines }

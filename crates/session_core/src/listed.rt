@@ -19,7 +19,7 @@ pub(crate) enum Listed {
 pub(crate) enum NextState {
     /// A state, and its cost if the listing shows costs.
     Found(Option<u32>),
-    /// There are states, and none is later of those that are listed.
+    /// There are states, and none of those listed is later.
     End,
     /// No state agrees with the case.
     Inconsistent,

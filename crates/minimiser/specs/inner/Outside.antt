@@ -26,7 +26,8 @@ pub record HasOutsideParent (nodes : List Node) (values outside : List ℕ) (nod
   pub child : is_child (node_at nodes parent).kids node ≡ true
   pub cheap : outside_below nodes values outside parent node ≤ slice_index outside node
 
--- The least costs outside all nodes, of which those from one on have lowered their children'. Costs from the limit on are none.
+-- The least costs outside all nodes that have a value, of which those from one on have lowered their children's. Costs from the limit
+-- on are none.
 pub record AreOutsideCosts (nodes : List Node) (values outside : List ℕ) (from : ℕ) : Type 0 where
   pub root : slice_index outside (length nodes - 1) ≡ 0
   pub down : (parent child : ℕ) → from ≤ parent → parent < length nodes → is_child (node_at nodes parent).kids child ≡ true

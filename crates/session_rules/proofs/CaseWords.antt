@@ -3,9 +3,7 @@ use Rattle.std.proofs.Common.{◌≡◌, ℕ, zero, suc, ◌+◌, ◌-◌, ◌�
 use Rattle.std.proofs.Math.Seq.{drop-append_seam, take-append_seam}
 use Rattle.std.proofs.lemmas.List.{length-map, length-set, length-replicate, length-drop, length-take-le, map-set, set-append_left, replicate-append-replicate}
 use Rattle.std.proofs.lemmas.List.Elements.{All-replicate, All-set}
-use Rattle.text_rules.specs.Names.{Name}
 use Rattle.state_rules.specs.Cases.{Case, empty_case}
-use Rattle.state_rules.specs.Graphs.{Graph}
 use Rattle.conditioner.specs.Words.{known_of, word_of_known}
 use Rattle.session_rules.specs.GraphSystems.{case_words}
 use Rattle.session_rules.specs.CaseWords.{case_of_words, AreCaseWords, AreWords}
@@ -128,7 +126,3 @@ module _ (parts wires vars : ℕ) (words : List ℕ) (are : AreWords parts wires
 
     pub part-are : AreWords parts wires vars (set words part (word_of_known k))
     part-are = written-are part k case_held part-written (length-set the_case.held part k ∙ length-held) length-seen
-
--- ---- the graph's answers under the words are those of its system
-
-module _ (parts wires : List Name) (costs : List ℕ) (graph : Graph) (vars : ℕ) (words : List ℕ) (priced : length costs ≡ length parts) (wide : graph.vars ≡ vars) (are : AreWords (length parts) (length wires) vars words) where

@@ -62,7 +62,7 @@ fn summary_at(alloc: Global, places: u32) -> Result<Summary, Refusal>
 }
 
 // Puts a line of a word and the names of the faulty parts.
-#[tactic(auto, using(device_files::proofs::Failing::line_replies))]
+#[tactic(auto, using(device_files::proofs::FailedWrites::line_replies))]
 fn put_names<O: Sink>(
     out: &mut O,
     what: &[u8],
@@ -96,7 +96,7 @@ fn put_listed<O: Sink>(
 }
 
 // That no state agrees with what was seen.
-#[tactic(auto, using(device_files::proofs::Failing::line_replies))]
+#[tactic(auto, using(device_files::proofs::FailedWrites::line_replies))]
 fn put_inconsistent<O: Sink>(out: &mut O) -> Result<(), WriteFailed>
     ensures text { Replies (O.got out.old) (O.got out.new) result inconsistent_items }
     ensures cause { HasCause (O.faults out.old) (O.faults out.new) result }
@@ -143,7 +143,7 @@ fn put_summary<O: Sink>(out: &mut O, summary: &Summary) -> Result<(), WriteFaile
 }
 
 // Prints a summary and answers `Done`, or `WriteFailed`.
-#[tactic(auto, using(device_files::proofs::Failing::gives_items))]
+#[tactic(auto, using(device_files::proofs::FailedWrites::gives_items))]
 fn tell_summary<O: Sink>(out: &mut O, summary: &Summary) -> Status
     requires in_step { IsInStep summary.now }
     requires faults { O.faults out.old < 2 ^ 64 - 1 }

@@ -43,7 +43,7 @@ pub fn say_usage<O: Sink>(out: &mut O) -> Status
 }
 
 /// Prints that something has more bytes than may be and answers the status, `WriteFailed` if the write failed.
-#[tactic(auto, using(device_files::proofs::Failing::gives_line))]
+#[tactic(auto, using(device_files::proofs::FailedWrites::gives_line))]
 pub(crate) fn say_too_long<O: Sink>(out: &mut O, what: &[u8], limit: u64, status: Status) -> Status
     requires faults { O.faults out.old < 2 ^ 64 - 1 }
     requires status { status ≢ Status.WriteFailed }

@@ -7,7 +7,7 @@ use Rattle.state_rules.specs.Ranking.{cost, least_of, is_at_most, is_before, res
 use Rattle.state_rules.specs.Graphs.{Graph}
 use Rattle.state_rules.proofs.Members.{In, In-at, In-filter, In-filtered, least-from}
 use Rattle.state_rules.proofs.Order.{not_both_before, Sorted, Sorted-states, Sorted-filter}
-use Rattle.conditioner.specs.Models.{has_model, fits_words, models, least_under, diagnoses_under}
+use Rattle.conditioner.specs.Models.{has_model, fits_evidence, models, least_under, diagnoses_under}
 use Rattle.diagnosis_lister.specs.declared.listing.Step.{Step}
 use Rattle.diagnosis_lister.specs.declared.listing.Step.TheVariants.{Found, End, Inconsistent}
 use Rattle.diagnosis_lister.specs.Listing.{step_of}
@@ -52,27 +52,27 @@ some_in x (y ∷ xs) m = omega arith
 
 -- ---- the diagnoses of a graph
 
-module _ (graph : Graph) (words costs : List ℕ) where
+module _ (graph : Graph) (evidence costs : List ℕ) where
   abbrev ms : List (List Bool)
-  ms = models graph words (length costs)
+  ms = models graph evidence (length costs)
 
   abbrev ds : List (List Bool)
-  ds = diagnoses_under graph words costs
+  ds = diagnoses_under graph evidence costs
 
-  sorted : Sorted (diagnoses_under graph words costs)
-  sorted = Sorted-filter (λ h. is_at_most (cost costs h) (least_under graph words costs)) ms (Sorted-filter (has_model graph (fits_words words) (length costs)) (states (length costs)) (Sorted-states (length costs)))
+  sorted : Sorted (diagnoses_under graph evidence costs)
+  sorted = Sorted-filter (λ h. is_at_most (cost costs h) (least_under graph evidence costs)) ms (Sorted-filter (has_model graph (fits_evidence evidence) (length costs)) (states (length costs)) (Sorted-states (length costs)))
 
   -- if there is a least cost, there is one
-  pub some_diagnosis : (fewest : ℕ) → Some fewest ≡ least_under graph words costs → 0 < length (diagnoses_under graph words costs)
+  pub some_diagnosis : (fewest : ℕ) → Some fewest ≡ least_under graph evidence costs → 0 < length (diagnoses_under graph evidence costs)
   some_diagnosis fewest is =
       let all = keeps_all (λ _. true) ms (λ y m. refl) in
       let one = least-from (cost costs) (λ _. true) fewest ms (ap (λ hs. least_of (map (cost costs) hs)) all ∙ sym is) in
-      let low : is_at_most (cost costs one.item) (least_under graph words costs) ≡ true = (let at : is_at_most fewest (Some fewest) ≡ true = grind arith in ap (λ n. is_at_most n (least_under graph words costs)) one.is_size ∙ ap (is_at_most fewest) (sym is) ∙ at) in
-      some_in one.item ds (In-filtered (λ h. is_at_most (cost costs h) (least_under graph words costs)) one.item ms one.is_in low)
+      let low : is_at_most (cost costs one.item) (least_under graph evidence costs) ≡ true = (let at : is_at_most fewest (Some fewest) ≡ true = grind arith in ap (λ n. is_at_most n (least_under graph evidence costs)) one.is_size ∙ ap (is_at_most fewest) (sym is) ∙ at) in
+      some_in one.item ds (In-filtered (λ h. is_at_most (cost costs h) (least_under graph evidence costs)) one.item ms one.is_in low)
 
   -- the point is the last of so many
-  module _ (count : ℕ) (point : List Bool) (some : 1 ≤ count) (there : count ≤ length (diagnoses_under graph words costs)) (is : point ≡ get_or (diagnoses_under graph words costs) (count - 1) []) where
-    behind : rest (diagnoses_under graph words costs) (Some point) ≡ drop count (diagnoses_under graph words costs)
+  module _ (count : ℕ) (point : List Bool) (some : 1 ≤ count) (there : count ≤ length (diagnoses_under graph evidence costs)) (is : point ≡ get_or (diagnoses_under graph evidence costs) (count - 1) []) where
+    behind : rest (diagnoses_under graph evidence costs) (Some point) ≡ drop count (diagnoses_under graph evidence costs)
     behind =
         let back : suc (count - 1) ≡ count = omega (arith, some) in
         ap (λ p. filter (is_before p) ds) is ∙ rest-at ds (count - 1) [] sorted (omega (arith, some, there)) ∙ ap (λ n. drop n ds) back
@@ -82,14 +82,14 @@ module _ (graph : Graph) (words costs : List ℕ) where
     some_later (h ∷ hs) [] found = absurd (cc)
     some_later (h ∷ hs) (d ∷ later) found = omega arith
 
-    pub one_more : Found ≡ step_of (models graph words (length costs)) (rest (diagnoses_under graph words costs) (Some point)) → count + 1 ≤ length (diagnoses_under graph words costs)
+    pub one_more : Found ≡ step_of (models graph evidence (length costs)) (rest (diagnoses_under graph evidence costs) (Some point)) → count + 1 ≤ length (diagnoses_under graph evidence costs)
     one_more found =
         let left : 0 < length (drop count ds) = subst (λ later. 0 < length later) behind (some_later ms _ found) in
         let long = length-drop count ds in
         omega (arith, left, long)
 
-    pub next_is : (new d : List Bool) → count + 1 ≤ length (diagnoses_under graph words costs) → new ≡ get_or (rest (diagnoses_under graph words costs) (Some point)) 0 d
-        → new ≡ get_or (diagnoses_under graph words costs) (count + 1 - 1) []
+    pub next_is : (new d : List Bool) → count + 1 ≤ length (diagnoses_under graph evidence costs) → new ≡ get_or (rest (diagnoses_under graph evidence costs) (Some point)) 0 d
+        → new ≡ get_or (diagnoses_under graph evidence costs) (count + 1 - 1) []
     next_is new d more next =
         let back : count ≡ count + 1 - 1 = omega arith in
         next ∙ ap (λ later. get_or later 0 d) behind ∙ drop_first count ds d [] (omega (arith, more)) ∙ ap (λ n. get_or ds n []) back
@@ -107,11 +107,11 @@ module _ (graph : Graph) (words costs : List ℕ) where
     some_model : 0 < length ms
     some_model =
         let m = In-at ds (count - 1) [] (omega (arith, some, there)) in
-        some_in (get_or ds (count - 1) []) ms (In-filter (λ h. is_at_most (cost costs h) (least_under graph words costs)) (get_or ds (count - 1) []) ms m).0
+        some_in (get_or ds (count - 1) []) ms (In-filter (λ h. is_at_most (cost costs h) (least_under graph evidence costs)) (get_or ds (count - 1) []) ms m).0
 
     -- there is no further one
-    pub all_listed : (step : Step) → step ≡ step_of (models graph words (length costs)) (rest (diagnoses_under graph words costs) (Some point)) → (step ≡ End) ⊎ (step ≡ Inconsistent)
-        → length (diagnoses_under graph words costs) ≡ count
+    pub all_listed : (step : Step) → step ≡ step_of (models graph evidence (length costs)) (rest (diagnoses_under graph evidence costs) (Some point)) → (step ≡ End) ⊎ (step ≡ Inconsistent)
+        → length (diagnoses_under graph evidence costs) ≡ count
     all_listed step is (inl ended) =
         let left : length (drop count ds) ≡ 0 = ap length (sym behind) ∙ none_later ms _ (sym ended ∙ is) in
         let long = length-drop count ds in
@@ -119,8 +119,8 @@ module _ (graph : Graph) (words costs : List ℕ) where
     all_listed step is (inr none) = absurd (no_state ms _ (sym none ∙ is) some_model)
 
     -- and the point stays
-    pub stays : (new : List Bool) → length (diagnoses_under graph words costs) ≡ count → new ≡ get_or (rest (diagnoses_under graph words costs) (Some point)) 0 point
-        → new ≡ get_or (diagnoses_under graph words costs) (count - 1) []
+    pub stays : (new : List Bool) → length (diagnoses_under graph evidence costs) ≡ count → new ≡ get_or (rest (diagnoses_under graph evidence costs) (Some point)) 0 point
+        → new ≡ get_or (diagnoses_under graph evidence costs) (count - 1) []
     stays new all next =
         let nothing : length (drop count ds) ≡ 0 = (let long = length-drop count ds in omega (arith, long, all)) in
         next ∙ ap (λ later. get_or later 0 point) behind ∙ of_none (drop count ds) nothing ∙ is where

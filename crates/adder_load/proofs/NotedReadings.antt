@@ -6,10 +6,10 @@ use Rattle.std.proofs.lemmas.Bool.{ne_eqb, eq-eqb}
 use Rattle.std.proofs.lemmas.List.Quantifiers.{position-Some}
 use Rattle.text_rules.specs.Names.{Name, same_name}
 use Rattle.device_model.specs.Devices.{Device, place_of}
-use Rattle.conditioner.specs.Words.{word_of}
-use Rattle.session_rules.specs.CaseWords.{AreWords}
-use Rattle.session_rules.specs.GraphSystems.{case_words}
-use Rattle.session_rules.proofs.CaseWords.{wire-says, wire-are, zeros-say, zeros-are, words-of_case}
+use Rattle.conditioner.specs.Evidence.{word_of}
+use Rattle.session_rules.specs.CaseEvidence.{IsEvidence}
+use Rattle.session_rules.specs.GraphSystems.{case_evidence}
+use Rattle.session_rules.proofs.CaseEvidence.{wire-says, wire-are, zeros-say, zeros-are, words-of_case}
 use Rattle.adder_load.specs.Readings.{Reading, readings, with_reading, with_readings, adder_case}
 use Rattle.adder_load.specs.inner.Noting.{case_in, Notes}
 
@@ -25,7 +25,7 @@ append wires seen (x ∷ xs) ys = append wires (with_reading wires seen x) xs ys
 -- one after the other
 pub notes-append : (device : Device) (old between new : List ℕ) (xs ys : List Reading) → Notes device old between xs → Notes device between new ys → Notes device old new (xs ++ ys)
 notes-append device old between new xs ys first then = record {
-  words = subst (λ n. AreWords (length device.parts) (length device.wires) n new) first.words.long then.words;
+  evidence = subst (λ n. IsEvidence (length device.parts) (length device.wires) n new) first.evidence.long then.evidence;
   seen = then.seen ∙ ap (λ seen. with_readings device.wires seen ys) first.seen ∙ append device.wires (case_in device old).seen xs ys;
   held = then.held ∙ first.held;
 }
@@ -33,31 +33,31 @@ notes-append device old between new xs ys first then = record {
 pub wire_within : (device : Device) (name : Name) (wire : ℕ) → Some wire ≡ place_of name device.wires → wire < length device.wires
 wire_within device name wire at = (position-Some (same_name name) device.wires wire [] (sym at)).0
 
-module _ (device : Device) (words : List ℕ) (are : AreWords (length device.parts) (length device.wires) (length words) words) where
-  pub noted : (name : Name) (bit : Bool) (wire var : ℕ) (new : List ℕ) → Some wire ≡ place_of name device.wires → var ≡ length device.parts + wire + 1 → new ≡ slice_set words (var - 1) (word_of bit)
-      → Notes device words new ((name, bit) ∷ [])
+module _ (device : Device) (evidence : List ℕ) (are : IsEvidence (length device.parts) (length device.wires) (length evidence) evidence) where
+  pub noted : (name : Name) (bit : Bool) (wire var : ℕ) (new : List ℕ) → Some wire ≡ place_of name device.wires → var ≡ length device.parts + wire + 1 → new ≡ slice_set evidence (var - 1) (word_of bit)
+      → Notes device evidence new ((name, bit) ∷ [])
   noted name bit wire var new at is written =
       let within = wire_within device name wire at in
       let place : var - 1 ≡ length device.parts + wire = omega (arith, is) in
-      let same : new ≡ set words (length device.parts + wire) (word_of bit) = written ∙ ap (λ n. set words n (word_of bit)) place in
-      let says = wire-says (length device.parts) (length device.wires) (length words) words are wire within (Some bit) in
+      let same : new ≡ set evidence (length device.parts + wire) (word_of bit) = written ∙ ap (λ n. set evidence n (word_of bit)) place in
+      let says = wire-says (length device.parts) (length device.wires) (length evidence) evidence are wire within (Some bit) in
       let what = ap (case_in device) same ∙ says in
       record {
-        words = subst (AreWords (length device.parts) (length device.wires) (length words)) (sym same) (wire-are (length device.parts) (length device.wires) (length words) words are wire within (Some bit));
-        seen = ap (λ known. known.seen) what ∙ ap (λ o. option_map_or (λ w. set (case_in device words).seen w (Some bit)) o (case_in device words).seen) at;
+        evidence = subst (IsEvidence (length device.parts) (length device.wires) (length evidence)) (sym same) (wire-are (length device.parts) (length device.wires) (length evidence) evidence are wire within (Some bit));
+        seen = ap (λ known. known.seen) what ∙ ap (λ o. option_map_or (λ w. set (case_in device evidence).seen w (Some bit)) o (case_in device evidence).seen) at;
         held = ap (λ known. known.held) what;
       }
 
--- ---- all readings, in words that are all 0
+-- ---- all readings, in evidence that is all 0
 
-module _ (device : Device) (words : List ℕ) (none : words ≡ replicate (length words) 0) (room : length device.parts + length device.wires ≤ length words) where
-  pub zeros : AreWords (length device.parts) (length device.wires) (length words) words
-  zeros = subst (AreWords (length device.parts) (length device.wires) (length words)) (sym none) (zeros-are (length device.parts) (length device.wires) (length words) room)
+module _ (device : Device) (evidence : List ℕ) (none : evidence ≡ replicate (length evidence) 0) (room : length device.parts + length device.wires ≤ length evidence) where
+  pub zeros : IsEvidence (length device.parts) (length device.wires) (length evidence) evidence
+  zeros = subst (IsEvidence (length device.parts) (length device.wires) (length evidence)) (sym none) (zeros-are (length device.parts) (length device.wires) (length evidence) room)
 
-  pub all_noted : (places : ℕ) (new : List ℕ) (what : List Reading) → what ≡ readings places → Notes device words new what → new ≡ case_words (length words) (adder_case device places)
+  pub all_noted : (places : ℕ) (new : List ℕ) (what : List Reading) → what ≡ readings places → Notes device evidence new what → new ≡ case_evidence (length evidence) (adder_case device places)
   all_noted places new what all notes =
-      let nothing = ap (case_in device) none ∙ zeros-say (length device.parts) (length device.wires) (length words) room in
+      let nothing = ap (case_in device) none ∙ zeros-say (length device.parts) (length device.wires) (length evidence) room in
       let seen = notes.seen ∙ (λ i. with_readings device.wires (nothing i).seen (all i)) in
       let held = notes.held ∙ ap (λ known. known.held) nothing in
-      sym (words-of_case (length device.parts) (length device.wires) (length words) new notes.words)
-      ∙ (λ i. case_words (length words) (record { seen = seen i; held = held i }))
+      sym (words-of_case (length device.parts) (length device.wires) (length evidence) new notes.evidence)
+      ∙ (λ i. case_evidence (length evidence) (record { seen = seen i; held = held i }))

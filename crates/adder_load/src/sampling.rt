@@ -1,11 +1,11 @@
 ghost use Rattle.std.specs.Prelude.{◌≡◌, ◌-◌, ◌<◌, ◌≤◌, [], length, take, All, slice_index_or, IfSome};
 ghost use Rattle.std.specs.Option.{option_map};
 ghost use Rattle.conditioner.specs.Models.{least_under, diagnoses_under, total_cost};
-ghost use Rattle.conditioner.specs.Words.{bits_of};
-ghost use Rattle.fault_graph.specs.Distilled.{Serves};
+ghost use Rattle.conditioner.specs.Evidence.{bits_of};
+ghost use Rattle.fault_graph.specs.Minimised.{Serves};
 
 use diagnosis_lister::Step;
-use fault_graph::Distiller;
+use fault_graph::MinimisedGraph;
 use minimiser::{Steps, TOTAL_LIMIT};
 use node_store::Graph;
 use std::sync::ledger::Ledger;
@@ -21,17 +21,17 @@ pub struct Found {
 
 // Lists the diagnoses after the first one, up to so many in all, and gives how many there are then. The last one is in the state.
 fn list_on<L: Ledger>(
-    distiller: &mut Distiller,
+    minimised_graph: &mut MinimisedGraph,
     graph: &Graph,
-    words: &mut [u32],
+    evidence: &mut [u32],
     costs: &[u32],
     values: &mut [u32],
     state: &mut [u32],
     most: u32,
     steps: &mut Steps<L>,
 ) -> u32
-    requires long { length words.old ≡ graph.now.vars }
-    requires words { All (λ w. w < 3) words.old }
+    requires long { length evidence.old ≡ graph.now.vars }
+    requires evidence { All (λ w. w < 3) evidence.old }
     requires parts { length costs.now ≤ graph.now.vars }
     requires total { total_cost costs.now < TOTAL_LIMIT }
     requires dear { All (λ c. 0 < c) costs.now }
@@ -39,17 +39,17 @@ fn list_on<L: Ledger>(
     requires state { length state.old ≡ length costs.now }
     requires state_words { All (λ s. s < 2) state.old }
     requires some { 1 ≤ most }
-    requires serves { Serves graph.now costs.now distiller.old }
-    requires there { 0 < length (diagnoses_under graph.now words.old costs.now) }
-    requires first { bits_of state.old ≡ slice_index_or (diagnoses_under graph.now words.old costs.now) 0 [] }
-    ensures listed { result ≡ length (take most (diagnoses_under graph.now words.old costs.now)) }
-    ensures last { bits_of state.new ≡ slice_index_or (diagnoses_under graph.now words.old costs.now) (result - 1) [] }
+    requires serves { Serves graph.now costs.now minimised_graph.old }
+    requires there { 0 < length (diagnoses_under graph.now evidence.old costs.now) }
+    requires first { bits_of state.old ≡ slice_index_or (diagnoses_under graph.now evidence.old costs.now) 0 [] }
+    ensures listed { result ≡ length (take most (diagnoses_under graph.now evidence.old costs.now)) }
+    ensures last { bits_of state.new ≡ slice_index_or (diagnoses_under graph.now evidence.old costs.now) (result - 1) [] }
     ensures state { All (λ s. s < 2) state.new }
-    ensures words { words.new ≡ words.old }
-    ensures serves { Serves graph.now costs.now distiller.new }
+    ensures evidence { evidence.new ≡ evidence.old }
+    ensures serves { Serves graph.now costs.now minimised_graph.new }
 {
     for count in 1..most {
-        match distiller.next(graph, words, costs, values, state, steps) {
+        match minimised_graph.next(graph, evidence, costs, values, state, steps) {
             Step::Found => {}
             Step::End | Step::Inconsistent => return count,
         }
@@ -60,11 +60,11 @@ fn list_on<L: Ledger>(
 /// The least cost over a graph, and how many diagnoses there are, up to `most`. The first one and the last one are written
 /// into the states: 0 if a part is ok, and 1 if it is faulty. `None` if the graph allows no state.
 ///
-/// The words are the same afterwards.
+/// The evidence is the same afterwards.
 pub fn sample<L: Ledger>(
-    distiller: &mut Distiller,
+    minimised_graph: &mut MinimisedGraph,
     graph: &Graph,
-    words: &mut [u32],
+    evidence: &mut [u32],
     costs: &[u32],
     values: &mut [u32],
     first_state: &mut [u32],
@@ -72,8 +72,8 @@ pub fn sample<L: Ledger>(
     most: u32,
     steps: &mut Steps<L>,
 ) -> Option<Found>
-    requires long { length words.old ≡ graph.now.vars }
-    requires words { All (λ w. w < 3) words.old }
+    requires long { length evidence.old ≡ graph.now.vars }
+    requires evidence { All (λ w. w < 3) evidence.old }
     requires parts { length costs.now ≤ graph.now.vars }
     requires total { total_cost costs.now < TOTAL_LIMIT }
     requires dear { All (λ c. 0 < c) costs.now }
@@ -82,23 +82,30 @@ pub fn sample<L: Ledger>(
     requires first_words { All (λ s. s < 2) first_state.old }
     requires last_state { length last_state.old ≡ length costs.now }
     requires some { 1 ≤ most }
-    requires serves { Serves graph.now costs.now distiller.old }
-    ensures least { option_map (λ found. found.fewest) result ≡ least_under graph.now words.old costs.now }
+    requires serves { Serves graph.now costs.now minimised_graph.old }
+    ensures least { option_map (λ found. found.fewest) result ≡ least_under graph.now evidence.old costs.now }
     ensures listed { IfSome result (λ found.
-        found.listed ≡ length (take most (diagnoses_under graph.now words.old costs.now))) }
+        found.listed ≡ length (take most (diagnoses_under graph.now evidence.old costs.now))) }
     ensures first { IfSome result (λ found.
-        bits_of first_state.new ≡ slice_index_or (diagnoses_under graph.now words.old costs.now) 0 []) }
+        bits_of first_state.new ≡ slice_index_or (diagnoses_under graph.now evidence.old costs.now) 0 []) }
     ensures last { IfSome result (λ found.
-        bits_of last_state.new ≡ slice_index_or (diagnoses_under graph.now words.old costs.now) (found.listed - 1) []) }
+        bits_of last_state.new ≡ slice_index_or (diagnoses_under graph.now evidence.old costs.now) (found.listed - 1) []) }
     ensures first_state { All (λ s. s < 2) first_state.new }
     ensures last_state { IfSome result (λ _. All (λ s. s < 2) last_state.new) }
-    ensures words { words.new ≡ words.old }
-    ensures serves { Serves graph.now costs.now distiller.new }
+    ensures evidence { evidence.new ≡ evidence.old }
+    ensures serves { Serves graph.now costs.now minimised_graph.new }
 {
-    let fewest = distiller.first(graph, words, costs, values, first_state, steps)?;
+    let fewest = minimised_graph.first(graph, evidence, costs, values, first_state, steps)?;
     last_state.copy_from_slice(first_state);
     let listed = list_on(
-        distiller, graph, words, costs, values, last_state, most, steps,
+        minimised_graph,
+        graph,
+        evidence,
+        costs,
+        values,
+        last_state,
+        most,
+        steps,
     );
     Some(Found { fewest, listed })
 }

@@ -28,35 +28,35 @@ pub listed_behind_comma : (x m y : Name) (left behind ts : List (List ℕ)) → 
 listed_behind_comma x m y left behind ts w l c b = rw (l, b, c, w) (some_with_first x (listed_from (y ∷ ts)))
 
 -- the names that are listed are the words among the tokens
-abbrev AreWords : List (List ℕ) → Option (List Name) → Type 0
-AreWords ts None = Unit {0}
-AreWords ts (Some names) = filter has_no_mark ts ≡ names
+abbrev IsEvidence : List (List ℕ) → Option (List Name) → Type 0
+IsEvidence ts None = Unit {0}
+IsEvidence ts (Some names) = filter has_no_mark ts ≡ names
 
-with_more : (x mark : Name) (ts : List (List ℕ)) (o : Option (List Name)) → has_no_mark x ≡ true → mark ≡ codes "," → AreWords ts o → AreWords (x ∷ mark ∷ ts) (option_map (λ (names : List Name). x ∷ names) o)
+with_more : (x mark : Name) (ts : List (List ℕ)) (o : Option (List Name)) → has_no_mark x ≡ true → mark ≡ codes "," → IsEvidence ts o → IsEvidence (x ∷ mark ∷ ts) (option_map (λ (names : List Name). x ∷ names) o)
 with_more x mark ts o w m h = grind arith
 
-listed_words : (ts : List (List ℕ)) → AreWords ts (listed_from ts)
+listed_words : (ts : List (List ℕ)) → IsEvidence ts (listed_from ts)
 listed_words [] = tt
 listed_words (x ∷ []) = tt
 listed_words (x ∷ m ∷ []) = by (has_no_mark x) (is_the_mark (codes ")") m) refl refl
   where
-    by : (b d : Bool) → has_no_mark x ≡ b → is_the_mark (codes ")") m ≡ d → AreWords (x ∷ m ∷ []) (if b && d then Some (x ∷ []) else None)
+    by : (b d : Bool) → has_no_mark x ≡ b → is_the_mark (codes ")") m ≡ d → IsEvidence (x ∷ m ∷ []) (if b && d then Some (x ∷ []) else None)
     by true true w e = rw (equal_if_same m (codes ")") e, w) refl
     by true false w e = tt
     by false d w e = tt
 listed_words (x ∷ m ∷ y ∷ ts) = by (has_no_mark x) (is_the_mark (codes ",") m) refl refl (listed_words (y ∷ ts))
   where
-    by : (b d : Bool) → has_no_mark x ≡ b → is_the_mark (codes ",") m ≡ d → AreWords (y ∷ ts) (listed_from (y ∷ ts))
-        → AreWords (x ∷ m ∷ y ∷ ts) (if b && d then option_map (λ (names : List Name). x ∷ names) (listed_from (y ∷ ts)) else None)
+    by : (b d : Bool) → has_no_mark x ≡ b → is_the_mark (codes ",") m ≡ d → IsEvidence (y ∷ ts) (listed_from (y ∷ ts))
+        → IsEvidence (x ∷ m ∷ y ∷ ts) (if b && d then option_map (λ (names : List Name). x ∷ names) (listed_from (y ∷ ts)) else None)
     by true true w e h = with_more x m (y ∷ ts) (listed_from (y ∷ ts)) w (equal_if_same m (codes ",") e) h
     by true false w e h = tt
     by false d w e h = tt
 
-input_words : (ts : List (List ℕ)) → AreWords ts (inputs_in ts)
+input_words : (ts : List (List ℕ)) → IsEvidence ts (inputs_in ts)
 input_words [] = tt
 input_words (m ∷ []) = by (is_the_mark (codes ")") m) refl
   where
-    by : (b : Bool) → is_the_mark (codes ")") m ≡ b → AreWords (m ∷ []) (if b then Some [] else None)
+    by : (b : Bool) → is_the_mark (codes ")") m ≡ b → IsEvidence (m ∷ []) (if b then Some [] else None)
     by true e = rw (equal_if_same m (codes ")") e) refl
     by false e = tt
 input_words (x ∷ y ∷ ts) = listed_words (x ∷ y ∷ ts)

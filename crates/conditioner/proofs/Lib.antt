@@ -1,3 +1,3 @@
-pub mod FittingWords
+pub mod FittingEvidence
 pub mod ModelsWith
 pub mod StateBits

@@ -1,4 +1,4 @@
--- The states that a graph allows under words where a variable has a bit too.
+-- The states that a graph allows under evidence where a variable has a bit too.
 use Rattle.std.proofs.Common.{◌≡◌, ℕ, ◌-◌, ◌<◌, ◌≤◌, Bool, true, false, not, ◌&&◌, List, [], ◌++◌, length, get_or, set, Some, None, refl, ap, sym, ◌∙◌, arith, length-append}
 use Rattle.std.proofs.Math.Bool.{and_assoc, and-false}
 use Rattle.std.proofs.lemmas.List.{length-map, map-set}
@@ -9,8 +9,8 @@ use Rattle.state_rules.proofs.Cases.{agrees-place, agrees-set}
 use Rattle.state_rules.proofs.Members.{bits_length, filter_same, any_same}
 use Rattle.state_rules.specs.Graphs.{Graph, holds}
 use Rattle.state_rules.proofs.Lists.{any-never, filter-never}
-use Rattle.conditioner.specs.Words.{known_of, known}
-use Rattle.conditioner.specs.Models.{has_model, fits_words, models}
+use Rattle.conditioner.specs.Evidence.{known_of, known}
+use Rattle.conditioner.specs.Models.{has_model, fits_evidence, models}
 
 -- tests that agree on all bits of the variables allow the same states
 allowed-same : (graph : Graph) (parts : ℕ) (p q : Test) → parts ≤ graph.vars → ((bits : List Bool) → length bits ≡ graph.vars → p bits ≡ q bits)
@@ -31,28 +31,28 @@ never_both true false = refl
 never_both false true = refl
 never_both false false = refl
 
-module _ (graph : Graph) (words : List ℕ) (parts place : ℕ) (bit : Bool) (long : length words ≡ graph.vars) (room : parts ≤ graph.vars) (within : place < graph.vars) where
-  -- bits fit the words, and one of them is the bit
+module _ (graph : Graph) (evidence : List ℕ) (parts place : ℕ) (bit : Bool) (long : length evidence ≡ graph.vars) (room : parts ≤ graph.vars) (within : place < graph.vars) where
+  -- bits fit the evidence, and one of them is the bit
   abbrev pub has_bit : Test
-  has_bit bits = fits_words words bits && same_bit bit (bit_in bits place)
+  has_bit bits = fits_evidence evidence bits && same_bit bit (bit_in bits place)
 
   inside : (bits : List Bool) → length bits ≡ graph.vars → place < length bits
   inside bits e = omega (arith, e, within)
 
-  -- of a variable of which nothing is known, those under words that say the bit
-  pub with_bit-open : (word : ℕ) → known_of word ≡ Some bit → get_or (known words) place None ≡ None → passing parts (has_model graph has_bit parts) ≡ models graph (set words place word) parts
-  with_bit-open word says e = allowed-same graph parts has_bit (fits_words (set words place word)) room (λ bits l.
-      agrees-set (known words) bits place bit (omega (arith, length-map words known_of, long, within)) (inside bits l) e
-      ∙ ap (λ ks. agrees ks bits) (sym (map-set known_of words place word ∙ ap (set (known words) place) says)))
+  -- of a variable of which nothing is known, those under evidence that says the bit
+  pub with_bit-open : (word : ℕ) → known_of word ≡ Some bit → get_or (known evidence) place None ≡ None → passing parts (has_model graph has_bit parts) ≡ models graph (set evidence place word) parts
+  with_bit-open word says e = allowed-same graph parts has_bit (fits_evidence (set evidence place word)) room (λ bits l.
+      agrees-set (known evidence) bits place bit (omega (arith, length-map evidence known_of, long, within)) (inside bits l) e
+      ∙ ap (λ ks. agrees ks bits) (sym (map-set known_of evidence place word ∙ ap (set (known evidence) place) says)))
 
   -- all, if the bit is known
-  pub with_bit-known : get_or (known words) place None ≡ Some bit → passing parts (has_model graph has_bit parts) ≡ models graph words parts
-  with_bit-known e = allowed-same graph parts has_bit (fits_words words) room (λ bits l.
-      sym (agrees-place (known words) bits place (inside bits l) ∙ ap (λ k. agrees (known words) bits && agrees_at k (bit_in bits place)) e))
+  pub with_bit-known : get_or (known evidence) place None ≡ Some bit → passing parts (has_model graph has_bit parts) ≡ models graph evidence parts
+  with_bit-known e = allowed-same graph parts has_bit (fits_evidence evidence) room (λ bits l.
+      sym (agrees-place (known evidence) bits place (inside bits l) ∙ ap (λ k. agrees (known evidence) bits && agrees_at k (bit_in bits place)) e))
 
   -- and none, if the other is
-  pub with_bit-other : get_or (known words) place None ≡ Some (not bit) → passing parts (has_model graph has_bit parts) ≡ []
+  pub with_bit-other : get_or (known evidence) place None ≡ Some (not bit) → passing parts (has_model graph has_bit parts) ≡ []
   with_bit-other e = allowed-same graph parts has_bit (λ _. false) room (λ bits l.
-      ap (λ b. b && same_bit bit (bit_in bits place)) (agrees-place (known words) bits place (inside bits l) ∙ ap (λ k. agrees (known words) bits && agrees_at k (bit_in bits place)) e)
-      ∙ (and_assoc (agrees (known words) bits) (same_bit (not bit) (bit_in bits place)) (same_bit bit (bit_in bits place))
-      ∙ (ap (λ b. agrees (known words) bits && b) (never_both bit (bit_in bits place)) ∙ and-false (agrees (known words) bits)))) ∙ allowed-none graph parts
+      ap (λ b. b && same_bit bit (bit_in bits place)) (agrees-place (known evidence) bits place (inside bits l) ∙ ap (λ k. agrees (known evidence) bits && agrees_at k (bit_in bits place)) e)
+      ∙ (and_assoc (agrees (known evidence) bits) (same_bit (not bit) (bit_in bits place)) (same_bit bit (bit_in bits place))
+      ∙ (ap (λ b. agrees (known evidence) bits && b) (never_both bit (bit_in bits place)) ∙ and-false (agrees (known evidence) bits)))) ∙ allowed-none graph parts

@@ -3,7 +3,7 @@ use Rattle.std.proofs.Common.{◌≡◌, ◌≢◌, ℕ, zero, suc, ◌<◌, Boo
 use Rattle.std.specs.Prelude.{◌==◌}
 use Rattle.std.proofs.lemmas.Bool.{eq-eqb, ne_eqb, eqb-true, false≢true, not-false}
 use Rattle.state_rules.specs.Bits.{bit_in}
-use Rattle.conditioner.specs.Words.{bits_of}
+use Rattle.conditioner.specs.Evidence.{bits_of}
 
 pub bit_in-bits : (state : List ℕ) (i : ℕ) → i < length state → bit_in (bits_of state) i ≡ (get_or state i 0 == 0)
 bit_in-bits [] i h = absurd (omega arith)

@@ -37,25 +37,25 @@ module _ (list : ClauseList) where
   has_sum narrow (Some found) is = (forest_sum Lists is.1.forest list.clauses, (is.1, refl))
 
   -- What holds of the clauses with that sum holds by some choice.
-  pub chosen_gives : (narrow : Bool) (chosen : Option Narrowed) → IsChosen narrow list chosen → (Gives : Weighed → Type 0)
-      → ((sum : ℕ) → HasSum list chosen sum → Gives (record { list = list; sum = sum })) → ByForest (λ choose. Gives (weighed_by narrow choose list))
-  chosen_gives true None is Gives given = record { choose = λ other. None; narrows = λ other. tt; holds = given (sum_of list.clauses) refl }
-  chosen_gives false None is Gives given = by_any (λ choose. given (sum_of list.clauses) refl)
-  chosen_gives false (Some found) is Gives given = absurd (let no : ⊥ = cc in no)
-  chosen_gives true (Some found) is Gives given =
+  pub chosen_gives : (narrow : Bool) (chosen : Option Narrowed) → IsChosen narrow list chosen → (FulfilsOutput : Weighed → Type 0)
+      → ((sum : ℕ) → HasSum list chosen sum → FulfilsOutput (record { list = list; sum = sum })) → ByForest (λ choose. FulfilsOutput (weighed_by narrow choose list))
+  chosen_gives true None is FulfilsOutput given = record { choose = λ other. None; narrows = λ other. tt; holds = given (sum_of list.clauses) refl }
+  chosen_gives false None is FulfilsOutput given = by_any (λ choose. given (sum_of list.clauses) refl)
+  chosen_gives false (Some found) is FulfilsOutput given = absurd (let no : ⊥ = cc in no)
+  chosen_gives true (Some found) is FulfilsOutput given =
       let forest = is.1.forest in
       record {
         choose = choice_of list forest is.1.narrow;
         narrows = choice_narrows list forest is.1.narrow;
-        holds = subst (λ chosen. Gives (record { list = list; sum = option_map_or (λ f. forest_sum Lists f list.clauses) chosen (sum_of list.clauses) })) (sym (choice_finds list forest is.1.narrow)) (given (forest_sum Lists forest list.clauses) (is.1, refl));
+        holds = subst (λ chosen. FulfilsOutput (record { list = list; sum = option_map_or (λ f. forest_sum Lists f list.clauses) chosen (sum_of list.clauses) })) (sym (choice_finds list forest is.1.narrow)) (given (forest_sum Lists forest list.clauses) (is.1, refl));
       }
 
 -- the same of the clauses of a device
-pub list_gives : (narrow : Bool) (device : Device) (list : ClauseList) (chosen : Option Narrowed) → IsListOf device list → IsChosen narrow list chosen → (Gives : Result Weighed EncodeError → Type 0)
-    → ((sum : ℕ) → HasSum list chosen sum → Gives (Ok (record { list = list; sum = sum }))) → ByClauses narrow (λ clauses. Gives (clauses device))
-list_gives narrow device list chosen of is Gives given =
-    by_same (chosen_gives list narrow chosen is (λ weighed. Gives (Ok weighed)) given)
-    (λ choose holds. subst Gives (sym (ap (result_map_both (weighed_by narrow choose) (λ error. error)) of.encoded)) holds)
+pub list_gives : (narrow : Bool) (device : Device) (list : ClauseList) (chosen : Option Narrowed) → IsListOf device list → IsChosen narrow list chosen → (FulfilsOutput : Result Weighed EncodeError → Type 0)
+    → ((sum : ℕ) → HasSum list chosen sum → FulfilsOutput (Ok (record { list = list; sum = sum }))) → ByClauses narrow (λ clauses. FulfilsOutput (clauses device))
+list_gives narrow device list chosen of is FulfilsOutput given =
+    by_same (chosen_gives list narrow chosen is (λ weighed. FulfilsOutput (Ok weighed)) given)
+    (λ choose holds. subst FulfilsOutput (sym (ap (result_map_both (weighed_by narrow choose) (λ error. error)) of.encoded)) holds)
 
 -- ---- clauses within a budget, or above it
 

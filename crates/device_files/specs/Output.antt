@@ -42,10 +42,10 @@ told_or_refused told (Err output) = output
 
 -- A run that is to give an output ends with its status, and what it writes, if the sink shows it, spells the items of the
 -- output. If a write failed, what it wrote begins such a text.
-pub record Gives (output : Output) (status : Status) (before after : Option (List ℕ)) : Type 0 where
+pub record FulfilsOutput (output : Output) (status : Status) (before after : Option (List ℕ)) : Type 0 where
   pub whole : status ≢ WriteFailed → (status ≡ output.status) × Writes before after output.items
   pub broken : status ≡ WriteFailed → WritesPart before after output.items
 
 -- memory ran out, or the output was given
-abbrev pub GivesUnlessMemory : Output → Status → Option (List ℕ) → Option (List ℕ) → Type 0
-GivesUnlessMemory output status before after = Gives no_memory status before after ⊎ Gives output status before after
+abbrev pub FulfilsOutputUnlessMemory : Output → Status → Option (List ℕ) → Option (List ℕ) → Type 0
+FulfilsOutputUnlessMemory output status before after = FulfilsOutput no_memory status before after ⊎ FulfilsOutput output status before after

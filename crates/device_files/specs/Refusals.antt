@@ -37,5 +37,5 @@ abbrev pub or_memory : Option Output → Output
 or_memory told = unwrap_or told no_memory
 
 -- An `Ok` is what is expected, or a refusal has the output that is.
-abbrev pub Finds : {A : Type 0} → Result A Output → Result A Refusal → Type 0
-Finds expected result = Fulfils (λ found. found) told_by expected result
+abbrev pub FulfilsOrRefuses : {A : Type 0} → Result A Output → Result A Refusal → Type 0
+FulfilsOrRefuses expected result = Fulfils (λ found. found) told_by expected result

@@ -4,7 +4,7 @@ ghost use Rattle.diag_edge.specs.ErrorLines.{fault_line};
 ghost use Rattle.nnf_text.specs.Refusals.{told};
 ghost use Rattle.device_files.specs.Output.{says};
 ghost use Rattle.device_files.specs.Checking.{graph_fault_line, graph_in};
-ghost use Rattle.device_files.specs.Refusals.{Finds, told_by};
+ghost use Rattle.device_files.specs.Refusals.{FulfilsOrRefuses, told_by};
 
 use crate::refusal::Refusal;
 use crate::status::Status;
@@ -42,7 +42,7 @@ fn refused(error: NnfError) -> Refusal
 /// The decomposable graph that the text of a file writes. An error says why there is none.
 pub fn graph_in(alloc: Global, file: &[u8]) -> Result<Graph, Refusal>
     requires { length file.now ≤ TEXT_LIMIT }
-    ensures graph { Finds (graph_in file.now) result }
+    ensures graph { FulfilsOrRefuses (graph_in file.now) result }
     ensures few { IfOk result (λ graph. length graph.nodes ≤ TEXT_LIMIT) }
 {
     match read_nnf(alloc, file) {

@@ -6,7 +6,7 @@ ghost use Rattle.component_lang.specs.Reading.{design};
 ghost use Rattle.flattener.specs.Flat.{flattened};
 ghost use Rattle.device_files.specs.Describing.{netlist_line, design_line, flatten_line, or_line, described};
 ghost use Rattle.device_files.specs.Output.{says, result_and_then};
-ghost use Rattle.device_files.specs.Refusals.{Finds, told_by};
+ghost use Rattle.device_files.specs.Refusals.{FulfilsOrRefuses, told_by};
 
 use crate::paths::is_design_path;
 use crate::refusal::{Refusal, above};
@@ -35,7 +35,7 @@ pub fn netlist_refusal(error: BenchError) -> Refusal
 /// The device that the text of a netlist describes. An error says why there is none.
 pub fn netlist_device(alloc: Global, text: &[u8]) -> Result<Device, Refusal>
     requires { length text.now ≤ TEXT_LIMIT }
-    ensures { Finds (or_line netlist_line (netlist text.now)) result }
+    ensures { FulfilsOrRefuses (or_line netlist_line (netlist text.now)) result }
 {
     match read_bench(alloc, text) {
         Ok(device) => Ok(device),
@@ -44,7 +44,7 @@ pub fn netlist_device(alloc: Global, text: &[u8]) -> Result<Device, Refusal>
 }
 
 fn flattened_device(alloc: Global, design: &Design) -> Result<Device, Refusal>
-    ensures { Finds (or_line flatten_line (flattened design.now)) result }
+    ensures { FulfilsOrRefuses (or_line flatten_line (flattened design.now)) result }
 {
     match flatten(alloc, design) {
         Ok(device) => Ok(device),
@@ -58,7 +58,7 @@ fn flattened_device(alloc: Global, design: &Design) -> Result<Device, Refusal>
 
 fn design_device(alloc: Global, text: &[u8]) -> Result<Device, Refusal>
     requires { length text.now ≤ TEXT_LIMIT }
-    ensures { Finds (result_and_then (λ made. or_line flatten_line (flattened made)) (or_line design_line (design text.now))) result }
+    ensures { FulfilsOrRefuses (result_and_then (λ made. or_line flatten_line (flattened made)) (or_line design_line (design text.now))) result }
 {
     match read_lang(alloc, text) {
         Ok(design) => flattened_device(alloc, &design),
@@ -75,7 +75,7 @@ fn design_device(alloc: Global, text: &[u8]) -> Result<Device, Refusal>
 /// why there is none.
 pub fn described(alloc: Global, path: &str, text: &[u8]) -> Result<Device, Refusal>
     requires { length text.now ≤ TEXT_LIMIT }
-    ensures { Finds (described path.now text.now) result }
+    ensures { FulfilsOrRefuses (described path.now text.now) result }
 {
     if is_design_path(path) {
         design_device(alloc, text)

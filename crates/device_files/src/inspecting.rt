@@ -4,7 +4,7 @@ ghost use Rattle.diag_edge.specs.Edge.{HasCause, RoseExactly};
 ghost use Rattle.session_rules.specs.Spelling.{Replies};
 ghost use Rattle.device_files.specs.Inspecting.{inspection_named, count_line, planned, told_decomposable, inspected};
 ghost use Rattle.device_files.specs.Choices.{ByForest};
-ghost use Rattle.device_files.specs.Output.{Gives, GivesUnlessMemory};
+ghost use Rattle.device_files.specs.Output.{FulfilsOutput, FulfilsOutputUnlessMemory};
 
 use crate::checking::graph_in;
 use crate::describing::described;
@@ -80,7 +80,7 @@ fn tell_sizes<O: Sink>(out: &mut O, device: &Device, cnf: &Cnf, sum: u32) -> Sta
     requires faults { O.faults out.old < 2 ^ 64 - 1 }
     ensures write_fault { RoseExactly (O.faults out.old) (O.faults out.new) (result ≡ Status.WriteFailed) }
     ensures either { (result ≡ Status.Done) ⊎ (result ≡ Status.WriteFailed) }
-    ensures said { Gives (planned device.now (record { list = cnf.now; sum = sum })) result (O.got out.old) (O.got out.new) }
+    ensures said { FulfilsOutput (planned device.now (record { list = cnf.now; sum = sum })) result (O.got out.old) (O.got out.new) }
 {
     let counts = [
         Count {
@@ -112,7 +112,7 @@ fn tell_graph<O: Sink>(out: &mut O, graph: &Graph) -> Status
     requires faults { O.faults out.old < 2 ^ 64 - 1 }
     ensures write_fault { RoseExactly (O.faults out.old) (O.faults out.new) (result ≡ Status.WriteFailed) }
     ensures either { (result ≡ Status.Done) ⊎ (result ≡ Status.WriteFailed) }
-    ensures said { Gives (told_decomposable graph.now) result (O.got out.old) (O.got out.new) }
+    ensures said { FulfilsOutput (told_decomposable graph.now) result (O.got out.old) (O.got out.new) }
 {
     match put_line(
         out,
@@ -137,7 +137,7 @@ fn plan_file<O: Sink>(alloc: Global, path: &str, file: &[u8], narrow: bool, out:
     ensures not_read { result ≢ Status.ReadFailed }
     ensures not_cut { result ≢ Status.CutShort }
     ensures said { ByForest (λ choose.
-        GivesUnlessMemory (inspected choose path.now (Inspection.Plan narrow) file.now) result (O.got out.old) (O.got out.new)) }
+        FulfilsOutputUnlessMemory (inspected choose path.now (Inspection.Plan narrow) file.now) result (O.got out.old) (O.got out.new)) }
 {
     let device = match described(alloc, path, file) {
         Ok(device) => device,
@@ -158,7 +158,7 @@ fn check_file<O: Sink>(alloc: Global, path: &str, file: &[u8], out: &mut O) -> S
     ensures not_read { result ≢ Status.ReadFailed }
     ensures not_cut { result ≢ Status.CutShort }
     ensures said { ByForest (λ choose.
-        GivesUnlessMemory (inspected choose path.now Inspection.Check file.now) result (O.got out.old) (O.got out.new)) }
+        FulfilsOutputUnlessMemory (inspected choose path.now Inspection.Check file.now) result (O.got out.old) (O.got out.new)) }
 {
     match graph_in(alloc, file) {
         Ok(graph) => tell_graph(out, &graph),
@@ -182,7 +182,7 @@ pub fn inspect_file<O: Sink>(
     ensures not_read { result ≢ Status.ReadFailed }
     ensures not_cut { result ≢ Status.CutShort }
     ensures said { ByForest (λ choose.
-        GivesUnlessMemory (inspected choose path.now inspection file.now) result (O.got out.old) (O.got out.new)) }
+        FulfilsOutputUnlessMemory (inspected choose path.now inspection file.now) result (O.got out.old) (O.got out.new)) }
 {
     match inspection {
         Inspection::Plan { narrow } => plan_file(alloc, path, file, narrow, out),

@@ -5,7 +5,7 @@ ghost use Rattle.nnf_text.specs.GraphTexts.{Counts, TooLarge, Shared};
 ghost use Rattle.device_files.specs.declared.refusal.Refusal.TheVariants.{Memory};
 ghost use Rattle.device_files.specs.Checking.{graph_fault_line};
 ghost use Rattle.device_files.specs.Weighing.{sum_line};
-ghost use Rattle.device_files.specs.Output.{Gives, says};
+ghost use Rattle.device_files.specs.Output.{FulfilsOutput, says};
 ghost use Rattle.device_files.specs.Refusals.{refusal_line, refusal_status, told_by, or_memory};
 
 use crate::status::Status;
@@ -168,7 +168,7 @@ pub fn tell<O: Sink>(out: &mut O, refusal: Refusal) -> Status
     ensures not_usage { result ≢ Status.Usage }
     ensures not_read { result ≢ Status.ReadFailed }
     ensures not_cut { result ≢ Status.CutShort }
-    ensures said { Gives (or_memory (told_by refusal)) result (O.got out.old) (O.got out.new) }
+    ensures said { FulfilsOutput (or_memory (told_by refusal)) result (O.got out.old) (O.got out.new) }
 {
     match put_refusal(out, refusal) {
         Ok(()) => refusal.status(),

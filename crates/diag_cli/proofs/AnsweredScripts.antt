@@ -25,14 +25,14 @@ use Rattle.session_core.specs.declared.serving.TheConstants.{READ_LIMIT}
 use Rattle.session_core.specs.Serving.{FailsBehind, FailsAtOnce}
 use Rattle.session_core.proofs.Exact.{makes_over, breaks_over, parted}
 use Rattle.device_files.specs.declared.status.Status.{Status}
-use Rattle.device_files.specs.Output.{Output, Gives}
-use Rattle.diag_cli.specs.Courses.{ready_line, answers_of}
-use Rattle.diag_cli.specs.Following.{WritesFirst, IsStopped}
+use Rattle.device_files.specs.Output.{Output, FulfilsOutput}
+use Rattle.diag_cli.specs.Behaviours.{ready_line, answers_of}
+use Rattle.diag_cli.specs.Fulfilled.{WritesFirst, IsStopped}
 
 -- ---- nothing is read after a write that failed
 
 -- items were written, and then an output was given or begun
-pub first_given : (items : List Item) (output : Output) (status : Status) (a b c : Option (List ℕ)) → Writes a b items → Gives output status b c → WritesFirst a c items
+pub first_given : (items : List Item) (output : Output) (status : Status) (a b c : Option (List ℕ)) → Writes a b items → FulfilsOutput output status b c → WritesFirst a c items
 first_given items output status a b c written said = grind arith
 
 -- if two texts were put, one was, and then the other

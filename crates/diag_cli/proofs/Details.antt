@@ -11,22 +11,22 @@ use Rattle.session_rules.specs.Items.{Item}
 use Rattle.session_rules.specs.Spelling.{Writes}
 use Rattle.device_files.specs.declared.status.Status.{Status}
 use Rattle.device_files.specs.declared.status.Status.TheVariants.{Done, Refused, Usage, AboveBudget, ReadFailed, WriteFailed, NoMemory, CutShort}
-use Rattle.device_files.specs.Output.{Output, Gives, no_memory, says, too_long_line}
+use Rattle.device_files.specs.Output.{Output, FulfilsOutput, no_memory, says, too_long_line}
 use Rattle.device_files.proofs.FailedWrites.{gives_part}
 use Rattle.diag_cli.specs.declared.serving.TheConstants.{SCRIPT_LIMIT}
 use Rattle.diag_cli.specs.declared.words.Command.{Command}
 use Rattle.diag_cli.specs.declared.words.Command.TheVariants.{Serve, ServeFrames, Ask, Inspect, Compile}
 use Rattle.diag_cli.specs.Words.{Form, Load, Over, named_file, told_file}
-use Rattle.diag_cli.specs.Courses.{End, Ended, Failed, Cut, Course, Tells, Serves, read_error, served, course_by, course_of}
-use Rattle.diag_cli.specs.Following.{IsIdle, EndsAs, IsAnswered, IsBroken, IsServed, WritesFirst, IsStopped, Follows}
+use Rattle.diag_cli.specs.Behaviours.{End, Ended, Failed, Cut, Behaviour, Prints, Replies, read_error, served, behaviour_by, behaviour_of}
+use Rattle.diag_cli.specs.Fulfilled.{IsIdle, EndsAs, IsAnswered, IsBroken, IsServed, WritesFirst, IsStopped, FulfilsBehaviour}
 use Rattle.diag_cli.specs.Runs.{IsDone, IsRun}
-use Rattle.diag_cli.specs.Details.{asks_script, wholly_served, whole_output, GivesUnlessShort, HasDetails}
+use Rattle.diag_cli.specs.Details.{asks_script, wholly_served, whole_output, FulfilsOutputUnlessShort, HasDetails}
 use Rattle.diag_cli.proofs.Headline.{some_map}
-use Rattle.diag_cli.proofs.Endings.{is_plain, IsPlainCourse, plain_course}
+use Rattle.diag_cli.proofs.Endings.{is_plain, IsPlainBehaviour, plain_behaviour}
 use Rattle.diag_cli.proofs.Scripts.{taken_all, broken_begins_all}
 
 module _ (input new_input : Reading) (out new_out : Writing) (status : Status) where
-  -- ---- how a course that was followed ended, if no write failed
+  -- ---- how a behaviour that was followed ended, if no write failed
 
   abbrev Ending : Bool → Type 0
   Ending form =
@@ -34,64 +34,64 @@ module _ (input new_input : Reading) (out new_out : Writing) (status : Status) w
       ⊎ ((form ≡ true) × (((status ≡ ReadFailed) × (input.faults < new_input.faults) × (new_input.taken < input.taken + SCRIPT_LIMIT))
       ⊎ ((status ≡ CutShort) × (new_input.faults ≡ input.faults) × (new_input.taken ≡ input.taken + SCRIPT_LIMIT))))
 
-  idle_ending : (form : Bool) (output : Output) → is_plain form output.status ≡ true → IsIdle input new_input × Gives output status out.got new_out.got → status ≢ WriteFailed → Ending form
+  idle_ending : (form : Bool) (output : Output) → is_plain form output.status ≡ true → IsIdle input new_input × FulfilsOutput output status out.got new_out.got → status ≢ WriteFailed → Ending form
   idle_ending form output plain done whole = inl (ap (is_plain form) (done.1.whole whole).0 ∙ plain, done.0.faults, omega (arith, done.0.taken))
 
   script_ending : (answers : List (List ℕ) → List Item) (bytes : List ℕ) (end : End) → new_input.taken ≡ input.taken + length bytes → EndsAs end bytes input new_input
-      → Gives (served answers bytes end) status out.got new_out.got → status ≢ WriteFailed → Ending true
+      → FulfilsOutput (served answers bytes end) status out.got new_out.got → status ≢ WriteFailed → Ending true
   script_ending answers bytes Ended counted ends gives whole = inl (ap (is_plain true) (gives.whole whole).0, ends.2, omega (arith, counted, ends.1))
   script_ending answers bytes Failed counted ends gives whole = inr (refl, inl ((gives.whole whole).0, ends.1, omega (arith, counted, ends.0)))
   script_ending answers bytes Cut counted ends gives whole = inr (refl, inr ((gives.whole whole).0, ends.1, omega (arith, counted, ends.0)))
 
-  ending : (form : Bool) (course : Course) → IsPlainCourse form course → Follows course input new_input out new_out status → status ≢ WriteFailed → Ending form
-  ending form (Tells output) plain done whole = idle_ending form output plain done whole
-  ending form (Serves answers) plain done whole = rw plain (by done.wrote)
+  ending : (form : Bool) (behaviour : Behaviour) → IsPlainBehaviour form behaviour → FulfilsBehaviour behaviour input new_input out new_out status → status ≢ WriteFailed → Ending form
+  ending form (Prints output) plain done whole = idle_ending form output plain done whole
+  ending form (Replies answers) plain done whole = rw plain (by done.wrote)
     where
       by : IsAnswered answers done.bytes input new_input out new_out status ⊎ ((status ≡ WriteFailed) × IsBroken answers done.bytes input new_input out new_out) → Ending true
       by (inl answered) = script_ending answers done.bytes answered.end done.counted answered.ends answered.gives whole
       by (inr broken) = absurd (whole broken.0)
 
-  -- ---- what a course that was followed did
+  -- ---- what a behaviour that was followed did
 
-  told_idle : (course : Course) (output : Output) → course ≡ Tells output → Follows course input new_input out new_out status → IsIdle input new_input
-  told_idle course output is done = let both : IsIdle input new_input × Gives output status out.got new_out.got = subst (λ c. Follows c input new_input out new_out status) is done in both.0
+  told_idle : (behaviour : Behaviour) (output : Output) → behaviour ≡ Prints output → FulfilsBehaviour behaviour input new_input out new_out status → IsIdle input new_input
+  told_idle behaviour output is done = let both : IsIdle input new_input × FulfilsOutput output status out.got new_out.got = subst (λ c. FulfilsBehaviour c input new_input out new_out status) is done in both.0
 
-  serves : (course : Course) (answers : List (List ℕ) → List Item) → course ≡ Serves answers → Follows course input new_input out new_out status → IsServed answers input new_input out new_out status
-  serves course answers is done = subst (λ c. Follows c input new_input out new_out status) is done
+  serves : (behaviour : Behaviour) (answers : List (List ℕ) → List Item) → behaviour ≡ Replies answers → FulfilsBehaviour behaviour input new_input out new_out status → IsServed answers input new_input out new_out status
+  serves behaviour answers is done = subst (λ c. FulfilsBehaviour c input new_input out new_out status) is done
 
   -- from the bytes that were taken to the whole script
   whole_answer : (answers : List (List ℕ) → List Item) (script : List ℕ) → input.left ≡ Some script → IsServed answers input new_input out new_out status
-      → new_input.faults ≡ input.faults → Gives (wholly_served answers script) status out.got new_out.got
+      → new_input.faults ≡ input.faults → FulfilsOutput (wholly_served answers script) status out.got new_out.got
   whole_answer answers script told done kept = by done.wrote
     where
       took : Consumes (Some script) new_input.left done.bytes
       took = subst (λ l. Consumes l new_input.left done.bytes) told done.took
 
       by : IsAnswered answers done.bytes input new_input out new_out status ⊎ ((status ≡ WriteFailed) × IsBroken answers done.bytes input new_input out new_out)
-          → Gives (wholly_served answers script) status out.got new_out.got
+          → FulfilsOutput (wholly_served answers script) status out.got new_out.got
       by (inl answered) =
           let all = taken_all script input new_input done.bytes answered.end kept took answered.ends in
-          subst (λ o. Gives o status out.got new_out.got) (λ k. served answers (all.0 k) (all.1 k)) answered.gives
+          subst (λ o. FulfilsOutput o status out.got new_out.got) (λ k. served answers (all.0 k) (all.1 k)) answered.gives
       by (inr (five, broken)) =
           gives_part (wholly_served answers script) status out.got new_out.got five
           (broken_begins_all answers script done.bytes new_input.left broken.lines out.got new_out.got took broken.are broken.begun)
 
-  output_of : (course : Course) (left : Option (List ℕ)) → input.left ≡ left → Follows course input new_input out new_out status
-      → IfSome (whole_output course left) (λ output. new_input.faults ≡ input.faults → Gives output status out.got new_out.got)
-  output_of (Tells output) left told done = λ kept. done.1
-  output_of (Serves answers) None told done = tt
-  output_of (Serves answers) (Some script) told done = λ kept. whole_answer answers script told done kept
+  output_of : (behaviour : Behaviour) (left : Option (List ℕ)) → input.left ≡ left → FulfilsBehaviour behaviour input new_input out new_out status
+      → IfSome (whole_output behaviour left) (λ output. new_input.faults ≡ input.faults → FulfilsOutput output status out.got new_out.got)
+  output_of (Prints output) left told done = λ kept. done.1
+  output_of (Replies answers) None told done = tt
+  output_of (Replies answers) (Some script) told done = λ kept. whole_answer answers script told done kept
 
   -- a read failed
   abbrev FaultAnswered : (List (List ℕ) → List Item) → Type 0
   FaultAnswered answers =
       (bytes : List ℕ) × (new_input.taken ≡ input.taken + length bytes) × Consumes input.left new_input.left bytes
-      × WritesFirst out.got new_out.got (answers (whole_lines bytes)) × Gives (served answers bytes Failed) status out.got new_out.got
+      × WritesFirst out.got new_out.got (answers (whole_lines bytes)) × FulfilsOutput (served answers bytes Failed) status out.got new_out.got
 
   fault_of : (answers : List (List ℕ) → List Item) → input.faults < new_input.faults → IsServed answers input new_input out new_out status → FaultAnswered answers
   fault_of answers rises done = by done.wrote
     where
-      at : (end : End) → EndsAs end done.bytes input new_input → WritesFirst out.got new_out.got (answers (whole_lines done.bytes)) → Gives (served answers done.bytes end) status out.got new_out.got
+      at : (end : End) → EndsAs end done.bytes input new_input → WritesFirst out.got new_out.got (answers (whole_lines done.bytes)) → FulfilsOutput (served answers done.bytes end) status out.got new_out.got
           → FaultAnswered answers
       at Ended ends answered gives = absurd (omega (arith, ends.2, rises))
       at Failed ends answered gives = (done.bytes, done.counted, done.took, answered, gives)
@@ -126,9 +126,9 @@ module _ (input new_input : Reading) (out new_out : Writing) (status : Status) w
       by (inr broken) = let five = broken.0 in absurd (let never : ⊥ = cc in never)
 
   -- no more than the limit was taken
-  few_taken : (course : Course) → Follows course input new_input out new_out status → new_input.taken ≤ input.taken + SCRIPT_LIMIT
-  few_taken (Tells output) done = omega (arith, done.0.taken)
-  few_taken (Serves answers) done = by done.wrote
+  few_taken : (behaviour : Behaviour) → FulfilsBehaviour behaviour input new_input out new_out status → new_input.taken ≤ input.taken + SCRIPT_LIMIT
+  few_taken (Prints output) done = omega (arith, done.0.taken)
+  few_taken (Replies answers) done = by done.wrote
     where
       few : (end : End) → EndsAs end done.bytes input new_input → new_input.taken ≤ input.taken + SCRIPT_LIMIT
       few Ended ends = omega (arith, done.counted, ends.1)
@@ -140,9 +140,9 @@ module _ (input new_input : Reading) (out new_out : Writing) (status : Status) w
       by (inr broken) = elim broken.1.are [ inl whole ↦ omega (arith, done.counted, whole.0) | inr all ↦ omega (arith, done.counted, all.1) ]
 
   -- memory ran out before the script was begun
-  idle_without_memory : status ≡ NoMemory → (course : Course) → Follows course input new_input out new_out status → IsIdle input new_input
-  idle_without_memory six (Tells output) done = done.0
-  idle_without_memory six (Serves answers) done = by done.wrote
+  idle_without_memory : status ≡ NoMemory → (behaviour : Behaviour) → FulfilsBehaviour behaviour input new_input out new_out status → IsIdle input new_input
+  idle_without_memory six (Prints output) done = done.0
+  idle_without_memory six (Replies answers) done = by done.wrote
     where
       at : (end : End) → status ≡ (served answers done.bytes end).status → IsIdle input new_input
       at Ended is = absurd (let never : ⊥ = cc in never)
@@ -176,24 +176,24 @@ formless (Some form) is = absurd (let never : ⊥ = cc in never)
 clash : (form : Bool) (s t : Status) → s ≡ t → is_plain form t ≡ false → is_plain form s ≡ true → ⊥
 clash form s t is other plain = let no : true ≡ false = sym plain ∙ ap (is_plain form) is ∙ other in let never : ⊥ = cc in never
 
-not_done : (output : Output) (status : Status) (a b : Option (List ℕ)) → output.status ≢ Done → Gives output status a b → status ≢ Done
+not_done : (output : Output) (status : Status) (a b : Option (List ℕ)) → output.status ≢ Done → FulfilsOutput output status a b → status ≢ Done
 not_done output status a b other said zero = other (sym (said.whole (λ five. let never : ⊥ = cc in never)).0 ∙ zero)
 
 -- by the commands that ask for no script an output is printed
 idle_by : (choose : ClauseList → Option Forest) (form : Option Form) (file : List ℕ) (input new_input : Reading) (out new_out : Writing) (status : Status) → asks_script form ≡ false
-    → Follows (course_of choose form file) input new_input out new_out status → IsIdle input new_input
+    → FulfilsBehaviour (behaviour_of choose form file) input new_input out new_out status → IsIdle input new_input
 idle_by choose None file input new_input out new_out status asks done = done.0
 idle_by choose (Some (Load places)) file input new_input out new_out status asks done = done.0
 idle_by choose (Some (Over path command)) file input new_input out new_out status asks done = by (nat_le (length file) TEXT_LIMIT) done
   where
-    quiet : (any : Command) → asks_script (Some (Over path any)) ≡ false → Follows (course_by choose path any file) input new_input out new_out status → IsIdle input new_input
+    quiet : (any : Command) → asks_script (Some (Over path any)) ≡ false → FulfilsBehaviour (behaviour_by choose path any file) input new_input out new_out status → IsIdle input new_input
     quiet (Serve options) asks done = absurd (let never : ⊥ = cc in never)
     quiet (ServeFrames frames options) asks done = absurd (let never : ⊥ = cc in never)
     quiet (Ask health sessions) asks done = absurd (let never : ⊥ = cc in never)
     quiet (Inspect inspection) asks done = done.0
     quiet (Compile budget narrow) asks done = done.0
 
-    by : (short : Bool) → Follows (if short then course_by choose path command file else Tells (says (too_long_line (codes "file") TEXT_LIMIT) Refused)) input new_input out new_out status → IsIdle input new_input
+    by : (short : Bool) → FulfilsBehaviour (if short then behaviour_by choose path command file else Prints (says (too_long_line (codes "file") TEXT_LIMIT) Refused)) input new_input out new_out status → IsIdle input new_input
     by true done = quiet command asks done
     by false done = done.0
 
@@ -215,7 +215,7 @@ module _ (choose : ClauseList → Option Forest) (form : Option Form) (held : Li
     | inl kept ↦ inl (
       kept.0,
       elim kept.1 [
-        | inl done ↦ ending input new_input out new_out status (is_some form) (course_of choose form done.file) (plain_course choose form done.file) done.follows whole
+        | inl done ↦ ending input new_input out new_out status (is_some form) (behaviour_of choose form done.file) (plain_behaviour choose form done.file) done.follows whole
         | inr short ↦ idle_ending input new_input out new_out status (is_some form) no_memory short.0 short.1 whole
       ],
     )
@@ -259,34 +259,34 @@ module _ (choose : ClauseList → Option Forest) (form : Option Form) (held : Li
     | inr unread ↦ inl (unread.1.0, not_done (says read_error ReadFailed) status out.got new_out.got (λ e. let never : ⊥ = cc in never) unread.1.1)
   ]
 
-  -- what holds of a script that the course of the shown file answers
+  -- what holds of a script that the behaviour of the shown file answers
   abbrev IfServed : ((List (List ℕ) → List Item) → Type 0) → Type 0
-  IfServed Holds = IfSome told (λ file. (answers : List (List ℕ) → List Item) → course_of choose form file ≡ Serves answers → Holds answers)
+  IfServed Holds = IfSome told (λ file. (answers : List (List ℕ) → List Item) → behaviour_of choose form file ≡ Replies answers → Holds answers)
 
   if_served : (Holds : (List (List ℕ) → List Item) → Type 0) → (IsIdle input new_input → status ≢ Done → (answers : List (List ℕ) → List Item) → Holds answers)
       → ((answers : List (List ℕ) → List Item) → IsServed answers input new_input out new_out status → Holds answers) → IfServed Holds
   if_served Holds idle of = elim begun [
     | inl still ↦ some_all told (λ file answers is. idle still.0 still.1 answers)
-    | inr done ↦ some_map told (λ file same answers is. of answers (serves input new_input out new_out status (course_of choose form done.file) answers (ap (course_of choose form) same ∙ is) done.follows)) done.is_told
+    | inr done ↦ some_map told (λ file same answers is. of answers (serves input new_input out new_out status (behaviour_of choose form done.file) answers (ap (behaviour_of choose form) same ∙ is) done.follows)) done.is_told
   ]
 
   -- ---- what is written
 
   abbrev IsGiven : Output → Type 0
-  IsGiven output = new_shelf.faults ≡ shelf.faults → new_input.faults ≡ input.faults → GivesUnlessShort form output status out.got new_out.got
+  IsGiven output = new_shelf.faults ≡ shelf.faults → new_input.faults ≡ input.faults → FulfilsOutputUnlessShort form output status out.got new_out.got
 
   abbrev IsComplete : Output → Type 0
   IsComplete output = output.status ≡ Done → new_shelf.faults ≡ shelf.faults → new_input.faults ≡ input.faults → new_out.faults ≡ out.faults
       → ((status ≡ Done) × Writes out.got new_out.got output.items) ⊎ ((status ≡ NoMemory) × Writes out.got new_out.got no_memory.items)
 
-  given : IfSome told (λ file. IfSome (whole_output (course_of choose form file) input.left) IsGiven)
+  given : IfSome told (λ file. IfSome (whole_output (behaviour_of choose form file) input.left) IsGiven)
   given = elim run.done [
     | inl kept ↦ elim kept.1 [
-      | inl done ↦ some_map told (λ file same. subst (λ text. IfSome (whole_output (course_of choose form text) input.left) IsGiven) same
-          (some_map (whole_output (course_of choose form done.file) input.left) (λ output gives read taken. inr (gives taken)) (output_of input new_input out new_out status (course_of choose form done.file) input.left refl done.follows))) done.is_told
-      | inr short ↦ some_all told (λ file. some_all (whole_output (course_of choose form file) input.left) (λ output read taken. inl (short.0, short.1.1)))
+      | inl done ↦ some_map told (λ file same. subst (λ text. IfSome (whole_output (behaviour_of choose form text) input.left) IsGiven) same
+          (some_map (whole_output (behaviour_of choose form done.file) input.left) (λ output gives read taken. inr (gives taken)) (output_of input new_input out new_out status (behaviour_of choose form done.file) input.left refl done.follows))) done.is_told
+      | inr short ↦ some_all told (λ file. some_all (whole_output (behaviour_of choose form file) input.left) (λ output read taken. inl (short.0, short.1.1)))
     ]
-    | inr unread ↦ some_all told (λ file. some_all (whole_output (course_of choose form file) input.left) (λ output read taken. absurd (omega (arith, read, unread.0))))
+    | inr unread ↦ some_all told (λ file. some_all (whole_output (behaviour_of choose form file) input.left) (λ output read taken. absurd (omega (arith, read, unread.0))))
   ]
 
   completes : (output : Output) → IsGiven output → IsComplete output
@@ -307,15 +307,15 @@ module _ (choose : ClauseList → Option Forest) (form : Option Form) (held : Li
     not_asked = λ asks. elim begun [ inl still ↦ still.0 | inr done ↦ idle_by choose form done.file input new_input out new_out status asks done.follows ];
     no_script = elim begun [
       | inl still ↦ some_all told (λ file output is. still.0)
-      | inr done ↦ some_map told (λ file same output is. told_idle input new_input out new_out status (course_of choose form done.file) output (ap (course_of choose form) same ∙ is) done.follows) done.is_told
+      | inr done ↦ some_map told (λ file same output is. told_idle input new_input out new_out status (behaviour_of choose form done.file) output (ap (behaviour_of choose form) same ∙ is) done.follows) done.is_told
     ];
     output = given;
-    complete = some_map told (λ file. some_map (whole_output (course_of choose form file) input.left) completes) given;
+    complete = some_map told (λ file. some_map (whole_output (behaviour_of choose form file) input.left) completes) given;
     script_fault = if_served (λ answers. input.faults < new_input.faults → FaultAnswered input new_input out new_out status answers) (λ still other answers rises. absurd (omega (arith, still.faults, rises)))
         (λ answers done rises. fault_of input new_input out new_out status answers rises done);
     stopped = if_served (λ answers. status ≡ WriteFailed → input.taken < new_input.taken → Stopped input new_input out new_out status answers) (λ still other answers five moved. absurd (omega (arith, still.taken, moved))) (λ answers done five moved. stopped_of input new_input out new_out status answers moved done);
-    memory = λ six. elim begun [ inl still ↦ still.0 | inr done ↦ idle_without_memory input new_input out new_out status six (course_of choose form done.file) done.follows ];
+    memory = λ six. elim begun [ inl still ↦ still.0 | inr done ↦ idle_without_memory input new_input out new_out status six (behaviour_of choose form done.file) done.follows ];
     all_read = if_served (λ answers. status ≡ Done → IsAtEnd new_input.left) (λ still other answers zero. absurd (other zero)) (λ answers done zero. end_met input new_input out new_out status answers zero done);
-    script_taken = elim begun [ inl still ↦ omega (arith, still.0.taken) | inr done ↦ few_taken input new_input out new_out status (course_of choose form done.file) done.follows ];
+    script_taken = elim begun [ inl still ↦ omega (arith, still.0.taken) | inr done ↦ few_taken input new_input out new_out status (behaviour_of choose form done.file) done.follows ];
     cut = λ whole. cut_ends (run_ending whole);
   }

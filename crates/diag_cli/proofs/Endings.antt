@@ -1,4 +1,4 @@
--- With which status the output of a course ends.
+-- With which status the output of a behaviour ends.
 use Rattle.std.proofs.Common.{◌≡◌, ℕ, Bool, true, false, List, length, nat_le, nat_lt, Option, Some, None, refl, codes, if◌then◌else◌}
 use Rattle.std.specs.Prelude.{Result, Ok, Err, IfErr, not, is_some}
 use Rattle.std.specs.Result.{result_and}
@@ -46,7 +46,7 @@ use Rattle.diag_cli.specs.inner.Bits.{bits_line, levels_bits, least_bits}
 use Rattle.diag_cli.specs.Frames.{sequential_in, unrolled_within, if_unrolled}
 use Rattle.diag_cli.specs.Asking.{asking_line, asked}
 use Rattle.diag_cli.specs.Loads.{summary_by}
-use Rattle.diag_cli.specs.Courses.{Course, Tells, Serves, graph_by, if_within, served_device, served_frames, served_or_refused, course_by, course_of}
+use Rattle.diag_cli.specs.Behaviours.{Behaviour, Prints, Replies, graph_by, if_within, served_device, served_frames, served_or_refused, behaviour_by, behaviour_of}
 
 -- No call failed and no script was cut, and it is `Usage` exactly if the words have no form.
 abbrev pub is_plain : Bool → Status → Bool
@@ -57,9 +57,9 @@ is_plain form NoMemory = form
 is_plain form Usage = not form
 is_plain form status = false
 
-abbrev pub IsPlainCourse : Bool → Course → Type 0
-IsPlainCourse form (Tells output) = is_plain form output.status ≡ true
-IsPlainCourse form (Serves answers) = form ≡ true
+abbrev pub IsPlainBehaviour : Bool → Behaviour → Type 0
+IsPlainBehaviour form (Prints output) = is_plain form output.status ≡ true
+IsPlainBehaviour form (Replies answers) = form ≡ true
 
 abbrev Plain : {A : Type 0} → Result A Output → Type 0
 Plain found = IfErr found (λ output. is_plain true output.status ≡ true)
@@ -118,9 +118,9 @@ described_plain path file =
     (then_plain (λ made. or_line flatten_line (flattened made)) (or_line design_line (design file)) (line_plain design_line (design file)) (λ made. line_plain flatten_line (flattened made)))
     (line_plain netlist_line (netlist file))
 
--- ---- courses
+-- ---- behaviours
 
-served_plain : {A : Type 0} (system : A → System) (sessions : ℕ) (found : Result A Output) → Plain found → IsPlainCourse true (served_or_refused system sessions found)
+served_plain : {A : Type 0} (system : A → System) (sessions : ℕ) (found : Result A Output) → Plain found → IsPlainBehaviour true (served_or_refused system sessions found)
 served_plain system sessions (Ok a) is = refl
 served_plain system sessions (Err o) is = is
 
@@ -140,7 +140,7 @@ asked_plain : (health : ℕ) (found : Result Graph Output) → Plain found → P
 asked_plain health (Ok graph) is = and_plain (or_line asking_line (asked_names health graph.vars)) (asked_subject health graph) (line_plain asking_line (asked_names health graph.vars))
 asked_plain health (Err output) is = is
 
-command_plain : (choose : ClauseList → Option Forest) (path : List ℕ) (command : Command) (file : List ℕ) → IsPlainCourse true (course_by choose path command file)
+command_plain : (choose : ClauseList → Option Forest) (path : List ℕ) (command : Command) (file : List ℕ) → IsPlainBehaviour true (behaviour_by choose path command file)
 command_plain choose path (Serve options) file =
     let clauses = clauses_by options.narrow choose in
     served_plain (served_device options) options.sessions (if_within options clauses (described path file)) (if_within_plain options clauses (described path file) (described_plain path file))
@@ -153,16 +153,16 @@ command_plain choose path (Inspect (Plan narrow)) file = told_within_plain BUDGE
 command_plain choose path (Inspect Check) file = told_plain told_decomposable (graph_in file) (line_plain graph_fault_line (read_graph file)) (λ graph. refl)
 command_plain choose path (Compile budget narrow) file = told_within_plain budget (clauses_by narrow choose) graph_by (described path file) (described_plain path file) (λ device weighed. refl)
 
-either_course : (test : Bool) (one other : Course) → IsPlainCourse true one → IsPlainCourse true other → IsPlainCourse true (if test then one else other)
-either_course true one other is are = is
-either_course false one other is are = are
+either_behaviour : (test : Bool) (one other : Behaviour) → IsPlainBehaviour true one → IsPlainBehaviour true other → IsPlainBehaviour true (if test then one else other)
+either_behaviour true one other is are = is
+either_behaviour false one other is are = are
 
-form_plain : (choose : ClauseList → Option Forest) (form : Form) (file : List ℕ) → IsPlainCourse true (course_of choose (Some form) file)
+form_plain : (choose : ClauseList → Option Forest) (form : Form) (file : List ℕ) → IsPlainBehaviour true (behaviour_of choose (Some form) file)
 form_plain choose (Load places) file =
     told_within_plain DEFAULT_BUDGET (clauses_by false (λ list. None)) (summary_by places) (or_line netlist_line (netlist (adder_text places))) (line_plain netlist_line (netlist (adder_text places))) (λ device weighed. refl)
 form_plain choose (Over path command) file =
-    either_course (nat_le (length file) TEXT_LIMIT) (course_by choose path command file) (Tells (says (too_long_line (codes "file") TEXT_LIMIT) Refused)) (command_plain choose path command file) refl
+    either_behaviour (nat_le (length file) TEXT_LIMIT) (behaviour_by choose path command file) (Prints (says (too_long_line (codes "file") TEXT_LIMIT) Refused)) (command_plain choose path command file) refl
 
-pub plain_course : (choose : ClauseList → Option Forest) (form : Option Form) (file : List ℕ) → IsPlainCourse (is_some form) (course_of choose form file)
-plain_course choose None file = refl
-plain_course choose (Some form) file = form_plain choose form file
+pub plain_behaviour : (choose : ClauseList → Option Forest) (form : Option Form) (file : List ℕ) → IsPlainBehaviour (is_some form) (behaviour_of choose form file)
+plain_behaviour choose None file = refl
+plain_behaviour choose (Some form) file = form_plain choose form file

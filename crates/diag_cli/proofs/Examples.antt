@@ -11,7 +11,7 @@ use Rattle.diag_cli.specs.declared.words.ServeOptions.{ServeOptions}
 use Rattle.diag_cli.specs.declared.words.Command.TheVariants.{Serve, ServeFrames, Ask, Compile}
 use Rattle.diag_cli.specs.Words.{Load, Over, form_of}
 use Rattle.diag_cli.specs.inner.Bits.{levels_bits, least_bits, bits_line}
-use Rattle.diag_cli.specs.Courses.{Ended, Failed, Cut, read_error, served}
+use Rattle.diag_cli.specs.Behaviours.{Ended, Failed, Cut, read_error, served}
 
 -- ---- words with a form
 

@@ -1,4 +1,4 @@
--- From what was done by a course to a run.
+-- From what was done by a behaviour to a run.
 use Rattle.std.proofs.Common.{◌≡◌, ◌≢◌, ◌⊎◌, ◌<◌, ◌≤◌, ◌+◌, ℕ, true, false, List, [], length, replicate, Option, Some, None, IfSome, inl, inr, refl, ◌∙◌, ap, subst, sym, arith, nat_le, codes}
 use Rattle.std.specs.Option.{IsSome}
 use Rattle.std.proofs.lemmas.List.{length-replicate}
@@ -11,15 +11,15 @@ use Rattle.elimination_forests.specs.Forests.{Forest}
 use Rattle.session_rules.specs.Items.{Item}
 use Rattle.device_files.specs.declared.status.Status.{Status}
 use Rattle.device_files.specs.declared.status.Status.TheVariants.{Refused, Usage, WriteFailed}
-use Rattle.device_files.specs.Output.{Output, Gives, says, no_memory, too_long_line, GivesUnlessMemory}
+use Rattle.device_files.specs.Output.{Output, FulfilsOutput, says, no_memory, too_long_line, FulfilsOutputUnlessMemory}
 use Rattle.device_files.specs.Refusals.{or_memory}
 use Rattle.diag_cli.specs.declared.words.Command.{Command}
 use Rattle.diag_cli.specs.Words.{Form, Load, Over, named_file, told_file}
-use Rattle.diag_cli.specs.Courses.{Course, Tells, Serves, not_loaded, course_by, course_of}
+use Rattle.diag_cli.specs.Behaviours.{Behaviour, Prints, Replies, not_loaded, behaviour_by, behaviour_of}
 use Rattle.diag_cli.specs.Loads.{loaded}
 use Rattle.diag_cli.specs.Runs.{IsDone, IsRun}
-use Rattle.diag_cli.specs.Following.{IsIdle, IsServed, Follows}
-use Rattle.diag_cli.specs.inner.Serving.{FollowsUnlessMemory}
+use Rattle.diag_cli.specs.Fulfilled.{IsIdle, IsServed, FulfilsBehaviour}
+use Rattle.diag_cli.specs.inner.Serving.{FulfilsBehaviourUnlessMemory}
 use Rattle.diag_cli.proofs.Unread.{IsUnread}
 
 pub some_map : {A : Type 0} {P Q : A → Type 0} (o : Option A) → ((a : A) → P a → Q a) → IfSome o P → IfSome o Q
@@ -35,11 +35,11 @@ same_file file bytes told same is = some_map told (λ all e. same ∙ e) is
 abbrev long_file_line : List ℕ
 long_file_line = too_long_line (codes "file") TEXT_LIMIT
 
-short_course : (choose : ClauseList → Option Forest) (path : List ℕ) (command : Command) (file : List ℕ) → length file ≤ TEXT_LIMIT → course_of choose (Some (Over path command)) file ≡ course_by choose path command file
-short_course choose path command file short = let few : nat_le (length file) TEXT_LIMIT ≡ true = grind arith in rw few
+short_behaviour : (choose : ClauseList → Option Forest) (path : List ℕ) (command : Command) (file : List ℕ) → length file ≤ TEXT_LIMIT → behaviour_of choose (Some (Over path command)) file ≡ behaviour_by choose path command file
+short_behaviour choose path command file short = let few : nat_le (length file) TEXT_LIMIT ≡ true = grind arith in rw few
 
-long_course : (choose : ClauseList → Option Forest) (path : List ℕ) (command : Command) (file : List ℕ) → TEXT_LIMIT < length file → course_of choose (Some (Over path command)) file ≡ Tells (says long_file_line Refused)
-long_course choose path command file long = let many : nat_le (length file) TEXT_LIMIT ≡ false = grind arith in rw many
+long_behaviour : (choose : ClauseList → Option Forest) (path : List ℕ) (command : Command) (file : List ℕ) → TEXT_LIMIT < length file → behaviour_of choose (Some (Over path command)) file ≡ Prints (says long_file_line Refused)
+long_behaviour choose path command file long = let many : nat_le (length file) TEXT_LIMIT ≡ false = grind arith in rw many
 
 -- some bytes are too many, those that are shown if any are
 too_many : (limit : ℕ) → (file : List ℕ) × (limit < length file)
@@ -52,13 +52,13 @@ long_file limit (Some file) long = (file, refl, long)
 -- ---- what was found is served, or refused
 
 module _ (input new_input : Reading) (out new_out : Writing) (status : Status) where
-  pub follows_refusal : (course : Course) (fault : Option Output) → IfSome fault (λ output. course ≡ Tells output) → IsIdle input new_input
-      → Gives (or_memory fault) status out.got new_out.got → FollowsUnlessMemory course input new_input out new_out status
-  follows_refusal course None is idle said = inl (idle, said)
-  follows_refusal course (Some output) is idle said = inr (subst (λ c. Follows c input new_input out new_out status) (sym is) (idle, said))
+  pub follows_refusal : (behaviour : Behaviour) (fault : Option Output) → IfSome fault (λ output. behaviour ≡ Prints output) → IsIdle input new_input
+      → FulfilsOutput (or_memory fault) status out.got new_out.got → FulfilsBehaviourUnlessMemory behaviour input new_input out new_out status
+  follows_refusal behaviour None is idle said = inl (idle, said)
+  follows_refusal behaviour (Some output) is idle said = inr (subst (λ c. FulfilsBehaviour c input new_input out new_out status) (sym is) (idle, said))
 
-  pub follows_serves : (course : Course) (answers : List (List ℕ) → List Item) → course ≡ Serves answers → IsServed answers input new_input out new_out status → FollowsUnlessMemory course input new_input out new_out status
-  follows_serves course answers is done = inr (subst (λ c. Follows c input new_input out new_out status) (sym is) done)
+  pub follows_serves : (behaviour : Behaviour) (answers : List (List ℕ) → List Item) → behaviour ≡ Replies answers → IsServed answers input new_input out new_out status → FulfilsBehaviourUnlessMemory behaviour input new_input out new_out status
+  follows_serves behaviour answers is done = inr (subst (λ c. FulfilsBehaviour c input new_input out new_out status) (sym is) done)
 
 -- ---- runs
 
@@ -67,10 +67,10 @@ module _ (choose : ClauseList → Option Forest) (held : List ℕ → Holding) (
   idle reading = record { left = refl; taken = refl; faults = refl }
 
   -- The words name no file.
-  unnamed : (form : Option Form) → IsDone choose form (Some []) shelf shelf input input out new_out status ⊎ (IsSome form × Follows (Tells no_memory) input input out new_out status) → named_file form ≡ None
+  unnamed : (form : Option Form) → IsDone choose form (Some []) shelf shelf input input out new_out status ⊎ (IsSome form × FulfilsBehaviour (Prints no_memory) input input out new_out status) → named_file form ≡ None
       → IsRun choose form held shelf shelf input input out new_out status
   unnamed form done none = record {
-    done = inl (refl, subst (λ name. IsDone choose form (told_file held name) shelf shelf input input out new_out status ⊎ (IsSome form × Follows (Tells no_memory) input input out new_out status)) (sym none) done);
+    done = inl (refl, subst (λ name. IsDone choose form (told_file held name) shelf shelf input input out new_out status ⊎ (IsSome form × FulfilsBehaviour (Prints no_memory) input input out new_out status)) (sym none) done);
     write_fault = writes;
     no_name = λ _. idle shelf;
     absent_file = subst (λ name. IfSome name (λ n. held n ≡ absent → shelf.faults < shelf.faults)) (sym none) tt;
@@ -79,11 +79,11 @@ module _ (choose : ClauseList → Option Forest) (held : List ℕ → Holding) (
   }
 
   -- They have no form.
-  pub run_usage : Gives (says (codes "error: usage\n") Usage) status out.got new_out.got → IsRun choose None held shelf shelf input input out new_out status
+  pub run_usage : FulfilsOutput (says (codes "error: usage\n") Usage) status out.got new_out.got → IsRun choose None held shelf shelf input input out new_out status
   run_usage said = unnamed None (inl (record { file = []; is_told = refl; taken = omega arith; follows = (idle input, said) })) refl
 
   -- An adder is made.
-  pub run_load : (places : ℕ) → GivesUnlessMemory (loaded places) status out.got new_out.got → IsRun choose (Some (Load places)) held shelf shelf input input out new_out status
+  pub run_load : (places : ℕ) → FulfilsOutputUnlessMemory (loaded places) status out.got new_out.got → IsRun choose (Some (Load places)) held shelf shelf input input out new_out status
   run_load places (inl said) = unnamed (Some (Load places)) (inr (refl, (idle input, said))) refl
   run_load places (inr said) = unnamed (Some (Load places)) (inl (record { file = []; is_told = refl; taken = omega arith; follows = (idle input, said) })) refl
 
@@ -92,7 +92,7 @@ module _ (choose : ClauseList → Option Forest) (held : List ℕ → Holding) (
       -- The file was read.
       pub run_loaded : (file : List ℕ) → IfSome (told_bytes (held path)) (λ bytes. file ≡ bytes) → held path ≢ absent → new_shelf.faults ≡ shelf.faults
           → new_shelf.taken ≡ shelf.taken + length file → length file ≤ TEXT_LIMIT
-          → FollowsUnlessMemory (course_by choose path command file) input new_input out new_out status
+          → FulfilsBehaviourUnlessMemory (behaviour_by choose path command file) input new_input out new_out status
           → IsRun choose (Some (Over path command)) held shelf new_shelf input new_input out new_out status
       run_loaded file is there kept taken small follows = record {
         done = inl (kept, by follows);
@@ -103,17 +103,17 @@ module _ (choose : ClauseList → Option Forest) (held : List ℕ → Holding) (
         file_taken = omega (arith, taken, small);
       }
         where
-          by : FollowsUnlessMemory (course_by choose path command file) input new_input out new_out status
+          by : FulfilsBehaviourUnlessMemory (behaviour_by choose path command file) input new_input out new_out status
               → IsDone choose (Some (Over path command)) (told_bytes (held path)) shelf new_shelf input new_input out new_out status
-              ⊎ (IsSome (Some (Over path command)) × Follows (Tells no_memory) input new_input out new_out status)
+              ⊎ (IsSome (Some (Over path command)) × FulfilsBehaviour (Prints no_memory) input new_input out new_out status)
           by (inl said) = inr (refl, said)
-          by (inr done) = inl (record { file = file; is_told = is; taken = omega (arith, taken, small); follows = subst (λ c. Follows c input new_input out new_out status) (sym (short_course choose path command file small)) done })
+          by (inr done) = inl (record { file = file; is_told = is; taken = omega (arith, taken, small); follows = subst (λ c. FulfilsBehaviour c input new_input out new_out status) (sym (short_behaviour choose path command file small)) done })
 
     -- The file was not read.
     module _ (bounded : new_shelf.taken ≤ shelf.taken + TEXT_LIMIT + 1) (once : IfSome (told_bytes (held path)) (λ file. new_shelf.taken ≤ shelf.taken + length file)) where
       abbrev DoneOrShort : Type 0
       DoneOrShort = IsDone choose (Some (Over path command)) (told_bytes (held path)) shelf new_shelf input input out new_out status
-          ⊎ (IsSome (Some (Over path command)) × Follows (Tells no_memory) input input out new_out status)
+          ⊎ (IsSome (Some (Over path command)) × FulfilsBehaviour (Prints no_memory) input input out new_out status)
 
       -- It could be.
       there : held path ≢ absent → new_shelf.faults ≡ shelf.faults → DoneOrShort → IsRun choose (Some (Over path command)) held shelf new_shelf input input out new_out status
@@ -128,16 +128,16 @@ module _ (choose : ClauseList → Option Forest) (held : List ℕ → Holding) (
 
       -- a file that is too long, which is the one that is shown, if one is
       long_done : (file : List ℕ) → IfSome (told_bytes (held path)) (λ bytes. file ≡ bytes) → TEXT_LIMIT < length file → new_shelf.taken ≡ shelf.taken + TEXT_LIMIT + 1
-          → Gives (says long_file_line Refused) status out.got new_out.got → DoneOrShort
+          → FulfilsOutput (says long_file_line Refused) status out.got new_out.got → DoneOrShort
       long_done file is long taken said = inl (record {
         file = file;
         is_told = is;
         taken = omega (arith, taken, long);
-        follows = subst (λ c. Follows c input input out new_out status) (sym (long_course choose path command file long)) (idle input, said);
+        follows = subst (λ c. FulfilsBehaviour c input input out new_out status) (sym (long_behaviour choose path command file long)) (idle input, said);
       })
 
       pub run_unread : (error : LoadError) → IsUnread error (held path) shelf.faults new_shelf.faults
-          → ((limit : ℕ) → error ≡ Long limit → new_shelf.taken ≡ shelf.taken + TEXT_LIMIT + 1) → Gives (not_loaded error) status out.got new_out.got
+          → ((limit : ℕ) → error ≡ Long limit → new_shelf.taken ≡ shelf.taken + TEXT_LIMIT + 1) → FulfilsOutput (not_loaded error) status out.got new_out.got
           → IsRun choose (Some (Over path command)) held shelf new_shelf input input out new_out status
       run_unread LoadFailed rises taken said = record {
         done = inr (rises, (idle input, said));

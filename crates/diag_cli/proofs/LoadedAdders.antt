@@ -14,8 +14,8 @@ use Rattle.device_model.specs.Devices.{Device, part_names, part_costs}
 use Rattle.device_model.specs.declared.component.Component.{Component}
 use Rattle.device_model.specs.Diagnosis.{device_system}
 use Rattle.conditioner.specs.Models.{models, least_under, diagnoses_under}
-use Rattle.conditioner.specs.Words.{bits_of}
-use Rattle.session_rules.specs.GraphSystems.{case_words}
+use Rattle.conditioner.specs.Evidence.{bits_of}
+use Rattle.session_rules.specs.GraphSystems.{case_evidence}
 use Rattle.session_rules.specs.CaseSizes.{IsCaseOf}
 use Rattle.session_rules.proofs.Begun.{HaveSpellings}
 use Rattle.session_rules.proofs.GraphMeaning.{same_consistent}
@@ -23,7 +23,7 @@ use Rattle.adder_load.specs.declared.sampling.Found.{Found}
 use Rattle.adder_load.specs.Readings.{adder_case}
 use Rattle.adder_load.proofs.Cases.{case_seen, case_held}
 use Rattle.device_files.specs.declared.status.Status.{Status}
-use Rattle.device_files.specs.Output.{Output, Gives, GivesUnlessMemory, told_or_refused}
+use Rattle.device_files.specs.Output.{Output, FulfilsOutput, FulfilsOutputUnlessMemory, told_or_refused}
 use Rattle.device_files.specs.Inspecting.{count_line}
 use Rattle.device_files.specs.Refusals.{or_memory}
 use Rattle.diag_cli.specs.declared.loading.TheConstants.{LISTED_LIMIT}
@@ -39,7 +39,7 @@ within_limit : {A : Type 0} (limit : ℕ) (xs : List A) → 0 < limit → length
 within_limit limit xs some = let long = length-take limit xs in grind (arith, long, some)
 
 module _ (device : Device) (graph : Graph) (places : ℕ) (words costs : List ℕ) (is : IsServable device graph) (priced : costs ≡ part_costs device) (many : length costs ≡ length device.parts)
-    (noted : words ≡ case_words graph.vars (adder_case device places)) where
+    (noted : words ≡ case_evidence graph.vars (adder_case device places)) where
   abbrev known : Case
   known = adder_case device places
 
@@ -95,9 +95,9 @@ refusal_told told None found is = tt
 refusal_told told (Some output) found is = ap (told_or_refused told) is
 
 -- a refusal of an output that is printed
-pub gives_told : (fault : Option Output) (output : Output) (status : Status) (a b : Option (List ℕ)) → IfSome fault (λ said. output ≡ said) → Gives (or_memory fault) status a b → GivesUnlessMemory output status a b
+pub gives_told : (fault : Option Output) (output : Output) (status : Status) (a b : Option (List ℕ)) → IfSome fault (λ said. output ≡ said) → FulfilsOutput (or_memory fault) status a b → FulfilsOutputUnlessMemory output status a b
 gives_told None output status a b is said = inl said
-gives_told (Some other) output status a b is said = inr (subst (λ (o : Output). Gives o status a b) (sym is) said)
+gives_told (Some other) output status a b is said = inr (subst (λ (o : Output). FulfilsOutput o status a b) (sym is) said)
 
-pub gives_summary : (output expected : Output) (status : Status) (a b : Option (List ℕ)) → expected ≡ output → Gives output status a b → GivesUnlessMemory expected status a b
-gives_summary output expected status a b is said = inr (subst (λ (o : Output). Gives o status a b) (sym is) said)
+pub gives_summary : (output expected : Output) (status : Status) (a b : Option (List ℕ)) → expected ≡ output → FulfilsOutput output status a b → FulfilsOutputUnlessMemory expected status a b
+gives_summary output expected status a b is said = inr (subst (λ (o : Output). FulfilsOutput o status a b) (sym is) said)

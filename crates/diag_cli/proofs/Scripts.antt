@@ -12,8 +12,8 @@ use Rattle.session_rules.proofs.Begun.{part_more}
 use Rattle.session_rules.proofs.LineFronts.{whole_lines-front, all_lines-front}
 use Rattle.device_files.specs.Output.{too_long_line}
 use Rattle.diag_cli.specs.declared.serving.TheConstants.{SCRIPT_LIMIT}
-use Rattle.diag_cli.specs.Courses.{End, Ended, Failed, Cut, served}
-use Rattle.diag_cli.specs.Following.{EndsAs}
+use Rattle.diag_cli.specs.Behaviours.{End, Ended, Failed, Cut, served}
+use Rattle.diag_cli.specs.Fulfilled.{EndsAs}
 use Rattle.diag_cli.specs.Details.{wholly_served, end_of}
 
 abbrev script_too_long : List ℕ

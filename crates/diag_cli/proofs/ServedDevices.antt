@@ -22,8 +22,8 @@ use Rattle.device_files.specs.Refusals.{told_by}
 use Rattle.device_files.specs.Choices.{IsListOf}
 use Rattle.device_files.specs.Weighing.{within}
 use Rattle.diag_cli.specs.declared.words.ServeOptions.{ServeOptions}
-use Rattle.diag_cli.specs.Courses.{ready_line, answers_of, served_device}
-use Rattle.diag_cli.specs.inner.Compiling.{IsGraphBy, FindsGraph}
+use Rattle.diag_cli.specs.Behaviours.{ready_line, answers_of, served_device}
+use Rattle.diag_cli.specs.inner.Compiling.{IsGraphBy, FulfilsGraph}
 use Rattle.diag_cli.specs.inner.Serving.{IsServable, Answers}
 
 -- ---- the graph of a device is such as a service takes
@@ -48,7 +48,7 @@ all_servable device list of valid budget sum small (Err refusal) few by = tt
 -- what a call answers that compiles it, if its clauses have this sum
 pub found_or_refused : (device : Device) (list : ClauseList) → IsListOf device list → IsDevice device → (budget sum : ℕ) → budget ≤ BUDGET_LIMIT → (result : Result Graph Refusal)
     → Fulfils (λ (_ : Graph). record { list = list; sum = sum }) told_by (within budget (Ok (record { list = list; sum = sum }))) result → IfOk result (λ (_ : Graph). sum ≤ budget)
-    → IfOk result (IsGraphBy (record { list = list; sum = sum })) → FindsGraph device (within budget (Ok (record { list = list; sum = sum }))) result
+    → IfOk result (IsGraphBy (record { list = list; sum = sum })) → FulfilsGraph device (within budget (Ok (record { list = list; sum = sum }))) result
 found_or_refused device list of valid budget sum small (Ok graph) is few by =
     (servable device list of.encoded graph sum valid of.describes (omega (arith, few, small)) by, (record { list = list; sum = sum }, is, by))
 found_or_refused device list of valid budget sum small (Err refusal) is few by = is

@@ -30,7 +30,7 @@ use Rattle.device_files.specs.Output.{Output}
 use Rattle.device_files.proofs.ForestChoices.{by_same, chosen_gives}
 use Rattle.diag_cli.specs.declared.words.ServeOptions.{ServeOptions}
 use Rattle.diag_cli.specs.Besides.{in_few_bits}
-use Rattle.diag_cli.specs.Courses.{ready_line, answers_of, served_frames}
+use Rattle.diag_cli.specs.Behaviours.{ready_line, answers_of, served_frames}
 use Rattle.diag_cli.specs.Frames.{unrolled_within, if_unrolled}
 use Rattle.diag_cli.specs.inner.Compiling.{IsGraphBy}
 use Rattle.diag_cli.specs.inner.Serving.{Answers, frames_told}
@@ -49,12 +49,12 @@ module _ (seq : Sequential) (frames : ℕ) (options : ServeOptions) where
       by NoMemory h = tt
 
   -- what its clauses come to by the forest that was chosen for them
-  pub unrolled_gives : (made : Unrolled) → unrolled seq frames ≡ Ok made → (chosen : Option Narrowed) → IsChosen options.narrow made.cnf chosen → (Gives : Result Sequential Output → Type 0)
-      → ((sum : ℕ) → HasSum made.cnf chosen sum → Gives (result_and (in_few_bits options.extras (length seq.device.parts) (within options.budget (Ok (record { list = made.cnf; sum = sum })))) (Ok seq)))
-      → ByForest (λ choose. Gives (if_unrolled frames options (weighed_by options.narrow choose) (Ok seq)))
-  unrolled_gives made is chosen of Gives given =
-      by_same (chosen_gives made.cnf options.narrow chosen of (λ weighed. Gives (result_and (in_few_bits options.extras (length seq.device.parts) (within options.budget (Ok weighed))) (Ok seq))) given)
-      (λ choose holds. subst Gives (sym (ap (λ r. result_and (in_few_bits options.extras (length seq.device.parts) (unrolled_within options.budget (weighed_by options.narrow choose) r)) (Ok seq)) is)) holds)
+  pub unrolled_gives : (made : Unrolled) → unrolled seq frames ≡ Ok made → (chosen : Option Narrowed) → IsChosen options.narrow made.cnf chosen → (FulfilsOutput : Result Sequential Output → Type 0)
+      → ((sum : ℕ) → HasSum made.cnf chosen sum → FulfilsOutput (result_and (in_few_bits options.extras (length seq.device.parts) (within options.budget (Ok (record { list = made.cnf; sum = sum })))) (Ok seq)))
+      → ByForest (λ choose. FulfilsOutput (if_unrolled frames options (weighed_by options.narrow choose) (Ok seq)))
+  unrolled_gives made is chosen of FulfilsOutput given =
+      by_same (chosen_gives made.cnf options.narrow chosen of (λ weighed. FulfilsOutput (result_and (in_few_bits options.extras (length seq.device.parts) (within options.budget (Ok weighed))) (Ok seq))) given)
+      (λ choose holds. subst FulfilsOutput (sym (ap (λ r. result_and (in_few_bits options.extras (length seq.device.parts) (unrolled_within options.budget (weighed_by options.narrow choose) r)) (Ok seq)) is)) holds)
 
 -- ---- the service of what was unrolled
 

@@ -5,11 +5,11 @@ use Rattle.clause_encoder.specs.Clauses.{ClauseList}
 use Rattle.elimination_forests.specs.Forests.{Forest}
 use Rattle.session_rules.specs.Items.{Item}
 use Rattle.device_files.specs.declared.status.Status.{Status}
-use Rattle.device_files.specs.Output.{Output, Gives, GivesUnlessMemory}
+use Rattle.device_files.specs.Output.{Output, FulfilsOutput, FulfilsOutputUnlessMemory}
 use Rattle.diag_cli.specs.Words.{Form}
-use Rattle.diag_cli.specs.Courses.{Tells}
-use Rattle.diag_cli.specs.Following.{IsServed}
-use Rattle.diag_cli.specs.inner.Serving.{FollowsUnlessMemory}
+use Rattle.diag_cli.specs.Behaviours.{Prints}
+use Rattle.diag_cli.specs.Fulfilled.{IsServed}
+use Rattle.diag_cli.specs.inner.Serving.{FulfilsBehaviourUnlessMemory}
 use Rattle.diag_cli.specs.Runs.{IsRun}
 
 pub at_ends : (Holds : Reading → Reading → Writing → Writing → Type 0) {input new_input input_shown new_input_shown : Reading} {out new_out out_shown new_out_shown : Writing}
@@ -24,13 +24,13 @@ pub at_sink : (Holds : Option (List ℕ) → Option (List ℕ) → Type 0) {befo
 at_sink Holds a b holds = subst₂ Holds (sym (ap (λ (w : Writing). w.got) a)) (sym (ap (λ (w : Writing). w.got) b)) holds
 
 pub gives_shown : {output : Output} {status : Status} {before after : Option (List ℕ)} {faults new_faults : ℕ} {out new_out : Writing}
-    → out ≡ record { got = before; faults = faults } → new_out ≡ record { got = after; faults = new_faults } → Gives output status before after → Gives output status out.got new_out.got
-gives_shown {output} {status} a b said = at_sink (Gives output status) a b said
+    → out ≡ record { got = before; faults = faults } → new_out ≡ record { got = after; faults = new_faults } → FulfilsOutput output status before after → FulfilsOutput output status out.got new_out.got
+gives_shown {output} {status} a b said = at_sink (FulfilsOutput output status) a b said
 
 -- nothing was read, and an output was given
 pub told_shown : {output : Output} {status : Status} {input : Reading} {before after : Option (List ℕ)} {faults new_faults : ℕ} {out new_out : Writing}
-    → out ≡ record { got = before; faults = faults } → new_out ≡ record { got = after; faults = new_faults } → GivesUnlessMemory output status before after
-    → FollowsUnlessMemory (Tells output) input input out new_out status
+    → out ≡ record { got = before; faults = faults } → new_out ≡ record { got = after; faults = new_faults } → FulfilsOutputUnlessMemory output status before after
+    → FulfilsBehaviourUnlessMemory (Prints output) input input out new_out status
 told_shown a b (inl said) = inl (record { left = refl; taken = refl; faults = refl }, gives_shown a b said)
 told_shown a b (inr said) = inr (record { left = refl; taken = refl; faults = refl }, gives_shown a b said)
 

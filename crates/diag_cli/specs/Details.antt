@@ -13,9 +13,9 @@ use Rattle.diag_cli.specs.declared.words.Command.TheVariants.{Serve, ServeFrames
 use Rattle.diag_cli.specs.Words.{Form, Over, named_file, told_file}
 use Rattle.device_files.specs.declared.status.Status.{Status}
 use Rattle.device_files.specs.declared.status.Status.TheVariants.{Done, Usage, ReadFailed, WriteFailed, NoMemory, CutShort}
-use Rattle.device_files.specs.Output.{Output, Gives, no_memory, says}
-use Rattle.diag_cli.specs.Following.{IsIdle, WritesFirst, IsStopped}
-use Rattle.diag_cli.specs.Courses.{End, Ended, Failed, Cut, Course, Tells, Serves, read_error, served, course_of}
+use Rattle.device_files.specs.Output.{Output, FulfilsOutput, no_memory, says}
+use Rattle.diag_cli.specs.Fulfilled.{IsIdle, WritesFirst, IsStopped}
+use Rattle.diag_cli.specs.Behaviours.{End, Ended, Failed, Cut, Behaviour, Prints, Replies, read_error, served, behaviour_of}
 
 -- only `serve` and `ask` ask for a script
 abbrev pub asks_script : Option Form → Bool
@@ -32,14 +32,14 @@ end_of script = if nat_lt (length script) SCRIPT_LIMIT then Ended else Cut
 abbrev pub wholly_served : (List (List ℕ) → List Item) → List ℕ → Output
 wholly_served answers script = served answers (take SCRIPT_LIMIT script) (end_of script)
 
--- the output of a course, if the script that it may need is shown
-abbrev pub whole_output : Course → Option (List ℕ) → Option Output
-whole_output (Tells output) left = Some output
-whole_output (Serves answers) left = option_map (wholly_served answers) left
+-- the output of a behaviour, if the script that it may need is shown
+abbrev pub whole_output : Behaviour → Option (List ℕ) → Option Output
+whole_output (Prints output) left = Some output
+whole_output (Replies answers) left = option_map (wholly_served answers) left
 
 -- the output was given, or memory ran out, which it cannot if the words have no form
-abbrev pub GivesUnlessShort : Option Form → Output → Status → Option (List ℕ) → Option (List ℕ) → Type 0
-GivesUnlessShort form output status before after = (IsSome form × Gives no_memory status before after) ⊎ Gives output status before after
+abbrev pub FulfilsOutputUnlessShort : Option Form → Output → Status → Option (List ℕ) → Option (List ℕ) → Type 0
+FulfilsOutputUnlessShort form output status before after = (IsSome form × FulfilsOutput no_memory status before after) ⊎ FulfilsOutput output status before after
 
 -- What holds of each run besides, by its words, over a shelf that holds this, with its input and its output.
 pub record HasDetails (choose : ClauseList → Option Forest) (form : Option Form) (held : List ℕ → Holding) (shelf new_shelf input new_input : Reading) (out new_out : Writing) (status : Status) : Type 0 where
@@ -50,32 +50,32 @@ pub record HasDetails (choose : ClauseList → Option Forest) (form : Option For
   -- Without a failed write it is `Usage` exactly if the words have no form.
   pub usage : status ≢ WriteFailed → (status ≡ Usage) ↔ (form ≡ None)
   -- If the file is not read, the script is not begun, and one line is written.
-  pub no_file : shelf.faults < new_shelf.faults → IsIdle input new_input × Gives (says read_error ReadFailed) status out.got new_out.got
+  pub no_file : shelf.faults < new_shelf.faults → IsIdle input new_input × FulfilsOutput (says read_error ReadFailed) status out.got new_out.got
   -- If the words ask for no script, none is read, and if the file is refused neither.
   pub not_asked : asks_script form ≡ false → IsIdle input new_input
-  pub no_script : IfSome (told_file held (named_file form)) (λ file. (output : Output) → course_of choose form file ≡ Tells output → IsIdle input new_input)
+  pub no_script : IfSome (told_file held (named_file form)) (λ file. (output : Output) → behaviour_of choose form file ≡ Prints output → IsIdle input new_input)
   -- If no read failed, what is written is the output for the words, the file and the script, or memory ran out for words
   -- with a form.
-  pub output : IfSome (told_file held (named_file form)) (λ file. IfSome (whole_output (course_of choose form file) input.left) (λ output.
-      new_shelf.faults ≡ shelf.faults → new_input.faults ≡ input.faults → GivesUnlessShort form output status out.got new_out.got))
+  pub output : IfSome (told_file held (named_file form)) (λ file. IfSome (whole_output (behaviour_of choose form file) input.left) (λ output.
+      new_shelf.faults ≡ shelf.faults → new_input.faults ≡ input.faults → FulfilsOutputUnlessShort form output status out.got new_out.got))
   -- If that output has status `Done` and no write failed either, that is the status and all of it was written; or it is
   -- `NoMemory`, with the one line of lack of memory.
-  pub complete : IfSome (told_file held (named_file form)) (λ file. IfSome (whole_output (course_of choose form file) input.left) (λ output.
+  pub complete : IfSome (told_file held (named_file form)) (λ file. IfSome (whole_output (behaviour_of choose form file) input.left) (λ output.
       output.status ≡ Done → new_shelf.faults ≡ shelf.faults → new_input.faults ≡ input.faults → new_out.faults ≡ out.faults →
       ((status ≡ Done) × Writes out.got new_out.got output.items) ⊎ ((status ≡ NoMemory) × Writes out.got new_out.got no_memory.items)))
   -- If a read of the script failed, the lines that a line feed had ended were answered before.
-  pub script_fault : IfSome (told_file held (named_file form)) (λ file. (answers : List (List ℕ) → List Item) → course_of choose form file ≡ Serves answers →
+  pub script_fault : IfSome (told_file held (named_file form)) (λ file. (answers : List (List ℕ) → List Item) → behaviour_of choose form file ≡ Replies answers →
       input.faults < new_input.faults →
       (bytes : List ℕ) × (new_input.taken ≡ input.taken + length bytes) × Consumes input.left new_input.left bytes
-      × WritesFirst out.got new_out.got (answers (whole_lines bytes)) × Gives (served answers bytes Failed) status out.got new_out.got)
+      × WritesFirst out.got new_out.got (answers (whole_lines bytes)) × FulfilsOutput (served answers bytes Failed) status out.got new_out.got)
   -- If a write failed, of the bytes of the script that were taken all but those of one read had been answered.
-  pub stopped : IfSome (told_file held (named_file form)) (λ file. (answers : List (List ℕ) → List Item) → course_of choose form file ≡ Serves answers →
+  pub stopped : IfSome (told_file held (named_file form)) (λ file. (answers : List (List ℕ) → List Item) → behaviour_of choose form file ≡ Replies answers →
       status ≡ WriteFailed → input.taken < new_input.taken →
       (bytes : List ℕ) × (new_input.taken ≡ input.taken + length bytes) × Consumes input.left new_input.left bytes × IsStopped answers bytes out.got new_out.got)
   -- If memory ran out, the script was not begun.
   pub memory : status ≡ NoMemory → IsIdle input new_input
   -- With status `Done` a script that is answered was read to its end.
-  pub all_read : IfSome (told_file held (named_file form)) (λ file. (answers : List (List ℕ) → List Item) → course_of choose form file ≡ Serves answers → status ≡ Done → IsAtEnd new_input.left)
+  pub all_read : IfSome (told_file held (named_file form)) (λ file. (answers : List (List ℕ) → List Item) → behaviour_of choose form file ≡ Replies answers → status ≡ Done → IsAtEnd new_input.left)
   -- At most the limit is taken of the script.
   pub script_taken : new_input.taken ≤ input.taken + SCRIPT_LIMIT
   -- With status `CutShort` exactly the limit was taken of the script, and with no other one, unless a write failed.

@@ -3,8 +3,8 @@ pub mod Asking
 pub mod Frames
 pub mod Loads
 pub mod Besides
-pub mod Courses
-pub mod Following
+pub mod Behaviours
+pub mod Fulfilled
 pub mod Runs
 pub mod Details
 pub mod inner

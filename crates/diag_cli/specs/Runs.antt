@@ -9,8 +9,8 @@ use Rattle.diag_cli.specs.Words.{Form, named_file, told_file}
 use Rattle.device_files.specs.declared.status.Status.{Status}
 use Rattle.device_files.specs.declared.status.Status.TheVariants.{ReadFailed, WriteFailed}
 use Rattle.device_files.specs.Output.{no_memory, says}
-use Rattle.diag_cli.specs.Following.{IsIdle, Follows}
-use Rattle.diag_cli.specs.Courses.{Tells, read_error, course_of}
+use Rattle.diag_cli.specs.Fulfilled.{IsIdle, FulfilsBehaviour}
+use Rattle.diag_cli.specs.Behaviours.{Prints, read_error, behaviour_of}
 
 -- What was done by the bytes of a file: those that the shelf shows, if it shows any. They were taken, and of a file that is too long one
 -- byte more than the limit.
@@ -18,7 +18,7 @@ pub record IsDone (choose : ClauseList → Option Forest) (form : Option Form) (
   pub file : List ℕ
   pub is_told : IfSome told (λ bytes. file ≡ bytes)
   pub taken : new_shelf.taken ≡ shelf.taken + min (length file) (TEXT_LIMIT + 1)
-  pub follows : Follows (course_of choose form file) input new_input out new_out status
+  pub follows : FulfilsBehaviour (behaviour_of choose form file) input new_input out new_out status
 
 -- What a run does by its words, over a shelf that holds this, with its input and its output. If the words ask for
 -- a forest of clauses, one is chosen.
@@ -26,8 +26,8 @@ pub record IsRun (choose : ClauseList → Option Forest) (form : Option Form) (h
   -- All was done by the bytes of the file, or memory ran out before the script was begun, which it cannot if the words have no form;
   -- or a read of the file failed, and the output says so.
   pub done : ((new_shelf.faults ≡ shelf.faults) × (IsDone choose form (told_file held (named_file form)) shelf new_shelf input new_input out new_out status
-      ⊎ (IsSome form × Follows (Tells no_memory) input new_input out new_out status)))
-      ⊎ ((shelf.faults < new_shelf.faults) × Follows (Tells (says read_error ReadFailed)) input new_input out new_out status)
+      ⊎ (IsSome form × FulfilsBehaviour (Prints no_memory) input new_input out new_out status)))
+      ⊎ ((shelf.faults < new_shelf.faults) × FulfilsBehaviour (Prints (says read_error ReadFailed)) input new_input out new_out status)
   -- The status is `WriteFailed` exactly if a write failed.
   pub write_fault : RoseExactly out.faults new_out.faults (status ≡ WriteFailed)
   -- If no file is named, nothing is read of the shelf, and a file that is absent cannot be read.

@@ -6,7 +6,7 @@ ghost use Rattle.nnf_ask.specs.Asking.{told};
 ghost use Rattle.session_rules.specs.GraphSystems.{system_of};
 ghost use Rattle.diag_cli.specs.Asking.{asked, asking_line};
 ghost use Rattle.device_files.specs.Checking.{graph_in};
-ghost use Rattle.diag_cli.specs.Courses.{served_or_refused};
+ghost use Rattle.diag_cli.specs.Behaviours.{served_or_refused};
 ghost use Rattle.device_files.specs.Output.{says};
 ghost use Rattle.device_files.specs.Refusals.{told_by};
 ghost use Rattle.diag_cli.specs.inner.Serving.{Answers, IsFor};
@@ -67,7 +67,7 @@ pub(crate) fn graph_service(
     requires some { 1 ≤ sessions }
     requires sessions { sessions ≤ SESSION_LIMIT }
     ensures none_open { IfOk result (λ service. service.table ≡ []) }
-    ensures course { IsFor (served_or_refused system_of sessions (asked health (graph_in file.now))) result }
+    ensures behaviour { IsFor (served_or_refused system_of sessions (asked health (graph_in file.now))) result }
 {
     let graph = graph_in(alloc, file)?;
     service_over(alloc, graph, health, sessions)

@@ -8,7 +8,7 @@ ghost use Rattle.device_files.specs.Weighing.{within};
 ghost use Rattle.device_files.specs.Refusals.{told_by};
 ghost use Rattle.diag_cli.specs.Besides.{in_few_bits};
 ghost use Rattle.diag_cli.specs.inner.Bits.{levels_bits, least_bits, bits_line};
-ghost use Rattle.diag_cli.specs.Courses.{if_within};
+ghost use Rattle.diag_cli.specs.Behaviours.{if_within};
 ghost use Rattle.diag_cli.specs.inner.Compiling.{IsGraphBy};
 ghost use Rattle.diag_cli.specs.inner.Forms.{AreWithinLimits};
 ghost use Rattle.diag_cli.specs.inner.Serving.{IsServable, CanTell};

@@ -4,7 +4,7 @@ ghost use Rattle.text_rules.specs.Expected.{Fulfils};
 ghost use Rattle.device_files.specs.Choices.{ByClauses};
 ghost use Rattle.device_files.specs.Describing.{described};
 ghost use Rattle.device_files.specs.Refusals.{told_by};
-ghost use Rattle.diag_cli.specs.Courses.{if_within, served_device, served_or_refused};
+ghost use Rattle.diag_cli.specs.Behaviours.{if_within, served_device, served_or_refused};
 ghost use Rattle.diag_cli.specs.inner.Forms.{AreWithinLimits};
 ghost use Rattle.diag_cli.specs.inner.Serving.{IsServable, Answers, IsFor, CanTell};
 
@@ -69,7 +69,7 @@ pub(crate) fn device_service(
     requires options { AreWithinLimits options }
     requires short { length file.now ≤ TEXT_LIMIT }
     ensures none_open { IfOk result (λ service. service.table ≡ []) }
-    ensures course { ByClauses options.narrow (λ clauses.
+    ensures behaviour { ByClauses options.narrow (λ clauses.
         IsFor (served_or_refused (served_device options) options.sessions (if_within options clauses (described path.now file.now))) result) }
 {
     let device = described(alloc, path, file)?;

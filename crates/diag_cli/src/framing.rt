@@ -6,8 +6,8 @@ ghost use Rattle.state_rules.specs.Ranking.{plain_costs};
 ghost use Rattle.bench_reader.specs.SequentialNetlists.{sequential_netlist, HasShortNames};
 ghost use Rattle.device_files.specs.Choices.{weighed_by, ByForest};
 ghost use Rattle.device_files.specs.Describing.{netlist_line, or_line};
-ghost use Rattle.device_files.specs.Refusals.{Finds, told_by};
-ghost use Rattle.diag_cli.specs.Courses.{served_frames, served_or_refused};
+ghost use Rattle.device_files.specs.Refusals.{FulfilsOrRefuses, told_by};
+ghost use Rattle.diag_cli.specs.Behaviours.{served_frames, served_or_refused};
 ghost use Rattle.diag_cli.specs.Frames.{sequential_in, if_unrolled};
 ghost use Rattle.diag_cli.specs.inner.Forms.{AreWithinLimits};
 ghost use Rattle.diag_cli.specs.inner.Serving.{Answers, IsFor};
@@ -26,7 +26,7 @@ use text_rules::TEXT_LIMIT;
 // The netlist of a text, which may have flip-flops.
 fn sequential(alloc: Global, text: &[u8]) -> Result<Sequential, Refusal>
     requires { length text.now ≤ TEXT_LIMIT }
-    ensures read { Finds (or_line netlist_line (sequential_netlist text.now)) result }
+    ensures read { FulfilsOrRefuses (or_line netlist_line (sequential_netlist text.now)) result }
     ensures short { IfOk result (λ seq. HasShortNames seq.device) }
 {
     match read_sequential(alloc, text) {
@@ -96,7 +96,7 @@ pub(crate) fn frame_service(
     requires options { AreWithinLimits options }
     requires short { length file.now ≤ TEXT_LIMIT }
     ensures none_open { IfOk result (λ service. service.table ≡ []) }
-    ensures course { ByForest (λ choose. IsFor (served_or_refused (served_frames frames options) options.sessions
+    ensures behaviour { ByForest (λ choose. IsFor (served_or_refused (served_frames frames options) options.sessions
         (if_unrolled frames options (weighed_by options.narrow choose) (sequential_in file.now))) result) }
 {
     let seq = sequential(alloc, file)?;

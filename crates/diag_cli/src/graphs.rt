@@ -8,7 +8,7 @@ ghost use Rattle.tree_finder.specs.Narrowing.{IsFound};
 ghost use Rattle.device_files.specs.Choices.{ByClauses, HasSum};
 ghost use Rattle.device_files.specs.Weighing.{within};
 ghost use Rattle.device_files.specs.Refusals.{told_by};
-ghost use Rattle.diag_cli.specs.inner.Compiling.{IsGraphBy, FindsGraph};
+ghost use Rattle.diag_cli.specs.inner.Compiling.{IsGraphBy, FulfilsGraph};
 
 use branch_states::{BUDGET_LIMIT, MeasureError};
 use clause_encoder::Cnf;
@@ -27,7 +27,7 @@ pub(crate) fn graph_within(
     is_narrow: bool,
 ) -> Result<Graph, Refusal>
     requires { budget ≤ BUDGET_LIMIT }
-    ensures { ByClauses is_narrow (λ clauses. FindsGraph device.now (within budget (clauses device.now)) result) }
+    ensures { ByClauses is_narrow (λ clauses. FulfilsGraph device.now (within budget (clauses device.now)) result) }
 {
     // Its contract says that a device has few parts and wires.
     let _parts = device.parts();

@@ -3,15 +3,15 @@
 ghost use Rattle.std.specs.Prelude.{◌≡◌, ◌-◌, ◌+◌, ◌<◌, ◌≤◌, ℕ, List, [], replicate, length, take, All, slice_index_or, IfOk, IfSome};
 ghost use Rattle.std.specs.Option.{option_map};
 ghost use Rattle.conditioner.specs.Models.{least_under, diagnoses_under, total_cost};
-ghost use Rattle.conditioner.specs.Words.{bits_of};
-ghost use Rattle.session_rules.specs.GraphSystems.{case_words};
+ghost use Rattle.conditioner.specs.Evidence.{bits_of};
+ghost use Rattle.session_rules.specs.GraphSystems.{case_evidence};
 ghost use Rattle.adder_load.specs.Readings.{adder_case};
-ghost use Rattle.fault_graph.specs.Distilled.{Serves};
+ghost use Rattle.fault_graph.specs.Minimised.{Serves};
 
 use crate::loading::LISTED_LIMIT;
 use adder_load::{Found, PLACE_LIMIT, note_readings, sample};
 use device_model::Device;
-use fault_graph::Distiller;
+use fault_graph::MinimisedGraph;
 use minimiser::{Steps, TOTAL_LIMIT};
 use node_store::Graph;
 use std::alloc::{AllocError, Global};
@@ -24,7 +24,7 @@ pub(crate) struct LoadMemory {
     pub(crate) values: Vec<u32>,
     pub(crate) first: Vec<u32>,
     pub(crate) last: Vec<u32>,
-    pub(crate) distiller: Distiller,
+    pub(crate) minimised_graph: MinimisedGraph,
 }
 
 impl LoadMemory {
@@ -34,14 +34,14 @@ impl LoadMemory {
         ensures values { IfOk result (λ memory. length memory.values.items ≡ length graph.now.nodes) }
         ensures first { IfOk result (λ memory. memory.first.items ≡ replicate parts 0) }
         ensures last { IfOk result (λ memory. memory.last.items ≡ replicate parts 0) }
-        ensures serves { IfOk result (λ memory. (costs : List ℕ) → Serves graph.now costs memory.distiller) }
+        ensures serves { IfOk result (λ memory. (costs : List ℕ) → Serves graph.now costs memory.minimised_graph) }
     {
         Ok(LoadMemory {
             words: zeros(alloc, graph.vars() as usize)?,
             values: zeros(alloc, graph.len() as usize)?,
             first: zeros(alloc, parts)?,
             last: zeros(alloc, parts)?,
-            distiller: Distiller::new(alloc, graph)?,
+            minimised_graph: MinimisedGraph::new(alloc, graph)?,
         })
     }
 
@@ -50,13 +50,13 @@ impl LoadMemory {
         requires none { self.old.words.items ≡ replicate (length self.old.words.items) 0 }
         requires room { length device.now.parts + length device.now.wires ≤ length self.old.words.items }
         requires places { places ≤ PLACE_LIMIT }
-        ensures case { self.new.words.items ≡ case_words (length self.old.words.items) (adder_case device.now places) }
+        ensures case { self.new.words.items ≡ case_evidence (length self.old.words.items) (adder_case device.now places) }
         ensures long { length self.new.words.items ≡ length self.old.words.items }
         ensures words { All (λ w. w < 3) self.new.words.items }
         ensures values { self.new.values ≡ self.old.values }
         ensures first { self.new.first ≡ self.old.first }
         ensures last { self.new.last ≡ self.old.last }
-        ensures distiller { self.new.distiller ≡ self.old.distiller }
+        ensures minimised_graph { self.new.minimised_graph ≡ self.old.minimised_graph }
     {
         note_readings(&mut self.words, device, places);
     }
@@ -76,7 +76,7 @@ impl LoadMemory {
         requires room { length self.old.values.items ≡ length graph.now.nodes }
         requires first { self.old.first.items ≡ replicate (length costs.now) 0 }
         requires last { self.old.last.items ≡ replicate (length costs.now) 0 }
-        requires serves { Serves graph.now costs.now self.old.distiller }
+        requires serves { Serves graph.now costs.now self.old.minimised_graph }
         ensures least { option_map (λ found. found.fewest) result ≡ least_under graph.now self.old.words.items costs.now }
         ensures listed { IfSome result (λ found.
             found.listed ≡ length (take LISTED_LIMIT (diagnoses_under graph.now self.old.words.items costs.now))) }
@@ -88,7 +88,7 @@ impl LoadMemory {
         ensures last_long { length self.new.last.items ≡ length costs.now }
     {
         sample(
-            &mut self.distiller,
+            &mut self.minimised_graph,
             graph,
             &mut self.words,
             costs,
@@ -110,7 +110,7 @@ impl LoadMemory {
             values: _,
             first,
             last,
-            distiller: _,
+            minimised_graph: _,
         } = self;
         (first, last)
     }

@@ -2,13 +2,13 @@
 ghost use Rattle.std.specs.Prelude.{◌≡◌, ◌⊎◌, [], ◌∷◌, ◌-◌, ◌^◌, ◌<◌, ◌≤◌, Ok, length, IfOk};
 ghost use Rattle.bench_reader.specs.Netlists.{netlist};
 ghost use Rattle.diag_edge.specs.Edge.{HasCause, RoseExactly};
-ghost use Rattle.conditioner.specs.Words.{bits_of};
+ghost use Rattle.conditioner.specs.Evidence.{bits_of};
 ghost use Rattle.adder_load.specs.Adders.{adder_text};
 ghost use Rattle.session_rules.specs.Spelling.{Replies};
 ghost use Rattle.device_files.specs.Describing.{or_line, netlist_line};
 ghost use Rattle.diag_cli.specs.Loads.{names_line, summary_of, loaded};
-ghost use Rattle.device_files.specs.Output.{Gives, GivesUnlessMemory};
-ghost use Rattle.device_files.specs.Refusals.{Finds};
+ghost use Rattle.device_files.specs.Output.{FulfilsOutput, FulfilsOutputUnlessMemory};
+ghost use Rattle.device_files.specs.Refusals.{FulfilsOrRefuses};
 ghost use Rattle.diag_cli.specs.inner.Loading.{IsInStep, Loads, listed_items, inconsistent_items, found_items, summary_items, summary_output};
 
 use crate::graphs::compiled_by_names;
@@ -31,7 +31,7 @@ pub const LISTED_LIMIT: u32 = 20;
 // The device of an adder.
 fn adder_device(alloc: Global, places: u32) -> Result<Device, Refusal>
     requires { places ≤ PLACE_LIMIT }
-    ensures { Finds (or_line netlist_line (netlist (adder_text places))) result }
+    ensures { FulfilsOrRefuses (or_line netlist_line (netlist (adder_text places))) result }
 {
     let text = adder_text(alloc, places)?;
     netlist_device(alloc, &text)
@@ -149,7 +149,7 @@ fn tell_summary<O: Sink>(out: &mut O, summary: &Summary) -> Status
     requires faults { O.faults out.old < 2 ^ 64 - 1 }
     ensures write_fault { RoseExactly (O.faults out.old) (O.faults out.new) (result ≡ Status.WriteFailed) }
     ensures either { (result ≡ Status.Done) ⊎ (result ≡ Status.WriteFailed) }
-    ensures said { Gives (summary_output summary.now) result (O.got out.old) (O.got out.new) }
+    ensures said { FulfilsOutput (summary_output summary.now) result (O.got out.old) (O.got out.new) }
 {
     match put_summary(out, summary) {
         Ok(()) => Status::Done,
@@ -162,7 +162,7 @@ pub(crate) fn load_adder<O: Sink>(alloc: Global, places: u32, out: &mut O) -> St
     requires places { places ≤ PLACE_LIMIT }
     requires faults { O.faults out.old < 2 ^ 64 - 1 }
     ensures write_fault { RoseExactly (O.faults out.old) (O.faults out.new) (result ≡ Status.WriteFailed) }
-    ensures said { GivesUnlessMemory (loaded places) result (O.got out.old) (O.got out.new) }
+    ensures said { FulfilsOutputUnlessMemory (loaded places) result (O.got out.old) (O.got out.new) }
 {
     match summary_at(alloc, places) {
         Ok(summary) => tell_summary(out, &summary),

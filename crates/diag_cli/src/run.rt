@@ -1,9 +1,9 @@
 ghost use Rattle.std.specs.Prelude.{◌≡◌, ◌-◌, ◌^◌, ◌<◌, ◌≤◌, length};
 ghost use Rattle.diag_edge.specs.Edge.{RoseExactly};
 ghost use Rattle.device_files.specs.Choices.{ByForest};
-ghost use Rattle.diag_cli.specs.Courses.{course_by};
+ghost use Rattle.diag_cli.specs.Behaviours.{behaviour_by};
 ghost use Rattle.diag_cli.specs.inner.Forms.{IsCommandWithin};
-ghost use Rattle.diag_cli.specs.inner.Serving.{FollowsUnlessMemory};
+ghost use Rattle.diag_cli.specs.inner.Serving.{FulfilsBehaviourUnlessMemory};
 
 use crate::asking::graph_service;
 use crate::compiling::compile_file;
@@ -31,7 +31,7 @@ pub(crate) fn run_file<I: Source, O: Sink>(
     requires reads { I.faults input.old < 2 ^ 64 - 1 }
     requires writes { O.faults out.old < 2 ^ 64 - 1 }
     ensures write_fault { RoseExactly (O.faults out.old) (O.faults out.new) (result ≡ Status.WriteFailed) }
-    ensures follows { ByForest (λ choose. FollowsUnlessMemory (course_by choose path.now command file.now)
+    ensures follows { ByForest (λ choose. FulfilsBehaviourUnlessMemory (behaviour_by choose path.now command file.now)
         (I.shown input.old) (I.shown input.new) (O.shown out.old) (O.shown out.new) result) }
 {
     match command {

@@ -1,7 +1,7 @@
 ghost use Rattle.std.specs.Prelude.{◌≡◌, ◌≢◌, ◌⊎◌, ℕ, ◌-◌, ◌^◌, ◌<◌, codes};
 ghost use Rattle.diag_edge.specs.Edge.{RoseExactly};
-ghost use Rattle.device_files.specs.Output.{Gives, says, too_long_line};
-ghost use Rattle.diag_cli.specs.Courses.{read_error, not_loaded};
+ghost use Rattle.device_files.specs.Output.{FulfilsOutput, says, too_long_line};
+ghost use Rattle.diag_cli.specs.Behaviours.{read_error, not_loaded};
 
 use device_files::{Refusal, Status, tell};
 use diag_edge::{LoadError, Sink, WriteFailed, put_line};
@@ -14,7 +14,7 @@ pub fn say<O: Sink>(out: &mut O, text: &[u8], status: Status) -> Status
     requires status { status ≢ Status.WriteFailed }
     ensures write_fault { RoseExactly (O.faults out.old) (O.faults out.new) (result ≡ Status.WriteFailed) }
     ensures either { (result ≡ status) ⊎ (result ≡ Status.WriteFailed) }
-    ensures said { Gives (says text.now status) result (O.got out.old) (O.got out.new) }
+    ensures said { FulfilsOutput (says text.now status) result (O.got out.old) (O.got out.new) }
 {
     match out.put(text) {
         Ok(()) => status,
@@ -27,7 +27,7 @@ pub(crate) fn say_read_fault<O: Sink>(out: &mut O) -> Status
     requires faults { O.faults out.old < 2 ^ 64 - 1 }
     ensures write_fault { RoseExactly (O.faults out.old) (O.faults out.new) (result ≡ Status.WriteFailed) }
     ensures either { (result ≡ Status.ReadFailed) ⊎ (result ≡ Status.WriteFailed) }
-    ensures said { Gives (says read_error Status.ReadFailed) result (O.got out.old) (O.got out.new) }
+    ensures said { FulfilsOutput (says read_error Status.ReadFailed) result (O.got out.old) (O.got out.new) }
 {
     say(out, b"error: read\n", Status::ReadFailed)
 }
@@ -37,7 +37,7 @@ pub fn say_usage<O: Sink>(out: &mut O) -> Status
     requires faults { O.faults out.old < 2 ^ 64 - 1 }
     ensures write_fault { RoseExactly (O.faults out.old) (O.faults out.new) (result ≡ Status.WriteFailed) }
     ensures either { (result ≡ Status.Usage) ⊎ (result ≡ Status.WriteFailed) }
-    ensures said { Gives (says (codes "error: usage\n") Status.Usage) result (O.got out.old) (O.got out.new) }
+    ensures said { FulfilsOutput (says (codes "error: usage\n") Status.Usage) result (O.got out.old) (O.got out.new) }
 {
     say(out, b"error: usage\n", Status::Usage)
 }
@@ -49,7 +49,7 @@ pub(crate) fn say_too_long<O: Sink>(out: &mut O, what: &[u8], limit: u64, status
     requires status { status ≢ Status.WriteFailed }
     ensures write_fault { RoseExactly (O.faults out.old) (O.faults out.new) (result ≡ Status.WriteFailed) }
     ensures either { (result ≡ status) ⊎ (result ≡ Status.WriteFailed) }
-    ensures said { Gives (says (too_long_line what.now limit) status) result
+    ensures said { FulfilsOutput (says (too_long_line what.now limit) status) result
         (O.got out.old) (O.got out.new) }
 {
     match put_line(
@@ -73,7 +73,7 @@ pub fn say_load_error<O: Sink>(out: &mut O, error: LoadError) -> Status
     requires limit { (limit : ℕ) → error ≡ LoadError.Long limit → limit ≡ TEXT_LIMIT }
     requires faults { O.faults out.old < 2 ^ 64 - 1 }
     ensures write_fault { RoseExactly (O.faults out.old) (O.faults out.new) (result ≡ Status.WriteFailed) }
-    ensures said { Gives (not_loaded error) result (O.got out.old) (O.got out.new) }
+    ensures said { FulfilsOutput (not_loaded error) result (O.got out.old) (O.got out.new) }
 {
     match error {
         LoadError::Failed => say_read_fault(out),

@@ -3,9 +3,9 @@ ghost use Rattle.std.specs.Prelude.{◌≡◌, ◌≢◌, ◌+◌, ◌-◌, ◌^
 ghost use Rattle.text_rules.specs.Tokens.{spaced};
 ghost use Rattle.diag_edge.specs.Edge.{HasCause, Puts, RoseExactly};
 ghost use Rattle.session_rules.specs.GraphSystems.{system_of};
-ghost use Rattle.diag_cli.specs.Courses.{Course, answers_of};
-ghost use Rattle.diag_cli.specs.Following.{IsServed};
-ghost use Rattle.diag_cli.specs.inner.Serving.{IsFor, FollowsUnlessMemory};
+ghost use Rattle.diag_cli.specs.Behaviours.{Behaviour, answers_of};
+ghost use Rattle.diag_cli.specs.Fulfilled.{IsServed};
+ghost use Rattle.diag_cli.specs.inner.Serving.{IsFor, FulfilsBehaviourUnlessMemory};
 
 use crate::saying::{say_read_fault, say_too_long};
 use device_files::{Refusal, Status, tell};
@@ -65,8 +65,8 @@ pub(crate) fn answer_by<I: Source, O: Sink>(
     requires reads { I.faults input.old < 2 ^ 64 - 1 }
     requires writes { O.faults out.old < 2 ^ 64 - 1 }
     ensures write_fault { RoseExactly (O.faults out.old) (O.faults out.new) (result ≡ Status.WriteFailed) }
-    ensures follows { (course : Course) → IsFor course made
-        → FollowsUnlessMemory course (I.shown input.old) (I.shown input.new) (O.shown out.old) (O.shown out.new) result }
+    ensures follows { (behaviour : Behaviour) → IsFor behaviour made
+        → FulfilsBehaviourUnlessMemory behaviour (I.shown input.old) (I.shown input.new) (O.shown out.old) (O.shown out.new) result }
 {
     match made {
         Ok(mut service) => {

@@ -1,34 +1,34 @@
--- States that words allow, as open parts are fixed.
+-- States that evidence allows, as open parts are fixed.
 use Rattle.std.proofs.Common.{◌≡◌, ◌≢◌, ℕ, ◌<◌, ◌≤◌, Bool, List, length, get_or, set, refl, ◌∙◌, subst, arith}
 use Rattle.std.proofs.Math.ListN.{length-set}
 use Rattle.std.proofs.lemmas.List.{get_or-set_same, get_or-set_other}
 use Rattle.state_rules.specs.Bits.{bit_in}
 use Rattle.state_rules.specs.Graphs.{Graph}
-use Rattle.conditioner.specs.Words.{word_of}
+use Rattle.conditioner.specs.Evidence.{word_of}
 use Rattle.minimiser.specs.LeastStates.{ModelWithin}
 use Rattle.minimiser.proofs.Models.{Agree, Agree-bit, Refines, ModelWithin-old, ModelWithin-new, ModelWithin-agrees}
 
--- Words allow states of so many parts that agree with them. Words that say more allow those that agree with these.
+-- Evidence allows states of so many parts that agree with them. Evidence that says more allow those that agree with these.
 pub record Allows (vars parts : ℕ) (P : List ℕ → List Bool → Type 0) : Type 0 where
   pub within : parts ≤ vars
-  pub long : {words : List ℕ} {h : List Bool} → P words h → length h ≡ parts
-  pub agrees : {words : List ℕ} {h : List Bool} → length words ≡ vars → P words h → (i : ℕ) → i < parts → Agree (get_or words i 0) (bit_in h i)
+  pub long : {evidence : List ℕ} {h : List Bool} → P evidence h → length h ≡ parts
+  pub agrees : {evidence : List ℕ} {h : List Bool} → length evidence ≡ vars → P evidence h → (i : ℕ) → i < parts → Agree (get_or evidence i 0) (bit_in h i)
   pub fewer : {old new : List ℕ} {h : List Bool} → length old ≡ vars → Refines parts old new → P new h → P old h
   pub more : {old new : List ℕ} {h : List Bool} → length old ≡ vars → Refines parts old new → P old h → ((i : ℕ) → i < parts → Agree (get_or new i 0) (bit_in h i)) → P new h
 
-pub allows-within : (graph : Graph) (costs : List ℕ) (most : ℕ) → length costs ≤ graph.vars → Allows graph.vars (length costs) (λ words h. ModelWithin graph words costs most h)
+pub allows-within : (graph : Graph) (costs : List ℕ) (most : ℕ) → length costs ≤ graph.vars → Allows graph.vars (length costs) (λ evidence h. ModelWithin graph evidence costs most h)
 allows-within graph costs most within = record {
   within = within;
-  long = λ {words} {h} p. p.long;
-  agrees = λ {words} {h} long p. ModelWithin-agrees graph costs within words most h long p;
+  long = λ {evidence} {h} p. p.long;
+  agrees = λ {evidence} {h} long p. ModelWithin-agrees graph costs within evidence most h long p;
   fewer = λ {old} {new} {h} long r p. ModelWithin-old graph costs within old new most h long r p;
   more = λ {old} {new} {h} long r p agree. ModelWithin-new graph costs within old new most h long r p agree;
 }
 
--- ---- words that say more
+-- ---- evidence that says more
 
-pub Refines-start : (parts : ℕ) (words : List ℕ) → Refines parts words words
-Refines-start parts words = record { long = refl; kept = λ k ne. refl; others = λ k g. refl }
+pub Refines-start : (parts : ℕ) (evidence : List ℕ) → Refines parts evidence evidence
+Refines-start parts evidence = record { long = refl; kept = λ k ne. refl; others = λ k g. refl }
 
 pub Refines-more : (parts : ℕ) (start old new : List ℕ) → Refines parts start old → Refines parts old new → Refines parts start new
 Refines-more parts start old new r q = grind arith

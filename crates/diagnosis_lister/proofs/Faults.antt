@@ -1,10 +1,10 @@
--- How many parts are faulty, as words and points are gone through.
+-- How many parts are faulty, as evidence and points are gone through.
 use Rattle.std.proofs.Common.{◌≡◌, ℕ, zero, suc, ◌+◌, ◌<◌, ◌≤◌, Bool, false, not, cond, List, [], ◌∷◌, length, get_or, set, drop, arith}
 use Rattle.std.specs.Prelude.{◌==◌}
 use Rattle.std.proofs.Math.ListN.{length-map}
 use Rattle.std.proofs.lemmas.List.Sums.{sum_by-cons, sum_by-drop_more, sum_by-take-drop, count_by-le-length}
 use Rattle.state_rules.specs.Bits.{bit_in}
-use Rattle.conditioner.specs.Words.{bits_of}
+use Rattle.conditioner.specs.Evidence.{bits_of}
 use Rattle.diagnosis_lister.specs.Listing.{fault_count}
 use Rattle.diagnosis_lister.specs.inner.Fixing.{fixed_bits}
 
@@ -17,7 +17,7 @@ fault_of w = cond (not (not (w == 2))) 1 0
 one-kept : (v w : ℕ) → (v ≡ 2 → w ≡ 2) → fault_of v ≤ fault_of w
 one-kept v w kept = grind arith
 
--- where the words that say faulty still do, as many parts are faulty
+-- if the words that say faulty still do, as many parts are faulty
 pub faults-kept : (parts : ℕ) (old new : List ℕ) → length new ≡ length old → ((k : ℕ) → get_or old k 0 ≡ 2 → get_or new k 0 ≡ 2) → fault_count (fixed_bits parts old) ≤ fault_count (fixed_bits parts new)
 faults-kept zero old new l kept = omega arith
 faults-kept (suc n) [] new l kept = omega arith
@@ -31,13 +31,13 @@ faults-kept (suc n) (v ∷ old) (w ∷ new) l kept = omega (
 )
 
 -- an open part is fixed to faulty
-pub faults-added : (parts : ℕ) (words : List ℕ) (i : ℕ) → i < parts → parts ≤ length words → get_or words i 0 ≡ 0 → fault_count (fixed_bits parts (set words i 2)) ≡ fault_count (fixed_bits parts words) + 1
-faults-added zero words i h l e = absurd (omega arith)
+pub faults-added : (parts : ℕ) (evidence : List ℕ) (i : ℕ) → i < parts → parts ≤ length evidence → get_or evidence i 0 ≡ 0 → fault_count (fixed_bits parts (set evidence i 2)) ≡ fault_count (fixed_bits parts evidence) + 1
+faults-added zero evidence i h l e = absurd (omega arith)
 faults-added (suc n) [] i h l e = absurd (omega arith)
-faults-added (suc n) (w ∷ words) zero h l e =
+faults-added (suc n) (w ∷ evidence) zero h l e =
     let none : fault_of w ≡ 0 = (λ i. fault_of (e i)) in
-    omega (arith, none, fault_count-cons false (fixed_bits n words), fault_count-cons (not (w == 2)) (fixed_bits n words))
-faults-added (suc n) (w ∷ words) (suc i) h l e = grind (arith, fault_count-cons, faults-added n words i)
+    omega (arith, none, fault_count-cons false (fixed_bits n evidence), fault_count-cons (not (w == 2)) (fixed_bits n evidence))
+faults-added (suc n) (w ∷ evidence) (suc i) h l e = grind (arith, fault_count-cons, faults-added n evidence i)
 
 -- no more parts are faulty than there are
 pub faults-few : (state : List ℕ) → fault_count (bits_of state) ≤ length state

@@ -1,4 +1,4 @@
--- The first of the states that words allow, as one open part after the other is fixed.
+-- The first of the states that evidence allows, as one open part after the other is fixed.
 use Rattle.std.proofs.Common.{◌≡◌, ◌≢◌, ℕ, ◌+◌, ◌<◌, ◌≤◌, Bool, true, false, List, length, get_or, set, refl, ◌∙◌, subst, arith, inl, inr}
 use Rattle.std.specs.Prelude.{◌⊎◌}
 use Rattle.std.proofs.Math.ListN.{length-map}
@@ -7,20 +7,20 @@ use Rattle.state_rules.specs.Bits.{bit_in}
 use Rattle.state_rules.specs.Ranking.{is_before}
 use Rattle.state_rules.proofs.Bits.{bit_in-map}
 use Rattle.state_rules.proofs.Order.{before-at, same_bits}
-use Rattle.conditioner.specs.Words.{word_of}
+use Rattle.conditioner.specs.Evidence.{word_of}
 use Rattle.minimiser.proofs.Models.{Agree-bit, Refines}
 use Rattle.diagnosis_lister.specs.inner.Fixing.{IsFirst, Has, fixed_bits}
 use Rattle.diagnosis_lister.proofs.Allowing.{Allows, Refines-start, Refines-more, Refines-set, same_fixed, set-bit, set-old, set-new}
 
 -- what holds when the parts before one are fixed
-pub record Settles (P : List ℕ → List Bool → Type 0) (parts : ℕ) (start words : List ℕ) (from : ℕ) : Type 0 where
-  pub refines : Refines parts start words
-  pub front : (k : ℕ) → k < from → get_or words k 0 ≢ 0
-  pub some : Has (P words)
-  pub first : (h : List Bool) → IsFirst (P words) h → IsFirst (P start) h
+pub record Settles (P : List ℕ → List Bool → Type 0) (parts : ℕ) (start evidence : List ℕ) (from : ℕ) : Type 0 where
+  pub refines : Refines parts start evidence
+  pub front : (k : ℕ) → k < from → get_or evidence k 0 ≢ 0
+  pub some : Has (P evidence)
+  pub first : (h : List Bool) → IsFirst (P evidence) h → IsFirst (P start) h
 
-pub Settles-start : (P : List ℕ → List Bool → Type 0) (parts : ℕ) (words : List ℕ) (from : ℕ) → ((k : ℕ) → k < from → get_or words k 0 ≢ 0) → Has (P words) → Settles P parts words words from
-Settles-start P parts words from front some = record { refines = Refines-start parts words; front = front; some = some; first = λ h is. is }
+pub Settles-start : (P : List ℕ → List Bool → Type 0) (parts : ℕ) (evidence : List ℕ) (from : ℕ) → ((k : ℕ) → k < from → get_or evidence k 0 ≢ 0) → Has (P evidence) → Settles P parts evidence evidence from
+Settles-start P parts evidence from front some = record { refines = Refines-start parts evidence; front = front; some = some; first = λ h is. is }
 
 -- the open parts from one up to another are fixed to ok
 pub record FixesOk (old new : List ℕ) (from to : ℕ) : Type 0 where

@@ -7,25 +7,25 @@ use Rattle.std.proofs.lemmas.List.{get_or-set_same, get_or-set_other}
 use Rattle.state_rules.specs.Bits.{bit_in, AlikeBelow}
 use Rattle.state_rules.specs.Ranking.{is_before}
 use Rattle.state_rules.proofs.Order.{before-at, not_both_before, Differs, differs, same_bits}
-use Rattle.conditioner.specs.Words.{word_of}
+use Rattle.conditioner.specs.Evidence.{word_of}
 use Rattle.minimiser.proofs.Models.{Agree, Agree-bit, Agree-same, Refines}
 use Rattle.diagnosis_lister.specs.inner.Fixing.{IsFirst, Has, Agrees, NoneAfter, Follows, Leaves}
 use Rattle.diagnosis_lister.proofs.Allowing.{Allows}
 
 -- ---- following the point
 
--- the words of so many parts say the point's bits
+-- the evidence on so many parts says the point's bits
 pub record FollowsTo (old : List ℕ) (point : List Bool) (new : List ℕ) (n : ℕ) : Type 0 where
   pub front : (k : ℕ) → k < n → get_or new k 0 ≡ word_of (bit_in point k)
   pub kept : (k : ℕ) → get_or old k 0 ≢ 0 → get_or new k 0 ≡ get_or old k 0
   pub behind : (k : ℕ) → n ≤ k → get_or new k 0 ≡ get_or old k 0
 
-pub FollowsTo-set : (old : List ℕ) (point : List Bool) (words new : List ℕ) (i word : ℕ) → i < length words → FollowsTo old point words i → word ≡ word_of (bit_in point i) → get_or old i 0 ≡ 0
-    → new ≡ set words i word → FollowsTo old point new (i + 1)
-FollowsTo-set old point words new i word h f e open_ at = grind (arith, get_or-set_same, get_or-set_other)
+pub FollowsTo-set : (old : List ℕ) (point : List Bool) (evidence new : List ℕ) (i word : ℕ) → i < length evidence → FollowsTo old point evidence i → word ≡ word_of (bit_in point i) → get_or old i 0 ≡ 0
+    → new ≡ set evidence i word → FollowsTo old point new (i + 1)
+FollowsTo-set old point evidence new i word h f e open_ at = grind (arith, get_or-set_same, get_or-set_other)
 
-pub FollowsTo-stay : (old : List ℕ) (point : List Bool) (words : List ℕ) (i : ℕ) → FollowsTo old point words i → get_or words i 0 ≡ word_of (bit_in point i) → FollowsTo old point words (i + 1)
-FollowsTo-stay old point words i f e = grind arith
+pub FollowsTo-stay : (old : List ℕ) (point : List Bool) (evidence : List ℕ) (i : ℕ) → FollowsTo old point evidence i → get_or evidence i 0 ≡ word_of (bit_in point i) → FollowsTo old point evidence (i + 1)
+FollowsTo-stay old point evidence i f e = grind arith
 
 -- all parts are as the point has them
 pub Follows-all : (old : List ℕ) (point : List Bool) (new : List ℕ) (n : ℕ) → n ≡ length point → FollowsTo old point new n → Follows (Agrees n old) old point new n
@@ -40,7 +40,7 @@ Follows-all old point new n e f = record {
 -- ---- going back
 
 module _ {vars parts : ℕ} {P : List ℕ → List Bool → Type 0} (allows : Allows vars parts P) (old : List ℕ) (point : List Bool) (long : length old ≡ vars) (bits : length point ≡ parts) where
-  pub follows-start : {words : List ℕ} {n : ℕ} → Follows (Agrees (length point) old) old point words n → Follows (P old) old point words n
+  pub follows-start : {evidence : List ℕ} {n : ℕ} → Follows (Agrees (length point) old) old point evidence n → Follows (P old) old point evidence n
   follows-start f = grind arith
 
   -- no later state leaves the point at a part, if none does that is ok there
@@ -48,9 +48,9 @@ module _ {vars parts : ℕ} {P : List ℕ → List Bool → Type 0} (allows : Al
       → (bit_in point j ≡ false → (h : List Bool) → P old h → AlikeBelow j h point → bit_in h j ≡ true → ⊥) → NoneAfter (P old) point j
   none-before j lt none left h p alike b = grind (arith, not_both_before, before-at)
 
-  module _ {words : List ℕ} {j : ℕ} (lt : j < parts) (same : length words ≡ length old) (f : Follows (P old) old point words (j + 1)) where
+  module _ {evidence : List ℕ} {j : ℕ} (lt : j < parts) (same : length evidence ≡ length old) (f : Follows (P old) old point evidence (j + 1)) where
     -- the part's word is as it was again
-    pub follows-back : (word : ℕ) → word ≡ get_or old j 0 → NoneAfter (P old) point j → Follows (P old) old point (set words j word) j
+    pub follows-back : (word : ℕ) → word ≡ get_or old j 0 → NoneAfter (P old) point j → Follows (P old) old point (set evidence j word) j
     follows-back word e none = grind (arith, get_or-set_same, get_or-set_other)
 
     -- the part is ok or is held to be faulty
@@ -59,37 +59,37 @@ module _ {vars parts : ℕ} {P : List ℕ → List Bool → Type 0} (allows : Al
 
     -- the part is tried as ok
     module _ (few : get_or old j 0 < 3) (free : get_or old j 0 ≢ 2) where
-      here : get_or (set words j 1) j 0 ≡ 1
-      here = get_or-set_same words j 1 0 (omega (arith, allows.within))
+      here : get_or (set evidence j 1) j 0 ≡ 1
+      here = get_or-set_same evidence j 1 0 (omega (arith, allows.within))
 
-      apart : (k : ℕ) → k ≢ j → get_or (set words j 1) k 0 ≡ get_or words k 0
-      apart k ne = get_or-set_other words j k 1 0 ne
+      apart : (k : ℕ) → k ≢ j → get_or (set evidence j 1) k 0 ≡ get_or evidence k 0
+      apart k ne = get_or-set_other evidence j k 1 0 ne
 
-      pub tried-kept : (k : ℕ) → get_or old k 0 ≢ 0 → get_or (set words j 1) k 0 ≡ get_or old k 0
+      pub tried-kept : (k : ℕ) → get_or old k 0 ≢ 0 → get_or (set evidence j 1) k 0 ≡ get_or old k 0
       tried-kept k ne = grind (arith, here, apart)
 
-      tried-behind : (k : ℕ) → j + 1 ≤ k → get_or (set words j 1) k 0 ≡ get_or old k 0
+      tried-behind : (k : ℕ) → j + 1 ≤ k → get_or (set evidence j 1) k 0 ≡ get_or old k 0
       tried-behind k h = apart k (λ q. absurd (omega arith)) ∙ f.behind k h
 
-      pub tried-refines : Refines parts old (set words j 1)
-      tried-refines = record { long = length-set words j 1 ∙ same; kept = tried-kept; others = λ k g. tried-behind k (omega arith) }
+      pub tried-refines : Refines parts old (set evidence j 1)
+      tried-refines = record { long = length-set evidence j 1 ∙ same; kept = tried-kept; others = λ k g. tried-behind k (omega arith) }
 
-      -- a later state that leaves the point at the part agrees with the words that are tried
-      tried : (h : List Bool) → P old h → AlikeBelow j h point → bit_in h j ≡ true → P (set words j 1) h
+      -- a later state that leaves the point at the part agrees with the evidence that is tried
+      tried : (h : List Bool) → P old h → AlikeBelow j h point → bit_in h j ≡ true → P (set evidence j 1) h
       tried h p alike g = grind (arith, tried-refines, apart, here)
 
-      pub none-tried : (Has (P (set words j 1)) → ⊥) → NoneAfter (P old) point j
+      pub none-tried : (Has (P (set evidence j 1)) → ⊥) → NoneAfter (P old) point j
       none-tried failed = none-before j lt f.none (λ e h p alike g. failed (record { state = h; is = tried h p alike g }))
 
-      pub leaves-tried : bit_in point j ≡ false → Has (P (set words j 1)) → Leaves P old point (set words j 1) j
+      pub leaves-tried : bit_in point j ≡ false → Has (P (set evidence j 1)) → Leaves P old point (set evidence j 1) j
       leaves-tried e some = grind (arith, here, apart)
 
-  -- The first state under the words that leave the point is the first after the point.
+  -- The first state under the evidence that leaves the point is the first after the point.
   module _ {new : List ℕ} {part : ℕ} (same : length new ≡ length old) (l : Leaves P old point new part) where
     pub leaves-refines : Refines parts old new
     leaves-refines = record { long = same; kept = l.follows.kept; others = λ k g. l.follows.behind k (omega (arith, l.within)) }
 
-    -- a state that agrees with the new words has the point's bits before the part, and is ok there
+    -- a state that agrees with the new evidence has the point's bits before the part, and is ok there
     alike : (k : List Bool) → P new k → AlikeBelow part k point
     alike k p i lt = Agree-bit (bit_in point i) (bit_in k i) (subst (λ w. Agree w (bit_in k i)) (l.follows.front i (omega arith)) (allows.agrees (same ∙ long) p i (omega (arith, l.within))))
 

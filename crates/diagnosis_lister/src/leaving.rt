@@ -13,63 +13,63 @@ use node_store::GraphView;
 use std::sync::ledger::Ledger;
 
 // Fixes the open parts as the state has them, up to the first part that is held otherwise; how many parts these are, with that one.
-fn follow(words: &mut [u32], state: &[u32]) -> usize
-    requires long { length state.now ≤ length words.old }
-    requires words { All (λ w. w < 3) words.old }
-    requires marks { AreMarks words.old state.now }
+fn follow(evidence: &mut [u32], state: &[u32]) -> usize
+    requires long { length state.now ≤ length evidence.old }
+    requires evidence { All (λ w. w < 3) evidence.old }
+    requires marks { AreMarks evidence.old state.now }
     ensures within { result ≤ length state.now }
-    ensures words { All (λ w. w < 3) words.new }
-    ensures follows { Follows (Agrees (length state.now) words.old) words.old (marked_bits state.now) words.new result }
+    ensures evidence { All (λ w. w < 3) evidence.new }
+    ensures follows { Follows (Agrees (length state.now) evidence.old) evidence.old (marked_bits state.now) evidence.new result }
 {
     for (part, mark) in state.iter().enumerate() {
         let word = word_of_known(Some(*mark % 2 == 0));
         if *mark >= 2 {
-            words[part] = word;
-        } else if words[part] != word {
+            evidence[part] = word;
+        } else if evidence[part] != word {
             return part + 1;
         }
     }
     state.len()
 }
 
-// The last part at which a later diagnosis can leave the state: the same before it, ok if the state has faulty. The words
-// are then fixed so far. It takes a pass for each part that is faulty in the state, at most.
+// The last part at which a later diagnosis can leave the state: the same before it, ok if the state has faulty. The evidence
+// is then fixed so far. It takes a pass for each part that is faulty in the state, at most.
 pub(crate) fn leave<L: Ledger>(
     graph: &GraphView<'_>,
-    words: &mut [u32],
+    evidence: &mut [u32],
     costs: &[u32],
     values: &mut [u32],
     state: &[u32],
     fewest: u32,
     steps: &mut Steps<L>,
 ) -> Option<usize>
-    requires long { length words.old ≡ graph.now.vars }
-    requires words { All (λ w. w < 3) words.old }
+    requires long { length evidence.old ≡ graph.now.vars }
+    requires evidence { All (λ w. w < 3) evidence.old }
     requires parts { length costs.now ≤ graph.now.vars }
     requires total { total_cost costs.now < TOTAL_LIMIT }
     requires room { length values.old ≡ length graph.now.nodes }
     requires state { length state.now ≡ length costs.now }
-    requires marks { AreMarks words.old state.now }
-    requires least { least_under graph.now words.old costs.now ≡ Some fewest }
-    ensures words { All (λ w. w < 3) words.new }
+    requires marks { AreMarks evidence.old state.now }
+    requires least { least_under graph.now evidence.old costs.now ≡ Some fewest }
+    ensures evidence { All (λ w. w < 3) evidence.new }
     ensures left { MatchOption result
-        ((words.new ≡ words.old) × NoneAfter (ModelWithin graph.now words.old costs.now fewest) (marked_bits state.now) 0)
-        (λ part. Leaves (λ ws h. ModelWithin graph.now ws costs.now fewest h) words.old (marked_bits state.now) words.new part) }
-    ensures least { IfSome result (λ _. least_under graph.now words.new costs.now ≡ Some fewest) }
-    ensures values { IfSome result (λ _. AreLeastCosts graph.now words.new costs.now values.new) }
+        ((evidence.new ≡ evidence.old) × NoneAfter (ModelWithin graph.now evidence.old costs.now fewest) (marked_bits state.now) 0)
+        (λ part. Leaves (λ ws h. ModelWithin graph.now ws costs.now fewest h) evidence.old (marked_bits state.now) evidence.new part) }
+    ensures least { IfSome result (λ _. least_under graph.now evidence.new costs.now ≡ Some fewest) }
+    ensures values { IfSome result (λ _. AreLeastCosts graph.now evidence.new costs.now values.new) }
     ensures steps { steps.new ≤ steps.old + fault_count (marked_bits state.now) }
 {
-    let end = follow(words, state);
+    let end = follow(evidence, state);
     for part in (0..end).rev() {
         let mark = state[part];
-        let word = if mark >= 2 { 0 } else { words[part] };
+        let word = if mark >= 2 { 0 } else { evidence[part] };
         if mark % 2 == 1 && !is_false(word) {
-            words[part] = 1;
-            if reaches(graph, words, costs, values, fewest, steps) {
+            evidence[part] = 1;
+            if reaches(graph, evidence, costs, values, fewest, steps) {
                 return Some(part);
             }
         }
-        words[part] = word;
+        evidence[part] = word;
     }
     None
 }

@@ -1,7 +1,7 @@
 ghost use Rattle.std.specs.Prelude.{◌≡◌, ◌+◌, ◌*◌, ◌<◌, ◌≤◌, length, All, Some, slice_index_or};
 ghost use Rattle.state_rules.specs.Ranking.{rest};
 ghost use Rattle.conditioner.specs.Models.{models, least_under, diagnoses_under, total_cost};
-ghost use Rattle.conditioner.specs.Words.{bits_of};
+ghost use Rattle.conditioner.specs.Evidence.{bits_of};
 ghost use Rattle.diagnosis_lister.specs.Listing.{step_of, fault_count};
 
 use crate::leaving::leave;
@@ -18,25 +18,25 @@ pub enum Step {
     Found,
     /// There are diagnoses, and none is later.
     End,
-    /// The words agree with no state.
+    /// The evidence agrees with no state.
     Inconsistent,
 }
 
 /// The least cost, with the first diagnosis in the state: 0 if a part is ok, and 1 if it is faulty. `None` if the graph
 /// allows no state; the state stays then.
 ///
-/// The words are the same afterwards. It takes a pass, and one more for each faulty part of the diagnosis; each pass has at most
+/// The evidence is the same afterwards. It takes a pass, and one more for each faulty part of the diagnosis; each pass has at most
 /// one sweep.
 pub fn first<L: Ledger>(
     graph: &Graph,
-    words: &mut [u32],
+    evidence: &mut [u32],
     costs: &[u32],
     values: &mut [u32],
     state: &mut [u32],
     steps: &mut Steps<L>,
 ) -> Option<u32>
-    requires long { length words.old ≡ graph.now.vars }
-    requires words { All (λ w. w < 3) words.old }
+    requires long { length evidence.old ≡ graph.now.vars }
+    requires evidence { All (λ w. w < 3) evidence.old }
     requires parts { length costs.now ≤ graph.now.vars }
     requires total { total_cost costs.now < TOTAL_LIMIT }
     requires dear { All (λ c. 0 < c) costs.now }
@@ -44,30 +44,30 @@ pub fn first<L: Ledger>(
     requires state { length state.old ≡ length costs.now }
     requires state_words { All (λ s. s < 2) state.old }
 
-    ensures least { result ≡ least_under graph.now words.old costs.now }
+    ensures least { result ≡ least_under graph.now evidence.old costs.now }
     ensures first { bits_of state.new
-        ≡ slice_index_or (diagnoses_under graph.now words.old costs.now) 0 (bits_of state.old) }
+        ≡ slice_index_or (diagnoses_under graph.now evidence.old costs.now) 0 (bits_of state.old) }
     ensures state { All (λ s. s < 2) state.new }
-    ensures words { words.new ≡ words.old }
+    ensures evidence { evidence.new ≡ evidence.old }
 
     // How many passes are made at most.
     ensures steps { steps.new ≤ steps.old + 2 * length costs.now + 1 }
     ensures few_steps { steps.new ≤ steps.old + fault_count (bits_of state.new) + 1 }
 {
-    first_in(&graph.view(), words, costs, values, state, steps)
+    first_in(&graph.view(), evidence, costs, values, state, steps)
 }
 
 /// What [`first`] does, in a graph whose nodes may lie anywhere.
 pub fn first_in<L: Ledger>(
     graph: &GraphView<'_>,
-    words: &mut [u32],
+    evidence: &mut [u32],
     costs: &[u32],
     values: &mut [u32],
     state: &mut [u32],
     steps: &mut Steps<L>,
 ) -> Option<u32>
-    requires long { length words.old ≡ graph.now.vars }
-    requires words { All (λ w. w < 3) words.old }
+    requires long { length evidence.old ≡ graph.now.vars }
+    requires evidence { All (λ w. w < 3) evidence.old }
     requires parts { length costs.now ≤ graph.now.vars }
     requires total { total_cost costs.now < TOTAL_LIMIT }
     requires dear { All (λ c. 0 < c) costs.now }
@@ -75,37 +75,37 @@ pub fn first_in<L: Ledger>(
     requires state { length state.old ≡ length costs.now }
     requires state_words { All (λ s. s < 2) state.old }
 
-    ensures least { result ≡ least_under graph.now words.old costs.now }
+    ensures least { result ≡ least_under graph.now evidence.old costs.now }
     ensures first { bits_of state.new
-        ≡ slice_index_or (diagnoses_under graph.now words.old costs.now) 0 (bits_of state.old) }
+        ≡ slice_index_or (diagnoses_under graph.now evidence.old costs.now) 0 (bits_of state.old) }
     ensures state { All (λ s. s < 2) state.new }
-    ensures words { words.new ≡ words.old }
+    ensures evidence { evidence.new ≡ evidence.old }
 
     // How many passes are made at most.
     ensures steps { steps.new ≤ steps.old + 2 * length costs.now + 1 }
     ensures few_steps { steps.new ≤ steps.old + fault_count (bits_of state.new) + 1 }
 {
-    let fewest = least_in(graph, words, costs, values, steps)?;
-    mark(words, state);
-    settle(graph, words, costs, values, 0, steps);
-    write_back(words, state);
+    let fewest = least_in(graph, evidence, costs, values, steps)?;
+    mark(evidence, state);
+    settle(graph, evidence, costs, values, 0, steps);
+    write_back(evidence, state);
     Some(fewest)
 }
 
 /// Whether there is a diagnosis after the state, which it then becomes. The state need be no diagnosis.
 ///
-/// The words are the same afterwards. If there is none, the state stays. It takes a pass, and one more for each faulty part of
+/// The evidence is the same afterwards. If there is none, the state stays. It takes a pass, and one more for each faulty part of
 /// the state and of the diagnosis; each pass has at most one sweep.
 pub fn next<L: Ledger>(
     graph: &Graph,
-    words: &mut [u32],
+    evidence: &mut [u32],
     costs: &[u32],
     values: &mut [u32],
     state: &mut [u32],
     steps: &mut Steps<L>,
 ) -> Step
-    requires long { length words.old ≡ graph.now.vars }
-    requires words { All (λ w. w < 3) words.old }
+    requires long { length evidence.old ≡ graph.now.vars }
+    requires evidence { All (λ w. w < 3) evidence.old }
     requires parts { length costs.now ≤ graph.now.vars }
     requires total { total_cost costs.now < TOTAL_LIMIT }
     requires dear { All (λ c. 0 < c) costs.now }
@@ -113,33 +113,33 @@ pub fn next<L: Ledger>(
     requires state { length state.old ≡ length costs.now }
     requires state_words { All (λ s. s < 2) state.old }
 
-    ensures step { result ≡ step_of (models graph.now words.old (length costs.now))
-        (rest (diagnoses_under graph.now words.old costs.now) (Some (bits_of state.old))) }
+    ensures step { result ≡ step_of (models graph.now evidence.old (length costs.now))
+        (rest (diagnoses_under graph.now evidence.old costs.now) (Some (bits_of state.old))) }
     ensures next { bits_of state.new
-        ≡ slice_index_or (rest (diagnoses_under graph.now words.old costs.now) (Some (bits_of state.old)))
+        ≡ slice_index_or (rest (diagnoses_under graph.now evidence.old costs.now) (Some (bits_of state.old)))
         0 (bits_of state.old) }
     ensures state { All (λ s. s < 2) state.new }
-    ensures words { words.new ≡ words.old }
+    ensures evidence { evidence.new ≡ evidence.old }
 
     // How many passes are made at most.
     ensures steps { steps.new ≤ steps.old + 2 * length costs.now + 1 }
     ensures few_steps { steps.new
         ≤ steps.old + fault_count (bits_of state.old) + fault_count (bits_of state.new) + 1 }
 {
-    next_in(&graph.view(), words, costs, values, state, steps)
+    next_in(&graph.view(), evidence, costs, values, state, steps)
 }
 
 /// What [`next`] does, in a graph whose nodes may lie anywhere.
 pub fn next_in<L: Ledger>(
     graph: &GraphView<'_>,
-    words: &mut [u32],
+    evidence: &mut [u32],
     costs: &[u32],
     values: &mut [u32],
     state: &mut [u32],
     steps: &mut Steps<L>,
 ) -> Step
-    requires long { length words.old ≡ graph.now.vars }
-    requires words { All (λ w. w < 3) words.old }
+    requires long { length evidence.old ≡ graph.now.vars }
+    requires evidence { All (λ w. w < 3) evidence.old }
     requires parts { length costs.now ≤ graph.now.vars }
     requires total { total_cost costs.now < TOTAL_LIMIT }
     requires dear { All (λ c. 0 < c) costs.now }
@@ -147,31 +147,31 @@ pub fn next_in<L: Ledger>(
     requires state { length state.old ≡ length costs.now }
     requires state_words { All (λ s. s < 2) state.old }
 
-    ensures step { result ≡ step_of (models graph.now words.old (length costs.now))
-        (rest (diagnoses_under graph.now words.old costs.now) (Some (bits_of state.old))) }
+    ensures step { result ≡ step_of (models graph.now evidence.old (length costs.now))
+        (rest (diagnoses_under graph.now evidence.old costs.now) (Some (bits_of state.old))) }
     ensures next { bits_of state.new
-        ≡ slice_index_or (rest (diagnoses_under graph.now words.old costs.now) (Some (bits_of state.old)))
+        ≡ slice_index_or (rest (diagnoses_under graph.now evidence.old costs.now) (Some (bits_of state.old)))
         0 (bits_of state.old) }
     ensures state { All (λ s. s < 2) state.new }
-    ensures words { words.new ≡ words.old }
+    ensures evidence { evidence.new ≡ evidence.old }
 
     // How many passes are made at most.
     ensures steps { steps.new ≤ steps.old + 2 * length costs.now + 1 }
     ensures few_steps { steps.new
         ≤ steps.old + fault_count (bits_of state.old) + fault_count (bits_of state.new) + 1 }
 {
-    let Some(fewest) = least_in(graph, words, costs, values, steps) else {
+    let Some(fewest) = least_in(graph, evidence, costs, values, steps) else {
         return Step::Inconsistent;
     };
-    mark(words, state);
-    match leave(graph, words, costs, values, state, fewest, steps) {
+    mark(evidence, state);
+    match leave(graph, evidence, costs, values, state, fewest, steps) {
         None => {
             unmark(state);
             Step::End
         }
         Some(part) => {
-            settle(graph, words, costs, values, part + 1, steps);
-            write_back(words, state);
+            settle(graph, evidence, costs, values, part + 1, steps);
+            write_back(evidence, state);
             Step::Found
         }
     }

@@ -1,23 +1,23 @@
 ghost use Rattle.std.specs.Prelude.{◌≡◌, ℕ, ◌+◌, ◌<◌, ◌≤◌, length, All, slice_index, if◌then◌else◌, ◌%◌};
-ghost use Rattle.conditioner.specs.Words.{bits_of};
+ghost use Rattle.conditioner.specs.Evidence.{bits_of};
 ghost use Rattle.diagnosis_lister.specs.inner.OpenMarks.{mark_of, is_marked, marked_bits, AreMarks};
 ghost use Rattle.diagnosis_lister.specs.inner.Fixing.{fixed_bits};
 
 use conditioner::{is_false, is_open};
 
-// While diagnoses are looked for, open parts are fixed in the words. So that they can be found again, the word of the
+// While diagnoses are looked for, open parts are fixed in the evidence. So that they can be found again, the word of the
 // state of each open part is marked by 2.
 
-pub(crate) fn mark(words: &[u32], state: &mut [u32])
-    requires long { length state.old ≤ length words.now }
+pub(crate) fn mark(evidence: &[u32], state: &mut [u32])
+    requires long { length state.old ≤ length evidence.now }
     requires small { All (λ s. s < 2) state.old }
     ensures each { (k : ℕ) → k < length state.old
-        → slice_index state.new k ≡ mark_of (slice_index words.now k) (slice_index state.old k) }
-    ensures marks { AreMarks words.now state.new }
+        → slice_index state.new k ≡ mark_of (slice_index evidence.now k) (slice_index state.old k) }
+    ensures marks { AreMarks evidence.now state.new }
     ensures bits { marked_bits state.new ≡ bits_of state.old }
 {
     for (part, mark) in state.iter_mut().enumerate() {
-        if is_open(words[part]) {
+        if is_open(evidence[part]) {
             *mark += 2;
         }
     }
@@ -31,19 +31,19 @@ pub(crate) fn unmark(state: &mut [u32])
     }
 }
 
-// Writes what the words say of the parts into the state, and opens the parts that were open.
-pub(crate) fn write_back(words: &mut [u32], state: &mut [u32])
-    requires { length state.old ≤ length words.old }
-    ensures words { (k : ℕ) → k < length state.old → slice_index words.new k
-        ≡ (if is_marked (slice_index state.old k) then 0 else slice_index words.old k) }
-    ensures others { (k : ℕ) → length state.old ≤ k → slice_index words.new k ≡ slice_index words.old k }
-    ensures bits { bits_of state.new ≡ fixed_bits (length state.old) words.old }
+// Writes what the evidence says of the parts into the state, and opens the parts that were open.
+pub(crate) fn write_back(evidence: &mut [u32], state: &mut [u32])
+    requires { length state.old ≤ length evidence.old }
+    ensures evidence { (k : ℕ) → k < length state.old → slice_index evidence.new k
+        ≡ (if is_marked (slice_index state.old k) then 0 else slice_index evidence.old k) }
+    ensures others { (k : ℕ) → length state.old ≤ k → slice_index evidence.new k ≡ slice_index evidence.old k }
+    ensures bits { bits_of state.new ≡ fixed_bits (length state.old) evidence.old }
     ensures small { All (λ s. s < 2) state.new }
 {
     for (part, mark) in state.iter_mut().enumerate() {
-        let faulty = is_false(words[part]);
+        let faulty = is_false(evidence[part]);
         if *mark >= 2 {
-            words[part] = 0;
+            evidence[part] = 0;
         }
         *mark = u32::from(faulty);
     }

@@ -11,7 +11,7 @@ use Rattle.state_rules.specs.declared.nodes.NodeKind.{NodeKind}
 use Rattle.state_rules.specs.declared.nodes.NodeKind.TheVariants.{Literal, And, Or}
 use Rattle.state_rules.specs.Graphs.{at_most_one, Graph, truth_by, is_true, mentions, IsGraph}
 use Rattle.state_rules.proofs.Children.{at_most_one-tail, not_both}
-use Rattle.conditioner.specs.Words.{leaf_of}
+use Rattle.conditioner.specs.Evidence.{leaf_of}
 use Rattle.minimiser.specs.Costs.{part_cost, known_at, sum_costs, literal_cost, least_at}
 use Rattle.minimiser.proofs.Costs.{IsCost, as_cost, from_add, true_is}
 use Rattle.minimiser.proofs.Whole.{part_cost-none}
@@ -45,9 +45,9 @@ module _ (keep : ℕ → Bool) (place : ℕ → ℕ) (small large : ℕ → Bool
 
 -- ---- their truth
 
-module _ (graph : Graph) (words costs : List ℕ) (ok : IsGraph graph) (keep : ℕ → Bool) (place : ℕ → ℕ) (U : ℕ → Assignment → Bool) where
+module _ (graph : Graph) (evidence costs : List ℕ) (ok : IsGraph graph) (keep : ℕ → Bool) (place : ℕ → ℕ) (U : ℕ → Assignment → Bool) where
   abbrev kn : ℕ → Option Bool
-  kn v = known_at words v
+  kn v = known_at evidence v
 
   abbrev price : ℕ → ℕ
   price v = part_cost costs v
@@ -62,35 +62,35 @@ module _ (graph : Graph) (words costs : List ℕ) (ok : IsGraph graph) (keep : �
   M v k = mentions graph.nodes v k
 
   abbrev pub StandsAt : ℕ → ℕ → (Assignment → Bool) → Type 0
-  StandsAt k c u = StandsFor (known_at words) (part_cost costs) (length costs) (λ a. is_true graph.nodes k a) (λ v. mentions graph.nodes v k) c u
+  StandsAt k c u = StandsFor (known_at evidence) (part_cost costs) (length costs) (λ a. is_true graph.nodes k a) (λ v. mentions graph.nodes v k) c u
 
   -- a child that stays costs no more, and has what stands for it
   pub record Stays (c j : ℕ) : Type 0 where
     pub cost : ℕ
-    pub is : least_at graph words costs j ≡ Some cost
+    pub is : least_at graph evidence costs j ≡ Some cost
     pub cheap : cost ≤ c
     pub stands : StandsAt j cost (U (place j))
 
   pub record ChildrenStand (kids : List ℕ) (c : ℕ) : Type 0 where
     pub stay : (j : ℕ) → In j kids → keep j ≡ true → Stays c j
-    pub rest : (j d : ℕ) → In j kids → keep j ≡ false → least_at graph words costs j ≡ Some d → (d ≡ 0) ⊎ (c < d)
+    pub rest : (j d : ℕ) → In j kids → keep j ≡ false → least_at graph evidence costs j ≡ Some d → (d ≡ 0) ⊎ (c < d)
 
   tail : (j c : ℕ) (kids : List ℕ) → ChildrenStand (j ∷ kids) c → ChildrenStand kids c
   tail j c kids h = record { stay = λ i m. h.stay i (inr m); rest = λ i d m. h.rest i d (inr m) }
 
-  costs-of : (j d : ℕ) → least_at graph words costs j ≡ Some d → IsCost kn price n (λ a. T a j) (λ v. M v j) (Some d)
-  costs-of j d e = subst (λ o. IsCost kn price n (λ a. T a j) (λ v. M v j) o) e (is_cost graph words costs ok j)
+  costs-of : (j d : ℕ) → least_at graph evidence costs j ≡ Some d → IsCost kn price n (λ a. T a j) (λ v. M v j) (Some d)
+  costs-of j d e = subst (λ o. IsCost kn price n (λ a. T a j) (λ v. M v j) o) e (is_cost graph evidence costs ok j)
 
   -- each child of an and costs no more than it
-  ands : (kids : List ℕ) (c : ℕ) → Apart graph words costs ok kids → ChildrenStand kids c → ((j d : ℕ) → In j kids → least_at graph words costs j ≡ Some d → d ≤ c) → (s : ℕ) → sum_costs (map (least_at graph words costs) kids) ≡ Some s
+  ands : (kids : List ℕ) (c : ℕ) → Apart graph evidence costs ok kids → ChildrenStand kids c → ((j d : ℕ) → In j kids → least_at graph evidence costs j ≡ Some d → d ≤ c) → (s : ℕ) → sum_costs (map (least_at graph evidence costs) kids) ≡ Some s
       → StandsFor kn price n (λ a. list_all (λ b. b) (map (T a) kids)) (λ v. list_any (λ b. b) (map (M v) kids)) s (λ a. list_all (λ b. b) (map (λ p. U p a) (map place (filter keep kids))))
   ands [] c apart h low s e = subst (λ m. StandsFor kn price n (λ a. true) (λ v. false) m (λ a. true)) (same_Some 0 s e) (stands-free kn price n (part_cost-none costs) (λ a. true) (λ v. false) (as_cost kn price n _ _ _ (true_is kn price n)))
   ands (j ∷ kids) c apart h low s e =
-      let sum = from_add (least_at graph words costs j) (sum_costs (map (least_at graph words costs) kids)) s e in
-      let later = apart-tail graph words costs ok j kids apart in
+      let sum = from_add (least_at graph evidence costs j) (sum_costs (map (least_at graph evidence costs) kids)) s e in
+      let later = apart-tail graph evidence costs ok j kids apart in
       let more = ands kids c later (tail j c kids h) (λ i d m. low i d (inr m)) sum.right sum.right_is in
       by_keep sum.left sum.right sum.left_is sum.right_is sum.sum_is more (keep j) refl where
-        by_keep : (l r : ℕ) → least_at graph words costs j ≡ Some l → sum_costs (map (least_at graph words costs) kids) ≡ Some r → l + r ≡ s
+        by_keep : (l r : ℕ) → least_at graph evidence costs j ≡ Some l → sum_costs (map (least_at graph evidence costs) kids) ≡ Some r → l + r ≡ s
             → StandsFor kn price n (λ a. list_all (λ b. b) (map (T a) kids)) (λ v. list_any (λ b. b) (map (M v) kids)) r (λ a. list_all (λ b. b) (map (λ p. U p a) (map place (filter keep kids))))
             → (b : Bool) → keep j ≡ b
             → StandsFor kn price n (λ a. list_all (λ b. b) (map (T a) (j ∷ kids))) (λ v. list_any (λ b. b) (map (M v) (j ∷ kids))) s (λ a. list_all (λ b. b) (map (λ p. U p a) (map place (cond b (j ∷ filter keep kids) (filter keep kids)))))
@@ -98,18 +98,18 @@ module _ (graph : Graph) (words costs : List ℕ) (ok : IsGraph graph) (keep : �
             let x = h.stay j (inl refl) k in
             let same : x.cost ≡ l = same_Some x.cost l (sym x.is ∙ el) in
             subst (λ m. StandsFor kn price n (λ a. list_all (λ b. b) (map (T a) (j ∷ kids))) (λ v. list_any (λ b. b) (map (M v) (j ∷ kids))) m (λ a. U (place j) a && list_all (λ b. b) (map (λ p. U p a) (map place (filter keep kids))))) sum
-            (stands-and kn price n (λ a. T a j) (λ a. list_all (λ b. b) (map (T a) kids)) (λ v. M v j) (λ v. list_any (λ b. b) (map (M v) kids)) l r (U (place j)) _ (apart-both graph words costs ok j kids apart) (costs-of j l el)
-            (subst (λ o. IsCost kn price n (λ a. list_all (λ b. b) (map (T a) kids)) (λ v. list_any (λ b. b) (map (M v) kids)) o) er (kids-cost graph words costs ok kids (apart-tail graph words costs ok j kids apart)))
+            (stands-and kn price n (λ a. T a j) (λ a. list_all (λ b. b) (map (T a) kids)) (λ v. M v j) (λ v. list_any (λ b. b) (map (M v) kids)) l r (U (place j)) _ (apart-both graph evidence costs ok j kids apart) (costs-of j l el)
+            (subst (λ o. IsCost kn price n (λ a. list_all (λ b. b) (map (T a) kids)) (λ v. list_any (λ b. b) (map (M v) kids)) o) er (kids-cost graph evidence costs ok kids (apart-tail graph evidence costs ok j kids apart)))
             (subst (λ m. StandsAt j m (U (place j))) same x.stands) more)
         by_keep l r el er sum more false k =
             let free : l ≡ 0 = ⊎_elim (λ z. z) (λ q. absurd (omega (arith, q, low j l (inl refl) el))) (h.rest j l (inl refl) k el) in
             subst (λ m. StandsFor kn price n (λ a. list_all (λ b. b) (map (T a) (j ∷ kids))) (λ v. list_any (λ b. b) (map (M v) (j ∷ kids))) m (λ a. list_all (λ b. b) (map (λ p. U p a) (map place (filter keep kids))))) sum
-            (stands-and kn price n (λ a. T a j) (λ a. list_all (λ b. b) (map (T a) kids)) (λ v. M v j) (λ v. list_any (λ b. b) (map (M v) kids)) l r (λ a. true) _ (apart-both graph words costs ok j kids apart) (costs-of j l el)
-            (subst (λ o. IsCost kn price n (λ a. list_all (λ b. b) (map (T a) kids)) (λ v. list_any (λ b. b) (map (M v) kids)) o) er (kids-cost graph words costs ok kids (apart-tail graph words costs ok j kids apart)))
+            (stands-and kn price n (λ a. T a j) (λ a. list_all (λ b. b) (map (T a) kids)) (λ v. M v j) (λ v. list_any (λ b. b) (map (M v) kids)) l r (λ a. true) _ (apart-both graph evidence costs ok j kids apart) (costs-of j l el)
+            (subst (λ o. IsCost kn price n (λ a. list_all (λ b. b) (map (T a) kids)) (λ v. list_any (λ b. b) (map (M v) kids)) o) er (kids-cost graph evidence costs ok kids (apart-tail graph evidence costs ok j kids apart)))
             (subst (λ m. StandsAt j m (λ a. true)) (sym free) (stands-free kn price n (part_cost-none costs) (λ a. T a j) (λ v. M v j) (costs-of j 0 (el ∙ ap Some free)))) more)
 
   -- each child of an or costs at least as much as it
-  ors : (kids : List ℕ) (c : ℕ) → 0 < c → ChildrenStand kids c → ((j d : ℕ) → In j kids → least_at graph words costs j ≡ Some d → c ≤ d)
+  ors : (kids : List ℕ) (c : ℕ) → 0 < c → ChildrenStand kids c → ((j d : ℕ) → In j kids → least_at graph evidence costs j ≡ Some d → c ≤ d)
       → StandsFor kn price n (λ a. list_any (λ b. b) (map (T a) kids)) (λ v. list_any (λ b. b) (map (M v) kids)) c (λ a. list_any (λ b. b) (map (λ p. U p a) (map place (filter keep kids))))
   ors [] c dear h high = stands-never kn price n c
   ors (j ∷ kids) c dear h high = by_keep (ors kids c dear (tail j c kids h) (λ i d m. high i d (inr m))) (keep j) refl where
@@ -121,7 +121,7 @@ module _ (graph : Graph) (words costs : List ℕ) (ok : IsGraph graph) (keep : �
         let same : x.cost ≡ c = omega (arith, x.cheap, high j x.cost (inl refl) x.is) in
         stands-or kn price n (λ a. T a j) (λ a. list_any (λ b. b) (map (T a) kids)) (λ v. M v j) (λ v. list_any (λ b. b) (map (M v) kids)) c (U (place j)) _ (subst (λ m. StandsAt j m (U (place j))) same x.stands) more
     by_keep more false k =
-        stands-other kn price n (λ a. T a j) (λ a. list_any (λ b. b) (map (T a) kids)) (λ v. M v j) (λ v. list_any (λ b. b) (map (M v) kids)) c (least_at graph words costs j) _ (is_cost graph words costs ok j)
+        stands-other kn price n (λ a. T a j) (λ a. list_any (λ b. b) (map (T a) kids)) (λ v. M v j) (λ v. list_any (λ b. b) (map (M v) kids)) c (least_at graph evidence costs j) _ (is_cost graph evidence costs ok j)
         (λ d e. ⊎_elim (λ z. absurd (omega (arith, z, dear, high j d (inl refl) e))) (λ q. q) (h.rest j d (inl refl) k e)) more
 
   -- a literal that costs something says that an open part is faulty
@@ -129,17 +129,17 @@ module _ (graph : Graph) (words costs : List ℕ) (ok : IsGraph graph) (keep : �
   says k w c positive e dear = grind arith
 
   -- What costs something has the same kind over the children that stay standing for it.
-  pub node-stands : (k c : ℕ) (what : NodeKind) (kids : List ℕ) → slice_get graph.nodes k ≡ Some (record { what = what; kids = kids }) → least_at graph words costs k ≡ Some c → 0 < c → ChildrenStand kids c
+  pub node-stands : (k c : ℕ) (what : NodeKind) (kids : List ℕ) → slice_get graph.nodes k ≡ Some (record { what = what; kids = kids }) → least_at graph evidence costs k ≡ Some c → 0 < c → ChildrenStand kids c
       → StandsAt k c (λ a. truth_by a what (map (λ p. U p a) (map place (filter keep kids))))
   unfolding Apart
   node-stands k c (Literal positive var) kids e is dear h =
-      let s = says (kn var) (price var) c positive (sym (costs-at graph words costs ok k _ e) ∙ is) dear in
-      StandsFor-same kn price n (λ a. true-at graph words costs ok k _ e a ∙ ap (λ p. same_bit p (a var)) s.0) (λ v. mention-at graph words costs ok k _ e v) s.1 (λ a. ap (λ p. same_bit p (a var)) s.0) (stands-literal kn price n (part_cost-none costs) var)
+      let s = says (kn var) (price var) c positive (sym (costs-at graph evidence costs ok k _ e) ∙ is) dear in
+      StandsFor-same kn price n (λ a. true-at graph evidence costs ok k _ e a ∙ ap (λ p. same_bit p (a var)) s.0) (λ v. mention-at graph evidence costs ok k _ e v) s.1 (λ a. ap (λ p. same_bit p (a var)) s.0) (stands-literal kn price n (part_cost-none costs) var)
   node-stands k c And kids e is dear h =
-      let sum = sym (costs-at graph words costs ok k _ e) ∙ is in
-      StandsFor-same kn price n (λ a. true-at graph words costs ok k _ e a) (λ v. mention-at graph words costs ok k _ e v) refl (λ a. refl)
-      (ands kids c (apart-kids graph words costs ok k kids e) h (λ j d m f. let x = sum-child (least_at graph words costs) kids c j sum m in omega (arith, x.2, same_Some x.0 d (sym x.1 ∙ f))) c sum)
+      let sum = sym (costs-at graph evidence costs ok k _ e) ∙ is in
+      StandsFor-same kn price n (λ a. true-at graph evidence costs ok k _ e a) (λ v. mention-at graph evidence costs ok k _ e v) refl (λ a. refl)
+      (ands kids c (apart-kids graph evidence costs ok k kids e) h (λ j d m f. let x = sum-child (least_at graph evidence costs) kids c j sum m in omega (arith, x.2, same_Some x.0 d (sym x.1 ∙ f))) c sum)
   node-stands k c Or kids e is dear h =
-      let least = sym (costs-at graph words costs ok k _ e) ∙ is in
-      StandsFor-same kn price n (λ a. true-at graph words costs ok k _ e a) (λ v. mention-at graph words costs ok k _ e v) refl (λ a. refl)
-      (ors kids c dear h (λ j d m f. subst (λ o. AtMost o d) least (cheapest-child (least_at graph words costs) kids j d m f)))
+      let least = sym (costs-at graph evidence costs ok k _ e) ∙ is in
+      StandsFor-same kn price n (λ a. true-at graph evidence costs ok k _ e a) (λ v. mention-at graph evidence costs ok k _ e v) refl (λ a. refl)
+      (ors kids c dear h (λ j d m f. subst (λ o. AtMost o d) least (cheapest-child (least_at graph evidence costs) kids j d m f)))

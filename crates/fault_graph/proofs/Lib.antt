@@ -8,6 +8,6 @@ pub mod Places
 pub mod Smallness
 pub mod Roots
 pub mod SmallGraphs
-pub mod LastDistilled
+pub mod LastMinimised
 pub mod Written
 pub mod PresumedParts

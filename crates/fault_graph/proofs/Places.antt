@@ -22,17 +22,17 @@ In-Contains (y ∷ xs) x (inr m) = let more = In-Contains xs x m in (suc more.0,
 
 -- ---- what stands for a node
 
-module _ (graph : Graph) (words costs : List ℕ) where
+module _ (graph : Graph) (evidence costs : List ℕ) where
   -- what is at a place for a node, with no variable that the node has not
   pub record IsPlace (nodes : List Node) (k c p : ℕ) : Type 0 where
     pub there : p < length nodes
-    pub stands : StandsFor (known_at words) (part_cost costs) (length costs) (λ a. is_true graph.nodes k a) (λ v. mentions graph.nodes v k) c (λ a. is_true nodes p a)
+    pub stands : StandsFor (known_at evidence) (part_cost costs) (length costs) (λ a. is_true graph.nodes k a) (λ v. mentions graph.nodes v k) c (λ a. is_true nodes p a)
     pub inside : (v : ℕ) → mentions nodes v p ≡ true → mentions graph.nodes v k ≡ true
 
   pub place-more : (nodes : List Node) (node : Node) (k c p : ℕ) → IsPlace nodes k c p → IsPlace (nodes ++ node ∷ []) k c p
   place-more nodes node k c p is = record {
     there = omega (arith, is.there, length-append nodes (node ∷ []));
-    stands = StandsFor-same (known_at words) (part_cost costs) (length costs) (λ a. refl) (λ v. refl) refl (λ a. value_of-before (truth_by a) nodes node p is.there) is.stands;
+    stands = StandsFor-same (known_at evidence) (part_cost costs) (length costs) (λ a. refl) (λ v. refl) refl (λ a. value_of-before (truth_by a) nodes node p is.there) is.stands;
     inside = λ v e. is.inside v (sym (value_of-before (mention_by v) nodes node p is.there) ∙ e);
   }
 
@@ -40,7 +40,7 @@ module _ (graph : Graph) (words costs : List ℕ) where
   pub record IsFrom (nodes : List Node) (c p : ℕ) : Type 0 where
     pub node : ℕ
     pub dear : 0 < c
-    pub is : least_at graph words costs node ≡ Some c
+    pub is : least_at graph evidence costs node ≡ Some c
     pub place : IsPlace nodes node c p
 
   pub from-more : (nodes : List Node) (node : Node) (c p : ℕ) → IsFrom nodes c p → IsFrom (nodes ++ node ∷ []) c p

@@ -1,4 +1,4 @@
--- A graph whose last node stands for the root is distilled, and so is a true one where nothing is wrong.
+-- A graph whose last node stands for the root is minimised, and so is a true one where nothing is wrong.
 use Rattle.std.proofs.Common.{◌≡◌, ℕ, ◌+◌, ◌-◌, ◌<◌, ◌≤◌, List, [], ◌∷◌, ◌++◌, length, get_or, All, Some, refl, ap, sym, ◌∙◌, subst, arith, length-append}
 use Rattle.state_rules.specs.Graphs.{Node, Graph, true_node, is_true, mentions, AreNodes, IsGraph, edges, truth_by}
 use Rattle.state_rules.proofs.NodeValues.{value_of-last}
@@ -11,40 +11,40 @@ use Rattle.minimiser.proofs.Whole.{part_cost-none}
 use Rattle.minimiser.proofs.Models.{LeastIs}
 use Rattle.minimiser.proofs.Derivations.{is_cost}
 use Rattle.minimiser.proofs.Valued.{value-is}
-use Rattle.fault_graph.specs.Distilled.{IsDistilled}
+use Rattle.fault_graph.specs.Minimised.{IsMinimised}
 use Rattle.fault_graph.specs.Small.{IsSmall}
 use Rattle.fault_graph.proofs.LeastNodes.{StandsFor, StandsFor-same, stands-free}
 use Rattle.fault_graph.proofs.Law.{graph-least, small-least, same-diagnoses}
 use Rattle.fault_graph.proofs.Smallness.{small-true}
 
-module _ (graph : Graph) (words costs : List ℕ) (ok : IsGraph graph) (long : length words ≡ graph.vars) (within : length costs ≤ graph.vars) where
+module _ (graph : Graph) (evidence costs : List ℕ) (ok : IsGraph graph) (long : length evidence ≡ graph.vars) (within : length costs ≤ graph.vars) where
   abbrev root : ℕ
   root = length graph.nodes - 1
 
   end-is : (node : Node) (nodes : List Node) → length (nodes ++ node ∷ []) - 1 ≡ length nodes
   end-is node nodes = omega (arith, length-append nodes (node ∷ []))
 
-  -- the nodes are a graph, which is distilled and small
+  -- the nodes are a graph, which is minimised and small
   pub record IsWhole (new : List Node) : Type 0 where
     pub graph_is : IsGraph (record { nodes = new; vars = graph.vars })
-    pub distilled : IsDistilled graph words costs (record { nodes = new; vars = graph.vars })
-    pub small : IsSmall words costs (record { nodes = new; vars = graph.vars })
+    pub minimised : IsMinimised graph evidence costs (record { nodes = new; vars = graph.vars })
+    pub small : IsSmall evidence costs (record { nodes = new; vars = graph.vars })
 
   pub whole : All (λ c. 0 < c) costs → (nodes : List Node) (node : Node) (c : ℕ) → AreNodes graph.vars (nodes ++ node ∷ []) → length nodes ≤ length graph.nodes - 1 → edges (nodes ++ node ∷ []) ≤ edges graph.nodes
-      → least_at graph words costs (length graph.nodes - 1) ≡ Some c
-      → StandsFor (known_at words) (part_cost costs) (length costs) (λ a. is_true graph.nodes (length graph.nodes - 1) a) (λ w. mentions graph.nodes w (length graph.nodes - 1)) c (λ a. is_true (nodes ++ node ∷ []) (length nodes) a)
-      → (IsGraph (record { nodes = nodes ++ node ∷ []; vars = graph.vars }) → IsSmall words costs (record { nodes = nodes ++ node ∷ []; vars = graph.vars })) → IsWhole (nodes ++ node ∷ [])
+      → least_at graph evidence costs (length graph.nodes - 1) ≡ Some c
+      → StandsFor (known_at evidence) (part_cost costs) (length costs) (λ a. is_true graph.nodes (length graph.nodes - 1) a) (λ w. mentions graph.nodes w (length graph.nodes - 1)) c (λ a. is_true (nodes ++ node ∷ []) (length nodes) a)
+      → (IsGraph (record { nodes = nodes ++ node ∷ []; vars = graph.vars }) → IsSmall evidence costs (record { nodes = nodes ++ node ∷ []; vars = graph.vars })) → IsWhole (nodes ++ node ∷ [])
   whole dears nodes node c are few few_edges is stands small =
       let new : List Node = nodes ++ node ∷ [] in
       let long_new : length new ≡ length nodes + 1 = length-append nodes (node ∷ []) in
       let sound : IsGraph (record { nodes = new; vars = graph.vars }) = record { some = omega (arith, long_new); few = omega (arith, long_new, few, ok.some, ok.few); nodes = are } in
-      let at_end = subst (λ n. StandsFor (known_at words) (part_cost costs) (length costs) (λ a. is_true graph.nodes root a) (λ w. mentions graph.nodes w root) c (λ a. is_true new n a)) (sym (end-is node nodes)) stands in
+      let at_end = subst (λ n. StandsFor (known_at evidence) (part_cost costs) (length costs) (λ a. is_true graph.nodes root a) (λ w. mentions graph.nodes w root) c (λ a. is_true new n a)) (sym (end-is node nodes)) stands in
       record {
         graph_is = sound;
-        distilled = record {
+        minimised = record {
           vars = refl;
-          least = small-least graph (record { nodes = new; vars = graph.vars }) words costs ok sound refl long within dears c is at_end ∙ sym (graph-least graph (record { nodes = new; vars = graph.vars }) words costs ok sound refl long within dears c is at_end);
-          diagnoses = same-diagnoses graph (record { nodes = new; vars = graph.vars }) words costs ok sound refl long within dears c is at_end;
+          least = small-least graph (record { nodes = new; vars = graph.vars }) evidence costs ok sound refl long within dears c is at_end ∙ sym (graph-least graph (record { nodes = new; vars = graph.vars }) evidence costs ok sound refl long within dears c is at_end);
+          diagnoses = same-diagnoses graph (record { nodes = new; vars = graph.vars }) evidence costs ok sound refl long within dears c is at_end;
           few = omega (arith, long_new, few, ok.some);
           few_edges = few_edges;
         };
@@ -52,12 +52,12 @@ module _ (graph : Graph) (words costs : List ℕ) (ok : IsGraph graph) (long : l
       }
 
   -- where the root costs nothing
-  pub free-root : total_cost costs < 2147483647 → (most : ℕ) → LeastIs graph costs words most → (values : List ℕ) → AreLeastCosts graph words costs values → All (λ c. 0 < c) costs → get_or values (length graph.nodes - 1) 0 ≡ 0
+  pub free-root : total_cost costs < 2147483647 → (most : ℕ) → LeastIs graph costs evidence most → (values : List ℕ) → AreLeastCosts graph evidence costs values → All (λ c. 0 < c) costs → get_or values (length graph.nodes - 1) 0 ≡ 0
       → IsWhole (true_node ∷ [])
   free-root total most least_most values v dears z =
-      let free : least_at graph words costs root ≡ Some 0 = sym (value-is graph words costs values v root (omega (arith, ok.some))) ∙ ap cost_in z in
+      let free : least_at graph evidence costs root ≡ Some 0 = sym (value-is graph evidence costs values v root (omega (arith, ok.some))) ∙ ap cost_in z in
       whole dears [] true_node 0 (AreNodes-push graph.vars [] true_node (record { fit = refl; apart = λ w. tt }) refl (λ w. refl)) (omega arith) (omega arith) free
-      (StandsFor-same (known_at words) (part_cost costs) (length costs) (λ a. refl) (λ w. refl) refl (λ a. value_of-last (truth_by a) [] true_node)
-      (stands-free (known_at words) (part_cost costs) (length costs) (part_cost-none costs) (λ a. is_true graph.nodes root a) (λ w. mentions graph.nodes w root)
-      (subst (λ o. IsCost (known_at words) (part_cost costs) (length costs) (λ a. is_true graph.nodes root a) (λ w. mentions graph.nodes w root) o) free (is_cost graph words costs ok root))))
-      (λ sound. small-true words costs graph.vars)
+      (StandsFor-same (known_at evidence) (part_cost costs) (length costs) (λ a. refl) (λ w. refl) refl (λ a. value_of-last (truth_by a) [] true_node)
+      (stands-free (known_at evidence) (part_cost costs) (length costs) (part_cost-none costs) (λ a. is_true graph.nodes root a) (λ w. mentions graph.nodes w root)
+      (subst (λ o. IsCost (known_at evidence) (part_cost costs) (length costs) (λ a. is_true graph.nodes root a) (λ w. mentions graph.nodes w root) o) free (is_cost graph evidence costs ok root))))
+      (λ sound. small-true evidence costs graph.vars)

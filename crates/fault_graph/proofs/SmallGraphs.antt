@@ -69,15 +69,15 @@ keeps-not values cost j e = grind (arith, and_from, lt-ltb, le-leb, cases_lt)
 
 -- ---- the nodes so far
 
-module _ (graph : Graph) (words costs : List ℕ) where
+module _ (graph : Graph) (evidence costs : List ℕ) where
   -- the nodes of the graph before one were met: of those that are marked and cost something it is known what stands for them
   pub record IsBuilt (values marks places : List ℕ) (nodes : List Node) (at : ℕ) : Type 0 where
     pub are : AreNodes graph.vars nodes
     pub few : length nodes ≤ at
     pub few_edges : edges nodes ≤ edges (take at graph.nodes)
     pub ahead : (k : ℕ) → at ≤ k → get_or places k 0 ≡ get_or marks k 0
-    pub built : (k c : ℕ) → k < at → get_or marks k 0 ≡ 1 → least_at graph words costs k ≡ Some c → 0 < c → IsPlace graph words costs nodes k c (get_or places k 0)
-    pub from : AreFrom graph words costs nodes
+    pub built : (k c : ℕ) → k < at → get_or marks k 0 ≡ 1 → least_at graph evidence costs k ≡ Some c → 0 < c → IsPlace graph evidence costs nodes k c (get_or places k 0)
+    pub from : AreFrom graph evidence costs nodes
     pub joins : AllJoin nodes
     pub needed : (p : ℕ) → p < length nodes → IsNeeded graph values marks places nodes at p
 
@@ -88,20 +88,20 @@ module _ (graph : Graph) (words costs : List ℕ) where
       let e = slice_get-get_or graph.nodes at true_node lt in
       (omega (arith, is.few), omega (arith, is.few_edges, ap edges (take-more graph.nodes at _ e), edges-push (take at graph.nodes) (node_at graph.nodes at), sum_by-take-le (λ (x : Node). length x.kids) graph.nodes (at + 1)))
 
-module _ (graph : Graph) (words costs : List ℕ) (ok : IsGraph graph) (long : length words ≡ graph.vars) (within : length costs ≤ graph.vars) (total : total_cost costs < 2147483647)
-    (most : ℕ) (least_most : LeastIs graph costs words most) (values : List ℕ) (v : AreLeastCosts graph words costs values) (marks : List ℕ) (m : AreMarks graph.nodes values marks 0) where
+module _ (graph : Graph) (evidence costs : List ℕ) (ok : IsGraph graph) (long : length evidence ≡ graph.vars) (within : length costs ≤ graph.vars) (total : total_cost costs < 2147483647)
+    (most : ℕ) (least_most : LeastIs graph costs evidence most) (values : List ℕ) (v : AreLeastCosts graph evidence costs values) (marks : List ℕ) (m : AreMarks graph.nodes values marks 0) where
   abbrev root : ℕ
   root = length graph.nodes - 1
 
-  marked-cost : (k : ℕ) → k < length graph.nodes → get_or marks k 0 ≡ 1 → least_at graph words costs k ≡ Some (get_or values k 0)
-  marked-cost k h e = sym (value-is graph words costs values v k h) ∙ cost_in-some (get_or values k 0) (λ z. absurd (omega (arith, z, m.low k h e, root-low graph words costs ok long within total most least_most values v)))
+  marked-cost : (k : ℕ) → k < length graph.nodes → get_or marks k 0 ≡ 1 → least_at graph evidence costs k ≡ Some (get_or values k 0)
+  marked-cost k h e = sym (value-is graph evidence costs values v k h) ∙ cost_in-some (get_or values k 0) (λ z. absurd (omega (arith, z, m.low k h e, root-low graph evidence costs ok long within total most least_most values v)))
 
-  cost-value : (k c : ℕ) → k < length graph.nodes → least_at graph words costs k ≡ Some c → get_or values k 0 ≡ c
-  cost-value k c h e = cost_in-is (get_or values k 0) c (value-is graph words costs values v k h ∙ e)
+  cost-value : (k c : ℕ) → k < length graph.nodes → least_at graph evidence costs k ≡ Some c → get_or values k 0 ≡ c
+  cost-value k c h e = cost_in-is (get_or values k 0) c (value-is graph evidence costs values v k h ∙ e)
 
   -- a node that is passed over
-  pub built-past : (places : List ℕ) (nodes : List Node) (at : ℕ) → at < length graph.nodes → IsBuilt graph words costs values marks places nodes at → get_or places at 0 ≢ 1
-      → IsBuilt graph words costs values marks places nodes (at + 1)
+  pub built-past : (places : List ℕ) (nodes : List Node) (at : ℕ) → at < length graph.nodes → IsBuilt graph evidence costs values marks places nodes at → get_or places at 0 ≢ 1
+      → IsBuilt graph evidence costs values marks places nodes (at + 1)
   built-past places nodes at lt is none = record {
     are = is.are;
     few = omega (arith, is.few);
@@ -132,7 +132,7 @@ module _ (graph : Graph) (words costs : List ℕ) (ok : IsGraph graph) (long : l
       there = w.there;
     })
 
-  module _ (places : List ℕ) (nodes : List Node) (at : ℕ) (lt : at < length graph.nodes) (is : IsBuilt graph words costs values marks places nodes at) (mark : get_or places at 0 ≡ 1)
+  module _ (places : List ℕ) (nodes : List Node) (at : ℕ) (lt : at < length graph.nodes) (is : IsBuilt graph evidence costs values marks places nodes at) (mark : get_or places at 0 ≡ 1)
       (what : NodeKind) (kids : List ℕ) (e : slice_get graph.nodes at ≡ Some (record { what = what; kids = kids })) where
     abbrev c : ℕ
     c = get_or values at 0
@@ -152,22 +152,22 @@ module _ (graph : Graph) (words costs : List ℕ) (ok : IsGraph graph) (long : l
     costly : get_or values at 0 ≢ 0
     costly z = omega (arith, z, m.dear at lt node-mark)
 
-    cost-is : least_at graph words costs at ≡ Some c
+    cost-is : least_at graph evidence costs at ≡ Some c
     cost-is = marked-cost at lt node-mark
 
     earlier : (j : ℕ) → In j kids → j < at
-    earlier j i = all-below at kids j (below graph words costs ok at _ e) i
+    earlier j i = all-below at kids j (below graph evidence costs ok at _ e) i
 
     child-mark : (j : ℕ) → In j kids → 0 < get_or values j 0 → get_or values j 0 ≤ c → get_or marks j 0 ≡ 1
     child-mark j i dear h = m.down at j (omega arith) lt node-mark (subst (λ (n : Node). is_child n.kids j ≡ true) (sym (get_or_from_slice_get graph.nodes at _ true_node e)) (child-in kids j i)) dear h
 
-    child-place : (j : ℕ) → In j kids → keep j ≡ true → IsPlace graph words costs nodes j (get_or values j 0) (place j)
+    child-place : (j : ℕ) → In j kids → keep j ≡ true → IsPlace graph evidence costs nodes j (get_or values j 0) (place j)
     child-place j i k =
         let p = keeps-out values c j k in
         let h = child-mark j i p.0 p.1 in
         is.built j (get_or values j 0) (earlier j i) h (marked-cost j (omega (arith, earlier j i)) h) p.0
 
-    kids-stand : ChildrenStand graph words costs ok keep place (λ p a. is_true nodes p a) kids c
+    kids-stand : ChildrenStand graph evidence costs ok keep place (λ p a. is_true nodes p a) kids c
     kids-stand = record {
       stay = grind (arith, marked-cost, earlier, child-mark, child-place);
       rest = λ j d i k f.
@@ -175,11 +175,11 @@ module _ (graph : Graph) (words costs : List ℕ) (ok : IsGraph graph) (long : l
           subst (λ x. (x ≡ 0) ⊎ (c < x)) same (keeps-not values c j k);
     }
 
-    stands : StandsFor (known_at words) (part_cost costs) (length costs) (λ a. is_true graph.nodes at a) (λ w. mentions graph.nodes w at) c (λ a. truth_by a what (map (λ p. is_true nodes p a) row))
-    stands = node-stands graph words costs ok keep place (λ p a. is_true nodes p a) at c what kids e cost-is (omega arith) kids-stand
+    stands : StandsFor (known_at evidence) (part_cost costs) (length costs) (λ a. is_true graph.nodes at a) (λ w. mentions graph.nodes w at) c (λ a. truth_by a what (map (λ p. is_true nodes p a) row))
+    stands = node-stands graph evidence costs ok keep place (λ p a. is_true nodes p a) at c what kids e cost-is (omega arith) kids-stand
 
     inside : (w : ℕ) → mention_by w what (map (mentions nodes w) row) ≡ true → mentions graph.nodes w at ≡ true
-    inside w h = mention-at graph words costs ok at _ e w ∙ by_kind what h where
+    inside w h = mention-at graph evidence costs ok at _ e w ∙ by_kind what h where
       any : list_any (λ b. b) (map (mentions nodes w) row) ≡ true → list_any (λ b. b) (map (mentions graph.nodes w) kids) ≡ true
       any h = narrower-any keep place (mentions nodes w) (mentions graph.nodes w) kids (λ j i k s. (child-place j i k).inside w s) h
 
@@ -204,18 +204,18 @@ module _ (graph : Graph) (words costs : List ℕ) (ok : IsGraph graph) (long : l
     pub are-pushed : AreNodes graph.vars (nodes ++ record { what = what; kids = row } ∷ [])
     are-pushed = AreNodes-push graph.vars nodes (record { what = what; kids = row }) is.are fits apart
 
-    pub pushed : IsPlace graph words costs (nodes ++ record { what = what; kids = row } ∷ []) at c (length nodes)
+    pub pushed : IsPlace graph evidence costs (nodes ++ record { what = what; kids = row } ∷ []) at c (length nodes)
     pushed = record {
       there = omega (arith, length-append nodes (record { what = what; kids = row } ∷ []));
-      stands = StandsFor-same (known_at words) (part_cost costs) (length costs) (λ a. refl) (λ w. refl) refl (λ a. value_of-last (truth_by a) nodes (record { what = what; kids = row })) stands;
+      stands = StandsFor-same (known_at evidence) (part_cost costs) (length costs) (λ a. refl) (λ w. refl) refl (λ a. value_of-last (truth_by a) nodes (record { what = what; kids = row })) stands;
       inside = λ w h. inside w (sym (value_of-last (mention_by w) nodes (record { what = what; kids = row })) ∙ h);
     }
 
     -- one child that stays stands for the node
-    only : (p : ℕ) → row ≡ p ∷ [] → IsPlace graph words costs nodes at c p
+    only : (p : ℕ) → row ≡ p ∷ [] → IsPlace graph evidence costs nodes at c p
     only p one = record {
       there = ltb-true p (length nodes) (and_left _ _ (subst (λ ks. are_below (length nodes) ks ≡ true) one below-all));
-      stands = StandsFor-same (known_at words) (part_cost costs) (length costs) (λ a. refl) (λ w. refl) refl (λ a. sym (ap (λ ks. truth_by a what (map (λ q. is_true nodes q a) ks)) one ∙ truth-one a what e)) stands;
+      stands = StandsFor-same (known_at evidence) (part_cost costs) (length costs) (λ a. refl) (λ w. refl) refl (λ a. sym (ap (λ ks. truth_by a what (map (λ q. is_true nodes q a) ks)) one ∙ truth-one a what e)) stands;
       inside = λ w h. inside w (ap (λ ks. mention_by w what (map (mentions nodes w) ks)) one ∙ mention-one w what e h);
     } where
       no-literal : (var : ℕ) (positive : Bool) → slice_get graph.nodes at ≡ Some (record { what = Literal positive var; kids = kids }) → ⊥
@@ -235,19 +235,19 @@ module _ (graph : Graph) (words costs : List ℕ) (ok : IsGraph graph) (long : l
 
     -- ---- where it comes from, and what it is needed for
 
-    or-child : what ≡ Or → (q : ℕ) → In q row → IsFrom graph words costs nodes c q
+    or-child : what ≡ Or → (q : ℕ) → In q row → IsFrom graph evidence costs nodes c q
     or-child o q i =
         let x = row-source keep place kids q i in
         let p = keeps-out values c x.0 x.2 in
         let is_cost = marked-cost x.0 (omega (arith, earlier x.0 x.1)) (child-mark x.0 x.1 p.0 p.1) in
-        let least : cheapest (map (least_at graph words costs) kids) ≡ Some c = sym (costs-at graph words costs ok at _ (e ∙ ap (λ (w : NodeKind). Some (record { what = w; kids = kids })) o)) ∙ cost-is in
-        let high : c ≤ get_or values x.0 0 = subst (λ d. AtMost d (get_or values x.0 0)) least (cheapest-child (least_at graph words costs) kids x.0 (get_or values x.0 0) x.1 is_cost) in
+        let least : cheapest (map (least_at graph evidence costs) kids) ≡ Some c = sym (costs-at graph evidence costs ok at _ (e ∙ ap (λ (w : NodeKind). Some (record { what = w; kids = kids })) o)) ∙ cost-is in
+        let high : c ≤ get_or values x.0 0 = subst (λ d. AtMost d (get_or values x.0 0)) least (cheapest-child (least_at graph evidence costs) kids x.0 (get_or values x.0 0) x.1 is_cost) in
         let same : get_or values x.0 0 ≡ c = omega (arith, high, p.1) in
-        subst (λ d. IsFrom graph words costs nodes d q) same
-        (subst (λ r. IsFrom graph words costs nodes (get_or values x.0 0) r) x.3 (record { node = x.0; dear = p.0; is = is_cost; place = child-place x.0 x.1 x.2 }))
+        subst (λ d. IsFrom graph evidence costs nodes d q) same
+        (subst (λ r. IsFrom graph evidence costs nodes (get_or values x.0 0) r) x.3 (record { node = x.0; dear = p.0; is = is_cost; place = child-place x.0 x.1 x.2 }))
 
-    pub from-pushed : AreFrom graph words costs (nodes ++ record { what = what; kids = row } ∷ [])
-    from-pushed = from-push graph words costs nodes (record { what = what; kids = row }) c is.from (record { node = at; dear = omega arith; is = cost-is; place = pushed }) or-child
+    pub from-pushed : AreFrom graph evidence costs (nodes ++ record { what = what; kids = row } ∷ [])
+    from-pushed = from-push graph evidence costs nodes (record { what = what; kids = row }) c is.from (record { node = at; dear = omega arith; is = cost-is; place = pushed }) or-child
 
     -- an and or an or that costs something has a child that stays
     joined : length row ≢ 1 → Joins what (length row)
@@ -257,17 +257,17 @@ module _ (graph : Graph) (words costs : List ℕ) (ok : IsGraph graph) (long : l
 
       no-and : what ≡ And → row ≡ [] → ⊥
       no-and o none =
-          let sum : sum_costs (map (least_at graph words costs) kids) ≡ Some c = sym (costs-at graph words costs ok at _ (e ∙ ap (λ (w : NodeKind). Some (record { what = w; kids = kids })) o)) ∙ cost-is in
-          costly (free-sum (least_at graph words costs) kids c sum
+          let sum : sum_costs (map (least_at graph evidence costs) kids) ≡ Some c = sym (costs-at graph evidence costs ok at _ (e ∙ ap (λ (w : NodeKind). Some (record { what = w; kids = kids })) o)) ∙ cost-is in
+          costly (free-sum (least_at graph evidence costs) kids c sum
           (λ j d i f.
-          let most = sum-child (least_at graph words costs) kids c j sum i in
+          let most = sum-child (least_at graph evidence costs) kids c j sum i in
           let same : get_or values j 0 ≡ d = cost-value j d (omega (arith, earlier j i)) f in
           ⊎_elim (λ (z : get_or values j 0 ≡ 0). omega (arith, z, same)) (λ (q : c < get_or values j 0). absurd (omega (arith, q, same, most.2, same_Some most.0 d (sym most.1 ∙ f)))) (keeps-not values c j (out none j i))))
 
       no-or : what ≡ Or → row ≡ [] → ⊥
       no-or o none =
-          let r = (is_cost graph words costs ok at).reached c cost-is in
-          false≢true (subst (λ w. truth_by r.by w (map (λ p. is_true nodes p r.by) []) ≡ true) o (subst (λ ps. truth_by r.by what (map (λ p. is_true nodes p r.by) ps) ≡ true) none (stands.onto r.by r.agrees r.holds (omega (arith, r.cheap, faults_in-all (known_at words) (part_cost costs) (length costs) (λ w. mentions graph.nodes w at) r.by)))))
+          let r = (is_cost graph evidence costs ok at).reached c cost-is in
+          false≢true (subst (λ w. truth_by r.by w (map (λ p. is_true nodes p r.by) []) ≡ true) o (subst (λ ps. truth_by r.by what (map (λ p. is_true nodes p r.by) ps) ≡ true) none (stands.onto r.by r.agrees r.holds (omega (arith, r.cheap, faults_in-all (known_at evidence) (part_cost costs) (length costs) (λ w. mentions graph.nodes w at) r.by)))))
 
       some : (row ≡ [] → ⊥) → 1 < length row
       some not = ⊎_elim (λ (p : 1 < length row). p) (λ (p : length row ≤ 1). absurd (not (nil_from_length row (omega (arith, p, many))))) (cases_lt 1 (length row))
@@ -323,8 +323,8 @@ module _ (graph : Graph) (words costs : List ℕ) (ok : IsGraph graph) (long : l
 
     -- what stands for the node is there now
     noted : (new : List Node) (p : ℕ) → at < length places → AreNodes graph.vars new → length new ≤ at + 1 → edges new ≤ edges (take (at + 1) graph.nodes)
-        → ((k d q : ℕ) → IsPlace graph words costs nodes k d q → IsPlace graph words costs new k d q) → IsPlace graph words costs new at c p
-        → AreFrom graph words costs new → AllJoin new → ((q : ℕ) → q < length new → IsNeeded graph values marks (set places at p) new (at + 1) q) → IsBuilt graph words costs values marks (set places at p) new (at + 1)
+        → ((k d q : ℕ) → IsPlace graph evidence costs nodes k d q → IsPlace graph evidence costs new k d q) → IsPlace graph evidence costs new at c p
+        → AreFrom graph evidence costs new → AllJoin new → ((q : ℕ) → q < length new → IsNeeded graph values marks (set places at p) new (at + 1) q) → IsBuilt graph evidence costs values marks (set places at p) new (at + 1)
     noted new p room are few few_edges more here from joins needed = record {
       are = are;
       few = few;
@@ -332,10 +332,10 @@ module _ (graph : Graph) (words costs : List ℕ) (ok : IsGraph graph) (long : l
       ahead = λ k h. let ne : k ≢ at = omega arith in (rw get_or-set_other refl) ∙ is.ahead k (omega arith);
       built = λ k d h f g dear. ⊎_elim
           (λ (q : k ≡ at).
-          let same : c ≡ d = same_Some c d (sym cost-is ∙ ap (λ x. least_at graph words costs x) (sym q) ∙ g) in
+          let same : c ≡ d = same_Some c d (sym cost-is ∙ ap (λ x. least_at graph evidence costs x) (sym q) ∙ g) in
           let at_place : get_or (set places at p) k 0 ≡ p = ap (λ n. get_or (set places at p) n 0) q ∙ (rw get_or-set_same refl) in
-          subst (λ x. IsPlace graph words costs new k d x) (sym at_place) (subst (λ x. IsPlace graph words costs new k x p) same (subst (λ n. IsPlace graph words costs new n c p) (sym q) here)))
-          (λ (q : k ≢ at). subst (λ x. IsPlace graph words costs new k d x) (sym (rw get_or-set_other refl)) (more k d (get_or places k 0) (is.built k d (omega arith) f g dear)))
+          subst (λ x. IsPlace graph evidence costs new k d x) (sym at_place) (subst (λ x. IsPlace graph evidence costs new k x p) same (subst (λ n. IsPlace graph evidence costs new n c p) (sym q) here)))
+          (λ (q : k ≢ at). subst (λ x. IsPlace graph evidence costs new k d x) (sym (rw get_or-set_other refl)) (more k d (get_or places k 0) (is.built k d (omega arith) f g dear)))
           (cases_eq k at);
       from = from;
       joins = joins;
@@ -345,33 +345,33 @@ module _ (graph : Graph) (words costs : List ℕ) (ok : IsGraph graph) (long : l
     edges-so-far : edges nodes + length row ≤ edges (take (at + 1) graph.nodes)
     edges-so-far = omega (arith, is.few_edges, ap edges (take-more graph.nodes at _ e), edges-push (take at graph.nodes) (record { what = what; kids = kids }), row-le values places c kids)
 
-    pub built-added : (new : List Node) (p : ℕ) → at < length places → at < root → Adds nodes (record { what = what; kids = row }) new p → IsBuilt graph words costs values marks (set places at p) new (at + 1)
+    pub built-added : (new : List Node) (p : ℕ) → at < length places → at < root → Adds nodes (record { what = what; kids = row }) new p → IsBuilt graph evidence costs values marks (set places at p) new (at + 1)
     built-added new p room early (inl (same, one)) =
-        subst (λ ns. IsBuilt graph words costs values marks (set places at p) ns (at + 1)) (sym same)
+        subst (λ ns. IsBuilt graph evidence costs values marks (set places at p) ns (at + 1)) (sym same)
         (noted nodes p room is.are (omega (arith, is.few)) (omega (arith, edges-so-far)) (λ k d q x. x) (only p one) is.from is.joins (needed-only p one early room))
     built-added new p room early (inr (same, last, many)) =
-        subst (λ ns. IsBuilt graph words costs values marks (set places at p) ns (at + 1)) (sym same)
-        (subst (λ q. IsBuilt graph words costs values marks (set places at q) (nodes ++ record { what = what; kids = row } ∷ []) (at + 1)) (sym last)
+        subst (λ ns. IsBuilt graph evidence costs values marks (set places at p) ns (at + 1)) (sym same)
+        (subst (λ q. IsBuilt graph evidence costs values marks (set places at q) (nodes ++ record { what = what; kids = row } ∷ []) (at + 1)) (sym last)
         (noted (nodes ++ record { what = what; kids = row } ∷ []) (length nodes) room are-pushed (omega (arith, is.few, length-append nodes (record { what = what; kids = row } ∷ []))) (omega (arith, edges-so-far, edges-push nodes (record { what = what; kids = row })))
-        (λ k d q x. place-more graph words costs nodes (record { what = what; kids = row }) k d q x) pushed from-pushed (joins-push nodes (record { what = what; kids = row }) is.joins (joined many)) (needed-pushed early room)))
+        (λ k d q x. place-more graph evidence costs nodes (record { what = what; kids = row }) k d q x) pushed from-pushed (joins-push nodes (record { what = what; kids = row }) is.joins (joined many)) (needed-pushed early room)))
 
   -- ---- the root
 
-  pub root-added : All (λ c. 0 < c) costs → (places : List ℕ) (nodes new : List Node) (at : ℕ) → at ≡ root → IsBuilt graph words costs values marks places nodes at
-      → new ≡ nodes ++ root_node graph values places ∷ [] → IsWhole graph words costs ok long within new
-  root-added dears places nodes new at end is same = subst (IsWhole graph words costs ok long within) (sym same)
-      (whole graph words costs ok long within dears nodes node (get_or values root 0) (are-pushed places nodes root there built mark (node_at graph.nodes root).what (node_at graph.nodes root).kids e) built.few
+  pub root-added : All (λ c. 0 < c) costs → (places : List ℕ) (nodes new : List Node) (at : ℕ) → at ≡ root → IsBuilt graph evidence costs values marks places nodes at
+      → new ≡ nodes ++ root_node graph values places ∷ [] → IsWhole graph evidence costs ok long within new
+  root-added dears places nodes new at end is same = subst (IsWhole graph evidence costs ok long within) (sym same)
+      (whole graph evidence costs ok long within dears nodes node (get_or values root 0) (are-pushed places nodes root there built mark (node_at graph.nodes root).what (node_at graph.nodes root).kids e) built.few
       (omega (arith, edges-push nodes node, edges-so-far places nodes root there built mark (node_at graph.nodes root).what (node_at graph.nodes root).kids e, sum_by-take-le (λ (x : Node). length x.kids) graph.nodes (root + 1)))
       (marked-cost root there m.root) (pushed places nodes root there built mark (node_at graph.nodes root).what (node_at graph.nodes root).kids e).stands
-      (λ sound. small-from graph (record { nodes = nodes ++ node ∷ []; vars = graph.vars }) words costs ok sound
+      (λ sound. small-from graph (record { nodes = nodes ++ node ∷ []; vars = graph.vars }) evidence costs ok sound
       (from-pushed places nodes root there built mark (node_at graph.nodes root).what (node_at graph.nodes root).kids e)
       (λ p h. all-needed places nodes root there built mark (node_at graph.nodes root).what (node_at graph.nodes root).kids e (omega arith) p (omega (arith, h, length-append nodes (node ∷ []))))
       (λ p h. joins-before nodes node built.joins p (omega (arith, h, length-append nodes (node ∷ [])))))) where
         there : root < length graph.nodes
         there = omega (arith, ok.some)
 
-        built : IsBuilt graph words costs values marks places nodes root
-        built = subst (λ n. IsBuilt graph words costs values marks places nodes n) end is
+        built : IsBuilt graph evidence costs values marks places nodes root
+        built = subst (λ n. IsBuilt graph evidence costs values marks places nodes n) end is
 
         e : slice_get graph.nodes root ≡ Some (node_at graph.nodes root)
         e = slice_get-get_or graph.nodes root true_node there

@@ -7,7 +7,7 @@ use Rattle.state_rules.proofs.Members.{In-at}
 use Rattle.state_rules.specs.declared.nodes.NodeKind.{NodeKind}
 use Rattle.state_rules.specs.declared.nodes.NodeKind.TheVariants.{Literal, And, Or}
 use Rattle.state_rules.specs.Graphs.{Graph, true_node, node_at, IsGraph}
-use Rattle.conditioner.specs.Words.{known_of, leaf_of}
+use Rattle.conditioner.specs.Evidence.{known_of, leaf_of}
 use Rattle.minimiser.specs.Costs.{part_cost, known_at, literal_cost, cost_by, least_at}
 use Rattle.minimiser.proofs.Derivations.{costs-at}
 use Rattle.fault_graph.specs.Small.{HasParent, SaysFaulty, Joins, IsSmall}
@@ -19,10 +19,10 @@ paid : (costs : List ℕ) (var c : ℕ) → part_cost costs var ≡ c → 0 < c 
 paid costs var c e dear = grind (arith, get_or_past)
 
 -- a literal that costs something says that an open part is faulty
-says : (words costs : List ℕ) (var c : ℕ) (positive : Bool) → literal_cost (leaf_of positive (known_at words var)) (part_cost costs var) positive ≡ Some c → 0 < c
-    → SaysFaulty words (length costs) (Literal positive var)
-says words costs var c positive e dear = by_word (get_or words (var - 1) 0) refl positive e where
-  by_word : (w : ℕ) → get_or words (var - 1) 0 ≡ w → (b : Bool) → literal_cost (leaf_of b (known_of w)) (part_cost costs var) b ≡ Some c → (b ≡ false) × (var ≤ length costs) × (get_or words (var - 1) 0 ≡ 0)
+says : (evidence costs : List ℕ) (var c : ℕ) (positive : Bool) → literal_cost (leaf_of positive (known_at evidence var)) (part_cost costs var) positive ≡ Some c → 0 < c
+    → SaysFaulty evidence (length costs) (Literal positive var)
+says evidence costs var c positive e dear = by_word (get_or evidence (var - 1) 0) refl positive e where
+  by_word : (w : ℕ) → get_or evidence (var - 1) 0 ≡ w → (b : Bool) → literal_cost (leaf_of b (known_of w)) (part_cost costs var) b ≡ Some c → (b ≡ false) × (var ≤ length costs) × (get_or evidence (var - 1) 0 ≡ 0)
   by_word zero z true q = absurd (let free : 0 ≡ c = same_Some 0 c q in omega arith)
   by_word zero z false q = (refl, paid costs var c (same_Some (part_cost costs var) c q) dear, z)
   by_word (suc zero) z true q = absurd (let free : 0 ≡ c = same_Some 0 c q in omega arith)
@@ -30,12 +30,12 @@ says words costs var c positive e dear = by_word (get_or words (var - 1) 0) refl
   by_word (suc (suc n)) z true q = absurd (cc)
   by_word (suc (suc n)) z false q = absurd (let free : 0 ≡ c = same_Some 0 c q in omega arith)
 
-module _ (graph small : Graph) (words costs : List ℕ) (ok : IsGraph graph) (sound : IsGraph small) where
-  cost-is : (c p : ℕ) → IsFrom graph words costs small.nodes c p → least_at small words costs p ≡ Some c
-  cost-is c p is = place-cost graph small words costs ok sound is.node p c is.is is.place.stands
+module _ (graph small : Graph) (evidence costs : List ℕ) (ok : IsGraph graph) (sound : IsGraph small) where
+  cost-is : (c p : ℕ) → IsFrom graph evidence costs small.nodes c p → least_at small evidence costs p ≡ Some c
+  cost-is c p is = place-cost graph small evidence costs ok sound is.node p c is.is is.place.stands
 
-  pub small-from : AreFrom graph words costs small.nodes → ((p : ℕ) → p + 1 < length small.nodes → HasParent small.nodes p)
-      → ((p : ℕ) → p + 1 < length small.nodes → Joins (node_at small.nodes p).what (length (node_at small.nodes p).kids)) → IsSmall words costs small
+  pub small-from : AreFrom graph evidence costs small.nodes → ((p : ℕ) → p + 1 < length small.nodes → HasParent small.nodes p)
+      → ((p : ℕ) → p + 1 < length small.nodes → Joins (node_at small.nodes p).what (length (node_at small.nodes p).kids)) → IsSmall evidence costs small
   small-from from needed joins = record {
     dear = λ p h. let x = from.each p (omega arith) in subst (λ (o : Option ℕ). IsSomeAnd o (λ c. 0 < c)) (sym (cost-is x.0 p x.1)) x.1.dear;
     needed = needed;
@@ -47,13 +47,13 @@ module _ (graph small : Graph) (words costs : List ℕ) (ok : IsGraph graph) (so
     faulty = λ p h.
         let x = from.each p h in
         let node = node_at small.nodes p in
-        by_kind x.0 x.1.dear node.what node.kids (sym (costs-at small words costs sound p node (slice_get-get_or small.nodes p true_node h)) ∙ cost-is x.0 p x.1);
+        by_kind x.0 x.1.dear node.what node.kids (sym (costs-at small evidence costs sound p node (slice_get-get_or small.nodes p true_node h)) ∙ cost-is x.0 p x.1);
   } where
-    by_kind : (c : ℕ) → 0 < c → (what : NodeKind) (kids : List ℕ) → cost_by (known_at words) (part_cost costs) what (map (least_at small words costs) kids) ≡ Some c → SaysFaulty words (length costs) what
-    by_kind c dear (Literal positive var) kids e = says words costs var c positive e dear
+    by_kind : (c : ℕ) → 0 < c → (what : NodeKind) (kids : List ℕ) → cost_by (known_at evidence) (part_cost costs) what (map (least_at small evidence costs) kids) ≡ Some c → SaysFaulty evidence (length costs) what
+    by_kind c dear (Literal positive var) kids e = says evidence costs var c positive e dear
     by_kind c dear And kids e = tt
     by_kind c dear Or kids e = tt
 
 -- one true node
-pub small-true : (words costs : List ℕ) (vars : ℕ) → IsSmall words costs (record { nodes = true_node ∷ []; vars = vars })
-small-true words costs vars = grind arith
+pub small-true : (evidence costs : List ℕ) (vars : ℕ) → IsSmall evidence costs (record { nodes = true_node ∷ []; vars = vars })
+small-true evidence costs vars = grind arith

@@ -1,3 +1,3 @@
-pub mod Distilled
+pub mod Minimised
 pub mod Small
 pub mod inner

@@ -1,4 +1,4 @@
--- A graph of which each node but the root is needed, and costs something, under words.
+-- A graph of which each node but the root is needed, and costs something, under evidence.
 use Rattle.std.specs.Prelude.{◌≡◌, ℕ, ◌+◌, ◌-◌, ◌<◌, ◌≤◌, false, List, length, All, Contains, IsSomeAnd, slice_index, ⊤}
 use Rattle.state_rules.specs.declared.nodes.NodeKind.{NodeKind}
 use Rattle.state_rules.specs.declared.nodes.NodeKind.TheVariants.{Literal, And, Or}
@@ -12,9 +12,9 @@ pub record HasParent (nodes : List Node) (node : ℕ) : Type 0 where
 
 -- where it is a literal, it says that an open part is faulty; so many variables are parts
 abbrev pub SaysFaulty : List ℕ → ℕ → NodeKind → Type 0
-SaysFaulty words parts (Literal positive var) = (positive ≡ false) × (var ≤ parts) × (slice_index words (var - 1) ≡ 0)
-SaysFaulty words parts And = ⊤
-SaysFaulty words parts Or = ⊤
+SaysFaulty evidence parts (Literal positive var) = (positive ≡ false) × (var ≤ parts) × (slice_index evidence (var - 1) ≡ 0)
+SaysFaulty evidence parts And = ⊤
+SaysFaulty evidence parts Or = ⊤
 
 -- an and or an or with so many children joins two or more
 abbrev pub Joins : NodeKind → ℕ → Type 0
@@ -24,10 +24,10 @@ Joins Or kids = 1 < kids
 
 -- Each node but the root, which is the last, costs something, is a child of another, and joins two or more. An or costs
 -- what each of its children does, so that all of them are on states of least cost. There is no wire, no part that is held, and no literal that says ok.
-pub record IsSmall (words costs : List ℕ) (small : Graph) : Type 0 where
-  pub dear : (node : ℕ) → node + 1 < length small.nodes → IsSomeAnd (least_at small words costs node) (λ cost. 0 < cost)
+pub record IsSmall (evidence costs : List ℕ) (small : Graph) : Type 0 where
+  pub dear : (node : ℕ) → node + 1 < length small.nodes → IsSomeAnd (least_at small evidence costs node) (λ cost. 0 < cost)
   pub needed : (node : ℕ) → node + 1 < length small.nodes → HasParent small.nodes node
   pub joins : (node : ℕ) → node + 1 < length small.nodes → Joins (node_at small.nodes node).what (length (node_at small.nodes node).kids)
   pub cheap : (node : ℕ) → node < length small.nodes → (node_at small.nodes node).what ≡ Or
-      → All (λ child. least_at small words costs child ≡ least_at small words costs node) (node_at small.nodes node).kids
-  pub faulty : (node : ℕ) → node < length small.nodes → SaysFaulty words (length costs) (node_at small.nodes node).what
+      → All (λ child. least_at small evidence costs child ≡ least_at small evidence costs node) (node_at small.nodes node).kids
+  pub faulty : (node : ℕ) → node < length small.nodes → SaysFaulty evidence (length costs) (node_at small.nodes node).what

@@ -1,35 +1,35 @@
 ghost use Rattle.std.specs.Prelude.{◌≡◌, ℕ, ◌+◌, ◌*◌, ◌<◌, ◌≤◌, [], length, All, IfSome, Some, slice_get, slice_index_or};
 ghost use Rattle.state_rules.specs.Ranking.{rest};
 ghost use Rattle.conditioner.specs.Models.{models, least_under, diagnoses_under, total_cost};
-ghost use Rattle.conditioner.specs.Words.{bits_of};
+ghost use Rattle.conditioner.specs.Evidence.{bits_of};
 ghost use Rattle.diagnosis_lister.specs.Listing.{step_of, fault_count};
 ghost use Rattle.probe_report.specs.Verdicts.{blame_of};
-ghost use Rattle.fault_graph.specs.Distilled.{IsOf, Serves};
+ghost use Rattle.fault_graph.specs.Minimised.{IsOf, Serves};
 
 use crate::blaming::blame_all;
-use crate::distiller::Distiller;
+use crate::minimised_graph::MinimisedGraph;
 use diagnosis_lister::{Step, first_in, next_in};
 use minimiser::{Steps, TOTAL_LIMIT};
 use node_store::Graph;
 use probe_report::Blame;
 use std::sync::ledger::Ledger;
 
-impl Distiller {
+impl MinimisedGraph {
     /// The least cost, with the first diagnosis in the state, as [`diagnosis_lister::first`] gives them.
     ///
-    /// It takes one pass over the graph, and none if what is kept is of these words, which then stays. The others are over what
+    /// It takes one pass over the graph, and none if what is kept is of this evidence, which then stays. The others are over what
     /// is kept.
     pub fn first<L: Ledger>(
         &mut self,
         graph: &Graph,
-        words: &mut [u32],
+        evidence: &mut [u32],
         costs: &[u32],
         values: &mut [u32],
         state: &mut [u32],
         steps: &mut Steps<L>,
     ) -> Option<u32>
-        requires long { length words.old ≡ graph.now.vars }
-        requires words { All (λ w. w < 3) words.old }
+        requires long { length evidence.old ≡ graph.now.vars }
+        requires evidence { All (λ w. w < 3) evidence.old }
         requires parts { length costs.now ≤ graph.now.vars }
         requires total { total_cost costs.now < TOTAL_LIMIT }
         requires dear { All (λ c. 0 < c) costs.now }
@@ -38,42 +38,42 @@ impl Distiller {
         requires state_words { All (λ s. s < 2) state.old }
         requires serves { Serves graph.now costs.now self.old }
 
-        ensures least { result ≡ least_under graph.now words.old costs.now }
+        ensures least { result ≡ least_under graph.now evidence.old costs.now }
         ensures first { bits_of state.new
-            ≡ slice_index_or (diagnoses_under graph.now words.old costs.now) 0 (bits_of state.old) }
+            ≡ slice_index_or (diagnoses_under graph.now evidence.old costs.now) 0 (bits_of state.old) }
         ensures state { All (λ s. s < 2) state.new }
-        ensures words { words.new ≡ words.old }
-        ensures last { IfSome self.new.last (λ last. last.words ≡ words.old) }
-        ensures stays { IsOf words.old self.old → self.new ≡ self.old }
+        ensures evidence { evidence.new ≡ evidence.old }
+        ensures last { IfSome self.new.last (λ last. last.evidence ≡ evidence.old) }
+        ensures stays { IsOf evidence.old self.old → self.new ≡ self.old }
         ensures serves { Serves graph.now costs.now self.new }
 
-        // One pass over the graph, and the others over what was distilled; these alone where the words are as before.
+        // One pass over the graph, and the others over what was minimised; these alone if the evidence is as before.
         ensures steps { steps.new ≤ steps.old + 1 + (fault_count (bits_of state.new) + 1) }
-        ensures again { IsOf words.old self.old → steps.new ≤ steps.old + (fault_count (bits_of state.new) + 1) }
+        ensures again { IsOf evidence.old self.old → steps.new ≤ steps.old + (fault_count (bits_of state.new) + 1) }
     {
-        if !self.prepare(graph, words, costs, values, steps) {
+        if !self.prepare(graph, evidence, costs, values, steps) {
             return None;
         }
-        let small = self.distilled();
+        let small = self.minimised();
         let values = &mut values[..small.len() as usize];
-        first_in(&small, words, costs, values, state, steps)
+        first_in(&small, evidence, costs, values, state, steps)
     }
 
     /// Whether there is a diagnosis after the state, which it then becomes, as with [`diagnosis_lister::next`].
     ///
-    /// It takes one pass over the graph, and none if what is kept is of these words, which then stays. The others are over what
+    /// It takes one pass over the graph, and none if what is kept is of this evidence, which then stays. The others are over what
     /// is kept.
     pub fn next<L: Ledger>(
         &mut self,
         graph: &Graph,
-        words: &mut [u32],
+        evidence: &mut [u32],
         costs: &[u32],
         values: &mut [u32],
         state: &mut [u32],
         steps: &mut Steps<L>,
     ) -> Step
-        requires long { length words.old ≡ graph.now.vars }
-        requires words { All (λ w. w < 3) words.old }
+        requires long { length evidence.old ≡ graph.now.vars }
+        requires evidence { All (λ w. w < 3) evidence.old }
         requires parts { length costs.now ≤ graph.now.vars }
         requires total { total_cost costs.now < TOTAL_LIMIT }
         requires dear { All (λ c. 0 < c) costs.now }
@@ -82,47 +82,47 @@ impl Distiller {
         requires state_words { All (λ s. s < 2) state.old }
         requires serves { Serves graph.now costs.now self.old }
 
-        ensures step { result ≡ step_of (models graph.now words.old (length costs.now))
-            (rest (diagnoses_under graph.now words.old costs.now) (Some (bits_of state.old))) }
+        ensures step { result ≡ step_of (models graph.now evidence.old (length costs.now))
+            (rest (diagnoses_under graph.now evidence.old costs.now) (Some (bits_of state.old))) }
         ensures next { bits_of state.new
-            ≡ slice_index_or (rest (diagnoses_under graph.now words.old costs.now) (Some (bits_of state.old)))
+            ≡ slice_index_or (rest (diagnoses_under graph.now evidence.old costs.now) (Some (bits_of state.old)))
             0 (bits_of state.old) }
         ensures state { All (λ s. s < 2) state.new }
-        ensures words { words.new ≡ words.old }
-        ensures last { IfSome self.new.last (λ last. last.words ≡ words.old) }
-        ensures stays { IsOf words.old self.old → self.new ≡ self.old }
+        ensures evidence { evidence.new ≡ evidence.old }
+        ensures last { IfSome self.new.last (λ last. last.evidence ≡ evidence.old) }
+        ensures stays { IsOf evidence.old self.old → self.new ≡ self.old }
         ensures serves { Serves graph.now costs.now self.new }
 
-        // One pass over the graph, and the others over what was distilled; these alone where the words are as before.
+        // One pass over the graph, and the others over what was minimised; these alone if the evidence is as before.
         ensures steps { steps.new
             ≤ steps.old + 1 + (fault_count (bits_of state.old) + fault_count (bits_of state.new) + 1) }
-        ensures again { IsOf words.old self.old
+        ensures again { IsOf evidence.old self.old
             → steps.new ≤ steps.old + (fault_count (bits_of state.old) + fault_count (bits_of state.new) + 1) }
     {
-        if !self.prepare(graph, words, costs, values, steps) {
+        if !self.prepare(graph, evidence, costs, values, steps) {
             return Step::Inconsistent;
         }
-        let small = self.distilled();
+        let small = self.minimised();
         let values = &mut values[..small.len() as usize];
-        next_in(&small, words, costs, values, state, steps)
+        next_in(&small, evidence, costs, values, state, steps)
     }
 
     /// Whether each part is faulty in all diagnoses, in some or in none, as with [`blame_all`].
     ///
-    /// It takes one pass over the graph, and none if what is kept is of these words, which then stays. The others are over what
+    /// It takes one pass over the graph, and none if what is kept is of this evidence, which then stays. The others are over what
     /// is kept.
     pub fn blame_all<L: Ledger>(
         &mut self,
         graph: &Graph,
-        words: &mut [u32],
+        evidence: &mut [u32],
         costs: &[u32],
         values: &mut [u32],
         state: &mut [u32],
         verdicts: &mut [Blame],
         steps: &mut Steps<L>,
     )
-        requires long { length words.old ≡ graph.now.vars }
-        requires words { All (λ w. w < 3) words.old }
+        requires long { length evidence.old ≡ graph.now.vars }
+        requires evidence { All (λ w. w < 3) evidence.old }
         requires parts { length costs.now ≤ graph.now.vars }
         requires total { total_cost costs.now < TOTAL_LIMIT }
         requires dear { All (λ c. 0 < c) costs.now }
@@ -133,26 +133,26 @@ impl Distiller {
         requires serves { Serves graph.now costs.now self.old }
 
         ensures blame { (part : ℕ) → part < length costs.now
-            → slice_get verdicts.new part ≡ Some (blame_of graph.now words.old costs.now part) }
-        ensures words { words.new ≡ words.old }
+            → slice_get verdicts.new part ≡ Some (blame_of graph.now evidence.old costs.now part) }
+        ensures evidence { evidence.new ≡ evidence.old }
         ensures state { All (λ s. s < 2) state.new }
-        ensures last { IfSome self.new.last (λ last. last.words ≡ words.old) }
-        ensures stays { IsOf words.old self.old → self.new ≡ self.old }
+        ensures last { IfSome self.new.last (λ last. last.evidence ≡ evidence.old) }
+        ensures stays { IsOf evidence.old self.old → self.new ≡ self.old }
         ensures serves { Serves graph.now costs.now self.new }
 
-        // One pass over the graph, and the others over what was distilled; these alone where the words are as before.
+        // One pass over the graph, and the others over what was minimised; these alone if the evidence is as before.
         ensures steps { steps.new ≤ steps.old + 1
-            + (2 * fault_count (slice_index_or (diagnoses_under graph.now words.old costs.now) 0 []) + 2) }
-        ensures again { IsOf words.old self.old → steps.new ≤ steps.old
-            + (2 * fault_count (slice_index_or (diagnoses_under graph.now words.old costs.now) 0 []) + 2) }
+            + (2 * fault_count (slice_index_or (diagnoses_under graph.now evidence.old costs.now) 0 []) + 2) }
+        ensures again { IsOf evidence.old self.old → steps.new ≤ steps.old
+            + (2 * fault_count (slice_index_or (diagnoses_under graph.now evidence.old costs.now) 0 []) + 2) }
     {
-        if !self.prepare(graph, words, costs, values, steps) {
+        if !self.prepare(graph, evidence, costs, values, steps) {
             tell_none(verdicts);
             return;
         }
-        let small = self.distilled();
+        let small = self.minimised();
         let values = &mut values[..small.len() as usize];
-        blame_all(&small, words, costs, values, state, verdicts, steps)
+        blame_all(&small, evidence, costs, values, state, verdicts, steps)
     }
 }
 

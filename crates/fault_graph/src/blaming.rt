@@ -1,6 +1,6 @@
 ghost use Rattle.std.specs.Prelude.{◌≡◌, ℕ, ◌+◌, ◌*◌, ◌<◌, ◌≤◌, length, All, Some, [], slice_get, slice_index, slice_index_or};
 ghost use Rattle.conditioner.specs.Models.{least_under, diagnoses_under, total_cost};
-ghost use Rattle.conditioner.specs.Words.{bits_of};
+ghost use Rattle.conditioner.specs.Evidence.{bits_of};
 ghost use Rattle.minimiser.specs.LeastStates.{ModelWithin};
 ghost use Rattle.diagnosis_lister.specs.Listing.{fault_count};
 ghost use Rattle.probe_report.specs.Verdicts.{blame_of};
@@ -16,18 +16,18 @@ use std::sync::ledger::Ledger;
 /// What [`blame`](probe_report::blame) says of each part, in their order.
 ///
 /// One pass and one sweep say which parts are faulty in no diagnosis, and only those of the first one can be faulty in all: a pass
-/// for each of them. The state is spoilt; the words are the same afterwards.
+/// for each of them. The state is spoilt; the evidence is the same afterwards.
 pub fn blame_all<L: Ledger>(
     graph: &GraphView<'_>,
-    words: &mut [u32],
+    evidence: &mut [u32],
     costs: &[u32],
     values: &mut [u32],
     state: &mut [u32],
     verdicts: &mut [Blame],
     steps: &mut Steps<L>,
 )
-    requires long { length words.old ≡ graph.now.vars }
-    requires words { All (λ w. w < 3) words.old }
+    requires long { length evidence.old ≡ graph.now.vars }
+    requires evidence { All (λ w. w < 3) evidence.old }
     requires parts { length costs.now ≤ graph.now.vars }
     requires total { total_cost costs.now < TOTAL_LIMIT }
     requires dear { All (λ c. 0 < c) costs.now }
@@ -37,34 +37,36 @@ pub fn blame_all<L: Ledger>(
     requires verdicts { length verdicts.old ≡ length costs.now }
 
     ensures blame { (part : ℕ) → part < length costs.now
-        → slice_get verdicts.new part ≡ Some (blame_of graph.now words.old costs.now part) }
-    ensures words { words.new ≡ words.old }
+        → slice_get verdicts.new part ≡ Some (blame_of graph.now evidence.old costs.now part) }
+    ensures evidence { evidence.new ≡ evidence.old }
     ensures state { All (λ s. s < 2) state.new }
 
     // How many passes are made at most.
     ensures steps { steps.new ≤ steps.old + 2 * length costs.now + 2 }
     ensures few_steps { steps.new ≤ steps.old
-        + 2 * fault_count (slice_index_or (diagnoses_under graph.now words.old costs.now) 0 []) + 2 }
+        + 2 * fault_count (slice_index_or (diagnoses_under graph.now evidence.old costs.now) 0 []) + 2 }
 {
-    let Some(fewest) = least_in(graph, words, costs, values, steps) else {
+    let Some(fewest) = least_in(graph, evidence, costs, values, steps) else {
         verdicts.fill(Blame::Inconsistent);
         return;
     };
-    find_suspects(graph, words, costs, values, state);
-    presume(words, state, verdicts);
-    first_in(graph, words, costs, values, state, steps);
-    confirm(graph, words, costs, values, state, fewest, verdicts, steps);
+    find_suspects(graph, evidence, costs, values, state);
+    presume(evidence, state, verdicts);
+    first_in(graph, evidence, costs, values, state, steps);
+    confirm(
+        graph, evidence, costs, values, state, fewest, verdicts, steps,
+    );
 }
 
 // The verdict on each part by its word, and on an open one by whether it is faulty in some diagnosis: Sometimes, for the time being.
-fn presume(words: &[u32], suspects: &[u32], verdicts: &mut [Blame])
-    requires long { length verdicts.old ≤ length words.now }
+fn presume(evidence: &[u32], suspects: &[u32], verdicts: &mut [Blame])
+    requires long { length verdicts.old ≤ length evidence.now }
     requires suspects { length verdicts.old ≤ length suspects.now }
     ensures { (part : ℕ) → part < length verdicts.old
-        → slice_get verdicts.new part ≡ Some (presumed (slice_index words.now part) (slice_index suspects.now part)) }
+        → slice_get verdicts.new part ≡ Some (presumed (slice_index evidence.now part) (slice_index suspects.now part)) }
 {
     for (part, verdict) in verdicts.iter_mut().enumerate() {
-        *verdict = presumed(words[part], suspects[part]);
+        *verdict = presumed(evidence[part], suspects[part]);
     }
 }
 
@@ -82,7 +84,7 @@ fn presumed(word: u32, suspect: u32) -> Blame
 // diagnosis, are ok in this one.
 fn confirm<L: Ledger>(
     graph: &GraphView<'_>,
-    words: &mut [u32],
+    evidence: &mut [u32],
     costs: &[u32],
     values: &mut [u32],
     state: &[u32],
@@ -90,29 +92,29 @@ fn confirm<L: Ledger>(
     verdicts: &mut [Blame],
     steps: &mut Steps<L>,
 )
-    requires long { length words.old ≡ graph.now.vars }
-    requires words { All (λ w. w < 3) words.old }
+    requires long { length evidence.old ≡ graph.now.vars }
+    requires evidence { All (λ w. w < 3) evidence.old }
     requires parts { length costs.now ≤ graph.now.vars }
     requires total { total_cost costs.now < TOTAL_LIMIT }
     requires room { length values.old ≡ length graph.now.nodes }
     requires state { length state.now ≡ length costs.now }
     requires verdicts { length verdicts.old ≡ length costs.now }
-    requires least { least_under graph.now words.old costs.now ≡ Some fewest }
-    requires diagnosis { ModelWithin graph.now words.old costs.now fewest (bits_of state.now) }
+    requires least { least_under graph.now evidence.old costs.now ≡ Some fewest }
+    requires diagnosis { ModelWithin graph.now evidence.old costs.now fewest (bits_of state.now) }
     requires presumed { (part : ℕ) → part < length costs.now
-        → IsPresumed graph.now words.old costs.now verdicts.old part }
+        → IsPresumed graph.now evidence.old costs.now verdicts.old part }
     ensures blame { (part : ℕ) → part < length costs.now
-        → slice_get verdicts.new part ≡ Some (blame_of graph.now words.old costs.now part) }
-    ensures words { words.new ≡ words.old }
+        → slice_get verdicts.new part ≡ Some (blame_of graph.now evidence.old costs.now part) }
+    ensures evidence { evidence.new ≡ evidence.old }
     ensures steps { steps.new ≤ steps.old + fault_count (bits_of state.now) }
 {
     // There are no more parts than variables, and so their numbers fit.
     let _vars = graph.vars();
     for (part, mark) in state.iter().enumerate() {
-        if is_faulty(*mark) && is_open(words[part]) {
+        if is_faulty(*mark) && is_open(evidence[part]) {
             verdicts[part] = blame_faulty(
                 graph,
-                words,
+                evidence,
                 costs,
                 part as u32 + 1,
                 fewest,

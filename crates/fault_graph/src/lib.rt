@@ -1,13 +1,13 @@
-//! A smaller graph that has the same diagnoses under words: what is on derivations of least cost and costs something.
+//! A smaller graph that has the same diagnoses under evidence: what is on derivations of least cost and costs something.
 #![tactic(auto)]
 
 mod answering;
 mod blaming;
-mod distiller;
-mod distilling;
 mod marking;
+mod minimised_graph;
+mod minimising;
 mod small_nodes;
 
 pub use blaming::blame_all;
-pub use distiller::Distiller;
+pub use minimised_graph::MinimisedGraph;
 pub use std::alloc::AllocError as Memory;

@@ -1,7 +1,7 @@
 ghost use Rattle.std.specs.Prelude.{◌≡◌, ℕ, ◌-◌, ◌<◌, ◌≤◌, length, All, slice_index};
 ghost use Rattle.fault_graph.specs.inner.Marks.{AreMarks, mark_of};
 
-use crate::distilling::MARKED;
+use crate::minimising::MARKED;
 use node_store::Graph;
 
 // Marks the root, which costs something, and from each marked node on its children that cost something and no more: all such children of

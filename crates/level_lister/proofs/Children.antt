@@ -18,7 +18,7 @@ use Rattle.state_rules.proofs.NodesFit.{each_apart}
 use Rattle.state_rules.proofs.Children.{at_most_one-tail, not_both}
 use Rattle.conditioner.specs.declared.leaves.Leaf.{Leaf}
 use Rattle.conditioner.specs.declared.leaves.Leaf.TheVariants.{True, False, Open}
-use Rattle.conditioner.specs.Words.{leaf_of}
+use Rattle.conditioner.specs.Evidence.{leaf_of}
 use Rattle.minimiser.specs.Costs.{known_at, part_cost}
 use Rattle.part_sets.specs.Numbers.{has_number}
 use Rattle.part_sets.specs.PartSets.{SameBelow}
@@ -103,11 +103,11 @@ module _ (graph : Graph) (at : ℕ) (kids : List ℕ) (ok : IsGraph graph) (insi
 
     -- ---- a literal's set
 
-    pub literal_set : (words costs : List ℕ) (var cost : ℕ) (positive : Bool) (leaf : Leaf) (set : List ℕ) → Literal positive var ≡ (node_at graph.nodes at).what → leaf ≡ leaf_of positive (known_at words var) → cost ≡ part_cost costs var
-        → (leaf ≡ False → (n : ℕ) → has_number set n ≡ false) → ((leaf ≡ False → ⊥) → (n : ℕ) → n < 32 * length set → has_number set n ≡ (n == cond positive 0 cost)) → IsNodeSet graph skips words costs at set
-    literal_set words costs var cost positive leaf set what is priced ruled_out allowed = literal_at (λ t m. IsCostSet words costs t m set) var positive what (⊎_elim
-        (λ p. false_literal_is words costs var positive set (sym is ∙ p) (ruled_out p))
-        (λ p. literal_is words costs var positive set (λ q. p (is ∙ q)) (λ n h. allowed p n h ∙ ap (λ c. n == cond positive 0 c) priced))
+    pub literal_set : (evidence costs : List ℕ) (var cost : ℕ) (positive : Bool) (leaf : Leaf) (set : List ℕ) → Literal positive var ≡ (node_at graph.nodes at).what → leaf ≡ leaf_of positive (known_at evidence var) → cost ≡ part_cost costs var
+        → (leaf ≡ False → (n : ℕ) → has_number set n ≡ false) → ((leaf ≡ False → ⊥) → (n : ℕ) → n < 32 * length set → has_number set n ≡ (n == cond positive 0 cost)) → IsNodeSet graph skips evidence costs at set
+    literal_set evidence costs var cost positive leaf set what is priced ruled_out allowed = literal_at (λ t m. IsCostSet evidence costs t m set) var positive what (⊎_elim
+        (λ p. false_literal_is evidence costs var positive set (sym is ∙ p) (ruled_out p))
+        (λ p. literal_is evidence costs var positive set (λ q. p (is ∙ q)) (λ n h. allowed p n h ∙ ap (λ c. n == cond positive 0 c) priced))
         (false_or_not leaf)) where
           false_or_not : (leaf : Leaf) → (leaf ≡ False) ⊎ (leaf ≡ False → ⊥)
           false_or_not True = inr (λ e. cc)
@@ -115,8 +115,8 @@ module _ (graph : Graph) (at : ℕ) (kids : List ℕ) (ok : IsGraph graph) (insi
           false_or_not Open = inr (λ e. cc)
 
 -- a node that is skipped
-pub skipped_set : (graph : Graph) (skips words costs : List ℕ) (at : ℕ) (set : List ℕ) → IsGraph graph → at < length graph.nodes → get_or skips at 0 ≢ 0 → ((n : ℕ) → has_number set n ≡ false) → IsNodeSet graph skips words costs at set
-skipped_set graph skips words costs at set ok inside ne none = same_tests (λ t m. IsCostSet words costs t m set) (λ a. sym (skipped-is graph skips ok at inside ne a)) (λ v. refl) (empty_is words costs (λ v. mentions graph.nodes v at) set none)
+pub skipped_set : (graph : Graph) (skips evidence costs : List ℕ) (at : ℕ) (set : List ℕ) → IsGraph graph → at < length graph.nodes → get_or skips at 0 ≢ 0 → ((n : ℕ) → has_number set n ≡ false) → IsNodeSet graph skips evidence costs at set
+skipped_set graph skips evidence costs at set ok inside ne none = same_tests (λ t m. IsCostSet evidence costs t m set) (λ a. sym (skipped-is graph skips ok at inside ne a)) (λ v. refl) (empty_is evidence costs (λ v. mentions graph.nodes v at) set none)
 
 -- the last node, if it lacks no part
 pub root_full : (graph : Graph) (parts : ℕ) → ((v : ℕ) → 1 ≤ v → v ≤ parts → mentions graph.nodes v (length graph.nodes - 1) ≡ true) → Wider parts (λ v. mentions graph.nodes v (length graph.nodes - 1)) (λ v. true)

@@ -4,7 +4,7 @@ use Rattle.std.specs.Prelude.{◌⊎◌, ◌==◌}
 use Rattle.std.proofs.lemmas.Bool.{or_left}
 use Rattle.state_rules.specs.Assignments.{Assignment}
 use Rattle.state_rules.specs.Cases.{agrees_at}
-use Rattle.conditioner.specs.Words.{known_of}
+use Rattle.conditioner.specs.Evidence.{known_of}
 use Rattle.node_costs.specs.Costs.{Weights, CostOf, SumOf, Local, IsRow}
 use Rattle.node_costs.proofs.Conditions.{cost-or, or-costs, cost-set, set-costs, cost-either, either-costs}
 use Rattle.node_costs.proofs.Sets.{row-as, row-or, row-sum, row-bit}
@@ -42,9 +42,9 @@ not_two w h = grind arith
 not_one : (w : ℕ) → not (w == 1) ≡ agrees_at (known_of w) false
 not_one w = grind arith
 
-module _ (words costs : List ℕ) where
+module _ (evidence costs : List ℕ) where
   abbrev g : Weights
-  g = fault_weights words costs
+  g = fault_weights evidence costs
 
   -- ---- one part more
   module _ (some : ℕ → Bool) (P : Assignment → Type 0) (p : ℕ) (out : some (p + 1) ≡ false) (local : Local some P) where
@@ -54,30 +54,30 @@ module _ (words costs : List ℕ) where
     price : get_or costs p 0 ≡ part_cost costs (p + 1)
     price = ap (λ k. get_or costs k 0) place ∙ part_cost-at costs (p + 1) (omega arith)
 
-    word : (bit : Bool) → agrees_at (known_of (get_or words p 0)) bit ≡ agrees_at (known_at words (p + 1)) bit
-    word bit = ap (λ k. agrees_at (known_of (get_or words k 0)) bit) place
+    word : (bit : Bool) → agrees_at (known_of (get_or evidence p 0)) bit ≡ agrees_at (known_at evidence (p + 1)) bit
+    word bit = ap (λ k. agrees_at (known_of (get_or evidence k 0)) bit) place
 
     -- it is free as far as its word says nothing
-    pub of_choice : (old set : List ℕ) → get_or words p 0 < 3 → length old ≡ length set
-        → ((n : ℕ) → n < 32 * length set → has_number set n ≡ ((not (get_or words p 0 == 2) && has_number old n) || (not (get_or words p 0 == 1) && has_shifted old (get_or costs p 0) n)))
-        → AreCostsOf words costs some P old → AreCostsOf words costs (λ v. some v || (p + 1 == v)) P set
+    pub of_choice : (old set : List ℕ) → get_or evidence p 0 < 3 → length old ≡ length set
+        → ((n : ℕ) → n < 32 * length set → has_number set n ≡ ((not (get_or evidence p 0 == 2) && has_number old n) || (not (get_or evidence p 0 == 1) && has_shifted old (get_or costs p 0) n)))
+        → AreCostsOf evidence costs some P old → AreCostsOf evidence costs (λ v. some v || (p + 1 == v)) P set
     of_choice old set small long made is =
         let row = resized (CostOf g some P) old set long is in
-        row-as (32 * length set) (has_number set) _ _ (cost-either g (only_parts words costs) some P (p + 1) out local) (either-costs g (only_parts words costs) some P (p + 1) out local)
+        row-as (32 * length set) (has_number set) _ _ (cost-either g (only_parts evidence costs) some P (p + 1) out local) (either-costs g (only_parts evidence costs) some P (p + 1) out local)
         (row-or (32 * length set) _ _ (has_number set) _ _
         (λ n lt. made n lt
-        ∙ (λ i. ((not_two (get_or words p 0) small ∙ word true) i && sym (unmoved old n) i) || ((not_one (get_or words p 0) ∙ word false) i && has_shifted old (price i) n)))
+        ∙ (λ i. ((not_two (get_or evidence p 0) small ∙ word true) i && sym (unmoved old n) i) || ((not_one (get_or evidence p 0) ∙ word false) i && has_shifted old (price i) n)))
         (row-bit (32 * length set) g (p + 1) true (has_number old) _ row) (row-bit (32 * length set) g (p + 1) false (has_number old) _ row))
 
     -- and if it is open and faulty, besides
-    pub of_faulty : (Q : Assignment → Type 0) (old left set : List ℕ) → get_or words p 0 ≡ 0 → length old ≡ length set → length left ≡ length set
+    pub of_faulty : (Q : Assignment → Type 0) (old left set : List ℕ) → get_or evidence p 0 ≡ 0 → length old ≡ length set → length left ≡ length set
         → ((n : ℕ) → n < 32 * length set → has_number set n ≡ (has_number left n || has_shifted old (get_or costs p 0) n))
-        → AreCostsOf words costs some P old → AreCostsOf words costs (λ v. some v || (p + 1 == v)) Q left
-        → AreCostsOf words costs (λ v. some v || (p + 1 == v)) (λ a. Q a ⊎ (P a × (a (p + 1) ≡ false))) set
+        → AreCostsOf evidence costs some P old → AreCostsOf evidence costs (λ v. some v || (p + 1 == v)) Q left
+        → AreCostsOf evidence costs (λ v. some v || (p + 1 == v)) (λ a. Q a ⊎ (P a × (a (p + 1) ≡ false))) set
     of_faulty Q old left set free l m made is_p is_q =
         row-as (32 * length set) (has_number set) _ _
-        (λ n s. cost-or g _ _ _ n (⊎_elim (λ x. inl x) (λ x. inr (cost-set g (only_parts words costs) some P (p + 1) out local false n x)) s))
-        (λ n c. ⊎_elim (λ x. inl x) (λ x. inr (set-costs g (only_parts words costs) some P (p + 1) out local false n x)) (or-costs g _ _ _ n c))
+        (λ n s. cost-or g _ _ _ n (⊎_elim (λ x. inl x) (λ x. inr (cost-set g (only_parts evidence costs) some P (p + 1) out local false n x)) s))
+        (λ n c. ⊎_elim (λ x. inl x) (λ x. inr (set-costs g (only_parts evidence costs) some P (p + 1) out local false n x)) (or-costs g _ _ _ n c))
         (row-or (32 * length set) (has_number left) _ (has_number set) _ _
         (λ n lt. made n lt ∙ (λ i. has_number left n || ((ap (λ w. agrees_at (known_of w) false) (sym free) ∙ word false) i && has_shifted old (price i) n)))
         (resized _ left set m is_q) (row-bit (32 * length set) g (p + 1) false (has_number old) _ (resized _ old set l is_p)))
@@ -87,7 +87,7 @@ module _ (words costs : List ℕ) where
   -- one of two, over the same variables
   pub or_is : (t u : Assignment → Bool) (some : ℕ → Bool) (left right set : List ℕ) → length left ≡ length set → length right ≡ length set
       → ((n : ℕ) → n < 32 * length set → has_number set n ≡ (has_number left n || has_shifted right 0 n))
-      → IsCostSet words costs t some left → IsCostSet words costs u some right → IsCostSet words costs (λ a. t a || u a) some set
+      → IsCostSet evidence costs t some left → IsCostSet evidence costs u some right → IsCostSet evidence costs (λ a. t a || u a) some set
   or_is t u some left right set l m joined is_t is_u = record {
     row = row-as (32 * length set) (has_number set) _ _ (cost-any g t u some) (any-costs g t u some) (or-row _ _ left right set l m joined is_t.row is_u.row);
     local = λ a b h. (λ i. is_t.local a b h i || is_u.local a b h i);
@@ -95,16 +95,16 @@ module _ (words costs : List ℕ) where
 
   -- both of two that share no variable
   pub and_is : (t u : Assignment → Bool) (some more : ℕ → Bool) (left right set : List ℕ) → length left ≡ length set → length right ≡ length set → ((v : ℕ) → (some v && more v) ≡ false)
-      → AreSums left right (32 * length set) set → IsCostSet words costs t some left → IsCostSet words costs u more right → IsCostSet words costs (λ a. t a && u a) (λ v. some v || more v) set
+      → AreSums left right (32 * length set) set → IsCostSet evidence costs t some left → IsCostSet evidence costs u more right → IsCostSet evidence costs (λ a. t a && u a) (λ v. some v || more v) set
   and_is t u some more left right set l m apart sums is_t is_u = record {
     row = row-as (32 * length set) (has_number set) _ _ (cost-all g t u some more apart is_t.local is_u.local) (all-costs g t u some more apart is_t.local is_u.local) (sum-row _ _ left right set l m sums is_t.row is_u.row);
     local = depends-all g t u some more is_t.local is_u.local;
   }
 
   -- a part more, which is free as far as its word says nothing
-  pub choice_is : (t : Assignment → Bool) (some : ℕ → Bool) (p : ℕ) (old set : List ℕ) → get_or words p 0 < 3 → some (p + 1) ≡ false → length old ≡ length set
-      → ((n : ℕ) → n < 32 * length set → has_number set n ≡ ((not (get_or words p 0 == 2) && has_number old n) || (not (get_or words p 0 == 1) && has_shifted old (get_or costs p 0) n)))
-      → IsCostSet words costs t some old → IsCostSet words costs t (λ v. some v || (p + 1 == v)) set
+  pub choice_is : (t : Assignment → Bool) (some : ℕ → Bool) (p : ℕ) (old set : List ℕ) → get_or evidence p 0 < 3 → some (p + 1) ≡ false → length old ≡ length set
+      → ((n : ℕ) → n < 32 * length set → has_number set n ≡ ((not (get_or evidence p 0 == 2) && has_number old n) || (not (get_or evidence p 0 == 1) && has_shifted old (get_or costs p 0) n)))
+      → IsCostSet evidence costs t some old → IsCostSet evidence costs t (λ v. some v || (p + 1 == v)) set
   choice_is t some p old set small out long made is = record {
     row = of_choice some (λ a. t a ≡ true) p out (λ a b h e. is.local a b h ∙ e) old set small long made is.row;
     local = λ a b h. is.local a b (λ v q. h v (or_left _ _ q));

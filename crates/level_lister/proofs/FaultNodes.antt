@@ -16,16 +16,16 @@ use Rattle.node_costs.proofs.Sets.{row-none}
 
 -- ---- the first group
 
-pub first_is : (words : List ℕ) (parts : ℕ) (groups : Groups) (part : ℕ) → 0 < groups.size → part < parts → groups.low ≤ part → get_or words part 0 ≡ 0
-    → nat_lt (part - groups.low) groups.size ≡ group_in words parts groups 0 (part + 1)
-first_is words parts groups part some within low open_ = ⊎_elim
-    (λ (lt : part - groups.low < groups.size). lt-ltb (part - groups.low) groups.size lt ∙ sym (in_group words parts groups 0 (part + 1) (record {
+pub first_is : (evidence : List ℕ) (parts : ℕ) (groups : Groups) (part : ℕ) → 0 < groups.size → part < parts → groups.low ≤ part → get_or evidence part 0 ≡ 0
+    → nat_lt (part - groups.low) groups.size ≡ group_in evidence parts groups 0 (part + 1)
+first_is evidence parts groups part some within low open_ = ⊎_elim
+    (λ (lt : part - groups.low < groups.size). lt-ltb (part - groups.low) groups.size lt ∙ sym (in_group evidence parts groups 0 (part + 1) (record {
       low = omega arith;
       high = omega arith;
-      open_ = ap (λ k. get_or words k 0) back ∙ open_;
+      open_ = ap (λ k. get_or evidence k 0) back ∙ open_;
       group = ap (λ k. (k - groups.low) / groups.size) back ∙ none lt;
     })))
-    (λ (le : groups.size ≤ part - groups.low). le-ltb (part - groups.low) groups.size le ∙ sym (not_grouped words parts groups 0 (part + 1) (λ r. far le (sym (ap (λ k. (k - groups.low) / groups.size) back) ∙ r.group))))
+    (λ (le : groups.size ≤ part - groups.low). le-ltb (part - groups.low) groups.size le ∙ sym (not_grouped evidence parts groups 0 (part + 1) (λ r. far le (sym (ap (λ k. (k - groups.low) / groups.size) back) ∙ r.group))))
     (cases_lt (part - groups.low) groups.size) where
       back : part + 1 - 1 ≡ part
       back = omega arith
@@ -39,22 +39,22 @@ first_is words parts groups part some within low open_ = ⊎_elim
           absurd (omega (arith, b))
 
 -- a part of it is open
-pub first_open : (words costs : List ℕ) (groups : Groups) (part : ℕ) → in_first words costs groups (part + 1) ≡ true → get_or words part 0 ≡ 0
-first_open words costs groups part e = ap (λ k. get_or words k 0) (let back : part ≡ part + 1 - 1 = omega arith in back) ∙ (grouped words (length costs) groups 0 (part + 1) e).open_
+pub first_open : (evidence costs : List ℕ) (groups : Groups) (part : ℕ) → in_first evidence costs groups (part + 1) ≡ true → get_or evidence part 0 ≡ 0
+first_open evidence costs groups part e = ap (λ k. get_or evidence k 0) (let back : part ≡ part + 1 - 1 = omega arith in back) ∙ (grouped evidence (length costs) groups 0 (part + 1) e).open_
 
-pub first_parts : (words costs : List ℕ) (groups : Groups) (v : ℕ) → in_first words costs groups v ≡ true → (1 ≤ v) × (v < 1 + length costs)
-first_parts words costs groups v e = on_parts words (length costs) groups 0 v e
+pub first_parts : (evidence costs : List ℕ) (groups : Groups) (v : ℕ) → in_first evidence costs groups v ≡ true → (1 ≤ v) × (v < 1 + length costs)
+first_parts evidence costs groups v e = on_parts evidence (length costs) groups 0 v e
 
 -- no child at all
-pub both_zero : (words costs : List ℕ) (group : ℕ → Bool) (set faults : List ℕ) → ((n : ℕ) → n < 32 * length set → has_number set n ≡ (n == 0)) → ((n : ℕ) → has_number faults n ≡ false)
-    → AreBothSets words costs group (λ a. true) (λ v. false) set faults
-both_zero words costs group set faults one none = record { all = zero_is words costs set one; faulty = row-none (32 * length faults) (has_number faults) _ (λ n lt. none n) (λ n c. false≢true c.meets.1.among) }
+pub both_zero : (evidence costs : List ℕ) (group : ℕ → Bool) (set faults : List ℕ) → ((n : ℕ) → n < 32 * length set → has_number set n ≡ (n == 0)) → ((n : ℕ) → has_number faults n ≡ false)
+    → AreBothSets evidence costs group (λ a. true) (λ v. false) set faults
+both_zero evidence costs group set faults one none = record { all = zero_is evidence costs set one; faulty = row-none (32 * length faults) (has_number faults) _ (λ n lt. none n) (λ n c. false≢true c.meets.1.among) }
 
 -- a test that is never true
-pub never_faults : (words costs : List ℕ) (group some : ℕ → Bool) (set : List ℕ) → ((n : ℕ) → has_number set n ≡ false) → IsFaultSet words costs group (λ a. false) some set
-never_faults words costs group some set none = row-none (32 * length set) (has_number set) _ (λ n lt. none n) (λ n c. false≢true c.meets.0)
+pub never_faults : (evidence costs : List ℕ) (group some : ℕ → Bool) (set : List ℕ) → ((n : ℕ) → has_number set n ≡ false) → IsFaultSet evidence costs group (λ a. false) some set
+never_faults evidence costs group some set none = row-none (32 * length set) (has_number set) _ (λ n lt. none n) (λ n c. false≢true c.meets.0)
 
 -- a node that is skipped
-pub skipped_faults : (graph : Graph) (skips words costs : List ℕ) (groups : Groups) (at : ℕ) (set : List ℕ) → IsGraph graph → at < length graph.nodes → get_or skips at 0 ≢ 0 → ((n : ℕ) → has_number set n ≡ false)
-    → IsNodeFaults graph skips words costs groups at set
-skipped_faults graph skips words costs groups at set ok inside ne none = row-none (32 * length set) (has_number set) _ (λ n lt. none n) (λ n c. false≢true (sym (skipped-is graph skips ok at inside ne c.by) ∙ c.meets.0))
+pub skipped_faults : (graph : Graph) (skips evidence costs : List ℕ) (groups : Groups) (at : ℕ) (set : List ℕ) → IsGraph graph → at < length graph.nodes → get_or skips at 0 ≢ 0 → ((n : ℕ) → has_number set n ≡ false)
+    → IsNodeFaults graph skips evidence costs groups at set
+skipped_faults graph skips evidence costs groups at set ok inside ne none = row-none (32 * length set) (has_number set) _ (λ n lt. none n) (λ n c. false≢true (sym (skipped-is graph skips ok at inside ne c.by) ∙ c.meets.0))

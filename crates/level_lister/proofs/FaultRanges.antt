@@ -12,17 +12,17 @@ use Rattle.level_lister.specs.inner.Pairs.{FaultOf, FaultIn, OkAmong}
 pub size_some : (span count : ℕ) → 0 < span → 0 < (span + count) / (count + 1)
 size_some span count h = grind arith
 
-module _ (graph : Graph) (words costs : List ℕ) (c from : ℕ) where
+module _ (graph : Graph) (evidence costs : List ℕ) (c from : ℕ) where
   pub record FaultWithin (low span : ℕ) : Type 0 where
     pub part : ℕ
     pub from_ : low ≤ part
     pub to : part < low + span
-    pub fault : FaultIn graph words costs c part
+    pub fault : FaultIn graph evidence costs c part
 
   -- The open parts before the range are ok in all states. In the range one is faulty in some, or the range reaches after all parts.
   pub record IsRange (low span : ℕ) : Type 0 where
     pub le : from ≤ low
-    pub ok : OkAmong graph words costs c from low
+    pub ok : OkAmong graph evidence costs c from low
     pub some : FaultWithin low span ⊎ (length costs < low + span)
 
   pub range_start : from ≤ length costs → IsRange from (length costs - from + 1)
@@ -35,7 +35,7 @@ module _ (graph : Graph) (words costs : List ℕ) (c from : ℕ) where
     abbrev groups : Groups
     groups = record { low = low; size = (span + count) / (count + 1) }
 
-    pub range_next : (g < count → FaultOf graph words costs c (record { low = low; size = (span + count) / (count + 1) }) g) → ((h : ℕ) → h < g → FaultOf graph words costs c (record { low = low; size = (span + count) / (count + 1) }) h → ⊥)
+    pub range_next : (g < count → FaultOf graph evidence costs c (record { low = low; size = (span + count) / (count + 1) }) g) → ((h : ℕ) → h < g → FaultOf graph evidence costs c (record { low = low; size = (span + count) / (count + 1) }) h → ⊥)
         → IsRange low span → IsRange (low + g * ((span + count) / (count + 1))) ((span + count) / (count + 1))
     range_next found none is = record {
       le = omega (arith, is.le);
@@ -48,14 +48,14 @@ module _ (graph : Graph) (words costs : List ℕ) (c from : ℕ) where
       some_size : 0 < (span + count) / (count + 1)
       some_size = size_some span count spans
 
-      before : OkAmong graph words costs c from (low + g * ((span + count) / (count + 1)))
+      before : OkAmong graph evidence costs c from (low + g * ((span + count) / (count + 1)))
       before part l h lt o state p = ⊎_elim
           (λ (q : part < low). is.ok part l q lt o state p)
           (λ (q : low ≤ part). true_from_ne_false (bit_in state part) (λ e. none ((part - low) / ((span + count) / (count + 1))) (div_below (part - low) ((span + count) / (count + 1)) g some_size (omega arith))
           (record { state = state; is = p; part = part; within = lt; open_ = o; faulty = e; low = q; group = refl })))
           (cases_lt part low)
 
-      in_group : FaultOf graph words costs c (record { low = low; size = (span + count) / (count + 1) }) g → FaultWithin (low + g * ((span + count) / (count + 1))) ((span + count) / (count + 1))
+      in_group : FaultOf graph evidence costs c (record { low = low; size = (span + count) / (count + 1) }) g → FaultWithin (low + g * ((span + count) / (count + 1))) ((span + count) / (count + 1))
       in_group f = grind (arith, div-mul-le_self, lt-div-mul-add)
 
       -- the groups and one more reach to the end

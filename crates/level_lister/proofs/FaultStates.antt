@@ -14,21 +14,21 @@ use Rattle.level_lister.proofs.LivingNodes.{living-true}
 use Rattle.level_lister.proofs.Whole.{cost_among-all}
 use Rattle.level_lister.proofs.PairNodes.{IsGrouped, grouped, in_group}
 
-module _ (graph : Graph) (words costs : List ℕ) (groups : Groups) (ok : IsGraph graph) (long : length words ≡ graph.vars) (within : length costs ≤ graph.vars) where
+module _ (graph : Graph) (evidence costs : List ℕ) (groups : Groups) (ok : IsGraph graph) (long : length evidence ≡ graph.vars) (within : length costs ≤ graph.vars) where
   -- the last node is true, and a part of a group faulty
   abbrev pub HasWholeFault : ℕ → ℕ → Type 0
-  HasWholeFault g c = CostOf (fault_weights words costs) (λ v. true) (λ a. (is_true graph.nodes (length graph.nodes - 1) a ≡ true) × HasFault (group_in words (length costs) groups g) (λ v. true) a) c
+  HasWholeFault g c = CostOf (fault_weights evidence costs) (λ v. true) (λ a. (is_true graph.nodes (length graph.nodes - 1) a ≡ true) × HasFault (group_in evidence (length costs) groups g) (λ v. true) a) c
 
-  pub fault_state : (g c : ℕ) → HasWholeFault g c → FaultOf graph words costs c groups g
+  pub fault_state : (g c : ℕ) → HasWholeFault g c → FaultOf graph evidence costs c groups g
   fault_state g c r =
-      let s = state_of graph words costs ok long within r.by r.agrees r.meets.0 in
+      let s = state_of graph evidence costs ok long within r.by r.agrees r.meets.0 in
       let fault = r.meets.1 in
-      let is = grouped words (length costs) groups g fault.var fault.of_group in
+      let is = grouped evidence (length costs) groups g fault.var fault.of_group in
       let inside : fault.var - 1 < length costs = omega (arith, is.low, is.high) in
       let place : 1 + (fault.var - 1) ≡ fault.var = omega (arith, is.low) in
       record {
         state = s.state;
-        is = record { long = s.long_state; model = s.model; cost_is = cost_among-all words r.by costs s.state s.long_state s.bits ∙ r.cost_is };
+        is = record { long = s.long_state; model = s.model; cost_is = cost_among-all evidence r.by costs s.state s.long_state s.bits ∙ r.cost_is };
         part = fault.var - 1;
         within = inside;
         open_ = is.open_;
@@ -37,34 +37,34 @@ module _ (graph : Graph) (words costs : List ℕ) (groups : Groups) (ok : IsGrap
         group = is.group;
       }
 
-  pub state_fault : (g c : ℕ) → FaultOf graph words costs c groups g → HasWholeFault g c
+  pub state_fault : (g c : ℕ) → FaultOf graph evidence costs c groups g → HasWholeFault g c
   state_fault g c f =
       let h = f.state in
-      let a = assignment_of graph words costs ok long within h f.is.long f.is.model in
+      let a = assignment_of graph evidence costs ok long within h f.is.long f.is.model in
       let back : f.part + 1 - 1 ≡ f.part = omega arith in
       let place : 1 + f.part ≡ f.part + 1 = omega arith in
-      let is : IsGrouped words (length costs) groups g (f.part + 1) = record {
+      let is : IsGrouped evidence (length costs) groups g (f.part + 1) = record {
         low = omega (arith, f.low);
         high = omega (arith, f.within);
-        open_ = ap (λ k. get_or words k 0) back ∙ f.open_;
+        open_ = ap (λ k. get_or evidence k 0) back ∙ f.open_;
         group = ap (λ k. (k - groups.low) / groups.size) back ∙ f.group;
       } in
-      let fault : HasFault (group_in words (length costs) groups g) (λ v. true) a.by = record {
+      let fault : HasFault (group_in evidence (length costs) groups g) (λ v. true) a.by = record {
         var = f.part + 1;
         among = refl;
-        of_group = in_group words (length costs) groups g (f.part + 1) is;
+        of_group = in_group evidence (length costs) groups g (f.part + 1) is;
         faulty = ap a.by (sym place) ∙ sym (a.bits f.part f.within) ∙ f.faulty;
       } in
-      record { by = a.by; agrees = a.agrees; meets = (a.holds, fault); cost_is = sym (cost_among-all words a.by costs h f.is.long a.bits) ∙ f.is.cost_is }
+      record { by = a.by; agrees = a.agrees; meets = (a.holds, fault); cost_is = sym (cost_among-all evidence a.by costs h f.is.long a.bits) ∙ f.is.cost_is }
 
   -- the set of the whole graph with a fault
-  module _ (skips : List ℕ) (top : ℕ) (enough : IsEnough graph skips words costs top) (set : List ℕ) (is : IsWholeFaults graph skips words costs groups set) where
-    pub first_sound : (c : ℕ) → has_number set c ≡ true → FaultOf graph words costs c groups 0
+  module _ (skips : List ℕ) (top : ℕ) (enough : IsEnough graph skips evidence costs top) (set : List ℕ) (is : IsWholeFaults graph skips evidence costs groups set) where
+    pub first_sound : (c : ℕ) → has_number set c ≡ true → FaultOf graph evidence costs c groups 0
     first_sound c e =
         let r = is.sound c (has-within set c e) e in
         fault_state 0 c (record { by = r.by; agrees = r.agrees; meets = (living-true graph skips ok (length graph.nodes - 1) (omega (arith, ok.some)) r.by r.meets.0, r.meets.1); cost_is = r.cost_is })
 
-    pub first_whole : (c : ℕ) → c ≤ top → c < 32 * length set → FaultOf graph words costs c groups 0 → has_number set c ≡ true
+    pub first_whole : (c : ℕ) → c ≤ top → c < 32 * length set → FaultOf graph evidence costs c groups 0 → has_number set c ≡ true
     first_whole c le lt f =
         let r = state_fault 0 c f in
         is.whole c lt (record { by = r.by; agrees = r.agrees; meets = (enough.left r.by r.agrees r.meets.0 (omega (arith, r.cost_is)), r.meets.1); cost_is = r.cost_is })

@@ -19,15 +19,15 @@ module _ (costs : List ℕ) (h k : List Bool) where
   pub before-cases : is_level_before costs h k ≡ true → (cost costs h < cost costs k) ⊎ ((cost costs h ≡ cost costs k) × (is_before h k ≡ true))
   before-cases e = grind (arith, nat_tests, ltb-true, and_parts, eqb-true, or_cases)
 
-module _ (graph : Graph) (words costs : List ℕ) (top : ℕ) where
-  pub listed-cost : (from : ℕ) (k : List Bool) → IsListed graph words costs from top k → OfCost graph words costs (cost costs k) k
+module _ (graph : Graph) (evidence costs : List ℕ) (top : ℕ) where
+  pub listed-cost : (from : ℕ) (k : List Bool) → IsListed graph evidence costs from top k → OfCost graph evidence costs (cost costs k) k
   listed-cost from k l = record { long = l.long; model = l.model; cost_is = refl }
 
-  pub listed-has : (from : ℕ) (k : List Bool) → IsListed graph words costs from top k → HasCost graph words costs (cost costs k)
+  pub listed-has : (from : ℕ) (k : List Bool) → IsListed graph evidence costs from top k → HasCost graph evidence costs (cost costs k)
   listed-has from k l = record { state = k; is = listed-cost from k l }
 
   -- the first state of the least cost from one on
-  pub first-from : (from c : ℕ) (h : List Bool) → from ≤ c → c ≤ top → ((d : ℕ) → from ≤ d → d < c → HasCost graph words costs d → ⊥) → IsFirst (OfCost graph words costs c) h → IsFirstLevel costs (IsListed graph words costs from top) h
+  pub first-from : (from c : ℕ) (h : List Bool) → from ≤ c → c ≤ top → ((d : ℕ) → from ≤ d → d < c → HasCost graph evidence costs d → ⊥) → IsFirst (OfCost graph evidence costs c) h → IsFirstLevel costs (IsListed graph evidence costs from top) h
   first-from from c h low high none is = record {
     meets = record { long = is.meets.long; model = is.meets.model; low = omega (arith, is.meets.cost_is); high = omega (arith, is.meets.cost_is) };
     before = λ k l. ⊎_elim
@@ -39,17 +39,17 @@ module _ (graph : Graph) (words costs : List ℕ) (top : ℕ) where
   }
 
   abbrev pub Later : List Bool → List Bool → Type 0
-  Later point h = IsListed graph words costs 0 top h × (is_later costs (Some point) h ≡ true)
+  Later point h = IsListed graph evidence costs 0 top h × (is_later costs (Some point) h ≡ true)
 
   -- a later state of the point's own cost
-  pub first-same : (point h : List Bool) → cost costs point ≤ top → IsFirst (λ k. OfCost graph words costs (cost costs point) k × (is_before point k ≡ true)) h → IsFirstLevel costs (Later point) h
+  pub first-same : (point h : List Bool) → cost costs point ≤ top → IsFirst (λ k. OfCost graph evidence costs (cost costs point) k × (is_before point k ≡ true)) h → IsFirstLevel costs (Later point) h
   first-same point h le is = grind (arith, nat_tests, same-before, cheaper-before, is.before, before-cases)
 
   -- where there is none, the later ones are those that cost more
-  pub later-dearer : (point : List Bool) → NoneAfter (OfCost graph words costs (cost costs point)) point 0 → (h : List Bool) → Later point h → IsListed graph words costs (cost costs point + 1) top h
+  pub later-dearer : (point : List Bool) → NoneAfter (OfCost graph evidence costs (cost costs point)) point 0 → (h : List Bool) → Later point h → IsListed graph evidence costs (cost costs point + 1) top h
   later-dearer point none h l = grind (arith, nat_tests, none, before-cases)
 
-  pub dearer-later : (point h : List Bool) → IsListed graph words costs (cost costs point + 1) top h → Later point h
+  pub dearer-later : (point h : List Bool) → IsListed graph evidence costs (cost costs point + 1) top h → Later point h
   dearer-later point h l = (record { long = l.long; model = l.model; low = omega arith; high = l.high }, cheaper-before costs point h (omega (arith, l.low)))
 
   pub none-too_dear : (point h : List Bool) → top < cost costs point → Later point h → ⊥

@@ -10,7 +10,7 @@ use Rattle.state_rules.specs.Graphs.{Graph}
 use Rattle.state_rules.proofs.Members.{In, In-append, In-append_left, In-append_right, In-filter, In-filtered, bits_in, bits_length, empty-none}
 use Rattle.state_rules.proofs.Order.{not_both_before, Sorted, Sorted-states, Sorted-filter}
 use Rattle.state_rules.specs.Levels.{of_cost, levels, is_level_before, levels_rest}
-use Rattle.conditioner.specs.Models.{has_model, fits_words, models}
+use Rattle.conditioner.specs.Models.{has_model, fits_evidence, models}
 use Rattle.level_lister.specs.declared.levels.LevelStep.TheVariants.{Found, End}
 use Rattle.level_lister.specs.Listing.{level_step}
 use Rattle.level_lister.specs.inner.Searching.{IsListed, IsFirstLevel, is_later}
@@ -70,26 +70,26 @@ module _ (costs : List ℕ) where
 
   -- ---- what comes after a point
 
-  module _ (graph : Graph) (words : List ℕ) (top : ℕ) (point : Option (List Bool)) where
+  module _ (graph : Graph) (evidence : List ℕ) (top : ℕ) (point : Option (List Bool)) where
     abbrev pub ms : List (List Bool)
-    ms = models graph words (length costs)
+    ms = models graph evidence (length costs)
 
     abbrev pub later : List (List Bool)
     later = levels_rest costs (levels costs top ms) point
 
     abbrev pub Next : List Bool → Type 0
-    Next h = IsListed graph words costs 0 top h × (is_later costs point h ≡ true)
+    Next h = IsListed graph evidence costs 0 top h × (is_later costs point h ≡ true)
 
-    model-in : (h : List Bool) → length h ≡ length costs → has_model graph (fits_words words) (length costs) h ≡ true → In h ms
-    model-in h l m = In-filtered (has_model graph (fits_words words) (length costs)) h (states (length costs)) (subst (λ n. In h (lists_of_bits n)) l (bits_in h)) m
+    model-in : (h : List Bool) → length h ≡ length costs → has_model graph (fits_evidence evidence) (length costs) h ≡ true → In h ms
+    model-in h l m = In-filtered (has_model graph (fits_evidence evidence) (length costs)) h (states (length costs)) (subst (λ n. In h (lists_of_bits n)) l (bits_in h)) m
 
-    listed-in : (h : List Bool) → IsListed graph words costs 0 top h → In h (levels costs top ms)
+    listed-in : (h : List Bool) → IsListed graph evidence costs 0 top h → In h (levels costs top ms)
     listed-in h l = some_levels-has ms 0 (top + 1) h (model-in h l.long l.model) (omega arith) (omega (arith, l.high))
 
-    in-listed : (h : List Bool) → In h (levels costs top ms) → IsListed graph words costs 0 top h
+    in-listed : (h : List Bool) → In h (levels costs top ms) → IsListed graph evidence costs 0 top h
     in-listed h m =
         let r = some_levels-in ms 0 (top + 1) h m in
-        let s = In-filter (has_model graph (fits_words words) (length costs)) h (states (length costs)) r.0 in
+        let s = In-filter (has_model graph (fits_evidence evidence) (length costs)) h (states (length costs)) r.0 in
         record { long = bits_length (length costs) h s.0; model = s.1; low = omega arith; high = omega (arith, r.1.1) }
 
     next-in : (h : List Bool) → Next h → In h later
@@ -97,7 +97,7 @@ module _ (costs : List ℕ) where
 
     in-next : (h : List Bool) → In h later → Next h
     in-next h m = by_point point m where
-      by_point : (o : Option (List Bool)) → In h (levels_rest costs (levels costs top ms) o) → IsListed graph words costs 0 top h × (is_later costs o h ≡ true)
+      by_point : (o : Option (List Bool)) → In h (levels_rest costs (levels costs top ms) o) → IsListed graph evidence costs 0 top h × (is_later costs o h ≡ true)
       by_point None m = (in-listed h m, refl)
       by_point (Some p) m = let r = In-filter (is_level_before costs p) h (levels costs top ms) m in (in-listed h r.0, r.1)
 

@@ -43,12 +43,12 @@ skipped-dear top least rest ne = ⊎_elim (λ (p : top < rest + least). p) (λ (
 
 -- ---- a derivation of little cost
 
-module _ (graph : Graph) (words costs : List ℕ) (ok : IsGraph graph) (least : List ℕ) (are_least : AreLeastCosts graph words costs least) where
+module _ (graph : Graph) (evidence costs : List ℕ) (ok : IsGraph graph) (least : List ℕ) (are_least : AreLeastCosts graph evidence costs least) where
   -- what the open faulty parts cost below a node
   abbrev faults : (ℕ → Bool) → Assignment → ℕ
-  faults m a = faults_in (known_at words) (part_cost costs) (length costs) m a
+  faults m a = faults_in (known_at evidence) (part_cost costs) (length costs) m a
 
-  module _ (a : Assignment) (follows : Follows words a) where
+  module _ (a : Assignment) (follows : Follows evidence a) where
     -- a true child of a true node, with the others
     child-cheap : (k : ℕ) → k < length graph.nodes → is_true graph.nodes k a ≡ true → (j : ℕ) → j < length (node_at graph.nodes k).kids → get_or (node_at graph.nodes k).kids j 0 < length graph.nodes
         → is_true graph.nodes (get_or (node_at graph.nodes k).kids j 0) a ≡ true
@@ -60,16 +60,16 @@ module _ (graph : Graph) (words costs : List ℕ) (ok : IsGraph graph) (least : 
       by_kind (Literal positive var) q = grind (arith, fits-at graph.vars graph.nodes k ok.nodes.fit inside)
       by_kind And q =
           let there = the_node graph.nodes k And (node_at graph.nodes k).kids inside q refl in
-          let own = has_least graph words costs least are_least ok a follows k inside e in
-          let below = has_least graph words costs least are_least ok a follows (get_or (node_at graph.nodes k).kids j 0) within t in
-          let x = child-excess graph words costs ok a follows (node_at graph.nodes k).kids (apart-kids graph words costs ok k (node_at graph.nodes k).kids there) (sym (true-at graph words costs ok k _ there a) ∙ e) (get_or least k 0) (sym (costs-at graph words costs ok k _ there) ∙ own.is) (get_or (node_at graph.nodes k).kids j 0) (In-at (node_at graph.nodes k).kids j 0 lt) in
+          let own = has_least graph evidence costs least are_least ok a follows k inside e in
+          let below = has_least graph evidence costs least are_least ok a follows (get_or (node_at graph.nodes k).kids j 0) within t in
+          let x = child-excess graph evidence costs ok a follows (node_at graph.nodes k).kids (apart-kids graph evidence costs ok k (node_at graph.nodes k).kids there) (sym (true-at graph evidence costs ok k _ there a) ∙ e) (get_or least k 0) (sym (costs-at graph evidence costs ok k _ there) ∙ own.is) (get_or (node_at graph.nodes k).kids j 0) (In-at (node_at graph.nodes k).kids j 0 lt) in
           let same : x.cost ≡ get_or least (get_or (node_at graph.nodes k).kids j 0) 0 = same_Some x.cost _ (sym x.is ∙ below.is) in
-          let all = faults_in-le (known_at words) (part_cost costs) (length costs) (λ v. list_any (λ b. b) (map (mentions graph.nodes v) (node_at graph.nodes k).kids)) (λ v. mentions graph.nodes v k) a (λ v r. mention-at graph words costs ok k _ there v ∙ r) in
-          let one = faults_in-le (known_at words) (part_cost costs) (length costs) (λ v. mentions graph.nodes v (get_or (node_at graph.nodes k).kids j 0)) (λ v. mentions graph.nodes v k) a (λ v r. mention-at graph words costs ok k _ there v ∙ any-child (mentions graph.nodes v) (node_at graph.nodes k).kids (get_or (node_at graph.nodes k).kids j 0) (In-at (node_at graph.nodes k).kids j 0 lt) r) in
+          let all = faults_in-le (known_at evidence) (part_cost costs) (length costs) (λ v. list_any (λ b. b) (map (mentions graph.nodes v) (node_at graph.nodes k).kids)) (λ v. mentions graph.nodes v k) a (λ v r. mention-at graph evidence costs ok k _ there v ∙ r) in
+          let one = faults_in-le (known_at evidence) (part_cost costs) (length costs) (λ v. mentions graph.nodes v (get_or (node_at graph.nodes k).kids j 0)) (λ v. mentions graph.nodes v k) a (λ v r. mention-at graph evidence costs ok k _ there v ∙ any-child (mentions graph.nodes v) (node_at graph.nodes k).kids (get_or (node_at graph.nodes k).kids j 0) (In-at (node_at graph.nodes k).kids j 0 lt) r) in
           omega (arith, x.excess, same, all, one)
       by_kind Or q =
           let there = the_node graph.nodes k Or (node_at graph.nodes k).kids inside q refl in
-          let one = faults_in-le (known_at words) (part_cost costs) (length costs) (λ v. mentions graph.nodes v (get_or (node_at graph.nodes k).kids j 0)) (λ v. mentions graph.nodes v k) a (λ v r. mention-at graph words costs ok k _ there v ∙ any-child (mentions graph.nodes v) (node_at graph.nodes k).kids (get_or (node_at graph.nodes k).kids j 0) (In-at (node_at graph.nodes k).kids j 0 lt) r) in
+          let one = faults_in-le (known_at evidence) (part_cost costs) (length costs) (λ v. mentions graph.nodes v (get_or (node_at graph.nodes k).kids j 0)) (λ v. mentions graph.nodes v k) a (λ v r. mention-at graph evidence costs ok k _ there v ∙ any-child (mentions graph.nodes v) (node_at graph.nodes k).kids (get_or (node_at graph.nodes k).kids j 0) (In-at (node_at graph.nodes k).kids j 0 lt) r) in
           omega (arith, one)
 
     module _ (rests skips : List ℕ) (top : ℕ) (are : AreRests graph.nodes least rests 0) (marks : (k : ℕ) → k < length graph.nodes → get_or skips k 0 ≡ skip_of top (get_or least k 0) (get_or rests k 0)) where
@@ -78,21 +78,21 @@ module _ (graph : Graph) (words costs : List ℕ) (ok : IsGraph graph) (least : 
       lives zero k h inside e le = absurd (omega arith)
       lives (suc fuel) k h inside e le = ⊎_elim
           grind (arith, living-is, truth_more, child-below, child-cheap, graph-is, lives fuel)
-          (λ (ne : get_or skips k 0 ≢ 0). absurd (omega (arith, le, skipped-dear top (get_or least k 0) (get_or rests k 0) (λ q. ne (marks k inside ∙ q)), (has_least graph words costs least are_least ok a follows k inside e).low)))
+          (λ (ne : get_or skips k 0 ≢ 0). absurd (omega (arith, le, skipped-dear top (get_or least k 0) (get_or rests k 0) (λ q. ne (marks k inside ∙ q)), (has_least graph evidence costs least are_least ok a follows k inside e).low)))
           (cases_eq (get_or skips k 0) 0)
 
-  pub enough : (rests skips : List ℕ) (top : ℕ) → length words ≡ graph.vars → length costs ≤ graph.vars → AreRests graph.nodes least rests 0
-      → ((k : ℕ) → k < length graph.nodes → get_or skips k 0 ≡ skip_of top (get_or least k 0) (get_or rests k 0)) → IsEnough graph skips words costs top
+  pub enough : (rests skips : List ℕ) (top : ℕ) → length evidence ≡ graph.vars → length costs ≤ graph.vars → AreRests graph.nodes least rests 0
+      → ((k : ℕ) → k < length graph.nodes → get_or skips k 0 ≡ skip_of top (get_or least k 0) (get_or rests k 0)) → IsEnough graph skips evidence costs top
   enough rests skips top long within are marks = record {
     left = λ a f h le.
-        let s = state_of graph words costs ok long within a f h in
+        let s = state_of graph evidence costs ok long within a f h in
         let root : length graph.nodes - 1 < length graph.nodes = omega (arith, ok.some) in
-        let total = cost_among-all words a costs s.state s.long_state s.bits in
-        let all = faults_in-le (known_at words) (part_cost costs) (length costs) (λ v. mentions graph.nodes v (length graph.nodes - 1)) (λ v. true) a (λ v q. refl) in
+        let total = cost_among-all evidence a costs s.state s.long_state s.bits in
+        let all = faults_in-le (known_at evidence) (part_cost costs) (length costs) (λ v. mentions graph.nodes v (length graph.nodes - 1)) (λ v. true) a (λ v q. refl) in
         lives a f rests skips top are marks (suc (length graph.nodes - 1)) (length graph.nodes - 1) (omega arith) root h (omega (arith, le, are.root, s.cost_is, total, all));
   }
 
--- words that fix more
+-- evidence that fixes more
 pub follows_old : (old new : List ℕ) → ((k : ℕ) → get_or old k 0 ≢ 0 → get_or new k 0 ≡ get_or old k 0) → (a : Assignment) → Follows new a → Follows old a
 follows_old old new kept a f v = grind arith
 

@@ -6,7 +6,7 @@ use Rattle.state_rules.specs.Bits.{same_bit}
 use Rattle.state_rules.specs.Cases.{agrees_at}
 use Rattle.state_rules.specs.Assignments.{Assignment}
 use Rattle.conditioner.specs.declared.leaves.Leaf.TheVariants.{False}
-use Rattle.conditioner.specs.Words.{leaf_of}
+use Rattle.conditioner.specs.Evidence.{leaf_of}
 use Rattle.node_costs.specs.Costs.{Weights}
 use Rattle.node_costs.proofs.Conditions.{OnlyParts, cost_among-none, cost-none, literal-costs}
 use Rattle.node_costs.proofs.Sets.{row-none, row-one}
@@ -36,42 +36,42 @@ pub part_cost-at : (costs : List ℕ) (var : ℕ) → 1 ≤ var → get_or costs
 part_cost-at costs zero h = absurd (omega arith)
 part_cost-at costs (suc i) h = ap (λ k. get_or costs k 0) (omega arith)
 
-module _ (words costs : List ℕ) where
+module _ (evidence costs : List ℕ) where
   abbrev g : Weights
-  g = fault_weights words costs
+  g = fault_weights evidence costs
 
-  pub only_parts : OnlyParts (fault_weights words costs)
+  pub only_parts : OnlyParts (fault_weights evidence costs)
   only_parts v true out = refl
   only_parts v false out = part_cost-none costs v out
 
-  pub empty_is : (some : ℕ → Bool) (set : List ℕ) → ((n : ℕ) → has_number set n ≡ false) → IsCostSet words costs (λ a. false) some set
+  pub empty_is : (some : ℕ → Bool) (set : List ℕ) → ((n : ℕ) → has_number set n ≡ false) → IsCostSet evidence costs (λ a. false) some set
   empty_is some set none = record { row = row-none _ (has_number set) _ (λ n lt. none n) (λ n c. false≢true c.meets); local = λ a b h. refl }
 
-  pub zero_is : (set : List ℕ) → ((n : ℕ) → n < 32 * length set → has_number set n ≡ (n == 0)) → IsCostSet words costs (λ a. true) (λ v. false) set
+  pub zero_is : (set : List ℕ) → ((n : ℕ) → n < 32 * length set → has_number set n ≡ (n == 0)) → IsCostSet evidence costs (λ a. true) (λ v. false) set
   zero_is set one = record {
     row = row-one _ (has_number set) _ 0 (cost-none g (λ a. true ≡ true) refl) (λ n c. sym c.cost_is ∙ cost_among-none g c.by) one;
     local = λ a b h. refl;
   }
 
   -- more variables, of which no others are parts'
-  pub wider_is : (t : Assignment → Bool) (some more : ℕ → Bool) (set : List ℕ) → Wider (length costs) some more → IsCostSet words costs t some set → IsCostSet words costs t more set
+  pub wider_is : (t : Assignment → Bool) (some more : ℕ → Bool) (set : List ℕ) → Wider (length costs) some more → IsCostSet evidence costs t some set → IsCostSet evidence costs t more set
   wider_is t some more set wider is = record {
     row = row-cost g _ (has_number set) some more _ _ (λ a ag h. h) (λ a ag h. h) wider.same is.row;
     local = λ a b h. is.local a b (λ v p. h v (wider.within v p));
   }
 
   -- a literal that its word rules out
-  pub false_literal_is : (var : ℕ) (positive : Bool) (set : List ℕ) → leaf_of positive (known_at words var) ≡ False → ((n : ℕ) → has_number set n ≡ false)
-      → IsCostSet words costs (λ a. same_bit positive (a var)) (λ v. var == v) set
+  pub false_literal_is : (var : ℕ) (positive : Bool) (set : List ℕ) → leaf_of positive (known_at evidence var) ≡ False → ((n : ℕ) → has_number set n ≡ false)
+      → IsCostSet evidence costs (λ a. same_bit positive (a var)) (λ v. var == v) set
   false_literal_is var positive set e none = record {
-    row = row-none _ (has_number set) _ (λ n lt. none n) (λ n c. ruled_out (known_at words var) positive e (literal-costs g only_parts var positive n c).allowed);
+    row = row-none _ (has_number set) _ (λ n lt. none n) (λ n c. ruled_out (known_at evidence var) positive e (literal-costs g only_parts var positive n c).allowed);
     local = λ a b h. ap (same_bit positive) (h var (eq-eqb var var refl));
   }
 
   -- and one that it allows
-  pub literal_is : (var : ℕ) (positive : Bool) (set : List ℕ) → (leaf_of positive (known_at words var) ≡ False → ⊥) → ((n : ℕ) → n < 32 * length set → has_number set n ≡ (n == cond positive 0 (part_cost costs var)))
-      → IsCostSet words costs (λ a. same_bit positive (a var)) (λ v. var == v) set
+  pub literal_is : (var : ℕ) (positive : Bool) (set : List ℕ) → (leaf_of positive (known_at evidence var) ≡ False → ⊥) → ((n : ℕ) → n < 32 * length set → has_number set n ≡ (n == cond positive 0 (part_cost costs var)))
+      → IsCostSet evidence costs (λ a. same_bit positive (a var)) (λ v. var == v) set
   literal_is var positive set allowed one = record {
-    row = row-literal g _ (has_number set) only_parts var positive (allowed_by (known_at words var) positive allowed) one;
+    row = row-literal g _ (has_number set) only_parts var positive (allowed_by (known_at evidence var) positive allowed) one;
     local = λ a b h. ap (same_bit positive) (h var (eq-eqb var var refl));
   }

@@ -57,9 +57,9 @@ spread-row left right step top first word lt room spread = record {
       (spread.whole (step * s.left + first) s.right s.on_left (omega (arith, s.sum_is)) (subst (λ m. has_bit right m ≡ true) place s.on_right) (omega (arith, sum, below)));
 }
 
-module _ (words costs : List ℕ) (top step : ℕ) (group : ℕ → ℕ → Bool) where
+module _ (evidence costs : List ℕ) (top step : ℕ) (group : ℕ → ℕ → Bool) where
   abbrev g : Weights
-  g = fault_weights words costs
+  g = fault_weights evidence costs
 
   or_row : (C D : ℕ → Type 0) (by first left right : ℕ) → IsRow (λ n. has_bit left (by * n + first)) (top + 1) C → IsRow (λ n. has_bit right (by * n + first)) (top + 1) D
       → IsRow (λ n. has_bit (bit_or left right) (by * n + first)) (top + 1) (λ n. C n ⊎ D n)
@@ -70,23 +70,23 @@ module _ (words costs : List ℕ) (top step : ℕ) (group : ℕ → ℕ → Bool
 
   -- the same test of variables that are the same as far as they are parts'
   pub tells_same : (t u : Assignment → Bool) (some more : ℕ → Bool) (pair : Pair) → ((e v : ℕ) → group e v ≡ true → (1 ≤ v) × (v < 1 + length costs)) → ((a : Assignment) → t a ≡ u a) → Wider (length costs) some more
-      → Tells words costs top step group t some pair → Tells words costs top step group u more pair
+      → Tells evidence costs top step group t some pair → Tells evidence costs top step group u more pair
   tells_same t u some more pair parts e wider is = record {
     cost_bits = row-cost g (top + 1) _ some more _ _ (λ a f h. sym (e a) ∙ h) (λ a f h. e a ∙ h) wider.same is.cost_bits;
     fault_bits = λ i lt. row-fault g (group i) (top + 1) _ (parts i) t u some more e wider (is.fault_bits i lt);
     local = λ a b h. sym (e a) ∙ is.local a b (λ v p. h v (wider.within v p)) ∙ e b;
   }
 
-  -- tests that say the same where the words are agreed with
-  pub tells_known : (t u : Assignment → Bool) (some : ℕ → Bool) (pair : Pair) → ((a : Assignment) → Follows words a → t a ≡ u a) → Depends some u → Tells words costs top step group t some pair → Tells words costs top step group u some pair
+  -- tests that say the same where assignments agree with the evidence
+  pub tells_known : (t u : Assignment → Bool) (some : ℕ → Bool) (pair : Pair) → ((a : Assignment) → Follows evidence a → t a ≡ u a) → Depends some u → Tells evidence costs top step group t some pair → Tells evidence costs top step group u some pair
   tells_known t u some pair e local is = record {
     cost_bits = row-cost g (top + 1) _ some some _ _ (λ a f h. sym (e a f) ∙ h) (λ a f h. e a f ∙ h) (λ v l h. refl) is.cost_bits;
     fault_bits = λ i lt. row-cost g (top + 1) _ some some _ _ (λ a f h. (sym (e a f) ∙ h.0, h.1)) (λ a f h. (e a f ∙ h.0, h.1)) (λ v l h. refl) (is.fault_bits i lt);
     local = local;
   }
 
-  pub tells_or : (t u : Assignment → Bool) (some : ℕ → Bool) (left right : Pair) → Tells words costs top step group t some left → Tells words costs top step group u some right
-      → Tells words costs top step group (λ a. t a || u a) some (record { costs = bit_or left.costs right.costs; faults = bit_or left.faults right.faults })
+  pub tells_or : (t u : Assignment → Bool) (some : ℕ → Bool) (left right : Pair) → Tells evidence costs top step group t some left → Tells evidence costs top step group u some right
+      → Tells evidence costs top step group (λ a. t a || u a) some (record { costs = bit_or left.costs right.costs; faults = bit_or left.faults right.faults })
   tells_or t u some left right is_t is_u = record {
     cost_bits = row-as (top + 1) _ _ _ (cost-any g t u some) (any-costs g t u some) (or_row _ _ 1 0 left.costs right.costs is_t.cost_bits is_u.cost_bits);
     fault_bits = λ i lt. row-as (top + 1) _ _ _ (cost-any_fault g (group i) t u some) (any_fault-costs g (group i) t u some) (or_row _ _ step i left.faults right.faults (is_t.fault_bits i lt) (is_u.fault_bits i lt));
@@ -95,8 +95,8 @@ module _ (words costs : List ℕ) (top step : ℕ) (group : ℕ → ℕ → Bool
 
   pub tells_and : (t u : Assignment → Bool) (some more : ℕ → Bool) (left right : Pair) (sums one other : ℕ) → 0 < step → step * (top + 1) ≤ 32 → ((v : ℕ) → (some v && more v) ≡ false)
       → IsSpread left.costs right.costs 1 (top + 1) sums → IsSpread left.faults right.costs step (top + 1) one → IsSpread right.faults left.costs step (top + 1) other
-      → Tells words costs top step group t some left → Tells words costs top step group u more right
-      → Tells words costs top step group (λ a. t a && u a) (λ v. some v || more v) (record { costs = sums; faults = bit_or one other })
+      → Tells evidence costs top step group t some left → Tells evidence costs top step group u more right
+      → Tells evidence costs top step group (λ a. t a && u a) (λ v. some v || more v) (record { costs = sums; faults = bit_or one other })
   tells_and t u some more left right sums one other some_step room apart on_costs on_one on_other is_t is_u = record {
     cost_bits = row-as (top + 1) _ _ _ (cost-all g t u some more apart is_t.local is_u.local) (all-costs g t u some more apart is_t.local is_u.local)
         (row-sum (top + 1) _ _ _ _ _ (spread-row left.costs right.costs 1 top 0 sums (omega arith) (omega (arith, at_least step some_step (top + 1), room)) on_costs) is_t.cost_bits is_u.cost_bits);
@@ -115,31 +115,31 @@ module _ (words costs : List ℕ) (top step : ℕ) (group : ℕ → ℕ → Bool
   -- ---- what stands alone
 
   -- a test that no assignment meets
-  pub tells_none : (t : Assignment → Bool) (some : ℕ → Bool) → ((a : Assignment) → Follows words a → t a ≡ true → ⊥) → Depends some t → Tells words costs top step group t some (record { costs = 0; faults = 0 })
+  pub tells_none : (t : Assignment → Bool) (some : ℕ → Bool) → ((a : Assignment) → Follows evidence a → t a ≡ true → ⊥) → Depends some t → Tells evidence costs top step group t some (record { costs = 0; faults = 0 })
   tells_none t some none local = record { cost_bits = zero_row _ 1 0 (λ n c. none c.by c.agrees c.meets); fault_bits = λ i lt. zero_row _ step i (λ n c. none c.by c.agrees c.meets.0); local = local }
 
   one_at : (n : ℕ) → has_bit 1 (1 * n + 0) ≡ (n == 0)
   one_at n = let place : 1 * n + 0 ≡ n = omega arith in one_bit 32 0 (1 * n + 0) (omega arith) ∙ ap (λ k. k == 0) place
 
   -- no variable at all
-  pub tells_true : Tells words costs top step group (λ a. true) (λ v. false) (record { costs = 1; faults = 0 })
+  pub tells_true : Tells evidence costs top step group (λ a. true) (λ v. false) (record { costs = 1; faults = 0 })
   tells_true = grind (arith, cost-none, cost_among-none, one_at)
 
   module _ (var : ℕ) (low : 1 ≤ var) where
     -- a variable that is true
-    pub tells_ok : agrees_at (known_at words var) true ≡ true → Tells words costs top step group (λ a. same_bit true (a var)) (λ v. var == v) (record { costs = 1; faults = 0 })
+    pub tells_ok : agrees_at (known_at evidence var) true ≡ true → Tells evidence costs top step group (λ a. same_bit true (a var)) (λ v. var == v) (record { costs = 1; faults = 0 })
     tells_ok allowed = record {
-      cost_bits = row-literal g (top + 1) _ (only_parts words costs) var true allowed (λ n lt. one_at n);
+      cost_bits = row-literal g (top + 1) _ (only_parts evidence costs) var true allowed (λ n lt. one_at n);
       fault_bits = λ i lt. zero_row _ step i (λ n c. false≢true (sym c.meets.1.faulty ∙ ap c.by (sym (eqb-true var c.meets.1.var c.meets.1.among)) ∙ c.meets.0));
       local = λ a b h. h var (eq-eqb var var refl);
     }
 
     -- a variable that is false
-    pub tells_faulty : (cost word mark : ℕ) → top < 32 → cost ≡ get_or costs (var - 1) 0 → agrees_at (known_at words var) false ≡ true → ((n : ℕ) → n < 32 → has_bit word n ≡ (n == cost))
+    pub tells_faulty : (cost word mark : ℕ) → top < 32 → cost ≡ get_or costs (var - 1) 0 → agrees_at (known_at evidence var) false ≡ true → ((n : ℕ) → n < 32 → has_bit word n ≡ (n == cost))
         → ((n i : ℕ) → n ≤ top → i < step → has_bit mark (step * n + i) ≡ ((n == cost) && group i var))
-        → Tells words costs top step group (λ a. same_bit false (a var)) (λ v. var == v) (record { costs = word; faults = mark })
+        → Tells evidence costs top step group (λ a. same_bit false (a var)) (λ v. var == v) (record { costs = word; faults = mark })
     tells_faulty cost word mark small cost_is allowed on_word on_mark = record {
-      cost_bits = row-literal g (top + 1) _ (only_parts words costs) var false allowed (λ n lt. ap (has_bit word) (place n) ∙ on_word n (omega arith) ∙ ap (λ k. n == k) price);
+      cost_bits = row-literal g (top + 1) _ (only_parts evidence costs) var false allowed (λ n lt. ap (has_bit word) (place n) ∙ on_word n (omega arith) ∙ ap (λ k. n == k) price);
       fault_bits = λ i lt. by_group i lt (group i var) refl;
       local = λ a b h. ap not (h var (eq-eqb var var refl));
     } where
@@ -150,5 +150,5 @@ module _ (words costs : List ℕ) (top step : ℕ) (group : ℕ → ℕ → Bool
       place n = omega arith
 
       by_group : (i : ℕ) → i < step → (b : Bool) → group i var ≡ b → IsRow (λ n. has_bit mark (step * n + i)) (top + 1) (FaultCost g (group i) (λ v. var == v) (λ a. same_bit false (a var)))
-      by_group i lt true e = row-fault_one g (group i) (top + 1) _ (only_parts words costs) var allowed e (λ n h. on_mark n i (omega arith) lt ∙ (λ j. (n == price j) && e j) ∙ and-true (n == part_cost costs var))
+      by_group i lt true e = row-fault_one g (group i) (top + 1) _ (only_parts evidence costs) var allowed e (λ n h. on_mark n i (omega arith) lt ∙ (λ j. (n == price j) && e j) ∙ and-true (n == part_cost costs var))
       by_group i lt false e = grind arith

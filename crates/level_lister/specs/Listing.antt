@@ -46,7 +46,7 @@ point_if true state = Some state
 
 -- what is listed from a point on
 abbrev pub later_levels : Graph → List ℕ → Kept → Option (List Bool) → List (List Bool)
-later_levels graph words kept point = levels_rest kept.costs (levels kept.costs kept.top (models graph words (length kept.costs))) point
+later_levels graph evidence kept point = levels_rest kept.costs (levels kept.costs kept.top (models graph evidence (length kept.costs))) point
 
 -- by the states that are allowed, and those that come later
 abbrev pub level_step : List ℕ → List (List Bool) → List (List Bool) → LevelStep

@@ -14,13 +14,13 @@ use part_sets::{PART_LIMIT, next_missing};
 pub(crate) fn widen(
     outer: &[u32],
     inner: &[u32],
-    words: &[u32],
+    evidence: &[u32],
     costs: &[u32],
     set: &mut [u32],
     spare: &mut [u32],
 )
-    requires words { All (λ w. w < 3) words.now }
-    requires parts { length costs.now ≤ length words.now }
+    requires evidence { All (λ w. w < 3) evidence.now }
+    requires parts { length costs.now ≤ length evidence.now }
     requires few { length costs.now ≤ PART_LIMIT }
     requires outer { length outer.now ≡ part_words (length costs.now) }
     requires inner { length inner.now ≡ part_words (length costs.now) }
@@ -28,11 +28,11 @@ pub(crate) fn widen(
     ensures { (test : Assignment → Bool) (some more : ℕ → Bool)
         → ArePartsOf (length costs.now) some inner.now → ArePartsOf (length costs.now) more outer.now
         → ((v : ℕ) → some v ≡ true → more v ≡ true)
-        → IsCostSet words.now costs.now test some set.old → IsCostSet words.now costs.now test more set.new }
+        → IsCostSet evidence.now costs.now test some set.old → IsCostSet evidence.now costs.now test more set.new }
 {
     let mut part = next_missing(outer, inner, 0);
     while part < costs.len() {
-        add_part(words[part], costs[part], set, spare);
+        add_part(evidence[part], costs[part], set, spare);
         part = next_missing(outer, inner, part + 1);
     }
 }

@@ -20,18 +20,18 @@ use node_store::Graph;
 use part_sets::{clear, next_missing, part_words, put_one, set_at};
 use state_rules::NodeKind;
 
-// What the sets are put from: a graph, words, groups, the sets of the costs of all nodes, and which nodes are skipped.
+// What the sets are put from: a graph, evidence, groups, the sets of the costs of all nodes, and which nodes are skipped.
 #[derive(Drop)]
 pub(crate) struct FaultPass<'a> {
     pub(crate) levels: &'a Levels,
     pub(crate) graph: &'a Graph,
-    pub(crate) words: &'a [u32],
+    pub(crate) evidence: &'a [u32],
     pub(crate) groups: Groups,
     pub(crate) sets: &'a [u32],
     pub(crate) skips: &'a [u32],
     ghost for_graph: { IsFor graph.now levels.now },
-    ghost long: { length words.now ≡ graph.now.vars },
-    ghost small: { All (λ w. w < 3) words.now },
+    ghost long: { length evidence.now ≡ graph.now.vars },
+    ghost small: { All (λ w. w < 3) evidence.now },
     ghost some: { 0 < groups.size },
     ghost room: { length sets.now ≡ length graph.now.nodes * cost_words levels.now.top },
     ghost marks: { length skips.now ≡ length graph.now.nodes },
@@ -46,13 +46,13 @@ impl FaultPass<'_> {
         all: &mut [u32],
         spare: &mut [u32],
     )
-        requires are { AreNodeSets self.now.graph.now self.now.skips.now self.now.words.now self.now.levels.now.costs (cost_words self.now.levels.now.top)
+        requires are { AreNodeSets self.now.graph.now self.now.skips.now self.now.evidence.now self.now.levels.now.costs (cost_words self.now.levels.now.top)
             self.now.sets.now (length self.now.graph.now.nodes) }
         requires faults { length faults.old ≡ length self.now.graph.now.nodes * cost_words self.now.levels.now.top }
         requires whole { length whole.old ≡ cost_words self.now.levels.now.top }
         requires all { length all.old ≡ cost_words self.now.levels.now.top }
         requires spare { length spare.old ≡ cost_words self.now.levels.now.top }
-        ensures { IsWholeFaults self.now.graph.now self.now.skips.now self.now.words.now self.now.levels.now.costs self.now.groups whole.new }
+        ensures { IsWholeFaults self.now.graph.now self.now.skips.now self.now.evidence.now self.now.levels.now.costs self.now.groups whole.new }
     {
         self.put_faults(faults, whole, all, spare);
         let root = self.graph.len() as usize - 1;
@@ -66,13 +66,13 @@ impl FaultPass<'_> {
     }
 
     fn put_faults(&self, faults: &mut [u32], own: &mut [u32], all: &mut [u32], spare: &mut [u32])
-        requires are { AreNodeSets self.now.graph.now self.now.skips.now self.now.words.now self.now.levels.now.costs (cost_words self.now.levels.now.top)
+        requires are { AreNodeSets self.now.graph.now self.now.skips.now self.now.evidence.now self.now.levels.now.costs (cost_words self.now.levels.now.top)
             self.now.sets.now (length self.now.graph.now.nodes) }
         requires faults { length faults.old ≡ length self.now.graph.now.nodes * cost_words self.now.levels.now.top }
         requires own { length own.old ≡ cost_words self.now.levels.now.top }
         requires all { length all.old ≡ cost_words self.now.levels.now.top }
         requires spare { length spare.old ≡ cost_words self.now.levels.now.top }
-        ensures { AreNodeFaults self.now.graph.now self.now.skips.now self.now.words.now self.now.levels.now.costs self.now.groups (cost_words self.now.levels.now.top)
+        ensures { AreNodeFaults self.now.graph.now self.now.skips.now self.now.evidence.now self.now.levels.now.costs self.now.groups (cost_words self.now.levels.now.top)
             faults.new (length self.now.graph.now.nodes) }
     {
         let size = self.levels.size();
@@ -93,17 +93,17 @@ impl FaultPass<'_> {
         all: &mut [u32],
         spare: &mut [u32],
     )
-        requires are { AreNodeSets self.now.graph.now self.now.skips.now self.now.words.now self.now.levels.now.costs (cost_words self.now.levels.now.top)
+        requires are { AreNodeSets self.now.graph.now self.now.skips.now self.now.evidence.now self.now.levels.now.costs (cost_words self.now.levels.now.top)
             self.now.sets.now (length self.now.graph.now.nodes) }
         requires at { at < length self.now.graph.now.nodes }
         requires sets { length earlier.now ≡ at * cost_words self.now.levels.now.top }
-        requires earlier { AreNodeFaults self.now.graph.now self.now.skips.now self.now.words.now self.now.levels.now.costs self.now.groups
+        requires earlier { AreNodeFaults self.now.graph.now self.now.skips.now self.now.evidence.now self.now.levels.now.costs self.now.groups
             (cost_words self.now.levels.now.top) earlier.now at }
         requires set { length set.old ≡ cost_words self.now.levels.now.top }
         requires own { length own.old ≡ cost_words self.now.levels.now.top }
         requires all { length all.old ≡ cost_words self.now.levels.now.top }
         requires spare { length spare.old ≡ cost_words self.now.levels.now.top }
-        ensures { IsNodeFaults self.now.graph.now self.now.skips.now self.now.words.now self.now.levels.now.costs self.now.groups at set.new }
+        ensures { IsNodeFaults self.now.graph.now self.now.skips.now self.now.evidence.now self.now.levels.now.costs self.now.groups at set.new }
     {
         // Its contract says that this is a graph.
         let _vars = self.graph.vars();
@@ -126,11 +126,11 @@ impl FaultPass<'_> {
 
     // Whether a part is open and of the first group. There may be no such part.
     fn is_marked(&self, part: usize) -> bool
-        ensures marked { result ≡ in_first self.now.words.now self.now.levels.now.costs self.now.groups (part + 1) }
+        ensures marked { result ≡ in_first self.now.evidence.now self.now.levels.now.costs self.now.groups (part + 1) }
         ensures within { result ≡ true → part < length self.now.levels.now.costs }
     {
         if part >= self.levels.costs().len()
-            || !is_open(self.words[part])
+            || !is_open(self.evidence[part])
             || part < self.groups.low
         {
             return false;
@@ -141,7 +141,7 @@ impl FaultPass<'_> {
     // The set of a literal: a part that it says to be faulty is open.
     fn put_literal_faults(&self, var: u32, positive: bool, set: &mut [u32])
         requires var { 1 ≤ var }
-        ensures { IsFaultSet self.now.words.now self.now.levels.now.costs (in_first self.now.words.now self.now.levels.now.costs self.now.groups)
+        ensures { IsFaultSet self.now.evidence.now self.now.levels.now.costs (in_first self.now.evidence.now self.now.levels.now.costs self.now.groups)
             (λ a. same_bit positive (a var)) (λ v. var == v) set.new }
     {
         clear(set);
@@ -165,19 +165,19 @@ impl FaultPass<'_> {
         all: &mut [u32],
         spare: &mut [u32],
     )
-        requires are { AreNodeSets self.now.graph.now self.now.skips.now self.now.words.now self.now.levels.now.costs (cost_words self.now.levels.now.top)
+        requires are { AreNodeSets self.now.graph.now self.now.skips.now self.now.evidence.now self.now.levels.now.costs (cost_words self.now.levels.now.top)
             self.now.sets.now (length self.now.graph.now.nodes) }
         requires at { at < length self.now.graph.now.nodes }
         requires what { (node_at self.now.graph.now.nodes at).what ≡ And }
         requires lives { slice_index self.now.skips.now at ≡ 0 }
         requires sets { length earlier.now ≡ at * cost_words self.now.levels.now.top }
-        requires earlier { AreNodeFaults self.now.graph.now self.now.skips.now self.now.words.now self.now.levels.now.costs self.now.groups
+        requires earlier { AreNodeFaults self.now.graph.now self.now.skips.now self.now.evidence.now self.now.levels.now.costs self.now.groups
             (cost_words self.now.levels.now.top) earlier.now at }
         requires set { length set.old ≡ cost_words self.now.levels.now.top }
         requires other { length other.old ≡ cost_words self.now.levels.now.top }
         requires all { length all.old ≡ cost_words self.now.levels.now.top }
         requires spare { length spare.old ≡ cost_words self.now.levels.now.top }
-        ensures { IsNodeFaults self.now.graph.now self.now.skips.now self.now.words.now self.now.levels.now.costs self.now.groups at set.new }
+        ensures { IsNodeFaults self.now.graph.now self.now.skips.now self.now.evidence.now self.now.levels.now.costs self.now.groups at set.new }
     {
         // Its contract says that this is a graph.
         let _vars = self.graph.vars();
@@ -201,19 +201,19 @@ impl FaultPass<'_> {
         all: &mut [u32],
         spare: &mut [u32],
     )
-        requires are { AreNodeSets self.now.graph.now self.now.skips.now self.now.words.now self.now.levels.now.costs (cost_words self.now.levels.now.top)
+        requires are { AreNodeSets self.now.graph.now self.now.skips.now self.now.evidence.now self.now.levels.now.costs (cost_words self.now.levels.now.top)
             self.now.sets.now (length self.now.graph.now.nodes) }
         requires at { at < length self.now.graph.now.nodes }
         requires what { (node_at self.now.graph.now.nodes at).what ≡ Or }
         requires lives { slice_index self.now.skips.now at ≡ 0 }
         requires sets { length earlier.now ≡ at * cost_words self.now.levels.now.top }
-        requires earlier { AreNodeFaults self.now.graph.now self.now.skips.now self.now.words.now self.now.levels.now.costs self.now.groups
+        requires earlier { AreNodeFaults self.now.graph.now self.now.skips.now self.now.evidence.now self.now.levels.now.costs self.now.groups
             (cost_words self.now.levels.now.top) earlier.now at }
         requires set { length set.old ≡ cost_words self.now.levels.now.top }
         requires own { length own.old ≡ cost_words self.now.levels.now.top }
         requires all { length all.old ≡ cost_words self.now.levels.now.top }
         requires spare { length spare.old ≡ cost_words self.now.levels.now.top }
-        ensures { IsNodeFaults self.now.graph.now self.now.skips.now self.now.words.now self.now.levels.now.costs self.now.groups at set.new }
+        ensures { IsNodeFaults self.now.graph.now self.now.skips.now self.now.evidence.now self.now.levels.now.costs self.now.groups at set.new }
     {
         // Its contract says that this is a graph.
         let _vars = self.graph.vars();
@@ -245,9 +245,9 @@ impl FaultPass<'_> {
             → ArePartsOf (length self.now.levels.now.costs) some (set_at self.now.levels.now.below inner (part_words (length self.now.levels.now.costs)))
             → ArePartsOf (length self.now.levels.now.costs) more (set_at self.now.levels.now.below outer (part_words (length self.now.levels.now.costs)))
             → ((v : ℕ) → some v ≡ true → more v ≡ true)
-            → AreBothSets self.now.words.now self.now.levels.now.costs (in_first self.now.words.now self.now.levels.now.costs self.now.groups)
+            → AreBothSets self.now.evidence.now self.now.levels.now.costs (in_first self.now.evidence.now self.now.levels.now.costs self.now.groups)
             test some all.old faults.old
-            → AreBothSets self.now.words.now self.now.levels.now.costs (in_first self.now.words.now self.now.levels.now.costs self.now.groups)
+            → AreBothSets self.now.evidence.now self.now.levels.now.costs (in_first self.now.evidence.now self.now.levels.now.costs self.now.groups)
             test more all.new faults.new }
     {
         let parts = self.levels.costs().len();
@@ -267,12 +267,12 @@ impl FaultPass<'_> {
         requires faults { length faults.old ≡ length all.old }
         requires spare { length spare.old ≡ length all.old }
         ensures { (test : Assignment → Bool) (some : ℕ → Bool) → some (part + 1) ≡ false
-            → AreBothSets self.now.words.now self.now.levels.now.costs (in_first self.now.words.now self.now.levels.now.costs self.now.groups)
+            → AreBothSets self.now.evidence.now self.now.levels.now.costs (in_first self.now.evidence.now self.now.levels.now.costs self.now.groups)
             test some all.old faults.old
-            → AreBothSets self.now.words.now self.now.levels.now.costs (in_first self.now.words.now self.now.levels.now.costs self.now.groups)
+            → AreBothSets self.now.evidence.now self.now.levels.now.costs (in_first self.now.evidence.now self.now.levels.now.costs self.now.groups)
             test (λ v. some v || (part + 1 == v)) all.new faults.new }
     {
-        let word = self.words[part];
+        let word = self.evidence[part];
         let cost = self.levels.costs()[part];
         // The faults come first: they go by the costs without the part.
         add_part(word, cost, faults, spare);
@@ -298,11 +298,11 @@ fn put_both_sums(
     requires spare { length spare.old ≡ length set.old }
     requires own { length own.now ≡ length set.old }
     requires faults { length faults.now ≡ length set.old }
-    ensures { (words costs : List ℕ) (group : ℕ → Bool) (test more_test : Assignment → Bool) (some more : ℕ → Bool)
+    ensures { (evidence costs : List ℕ) (group : ℕ → Bool) (test more_test : Assignment → Bool) (some more : ℕ → Bool)
         → ((v : ℕ) → (some v && more v) ≡ false)
-        → AreBothSets words costs group test some all.old set.old
-        → AreBothSets words costs group more_test more own.now faults.now
-        → AreBothSets words costs group (λ a. test a && more_test a) (λ v. some v || more v) all.new set.new }
+        → AreBothSets evidence costs group test some all.old set.old
+        → AreBothSets evidence costs group more_test more own.now faults.now
+        → AreBothSets evidence costs group (λ a. test a && more_test a) (λ v. some v || more v) all.new set.new }
 {
     // The costs come last: both sums of the faults go by what they were.
     spare.copy_from_slice(set);

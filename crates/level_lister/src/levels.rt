@@ -1,6 +1,6 @@
 ghost use Rattle.std.specs.Prelude.{◌≡◌, ℕ, [], ◌+◌, ◌*◌, ◌^◌, ◌<◌, ◌≤◌, length, IfOk, All, Some, slice_index_or};
 ghost use Rattle.conditioner.specs.Models.{models, total_cost};
-ghost use Rattle.conditioner.specs.Words.{bits_of};
+ghost use Rattle.conditioner.specs.Evidence.{bits_of};
 ghost use Rattle.scratch_pool.specs.Regions.{free_words};
 ghost use Rattle.level_lister.specs.Listing.{IsFor, cost_words, step_words, fast_words, point_if, later_levels, level_step};
 ghost use Rattle.level_lister.specs.Passes.{AreEnough, most_passes, told_groups};
@@ -29,7 +29,7 @@ pub enum LevelStep {
     Found(u32),
     /// There are states, and none is later of those that are listed.
     End,
-    /// The words agree with no state.
+    /// The evidence agrees with no state.
     Inconsistent,
 }
 
@@ -128,33 +128,33 @@ impl Levels {
         self.costs.len() + nodes + (nodes + 2) * (2 * self.size())
     }
 
-    /// The next of the states that agree with the words, by cost and then in their order: the first one of all, or the first one
+    /// The next of the states that agree with the evidence, by cost and then in their order: the first one of all, or the first one
     /// after the state, if `pointed` says that it is a point. A point need not be listed. It is worked out in the region, of which no
     /// run is out. With fewer words than `room` says, it is slower.
     ///
-    /// The words are the same afterwards. If nothing is found the state stays.
+    /// The evidence is the same afterwards. If nothing is found the state stays.
     pub fn next(
         &self,
         graph: &Graph,
-        words: &mut [u32],
+        evidence: &mut [u32],
         region: &mut Region,
         state: &mut [u32],
         pointed: bool,
     ) -> LevelStep
         requires graph { IsFor graph.now self.now }
-        requires long { length words.old ≡ graph.now.vars }
-        requires words { All (λ w. w < 3) words.old }
+        requires long { length evidence.old ≡ graph.now.vars }
+        requires evidence { All (λ w. w < 3) evidence.old }
         requires state { length state.old ≡ length self.now.costs }
         requires state_words { All (λ s. s < 2) state.old }
         requires idle { region.old.runs ≡ [] }
         requires room { step_words graph.now self.now ≤ free_words region.old }
 
-        ensures step { result ≡ level_step self.now.costs (models graph.now words.old (length self.now.costs))
-            (later_levels graph.now words.old self.now (point_if pointed (bits_of state.old))) }
+        ensures step { result ≡ level_step self.now.costs (models graph.now evidence.old (length self.now.costs))
+            (later_levels graph.now evidence.old self.now (point_if pointed (bits_of state.old))) }
         ensures next { bits_of state.new ≡ slice_index_or
-            (later_levels graph.now words.old self.now (point_if pointed (bits_of state.old))) 0 (bits_of state.old) }
+            (later_levels graph.now evidence.old self.now (point_if pointed (bits_of state.old))) 0 (bits_of state.old) }
         ensures state { All (λ s. s < 2) state.new }
-        ensures words { words.new ≡ words.old }
+        ensures evidence { evidence.new ≡ evidence.old }
         ensures idle { region.new.runs ≡ [] }
         ensures free { length region.new.words ≡ length region.old.words }
     {
@@ -162,7 +162,7 @@ impl Levels {
         let step = self.next_alone::<Brand>(
             Blank::new(1),
             graph,
-            words,
+            evidence,
             region.run_mut(&run),
             state,
             pointed,
@@ -176,7 +176,7 @@ impl Levels {
         &self,
         blank: Blank,
         graph: &Graph,
-        words: &mut [u32],
+        evidence: &mut [u32],
         scratch: &mut [u32],
         state: &mut [u32],
         pointed: bool,
@@ -185,21 +185,21 @@ impl Levels {
         requires shares { blank.parts ≡ L.parts }
         requires some { 0 < blank.parts }
         requires graph { IsFor graph.now self.now }
-        requires long { length words.old ≡ graph.now.vars }
-        requires words { All (λ w. w < 3) words.old }
+        requires long { length evidence.old ≡ graph.now.vars }
+        requires evidence { All (λ w. w < 3) evidence.old }
         requires state { length state.old ≡ length self.now.costs }
         requires state_words { All (λ s. s < 2) state.old }
         requires room { step_words graph.now self.now ≤ length scratch.old }
-        ensures step { result ≡ level_step self.now.costs (models graph.now words.old (length self.now.costs))
-            (later_levels graph.now words.old self.now (point_if pointed (bits_of state.old))) }
+        ensures step { result ≡ level_step self.now.costs (models graph.now evidence.old (length self.now.costs))
+            (later_levels graph.now evidence.old self.now (point_if pointed (bits_of state.old))) }
         ensures next { bits_of state.new ≡ slice_index_or
-            (later_levels graph.now words.old self.now (point_if pointed (bits_of state.old))) 0 (bits_of state.old) }
+            (later_levels graph.now evidence.old self.now (point_if pointed (bits_of state.old))) 0 (bits_of state.old) }
         ensures state { All (λ s. s < 2) state.new }
-        ensures words { words.new ≡ words.old }
+        ensures evidence { evidence.new ≡ evidence.old }
     {
         self.next_in(
             graph,
-            words,
+            evidence,
             scratch,
             state,
             pointed,
@@ -213,25 +213,25 @@ impl Levels {
     pub fn next_in<L: Ledger>(
         &self,
         graph: &Graph,
-        words: &mut [u32],
+        evidence: &mut [u32],
         scratch: &mut [u32],
         state: &mut [u32],
         pointed: bool,
         steps: &mut Steps<L>,
     ) -> LevelStep
         requires graph { IsFor graph.now self.now }
-        requires long { length words.old ≡ graph.now.vars }
-        requires words { All (λ w. w < 3) words.old }
+        requires long { length evidence.old ≡ graph.now.vars }
+        requires evidence { All (λ w. w < 3) evidence.old }
         requires state { length state.old ≡ length self.now.costs }
         requires state_words { All (λ s. s < 2) state.old }
         requires room { step_words graph.now self.now ≤ length scratch.old }
 
-        ensures step { result ≡ level_step self.now.costs (models graph.now words.old (length self.now.costs))
-            (later_levels graph.now words.old self.now (point_if pointed (bits_of state.old))) }
+        ensures step { result ≡ level_step self.now.costs (models graph.now evidence.old (length self.now.costs))
+            (later_levels graph.now evidence.old self.now (point_if pointed (bits_of state.old))) }
         ensures next { bits_of state.new ≡ slice_index_or
-            (later_levels graph.now words.old self.now (point_if pointed (bits_of state.old))) 0 (bits_of state.old) }
+            (later_levels graph.now evidence.old self.now (point_if pointed (bits_of state.old))) 0 (bits_of state.old) }
         ensures state { All (λ s. s < 2) state.new }
-        ensures words { words.new ≡ words.old }
+        ensures evidence { evidence.new ≡ evidence.old }
 
         // How many passes are made at most, if there is room for the fast way.
         ensures steps { fast_words graph.now self.now ≤ length scratch.old
@@ -240,7 +240,7 @@ impl Levels {
     {
         let (saved, rest) = scratch.split_at_mut(self.costs().len());
         let (skips, work) = rest.split_at_mut(graph.len() as usize);
-        if !self.put_skips(graph, words, skips, work, steps) {
+        if !self.put_skips(graph, evidence, skips, work, steps) {
             return LevelStep::Inconsistent;
         }
         let search = Search {
@@ -248,12 +248,12 @@ impl Levels {
             graph,
             skips,
         };
-        keep(words, saved);
-        match search.find(words, saved, work, state, pointed, steps) {
+        keep(evidence, saved);
+        match search.find(evidence, saved, work, state, pointed, steps) {
             None => LevelStep::End,
             Some(cost) => {
-                read_state(words, state);
-                put_back(words, saved);
+                read_state(evidence, state);
+                put_back(evidence, saved);
                 LevelStep::Found(cost)
             }
         }

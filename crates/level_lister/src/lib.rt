@@ -1,4 +1,4 @@
-//! The health states that a graph allows under the words of its variables, by rising cost, one after the other.
+//! The health states that a graph allows under evidence, by rising cost, one after the other.
 #![tactic(auto)]
 
 mod bits;

@@ -43,18 +43,18 @@ fn pair_at(values: &[u32], k: usize) -> Pair
     }
 }
 
-// What a pass puts the words of the nodes from: a graph, words of its variables, groups, and which nodes are skipped.
+// What a pass puts the words of the nodes from: a graph, evidence, groups, and which nodes are skipped.
 #[derive(Drop)]
 struct PairPass<'a> {
     levels: &'a Levels,
     graph: &'a Graph,
     skips: &'a [u32],
-    words: &'a [u32],
+    evidence: &'a [u32],
     groups: Groups,
     ghost for_graph: { IsFor graph.now levels.now },
     ghost marks: { length skips.now ≡ length graph.now.nodes },
-    ghost long: { length words.now ≡ graph.now.vars },
-    ghost small: { All (λ w. w < 3) words.now },
+    ghost long: { length evidence.now ≡ graph.now.vars },
+    ghost small: { All (λ w. w < 3) evidence.now },
     ghost few: { levels.now.top < 32 },
     ghost some: { 0 < groups.size },
 }
@@ -77,13 +77,13 @@ impl Asked<'_> {
         requires top { self.now.levels.now.top < 32 }
         requires size { 0 < groups.size }
         requires room { 2 * length self.now.graph.now.nodes ≤ length values.old }
-        ensures { TellsWhole self.now.graph.now self.now.skips.now self.now.words.now self.now.levels.now.costs self.now.levels.now.top groups result }
+        ensures { TellsWhole self.now.graph.now self.now.skips.now self.now.evidence.now self.now.levels.now.costs self.now.levels.now.top groups result }
     {
         let pass = PairPass {
             levels: self.levels,
             graph: self.graph,
             skips: self.skips,
-            words: self.words,
+            evidence: self.evidence,
             groups,
         };
         pass.put_all(values)
@@ -92,11 +92,11 @@ impl Asked<'_> {
 
 impl PairPass<'_> {
     fn literal_pair(&self, var: u32, positive: bool) -> Pair
-        requires var { (1 ≤ var) × (var ≤ length self.now.words.now) }
-        ensures { Tells self.now.words.now self.now.levels.now.costs self.now.levels.now.top (group_count self.now.levels.now.top) (group_in self.now.words.now (length self.now.levels.now.costs) self.now.groups)
+        requires var { (1 ≤ var) × (var ≤ length self.now.evidence.now) }
+        ensures { Tells self.now.evidence.now self.now.levels.now.costs self.now.levels.now.top (group_count self.now.levels.now.top) (group_in self.now.evidence.now (length self.now.levels.now.costs) self.now.groups)
             (λ a. same_bit positive (a var)) (λ v. var == v) result }
     {
-        match leaf(self.words, var, positive) {
+        match leaf(self.evidence, var, positive) {
             Leaf::False => NEVER,
             _ => if positive {
                 FREE
@@ -108,9 +108,9 @@ impl PairPass<'_> {
 
     // What is said if a part is faulty. There may be no such part: then it is another variable that is false.
     fn fault_pair(&self, part: usize) -> Pair
-        requires part { part < length self.now.words.now }
-        requires allowed { agrees_at (known_at self.now.words.now (part + 1)) false ≡ true }
-        ensures { Tells self.now.words.now self.now.levels.now.costs self.now.levels.now.top (group_count self.now.levels.now.top) (group_in self.now.words.now (length self.now.levels.now.costs) self.now.groups)
+        requires part { part < length self.now.evidence.now }
+        requires allowed { agrees_at (known_at self.now.evidence.now (part + 1)) false ≡ true }
+        ensures { Tells self.now.evidence.now self.now.levels.now.costs self.now.levels.now.top (group_count self.now.levels.now.top) (group_in self.now.evidence.now (length self.now.levels.now.costs) self.now.groups)
             (λ a. same_bit false (a (part + 1))) (λ v. part + 1 == v) result }
     {
         let costs = self.levels.costs();
@@ -127,9 +127,9 @@ impl PairPass<'_> {
     fn mark(&self, part: usize, cost: u32) -> u32
         requires part { part < length self.now.levels.now.costs }
         ensures { (n g : ℕ) → n ≤ self.now.levels.now.top → g < group_count self.now.levels.now.top → has_bit result (group_count self.now.levels.now.top * n + g)
-            ≡ ((n == cost) && group_in self.now.words.now (length self.now.levels.now.costs) self.now.groups g (part + 1)) }
+            ≡ ((n == cost) && group_in self.now.evidence.now (length self.now.levels.now.costs) self.now.groups g (part + 1)) }
     {
-        if !is_open(self.words[part]) || cost > self.levels.top() || part < self.groups.low {
+        if !is_open(self.evidence[part]) || cost > self.levels.top() || part < self.groups.low {
             return 0;
         }
         let count = self.levels.group_count();
@@ -143,10 +143,10 @@ impl PairPass<'_> {
     // What is said of a part about which nothing is asked.
     fn free_pair(&self, part: usize) -> Pair
         requires part { part < length self.now.levels.now.costs }
-        ensures { Tells self.now.words.now self.now.levels.now.costs self.now.levels.now.top (group_count self.now.levels.now.top) (group_in self.now.words.now (length self.now.levels.now.costs) self.now.groups)
+        ensures { Tells self.now.evidence.now self.now.levels.now.costs self.now.levels.now.top (group_count self.now.levels.now.top) (group_in self.now.evidence.now (length self.now.levels.now.costs) self.now.groups)
             (λ a. true) (λ v. part + 1 == v) result }
     {
-        match known_of(self.words[part]) {
+        match known_of(self.evidence[part]) {
             Some(true) => FREE,
             Some(false) => self.fault_pair(part),
             None => either(FREE, self.fault_pair(part)),
@@ -161,8 +161,8 @@ impl PairPass<'_> {
             → ArePartsOf (length self.now.levels.now.costs) some (set_at self.now.levels.now.below inner (part_words (length self.now.levels.now.costs)))
             → ArePartsOf (length self.now.levels.now.costs) more (set_at self.now.levels.now.below outer (part_words (length self.now.levels.now.costs)))
             → ((v : ℕ) → some v ≡ true → more v ≡ true)
-            → Tells self.now.words.now self.now.levels.now.costs self.now.levels.now.top (group_count self.now.levels.now.top) (group_in self.now.words.now (length self.now.levels.now.costs) self.now.groups) test some pair
-            → Tells self.now.words.now self.now.levels.now.costs self.now.levels.now.top (group_count self.now.levels.now.top) (group_in self.now.words.now (length self.now.levels.now.costs) self.now.groups) test more result }
+            → Tells self.now.evidence.now self.now.levels.now.costs self.now.levels.now.top (group_count self.now.levels.now.top) (group_in self.now.evidence.now (length self.now.levels.now.costs) self.now.groups) test some pair
+            → Tells self.now.evidence.now self.now.levels.now.costs self.now.levels.now.top (group_count self.now.levels.now.top) (group_in self.now.evidence.now (length self.now.levels.now.costs) self.now.groups) test more result }
     {
         let parts = self.levels.costs().len();
         let below = set_at(self.levels.below(), outer, part_words(parts));
@@ -180,7 +180,7 @@ impl PairPass<'_> {
     // Puts the two words of each node, and gives those of all parts.
     fn put_all(&self, values: &mut [u32]) -> Pair
         requires room { 2 * length self.now.graph.now.nodes ≤ length values.old }
-        ensures { TellsWhole self.now.graph.now self.now.skips.now self.now.words.now self.now.levels.now.costs self.now.levels.now.top self.now.groups result }
+        ensures { TellsWhole self.now.graph.now self.now.skips.now self.now.evidence.now self.now.levels.now.costs self.now.levels.now.top self.now.groups result }
     {
         for at in 0..self.graph.len() {
             let pair = self.node_pair(values, at);
@@ -199,8 +199,8 @@ impl PairPass<'_> {
     fn node_pair(&self, values: &[u32], at: u32) -> Pair
         requires at { at < length self.now.graph.now.nodes }
         requires room { 2 * length self.now.graph.now.nodes ≤ length values.now }
-        requires earlier { TellNodes self.now.graph.now self.now.skips.now self.now.words.now self.now.levels.now.costs self.now.levels.now.top self.now.groups values.now at }
-        ensures { TellsNode self.now.graph.now self.now.skips.now self.now.words.now self.now.levels.now.costs self.now.levels.now.top self.now.groups at result }
+        requires earlier { TellNodes self.now.graph.now self.now.skips.now self.now.evidence.now self.now.levels.now.costs self.now.levels.now.top self.now.groups values.now at }
+        ensures { TellsNode self.now.graph.now self.now.skips.now self.now.evidence.now self.now.levels.now.costs self.now.levels.now.top self.now.groups at result }
     {
         // Its contract says that this is a graph.
         let _vars = self.graph.vars();
@@ -225,9 +225,9 @@ impl PairPass<'_> {
         requires what { (node_at self.now.graph.now.nodes at).what ≡ And }
         requires lives { slice_index self.now.skips.now at ≡ 0 }
         requires room { 2 * length self.now.graph.now.nodes ≤ length values.now }
-        ensures { (words : List ℕ) (groups : Groups)
-            → TellNodes self.now.graph.now self.now.skips.now words self.now.levels.now.costs self.now.levels.now.top groups values.now at
-            → TellsNode self.now.graph.now self.now.skips.now words self.now.levels.now.costs self.now.levels.now.top groups at result }
+        ensures { (evidence : List ℕ) (groups : Groups)
+            → TellNodes self.now.graph.now self.now.skips.now evidence self.now.levels.now.costs self.now.levels.now.top groups values.now at
+            → TellsNode self.now.graph.now self.now.skips.now evidence self.now.levels.now.costs self.now.levels.now.top groups at result }
     {
         // Its contract says that this is a graph.
         let _vars = self.graph.vars();
@@ -251,9 +251,9 @@ impl PairPass<'_> {
         requires lives { slice_index self.now.skips.now at ≡ 0 }
         requires same { SameBelow self.now.graph.now (length self.now.levels.now.costs) at }
         requires room { 2 * length self.now.graph.now.nodes ≤ length values.now }
-        ensures { (words : List ℕ) (groups : Groups)
-            → TellNodes self.now.graph.now self.now.skips.now words self.now.levels.now.costs self.now.levels.now.top groups values.now at
-            → TellsNode self.now.graph.now self.now.skips.now words self.now.levels.now.costs self.now.levels.now.top groups at result }
+        ensures { (evidence : List ℕ) (groups : Groups)
+            → TellNodes self.now.graph.now self.now.skips.now evidence self.now.levels.now.costs self.now.levels.now.top groups values.now at
+            → TellsNode self.now.graph.now self.now.skips.now evidence self.now.levels.now.costs self.now.levels.now.top groups at result }
     {
         // Its contract says that this is a graph.
         let _vars = self.graph.vars();
@@ -270,8 +270,8 @@ impl PairPass<'_> {
         requires what { (node_at self.now.graph.now.nodes at).what ≡ Or }
         requires lives { slice_index self.now.skips.now at ≡ 0 }
         requires room { 2 * length self.now.graph.now.nodes ≤ length values.now }
-        requires earlier { TellNodes self.now.graph.now self.now.skips.now self.now.words.now self.now.levels.now.costs self.now.levels.now.top self.now.groups values.now at }
-        ensures { TellsNode self.now.graph.now self.now.skips.now self.now.words.now self.now.levels.now.costs self.now.levels.now.top self.now.groups at result }
+        requires earlier { TellNodes self.now.graph.now self.now.skips.now self.now.evidence.now self.now.levels.now.costs self.now.levels.now.top self.now.groups values.now at }
+        ensures { TellsNode self.now.graph.now self.now.skips.now self.now.evidence.now self.now.levels.now.costs self.now.levels.now.top self.now.groups at result }
     {
         // Its contract says that this is a graph.
         let _vars = self.graph.vars();

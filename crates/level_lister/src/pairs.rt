@@ -63,10 +63,10 @@ pub(crate) fn joined(left: Pair, right: Pair, step: u32, count: u32) -> Pair
     requires step { 0 < step }
     requires count { 0 < count }
     requires room { step * count ≤ 32 }
-    ensures { (words costs : List ℕ) (top groups : ℕ) (group : ℕ → ℕ → Bool) (test other : Assignment → Bool) (some more : ℕ → Bool)
+    ensures { (evidence costs : List ℕ) (top groups : ℕ) (group : ℕ → ℕ → Bool) (test other : Assignment → Bool) (some more : ℕ → Bool)
         → step ≡ groups → count ≡ top + 1 → ((v : ℕ) → (some v && more v) ≡ false)
-        → Tells words costs top groups group test some left → Tells words costs top groups group other more right
-        → Tells words costs top groups group (λ a. test a && other a) (λ v. some v || more v) result }
+        → Tells evidence costs top groups group test some left → Tells evidence costs top groups group other more right
+        → Tells evidence costs top groups group (λ a. test a && other a) (λ v. some v || more v) result }
 {
     Pair {
         costs: spread(left.costs, right.costs, 1, count),
@@ -77,9 +77,9 @@ pub(crate) fn joined(left: Pair, right: Pair, step: u32, count: u32) -> Pair
 
 // What is said of one of two tests.
 pub(crate) fn either(left: Pair, right: Pair) -> Pair
-    ensures { (words costs : List ℕ) (top step : ℕ) (group : ℕ → ℕ → Bool) (test other : Assignment → Bool) (some : ℕ → Bool)
-        → Tells words costs top step group test some left → Tells words costs top step group other some right
-        → Tells words costs top step group (λ a. test a || other a) some result }
+    ensures { (evidence costs : List ℕ) (top step : ℕ) (group : ℕ → ℕ → Bool) (test other : Assignment → Bool) (some : ℕ → Bool)
+        → Tells evidence costs top step group test some left → Tells evidence costs top step group other some right
+        → Tells evidence costs top step group (λ a. test a || other a) some result }
 {
     Pair {
         costs: left.costs | right.costs,

@@ -24,7 +24,7 @@ impl Asked<'_> {
         requires room { length whole.old ≤ SET_LIMIT }
         requires sets { length sets.old ≡ length self.now.graph.now.nodes * length whole.old }
         requires spare { length spare.old ≡ length whole.old }
-        ensures { IsWholeSet self.now.graph.now self.now.skips.now self.now.words.now self.now.levels.now.costs whole.new }
+        ensures { IsWholeSet self.now.graph.now self.now.skips.now self.now.evidence.now self.now.levels.now.costs whole.new }
     {
         self.put_sets(sets, whole, spare);
         let root = self.graph.len() as usize - 1;
@@ -38,7 +38,7 @@ impl Asked<'_> {
         widen(
             set_at(below, root + 1, size),
             set_at(below, root, size),
-            self.words,
+            self.evidence,
             costs,
             whole,
             spare,
@@ -50,7 +50,7 @@ impl Asked<'_> {
         requires room { length spare.old ≤ SET_LIMIT }
         requires sets { length sets.old ≡ length self.now.graph.now.nodes * length spare.old }
         requires other { length other.old ≡ length spare.old }
-        ensures { AreNodeSets self.now.graph.now self.now.skips.now self.now.words.now self.now.levels.now.costs (length spare.old) sets.new (length self.now.graph.now.nodes) }
+        ensures { AreNodeSets self.now.graph.now self.now.skips.now self.now.evidence.now self.now.levels.now.costs (length spare.old) sets.new (length self.now.graph.now.nodes) }
     {
         let size = spare.len();
         for at in 0..self.graph.len() {
@@ -65,10 +65,10 @@ impl Asked<'_> {
         requires room { length set.old ≤ SET_LIMIT }
         requires at { at < length self.now.graph.now.nodes }
         requires sets { length sets.now ≡ at * length set.old }
-        requires earlier { AreNodeSets self.now.graph.now self.now.skips.now self.now.words.now self.now.levels.now.costs (length set.old) sets.now at }
+        requires earlier { AreNodeSets self.now.graph.now self.now.skips.now self.now.evidence.now self.now.levels.now.costs (length set.old) sets.now at }
         requires spare { length spare.old ≡ length set.old }
         requires other { length other.old ≡ length set.old }
-        ensures { IsNodeSet self.now.graph.now self.now.skips.now self.now.words.now self.now.levels.now.costs at set.new }
+        ensures { IsNodeSet self.now.graph.now self.now.skips.now self.now.evidence.now self.now.levels.now.costs at set.new }
     {
         // Its contract says that this is a graph.
         let _vars = self.graph.vars();
@@ -79,7 +79,7 @@ impl Asked<'_> {
         match self.graph.what(at) {
             NodeKind::Literal { var, positive } => {
                 put_literal(
-                    leaf(self.words, var, positive),
+                    leaf(self.evidence, var, positive),
                     positive,
                     part_cost(var, self.levels.costs()),
                     set,
@@ -104,8 +104,8 @@ impl Asked<'_> {
         requires lives { slice_index self.now.skips.now at ≡ 0 }
         requires sets { length sets.now ≡ at * length set.old }
         requires spare { length spare.old ≡ length set.old }
-        ensures { (words costs : List ℕ) → AreNodeSets self.now.graph.now self.now.skips.now words costs (length set.old) sets.now at
-            → IsNodeSet self.now.graph.now self.now.skips.now words costs at set.new }
+        ensures { (evidence costs : List ℕ) → AreNodeSets self.now.graph.now self.now.skips.now evidence costs (length set.old) sets.now at
+            → IsNodeSet self.now.graph.now self.now.skips.now evidence costs at set.new }
     {
         // Its contract says that this is a graph.
         let _vars = self.graph.vars();
@@ -123,10 +123,10 @@ impl Asked<'_> {
         requires what { (node_at self.now.graph.now.nodes at).what ≡ Or }
         requires lives { slice_index self.now.skips.now at ≡ 0 }
         requires sets { length sets.now ≡ at * length set.old }
-        requires earlier { AreNodeSets self.now.graph.now self.now.skips.now self.now.words.now self.now.levels.now.costs (length set.old) sets.now at }
+        requires earlier { AreNodeSets self.now.graph.now self.now.skips.now self.now.evidence.now self.now.levels.now.costs (length set.old) sets.now at }
         requires spare { length spare.old ≡ length set.old }
         requires other { length other.old ≡ length set.old }
-        ensures { IsNodeSet self.now.graph.now self.now.skips.now self.now.words.now self.now.levels.now.costs at set.new }
+        ensures { IsNodeSet self.now.graph.now self.now.skips.now self.now.evidence.now self.now.levels.now.costs at set.new }
     {
         // Its contract says that this is a graph.
         let _vars = self.graph.vars();
@@ -141,7 +141,7 @@ impl Asked<'_> {
             widen(
                 own,
                 set_at(below, *child as usize, parts),
-                self.words,
+                self.evidence,
                 costs,
                 spare,
                 other,
@@ -156,10 +156,10 @@ pub(crate) fn put_full(graph: &Graph, sets: &[u32], at: u32, set: &mut [u32])
     requires at { at < length graph.now.nodes }
     requires what { (node_at graph.now.nodes at).what ≡ Or }
     requires sets { length sets.now ≡ at * length set.old }
-    ensures all { (skips words costs : List ℕ) → slice_index skips at ≡ 0 → SameBelow graph.now (length costs) at
-        → AreNodeSets graph.now skips words costs (length set.old) sets.now at → IsNodeSet graph.now skips words costs at set.new }
-    ensures faulty { (skips words costs : List ℕ) (groups : Groups) → slice_index skips at ≡ 0 → SameBelow graph.now (length costs) at
-        → AreNodeFaults graph.now skips words costs groups (length set.old) sets.now at → IsNodeFaults graph.now skips words costs groups at set.new }
+    ensures all { (skips evidence costs : List ℕ) → slice_index skips at ≡ 0 → SameBelow graph.now (length costs) at
+        → AreNodeSets graph.now skips evidence costs (length set.old) sets.now at → IsNodeSet graph.now skips evidence costs at set.new }
+    ensures faulty { (skips evidence costs : List ℕ) (groups : Groups) → slice_index skips at ≡ 0 → SameBelow graph.now (length costs) at
+        → AreNodeFaults graph.now skips evidence costs groups (length set.old) sets.now at → IsNodeFaults graph.now skips evidence costs groups at set.new }
 {
     // Its contract says that this is a graph.
     let _vars = graph.vars();

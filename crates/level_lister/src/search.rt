@@ -1,6 +1,6 @@
 //! The search for the next state.
 ghost use Rattle.std.specs.Prelude.{◌≡◌, ℕ, ◌+◌, ◌*◌, ◌<◌, ◌≤◌, length, All, Some, MatchOption, slice_index};
-ghost use Rattle.conditioner.specs.Words.{bits_of};
+ghost use Rattle.conditioner.specs.Evidence.{bits_of};
 ghost use Rattle.diagnosis_lister.specs.Listing.{fault_count};
 ghost use Rattle.diagnosis_lister.specs.inner.Fixing.{fixed_bits};
 ghost use Rattle.level_lister.specs.Listing.{IsFor, cost_words, point_if};
@@ -24,117 +24,117 @@ pub(crate) struct Search<'a> {
     ghost marks: { length skips.now ≡ length graph.now.nodes },
 }
 
-// The same under words of the variables, which all passes go by.
+// The same under evidence, which all passes go by.
 #[derive(Clone, Copy)]
 pub(crate) struct Asked<'a> {
     pub(crate) levels: &'a Levels,
     pub(crate) graph: &'a Graph,
     pub(crate) skips: &'a [u32],
-    pub(crate) words: &'a [u32],
+    pub(crate) evidence: &'a [u32],
     ghost for_graph: { IsFor graph.now levels.now },
     ghost marks: { length skips.now ≡ length graph.now.nodes },
-    ghost long: { length words.now ≡ graph.now.vars },
-    ghost small: { All (λ w. w < 3) words.now },
-    ghost enough: { IsEnough graph.now skips.now words.now levels.now.costs levels.now.top },
+    ghost long: { length evidence.now ≡ graph.now.vars },
+    ghost small: { All (λ w. w < 3) evidence.now },
+    ghost enough: { IsEnough graph.now skips.now evidence.now levels.now.costs levels.now.top },
 }
 
 impl Search<'_> {
     // Fixes the parts as the next state has them, if there is one; what it costs.
     pub(crate) fn find<L: Ledger>(
         &self,
-        words: &mut [u32],
+        evidence: &mut [u32],
         saved: &[u32],
         work: &mut [u32],
         state: &[u32],
         pointed: bool,
         steps: &mut Steps<L>,
     ) -> Option<u32>
-        requires long { length words.old ≡ self.now.graph.now.vars }
-        requires words { All (λ w. w < 3) words.old }
-        requires enough { IsEnough self.now.graph.now self.now.skips.now words.old self.now.levels.now.costs self.now.levels.now.top }
+        requires long { length evidence.old ≡ self.now.graph.now.vars }
+        requires evidence { All (λ w. w < 3) evidence.old }
+        requires enough { IsEnough self.now.graph.now self.now.skips.now evidence.old self.now.levels.now.costs self.now.levels.now.top }
         requires saved { length saved.now ≡ length self.now.levels.now.costs }
-        requires same { (k : ℕ) → k < length self.now.levels.now.costs → slice_index saved.now k ≡ slice_index words.old k }
+        requires same { (k : ℕ) → k < length self.now.levels.now.costs → slice_index saved.now k ≡ slice_index evidence.old k }
         requires work { (length self.now.graph.now.nodes + 2) * cost_words self.now.levels.now.top ≤ length work.old }
         requires state { length state.now ≡ length self.now.levels.now.costs }
-        ensures found { FindsNext self.now.graph.now words.old self.now.levels.now (point_if pointed (bits_of state.now)) words.new result }
+        ensures found { FindsNext self.now.graph.now evidence.old self.now.levels.now (point_if pointed (bits_of state.now)) evidence.new result }
         ensures steps { MatchOption result (steps.new ≤ steps.old + (point_faults (point_if pointed (bits_of state.now)) + 1))
             (λ _. (length self.now.graph.now.nodes + 2) * (2 * cost_words self.now.levels.now.top) ≤ length work.old
             → (search : ℕ) → AreEnough (length self.now.levels.now.costs) self.now.levels.now.top search → steps.new ≤ steps.old
             + (point_faults (point_if pointed (bits_of state.now)) + 1
-            + fixing_passes search (fixed_bits (length self.now.levels.now.costs) words.new))) }
+            + fixing_passes search (fixed_bits (length self.now.levels.now.costs) evidence.new))) }
     {
         if pointed {
-            self.find_after(words, saved, work, state, steps)
+            self.find_after(evidence, saved, work, state, steps)
         } else {
-            self.find_from(words, work, 0, steps)
+            self.find_from(evidence, work, 0, steps)
         }
     }
 
     // The first state after another.
     fn find_after<L: Ledger>(
         &self,
-        words: &mut [u32],
+        evidence: &mut [u32],
         saved: &[u32],
         work: &mut [u32],
         state: &[u32],
         steps: &mut Steps<L>,
     ) -> Option<u32>
-        requires long { length words.old ≡ self.now.graph.now.vars }
-        requires words { All (λ w. w < 3) words.old }
-        requires enough { IsEnough self.now.graph.now self.now.skips.now words.old self.now.levels.now.costs self.now.levels.now.top }
+        requires long { length evidence.old ≡ self.now.graph.now.vars }
+        requires evidence { All (λ w. w < 3) evidence.old }
+        requires enough { IsEnough self.now.graph.now self.now.skips.now evidence.old self.now.levels.now.costs self.now.levels.now.top }
         requires saved { length saved.now ≡ length self.now.levels.now.costs }
-        requires same { (k : ℕ) → k < length self.now.levels.now.costs → slice_index saved.now k ≡ slice_index words.old k }
+        requires same { (k : ℕ) → k < length self.now.levels.now.costs → slice_index saved.now k ≡ slice_index evidence.old k }
         requires work { (length self.now.graph.now.nodes + 2) * cost_words self.now.levels.now.top ≤ length work.old }
         requires state { length state.now ≡ length self.now.levels.now.costs }
-        ensures found { FindsNext self.now.graph.now words.old self.now.levels.now (Some (bits_of state.now)) words.new result }
+        ensures found { FindsNext self.now.graph.now evidence.old self.now.levels.now (Some (bits_of state.now)) evidence.new result }
         ensures steps { MatchOption result (steps.new ≤ steps.old + (fault_count (bits_of state.now) + 1))
             (λ _. (length self.now.graph.now.nodes + 2) * (2 * cost_words self.now.levels.now.top) ≤ length work.old
             → (search : ℕ) → AreEnough (length self.now.levels.now.costs) self.now.levels.now.top search → steps.new ≤ steps.old
             + (fault_count (bits_of state.now) + 1
-            + fixing_passes search (fixed_bits (length self.now.levels.now.costs) words.new))) }
+            + fixing_passes search (fixed_bits (length self.now.levels.now.costs) evidence.new))) }
     {
         let own = state_cost(state, self.levels.costs());
         let top = self.levels.top();
         if own > top {
             return None;
         }
-        match self.leave(words, saved, work, state, own, steps) {
+        match self.leave(evidence, saved, work, state, own, steps) {
             Some(part) => {
-                self.settle(words, work, own, part + 1, steps);
+                self.settle(evidence, work, own, part + 1, steps);
                 Some(own)
             }
-            None => self.find_from(words, work, own + 1, steps),
+            None => self.find_from(evidence, work, own + 1, steps),
         }
     }
 
     // The first of the states whose cost is at least so much.
     fn find_from<L: Ledger>(
         &self,
-        words: &mut [u32],
+        evidence: &mut [u32],
         work: &mut [u32],
         from: u32,
         steps: &mut Steps<L>,
     ) -> Option<u32>
-        requires long { length words.old ≡ self.now.graph.now.vars }
-        requires words { All (λ w. w < 3) words.old }
-        requires enough { IsEnough self.now.graph.now self.now.skips.now words.old self.now.levels.now.costs self.now.levels.now.top }
+        requires long { length evidence.old ≡ self.now.graph.now.vars }
+        requires evidence { All (λ w. w < 3) evidence.old }
+        requires enough { IsEnough self.now.graph.now self.now.skips.now evidence.old self.now.levels.now.costs self.now.levels.now.top }
         requires work { (length self.now.graph.now.nodes + 2) * cost_words self.now.levels.now.top ≤ length work.old }
-        ensures found { FindsFirst self.now.graph.now words.old self.now.levels.now from words.new result }
+        ensures found { FindsFirst self.now.graph.now evidence.old self.now.levels.now from evidence.new result }
         ensures steps { MatchOption result (steps.new ≤ steps.old + 1)
             (λ _. (length self.now.graph.now.nodes + 2) * (2 * cost_words self.now.levels.now.top) ≤ length work.old
             → (search : ℕ) → AreEnough (length self.now.levels.now.costs) self.now.levels.now.top search → steps.new ≤ steps.old
-            + (1 + fixing_passes search (fixed_bits (length self.now.levels.now.costs) words.new))) }
+            + (1 + fixing_passes search (fixed_bits (length self.now.levels.now.costs) evidence.new))) }
     {
         let asked = Asked {
             levels: self.levels,
             graph: self.graph,
             skips: self.skips,
-            words,
+            evidence,
         };
         match asked.next_cost(work, from, steps) {
             None => None,
             Some(cost) => {
-                self.settle(words, work, cost, 0, steps);
+                self.settle(evidence, work, cost, 0, steps);
                 Some(cost)
             }
         }

@@ -14,10 +14,10 @@ use std::sync::ledger::Ledger;
 
 impl Asked<'_> {
     // Puts the sets of the costs of all nodes at the front of the work, where costs of 32 and more are listed, by one pass. While the
-    // words are the same, each pass that looks for a fault goes by them.
+    // evidence is the same, each pass that looks for a fault goes by them.
     fn prepare<L: Ledger>(&self, work: &mut [u32], steps: &mut Steps<L>)
         requires work { length work.old ≡ (length self.now.graph.now.nodes + 2) * (2 * cost_words self.now.levels.now.top) }
-        ensures ready { AreReady self.now.graph.now self.now.skips.now self.now.words.now self.now.levels.now work.new }
+        ensures ready { AreReady self.now.graph.now self.now.skips.now self.now.evidence.now self.now.levels.now work.new }
         ensures steps { steps.new ≡ steps.old + first_passes self.now.levels.now.top }
     {
         if self.levels.top() < 32 {
@@ -37,12 +37,12 @@ impl Asked<'_> {
         requires size { 0 < groups.size }
         requires work { length work.old ≡ (length self.now.graph.now.nodes + 2) * (2 * cost_words self.now.levels.now.top) }
         requires cost { cost ≤ self.now.levels.now.top }
-        requires ready { AreReady self.now.graph.now self.now.skips.now self.now.words.now self.now.levels.now work.old }
+        requires ready { AreReady self.now.graph.now self.now.skips.now self.now.evidence.now self.now.levels.now work.old }
         ensures few { result ≤ told_groups self.now.levels.now.top }
         ensures found { result < told_groups self.now.levels.now.top
-            → FaultOf self.now.graph.now self.now.words.now self.now.levels.now.costs cost groups result }
-        ensures before { (g : ℕ) → g < result → FaultOf self.now.graph.now self.now.words.now self.now.levels.now.costs cost groups g → ⊥ }
-        ensures ready { AreReady self.now.graph.now self.now.skips.now self.now.words.now self.now.levels.now work.new }
+            → FaultOf self.now.graph.now self.now.evidence.now self.now.levels.now.costs cost groups result }
+        ensures before { (g : ℕ) → g < result → FaultOf self.now.graph.now self.now.evidence.now self.now.levels.now.costs cost groups g → ⊥ }
+        ensures ready { AreReady self.now.graph.now self.now.skips.now self.now.evidence.now self.now.levels.now work.new }
     {
         if self.levels.top() < 32 {
             self.faulty_group_by_pairs(work, cost, groups)
@@ -59,8 +59,8 @@ impl Asked<'_> {
         requires cost { cost ≤ self.now.levels.now.top }
         ensures few { result ≤ group_count self.now.levels.now.top }
         ensures found { result < group_count self.now.levels.now.top
-            → FaultOf self.now.graph.now self.now.words.now self.now.levels.now.costs cost groups result }
-        ensures before { (g : ℕ) → g < result → FaultOf self.now.graph.now self.now.words.now self.now.levels.now.costs cost groups g → ⊥ }
+            → FaultOf self.now.graph.now self.now.evidence.now self.now.levels.now.costs cost groups result }
+        ensures before { (g : ℕ) → g < result → FaultOf self.now.graph.now self.now.evidence.now self.now.levels.now.costs cost groups g → ⊥ }
     {
         // Its contract says that this is a graph.
         let _vars = self.graph.vars();
@@ -80,11 +80,11 @@ impl Asked<'_> {
         requires size { 0 < groups.size }
         requires work { length work.old ≡ (length self.now.graph.now.nodes + 2) * (2 * cost_words self.now.levels.now.top) }
         requires cost { cost ≤ self.now.levels.now.top }
-        requires sets { BeginWithSets self.now.graph.now self.now.skips.now self.now.words.now self.now.levels.now work.old }
+        requires sets { BeginWithSets self.now.graph.now self.now.skips.now self.now.evidence.now self.now.levels.now work.old }
         ensures few { result ≤ 1 }
-        ensures found { result < 1 → FaultOf self.now.graph.now self.now.words.now self.now.levels.now.costs cost groups result }
-        ensures before { (g : ℕ) → g < result → FaultOf self.now.graph.now self.now.words.now self.now.levels.now.costs cost groups g → ⊥ }
-        ensures sets { BeginWithSets self.now.graph.now self.now.skips.now self.now.words.now self.now.levels.now work.new }
+        ensures found { result < 1 → FaultOf self.now.graph.now self.now.evidence.now self.now.levels.now.costs cost groups result }
+        ensures before { (g : ℕ) → g < result → FaultOf self.now.graph.now self.now.evidence.now self.now.levels.now.costs cost groups g → ⊥ }
+        ensures sets { BeginWithSets self.now.graph.now self.now.skips.now self.now.evidence.now self.now.levels.now work.new }
     {
         let size = self.levels.size();
         let all = self.graph.len() as usize * size;
@@ -96,7 +96,7 @@ impl Asked<'_> {
         let pass = FaultPass {
             levels: self.levels,
             graph: self.graph,
-            words: self.words,
+            evidence: self.evidence,
             groups,
             sets,
             skips: self.skips,
@@ -121,9 +121,9 @@ impl Asked<'_> {
         requires work { length work.old ≡ (length self.now.graph.now.nodes + 2) * (2 * cost_words self.now.levels.now.top) }
         requires cost { cost ≤ self.now.levels.now.top }
         requires from { from ≤ length self.now.levels.now.costs }
-        ensures found { MatchOption result (OkAmong self.now.graph.now self.now.words.now self.now.levels.now.costs cost from (length self.now.levels.now.costs))
-            (λ part. (from ≤ part) × (FaultIn self.now.graph.now self.now.words.now self.now.levels.now.costs cost part
-            × OkAmong self.now.graph.now self.now.words.now self.now.levels.now.costs cost from part)) }
+        ensures found { MatchOption result (OkAmong self.now.graph.now self.now.evidence.now self.now.levels.now.costs cost from (length self.now.levels.now.costs))
+            (λ part. (from ≤ part) × (FaultIn self.now.graph.now self.now.evidence.now self.now.levels.now.costs cost part
+            × OkAmong self.now.graph.now self.now.evidence.now self.now.levels.now.costs cost from part)) }
         ensures steps { (search : ℕ) → AreEnough (length self.now.levels.now.costs) self.now.levels.now.top search → steps.new ≤ steps.old + search }
     {
         let parts = self.levels.costs().len();

@@ -1,6 +1,6 @@
 //! Parts that are fixed one after the other, so that one state of a cost is left.
 ghost use Rattle.std.specs.Prelude.{◌≡◌, ◌≢◌, ◌↔◌, ℕ, ◌+◌, ◌*◌, ◌<◌, ◌≤◌, true, length, All, IsTrue, MatchOption, slice_index};
-ghost use Rattle.conditioner.specs.Words.{bits_of};
+ghost use Rattle.conditioner.specs.Evidence.{bits_of};
 ghost use Rattle.diagnosis_lister.specs.Listing.{fault_count};
 ghost use Rattle.diagnosis_lister.specs.inner.Fixing.{IsFirst, NoneAfter, Leaves, fixed_bits};
 ghost use Rattle.part_sets.specs.Numbers.{has_number};
@@ -24,7 +24,7 @@ const NO_GROUPS: Groups = Groups {
 };
 
 impl Asked<'_> {
-    // Whether there are two words for each node, and two words say all that is listed of a node.
+    // Whether there are two words for each node, and they say all that is listed of a node.
     fn has_pairs(&self, work: &[u32]) -> bool
         ensures few { result ≡ true → self.now.levels.now.top < 32 }
         ensures room { result ≡ true → 2 * length self.now.graph.now.nodes ≤ length work.now }
@@ -32,12 +32,12 @@ impl Asked<'_> {
         self.levels.top() < 32 && 2 * self.graph.len() as usize <= work.len()
     }
 
-    // Puts the set of the costs of the states that agree with the words, up to the greatest cost that is listed.
+    // Puts the set of the costs of the states that agree with the evidence, up to the greatest cost that is listed.
     fn put_costs(&self, set: &mut [u32], work: &mut [u32])
         requires set { length set.old ≡ cost_words self.now.levels.now.top }
         requires work { (length self.now.graph.now.nodes + 1) * cost_words self.now.levels.now.top ≤ length work.old }
         ensures { (c : ℕ) → c ≤ self.now.levels.now.top
-            → (IsTrue (has_number set.new c) ↔ HasCost self.now.graph.now self.now.words.now self.now.levels.now.costs c) }
+            → (IsTrue (has_number set.new c) ↔ HasCost self.now.graph.now self.now.evidence.now self.now.levels.now.costs c) }
     {
         // Its contract says that this is a graph.
         let _vars = self.graph.vars();
@@ -52,11 +52,11 @@ impl Asked<'_> {
         self.put_whole(sets, set, spare);
     }
 
-    // Whether some state that agrees with the words has this cost. It takes one pass.
+    // Whether some state that agrees with the evidence has this cost. It takes one pass.
     fn reaches<L: Ledger>(&self, work: &mut [u32], cost: u32, steps: &mut Steps<L>) -> bool
         requires work { (length self.now.graph.now.nodes + 2) * cost_words self.now.levels.now.top ≤ length work.old }
         requires cost { cost ≤ self.now.levels.now.top }
-        ensures reached { IsTrue result ↔ HasCost self.now.graph.now self.now.words.now self.now.levels.now.costs cost }
+        ensures reached { IsTrue result ↔ HasCost self.now.graph.now self.now.evidence.now self.now.levels.now.costs cost }
         ensures steps { steps.new ≡ steps.old + 1 }
     {
         steps.tick();
@@ -65,7 +65,7 @@ impl Asked<'_> {
         has_number(set, cost as usize)
     }
 
-    // The least cost from one on up to the greatest that some state has which agrees with the words. It takes one pass.
+    // The least cost from one on up to the greatest that some state has that agrees with the evidence. It takes one pass.
     pub(crate) fn next_cost<L: Ledger>(
         &self,
         work: &mut [u32],
@@ -74,9 +74,9 @@ impl Asked<'_> {
     ) -> Option<u32>
         requires work { (length self.now.graph.now.nodes + 2) * cost_words self.now.levels.now.top ≤ length work.old }
         ensures next { MatchOption result
-            ((c : ℕ) → from ≤ c → c ≤ self.now.levels.now.top → HasCost self.now.graph.now self.now.words.now self.now.levels.now.costs c → ⊥)
-            (λ cost. (from ≤ cost) × (cost ≤ self.now.levels.now.top) × HasCost self.now.graph.now self.now.words.now self.now.levels.now.costs cost
-            × ((c : ℕ) → from ≤ c → c < cost → HasCost self.now.graph.now self.now.words.now self.now.levels.now.costs c → ⊥)) }
+            ((c : ℕ) → from ≤ c → c ≤ self.now.levels.now.top → HasCost self.now.graph.now self.now.evidence.now self.now.levels.now.costs c → ⊥)
+            (λ cost. (from ≤ cost) × (cost ≤ self.now.levels.now.top) × HasCost self.now.graph.now self.now.evidence.now self.now.levels.now.costs cost
+            × ((c : ℕ) → from ≤ c → c < cost → HasCost self.now.graph.now self.now.evidence.now self.now.levels.now.costs c → ⊥)) }
         ensures steps { steps.new ≡ steps.old + 1 }
     {
         steps.tick();
@@ -92,159 +92,159 @@ impl Asked<'_> {
 }
 
 impl Search<'_> {
-    // Fixes each open part from one on, so that only the first of the states of this cost is left that agree with the words.
+    // Fixes each open part from one on, so that only the first of the states of this cost is left that agree with the evidence.
     pub(crate) fn settle<L: Ledger>(
         &self,
-        words: &mut [u32],
+        evidence: &mut [u32],
         work: &mut [u32],
         cost: u32,
         from: usize,
         steps: &mut Steps<L>,
     )
-        requires long { length words.old ≡ self.now.graph.now.vars }
-        requires words { All (λ w. w < 3) words.old }
-        requires enough { IsEnough self.now.graph.now self.now.skips.now words.old self.now.levels.now.costs self.now.levels.now.top }
+        requires long { length evidence.old ≡ self.now.graph.now.vars }
+        requires evidence { All (λ w. w < 3) evidence.old }
+        requires enough { IsEnough self.now.graph.now self.now.skips.now evidence.old self.now.levels.now.costs self.now.levels.now.top }
         requires work { (length self.now.graph.now.nodes + 2) * cost_words self.now.levels.now.top ≤ length work.old }
         requires cost { cost ≤ self.now.levels.now.top }
         requires from { from ≤ length self.now.levels.now.costs }
-        requires front { (k : ℕ) → k < from → slice_index words.old k ≢ 0 }
-        requires some { HasCost self.now.graph.now words.old self.now.levels.now.costs cost }
-        ensures others { (k : ℕ) → length self.now.levels.now.costs ≤ k → slice_index words.new k ≡ slice_index words.old k }
-        ensures words { All (λ w. w < 3) words.new }
-        ensures first { IsFirst (OfCost self.now.graph.now words.old self.now.levels.now.costs cost)
-            (fixed_bits (length self.now.levels.now.costs) words.new) }
+        requires front { (k : ℕ) → k < from → slice_index evidence.old k ≢ 0 }
+        requires some { HasCost self.now.graph.now evidence.old self.now.levels.now.costs cost }
+        ensures others { (k : ℕ) → length self.now.levels.now.costs ≤ k → slice_index evidence.new k ≡ slice_index evidence.old k }
+        ensures evidence { All (λ w. w < 3) evidence.new }
+        ensures first { IsFirst (OfCost self.now.graph.now evidence.old self.now.levels.now.costs cost)
+            (fixed_bits (length self.now.levels.now.costs) evidence.new) }
         ensures steps { (length self.now.graph.now.nodes + 2) * (2 * cost_words self.now.levels.now.top) ≤ length work.old
             → (search : ℕ) → AreEnough (length self.now.levels.now.costs) self.now.levels.now.top search → steps.new ≤ steps.old
-            + fixing_passes search (fixed_bits (length self.now.levels.now.costs) words.new) }
+            + fixing_passes search (fixed_bits (length self.now.levels.now.costs) evidence.new) }
     {
         let wide = (self.graph.len() as usize + 2) * (2 * self.levels.size());
         if work.len() < wide {
-            self.settle_by_parts(words, work, cost, from, steps);
+            self.settle_by_parts(evidence, work, cost, from, steps);
         } else {
             let (work, _) = work.split_at_mut(wide);
-            self.settle_by_groups(words, work, cost, from, steps);
+            self.settle_by_groups(evidence, work, cost, from, steps);
         }
     }
 
     // The same: the next part that can be faulty is searched, and those before it are ok.
     fn settle_by_groups<L: Ledger>(
         &self,
-        words: &mut [u32],
+        evidence: &mut [u32],
         work: &mut [u32],
         cost: u32,
         from: usize,
         steps: &mut Steps<L>,
     )
-        requires long { length words.old ≡ self.now.graph.now.vars }
-        requires words { All (λ w. w < 3) words.old }
-        requires enough { IsEnough self.now.graph.now self.now.skips.now words.old self.now.levels.now.costs self.now.levels.now.top }
+        requires long { length evidence.old ≡ self.now.graph.now.vars }
+        requires evidence { All (λ w. w < 3) evidence.old }
+        requires enough { IsEnough self.now.graph.now self.now.skips.now evidence.old self.now.levels.now.costs self.now.levels.now.top }
         requires work { length work.old ≡ (length self.now.graph.now.nodes + 2) * (2 * cost_words self.now.levels.now.top) }
         requires cost { cost ≤ self.now.levels.now.top }
         requires from { from ≤ length self.now.levels.now.costs }
-        requires front { (k : ℕ) → k < from → slice_index words.old k ≢ 0 }
-        requires some { HasCost self.now.graph.now words.old self.now.levels.now.costs cost }
-        ensures others { (k : ℕ) → length self.now.levels.now.costs ≤ k → slice_index words.new k ≡ slice_index words.old k }
-        ensures words { All (λ w. w < 3) words.new }
-        ensures first { IsFirst (OfCost self.now.graph.now words.old self.now.levels.now.costs cost)
-            (fixed_bits (length self.now.levels.now.costs) words.new) }
+        requires front { (k : ℕ) → k < from → slice_index evidence.old k ≢ 0 }
+        requires some { HasCost self.now.graph.now evidence.old self.now.levels.now.costs cost }
+        ensures others { (k : ℕ) → length self.now.levels.now.costs ≤ k → slice_index evidence.new k ≡ slice_index evidence.old k }
+        ensures evidence { All (λ w. w < 3) evidence.new }
+        ensures first { IsFirst (OfCost self.now.graph.now evidence.old self.now.levels.now.costs cost)
+            (fixed_bits (length self.now.levels.now.costs) evidence.new) }
         ensures steps { (search : ℕ) → AreEnough (length self.now.levels.now.costs) self.now.levels.now.top search → steps.new ≤ steps.old
-            + fixing_passes search (fixed_bits (length self.now.levels.now.costs) words.new) }
+            + fixing_passes search (fixed_bits (length self.now.levels.now.costs) evidence.new) }
     {
         let mut from = from;
         while let Some(part) = (Asked {
             levels: self.levels,
             graph: self.graph,
             skips: self.skips,
-            words,
+            evidence,
         })
         .first_faulty(work, cost, from, steps)
         {
-            fix_ok(words, from, part);
-            words[part] = 2;
+            fix_ok(evidence, from, part);
+            evidence[part] = 2;
             from = part + 1;
         }
-        fix_ok(words, from, self.levels.costs().len());
+        fix_ok(evidence, from, self.levels.costs().len());
     }
 
     // The same, for less room: each open part is fixed to faulty if that leaves a state, and else to ok. It takes a pass for each.
     fn settle_by_parts<L: Ledger>(
         &self,
-        words: &mut [u32],
+        evidence: &mut [u32],
         work: &mut [u32],
         cost: u32,
         from: usize,
         steps: &mut Steps<L>,
     )
-        requires long { length words.old ≡ self.now.graph.now.vars }
-        requires words { All (λ w. w < 3) words.old }
-        requires enough { IsEnough self.now.graph.now self.now.skips.now words.old self.now.levels.now.costs self.now.levels.now.top }
+        requires long { length evidence.old ≡ self.now.graph.now.vars }
+        requires evidence { All (λ w. w < 3) evidence.old }
+        requires enough { IsEnough self.now.graph.now self.now.skips.now evidence.old self.now.levels.now.costs self.now.levels.now.top }
         requires work { (length self.now.graph.now.nodes + 2) * cost_words self.now.levels.now.top ≤ length work.old }
         requires cost { cost ≤ self.now.levels.now.top }
         requires from { from ≤ length self.now.levels.now.costs }
-        requires front { (k : ℕ) → k < from → slice_index words.old k ≢ 0 }
-        requires some { HasCost self.now.graph.now words.old self.now.levels.now.costs cost }
-        ensures others { (k : ℕ) → length self.now.levels.now.costs ≤ k → slice_index words.new k ≡ slice_index words.old k }
-        ensures words { All (λ w. w < 3) words.new }
-        ensures first { IsFirst (OfCost self.now.graph.now words.old self.now.levels.now.costs cost)
-            (fixed_bits (length self.now.levels.now.costs) words.new) }
+        requires front { (k : ℕ) → k < from → slice_index evidence.old k ≢ 0 }
+        requires some { HasCost self.now.graph.now evidence.old self.now.levels.now.costs cost }
+        ensures others { (k : ℕ) → length self.now.levels.now.costs ≤ k → slice_index evidence.new k ≡ slice_index evidence.old k }
+        ensures evidence { All (λ w. w < 3) evidence.new }
+        ensures first { IsFirst (OfCost self.now.graph.now evidence.old self.now.levels.now.costs cost)
+            (fixed_bits (length self.now.levels.now.costs) evidence.new) }
     {
         for part in from..self.levels.costs().len() {
-            if is_open(words[part]) {
-                words[part] = 2;
+            if is_open(evidence[part]) {
+                evidence[part] = 2;
                 let asked = Asked {
                     levels: self.levels,
                     graph: self.graph,
                     skips: self.skips,
-                    words,
+                    evidence,
                 };
                 if !asked.reaches(work, cost, steps) {
-                    words[part] = 1;
+                    evidence[part] = 1;
                 }
             }
         }
     }
 
     // The last part at which a later state of this cost can leave a state: the same before it, ok if the state has faulty. The
-    // words are then fixed so far. It takes a pass for each part that is faulty in the state, at most.
+    // evidence is then fixed so far. It takes a pass for each part that is faulty in the state, at most.
     pub(crate) fn leave<L: Ledger>(
         &self,
-        words: &mut [u32],
+        evidence: &mut [u32],
         saved: &[u32],
         work: &mut [u32],
         state: &[u32],
         cost: u32,
         steps: &mut Steps<L>,
     ) -> Option<usize>
-        requires long { length words.old ≡ self.now.graph.now.vars }
-        requires words { All (λ w. w < 3) words.old }
-        requires enough { IsEnough self.now.graph.now self.now.skips.now words.old self.now.levels.now.costs self.now.levels.now.top }
+        requires long { length evidence.old ≡ self.now.graph.now.vars }
+        requires evidence { All (λ w. w < 3) evidence.old }
+        requires enough { IsEnough self.now.graph.now self.now.skips.now evidence.old self.now.levels.now.costs self.now.levels.now.top }
         requires saved { length saved.now ≡ length self.now.levels.now.costs }
-        requires same { (k : ℕ) → k < length self.now.levels.now.costs → slice_index saved.now k ≡ slice_index words.old k }
+        requires same { (k : ℕ) → k < length self.now.levels.now.costs → slice_index saved.now k ≡ slice_index evidence.old k }
         requires work { (length self.now.graph.now.nodes + 2) * cost_words self.now.levels.now.top ≤ length work.old }
         requires state { length state.now ≡ length self.now.levels.now.costs }
         requires cost { cost ≤ self.now.levels.now.top }
-        ensures words { All (λ w. w < 3) words.new }
+        ensures evidence { All (λ w. w < 3) evidence.new }
         ensures left { MatchOption result
-            ((words.new ≡ words.old) × NoneAfter (OfCost self.now.graph.now words.old self.now.levels.now.costs cost) (bits_of state.now) 0)
-            (λ part. Leaves (λ ws h. OfCost self.now.graph.now ws self.now.levels.now.costs cost h) words.old (bits_of state.now) words.new part) }
+            ((evidence.new ≡ evidence.old) × NoneAfter (OfCost self.now.graph.now evidence.old self.now.levels.now.costs cost) (bits_of state.now) 0)
+            (λ part. Leaves (λ ws h. OfCost self.now.graph.now ws self.now.levels.now.costs cost h) evidence.old (bits_of state.now) evidence.new part) }
         ensures steps { steps.new ≤ steps.old + fault_count (bits_of state.now) }
     {
-        let end = follow(words, state);
+        let end = follow(evidence, state);
         for part in (0..end).rev() {
             let word = saved[part];
             if is_faulty(state[part]) && !is_false(word) {
-                words[part] = 1;
+                evidence[part] = 1;
                 let asked = Asked {
                     levels: self.levels,
                     graph: self.graph,
                     skips: self.skips,
-                    words,
+                    evidence,
                 };
                 if asked.reaches(work, cost, steps) {
                     return Some(part);
                 }
             }
-            words[part] = word;
+            evidence[part] = word;
         }
         None
     }

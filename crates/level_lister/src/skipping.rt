@@ -12,28 +12,28 @@ use state_rules::NodeKind;
 use std::sync::ledger::Ledger;
 
 impl Levels {
-    // Whether some state agrees with the words. If so, the nodes are marked that the passes skip, under these words and under all that
+    // Whether some state agrees with the evidence. If so, the nodes are marked that the passes skip, under this evidence and under all that
     // fix more: of each derivation of the graph through them the open faulty parts alone cost more than what is listed.
     pub(crate) fn put_skips<L: Ledger>(
         &self,
         graph: &Graph,
-        words: &[u32],
+        evidence: &[u32],
         skips: &mut [u32],
         work: &mut [u32],
         steps: &mut Steps<L>,
     ) -> bool
         requires graph { IsFor graph.now self.now }
-        requires long { length words.now ≡ graph.now.vars }
-        requires words { All (λ w. w < 3) words.now }
+        requires long { length evidence.now ≡ graph.now.vars }
+        requires evidence { All (λ w. w < 3) evidence.now }
         requires skips { length skips.old ≡ length graph.now.nodes }
         requires work { length graph.now.nodes ≤ length work.old }
-        ensures none { result ≡ false → models graph.now words.now (length self.now.costs) ≡ [] }
-        ensures some { result ≡ true → models graph.now words.now (length self.now.costs) ≢ [] }
-        ensures enough { result ≡ true → IsEnough graph.now skips.new words.now self.now.costs self.now.top }
+        ensures none { result ≡ false → models graph.now evidence.now (length self.now.costs) ≡ [] }
+        ensures some { result ≡ true → models graph.now evidence.now (length self.now.costs) ≢ [] }
+        ensures enough { result ≡ true → IsEnough graph.now skips.new evidence.now self.now.costs self.now.top }
         ensures steps { steps.new ≡ steps.old + 1 }
     {
         let (values, _) = work.split_at_mut(graph.len() as usize);
-        if least(graph, words, self.costs(), values, steps).is_none() {
+        if least(graph, evidence, self.costs(), values, steps).is_none() {
             return false;
         }
         put_rests(graph, values, skips);

@@ -2,7 +2,7 @@
 ghost use Rattle.std.specs.Prelude.{◌≡◌, ◌+◌, ◌<◌, ◌≤◌, ◌++◌, drop, length, All};
 ghost use Rattle.state_rules.specs.Ranking.{cost};
 ghost use Rattle.conditioner.specs.Models.{total_cost};
-ghost use Rattle.conditioner.specs.Words.{bits_of};
+ghost use Rattle.conditioner.specs.Evidence.{bits_of};
 ghost use Rattle.diagnosis_lister.specs.inner.Fixing.{Agrees, Follows, fixed_bits};
 
 use conditioner::{is_false, is_faulty, is_open, word_of_known};
@@ -25,49 +25,49 @@ pub(crate) fn state_cost(state: &[u32], costs: &[u32]) -> u32
 }
 
 // Fixes the open parts as the state has them, up to the first part that is held otherwise; how many parts these are, with that one.
-pub(crate) fn follow(words: &mut [u32], state: &[u32]) -> usize
-    requires long { length state.now ≤ length words.old }
-    requires words { All (λ w. w < 3) words.old }
+pub(crate) fn follow(evidence: &mut [u32], state: &[u32]) -> usize
+    requires long { length state.now ≤ length evidence.old }
+    requires evidence { All (λ w. w < 3) evidence.old }
     ensures within { result ≤ length state.now }
-    ensures words { All (λ w. w < 3) words.new }
-    ensures follows { Follows (Agrees (length state.now) words.old) words.old (bits_of state.now) words.new result }
+    ensures evidence { All (λ w. w < 3) evidence.new }
+    ensures follows { Follows (Agrees (length state.now) evidence.old) evidence.old (bits_of state.now) evidence.new result }
 {
     for (part, faulty) in state.iter().enumerate() {
         let word = word_of_known(Some(!is_faulty(*faulty)));
-        if is_open(words[part]) {
-            words[part] = word;
-        } else if words[part] != word {
+        if is_open(evidence[part]) {
+            evidence[part] = word;
+        } else if evidence[part] != word {
             return part + 1;
         }
     }
     state.len()
 }
 
-// Writes what the words say of the parts into the state.
-pub(crate) fn read_state(words: &[u32], state: &mut [u32])
-    requires { length state.old ≤ length words.now }
-    ensures bits { bits_of state.new ≡ fixed_bits (length state.old) words.now }
+// Writes what the evidence says of the parts into the state.
+pub(crate) fn read_state(evidence: &[u32], state: &mut [u32])
+    requires { length state.old ≤ length evidence.now }
+    ensures bits { bits_of state.new ≡ fixed_bits (length state.old) evidence.now }
     ensures small { All (λ s. s < 2) state.new }
 {
     for (part, faulty) in state.iter_mut().enumerate() {
-        *faulty = u32::from(is_false(words[part]));
+        *faulty = u32::from(is_false(evidence[part]));
     }
 }
 
-// Keeps the words of the parts.
-pub(crate) fn keep(words: &[u32], saved: &mut [u32])
-    requires { length saved.old ≤ length words.now }
-    ensures { words.now ≡ saved.new ++ drop (length saved.old) words.now }
+// Keeps the evidence on the parts.
+pub(crate) fn keep(evidence: &[u32], saved: &mut [u32])
+    requires { length saved.old ≤ length evidence.now }
+    ensures { evidence.now ≡ saved.new ++ drop (length saved.old) evidence.now }
 {
-    let (parts, _) = words.split_at(saved.len());
+    let (parts, _) = evidence.split_at(saved.len());
     saved.copy_from_slice(parts);
 }
 
-// Puts the words of the parts back.
-pub(crate) fn put_back(words: &mut [u32], saved: &[u32])
-    requires { length saved.now ≤ length words.old }
-    ensures { words.new ≡ saved.now ++ drop (length saved.now) words.old }
+// Puts the evidence on the parts back.
+pub(crate) fn put_back(evidence: &mut [u32], saved: &[u32])
+    requires { length saved.now ≤ length evidence.old }
+    ensures { evidence.new ≡ saved.now ++ drop (length saved.now) evidence.old }
 {
-    let (parts, _) = words.split_at_mut(saved.len());
+    let (parts, _) = evidence.split_at_mut(saved.len());
     parts.copy_from_slice(saved);
 }

@@ -6,7 +6,7 @@ use Rattle.state_rules.specs.Bits.{same_bit}
 use Rattle.state_rules.specs.Cases.{agrees_at}
 use Rattle.state_rules.specs.Assignments.{Assignment}
 use Rattle.state_rules.proofs.Members.{AtMost}
-use Rattle.conditioner.specs.Words.{leaf_of}
+use Rattle.conditioner.specs.Evidence.{leaf_of}
 use Rattle.node_costs.specs.Costs.{Weights, cost_among, Depends, TestCost, SumOf, IsLeast}
 use Rattle.node_costs.specs.Costs as of
 use Rattle.node_costs.proofs.Conditions.{Free, OnlyParts, cost_among-le, cost-none, cost-literal, literal-costs}

@@ -17,7 +17,7 @@ use Rattle.state_rules.specs.Graphs.{at_most_one, Node, Graph, true_node, truth,
 use Rattle.state_rules.proofs.NodeValues.{are_below, value_of-get}
 use Rattle.state_rules.proofs.Children.{at_most_one-tail, not_both}
 use Rattle.state_rules.proofs.NodesFit.{fits-get, apart-get}
-use Rattle.conditioner.specs.Words.{leaf_of}
+use Rattle.conditioner.specs.Evidence.{leaf_of}
 use Rattle.minimiser.specs.Costs.{part_cost, known_at, sum_costs, cheapest, cost_by, literal_cost, least_at}
 use Rattle.node_costs.proofs.Conditions.{one_apart, cost_among-apart, cost_among-one, join, joined-le}
 use Rattle.minimiser.proofs.Costs.{fault, open_weights, only_parts, as_cost, IsCost, Agrees, faults_in, faults_in-le, all_faults, and_left, and_right, from_add, AtMost-min_left, AtMost-min_right}
@@ -52,9 +52,9 @@ sum-child C (k ∷ kids) c j e (inr r) =
     let s = from_add (C k) (sum_costs (map C kids)) c e in
     let more = sum-child C kids s.right j s.right_is r in (more.0, more.1, omega (arith, more.2, s.sum_is))
 
-module _ (graph : Graph) (words costs : List ℕ) (ok : IsGraph graph) where
+module _ (graph : Graph) (evidence costs : List ℕ) (ok : IsGraph graph) where
   abbrev kn : ℕ → Option Bool
-  kn v = known_at words v
+  kn v = known_at evidence v
 
   abbrev price : ℕ → ℕ
   price v = part_cost costs v
@@ -69,7 +69,7 @@ module _ (graph : Graph) (words costs : List ℕ) (ok : IsGraph graph) where
   M v k = mentions graph.nodes v k
 
   abbrev C : ℕ → Option ℕ
-  C k = least_at graph words costs k
+  C k = least_at graph evidence costs k
 
   abbrev root : ℕ
   root = length graph.nodes - 1
@@ -121,9 +121,9 @@ module _ (graph : Graph) (words costs : List ℕ) (ok : IsGraph graph) where
 
   -- an assignment that makes a node true at a cost
   pub record Achieves (k c : ℕ) (a : Assignment) : Type 0 where
-    pub agrees : Agrees (known_at words) (part_cost costs) (length costs) a
+    pub agrees : Agrees (known_at evidence) (part_cost costs) (length costs) a
     pub holds : is_true graph.nodes k a ≡ true
-    pub cheap : all_faults (known_at words) (part_cost costs) (length costs) a ≤ c
+    pub cheap : all_faults (known_at evidence) (part_cost costs) (length costs) a ≤ c
 
   -- it goes on to the root: there is one that makes the root true at a cost, with the same bits of the node's variables
   pub record Extends (k most : ℕ) (a : Assignment) : Type 0 where
@@ -221,7 +221,7 @@ module _ (graph : Graph) (words costs : List ℕ) (ok : IsGraph graph) where
     pub at : by var ≡ false
 
   -- the variable of a useful literal that says faulty can be false
-  pub useful-literal : (k var : ℕ) (kids : List ℕ) → slice_get graph.nodes k ≡ Some (record { what = Literal false var; kids = kids }) → known_at words var ≡ None → Useful k → (m : ℕ) → C root ≡ Some m → FalseAt m var
+  pub useful-literal : (k var : ℕ) (kids : List ℕ) → slice_get graph.nodes k ≡ Some (record { what = Literal false var; kids = kids }) → known_at evidence var ≡ None → Useful k → (m : ℕ) → C root ≡ Some m → FalseAt m var
   useful-literal k var kids e open_ useful m f =
       let is : C k ≡ Some (price var) = costs-at k _ e ∙ (λ i. literal_cost (leaf_of false (open_ i)) (price var) false) in
       let r = (is_cost k).reached (price var) is in
@@ -235,9 +235,9 @@ module _ (graph : Graph) (words costs : List ℕ) (ok : IsGraph graph) where
   pub record ChildExcess (kids : List ℕ) (c j : ℕ) (a : Assignment) : Type 0 where
     pub holds : is_true graph.nodes j a ≡ true
     pub cost : ℕ
-    pub is : least_at graph words costs j ≡ Some cost
-    pub excess : c + faults_in (known_at words) (part_cost costs) (length costs) (λ v. mentions graph.nodes v j) a
-        ≤ faults_in (known_at words) (part_cost costs) (length costs) (λ v. list_any (λ b. b) (map (mentions graph.nodes v) kids)) a + cost
+    pub is : least_at graph evidence costs j ≡ Some cost
+    pub excess : c + faults_in (known_at evidence) (part_cost costs) (length costs) (λ v. mentions graph.nodes v j) a
+        ≤ faults_in (known_at evidence) (part_cost costs) (length costs) (λ v. list_any (λ b. b) (map (mentions graph.nodes v) kids)) a + cost
 
   pub child-excess : (a : Assignment) → Agrees kn price n a → (kids : List ℕ) → Apart kids → TA kids a ≡ true → (c : ℕ) → SA kids ≡ Some c → (j : ℕ) → In j kids → ChildExcess kids c j a
   child-excess a ag [] apart h c s j m = absurd m
@@ -268,8 +268,8 @@ module _ (graph : Graph) (words costs : List ℕ) (ok : IsGraph graph) where
   pub node-there : (k : ℕ) (a : Assignment) → T a k ≡ true → k < length graph.nodes
   node-there k a h = ⊎_elim (λ p. p) (λ p. absurd (false≢true (sym (get_or_past (values (truth a) graph.nodes) k false (omega (arith, length-values_after (truth a) [] graph.nodes))) ∙ h))) (cases_lt k (length graph.nodes))
 
-  module _ (a : Assignment) (agree : Agrees (known_at words) (part_cost costs) (length costs) a) (p : ℕ) (low : 1 ≤ p) (high : p < 1 + length costs) (false_at : a p ≡ false)
-      (dear : 0 < fault (known_at words p) (part_cost costs p) (a p)) where
+  module _ (a : Assignment) (agree : Agrees (known_at evidence) (part_cost costs) (length costs) a) (p : ℕ) (low : 1 ≤ p) (high : p < 1 + length costs) (false_at : a p ≡ false)
+      (dear : 0 < fault (known_at evidence p) (part_cost costs p) (a p)) where
     abbrev faults : (ℕ → Bool) → ℕ
     faults m = faults_in kn price n m a
 
@@ -293,8 +293,8 @@ module _ (graph : Graph) (words costs : List ℕ) (ok : IsGraph graph) where
       pub holds : is_true graph.nodes k a ≡ true
       pub has : mentions graph.nodes p k ≡ true
       pub cost : ℕ
-      pub is : least_at graph words costs k ≡ Some cost
-      pub tight : faults_in (known_at words) (part_cost costs) (length costs) (λ v. mentions graph.nodes v k) a ≤ cost
+      pub is : least_at graph evidence costs k ≡ Some cost
+      pub tight : faults_in (known_at evidence) (part_cost costs) (length costs) (λ v. mentions graph.nodes v k) a ≤ cost
 
     pub on-root : (c : ℕ) → C root ≡ Some c → T a root ≡ true → all_faults kn price n a ≤ c → OnFault root
     on-root c e h cheap = grind (arith, bound-at, faults-lt, faults-le)
@@ -317,7 +317,7 @@ module _ (graph : Graph) (words costs : List ℕ) (ok : IsGraph graph) where
     pub record CheapChild (kids : List ℕ) (cost : ℕ) : Type 0 where
       pub child : ℕ
       pub is_in : In child kids
-      pub same : least_at graph words costs child ≡ Some cost
+      pub same : least_at graph evidence costs child ≡ Some cost
       pub on : OnFault child
 
     on-or : (k : ℕ) (kids : List ℕ) → slice_get graph.nodes k ≡ Some (record { what = Or; kids = kids }) → (on : OnFault k) → CheapChild kids on.cost
@@ -341,10 +341,10 @@ module _ (graph : Graph) (words costs : List ℕ) (ok : IsGraph graph) where
     -- Marks that go from the root to all children of an and and to the cheap children of an or come to a literal that says faulty.
     module _ (Marked : ℕ → Type 0)
         (ands : (k : ℕ) (kids : List ℕ) (c : ℕ) → slice_get graph.nodes k ≡ Some (record { what = And; kids = kids })
-        → least_at graph words costs k ≡ Some c → Marked k → (j : ℕ) → In j kids → Marked j)
+        → least_at graph evidence costs k ≡ Some c → Marked k → (j : ℕ) → In j kids → Marked j)
         (ors : (k : ℕ) (kids : List ℕ) (c : ℕ) → slice_get graph.nodes k ≡ Some (record { what = Or; kids = kids })
-        → least_at graph words costs k ≡ Some c → Marked k → (j : ℕ) → In j kids
-        → least_at graph words costs j ≡ Some c → Marked j) where
+        → least_at graph evidence costs k ≡ Some c → Marked k → (j : ℕ) → In j kids
+        → least_at graph evidence costs j ≡ Some c → Marked j) where
       pub record MarkedLiteral : Type 0 where
         pub node : ℕ
         pub kids : List ℕ

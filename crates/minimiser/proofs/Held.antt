@@ -3,17 +3,17 @@ use Rattle.std.proofs.Common.{◌≡◌, ℕ, zero, suc, ◌+◌, ◌<◌, ◌�
 use Rattle.std.proofs.lemmas.List.{drop_all, drop_more}
 use Rattle.std.proofs.lemmas.List.Sums.{sum_by-cons, sum_by-drop_more}
 use Rattle.conditioner.specs.Models.{total_cost}
-use Rattle.conditioner.specs.Words.{known_of}
+use Rattle.conditioner.specs.Evidence.{known_of}
 use Rattle.minimiser.specs.Costs.{part_cost}
 use Rattle.minimiser.specs.inner.Held.{held_one, held_cost}
 use Rattle.node_costs.specs.Costs.{total}
 
-pub held-drop : (costs words : List ℕ) (i : ℕ) → i < length costs → i < length words
-    → held_cost (drop i costs) (drop i words) ≡ held_one (get_or costs i 0) (known_of (get_or words i 0)) + held_cost (drop (i + 1) costs) (drop (i + 1) words)
-held-drop costs words i h g = rw (drop_more costs i 0 h, drop_more words i 0 g) refl
+pub held-drop : (costs evidence : List ℕ) (i : ℕ) → i < length costs → i < length evidence
+    → held_cost (drop i costs) (drop i evidence) ≡ held_one (get_or costs i 0) (known_of (get_or evidence i 0)) + held_cost (drop (i + 1) costs) (drop (i + 1) evidence)
+held-drop costs evidence i h g = rw (drop_more costs i 0 h, drop_more evidence i 0 g) refl
 
-pub held-end : (costs words : List ℕ) (i : ℕ) → length costs ≤ i → held_cost (drop i costs) (drop i words) ≡ 0
-held-end costs words i h = rw (drop_all i costs h) refl
+pub held-end : (costs evidence : List ℕ) (i : ℕ) → length costs ≤ i → held_cost (drop i costs) (drop i evidence) ≡ 0
+held-end costs evidence i h = rw (drop_all i costs h) refl
 
 pub total-drop : (costs : List ℕ) (i : ℕ) → i < length costs → total_cost (drop i costs) ≡ get_or costs i 0 + total_cost (drop (i + 1) costs)
 total-drop costs i h = sum_by-drop_more (λ c. c) costs i 0 h

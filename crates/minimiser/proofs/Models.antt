@@ -1,4 +1,4 @@
--- The states that a graph allows, as words are changed.
+-- The states that a graph allows, as evidence is changed.
 use Rattle.std.proofs.Common.{◌≡◌, ◌≢◌, ℕ, ◌-◌, ◌<◌, ◌≤◌, Bool, true, ◌&&◌, List, [], ◌∷◌, ◌++◌, length, get_or, Some, None, refl, ap, sym, ◌∙◌, subst, arith, length-append}
 use Rattle.std.proofs.lemmas.Bool.{leb-true}
 use Rattle.std.proofs.lemmas.Option.{same_Some}
@@ -8,9 +8,9 @@ use Rattle.state_rules.specs.Ranking.{cost, least, is_at_most, states}
 use Rattle.state_rules.specs.Graphs.{Graph, holds}
 use Rattle.state_rules.proofs.Members.{In, In-filter, In-filtered, bits_in, bits_length, any_from, any_in}
 use Rattle.state_rules.proofs.Bits.{bit_in-front}
-use Rattle.conditioner.specs.Words.{known_of, word_of}
-use Rattle.conditioner.specs.Models.{has_model, fits_words, models, least_under, diagnoses_under}
-use Rattle.conditioner.proofs.FittingWords.{fits_words-at, fits_words-from}
+use Rattle.conditioner.specs.Evidence.{known_of, word_of}
+use Rattle.conditioner.specs.Models.{has_model, fits_evidence, models, least_under, diagnoses_under}
+use Rattle.conditioner.proofs.FittingEvidence.{fits_evidence-at, fits_evidence-from}
 use Rattle.node_costs.proofs.States.{least-out, least-in}
 use Rattle.minimiser.specs.LeastStates.{ModelWithin, LeastState}
 
@@ -24,37 +24,37 @@ Agree-bit b bit e = grind arith
 pub Agree-same : (bit : Bool) → Agree (word_of bit) bit
 Agree-same bit = grind arith
 
--- words that say as much, or more of open parts
+-- evidence that says as much, or more of open parts
 pub record Refines (parts : ℕ) (old new : List ℕ) : Type 0 where
   pub long : length new ≡ length old
   pub kept : (k : ℕ) → get_or old k 0 ≢ 0 → get_or new k 0 ≡ get_or old k 0
   pub others : (k : ℕ) → parts ≤ k → get_or new k 0 ≡ get_or old k 0
 
 abbrev pub LeastIs : Graph → List ℕ → List ℕ → ℕ → Type 0
-LeastIs graph costs words most = least_under graph words costs ≡ Some most
+LeastIs graph costs evidence most = least_under graph evidence costs ≡ Some most
 
 -- some state passes
-pub record HasState (graph : Graph) (words costs : List ℕ) (most : ℕ) : Type 0 where
+pub record HasState (graph : Graph) (evidence costs : List ℕ) (most : ℕ) : Type 0 where
   pub state : List Bool
-  pub passes : ModelWithin graph words costs most state
+  pub passes : ModelWithin graph evidence costs most state
 
 module _ (graph : Graph) (costs : List ℕ) (within : length costs ≤ graph.vars) where
-  -- what the words say of the parts is so in a state that they allow
-  pub model-agrees : (words : List ℕ) (h : List Bool) → length words ≡ graph.vars → length h ≡ length costs → has_model graph (fits_words words) (length costs) h ≡ true
-      → (i : ℕ) → i < length costs → Agree (get_or words i 0) (bit_in h i)
-  model-agrees words h long l m i lt =
-      let r = any_from (λ others. fits_words words (h ++ others) && holds graph (h ++ others)) (lists_of_bits (graph.vars - length costs)) m in
+  -- what the evidence says of the parts is so in a state that it allows
+  pub model-agrees : (evidence : List ℕ) (h : List Bool) → length evidence ≡ graph.vars → length h ≡ length costs → has_model graph (fits_evidence evidence) (length costs) h ≡ true
+      → (i : ℕ) → i < length costs → Agree (get_or evidence i 0) (bit_in h i)
+  model-agrees evidence h long l m i lt =
+      let r = any_from (λ others. fits_evidence evidence (h ++ others) && holds graph (h ++ others)) (lists_of_bits (graph.vars - length costs)) m in
       let len : length r.item ≡ graph.vars - length costs = bits_length (graph.vars - length costs) r.item r.is_in in
-      grind (arith, bit_in-front, fits_words-at, length-append)
+      grind (arith, bit_in-front, fits_evidence-at, length-append)
 
-  -- a state that the words allow is allowed by others that say the same of the other variables, and nothing else of it
-  pub model-moved : (words others : List ℕ) (h : List Bool) → length words ≡ graph.vars → length others ≡ graph.vars → length h ≡ length costs → has_model graph (fits_words words) (length costs) h ≡ true
-      → ((i : ℕ) → i < length costs → Agree (get_or others i 0) (bit_in h i)) → ((i : ℕ) → length costs ≤ i → get_or others i 0 ≡ get_or words i 0) → has_model graph (fits_words others) (length costs) h ≡ true
-  model-moved words others h long long' l m agree same =
-      let r = any_from (λ rest. fits_words words (h ++ rest) && holds graph (h ++ rest)) (lists_of_bits (graph.vars - length costs)) m in
+  -- a state that the evidence allows is allowed by others that say the same of the other variables, and nothing else of it
+  pub model-moved : (evidence others : List ℕ) (h : List Bool) → length evidence ≡ graph.vars → length others ≡ graph.vars → length h ≡ length costs → has_model graph (fits_evidence evidence) (length costs) h ≡ true
+      → ((i : ℕ) → i < length costs → Agree (get_or others i 0) (bit_in h i)) → ((i : ℕ) → length costs ≤ i → get_or others i 0 ≡ get_or evidence i 0) → has_model graph (fits_evidence others) (length costs) h ≡ true
+  model-moved evidence others h long long' l m agree same =
+      let r = any_from (λ rest. fits_evidence evidence (h ++ rest) && holds graph (h ++ rest)) (lists_of_bits (graph.vars - length costs)) m in
       let len : length r.item ≡ graph.vars - length costs = bits_length (graph.vars - length costs) r.item r.is_in in
       let all : length (h ++ r.item) ≡ graph.vars = omega (arith, length-append h r.item) in
-      grind (arith, any_in, fits_words-from, bit_in-front, fits_words-at)
+      grind (arith, any_in, fits_evidence-from, bit_in-front, fits_evidence-at)
 
   pub ModelWithin-old : (old new : List ℕ) (most : ℕ) (h : List Bool) → length old ≡ graph.vars → Refines (length costs) old new → ModelWithin graph new costs most h → ModelWithin graph old costs most h
   ModelWithin-old old new most h long r p = grind (arith, model-moved, model-agrees)
@@ -63,25 +63,25 @@ module _ (graph : Graph) (costs : List ℕ) (within : length costs ≤ graph.var
       → ((i : ℕ) → i < length costs → Agree (get_or new i 0) (bit_in h i)) → ModelWithin graph new costs most h
   ModelWithin-new old new most h long r p agree = grind (arith, model-moved)
 
-  pub ModelWithin-agrees : (words : List ℕ) (most : ℕ) (h : List Bool) → length words ≡ graph.vars → ModelWithin graph words costs most h → (i : ℕ) → i < length costs → Agree (get_or words i 0) (bit_in h i)
-  ModelWithin-agrees words most h long p i lt = model-agrees words h long p.long p.model i lt
+  pub ModelWithin-agrees : (evidence : List ℕ) (most : ℕ) (h : List Bool) → length evidence ≡ graph.vars → ModelWithin graph evidence costs most h → (i : ℕ) → i < length costs → Agree (get_or evidence i 0) (bit_in h i)
+  ModelWithin-agrees evidence most h long p i lt = model-agrees evidence h long p.long p.model i lt
 
-  -- no state that the words allow costs less
-  pub least-low : (words : List ℕ) (most : ℕ) (h : List Bool) → LeastIs graph costs words most → length h ≡ length costs → has_model graph (fits_words words) (length costs) h ≡ true → most ≤ cost costs h
-  least-low words most h e l m = (least-out costs (length costs) _ (Some most) e).1 (cost costs h) (record { state = h; long = l; passes = m; cost_is = refl })
+  -- no state that the evidence allows costs less
+  pub least-low : (evidence : List ℕ) (most : ℕ) (h : List Bool) → LeastIs graph costs evidence most → length h ≡ length costs → has_model graph (fits_evidence evidence) (length costs) h ≡ true → most ≤ cost costs h
+  least-low evidence most h e l m = (least-out costs (length costs) _ (Some most) e).1 (cost costs h) (record { state = h; long = l; passes = m; cost_is = refl })
 
-  pub least-some : (words : List ℕ) (most : ℕ) → LeastIs graph costs words most → HasState graph words costs most
-  least-some words most e =
+  pub least-some : (evidence : List ℕ) (most : ℕ) → LeastIs graph costs evidence most → HasState graph evidence costs most
+  least-some evidence most e =
       let s = (least-out costs (length costs) _ (Some most) e).0 in
       record { state = s.state; passes = record { long = s.long; model = s.passes; cheap = omega (arith, s.cost_is) } }
 
-  -- a state that passes under words that say more shows that their least cost is the same
+  -- a state that passes under evidence that says more shows that their least cost is the same
   pub least-refined : (old new : List ℕ) (most : ℕ) (h : List Bool) → length old ≡ graph.vars → Refines (length costs) old new → LeastIs graph costs old most → ModelWithin graph new costs most h → LeastIs graph costs new most
-  least-refined old new most h long r e p = least-in costs (length costs) (has_model graph (fits_words new) (length costs)) (Some most) (
+  least-refined old new most h long r e p = least-in costs (length costs) (has_model graph (fits_evidence new) (length costs)) (Some most) (
     record { state = h; long = p.long; passes = p.model; cost_is = omega (arith, p.cheap, low h p.long p.model) },
     λ n s. omega (arith, low s.state s.long s.passes, s.cost_is),
   ) where
-    low : (k : List Bool) → length k ≡ length costs → has_model graph (fits_words new) (length costs) k ≡ true → most ≤ cost costs k
+    low : (k : List Bool) → length k ≡ length costs → has_model graph (fits_evidence new) (length costs) k ≡ true → most ≤ cost costs k
     low k l m =
         let t = ModelWithin-old old new (cost costs k) k long r (record { long = l; model = m; cheap = omega arith }) in
         least-low old most k e t.long t.model
@@ -92,30 +92,30 @@ pub least-none : (costs : List ℕ) (hs : List (List Bool)) → least costs hs �
 least-none costs [] e = refl
 least-none costs (h ∷ hs) e = grind arith
 
-module _ (graph : Graph) (words costs : List ℕ) (most : ℕ) (e : LeastIs graph costs words most) where
+module _ (graph : Graph) (evidence costs : List ℕ) (most : ℕ) (e : LeastIs graph costs evidence most) where
   abbrev pub ds : List (List Bool)
-  ds = diagnoses_under graph words costs
+  ds = diagnoses_under graph evidence costs
 
   abbrev is_low : List Bool → Bool
-  is_low h = is_at_most (cost costs h) (least_under graph words costs)
+  is_low h = is_at_most (cost costs h) (least_under graph evidence costs)
 
   low-out : (h : List Bool) → is_low h ≡ true → cost costs h ≤ most
   low-out h t = leb-true (cost costs h) most (sym (ap (is_at_most (cost costs h)) e) ∙ t)
 
   -- the diagnoses are the states that pass
-  pub diagnosis-in : (h : List Bool) → ModelWithin graph words costs most h → In h ds
+  pub diagnosis-in : (h : List Bool) → ModelWithin graph evidence costs most h → In h ds
   diagnosis-in h p = grind (arith, In-filtered, bits_in)
 
-  pub diagnosis-out : (h : List Bool) → In h ds → ModelWithin graph words costs most h
+  pub diagnosis-out : (h : List Bool) → In h ds → ModelWithin graph evidence costs most h
   diagnosis-out h m =
-      let a = In-filter is_low h (models graph words (length costs)) m in
-      let b = In-filter (has_model graph (fits_words words) (length costs)) h (states (length costs)) a.0 in
+      let a = In-filter is_low h (models graph evidence (length costs)) m in
+      let b = In-filter (has_model graph (fits_evidence evidence) (length costs)) h (states (length costs)) a.0 in
       record { long = bits_length (length costs) h b.0; model = b.1; cheap = low-out h a.1 }
 
 -- ---- states of least cost
 
-pub least-passes : (graph : Graph) (words costs : List ℕ) (most : ℕ) (h : List Bool) → LeastIs graph costs words most → LeastState graph words costs h → ModelWithin graph words costs most h
-least-passes graph words costs most h e l = subst (λ n. ModelWithin graph words costs n h) (same_Some l.most most (sym l.least_is ∙ e)) l.passes
+pub least-passes : (graph : Graph) (evidence costs : List ℕ) (most : ℕ) (h : List Bool) → LeastIs graph costs evidence most → LeastState graph evidence costs h → ModelWithin graph evidence costs most h
+least-passes graph evidence costs most h e l = subst (λ n. ModelWithin graph evidence costs n h) (same_Some l.most most (sym l.least_is ∙ e)) l.passes
 
-pub passes-least : (graph : Graph) (words costs : List ℕ) (most : ℕ) (h : List Bool) → LeastIs graph costs words most → ModelWithin graph words costs most h → LeastState graph words costs h
-passes-least graph words costs most h e p = record { most = most; least_is = e; passes = p }
+pub passes-least : (graph : Graph) (evidence costs : List ℕ) (most : ℕ) (h : List Bool) → LeastIs graph costs evidence most → ModelWithin graph evidence costs most h → LeastState graph evidence costs h
+passes-least graph evidence costs most h e p = record { most = most; least_is = e; passes = p }

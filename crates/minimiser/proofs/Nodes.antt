@@ -9,7 +9,7 @@ use Rattle.state_rules.specs.Graphs.{at_most_one, Graph, true_node, node_at, men
 use Rattle.state_rules.proofs.NodeValues.{map-below}
 use Rattle.state_rules.proofs.NodesFit.{fits-at}
 use Rattle.state_rules.proofs.Values.{length-values_after, values-at, values-before}
-use Rattle.conditioner.specs.Words.{leaf_of}
+use Rattle.conditioner.specs.Evidence.{leaf_of}
 use Rattle.node_costs.proofs.Nodes.{value_by, AreLaws, all_nodes, children_and}
 use Rattle.minimiser.specs.Costs.{sum_costs, cheapest, cost_at, literal_cost, cost_by, node_cost}
 use Rattle.minimiser.proofs.Costs.{IsLeastCost, and_is, or_is, true_is, false_is, literal_is}

@@ -26,26 +26,26 @@ use Rattle.minimiser.proofs.Held.{full_cost-is}
 use Rattle.minimiser.proofs.Sums.{cost_in-some, cost_at-map}
 use Rattle.minimiser.proofs.Whole.{AddHeld, least_is, part_cost-none}
 
--- the cost of a node under words
+-- the cost of a node under evidence
 abbrev pub cost_under : List ℕ → List ℕ → Node → List (Option ℕ) → Option ℕ
-cost_under words costs = node_cost (known_at words) (part_cost costs)
+cost_under evidence costs = node_cost (known_at evidence) (part_cost costs)
 
-pub costs-step : (graph : Graph) (words costs : List ℕ) (i : ℕ) (n : Node) → slice_get graph.nodes i ≡ Some n
-    → costs_to graph words costs (i + 1) ≡ costs_to graph words costs i ++ cost_under words costs n (costs_to graph words costs i) ∷ []
+pub costs-step : (graph : Graph) (evidence costs : List ℕ) (i : ℕ) (n : Node) → slice_get graph.nodes i ≡ Some n
+    → costs_to graph evidence costs (i + 1) ≡ costs_to graph evidence costs i ++ cost_under evidence costs n (costs_to graph evidence costs i) ∷ []
 unfolding costs_to
-costs-step graph words costs i n e = (λ j. values (cost_under words costs) (take-more graph.nodes i n e j))
-    ∙ values_after-append (cost_under words costs) [] (take i graph.nodes) (n ∷ [])
+costs-step graph evidence costs i n e = (λ j. values (cost_under evidence costs) (take-more graph.nodes i n e j))
+    ∙ values_after-append (cost_under evidence costs) [] (take i graph.nodes) (n ∷ [])
 
 fault-le : (k : Option Bool) (w : ℕ) (b m : Bool) → cond m (fault k w b) 0 ≤ w
 fault-le k w b m = grind arith
 
 -- no node costs more than all parts together
-pub cost_small : (graph : Graph) (words costs : List ℕ) (k : ℕ) → IsGraph graph → (n : ℕ) → cost_at (values (cost_under words costs) graph.nodes) k ≡ Some n → n ≤ total_cost costs
-cost_small graph words costs k ok n e =
-    let is = is_cost (known_at words) (part_cost costs) (length costs) (part_cost-none costs) graph ok k in
+pub cost_small : (graph : Graph) (evidence costs : List ℕ) (k : ℕ) → IsGraph graph → (n : ℕ) → cost_at (values (cost_under evidence costs) graph.nodes) k ≡ Some n → n ≤ total_cost costs
+cost_small graph evidence costs k ok n e =
+    let is = is_cost (known_at evidence) (part_cost costs) (length costs) (part_cost-none costs) graph ok k in
     let c = least-has _ _ n is.least e in
     let m : ℕ → Bool = λ v. mentions graph.nodes v k in
-    omega (arith, c.cost_is, full_cost-is costs, total-le (λ v. cond (m v) (fault (known_at words v) (part_cost costs v) (c.by v)) 0) (part_cost costs) (λ v. fault-le (known_at words v) (part_cost costs v) (c.by v) (m v)) 1 (length costs))
+    omega (arith, c.cost_is, full_cost-is costs, total-le (λ v. cond (m v) (fault (known_at evidence v) (part_cost costs v) (c.by v)) 0) (part_cost costs) (λ v. fault-le (known_at evidence v) (part_cost costs v) (c.by v) (m v)) 1 (length costs))
 
 -- ---- what a node of a graph is
 
@@ -64,25 +64,25 @@ literal_at graph i var positive kids ok e =
     let is = literal graph.vars var positive kids (fits-get graph.vars graph.nodes i _ ok.nodes.fit e).kind in (is.low, is.high)
 
 -- the values of the nodes so far, and of one more
-pub goes_on : (graph : Graph) (words costs : List ℕ) (i : ℕ) (n : Node) (values : List (Option ℕ)) (c : Option ℕ) → slice_get graph.nodes i ≡ Some n
-    → values ≡ costs_to graph words costs i → c ≡ cost_under words costs n values → values ++ c ∷ [] ≡ costs_to graph words costs (i + 1)
-goes_on graph words costs i n values c e v k = (λ j. v j ++ (k ∙ ap (cost_under words costs n) v) j ∷ []) ∙ sym (costs-step graph words costs i n e)
+pub goes_on : (graph : Graph) (evidence costs : List ℕ) (i : ℕ) (n : Node) (values : List (Option ℕ)) (c : Option ℕ) → slice_get graph.nodes i ≡ Some n
+    → values ≡ costs_to graph evidence costs i → c ≡ cost_under evidence costs n values → values ++ c ∷ [] ≡ costs_to graph evidence costs (i + 1)
+goes_on graph evidence costs i n values c e v k = (λ j. v j ++ (k ∙ ap (cost_under evidence costs n) v) j ∷ []) ∙ sym (costs-step graph evidence costs i n e)
 
-pub length-costs_to : (graph : Graph) (words costs : List ℕ) (i : ℕ) → i ≤ length graph.nodes → length (costs_to graph words costs i) ≡ i
+pub length-costs_to : (graph : Graph) (evidence costs : List ℕ) (i : ℕ) → i ≤ length graph.nodes → length (costs_to graph evidence costs i) ≡ i
 unfolding costs_to
-length-costs_to graph words costs i h = length-values_after (cost_under words costs) [] (take i graph.nodes) ∙ (let e = length-take-le i graph.nodes h in omega arith)
+length-costs_to graph evidence costs i h = length-values_after (cost_under evidence costs) [] (take i graph.nodes) ∙ (let e = length-take-le i graph.nodes h in omega arith)
 
 if_some : (o : Option ℕ) (b : ℕ) → ((n : ℕ) → o ≡ Some n → n < b) → IfSome o (λ n. n < b)
 if_some o b h = grind arith
 
 -- the cost of a node fits
-pub node_fits_room : (graph : Graph) (words costs : List ℕ) (i most : ℕ) (n : Node) (values : List (Option ℕ)) → IsGraph graph → total_cost costs < most
-    → slice_get graph.nodes i ≡ Some n → values ≡ costs_to graph words costs i → IfSome (cost_under words costs n values) (λ n. n < most)
+pub node_fits_room : (graph : Graph) (evidence costs : List ℕ) (i most : ℕ) (n : Node) (values : List (Option ℕ)) → IsGraph graph → total_cost costs < most
+    → slice_get graph.nodes i ≡ Some n → values ≡ costs_to graph evidence costs i → IfSome (cost_under evidence costs n values) (λ n. n < most)
 unfolding costs_to
-node_fits_room graph words costs i most n before ok few e v = if_some _ most (λ c q. omega (arith, few, cost_small graph words costs i ok c (here ∙ sym (ap (cost_under words costs n) v) ∙ q))) where
-  here : cost_at (values (cost_under words costs) graph.nodes) i ≡ cost_under words costs n (values (cost_under words costs) (take i graph.nodes))
-  here = cost_at-get (values (cost_under words costs) graph.nodes) i ∙ values-at (cost_under words costs) graph.nodes i true_node (slice_get_within graph.nodes i n e) None
-      ∙ ap (λ m. cost_under words costs m (values (cost_under words costs) (take i graph.nodes))) (get_or_from_slice_get graph.nodes i n true_node e)
+node_fits_room graph evidence costs i most n before ok few e v = if_some _ most (λ c q. omega (arith, few, cost_small graph evidence costs i ok c (here ∙ sym (ap (cost_under evidence costs n) v) ∙ q))) where
+  here : cost_at (values (cost_under evidence costs) graph.nodes) i ≡ cost_under evidence costs n (values (cost_under evidence costs) (take i graph.nodes))
+  here = cost_at-get (values (cost_under evidence costs) graph.nodes) i ∙ values-at (cost_under evidence costs) graph.nodes i true_node (slice_get_within graph.nodes i n e) None
+      ∙ ap (λ m. cost_under evidence costs m (values (cost_under evidence costs) (take i graph.nodes))) (get_or_from_slice_get graph.nodes i n true_node e)
 
 -- ---- the whole pass
 
@@ -104,23 +104,23 @@ fits_here graph i vars before n ok there v b =
     (λ j. node_fits (v j) ((b ∙ sym (zero-add i)) j) n) ∙ ap (node_fits graph.vars (0 + i)) (sym (get_or_from_slice_get graph.nodes i n true_node there))
     ∙ nodes_fit-at graph.vars 0 graph.nodes i ok.nodes.fit (slice_get_within graph.nodes i n there)
 
-pub length-least_costs : (graph : Graph) (words costs xs : List ℕ) → AreLeastCosts graph words costs xs → length xs ≡ length graph.nodes
-length-least_costs graph words costs xs v = sym (length-map xs cost_in) ∙ ap length v ∙ length-costs_to graph words costs (length graph.nodes) (omega arith)
+pub length-least_costs : (graph : Graph) (evidence costs xs : List ℕ) → AreLeastCosts graph evidence costs xs → length xs ≡ length graph.nodes
+length-least_costs graph evidence costs xs v = sym (length-map xs cost_in) ∙ ap length v ∙ length-costs_to graph evidence costs (length graph.nodes) (omega arith)
 
-pub is_least : (graph : Graph) (words costs : List ℕ) (xs : List ℕ) → IsGraph graph → length words ≡ graph.vars → length costs ≤ graph.vars
-    → AreLeastCosts graph words costs xs → least_under graph words costs ≡ AddHeld (held_cost costs words) (cost_in (get_or xs (length graph.nodes - 1) 0))
+pub is_least : (graph : Graph) (evidence costs : List ℕ) (xs : List ℕ) → IsGraph graph → length evidence ≡ graph.vars → length costs ≤ graph.vars
+    → AreLeastCosts graph evidence costs xs → least_under graph evidence costs ≡ AddHeld (held_cost costs evidence) (cost_in (get_or xs (length graph.nodes - 1) 0))
 unfolding costs_to
-is_least graph words costs xs ok long within v = least_is graph words costs ok long within
-    ∙ (λ j. AddHeld (held_cost costs words) (cost_at (values (cost_under words costs) (sym (take-length graph.nodes) j)) (length graph.nodes - 1)))
-    ∙ (λ j. AddHeld (held_cost costs words) (cost_at (sym v j) (length graph.nodes - 1)))
-    ∙ ap (AddHeld (held_cost costs words)) (cost_at-map xs (length graph.nodes - 1) (omega (arith, length-least_costs graph words costs xs v, ok.some)))
+is_least graph evidence costs xs ok long within v = least_is graph evidence costs ok long within
+    ∙ (λ j. AddHeld (held_cost costs evidence) (cost_at (values (cost_under evidence costs) (sym (take-length graph.nodes) j)) (length graph.nodes - 1)))
+    ∙ (λ j. AddHeld (held_cost costs evidence) (cost_at (sym v j) (length graph.nodes - 1)))
+    ∙ ap (AddHeld (held_cost costs evidence)) (cost_at-map xs (length graph.nodes - 1) (omega (arith, length-least_costs graph evidence costs xs v, ok.some)))
 
 -- no value of a node that has a cost is above what all parts cost
-pub value_small : (graph : Graph) (words costs : List ℕ) (k : ℕ) (xs : List ℕ) → IsGraph graph → AreLeastCosts graph words costs xs → k < length xs
+pub value_small : (graph : Graph) (evidence costs : List ℕ) (k : ℕ) (xs : List ℕ) → IsGraph graph → AreLeastCosts graph evidence costs xs → k < length xs
     → (get_or xs k 0 ≡ 4294967295 → ⊥) → get_or xs k 0 ≤ total_cost costs
 unfolding costs_to
-value_small graph words costs k xs ok v h ne = cost_small graph words costs k ok (get_or xs k 0)
-    ((λ i. cost_at (values (cost_under words costs) (sym (take-length graph.nodes) i)) k) ∙ ap (λ cs. cost_at cs k) (sym v) ∙ cost_at-map xs k h ∙ cost_in-some (get_or xs k 0) ne)
+value_small graph evidence costs k xs ok v h ne = cost_small graph evidence costs k ok (get_or xs k 0)
+    ((λ i. cost_at (values (cost_under evidence costs) (sym (take-length graph.nodes) i)) k) ∙ ap (λ cs. cost_at cs k) (sym v) ∙ cost_at-map xs k h ∙ cost_in-some (get_or xs k 0) ne)
 
 -- the values so far, after one more is written
 pub written : (values : List ℕ) (i v : ℕ) → i < length values → map cost_in (take (i + 1) (set values i v)) ≡ map cost_in (take i values) ++ cost_in v ∷ []
@@ -130,27 +130,27 @@ written values i v h = rw (add-one i) (go values i h) where
   go (x ∷ xs) zero h = refl
   go (x ∷ xs) (suc i) h = λ j. cost_in x ∷ go xs i (omega arith) j
 
-pub all_valued : (graph : Graph) (words costs : List ℕ) (i : ℕ) (left : List Node) (xs : List ℕ) → length xs ≡ length graph.nodes → drop i graph.nodes ≡ left → left ≡ []
-    → map cost_in (take i xs) ≡ costs_to graph words costs i → AreLeastCosts graph words costs xs
+pub all_valued : (graph : Graph) (evidence costs : List ℕ) (i : ℕ) (left : List Node) (xs : List ℕ) → length xs ≡ length graph.nodes → drop i graph.nodes ≡ left → left ≡ []
+    → map cost_in (take i xs) ≡ costs_to graph evidence costs i → AreLeastCosts graph evidence costs xs
 unfolding costs_to
-all_valued graph words costs i left xs long d none v =
+all_valued graph evidence costs i left xs long d none v =
     let past : length graph.nodes ≤ i = omega (arith, length-drop i graph.nodes, ap length (d ∙ none)) in
     grind (arith, take_all)
 
-pub none_yet : (graph : Graph) (words costs : List ℕ) → [] ≡ costs_to graph words costs 0
+pub none_yet : (graph : Graph) (evidence costs : List ℕ) → [] ≡ costs_to graph evidence costs 0
 unfolding costs_to
-none_yet graph words costs = refl
+none_yet graph evidence costs = refl
 
-module _ (graph : Graph) (words costs xs : List ℕ) (root : ℕ) (ok : IsGraph graph) (long : length words ≡ graph.vars) (within : length costs ≤ graph.vars)
-    (at : root ≡ length graph.nodes - 1) (v : AreLeastCosts graph words costs xs) where
-  answer : least_under graph words costs ≡ AddHeld (held_cost costs words) (cost_in (get_or xs root 0))
-  answer = is_least graph words costs xs ok long within v ∙ (λ j. AddHeld (held_cost costs words) (cost_in (get_or xs (sym at j) 0)))
+module _ (graph : Graph) (evidence costs xs : List ℕ) (root : ℕ) (ok : IsGraph graph) (long : length evidence ≡ graph.vars) (within : length costs ≤ graph.vars)
+    (at : root ≡ length graph.nodes - 1) (v : AreLeastCosts graph evidence costs xs) where
+  answer : least_under graph evidence costs ≡ AddHeld (held_cost costs evidence) (cost_in (get_or xs root 0))
+  answer = is_least graph evidence costs xs ok long within v ∙ (λ j. AddHeld (held_cost costs evidence) (cost_in (get_or xs (sym at j) 0)))
 
   pub root_small : (get_or xs root 0 ≡ 4294967295 → ⊥) → get_or xs root 0 ≤ total_cost costs
-  root_small ne = value_small graph words costs root xs ok v (omega (arith, ok.some, length-least_costs graph words costs xs v)) ne
+  root_small ne = value_small graph evidence costs root xs ok v (omega (arith, ok.some, length-least_costs graph evidence costs xs v)) ne
 
-  pub root_none : get_or xs root 0 ≡ 4294967295 → None ≡ least_under graph words costs
-  root_none r = sym (answer ∙ ap (λ n. AddHeld (held_cost costs words) (cost_in n)) r)
+  pub root_none : get_or xs root 0 ≡ 4294967295 → None ≡ least_under graph evidence costs
+  root_none r = sym (answer ∙ ap (λ n. AddHeld (held_cost costs evidence) (cost_in n)) r)
 
-  pub root_some : (held : ℕ) → (get_or xs root 0 ≡ 4294967295 → ⊥) → held ≡ held_cost costs words → Some (get_or xs root 0 + held) ≡ least_under graph words costs
-  root_some held ne h = ap Some (omega (arith, h)) ∙ sym (answer ∙ ap (AddHeld (held_cost costs words)) (cost_in-some (get_or xs root 0) ne))
+  pub root_some : (held : ℕ) → (get_or xs root 0 ≡ 4294967295 → ⊥) → held ≡ held_cost costs evidence → Some (get_or xs root 0 + held) ≡ least_under graph evidence costs
+  root_some held ne h = ap Some (omega (arith, h)) ∙ sym (answer ∙ ap (AddHeld (held_cost costs evidence)) (cost_in-some (get_or xs root 0) ne))

@@ -45,7 +45,7 @@ module _ (graph : Graph) (ok : IsGraph graph) (values xs ys : List ℕ) (at : �
 
 -- ---- what the numbers mean
 
-module _ (graph : Graph) (words costs : List ℕ) (ok : IsGraph graph) (vs os : List ℕ) (least : AreLeastCosts graph words costs vs) (outside : AreOutsideCosts graph.nodes vs os 0) where
+module _ (graph : Graph) (evidence costs : List ℕ) (ok : IsGraph graph) (vs os : List ℕ) (least : AreLeastCosts graph evidence costs vs) (outside : AreOutsideCosts graph.nodes vs os 0) where
   abbrev W : ℕ → ℕ
   W k = get_or vs k 0
 
@@ -53,29 +53,29 @@ module _ (graph : Graph) (words costs : List ℕ) (ok : IsGraph graph) (vs os : 
   O k = get_or os k 0
 
   -- Each number is at least what the rest of a derivation costs.
-  pub outside-is : total_cost costs < 2147483647 → (fuel k : ℕ) → length graph.nodes ≤ k + fuel → k < length graph.nodes → O k < 2147483647 → Outside graph words costs ok k (O k)
+  pub outside-is : total_cost costs < 2147483647 → (fuel k : ℕ) → length graph.nodes ≤ k + fuel → k < length graph.nodes → O k < 2147483647 → Outside graph evidence costs ok k (O k)
   outside-is total zero k f h q x a ach = absurd (omega arith)
   outside-is total (suc fuel) k f h q x a ach = ⊎_elim
-      (λ (r : k ≡ length graph.nodes - 1). extends-le graph words costs ok k (0 + x) (O k + x) a (omega arith) (subst (λ j. Extends graph words costs ok j (0 + x) a) (sym r) (outside-root graph words costs ok x a (subst (λ j. Achieves graph words costs ok j x a) r ach))))
+      (λ (r : k ≡ length graph.nodes - 1). extends-le graph evidence costs ok k (0 + x) (O k + x) a (omega arith) (subst (λ j. Extends graph evidence costs ok j (0 + x) a) (sym r) (outside-root graph evidence costs ok x a (subst (λ j. Achieves graph evidence costs ok j x a) r ach))))
       (λ (p : HasOutsideParent graph.nodes vs os k). by_kind (outside-is total fuel) p.parent p.within (node_at graph.nodes p.parent).what (node_at graph.nodes p.parent).kids
       (slice_get-get_or graph.nodes p.parent true_node p.within) (child-out (node_at graph.nodes p.parent).kids k p.child) (child_before graph p.parent k ok p.within p.child) p.cheap)
       (outside.up k h q) where
-        by_kind : ((j : ℕ) → length graph.nodes ≤ j + fuel → j < length graph.nodes → O j < 2147483647 → Outside graph words costs ok j (O j)) → (p : ℕ) → p < length graph.nodes → (what : NodeKind) (kids : List ℕ)
-            → slice_get graph.nodes p ≡ Some (record { what = what; kids = kids }) → In k kids → k < p → O p + others_cost what (W p) (W k) ≤ O k → Extends graph words costs ok k (O k + x) a
+        by_kind : ((j : ℕ) → length graph.nodes ≤ j + fuel → j < length graph.nodes → O j < 2147483647 → Outside graph evidence costs ok j (O j)) → (p : ℕ) → p < length graph.nodes → (what : NodeKind) (kids : List ℕ)
+            → slice_get graph.nodes p ≡ Some (record { what = what; kids = kids }) → In k kids → k < p → O p + others_cost what (W p) (W k) ≤ O k → Extends graph evidence costs ok k (O k + x) a
         by_kind more p g (Literal positive v) kids e i l c = absurd (no-kids graph ok p k v positive kids e i)
         by_kind more p g And kids e i l c =
-            let own = has_least graph words costs vs least ok a ach.agrees k h ach.holds in
-            let small = cost_small graph words costs k ok (W k) own.is in
-            let all : least_at graph words costs p ≡ Some (W p) = sym (value-is graph words costs vs least p g) ∙ cost_in-some (W p) (λ z. absurd (omega (arith, small, z))) in
-            let there = sum-child (least_at graph words costs) kids (W p) k (sym (costs-at graph words costs ok p _ e) ∙ all) i in
+            let own = has_least graph evidence costs vs least ok a ach.agrees k h ach.holds in
+            let small = cost_small graph evidence costs k ok (W k) own.is in
+            let all : least_at graph evidence costs p ≡ Some (W p) = sym (value-is graph evidence costs vs least p g) ∙ cost_in-some (W p) (λ z. absurd (omega (arith, small, z))) in
+            let there = sum-child (least_at graph evidence costs) kids (W p) k (sym (costs-at graph evidence costs ok p _ e) ∙ all) i in
             let le : W k ≤ W p = omega (arith, there.2, same_Some there.0 (W k) (sym there.1 ∙ own.is)) in
-            extends-le graph words costs ok k (O p + (W p - W k) + x) (O k + x) a (omega arith)
-            (outside-and graph words costs ok p kids (O p) e (more p (omega arith) g (omega arith)) k i (W k) own.is (W p - W k) (all ∙ ap Some (omega arith)) x a ach)
-        by_kind more p g Or kids e i l c = extends-le graph words costs ok k (O p + x) (O k + x) a (omega arith) (outside-or graph words costs ok p kids (O p) e (more p (omega arith) g (omega arith)) k i x a ach)
+            extends-le graph evidence costs ok k (O p + (W p - W k) + x) (O k + x) a (omega arith)
+            (outside-and graph evidence costs ok p kids (O p) e (more p (omega arith) g (omega arith)) k i (W k) own.is (W p - W k) (all ∙ ap Some (omega arith)) x a ach)
+        by_kind more p g Or kids e i l c = extends-le graph evidence costs ok k (O p + x) (O k + x) a (omega arith) (outside-or graph evidence costs ok p kids (O p) e (more p (omega arith) g (omega arith)) k i x a ach)
 
-  module _ (a : Assignment) (agree : Agrees (known_at words) (part_cost costs) (length costs) a) where
+  module _ (a : Assignment) (agree : Agrees (known_at evidence) (part_cost costs) (length costs) a) where
     abbrev faults : ℕ → ℕ
-    faults k = faults_in (known_at words) (part_cost costs) (length costs) (λ v. mentions graph.nodes v k) a
+    faults k = faults_in (known_at evidence) (part_cost costs) (length costs) (λ v. mentions graph.nodes v k) a
 
     -- what is true comes to no more with the rest at a true child than at the node
     pub child-fits : (k j : ℕ) → k < length graph.nodes → is_child (node_at graph.nodes k).kids j ≡ true → is_true graph.nodes k a ≡ true → is_true graph.nodes j a ≡ true → O j + faults j ≤ O k + faults k
@@ -87,12 +87,12 @@ module _ (graph : Graph) (words costs : List ℕ) (ok : IsGraph graph) (vs os : 
           by_kind : (what : NodeKind) (kids : List ℕ) → slice_get graph.nodes k ≡ Some (record { what = what; kids = kids }) → In j kids → others_cost what (W k) (W j) + faults j ≤ faults k
           by_kind (Literal positive v) kids e m = absurd (no-kids graph ok k j v positive kids e m)
           by_kind And kids e m =
-              let own = has_least graph words costs vs least ok a agree k h t in
-              let sum = sym (costs-at graph words costs ok k _ e) ∙ own.is in
-              let y = child-excess graph words costs ok a agree kids (apart-kids graph words costs ok k kids e) (sym (true-at graph words costs ok k _ e a) ∙ t) (W k) sum j m in
-              let same = same_Some y.cost (W j) (sym y.is ∙ (has_least graph words costs vs least ok a agree j (omega (arith, child_before graph k j ok h i)) u).is) in
-              let most = sum-child (least_at graph words costs) kids (W k) j sum m in
+              let own = has_least graph evidence costs vs least ok a agree k h t in
+              let sum = sym (costs-at graph evidence costs ok k _ e) ∙ own.is in
+              let y = child-excess graph evidence costs ok a agree kids (apart-kids graph evidence costs ok k kids e) (sym (true-at graph evidence costs ok k _ e a) ∙ t) (W k) sum j m in
+              let same = same_Some y.cost (W j) (sym y.is ∙ (has_least graph evidence costs vs least ok a agree j (omega (arith, child_before graph k j ok h i)) u).is) in
+              let most = sum-child (least_at graph evidence costs) kids (W k) j sum m in
               let less = same_Some most.0 y.cost (sym most.1 ∙ y.is) in
-              let all = faults_in-le (known_at words) (part_cost costs) (length costs) (λ v. list_any (λ b. b) (map (mentions graph.nodes v) kids)) (λ v. mentions graph.nodes v k) a (λ v r. mention-at graph words costs ok k _ e v ∙ r) in
+              let all = faults_in-le (known_at evidence) (part_cost costs) (length costs) (λ v. list_any (λ b. b) (map (mentions graph.nodes v) kids)) (λ v. mentions graph.nodes v k) a (λ v r. mention-at graph evidence costs ok k _ e v ∙ r) in
               omega (arith, y.excess, most.2)
-          by_kind Or kids e m = omega (arith, faults_in-le (known_at words) (part_cost costs) (length costs) (λ v. mentions graph.nodes v j) (λ v. mentions graph.nodes v k) a (λ v r. mention-at graph words costs ok k _ e v ∙ any-child (mentions graph.nodes v) kids j m r))
+          by_kind Or kids e m = omega (arith, faults_in-le (known_at evidence) (part_cost costs) (length costs) (λ v. mentions graph.nodes v j) (λ v. mentions graph.nodes v k) a (λ v r. mention-at graph evidence costs ok k _ e v ∙ any-child (mentions graph.nodes v) kids j m r))

@@ -11,7 +11,7 @@ use Rattle.state_rules.specs.declared.nodes.NodeKind.TheVariants.{Literal, And, 
 use Rattle.state_rules.specs.Graphs.{Node, Graph, true_node, node_at, IsGraph}
 use Rattle.state_rules.proofs.NodesFit.{fits-get, literal}
 use Rattle.state_rules.proofs.Members.{In, AtMost}
-use Rattle.conditioner.specs.Words.{known_of}
+use Rattle.conditioner.specs.Evidence.{known_of}
 use Rattle.conditioner.specs.Models.{total_cost}
 use Rattle.minimiser.specs.Costs.{part_cost, known_at, least_at}
 use Rattle.minimiser.specs.inner.Held.{held_cost}
@@ -129,10 +129,10 @@ child_before graph k j ok h i =
 one_less : (i : ℕ) → suc i - 1 ≡ i
 one_less i = omega arith
 
-module _ (graph : Graph) (words costs : List ℕ) (ok : IsGraph graph) (total : total_cost costs < 2147483647) (cs : List ℕ) (v : AreLeastCosts graph words costs cs) where
+module _ (graph : Graph) (evidence costs : List ℕ) (ok : IsGraph graph) (total : total_cost costs < 2147483647) (cs : List ℕ) (v : AreLeastCosts graph evidence costs cs) where
   pub are-values : All IsValue cs
   are-values k d h = subst IsValue (default cs k d h) (⊎_elim (λ (q : get_or cs k 0 ≡ 4294967295). inr q)
-      (λ (ne : get_or cs k 0 ≢ 4294967295). inl (omega (arith, total, value_small graph words costs k cs ok v h ne)))
+      (λ (ne : get_or cs k 0 ≢ 4294967295). inl (omega (arith, total, value_small graph evidence costs k cs ok v h ne)))
       (cases_eq (get_or cs k 0) 4294967295)) where
         default : (xs : List ℕ) (k d : ℕ) → k < length xs → get_or xs k 0 ≡ get_or xs k d
         default [] k d h = absurd (omega arith)
@@ -169,118 +169,118 @@ pub record AreFlagged (suspect : ℕ → Option ℕ) (state : List ℕ) (at : �
 
 -- ---- what the sweep says
 
-module _ (graph : Graph) (words costs : List ℕ) (ok : IsGraph graph) (long : length words ≡ graph.vars) (within : length costs ≤ graph.vars) (total : total_cost costs < 2147483647)
-    (most : ℕ) (least_most : LeastIs graph costs words most) (cs : List ℕ) (v : AreLeastCosts graph words costs cs) where
+module _ (graph : Graph) (evidence costs : List ℕ) (ok : IsGraph graph) (long : length evidence ≡ graph.vars) (within : length costs ≤ graph.vars) (total : total_cost costs < 2147483647)
+    (most : ℕ) (least_most : LeastIs graph costs evidence most) (cs : List ℕ) (v : AreLeastCosts graph evidence costs cs) where
   room : length cs ≡ length graph.nodes
-  room = length-least_costs graph words costs cs v
+  room = length-least_costs graph evidence costs cs v
 
   -- the least cost is that of the held parts and of the root
   pub record RootCost : Type 0 where
     pub cost : ℕ
-    pub is : least_at graph words costs (length graph.nodes - 1) ≡ Some cost
-    pub sum : most ≡ held_cost costs words + cost
+    pub is : least_at graph evidence costs (length graph.nodes - 1) ≡ Some cost
+    pub sum : most ≡ held_cost costs evidence + cost
 
   root-cost : RootCost
   root-cost = grind (arith, least_is)
 
   pub root-low : get_or cs (length graph.nodes - 1) 0 < 2147483647
   root-low = ⊎_elim (λ q. q)
-      (λ q. absurd (cc (sym (value-is graph words costs cs v (length graph.nodes - 1) (omega (arith, ok.some))) ∙ ap cost_in q, root-cost.is)))
-      (are-values graph words costs ok total cs v (length graph.nodes - 1) 0 (omega (arith, ok.some, room)))
+      (λ q. absurd (cc (sym (value-is graph evidence costs cs v (length graph.nodes - 1) (omega (arith, ok.some))) ∙ ap cost_in q, root-cost.is)))
+      (are-values graph evidence costs ok total cs v (length graph.nodes - 1) 0 (omega (arith, ok.some, room)))
 
   module _ (xs : List ℕ) (s : IsSwept graph.nodes cs xs 0) where
     -- the cost of a marked node
-    cost-of : (k : ℕ) → k < length graph.nodes → IsMarked xs k → least_at graph words costs k ≡ Some (get_or cs k 0)
-    cost-of k h m = sym (value-is graph words costs cs v k h) ∙ cost_in-some (get_or cs k 0) (λ e. absurd (omega (arith, (own-cost (get_or xs k 0) (get_or cs k 0) (s.kept k h) m).1)))
+    cost-of : (k : ℕ) → k < length graph.nodes → IsMarked xs k → least_at graph evidence costs k ≡ Some (get_or cs k 0)
+    cost-of k h m = sym (value-is graph evidence costs cs v k h) ∙ cost_in-some (get_or cs k 0) (λ e. absurd (omega (arith, (own-cost (get_or xs k 0) (get_or cs k 0) (s.kept k h) m).1)))
 
     child-useful : (p k : ℕ) → p < length graph.nodes → k < length graph.nodes → IsMarked xs p → IsMarked xs k → is_child (node_at graph.nodes p).kids k ≡ true → get_or cs k 0 ≤ get_or cs p 0
-        → Useful graph words costs ok p → Useful graph words costs ok k
+        → Useful graph evidence costs ok p → Useful graph evidence costs ok k
     child-useful p k hp hk mp mk child cheap useful = by_kind (node_at graph.nodes p).what (node_at graph.nodes p).kids (slice_get-get_or graph.nodes p true_node hp) child where
-      by_kind : (what : NodeKind) (kids : List ℕ) → slice_get graph.nodes p ≡ Some (record { what = what; kids = kids }) → is_child kids k ≡ true → Useful graph words costs ok k
+      by_kind : (what : NodeKind) (kids : List ℕ) → slice_get graph.nodes p ≡ Some (record { what = what; kids = kids }) → is_child kids k ≡ true → Useful graph evidence costs ok k
       by_kind (Literal positive var) kids e i = absurd (no-kids graph ok p k var positive kids e (child-out kids k i))
-      by_kind And kids e i = useful-and graph words costs ok p kids (get_or cs p 0) e (cost-of p hp mp) useful k (child-out kids k i)
+      by_kind And kids e i = useful-and graph evidence costs ok p kids (get_or cs p 0) e (cost-of p hp mp) useful k (child-out kids k i)
       by_kind Or kids e i =
-          let least : get_or cs p 0 ≤ get_or cs k 0 = subst (λ o. AtMost o (get_or cs k 0)) (sym (costs-at graph words costs ok p _ e) ∙ cost-of p hp mp)
-          (cheapest-child (least_at graph words costs) kids k (get_or cs k 0) (child-out kids k i) (cost-of k hk mk)) in
+          let least : get_or cs p 0 ≤ get_or cs k 0 = subst (λ o. AtMost o (get_or cs k 0)) (sym (costs-at graph evidence costs ok p _ e) ∙ cost-of p hp mp)
+          (cheapest-child (least_at graph evidence costs) kids k (get_or cs k 0) (child-out kids k i) (cost-of k hk mk)) in
           let same : get_or cs k 0 ≡ get_or cs p 0 = omega arith in
-          useful-or graph words costs ok p kids (get_or cs p 0) e (cost-of p hp mp) useful k (child-out kids k i) (cost-of k hk mk ∙ ap Some same)
+          useful-or graph evidence costs ok p kids (get_or cs p 0) e (cost-of p hp mp) useful k (child-out kids k i) (cost-of k hk mk ∙ ap Some same)
 
     -- each marked node is part of making the root true at its least cost
-    marked-useful : (fuel k : ℕ) → length graph.nodes ≤ k + fuel → k < length graph.nodes → IsMarked xs k → Useful graph words costs ok k
+    marked-useful : (fuel k : ℕ) → length graph.nodes ≤ k + fuel → k < length graph.nodes → IsMarked xs k → Useful graph evidence costs ok k
     marked-useful zero k f h m = absurd (omega arith)
     marked-useful (suc fuel) k f h m = ⊎_elim
-        (λ (e : k ≡ length graph.nodes - 1). subst (Useful graph words costs ok) (sym e) (useful-root graph words costs ok))
+        (λ (e : k ≡ length graph.nodes - 1). subst (Useful graph evidence costs ok) (sym e) (useful-root graph evidence costs ok))
         (λ (p : HasMarkedParent graph.nodes cs xs k). child-useful p.parent k p.within h p.marked m p.child p.cheap
         (marked-useful fuel p.parent (omega (arith, child_before graph p.parent k ok p.within p.child)) p.within p.marked))
         (s.up k h m)
 
     -- a marked literal is of a suspect
-    literal-suspect : (k var : ℕ) (kids : List ℕ) → slice_get graph.nodes k ≡ Some (record { what = Literal false var; kids = kids }) → Useful graph words costs ok k
-        → 1 ≤ var → var ≤ length costs → get_or words (var - 1) 0 ≡ 0 → Suspect graph words costs (var - 1)
+    literal-suspect : (k var : ℕ) (kids : List ℕ) → slice_get graph.nodes k ≡ Some (record { what = Literal false var; kids = kids }) → Useful graph evidence costs ok k
+        → 1 ≤ var → var ≤ length costs → get_or evidence (var - 1) 0 ≡ 0 → Suspect graph evidence costs (var - 1)
     literal-suspect k var kids e useful low high open_ =
         let r = root-cost in
-        let f = useful-literal graph words costs ok k var kids e (ap known_of open_) useful r.cost r.is in
-        let t = state_of graph words costs ok long within f.by f.achieves.agrees f.achieves.holds in
+        let f = useful-literal graph evidence costs ok k var kids e (ap known_of open_) useful r.cost r.is in
+        let t = state_of graph evidence costs ok long within f.by f.achieves.agrees f.achieves.holds in
         grind arith
 
-    pub suspect-sound : (k part : ℕ) → k < length graph.nodes → suspect_at graph.nodes words (length costs) xs k ≡ Some part → Suspect graph words costs part
+    pub suspect-sound : (k part : ℕ) → k < length graph.nodes → suspect_at graph.nodes evidence (length costs) xs k ≡ Some part → Suspect graph evidence costs part
     suspect-sound k part h e = by_mark (has_mark (get_or xs k 0)) refl e where
-      by_kind : IsMarked xs k → (what : NodeKind) (kids : List ℕ) → slice_get graph.nodes k ≡ Some (record { what = what; kids = kids }) → suspect_of words (length costs) what ≡ Some part → Suspect graph words costs part
+      by_kind : IsMarked xs k → (what : NodeKind) (kids : List ℕ) → slice_get graph.nodes k ≡ Some (record { what = what; kids = kids }) → suspect_of evidence (length costs) what ≡ Some part → Suspect graph evidence costs part
       by_kind m (Literal true var) kids f q = absurd (cc)
-      by_kind m (Literal false var) kids f q = by_test (nat_le var (length costs) && (get_or words (var - 1) 0 == 0)) refl q where
-        by_test : (b : Bool) → (nat_le var (length costs) && (get_or words (var - 1) 0 == 0)) ≡ b → cond b (Some (var - 1)) None ≡ Some part → Suspect graph words costs part
+      by_kind m (Literal false var) kids f q = by_test (nat_le var (length costs) && (get_or evidence (var - 1) 0 == 0)) refl q where
+        by_test : (b : Bool) → (nat_le var (length costs) && (get_or evidence (var - 1) 0 == 0)) ≡ b → cond b (Some (var - 1)) None ≡ Some part → Suspect graph evidence costs part
         by_test true t r =
             let same : var - 1 ≡ part = same_Some (var - 1) part r in
-            subst (Suspect graph words costs) same
+            subst (Suspect graph evidence costs) same
             (literal-suspect k var kids f (marked-useful (length graph.nodes) k (omega arith) h m) (literal_at graph k var false kids ok f).0 (leb-true _ _ (and_left _ _ t)) (eqb-true _ _ (and_right (nat_le var (length costs)) _ t)))
         by_test false t r = absurd (cc)
       by_kind m And kids f q = absurd (cc)
       by_kind m Or kids f q = absurd (cc)
 
-      by_mark : (b : Bool) → has_mark (get_or xs k 0) ≡ b → cond b (suspect_of words (length costs) (node_at graph.nodes k).what) None ≡ Some part → Suspect graph words costs part
+      by_mark : (b : Bool) → has_mark (get_or xs k 0) ≡ b → cond b (suspect_of evidence (length costs) (node_at graph.nodes k).what) None ≡ Some part → Suspect graph evidence costs part
       by_mark true m q = by_kind m (node_at graph.nodes k).what (node_at graph.nodes k).kids (slice_get-get_or graph.nodes k true_node h) q
       by_mark false m q = absurd (cc)
 
     -- a child of a marked node is marked if it costs no more
-    child-swept : (k j c d : ℕ) (node : Node) → slice_get graph.nodes k ≡ Some node → least_at graph words costs k ≡ Some c → IsMarked xs k → In j node.kids → least_at graph words costs j ≡ Some d → d ≤ c
+    child-swept : (k j c d : ℕ) (node : Node) → slice_get graph.nodes k ≡ Some node → least_at graph evidence costs k ≡ Some c → IsMarked xs k → In j node.kids → least_at graph evidence costs j ≡ Some d → d ≤ c
         → IsMarked xs j
     child-swept k j c d node e f m i g le =
         let h : k < length graph.nodes = slice_get_within graph.nodes k node e in
-        let earlier : j < k = all-below k node.kids j (below graph words costs ok k node e) i in
+        let earlier : j < k = all-below k node.kids j (below graph evidence costs ok k node e) i in
         let at : node_at graph.nodes k ≡ node = get_or_from_slice_get graph.nodes k node true_node e in
-        let own : get_or cs k 0 ≡ c = cost_in-is (get_or cs k 0) c (value-is graph words costs cs v k h ∙ f) in
-        let his : get_or cs j 0 ≡ d = cost_in-is (get_or cs j 0) d (value-is graph words costs cs v j (omega arith) ∙ g) in
+        let own : get_or cs k 0 ≡ c = cost_in-is (get_or cs k 0) c (value-is graph evidence costs cs v k h ∙ f) in
+        let his : get_or cs j 0 ≡ d = cost_in-is (get_or cs j 0) d (value-is graph evidence costs cs v j (omega arith) ∙ g) in
         s.down k j (omega arith) h m (omega arith) (subst (λ (n : Node). is_child n.kids j ≡ true) (sym at) (child-in node.kids j i)) (omega arith)
 
     -- where an open part is faulty in a state of least cost, a marked literal says so
-    pub suspect-found : All (λ c. 0 < c) costs → (part : ℕ) → part < length costs → get_or words part 0 ≡ 0 → (h : List Bool) → LeastState graph words costs h → bit_in h part ≡ false
-        → (k : ℕ) × (k < length graph.nodes) × (suspect_at graph.nodes words (length costs) xs k ≡ Some part)
+    pub suspect-found : All (λ c. 0 < c) costs → (part : ℕ) → part < length costs → get_or evidence part 0 ≡ 0 → (h : List Bool) → LeastState graph evidence costs h → bit_in h part ≡ false
+        → (k : ℕ) × (k < length graph.nodes) × (suspect_at graph.nodes evidence (length costs) xs k ≡ Some part)
     suspect-found dears part lt open_ h is q =
         let r = root-cost in
         let same : is.most ≡ most = same_Some is.most most (sym is.least_is ∙ least_most) in
         let p = is.passes in
-        let a = assignment_of graph words costs ok long within h p.long p.model in
+        let a = assignment_of graph evidence costs ok long within h p.long p.model in
         let false_at : a.by (suc part) ≡ false = ap a.by (omega arith) ∙ sym (a.bits part lt) ∙ q in
-        let kn : known_at words (suc part) ≡ None = ap (λ j. known_of (get_or words j 0)) (one_less part) ∙ ap known_of open_ in
-        let dear : 0 < fault (known_at words (suc part)) (part_cost costs (suc part)) (a.by (suc part)) =
+        let kn : known_at evidence (suc part) ≡ None = ap (λ j. known_of (get_or evidence j 0)) (one_less part) ∙ ap known_of open_ in
+        let dear : 0 < fault (known_at evidence (suc part)) (part_cost costs (suc part)) (a.by (suc part)) =
         subst (λ n. 0 < n) (sym (λ i. fault (kn i) (part_cost costs (suc part)) (false_at i))) (dears part 0 lt) in
-        let on = on-root graph words costs ok a.by a.agrees (suc part) (omega arith) (omega arith) false_at dear r.cost r.is a.holds (omega (arith, a.cost_is, p.cheap, same, r.sum)) in
-        let x = descend graph words costs ok a.by a.agrees (suc part) (omega arith) (omega arith) false_at dear (IsMarked xs)
-        (λ k kids c f g m j i. let y = sum-child (least_at graph words costs) kids c j (sym (costs-at graph words costs ok k _ f) ∙ g) i in child-swept k j c y.0 _ f g m i y.1 y.2)
+        let on = on-root graph evidence costs ok a.by a.agrees (suc part) (omega arith) (omega arith) false_at dear r.cost r.is a.holds (omega (arith, a.cost_is, p.cheap, same, r.sum)) in
+        let x = descend graph evidence costs ok a.by a.agrees (suc part) (omega arith) (omega arith) false_at dear (IsMarked xs)
+        (λ k kids c f g m j i. let y = sum-child (least_at graph evidence costs) kids c j (sym (costs-at graph evidence costs ok k _ f) ∙ g) i in child-swept k j c y.0 _ f g m i y.1 y.2)
         (λ k kids c f g m j i t. child-swept k j c c _ f g m i t (omega arith))
         (length graph.nodes) (length graph.nodes - 1) (omega (arith, ok.some)) s.root on in
         (x.node, slice_get_within graph.nodes x.node _ x.is, found x.node x.kids x.is x.marked) where
-          found : (k : ℕ) (kids : List ℕ) → slice_get graph.nodes k ≡ Some (record { what = Literal false (suc part); kids = kids }) → IsMarked xs k → suspect_at graph.nodes words (length costs) xs k ≡ Some part
+          found : (k : ℕ) (kids : List ℕ) → slice_get graph.nodes k ≡ Some (record { what = Literal false (suc part); kids = kids }) → IsMarked xs k → suspect_at graph.nodes evidence (length costs) xs k ≡ Some part
           found k kids e m = grind (arith, get_or_from_slice_get)
 
-    pub ok-before : All (λ c. 0 < c) costs → (first at : ℕ) → at ≡ length graph.nodes → IsLeastSuspect (suspect_at graph.nodes words (length costs) xs) (length costs) at first → OkBelow graph words costs first
+    pub ok-before : All (λ c. 0 < c) costs → (first at : ℕ) → at ≡ length graph.nodes → IsLeastSuspect (suspect_at graph.nodes evidence (length costs) xs) (length costs) at first → OkBelow graph evidence costs first
     ok-before dears first at e f part lt open_ h is = grind (arith, suspect-found)
 
-    pub first-suspect : (first at : ℕ) → at ≡ length graph.nodes → IsLeastSuspect (suspect_at graph.nodes words (length costs) xs) (length costs) at first → first ≢ length costs → Suspect graph words costs first
+    pub first-suspect : (first at : ℕ) → at ≡ length graph.nodes → IsLeastSuspect (suspect_at graph.nodes evidence (length costs) xs) (length costs) at first → first ≢ length costs → Suspect graph evidence costs first
     first-suspect first at e f ne = let x = f.found (omega (arith, f.within)) in suspect-sound x.0 first (omega (arith, x.1)) x.2
 
-    pub flagged : All (λ c. 0 < c) costs → (state : List ℕ) (at : ℕ) → at ≡ length graph.nodes → length state ≡ length costs → AreFlagged (suspect_at graph.nodes words (length costs) xs) state at
-        → (part : ℕ) → part < length costs → (get_or state part 0 ≡ 1 → Suspect graph words costs part) × (Suspect graph words costs part → get_or state part 0 ≡ 1)
+    pub flagged : All (λ c. 0 < c) costs → (state : List ℕ) (at : ℕ) → at ≡ length graph.nodes → length state ≡ length costs → AreFlagged (suspect_at graph.nodes evidence (length costs) xs) state at
+        → (part : ℕ) → part < length costs → (get_or state part 0 ≡ 1 → Suspect graph evidence costs part) × (Suspect graph evidence costs part → get_or state part 0 ≡ 1)
     flagged dears state at e l f part lt = (
       λ one. let x = f.found part (omega arith) one in suspect-sound x.0 part (omega (arith, x.1)) x.2,
       λ p. let x = suspect-found dears part lt p.open_ p.state p.is_least p.faulty in f.all x.0 part (omega (arith, x.1)) (omega arith) x.2,

@@ -15,19 +15,19 @@ use Rattle.minimiser.proofs.Derivations.{is_cost}
 pub cost_in-is : (v c : ℕ) → cost_in v ≡ Some c → v ≡ c
 cost_in-is v c e = grind arith
 
-module _ (graph : Graph) (words costs : List ℕ) (cs : List ℕ) (v : AreLeastCosts graph words costs cs) where
-  pub value-is : (k : ℕ) → k < length graph.nodes → cost_in (get_or cs k 0) ≡ least_at graph words costs k
+module _ (graph : Graph) (evidence costs : List ℕ) (cs : List ℕ) (v : AreLeastCosts graph evidence costs cs) where
+  pub value-is : (k : ℕ) → k < length graph.nodes → cost_in (get_or cs k 0) ≡ least_at graph evidence costs k
   unfolding costs_to
-  value-is k h = sym (cost_at-map cs k (omega (arith, length-least_costs graph words costs cs v))) ∙ ap (λ xs. cost_at xs k) v
-      ∙ (λ i. cost_at (values (node_cost (known_at words) (part_cost costs)) (take-length graph.nodes i)) k)
+  value-is k h = sym (cost_at-map cs k (omega (arith, length-least_costs graph evidence costs cs v))) ∙ ap (λ xs. cost_at xs k) v
+      ∙ (λ i. cost_at (values (node_cost (known_at evidence) (part_cost costs)) (take-length graph.nodes i)) k)
 
   -- a node that is true has a cost, and no less than that is below it
   pub record HasLeast (a : Assignment) (k : ℕ) : Type 0 where
-    pub is : least_at graph words costs k ≡ Some (get_or cs k 0)
-    pub low : get_or cs k 0 ≤ faults_in (known_at words) (part_cost costs) (length costs) (λ u. mentions graph.nodes u k) a
+    pub is : least_at graph evidence costs k ≡ Some (get_or cs k 0)
+    pub low : get_or cs k 0 ≤ faults_in (known_at evidence) (part_cost costs) (length costs) (λ u. mentions graph.nodes u k) a
 
-  pub has_least : IsGraph graph → (a : Assignment) → Agrees (known_at words) (part_cost costs) (length costs) a → (k : ℕ) → k < length graph.nodes → is_true graph.nodes k a ≡ true → HasLeast a k
-  has_least ok a agree k h e = by_cost (least_at graph words costs k) refl ((is_cost graph words costs ok k).bound a agree e) where
-    by_cost : (o : Option ℕ) → least_at graph words costs k ≡ o → AtMost o (faults_in (known_at words) (part_cost costs) (length costs) (λ u. mentions graph.nodes u k) a) → HasLeast a k
+  pub has_least : IsGraph graph → (a : Assignment) → Agrees (known_at evidence) (part_cost costs) (length costs) a → (k : ℕ) → k < length graph.nodes → is_true graph.nodes k a ≡ true → HasLeast a k
+  has_least ok a agree k h e = by_cost (least_at graph evidence costs k) refl ((is_cost graph evidence costs ok k).bound a agree e) where
+    by_cost : (o : Option ℕ) → least_at graph evidence costs k ≡ o → AtMost o (faults_in (known_at evidence) (part_cost costs) (length costs) (λ u. mentions graph.nodes u k) a) → HasLeast a k
     by_cost None q b = absurd b
     by_cost (Some c) q b = let w = cost_in-is (get_or cs k 0) c (value-is k h ∙ q) in record { is = q ∙ ap Some (sym w); low = omega arith }

@@ -11,9 +11,9 @@ use Rattle.state_rules.specs.Graphs.{Graph, mentions, is_true, holds, IsGraph}
 use Rattle.state_rules.proofs.Members.{In, bits_in, bits_length, any_from, any_in, AtMost}
 use Rattle.state_rules.proofs.Mentions.{mentioned-range}
 use Rattle.state_rules.proofs.Bits.{bit_in-front}
-use Rattle.conditioner.specs.Words.{known_of}
-use Rattle.conditioner.specs.Models.{has_model, fits_words, models}
-use Rattle.conditioner.proofs.FittingWords.{fits_words-at, fits_words-from}
+use Rattle.conditioner.specs.Evidence.{known_of}
+use Rattle.conditioner.specs.Models.{has_model, fits_evidence, models}
+use Rattle.conditioner.proofs.FittingEvidence.{fits_evidence-at, fits_evidence-from}
 use Rattle.minimiser.specs.Costs.{part_cost, known_at, least_at}
 use Rattle.minimiser.specs.inner.Held.{held_one, held_cost}
 use Rattle.node_costs.specs.Costs.{total, TestCost, StateCost}
@@ -29,12 +29,12 @@ one_cost : (k : Option Bool) (c : ℕ) (b : Bool) → agrees_at k b ≡ true →
 one_cost k c b e = grind arith
 
 -- what the held parts cost, as a sum over their variables
-held-total : (f : ℕ → ℕ) (v : ℕ) (costs words : List ℕ) → length costs ≤ length words → ((i : ℕ) → i < length costs → f (v + i) ≡ held_one (get_or costs i 0) (known_of (get_or words i 0))) → total f v (length costs) ≡ held_cost costs words
-held-total f v [] words m e = refl
+held-total : (f : ℕ → ℕ) (v : ℕ) (costs evidence : List ℕ) → length costs ≤ length evidence → ((i : ℕ) → i < length costs → f (v + i) ≡ held_one (get_or costs i 0) (known_of (get_or evidence i 0))) → total f v (length costs) ≡ held_cost costs evidence
+held-total f v [] evidence m e = refl
 held-total f v (c ∷ costs) [] m e = absurd (omega arith)
-held-total f v (c ∷ costs) (w ∷ words) m e =
+held-total f v (c ∷ costs) (w ∷ evidence) m e =
     let first : v + 0 ≡ v = omega arith in
-    omega (arith, ap f (sym first) ∙ e zero (omega arith), held-total f (v + 1) costs words (omega arith) (λ i lt. ap f (let s : v + 1 + i ≡ v + suc i = omega arith in s) ∙ e (suc i) (omega arith)))
+    omega (arith, ap f (sym first) ∙ e zero (omega arith), held-total f (v + 1) costs evidence (omega arith) (λ i lt. ap f (let s : v + 1 + i ≡ v + suc i = omega arith in s) ∙ e (suc i) (omega arith)))
 
 -- a variable that is no part's costs nothing
 pub part_cost-none : (costs : List ℕ) (v : ℕ) → ((1 ≤ v) → (v < 1 + length costs) → ⊥) → part_cost costs v ≡ 0
@@ -66,9 +66,9 @@ from_bounds o n h low = grind arith
 less_one : (i : ℕ) → i ≡ 1 + i - 1
 less_one i = omega arith
 
-module _ (graph : Graph) (words costs : List ℕ) (ok : IsGraph graph) (long : length words ≡ graph.vars) (within : length costs ≤ graph.vars) where
+module _ (graph : Graph) (evidence costs : List ℕ) (ok : IsGraph graph) (long : length evidence ≡ graph.vars) (within : length costs ≤ graph.vars) where
   abbrev kn : ℕ → Option Bool
-  kn v = known_at words v
+  kn v = known_at evidence v
 
   abbrev price : ℕ → ℕ
   price v = part_cost costs v
@@ -80,9 +80,9 @@ module _ (graph : Graph) (words costs : List ℕ) (ok : IsGraph graph) (long : l
   truth_of a = is_true graph.nodes root a
 
   abbrev held : ℕ
-  held = held_cost costs words
+  held = held_cost costs evidence
 
-  root_is : IsLeastCost kn price (length costs) truth_of (λ v. mentions graph.nodes v root) (least_at graph words costs root)
+  root_is : IsLeastCost kn price (length costs) truth_of (λ v. mentions graph.nodes v root) (least_at graph evidence costs root)
   root_is = is_cost kn price (length costs) (part_cost-none costs) graph ok root
 
   -- the cost of a state that agrees
@@ -91,19 +91,19 @@ module _ (graph : Graph) (words costs : List ℕ) (ok : IsGraph graph) (long : l
   cost_by_bits bits a l same ag =
       let apart = total-add (λ v. held_one (price v) (kn v)) (λ v. fault (kn v) (price v) (a v)) (λ v. cond (a v) 0 (price v)) (λ v. one_cost (kn v) (price v) (a v) (ag v)) 1 (length costs) in
       cost-total (λ v. cond (a v) 0 (price v)) 1 costs bits l (λ i h j. cond (sym (same i h) j) 0 (part_cost costs (one_more i j))) ∙ apart
-      ∙ ap (λ m. m + all_faults kn price (length costs) a) (held-total (λ v. held_one (price v) (kn v)) 1 costs words (omega arith) (λ i h j. held_one (part_cost costs (one_more i j)) (known_of (get_or words (sym (less_one i) j) 0)))) where
+      ∙ ap (λ m. m + all_faults kn price (length costs) a) (held-total (λ v. held_one (price v) (kn v)) 1 costs evidence (omega arith) (λ i h j. held_one (part_cost costs (one_more i j)) (known_of (get_or evidence (sym (less_one i) j) 0)))) where
         one_more : (i : ℕ) → 1 + i ≡ suc i
         one_more i = omega arith
 
   abbrev is_model : List Bool → List Bool → Bool
-  is_model bits others = fits_words words (bits ++ others) && holds graph (bits ++ others)
+  is_model bits others = fits_evidence evidence (bits ++ others) && holds graph (bits ++ others)
 
-  -- an assignment, as a state of the parts that the words allow
+  -- an assignment, as a state of the parts that the evidence allows
   pub record StateOf (a : Assignment) : Type 0 where
     pub state : List Bool
     pub long_state : length state ≡ length costs
-    pub model : has_model graph (fits_words words) (length costs) state ≡ true
-    pub cost_is : cost costs state ≡ held_cost costs words + all_faults (known_at words) (part_cost costs) (length costs) a
+    pub model : has_model graph (fits_evidence evidence) (length costs) state ≡ true
+    pub cost_is : cost costs state ≡ held_cost costs evidence + all_faults (known_at evidence) (part_cost costs) (length costs) a
     pub bits : (i : ℕ) → i < length costs → bit_in state i ≡ a (1 + i)
 
   pub state_of : (a : Assignment) → Agrees kn price (length costs) a → truth_of a ≡ true → StateOf a
@@ -115,40 +115,40 @@ module _ (graph : Graph) (words costs : List ℕ) (ok : IsGraph graph) (long : l
       let joins : bits ++ others ≡ full = take-append-drop (length costs) full in
       let h_long : length bits ≡ length costs = length-take-le (length costs) full (omega arith) in
       let o_long : length others ≡ graph.vars - length costs = omega (arith, length-drop (length costs) full) in
-      let ag : fits_words words full ≡ true = full_agrees a agree in
+      let ag : fits_evidence evidence full ≡ true = full_agrees a agree in
       let tr : truth_of (assignment full) ≡ true = full_true a ∙ true_at in
-      let m : is_model bits others ≡ true = subst (λ xs. (fits_words words xs && holds graph xs) ≡ true) (sym joins) (and_from _ _ ag tr) in
-      let passes : has_model graph (fits_words words) (length costs) bits ≡ true = any_in (is_model bits) others _ (subst (λ n. In others (lists_of_bits n)) o_long (bits_in others)) m in
+      let m : is_model bits others ≡ true = subst (λ xs. (fits_evidence evidence xs && holds graph xs) ≡ true) (sym joins) (and_from _ _ ag tr) in
+      let passes : has_model graph (fits_evidence evidence) (length costs) bits ≡ true = any_in (is_model bits) others _ (subst (λ n. In others (lists_of_bits n)) o_long (bits_in others)) m in
       let same : (i : ℕ) → i < length costs → bit_in bits i ≡ a (1 + i) = λ i h. sym (bit_in-front bits others i (omega arith)) ∙ ap (λ xs. bit_in xs i) joins ∙ bit_in-bits_from a 1 graph.vars i (omega arith) in
       record { state = bits; long_state = h_long; model = passes; cost_is = cost_by_bits bits a h_long same agree; bits = same } where
-        full_agrees : (a : Assignment) → Agrees kn price (length costs) a → fits_words words (bits_from a 1 graph.vars) ≡ true
-        full_agrees a ag = grind (arith, fits_words-from, bit_in-bits_from, length-bits_from)
+        full_agrees : (a : Assignment) → Agrees kn price (length costs) a → fits_evidence evidence (bits_from a 1 graph.vars) ≡ true
+        full_agrees a ag = grind (arith, fits_evidence-from, bit_in-bits_from, length-bits_from)
 
         full_true : (a : Assignment) → truth_of (assignment (bits_from a 1 graph.vars)) ≡ truth_of a
         full_true a = root_is.local _ a (λ v m. let h = mentioned-range graph.vars graph.nodes v root ok.nodes.fit m in bit_in-bits_from a 1 graph.vars (v - 1) (omega (arith, h.low, h.high)) ∙ ap a (omega (arith, h.low, h.high)))
 
-  -- a state that the words allow, as an assignment
+  -- a state that the evidence allows, as an assignment
   pub record AssignmentOf (h : List Bool) : Type 0 where
     pub by : Assignment
-    pub agrees : Agrees (known_at words) (part_cost costs) (length costs) by
+    pub agrees : Agrees (known_at evidence) (part_cost costs) (length costs) by
     pub holds : is_true graph.nodes (length graph.nodes - 1) by ≡ true
-    pub cost_is : cost costs h ≡ held_cost costs words + all_faults (known_at words) (part_cost costs) (length costs) by
+    pub cost_is : cost costs h ≡ held_cost costs evidence + all_faults (known_at evidence) (part_cost costs) (length costs) by
     pub bits : (i : ℕ) → i < length costs → bit_in h i ≡ by (1 + i)
 
-  pub assignment_of : (h : List Bool) → length h ≡ length costs → has_model graph (fits_words words) (length costs) h ≡ true → AssignmentOf h
+  pub assignment_of : (h : List Bool) → length h ≡ length costs → has_model graph (fits_evidence evidence) (length costs) h ≡ true → AssignmentOf h
   assignment_of h l e =
       let r = any_from (is_model h) (lists_of_bits (graph.vars - length costs)) e in
       let len : length r.item ≡ graph.vars - length costs = bits_length (graph.vars - length costs) r.item r.is_in in
-      let ag : fits_words words (h ++ r.item) ≡ true = and_left _ _ r.passes in
-      let agree : Agrees kn price (length costs) (assignment (h ++ r.item)) = λ v. fits_words-at words (h ++ r.item) (omega (arith, length-append h r.item)) ag (v - 1) in
+      let ag : fits_evidence evidence (h ++ r.item) ≡ true = and_left _ _ r.passes in
+      let agree : Agrees kn price (length costs) (assignment (h ++ r.item)) = λ v. fits_evidence-at evidence (h ++ r.item) (omega (arith, length-append h r.item)) ag (v - 1) in
       let same : (i : ℕ) → i < length costs → bit_in h i ≡ assignment (h ++ r.item) (1 + i) = λ i g. sym (bit_in-front h r.item i (omega arith)) ∙ ap (bit_in (h ++ r.item)) (less_one i) in
-      record { by = assignment (h ++ r.item); agrees = agree; holds = and_right (fits_words words (h ++ r.item)) _ r.passes; cost_is = cost_by_bits h (assignment (h ++ r.item)) l same agree; bits = same }
+      record { by = assignment (h ++ r.item); agrees = agree; holds = and_right (fits_evidence evidence (h ++ r.item)) _ r.passes; cost_is = cost_by_bits h (assignment (h ++ r.item)) l same agree; bits = same }
 
   -- The least cost of a model is that of the held parts and of the root.
-  pub least_is : least costs (models graph words (length costs)) ≡ AddHeld held (least_at graph words costs root)
-  least_is = least-in costs (length costs) (has_model graph (fits_words words) (length costs)) (AddHeld held (least_at graph words costs root))
-      (least-more (TestCost (open_weights kn price (length costs)) (λ v. true) truth_of) (StateCost costs (length costs) (has_model graph (fits_words words) (length costs))) held
+  pub least_is : least costs (models graph evidence (length costs)) ≡ AddHeld held (least_at graph evidence costs root)
+  least_is = least-in costs (length costs) (has_model graph (fits_evidence evidence) (length costs)) (AddHeld held (least_at graph evidence costs root))
+      (least-more (TestCost (open_weights kn price (length costs)) (λ v. true) truth_of) (StateCost costs (length costs) (has_model graph (fits_evidence evidence) (length costs))) held
       (λ n c. let s = state_of c.by c.agrees c.meets in record { state = s.state; long = s.long_state; passes = s.model; cost_is = s.cost_is ∙ ap (λ k. held + k) c.cost_is })
       (λ n s. let a = assignment_of s.state s.long s.passes in
       (all_faults kn price (length costs) a.by, record { by = a.by; agrees = a.agrees; meets = a.holds; cost_is = refl }, sym a.cost_is ∙ s.cost_is))
-      (least_at graph words costs root) (widened kn price (length costs) truth_of (λ v. mentions graph.nodes v root) (λ v. true) (least_at graph words costs root) (λ v p. refl) root_is))
+      (least_at graph evidence costs root) (widened kn price (length costs) truth_of (λ v. mentions graph.nodes v root) (λ v. true) (least_at graph evidence costs root) (λ v p. refl) root_is))

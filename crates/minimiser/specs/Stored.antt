@@ -11,8 +11,8 @@ cost_in n = if n == NONE then None else Some n
 
 -- the least costs at the first nodes of a graph
 unfoldable pub costs_to : Graph → List ℕ → List ℕ → ℕ → List (Option ℕ)
-costs_to graph words costs i = values (node_cost (known_at words) (part_cost costs)) (take i graph.nodes)
+costs_to graph evidence costs i = values (node_cost (known_at evidence) (part_cost costs)) (take i graph.nodes)
 
 -- the numbers are the least costs at all nodes
 abbrev pub AreLeastCosts : Graph → List ℕ → List ℕ → List ℕ → Type 0
-AreLeastCosts graph words costs numbers = map cost_in numbers ≡ costs_to graph words costs (length graph.nodes)
+AreLeastCosts graph evidence costs numbers = map cost_in numbers ≡ costs_to graph evidence costs (length graph.nodes)

@@ -17,7 +17,7 @@ pub const TOTAL_LIMIT: u32 = 2_147_483_647;
 /// What means no cost.
 pub const NONE: u32 = u32::MAX;
 
-/// The least cost of a health state that some bits of the other variables make a model: they agree with the words, and the graph
+/// The least cost of a health state that some bits of the other variables make a model: it agrees with the evidence, and the graph
 /// is true under them. `None` if there is none.
 ///
 /// The parts are the first variables, and each has a cost. One that is fixed to faulty counts also if the graph does not mention
@@ -25,92 +25,96 @@ pub const NONE: u32 = u32::MAX;
 /// in `values`, for [`first_suspect`](crate::first_suspect) and [`find_suspects`](crate::find_suspects).
 pub fn least<L: Ledger>(
     graph: &Graph,
-    words: &[u32],
+    evidence: &[u32],
     costs: &[u32],
     values: &mut [u32],
     steps: &mut Steps<L>,
 ) -> Option<u32>
-    requires long { length words.now ≡ graph.now.vars }
-    requires words { All (λ w. w < 3) words.now }
+    requires long { length evidence.now ≡ graph.now.vars }
+    requires evidence { All (λ w. w < 3) evidence.now }
     requires parts { length costs.now ≤ graph.now.vars }
     requires total { total_cost costs.now < TOTAL_LIMIT }
     requires room { length values.old ≡ length graph.now.nodes }
 
-    ensures least { result ≡ least_under graph.now words.now costs.now }
-    ensures values { AreLeastCosts graph.now words.now costs.now values.new }
+    ensures least { result ≡ least_under graph.now evidence.now costs.now }
+    ensures values { AreLeastCosts graph.now evidence.now costs.now values.new }
     ensures steps { steps.new ≡ steps.old + 1 }
 {
-    least_in(&graph.view(), words, costs, values, steps)
+    least_in(&graph.view(), evidence, costs, values, steps)
 }
 
 /// What [`least`] does, in a graph whose nodes may lie anywhere.
 pub fn least_in<L: Ledger>(
     graph: &GraphView<'_>,
-    words: &[u32],
+    evidence: &[u32],
     costs: &[u32],
     values: &mut [u32],
     steps: &mut Steps<L>,
 ) -> Option<u32>
-    requires long { length words.now ≡ graph.now.vars }
-    requires words { All (λ w. w < 3) words.now }
+    requires long { length evidence.now ≡ graph.now.vars }
+    requires evidence { All (λ w. w < 3) evidence.now }
     requires parts { length costs.now ≤ graph.now.vars }
     requires total { total_cost costs.now < TOTAL_LIMIT }
     requires room { length values.old ≡ length graph.now.nodes }
 
-    ensures least { result ≡ least_under graph.now words.now costs.now }
-    ensures values { AreLeastCosts graph.now words.now costs.now values.new }
+    ensures least { result ≡ least_under graph.now evidence.now costs.now }
+    ensures values { AreLeastCosts graph.now evidence.now costs.now values.new }
     ensures steps { steps.new ≡ steps.old + 1 }
 {
-    put_least_costs(graph, words, costs, values, steps);
+    put_least_costs(graph, evidence, costs, values, steps);
     let root = values[graph.len() as usize - 1];
     if root == NONE {
         None
     } else {
-        Some(root + held_cost(words, costs))
+        Some(root + held_cost(evidence, costs))
     }
 }
 
 /// The pass that [`least`] makes, for one who needs the least cost at each node alone.
 pub fn put_least_costs<L: Ledger>(
     graph: &GraphView<'_>,
-    words: &[u32],
+    evidence: &[u32],
     costs: &[u32],
     values: &mut [u32],
     steps: &mut Steps<L>,
 )
-    requires long { length words.now ≡ graph.now.vars }
-    requires words { All (λ w. w < 3) words.now }
+    requires long { length evidence.now ≡ graph.now.vars }
+    requires evidence { All (λ w. w < 3) evidence.now }
     requires parts { length costs.now ≤ graph.now.vars }
     requires total { total_cost costs.now < TOTAL_LIMIT }
     requires room { length values.old ≡ length graph.now.nodes }
 
-    ensures values { AreLeastCosts graph.now words.now costs.now values.new }
+    ensures values { AreLeastCosts graph.now evidence.now costs.now values.new }
     ensures steps { steps.new ≡ steps.old + 1 }
 {
     steps.tick();
     let mut at = 0;
     for node in graph.walk() {
-        let value = node_value(&node, words, costs, &values[..at]);
+        let value = node_value(&node, evidence, costs, &values[..at]);
         values[at] = value;
         at += 1;
     }
 }
 
 // The least cost at a node, from those of the nodes before it.
-fn node_value(node: &NodeRef<'_>, words: &[u32], costs: &[u32], values: &[u32]) -> u32
-    requires fits { node_fits (length words.now) (length values.now) node.now ≡ true }
-    requires words { All (λ w. w < 3) words.now }
+fn node_value(node: &NodeRef<'_>, evidence: &[u32], costs: &[u32], values: &[u32]) -> u32
+    requires fits { node_fits (length evidence.now) (length values.now) node.now ≡ true }
+    requires evidence { All (λ w. w < 3) evidence.now }
     requires total { total_cost costs.now < TOTAL_LIMIT }
     requires small { node.now.what ≡ NodeKind.And
-        → IfSome (node_cost (known_at words.now) (part_cost costs.now) node.now (map cost_in values.now)) (λ n. n < TOTAL_LIMIT) }
-    ensures { cost_in result ≡ node_cost (known_at words.now) (part_cost costs.now) node.now (map cost_in values.now) }
+        → IfSome (node_cost (known_at evidence.now) (part_cost costs.now) node.now (map cost_in values.now)) (λ n. n < TOTAL_LIMIT) }
+    ensures { cost_in result ≡ node_cost (known_at evidence.now) (part_cost costs.now) node.now (map cost_in values.now) }
 {
     if let [one, other] = node.kids {
         return pair_value(node.what, values[*one as usize], values[*other as usize]);
     }
     match node.what {
         NodeKind::Literal { var, positive } => {
-            literal_value(leaf(words, var, positive), positive, part_cost(var, costs))
+            literal_value(
+                leaf(evidence, var, positive),
+                positive,
+                part_cost(var, costs),
+            )
         }
         NodeKind::And => and_value(values, node.kids),
         NodeKind::Or => or_value(values, node.kids),
@@ -188,18 +192,18 @@ fn or_value(values: &[u32], kids: &[u32]) -> u32
     best
 }
 
-// What the parts cost together that the words fix to faulty.
+// What the parts cost together that the evidence fixes to faulty.
 #[tactic(auto, using(crate::proofs::Held::held_steps))]
-pub(crate) fn held_cost(words: &[u32], costs: &[u32]) -> u32
-    requires words { All (λ w. w < 3) words.now }
-    requires long { length costs.now ≤ length words.now }
+pub(crate) fn held_cost(evidence: &[u32], costs: &[u32]) -> u32
+    requires evidence { All (λ w. w < 3) evidence.now }
+    requires long { length costs.now ≤ length evidence.now }
     requires total { total_cost costs.now < TOTAL_LIMIT }
-    ensures cost { result ≡ held_cost costs.now words.now }
+    ensures cost { result ≡ held_cost costs.now evidence.now }
     ensures few { result ≤ total_cost costs.now }
 {
     let mut total = 0;
     for (part, cost) in costs.iter().enumerate() {
-        if is_false(words[part]) {
+        if is_false(evidence[part]) {
             total += *cost;
         }
     }

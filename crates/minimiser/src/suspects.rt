@@ -14,23 +14,23 @@ const MARK: u32 = TOTAL_LIMIT + 1;
 
 /// The first open part that is faulty in some state of least cost, parts being counted from 0.
 ///
-/// The values are those that [`least`](crate::least) left if some state agrees with the words. They are spoilt. One sweep over
+/// The values are those that [`least`](crate::least) left if some state agrees with the evidence. They are spoilt. One sweep over
 /// the nodes, from the root down, and one look at them.
 pub fn first_suspect(
     graph: &GraphView<'_>,
-    words: &[u32],
+    evidence: &[u32],
     costs: &[u32],
     values: &mut [u32],
 ) -> Option<u32>
-    requires long { length words.now ≡ graph.now.vars }
+    requires long { length evidence.now ≡ graph.now.vars }
     requires parts { length costs.now ≤ graph.now.vars }
     requires total { total_cost costs.now < TOTAL_LIMIT }
     requires dear { All (λ c. 0 < c) costs.now }
-    requires values { AreLeastCosts graph.now words.now costs.now values.old }
-    requires some { IsSome (least_under graph.now words.now costs.now) }
+    requires values { AreLeastCosts graph.now evidence.now costs.now values.old }
+    requires some { IsSome (least_under graph.now evidence.now costs.now) }
 
-    ensures { MatchOption result (OkBelow graph.now words.now costs.now (length costs.now))
-        (λ part. Suspect graph.now words.now costs.now part × OkBelow graph.now words.now costs.now part) }
+    ensures { MatchOption result (OkBelow graph.now evidence.now costs.now (length costs.now))
+        (λ part. Suspect graph.now evidence.now costs.now part × OkBelow graph.now evidence.now costs.now part) }
 {
     // Its contract says that this is a graph.
     let _vars = graph.vars();
@@ -38,7 +38,7 @@ pub fn first_suspect(
     sweep(graph, values);
     let mut first = parts;
     for at in 0..graph.len() {
-        if let Some(part) = suspect_at(graph, words, parts, values, at) {
+        if let Some(part) = suspect_at(graph, evidence, parts, values, at) {
             first = first.min(part);
         }
     }
@@ -50,22 +50,22 @@ pub fn first_suspect(
 /// The values are as for [`first_suspect`]. They are spoilt.
 pub fn find_suspects(
     graph: &GraphView<'_>,
-    words: &[u32],
+    evidence: &[u32],
     costs: &[u32],
     values: &mut [u32],
     state: &mut [u32],
 )
-    requires long { length words.now ≡ graph.now.vars }
+    requires long { length evidence.now ≡ graph.now.vars }
     requires parts { length costs.now ≤ graph.now.vars }
     requires total { total_cost costs.now < TOTAL_LIMIT }
     requires dear { All (λ c. 0 < c) costs.now }
-    requires values { AreLeastCosts graph.now words.now costs.now values.old }
-    requires some { IsSome (least_under graph.now words.now costs.now) }
+    requires values { AreLeastCosts graph.now evidence.now costs.now values.old }
+    requires some { IsSome (least_under graph.now evidence.now costs.now) }
     requires state { length state.old ≡ length costs.now }
 
     ensures state { All (λ s. s < 2) state.new }
     ensures suspects { (part : ℕ) → part < length costs.now
-        → (slice_index state.new part ≡ 1) ↔ Suspect graph.now words.now costs.now part }
+        → (slice_index state.new part ≡ 1) ↔ Suspect graph.now evidence.now costs.now part }
 {
     // Its contract says that this is a graph.
     let _vars = graph.vars();
@@ -73,7 +73,7 @@ pub fn find_suspects(
     sweep(graph, values);
     state.fill(0);
     for at in 0..graph.len() {
-        if let Some(part) = suspect_at(graph, words, parts, values, at) {
+        if let Some(part) = suspect_at(graph, evidence, parts, values, at) {
             state[part as usize] = 1;
         }
     }
@@ -119,15 +119,15 @@ fn spread(values: &mut [u32], kids: &[u32], cost: u32)
 // The part of a marked open literal that says faulty.
 fn suspect_at(
     graph: &GraphView<'_>,
-    words: &[u32],
+    evidence: &[u32],
     parts: u32,
     values: &[u32],
     at: u32,
 ) -> Option<u32>
     requires at { at < length graph.now.nodes }
-    requires parts { parts ≤ length words.now }
+    requires parts { parts ≤ length evidence.now }
     requires room { length values.now ≡ length graph.now.nodes }
-    ensures suspect { result ≡ suspect_at graph.now.nodes words.now parts values.now at }
+    ensures suspect { result ≡ suspect_at graph.now.nodes evidence.now parts values.now at }
     ensures within { IfSome result (λ part. part < parts) }
 {
     // Its contract says that this is a graph.
@@ -136,19 +136,19 @@ fn suspect_at(
         return None;
     }
     match graph.what(at) {
-        NodeKind::Literal { var, positive } => suspect_of(var, positive, words, parts),
+        NodeKind::Literal { var, positive } => suspect_of(var, positive, evidence, parts),
         NodeKind::And => None,
         NodeKind::Or => None,
     }
 }
 
-fn suspect_of(var: u32, positive: bool, words: &[u32], parts: u32) -> Option<u32>
+fn suspect_of(var: u32, positive: bool, evidence: &[u32], parts: u32) -> Option<u32>
     requires var { 1 ≤ var }
-    requires parts { parts ≤ length words.now }
-    ensures suspect { result ≡ suspect_of words.now parts (NodeKind.Literal positive var) }
+    requires parts { parts ≤ length evidence.now }
+    ensures suspect { result ≡ suspect_of evidence.now parts (NodeKind.Literal positive var) }
     ensures within { IfSome result (λ part. part < parts) }
 {
-    if !positive && var <= parts && is_open(words[var as usize - 1]) {
+    if !positive && var <= parts && is_open(evidence[var as usize - 1]) {
         Some(var - 1)
     } else {
         None

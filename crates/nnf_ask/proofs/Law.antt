@@ -9,14 +9,14 @@ use Rattle.nnf_text.specs.GraphTexts.{Parsed, parsed}
 use Rattle.device_model.specs.declared.component.Component.{Component}
 use Rattle.device_model.specs.Devices.{Device, part_names, part_costs}
 use Rattle.device_model.specs.Diagnosis.{device_system}
-use Rattle.conditioner.specs.Words.{word_of_known}
+use Rattle.conditioner.specs.Evidence.{word_of_known}
 use Rattle.conditioner.specs.Models.{models}
 use Rattle.session_rules.specs.CaseSizes.{IsCaseOf}
-use Rattle.session_rules.specs.GraphSystems.{case_words}
+use Rattle.session_rules.specs.GraphSystems.{case_evidence}
 use Rattle.session_rules.specs.Items.{Whole}
 use Rattle.session_rules.specs.Spelling.{Spelled, IsWholeOf, IsGraphOf}
 use Rattle.session_rules.proofs.GraphMeaning.{same_consistent}
-use Rattle.session_rules.proofs.CaseWords.{unseen-words}
+use Rattle.session_rules.proofs.CaseEvidence.{unseen-words}
 use Rattle.nnf_ask.specs.Asking.{asked_system}
 use Rattle.nnf_ask.specs.Alike.{case_among, AreAlike}
 use Rattle.nnf_ask.proofs.VariableNames.{length-variable_names}
@@ -28,7 +28,7 @@ graph_meant device vars most text graph spelled read =
     is.3
 
 -- what a case says of the variables, it says among them
-same_words : (vars : ℕ) (known : Case) → case_words vars (case_among vars known) ≡ case_words vars known
+same_words : (vars : ℕ) (known : Case) → case_evidence vars (case_among vars known) ≡ case_evidence vars known
 same_words vars known =
     let count : ℕ = vars - (length known.held + length known.seen) in
     let more : List (Option Bool) = replicate count None in

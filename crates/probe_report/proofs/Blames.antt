@@ -8,7 +8,7 @@ use Rattle.state_rules.specs.Ranking.{least, passing, diagnoses}
 use Rattle.state_rules.proofs.Lists.{list_any-map}
 use Rattle.state_rules.proofs.Members.{In, any_in}
 use Rattle.state_rules.specs.Graphs.{Graph}
-use Rattle.conditioner.specs.Models.{has_model, fits_words, models, least_under, diagnoses_under}
+use Rattle.conditioner.specs.Models.{has_model, fits_evidence, models, least_under, diagnoses_under}
 use Rattle.minimiser.specs.LeastStates.{ModelWithin}
 use Rattle.minimiser.proofs.Models.{LeastIs, least-some, least-none, diagnosis-in, diagnosis-out}
 use Rattle.probe_report.specs.declared.verdicts.Blame.TheVariants.{Always, Sometimes, Never, Inconsistent}
@@ -52,50 +52,50 @@ module _ (f : List Bool → Bool) where
 
 -- ---- one part
 
-module _ (graph : Graph) (words costs : List ℕ) (i most : ℕ) (lt : i < length costs) (within : length costs ≤ graph.vars) (e : LeastIs graph costs words most) where
+module _ (graph : Graph) (evidence costs : List ℕ) (i most : ℕ) (lt : i < length costs) (within : length costs ≤ graph.vars) (e : LeastIs graph costs evidence most) where
   abbrev ds : List (List Bool)
-  ds = diagnoses_under graph words costs
+  ds = diagnoses_under graph evidence costs
 
   abbrev faulty : List Bool → Bool
   faulty state = not (bit_in state i)
 
   -- if it is ok in all, or faulty in all
-  pub all-ok : ((h : List Bool) → ModelWithin graph words costs most h → bit_in h i ≡ true) → Never ≡ blame_of graph words costs i
+  pub all-ok : ((h : List Bool) → ModelWithin graph evidence costs most h → bit_in h i ≡ true) → Never ≡ blame_of graph evidence costs i
   all-ok all =
-      let some = least-some graph costs within words most e in
-      verdict-never faulty ds some.state (diagnosis-in graph words costs most e some.state some.passes) (λ x m. ap not (all x (diagnosis-out graph words costs most e x m)))
+      let some = least-some graph costs within evidence most e in
+      verdict-never faulty ds some.state (diagnosis-in graph evidence costs most e some.state some.passes) (λ x m. ap not (all x (diagnosis-out graph evidence costs most e x m)))
 
-  pub all-faulty : ((h : List Bool) → ModelWithin graph words costs most h → bit_in h i ≡ false) → Always ≡ blame_of graph words costs i
+  pub all-faulty : ((h : List Bool) → ModelWithin graph evidence costs most h → bit_in h i ≡ false) → Always ≡ blame_of graph evidence costs i
   all-faulty all =
-      let some = least-some graph costs within words most e in
-      verdict-always faulty ds some.state (diagnosis-in graph words costs most e some.state some.passes) (λ x m. ap not (all x (diagnosis-out graph words costs most e x m)))
+      let some = least-some graph costs within evidence most e in
+      verdict-always faulty ds some.state (diagnosis-in graph evidence costs most e some.state some.passes) (λ x m. ap not (all x (diagnosis-out graph evidence costs most e x m)))
 
-  pub some-differ : (h k : List Bool) → ModelWithin graph words costs most h → ModelWithin graph words costs most k → bit_in h i ≡ false → bit_in k i ≡ true → Sometimes ≡ blame_of graph words costs i
-  some-differ h k p q a b = verdict-sometimes faulty ds h k (diagnosis-in graph words costs most e h p) (diagnosis-in graph words costs most e k q) (ap not a) (ap not b)
+  pub some-differ : (h k : List Bool) → ModelWithin graph evidence costs most h → ModelWithin graph evidence costs most k → bit_in h i ≡ false → bit_in k i ≡ true → Sometimes ≡ blame_of graph evidence costs i
+  some-differ h k p q a b = verdict-sometimes faulty ds h k (diagnosis-in graph evidence costs most e h p) (diagnosis-in graph evidence costs most e k q) (ap not a) (ap not b)
 
   abbrev HasLeast : Bool → Type 0
-  HasLeast bit = least costs (passing (length costs) (has_model graph (λ bits. fits_words words bits && same_bit bit (bit_in bits i)) (length costs))) ≡ Some most
+  HasLeast bit = least costs (passing (length costs) (has_model graph (λ bits. fits_evidence evidence bits && same_bit bit (bit_in bits i)) (length costs))) ≡ Some most
 
   -- a diagnosis that has not the one bit has the other
-  only : (bit : Bool) → (HasLeast (not bit) → ⊥) → (h : List Bool) → ModelWithin graph words costs most h → bit_in h i ≡ bit
+  only : (bit : Bool) → (HasLeast (not bit) → ⊥) → (h : List Bool) → ModelWithin graph evidence costs most h → bit_in h i ≡ bit
   only bit none h p = by_bit (bit_in h i) refl bit none where
     by_bit : (b : Bool) → bit_in h i ≡ b → (c : Bool) → (HasLeast (not c) → ⊥) → b ≡ c
     by_bit true q true no_other = refl
     by_bit false q false no_other = refl
-    by_bit true q false no_other = absurd (no_other (bit-in graph words costs i true lt most within e h p q))
-    by_bit false q true no_other = absurd (no_other (bit-in graph words costs i false lt most within e h p q))
+    by_bit true q false no_other = absurd (no_other (bit-in graph evidence costs i true lt most within e h p q))
+    by_bit false q true no_other = absurd (no_other (bit-in graph evidence costs i false lt most within e h p q))
 
-  pub is-never : (HasLeast false → ⊥) → Never ≡ blame_of graph words costs i
+  pub is-never : (HasLeast false → ⊥) → Never ≡ blame_of graph evidence costs i
   is-never none = all-ok (only true none)
 
-  pub is-always : (HasLeast true → ⊥) → Always ≡ blame_of graph words costs i
+  pub is-always : (HasLeast true → ⊥) → Always ≡ blame_of graph evidence costs i
   is-always none = all-faulty (only false none)
 
-  pub is-sometimes : HasLeast false → HasLeast true → Sometimes ≡ blame_of graph words costs i
+  pub is-sometimes : HasLeast false → HasLeast true → Sometimes ≡ blame_of graph evidence costs i
   is-sometimes has other =
-      let s = bit-out graph words costs i false lt most has in
-      let t = bit-out graph words costs i true lt most other in
+      let s = bit-out graph evidence costs i false lt most has in
+      let t = bit-out graph evidence costs i true lt most other in
       some-differ s.state t.state s.passes t.passes s.has t.has
 
-pub is-inconsistent : (graph : Graph) (words costs : List ℕ) (i : ℕ) → least_under graph words costs ≡ None → Inconsistent ≡ blame_of graph words costs i
-is-inconsistent graph words costs i e = λ j. verdict (map (λ state. not (bit_in state i)) (diagnoses costs (sym (least-none costs (models graph words (length costs)) e) j)))
+pub is-inconsistent : (graph : Graph) (evidence costs : List ℕ) (i : ℕ) → least_under graph evidence costs ≡ None → Inconsistent ≡ blame_of graph evidence costs i
+is-inconsistent graph evidence costs i e = λ j. verdict (map (λ state. not (bit_in state i)) (diagnoses costs (sym (least-none costs (models graph evidence (length costs)) e) j)))

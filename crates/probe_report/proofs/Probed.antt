@@ -8,8 +8,8 @@ use Rattle.std.proofs.lemmas.List.Sums.{sum_by-cons}
 use Rattle.state_rules.specs.Ranking.{least}
 use Rattle.state_rules.specs.Graphs.{Node, Graph, IsGraph}
 use Rattle.conditioner.specs.declared.leaves.Leaf.TheVariants.{True, False}
-use Rattle.conditioner.specs.Words.{known_of, word_of, leaf_of}
-use Rattle.conditioner.specs.Models.{has_model, fits_words, least_under, least_with, total_cost}
+use Rattle.conditioner.specs.Evidence.{known_of, word_of, leaf_of}
+use Rattle.conditioner.specs.Models.{has_model, fits_evidence, least_under, least_with, total_cost}
 use Rattle.node_costs.proofs.States.{least-out, least-in}
 use Rattle.minimiser.specs.Costs.{part_cost}
 use Rattle.minimiser.specs.Stored.{cost_in, AreLeastCosts}
@@ -26,21 +26,21 @@ use Rattle.probe_report.proofs.With.{with-true, with-false, with-open, with_bit,
 
 -- ---- what is held
 
-held-le : (costs words : List ℕ) → held_cost costs words ≤ total_cost costs
-held-le [] words = omega arith
+held-le : (costs evidence : List ℕ) → held_cost costs evidence ≤ total_cost costs
+held-le [] evidence = omega arith
 held-le (c ∷ costs) [] = omega arith
-held-le (c ∷ costs) (w ∷ words) = omega (arith, sum_by-cons (λ (x : ℕ). x) c costs, held-le costs words, one (known_of w)) where
+held-le (c ∷ costs) (w ∷ evidence) = omega (arith, sum_by-cons (λ (x : ℕ). x) c costs, held-le costs evidence, one (known_of w)) where
   one : (k : Option Bool) → held_one c k ≤ c
   one None = omega arith
   one (Some true) = omega arith
   one (Some false) = omega arith
 
 -- a variable that is no part's changes nothing of it
-held-same : (costs words : List ℕ) (i w : ℕ) → length costs ≤ i → held_cost costs (set words i w) ≡ held_cost costs words
-held-same [] words i w h = refl
+held-same : (costs evidence : List ℕ) (i w : ℕ) → length costs ≤ i → held_cost costs (set evidence i w) ≡ held_cost costs evidence
+held-same [] evidence i w h = refl
 held-same (c ∷ costs) [] i w h = refl
-held-same (c ∷ costs) (x ∷ words) zero w h = absurd (omega arith)
-held-same (c ∷ costs) (x ∷ words) (suc i) w h = ap (λ n. held_one c (known_of x) + n) (held-same costs words i w (omega arith))
+held-same (c ∷ costs) (x ∷ evidence) zero w h = absurd (omega arith)
+held-same (c ∷ costs) (x ∷ evidence) (suc i) w h = ap (λ n. held_one c (known_of x) + n) (held-same costs evidence i w (omega arith))
 
 -- what all cost without what the root does is held
 pub record Held (root fewest held : ℕ) : Type 0 where
@@ -49,9 +49,9 @@ pub record Held (root fewest held : ℕ) : Type 0 where
   pub small : fewest - root < 2147483647
   pub fits : fewest < 4294967295
 
-pub held-is : (graph : Graph) (words costs xs : List ℕ) (fewest root : ℕ) → IsGraph graph → length words ≡ graph.vars → length costs ≤ graph.vars → total_cost costs < 2147483647
-    → AreLeastCosts graph words costs xs → Some fewest ≡ least_under graph words costs → root ≡ length graph.nodes - 1 → Held (get_or xs root 0) fewest (held_cost costs words)
-held-is graph words costs xs fewest root ok long within total v e at = by_cost (cost_in (get_or xs (length graph.nodes - 1) 0)) refl (e ∙ is_least graph words costs xs ok long within v) where
+pub held-is : (graph : Graph) (evidence costs xs : List ℕ) (fewest root : ℕ) → IsGraph graph → length evidence ≡ graph.vars → length costs ≤ graph.vars → total_cost costs < 2147483647
+    → AreLeastCosts graph evidence costs xs → Some fewest ≡ least_under graph evidence costs → root ≡ length graph.nodes - 1 → Held (get_or xs root 0) fewest (held_cost costs evidence)
+held-is graph evidence costs xs fewest root ok long within total v e at = by_cost (cost_in (get_or xs (length graph.nodes - 1) 0)) refl (e ∙ is_least graph evidence costs xs ok long within v) where
   same : get_or xs root 0 ≡ get_or xs (length graph.nodes - 1) 0
   same = ap (λ k. get_or xs k 0) at
 
@@ -61,29 +61,29 @@ held-is graph words costs xs fewest root ok long within total v e at = by_cost (
     by_test true t r = absurd (cc)
     by_test false t r = (cc, eqb-false w 4294967295 t)
 
-  by_cost : (o : Option ℕ) → cost_in (get_or xs (length graph.nodes - 1) 0) ≡ o → Some fewest ≡ AddHeld (held_cost costs words) o → Held (get_or xs root 0) fewest (held_cost costs words)
+  by_cost : (o : Option ℕ) → cost_in (get_or xs (length graph.nodes - 1) 0) ≡ o → Some fewest ≡ AddHeld (held_cost costs evidence) o → Held (get_or xs root 0) fewest (held_cost costs evidence)
   by_cost None q r = absurd (cc)
   by_cost (Some c) q r =
       let w = value (get_or xs (length graph.nodes - 1) 0) c q in
-      let sum : fewest ≡ held_cost costs words + c = cc in
-      let low = value_small graph words costs (length graph.nodes - 1) xs ok v (omega (arith, ok.some, length-least_costs graph words costs xs v)) w.1 in
+      let sum : fewest ≡ held_cost costs evidence + c = cc in
+      let low = value_small graph evidence costs (length graph.nodes - 1) xs ok v (omega (arith, ok.some, length-least_costs graph evidence costs xs v)) w.1 in
       record {
         low = omega (arith, same, w.0, sum);
         is = omega (arith, same, w.0, sum);
-        small = omega (arith, same, w.0, sum, held-le costs words);
-        fits = omega (arith, w.0, sum, held-le costs words, low);
+        small = omega (arith, same, w.0, sum, held-le costs evidence);
+        fits = omega (arith, w.0, sum, held-le costs evidence, low);
       }
 
 -- ---- where nothing agrees, nothing does with a bit too
 
-pub with-none : (graph : Graph) (words costs : List ℕ) (var : ℕ) (bit : Bool) → least_under graph words costs ≡ None → None ≡ least_with graph words costs var bit
-with-none graph words costs var bit e = sym (least-in costs (length costs) (with_bit graph words costs (var - 1) bit) None
-    (λ n s. least-out costs (length costs) (has_model graph (fits_words words) (length costs)) None e n
-    (record { state = s.state; long = s.long; passes = with-model graph words costs (var - 1) bit s.state s.passes; cost_is = s.cost_is })))
+pub with-none : (graph : Graph) (evidence costs : List ℕ) (var : ℕ) (bit : Bool) → least_under graph evidence costs ≡ None → None ≡ least_with graph evidence costs var bit
+with-none graph evidence costs var bit e = sym (least-in costs (length costs) (with_bit graph evidence costs (var - 1) bit) None
+    (λ n s. least-out costs (length costs) (has_model graph (fits_evidence evidence) (length costs)) None e n
+    (record { state = s.state; long = s.long; passes = with-model graph evidence costs (var - 1) bit s.state s.passes; cost_is = s.cost_is })))
 
 -- ---- one wire
 
-module _ (graph : Graph) (words costs : List ℕ) (ok : IsGraph graph) (long : length words ≡ graph.vars) (total : total_cost costs < 2147483647) (vs os : List ℕ) (least_costs : AreLeastCosts graph words costs vs) (outer : AreOutsideCosts graph.nodes vs os 0)
+module _ (graph : Graph) (evidence costs : List ℕ) (ok : IsGraph graph) (long : length evidence ≡ graph.vars) (total : total_cost costs < 2147483647) (vs os : List ℕ) (least_costs : AreLeastCosts graph evidence costs vs) (outer : AreOutsideCosts graph.nodes vs os 0)
     (wire : ℕ) (room : length costs + wire < graph.vars) (bit : Bool) where
   abbrev var : ℕ
   var = length costs + wire + 1
@@ -96,42 +96,42 @@ module _ (graph : Graph) (words costs : List ℕ) (ok : IsGraph graph) (long : l
     next : length costs + wire + 1 ≡ suc (length costs + wire)
     next = omega arith
 
-  open-is : (fewest held best : ℕ) → get_or words (length costs + wire) 0 ≡ 0 → held ≡ held_cost costs words → held < 2147483647
+  open-is : (fewest held best : ℕ) → get_or evidence (length costs + wire) 0 ≡ 0 → held ≡ held_cost costs evidence → held < 2147483647
       → IsLowered (λ c. Without graph.nodes vs os (length costs + wire + 1) c ⊎ With graph.nodes os (length costs + wire + 1) bit c) 4294967295 best
-      → cost_in (settled 0 fewest held bit best) ≡ least_with graph words costs (length costs + wire + 1) bit
+      → cost_in (settled 0 fewest held bit best) ≡ least_with graph evidence costs (length costs + wire + 1) bit
   open-is fewest held best open_ e small lowest =
       by_size (nat_lt best 2147483647) refl
-      ∙ sym (ap (least costs) (sym (with-open graph words costs var bit long (omega arith) (omega arith) (omega arith) (ap (λ w. leaf_of bit (known_of w)) (sym (ap (λ i. get_or words i 0) place ∙ open_)))))
-      ∙ least_is graph (set words (var - 1) (word_of bit)) costs ok (length-set words (var - 1) (word_of bit) ∙ long) (omega arith)
-      ∙ (λ i. AddHeld (held-same costs words (var - 1) (word_of bit) (omega arith) i) (root-is graph words costs ok vs os least_costs outer total var bit (omega arith) (omega (arith, long)) (ap (λ j. get_or words j 0) place ∙ open_) free best lowest i))) where
-        by_size : (b : Bool) → nat_lt best 2147483647 ≡ b → cost_in (cond b (best + held) 4294967295) ≡ AddHeld (held_cost costs words) (cond b (Some best) None)
+      ∙ sym (ap (least costs) (sym (with-open graph evidence costs var bit long (omega arith) (omega arith) (omega arith) (ap (λ w. leaf_of bit (known_of w)) (sym (ap (λ i. get_or evidence i 0) place ∙ open_)))))
+      ∙ least_is graph (set evidence (var - 1) (word_of bit)) costs ok (length-set evidence (var - 1) (word_of bit) ∙ long) (omega arith)
+      ∙ (λ i. AddHeld (held-same costs evidence (var - 1) (word_of bit) (omega arith) i) (root-is graph evidence costs ok vs os least_costs outer total var bit (omega arith) (omega (arith, long)) (ap (λ j. get_or evidence j 0) place ∙ open_) free best lowest i))) where
+        by_size : (b : Bool) → nat_lt best 2147483647 ≡ b → cost_in (cond b (best + held) 4294967295) ≡ AddHeld (held_cost costs evidence) (cond b (Some best) None)
         by_size true t = cost_in-some (best + held) (λ q. absurd (omega (arith, ltb-true best 2147483647 t))) ∙ ap Some (omega (arith, e))
         by_size false t = refl
 
-  known-is : (fewest held best : ℕ) → Some fewest ≡ least_under graph words costs → fewest < 4294967295 → (b : Bool) → get_or words (length costs + wire) 0 ≡ word_of b
-      → cost_in (settled (word_of b) fewest held bit best) ≡ least_with graph words costs (length costs + wire + 1) bit
+  known-is : (fewest held best : ℕ) → Some fewest ≡ least_under graph evidence costs → fewest < 4294967295 → (b : Bool) → get_or evidence (length costs + wire) 0 ≡ word_of b
+      → cost_in (settled (word_of b) fewest held bit best) ≡ least_with graph evidence costs (length costs + wire + 1) bit
   known-is fewest held best e fits b says = by_bits b bit refl refl where
-    word : get_or words (length costs + wire + 1 - 1) 0 ≡ word_of b
-    word = ap (λ i. get_or words i 0) place ∙ says
+    word : get_or evidence (length costs + wire + 1 - 1) 0 ≡ word_of b
+    word = ap (λ i. get_or evidence i 0) place ∙ says
 
-    all : True ≡ leaf_of bit (known_of (get_or words (length costs + wire + 1 - 1) 0)) → cost_in fewest ≡ least_with graph words costs (length costs + wire + 1) bit
-    all is = cost_in-some fewest (λ q. absurd (omega arith)) ∙ e ∙ ap (least costs) (with-true graph words costs var bit long (omega arith) (omega arith) (omega arith) is)
+    all : True ≡ leaf_of bit (known_of (get_or evidence (length costs + wire + 1 - 1) 0)) → cost_in fewest ≡ least_with graph evidence costs (length costs + wire + 1) bit
+    all is = cost_in-some fewest (λ q. absurd (omega arith)) ∙ e ∙ ap (least costs) (with-true graph evidence costs var bit long (omega arith) (omega arith) (omega arith) is)
 
-    none : False ≡ leaf_of bit (known_of (get_or words (length costs + wire + 1 - 1) 0)) → cost_in 4294967295 ≡ least_with graph words costs (length costs + wire + 1) bit
-    none is = sym (ap (least costs) (with-false graph words costs var bit long (omega arith) (omega arith) (omega arith) is))
+    none : False ≡ leaf_of bit (known_of (get_or evidence (length costs + wire + 1 - 1) 0)) → cost_in 4294967295 ≡ least_with graph evidence costs (length costs + wire + 1) bit
+    none is = sym (ap (least costs) (with-false graph evidence costs var bit long (omega arith) (omega arith) (omega arith) is))
 
-    by_bits : (x y : Bool) → b ≡ x → bit ≡ y → cost_in (settled (word_of b) fewest held bit best) ≡ least_with graph words costs (length costs + wire + 1) bit
+    by_bits : (x y : Bool) → b ≡ x → bit ≡ y → cost_in (settled (word_of b) fewest held bit best) ≡ least_with graph evidence costs (length costs + wire + 1) bit
     by_bits true true p q = (λ i. cost_in (settled (word_of (p i)) fewest held (q i) best)) ∙ all (sym ((λ i. leaf_of (q i) (known_of ((word ∙ ap word_of p) i)))))
     by_bits true false p q = (λ i. cost_in (settled (word_of (p i)) fewest held (q i) best)) ∙ none (sym ((λ i. leaf_of (q i) (known_of ((word ∙ ap word_of p) i)))))
     by_bits false true p q = (λ i. cost_in (settled (word_of (p i)) fewest held (q i) best)) ∙ none (sym ((λ i. leaf_of (q i) (known_of ((word ∙ ap word_of p) i)))))
     by_bits false false p q = (λ i. cost_in (settled (word_of (p i)) fewest held (q i) best)) ∙ all (sym ((λ i. leaf_of (q i) (known_of ((word ∙ ap word_of p) i)))))
 
   -- what is answered for a wire
-  pub settled-is : (fewest held best : ℕ) → get_or words (length costs + wire) 0 < 3 → Some fewest ≡ least_under graph words costs → fewest < 4294967295 → held ≡ held_cost costs words → held < 2147483647
-      → (get_or words (length costs + wire) 0 ≡ 0 → IsLowered (λ c. Without graph.nodes vs os (length costs + wire + 1) c ⊎ With graph.nodes os (length costs + wire + 1) bit c) 4294967295 best)
-      → cost_in (settled (get_or words (length costs + wire) 0) fewest held bit best) ≡ least_with graph words costs (length costs + wire + 1) bit
-  settled-is fewest held best said e fits h small lowest = by_word (get_or words (length costs + wire) 0) refl where
-    by_word : (w : ℕ) → get_or words (length costs + wire) 0 ≡ w → cost_in (settled w fewest held bit best) ≡ least_with graph words costs (length costs + wire + 1) bit
+  pub settled-is : (fewest held best : ℕ) → get_or evidence (length costs + wire) 0 < 3 → Some fewest ≡ least_under graph evidence costs → fewest < 4294967295 → held ≡ held_cost costs evidence → held < 2147483647
+      → (get_or evidence (length costs + wire) 0 ≡ 0 → IsLowered (λ c. Without graph.nodes vs os (length costs + wire + 1) c ⊎ With graph.nodes os (length costs + wire + 1) bit c) 4294967295 best)
+      → cost_in (settled (get_or evidence (length costs + wire) 0) fewest held bit best) ≡ least_with graph evidence costs (length costs + wire + 1) bit
+  settled-is fewest held best said e fits h small lowest = by_word (get_or evidence (length costs + wire) 0) refl where
+    by_word : (w : ℕ) → get_or evidence (length costs + wire) 0 ≡ w → cost_in (settled w fewest held bit best) ≡ least_with graph evidence costs (length costs + wire + 1) bit
     by_word zero q = open-is fewest held best q h small (lowest q)
     by_word (suc zero) q = known-is fewest held best e fits true q
     by_word (suc (suc n)) q = let two : n ≡ 0 = omega (arith, q, said) in known-is fewest held best e fits false (q ∙ ap (λ m. suc (suc m)) two)

@@ -10,16 +10,16 @@ use Rattle.state_rules.proofs.Bits.{same_bit-refl, same_bit-equal, bit_in-front}
 use Rattle.state_rules.proofs.Members.{any_from, any_in}
 use Rattle.state_rules.specs.Graphs.{Graph, holds}
 use Rattle.conditioner.specs.declared.leaves.Leaf.TheVariants.{True, False, Open}
-use Rattle.conditioner.specs.Words.{known_of, word_of, leaf_of}
-use Rattle.conditioner.specs.Models.{has_model, fits_words, models, models_with}
-use Rattle.conditioner.proofs.FittingWords.{known_of-word_of, known-at}
+use Rattle.conditioner.specs.Evidence.{known_of, word_of, leaf_of}
+use Rattle.conditioner.specs.Models.{has_model, fits_evidence, models, models_with}
+use Rattle.conditioner.proofs.FittingEvidence.{known_of-word_of, known-at}
 use Rattle.conditioner.proofs.ModelsWith.{with_bit-open, with_bit-known, with_bit-other}
 use Rattle.minimiser.specs.LeastStates.{ModelWithin}
 use Rattle.node_costs.proofs.States.{least-out, least-in}
 use Rattle.minimiser.proofs.Costs.{and_left, and_right}
 use Rattle.minimiser.proofs.Models.{LeastIs, least-low}
 
--- ---- a literal under the words
+-- ---- a literal under the evidence
 
 leaf-true : (b : Bool) (k : Option Bool) → True ≡ leaf_of b k → k ≡ Some b
 leaf-true b None e = absurd (cc)
@@ -42,59 +42,59 @@ leaf-open false (suc zero) e = absurd (cc)
 leaf-open true (suc (suc n)) e = absurd (cc)
 leaf-open false (suc (suc n)) e = absurd (cc)
 
-module _ (graph : Graph) (words costs : List ℕ) (var : ℕ) (bit : Bool) (long : length words ≡ graph.vars) (within : length costs ≤ graph.vars) (low : 1 ≤ var) (high : var ≤ graph.vars) where
+module _ (graph : Graph) (evidence costs : List ℕ) (var : ℕ) (bit : Bool) (long : length evidence ≡ graph.vars) (within : length costs ≤ graph.vars) (low : 1 ≤ var) (high : var ≤ graph.vars) where
   abbrev i : ℕ
   i = var - 1
 
   inside : i < graph.vars
   inside = omega (arith, low, high)
 
-  pub with-true : True ≡ leaf_of bit (known_of (get_or words i 0)) → models graph words (length costs) ≡ models_with graph words (length costs) var bit
-  with-true e = sym (with_bit-known graph words (length costs) i bit long within inside (known-at words i ∙ leaf-true bit _ e))
+  pub with-true : True ≡ leaf_of bit (known_of (get_or evidence i 0)) → models graph evidence (length costs) ≡ models_with graph evidence (length costs) var bit
+  with-true e = sym (with_bit-known graph evidence (length costs) i bit long within inside (known-at evidence i ∙ leaf-true bit _ e))
 
-  pub with-open : Open ≡ leaf_of bit (known_of (get_or words i 0)) → models graph (set words i (word_of bit)) (length costs) ≡ models_with graph words (length costs) var bit
-  with-open e = sym (with_bit-open graph words (length costs) i bit long within inside (word_of bit) (known_of-word_of bit) (known-at words i ∙ ap known_of (leaf-open bit _ e)))
+  pub with-open : Open ≡ leaf_of bit (known_of (get_or evidence i 0)) → models graph (set evidence i (word_of bit)) (length costs) ≡ models_with graph evidence (length costs) var bit
+  with-open e = sym (with_bit-open graph evidence (length costs) i bit long within inside (word_of bit) (known_of-word_of bit) (known-at evidence i ∙ ap known_of (leaf-open bit _ e)))
 
-  pub with-false : False ≡ leaf_of bit (known_of (get_or words i 0)) → models_with graph words (length costs) var bit ≡ []
-  with-false e = with_bit-other graph words (length costs) i bit long within inside (known-at words i ∙ leaf-false bit _ e)
+  pub with-false : False ≡ leaf_of bit (known_of (get_or evidence i 0)) → models_with graph evidence (length costs) var bit ≡ []
+  with-false e = with_bit-other graph evidence (length costs) i bit long within inside (known-at evidence i ∙ leaf-false bit _ e)
 
 -- an open variable that was fixed is open again
-pub loose-again : (words : List ℕ) (i word : ℕ) → i < length words → get_or words i 0 ≡ 0 → set (set words i word) i 0 ≡ words
-loose-again words i word h e = same_number_lists (set (set words i word) i 0) words (length-set (set words i word) i 0 ∙ length-set words i word) (λ k g. ⊎_elim
-    (λ q. ap (λ j. get_or (set (set words i word) i 0) j 0) q ∙ get_or-set_same (set words i word) i 0 0 (omega (arith, length-set words i word)) ∙ sym e ∙ ap (λ j. get_or words j 0) (sym q))
-    (λ ne. get_or-set_other (set words i word) i k 0 0 ne ∙ get_or-set_other words i k word 0 ne)
+pub loose-again : (evidence : List ℕ) (i word : ℕ) → i < length evidence → get_or evidence i 0 ≡ 0 → set (set evidence i word) i 0 ≡ evidence
+loose-again evidence i word h e = same_number_lists (set (set evidence i word) i 0) evidence (length-set (set evidence i word) i 0 ∙ length-set evidence i word) (λ k g. ⊎_elim
+    (λ q. ap (λ j. get_or (set (set evidence i word) i 0) j 0) q ∙ get_or-set_same (set evidence i word) i 0 0 (omega (arith, length-set evidence i word)) ∙ sym e ∙ ap (λ j. get_or evidence j 0) (sym q))
+    (λ ne. get_or-set_other (set evidence i word) i k 0 0 ne ∙ get_or-set_other evidence i k word 0 ne)
     (cases_eq k i))
 
 -- ---- the states that have a bit
 
-module _ (graph : Graph) (words costs : List ℕ) (i : ℕ) (bit : Bool) where
+module _ (graph : Graph) (evidence costs : List ℕ) (i : ℕ) (bit : Bool) where
   abbrev pub with_bit : Test
-  with_bit = has_model graph (λ bits. fits_words words bits && same_bit bit (bit_in bits i)) (length costs)
+  with_bit = has_model graph (λ bits. fits_evidence evidence bits && same_bit bit (bit_in bits i)) (length costs)
 
-  -- they are allowed by the words
-  pub with-model : (h : List Bool) → with_bit h ≡ true → has_model graph (fits_words words) (length costs) h ≡ true
+  -- they are allowed by the evidence
+  pub with-model : (h : List Bool) → with_bit h ≡ true → has_model graph (fits_evidence evidence) (length costs) h ≡ true
   with-model h e =
-      let s = any_from (λ others. (fits_words words (h ++ others) && same_bit bit (bit_in (h ++ others) i)) && holds graph (h ++ others)) (lists_of_bits (graph.vars - length costs)) e in
-      any_in (λ others. fits_words words (h ++ others) && holds graph (h ++ others)) s.item (lists_of_bits (graph.vars - length costs)) s.is_in
-      (and_from _ _ (and_left _ _ (and_left _ _ s.passes)) (and_right (fits_words words (h ++ s.item) && same_bit bit (bit_in (h ++ s.item) i)) _ s.passes))
+      let s = any_from (λ others. (fits_evidence evidence (h ++ others) && same_bit bit (bit_in (h ++ others) i)) && holds graph (h ++ others)) (lists_of_bits (graph.vars - length costs)) e in
+      any_in (λ others. fits_evidence evidence (h ++ others) && holds graph (h ++ others)) s.item (lists_of_bits (graph.vars - length costs)) s.is_in
+      (and_from _ _ (and_left _ _ (and_left _ _ s.passes)) (and_right (fits_evidence evidence (h ++ s.item) && same_bit bit (bit_in (h ++ s.item) i)) _ s.passes))
 
   module _ (lt : i < length costs) where
     with-is : (h : List Bool) → length h ≡ length costs → with_bit h ≡ true → bit_in h i ≡ bit
     with-is h l e =
-        let s = any_from (λ others. (fits_words words (h ++ others) && same_bit bit (bit_in (h ++ others) i)) && holds graph (h ++ others)) (lists_of_bits (graph.vars - length costs)) e in
-        sym (bit_in-front h s.item i (omega arith)) ∙ sym (same_bit-equal bit (bit_in (h ++ s.item) i) (and_right (fits_words words (h ++ s.item)) _ (and_left _ _ s.passes)))
+        let s = any_from (λ others. (fits_evidence evidence (h ++ others) && same_bit bit (bit_in (h ++ others) i)) && holds graph (h ++ others)) (lists_of_bits (graph.vars - length costs)) e in
+        sym (bit_in-front h s.item i (omega arith)) ∙ sym (same_bit-equal bit (bit_in (h ++ s.item) i) (and_right (fits_evidence evidence (h ++ s.item)) _ (and_left _ _ s.passes)))
 
-    with-in : (h : List Bool) → length h ≡ length costs → has_model graph (fits_words words) (length costs) h ≡ true → bit_in h i ≡ bit → with_bit h ≡ true
+    with-in : (h : List Bool) → length h ≡ length costs → has_model graph (fits_evidence evidence) (length costs) h ≡ true → bit_in h i ≡ bit → with_bit h ≡ true
     with-in h l e f =
-        let s = any_from (λ others. fits_words words (h ++ others) && holds graph (h ++ others)) (lists_of_bits (graph.vars - length costs)) e in
-        any_in (λ others. (fits_words words (h ++ others) && same_bit bit (bit_in (h ++ others) i)) && holds graph (h ++ others)) s.item (lists_of_bits (graph.vars - length costs)) s.is_in
+        let s = any_from (λ others. fits_evidence evidence (h ++ others) && holds graph (h ++ others)) (lists_of_bits (graph.vars - length costs)) e in
+        any_in (λ others. (fits_evidence evidence (h ++ others) && same_bit bit (bit_in (h ++ others) i)) && holds graph (h ++ others)) s.item (lists_of_bits (graph.vars - length costs)) s.is_in
         (and_from _ _ (and_from _ _ (and_left _ _ s.passes) (subst (λ x. same_bit bit x ≡ true) (sym (bit_in-front h s.item i (omega arith) ∙ f)) (same_bit-refl bit)))
-        (and_right (fits_words words (h ++ s.item)) _ s.passes))
+        (and_right (fits_evidence evidence (h ++ s.item)) _ s.passes))
 
     -- some diagnosis has the bit
     pub record HasBit (most : ℕ) : Type 0 where
       pub state : List Bool
-      pub passes : ModelWithin graph words costs most state
+      pub passes : ModelWithin graph evidence costs most state
       pub has : bit_in state i ≡ bit
 
     pub bit-out : (most : ℕ) → least costs (passing (length costs) with_bit) ≡ Some most → HasBit most
@@ -102,8 +102,8 @@ module _ (graph : Graph) (words costs : List ℕ) (i : ℕ) (bit : Bool) where
         let s = (least-out costs (length costs) with_bit (Some most) f).0 in
         record { state = s.state; passes = record { long = s.long; model = with-model s.state s.passes; cheap = omega (arith, s.cost_is) }; has = with-is s.state s.long s.passes }
 
-    pub bit-in : (most : ℕ) → length costs ≤ graph.vars → LeastIs graph costs words most → (h : List Bool) → ModelWithin graph words costs most h → bit_in h i ≡ bit → least costs (passing (length costs) with_bit) ≡ Some most
+    pub bit-in : (most : ℕ) → length costs ≤ graph.vars → LeastIs graph costs evidence most → (h : List Bool) → ModelWithin graph evidence costs most h → bit_in h i ≡ bit → least costs (passing (length costs) with_bit) ≡ Some most
     bit-in most within e h p f = least-in costs (length costs) with_bit (Some most) (
-      record { state = h; long = p.long; passes = with-in h p.long p.model f; cost_is = omega (arith, p.cheap, least-low graph costs within words most h e p.long p.model) },
-      λ n s. omega (arith, least-low graph costs within words most s.state e s.long (with-model s.state s.passes), s.cost_is),
+      record { state = h; long = p.long; passes = with-in h p.long p.model f; cost_is = omega (arith, p.cheap, least-low graph costs within evidence most h e p.long p.model) },
+      λ n s. omega (arith, least-low graph costs within evidence most s.state e s.long (with-model s.state s.passes), s.cost_is),
     )

@@ -15,4 +15,4 @@ verdict (b ∷ faulty) =
 
 -- the verdict on a part, parts being counted from 0
 abbrev pub blame_of : Graph → List ℕ → List ℕ → ℕ → Blame
-blame_of graph words costs part = verdict (map (λ state. not (bit_in state part)) (diagnoses_under graph words costs))
+blame_of graph evidence costs part = verdict (map (λ state. not (bit_in state part)) (diagnoses_under graph evidence costs))

@@ -8,60 +8,60 @@ use std::sync::ledger::Ledger;
 
 /// The least cost if a wire's variable is 0, and if it is 1; none if no state is left.
 ///
-/// The words are the same afterwards. It takes two passes at most.
+/// The evidence is the same afterwards. It takes two passes at most.
 pub fn probe<L: Ledger>(
     graph: &Graph,
-    words: &mut [u32],
+    evidence: &mut [u32],
     costs: &[u32],
     wire: u32,
     values: &mut [u32],
     steps: &mut Steps<L>,
 ) -> (Option<u32>, Option<u32>)
-    requires long { length words.old ≡ graph.now.vars }
-    requires words { All (λ w. w < 3) words.old }
+    requires long { length evidence.old ≡ graph.now.vars }
+    requires evidence { All (λ w. w < 3) evidence.old }
     requires parts { length costs.now ≤ graph.now.vars }
     requires total { total_cost costs.now < TOTAL_LIMIT }
     requires wire { (length costs.now < wire) × (wire ≤ graph.now.vars) }
     requires room { length values.old ≡ length graph.now.nodes }
 
-    ensures zero { result.0 ≡ least_with graph.now words.old costs.now wire false }
-    ensures one { result.1 ≡ least_with graph.now words.old costs.now wire true }
-    ensures words { words.new ≡ words.old }
+    ensures zero { result.0 ≡ least_with graph.now evidence.old costs.now wire false }
+    ensures one { result.1 ≡ least_with graph.now evidence.old costs.now wire true }
+    ensures evidence { evidence.new ≡ evidence.old }
     ensures steps { steps.new ≤ steps.old + 2 }
 {
     let graph = &graph.view();
-    let zero = least_where(graph, words, costs, wire, false, values, steps);
-    let one = least_where(graph, words, costs, wire, true, values, steps);
+    let zero = least_where(graph, evidence, costs, wire, false, values, steps);
+    let one = least_where(graph, evidence, costs, wire, true, values, steps);
     (zero, one)
 }
 
 // The least cost where a variable has a bit too.
 pub(crate) fn least_where<L: Ledger>(
     graph: &GraphView<'_>,
-    words: &mut [u32],
+    evidence: &mut [u32],
     costs: &[u32],
     var: u32,
     bit: bool,
     values: &mut [u32],
     steps: &mut Steps<L>,
 ) -> Option<u32>
-    requires long { length words.old ≡ graph.now.vars }
-    requires words { All (λ w. w < 3) words.old }
+    requires long { length evidence.old ≡ graph.now.vars }
+    requires evidence { All (λ w. w < 3) evidence.old }
     requires parts { length costs.now ≤ graph.now.vars }
     requires total { total_cost costs.now < TOTAL_LIMIT }
     requires var { (1 ≤ var) × (var ≤ graph.now.vars) }
     requires room { length values.old ≡ length graph.now.nodes }
-    ensures least { result ≡ least_with graph.now words.old costs.now var bit }
-    ensures words { words.new ≡ words.old }
+    ensures least { result ≡ least_with graph.now evidence.old costs.now var bit }
+    ensures evidence { evidence.new ≡ evidence.old }
     ensures steps { steps.new ≤ steps.old + 1 }
 {
-    match leaf(words, var, bit) {
-        Leaf::True => least_in(graph, words, costs, values, steps),
+    match leaf(evidence, var, bit) {
+        Leaf::True => least_in(graph, evidence, costs, values, steps),
         Leaf::False => None,
         Leaf::Open => {
-            fix(words, var, bit);
-            let fewest = least_in(graph, words, costs, values, steps);
-            loose(words, var);
+            fix(evidence, var, bit);
+            let fewest = least_in(graph, evidence, costs, values, steps);
+            loose(evidence, var);
             fewest
         }
     }

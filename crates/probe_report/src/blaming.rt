@@ -10,32 +10,32 @@ use std::sync::ledger::Ledger;
 
 /// Whether a part is faulty in all diagnoses, in some, or in none.
 ///
-/// The words are the same afterwards. It takes three passes at most.
+/// The evidence is the same afterwards. It takes three passes at most.
 pub fn blame<L: Ledger>(
     graph: &Graph,
-    words: &mut [u32],
+    evidence: &mut [u32],
     costs: &[u32],
     part: u32,
     values: &mut [u32],
     steps: &mut Steps<L>,
 ) -> Blame
-    requires long { length words.old ≡ graph.now.vars }
-    requires words { All (λ w. w < 3) words.old }
+    requires long { length evidence.old ≡ graph.now.vars }
+    requires evidence { All (λ w. w < 3) evidence.old }
     requires parts { length costs.now ≤ graph.now.vars }
     requires total { total_cost costs.now < TOTAL_LIMIT }
     requires part { (1 ≤ part) × (part ≤ length costs.now) }
     requires room { length values.old ≡ length graph.now.nodes }
 
-    ensures blame { result ≡ blame_of graph.now words.old costs.now (part - 1) }
-    ensures words { words.new ≡ words.old }
+    ensures blame { result ≡ blame_of graph.now evidence.old costs.now (part - 1) }
+    ensures evidence { evidence.new ≡ evidence.old }
     ensures steps { steps.new ≤ steps.old + 3 }
 {
-    let Some(fewest) = least(graph, words, costs, values, steps) else {
+    let Some(fewest) = least(graph, evidence, costs, values, steps) else {
         return Blame::Inconsistent;
     };
     let graph = &graph.view();
-    if some_has(graph, words, costs, part, false, fewest, values, steps) {
-        blame_faulty(graph, words, costs, part, fewest, values, steps)
+    if some_has(graph, evidence, costs, part, false, fewest, values, steps) {
+        blame_faulty(graph, evidence, costs, part, fewest, values, steps)
     } else {
         Blame::Never
     }
@@ -44,27 +44,27 @@ pub fn blame<L: Ledger>(
 /// What [`blame`] says of a part that is faulty in some diagnosis, if the least cost is known. It takes one pass at most.
 pub fn blame_faulty<L: Ledger>(
     graph: &GraphView<'_>,
-    words: &mut [u32],
+    evidence: &mut [u32],
     costs: &[u32],
     part: u32,
     fewest: u32,
     values: &mut [u32],
     steps: &mut Steps<L>,
 ) -> Blame
-    requires long { length words.old ≡ graph.now.vars }
-    requires words { All (λ w. w < 3) words.old }
+    requires long { length evidence.old ≡ graph.now.vars }
+    requires evidence { All (λ w. w < 3) evidence.old }
     requires parts { length costs.now ≤ graph.now.vars }
     requires total { total_cost costs.now < TOTAL_LIMIT }
     requires part { (1 ≤ part) × (part ≤ length costs.now) }
     requires room { length values.old ≡ length graph.now.nodes }
-    requires least { least_under graph.now words.old costs.now ≡ Some fewest }
-    requires faulty { least_with graph.now words.old costs.now part false ≡ Some fewest }
+    requires least { least_under graph.now evidence.old costs.now ≡ Some fewest }
+    requires faulty { least_with graph.now evidence.old costs.now part false ≡ Some fewest }
 
-    ensures blame { result ≡ blame_of graph.now words.old costs.now (part - 1) }
-    ensures words { words.new ≡ words.old }
+    ensures blame { result ≡ blame_of graph.now evidence.old costs.now (part - 1) }
+    ensures evidence { evidence.new ≡ evidence.old }
     ensures steps { steps.new ≤ steps.old + 1 }
 {
-    if some_has(graph, words, costs, part, true, fewest, values, steps) {
+    if some_has(graph, evidence, costs, part, true, fewest, values, steps) {
         Blame::Sometimes
     } else {
         Blame::Always
@@ -74,7 +74,7 @@ pub fn blame_faulty<L: Ledger>(
 // Whether some diagnosis has a bit for a part, the least cost being given.
 fn some_has<L: Ledger>(
     graph: &GraphView<'_>,
-    words: &mut [u32],
+    evidence: &mut [u32],
     costs: &[u32],
     part: u32,
     bit: bool,
@@ -82,15 +82,15 @@ fn some_has<L: Ledger>(
     values: &mut [u32],
     steps: &mut Steps<L>,
 ) -> bool
-    requires long { length words.old ≡ graph.now.vars }
-    requires words { All (λ w. w < 3) words.old }
+    requires long { length evidence.old ≡ graph.now.vars }
+    requires evidence { All (λ w. w < 3) evidence.old }
     requires parts { length costs.now ≤ graph.now.vars }
     requires total { total_cost costs.now < TOTAL_LIMIT }
     requires part { (1 ≤ part) × (part ≤ length costs.now) }
     requires room { length values.old ≡ length graph.now.nodes }
-    ensures has { IsTrue result ↔ (least_with graph.now words.old costs.now part bit ≡ Some fewest) }
-    ensures words { words.new ≡ words.old }
+    ensures has { IsTrue result ↔ (least_with graph.now evidence.old costs.now part bit ≡ Some fewest) }
+    ensures evidence { evidence.new ≡ evidence.old }
     ensures steps { steps.new ≤ steps.old + 1 }
 {
-    least_where(graph, words, costs, part, bit, values, steps) == Some(fewest)
+    least_where(graph, evidence, costs, part, bit, values, steps) == Some(fewest)
 }

@@ -16,7 +16,7 @@ pub(crate) fn lower_without<L: Ledger>(
     graph: &Graph,
     values: &[u32],
     outers: &[u32],
-    words: &[u32],
+    evidence: &[u32],
     parts: u32,
     marks: &mut [u32],
     list: &mut [u32],
@@ -25,9 +25,9 @@ pub(crate) fn lower_without<L: Ledger>(
     requires values { length values.now ≡ length graph.now.nodes }
     requires outers { length outers.now ≡ length graph.now.nodes }
     requires marks { length marks.old ≡ 2 * length graph.now.nodes }
-    requires words { length words.now ≡ graph.now.vars }
+    requires evidence { length evidence.now ≡ graph.now.vars }
     requires wires { parts + length list.old ≤ graph.now.vars }
-    ensures lowered { (i : ℕ) → i < length list.old → slice_index words.now (parts + i) ≡ 0
+    ensures lowered { (i : ℕ) → i < length list.old → slice_index evidence.now (parts + i) ≡ 0
         → IsLowered (Without graph.now.nodes values.now outers.now (parts + i + 1)) (slice_index list.old i) (slice_index list.new i) }
     ensures steps { steps.new ≤ steps.old + (length list.old + 63) / 64 }
 {
@@ -35,7 +35,7 @@ pub(crate) fn lower_without<L: Ledger>(
     for block in 0..wires.div_ceil(WIDTH as usize) {
         let start = block * WIDTH as usize;
         let end = (start + WIDTH as usize).min(wires);
-        if is_some_open(words, parts as usize + start, parts as usize + end) {
+        if is_some_open(evidence, parts as usize + start, parts as usize + end) {
             steps.tick();
             lower_block(graph, values, outers, parts, start, marks, list);
         }
@@ -43,13 +43,13 @@ pub(crate) fn lower_without<L: Ledger>(
 }
 
 // Whether a word from a place on and before another says nothing.
-fn is_some_open(words: &[u32], from: usize, to: usize) -> bool
+fn is_some_open(evidence: &[u32], from: usize, to: usize) -> bool
     requires from { from ≤ to }
-    requires to { to ≤ length words.now }
-    ensures { result ≡ false → (i : ℕ) → from ≤ i → i < to → slice_index words.now i ≢ 0 }
+    requires to { to ≤ length evidence.now }
+    ensures { result ≡ false → (i : ℕ) → from ≤ i → i < to → slice_index evidence.now i ≢ 0 }
 {
     for i in from..to {
-        if is_open(words[i]) {
+        if is_open(evidence[i]) {
             return true;
         }
     }

@@ -17,22 +17,22 @@ use std::sync::ledger::Ledger;
 /// The room is worked in, and holds nothing afterwards.
 pub fn probe_all<L: Ledger>(
     graph: &Graph,
-    words: &[u32],
+    evidence: &[u32],
     costs: &[u32],
     room: &mut [u32],
     numbers: &mut [u32],
     steps: &mut Steps<L>,
 ) -> Option<u32>
-    requires long { length words.now ≡ graph.now.vars }
-    requires words { All (λ w. w < 3) words.now }
+    requires long { length evidence.now ≡ graph.now.vars }
+    requires evidence { All (λ w. w < 3) evidence.now }
     requires even { length numbers.old % 2 ≡ 0 }
     requires wires { length costs.now + length numbers.old / 2 ≤ graph.now.vars }
     requires total { total_cost costs.now < TOTAL_LIMIT }
     requires room { length room.old ≡ 4 * length graph.now.nodes }
 
-    ensures least { result ≡ least_under graph.now words.now costs.now }
+    ensures least { result ≡ least_under graph.now evidence.now costs.now }
     ensures probes { (wire : ℕ) (bit : Bool) → wire < length numbers.old / 2
-        → probed numbers.new wire bit ≡ least_with graph.now words.now costs.now (length costs.now + wire + 1) bit }
+        → probed numbers.new wire bit ≡ least_with graph.now evidence.now costs.now (length costs.now + wire + 1) bit }
 
     // A pass, a sweep for what is outside of nodes, two for literals, and one for each 64 wires of which one is not seen.
     ensures steps { steps.new ≤ steps.old + 4 + (length numbers.old / 2 + 63) / 64 }
@@ -41,7 +41,7 @@ pub fn probe_all<L: Ledger>(
     let (values, room) = room.split_at_mut(graph.len() as usize);
     let (outers, marks) = room.split_at_mut(graph.len() as usize);
     probe_wires(
-        graph, words, costs, values, outers, marks, zeros, ones, steps,
+        graph, evidence, costs, values, outers, marks, zeros, ones, steps,
     )
 }
 
@@ -66,7 +66,7 @@ pub fn cost_of(numbers: &[u32], wire: usize, bit: bool) -> Option<u32>
 // The numbers of the wires where they are 0, and those where they are 1.
 fn probe_wires<L: Ledger>(
     graph: &Graph,
-    words: &[u32],
+    evidence: &[u32],
     costs: &[u32],
     values: &mut [u32],
     outers: &mut [u32],
@@ -75,8 +75,8 @@ fn probe_wires<L: Ledger>(
     ones: &mut [u32],
     steps: &mut Steps<L>,
 ) -> Option<u32>
-    requires long { length words.now ≡ graph.now.vars }
-    requires words { All (λ w. w < 3) words.now }
+    requires long { length evidence.now ≡ graph.now.vars }
+    requires evidence { All (λ w. w < 3) evidence.now }
     requires wires { length costs.now + length zeros.old ≤ graph.now.vars }
     requires total { total_cost costs.now < TOTAL_LIMIT }
     requires values { length values.old ≡ length graph.now.nodes }
@@ -84,30 +84,30 @@ fn probe_wires<L: Ledger>(
     requires marks { length marks.old ≡ 2 * length graph.now.nodes }
     requires ones { length ones.old ≡ length zeros.old }
 
-    ensures least { result ≡ least_under graph.now words.now costs.now }
+    ensures least { result ≡ least_under graph.now evidence.now costs.now }
     ensures zeros { (wire : ℕ) → wire < length zeros.old
-        → cost_in (slice_index zeros.new wire) ≡ least_with graph.now words.now costs.now (length costs.now + wire + 1) false }
+        → cost_in (slice_index zeros.new wire) ≡ least_with graph.now evidence.now costs.now (length costs.now + wire + 1) false }
     ensures ones { (wire : ℕ) → wire < length ones.old
-        → cost_in (slice_index ones.new wire) ≡ least_with graph.now words.now costs.now (length costs.now + wire + 1) true }
+        → cost_in (slice_index ones.new wire) ≡ least_with graph.now evidence.now costs.now (length costs.now + wire + 1) true }
     ensures steps { steps.new ≤ steps.old + 4 + (length zeros.old + 63) / 64 }
 {
     // Its contract says that this is a graph.
     let _vars = graph.vars();
     zeros.fill(u32::MAX);
     ones.fill(u32::MAX);
-    let fewest = least(graph, words, costs, values, steps)?;
+    let fewest = least(graph, evidence, costs, values, steps)?;
     let parts = costs.len() as u32;
     put_outside_costs(graph, values, outers);
     steps.tick();
-    lower_without(graph, values, outers, words, parts, marks, zeros, steps);
+    lower_without(graph, values, outers, evidence, parts, marks, zeros, steps);
     ones.copy_from_slice(zeros);
     lower_with(graph, outers, parts, false, zeros);
     steps.tick();
     lower_with(graph, outers, parts, true, ones);
     steps.tick();
     let held = fewest - values[graph.len() as usize - 1];
-    settle(words, parts, fewest, held, false, zeros);
-    settle(words, parts, fewest, held, true, ones);
+    settle(evidence, parts, fewest, held, false, zeros);
+    settle(evidence, parts, fewest, held, true, ones);
     Some(fewest)
 }
 
@@ -145,15 +145,15 @@ fn lower_wire(var: u32, parts: u32, cost: u32, list: &mut [u32])
 }
 
 // Adds what is held to the number of each wire that is not seen, and gives those that are seen what all have or none.
-fn settle(words: &[u32], parts: u32, fewest: u32, held: u32, bit: bool, list: &mut [u32])
-    requires words { All (λ w. w < 3) words.now }
-    requires long { parts + length list.old ≤ length words.now }
+fn settle(evidence: &[u32], parts: u32, fewest: u32, held: u32, bit: bool, list: &mut [u32])
+    requires evidence { All (λ w. w < 3) evidence.now }
+    requires long { parts + length list.old ≤ length evidence.now }
     requires held { held < TOTAL_LIMIT }
     ensures { (i : ℕ) → i < length list.old
-        → slice_index list.new i ≡ settled (slice_index words.now (parts + i)) fewest held bit (slice_index list.old i) }
+        → slice_index list.new i ≡ settled (slice_index evidence.now (parts + i)) fewest held bit (slice_index list.old i) }
 {
     for i in 0..list.len() {
-        list[i] = settled(words[parts as usize + i], fewest, held, bit, list[i]);
+        list[i] = settled(evidence[parts as usize + i], fewest, held, bit, list[i]);
     }
 }
 

@@ -13,7 +13,7 @@ use Rattle.state_rules.specs.declared.nodes.NodeKind.{NodeKind}
 use Rattle.state_rules.specs.Graphs.{Node, Graph, literal_node, edges}
 use Rattle.nnf_text.specs.WrittenGraphs.{kind_words, node_words}
 use Rattle.nnf_text.proofs.LineTexts.{header, lines, text-lines, and-spaced}
-use Rattle.conditioner.specs.Words.{known_of, known}
+use Rattle.conditioner.specs.Evidence.{known_of, known}
 use Rattle.projector.specs.Projecting.{projected_kind, projected_node, held_literals, root_with, projection, projected_text}
 use Rattle.projector.specs.inner.Lines.{held_line}
 use Rattle.projector.proofs.HeldLiterals.{held_from, held-edges}
@@ -69,62 +69,62 @@ root-text nodes held some =
 
 -- ---- the line of a node
 
-pub projected-line : (words : List ℕ) (parts : ℕ) (node : Node) (kind become : NodeKind) (kids : List ℕ) → become ≡ projected_kind words parts kind → kind ≡ node.what → kids ≡ node.kids
-    → spaced (kind_words become kids) ≡ spaced (node_words (projected_node words parts node))
-projected-line words parts node kind become kids b k s = (λ i. spaced (kind_words ((b ∙ ap (projected_kind words parts) k) i) (s i)))
+pub projected-line : (evidence : List ℕ) (parts : ℕ) (node : Node) (kind become : NodeKind) (kids : List ℕ) → become ≡ projected_kind evidence parts kind → kind ≡ node.what → kids ≡ node.kids
+    → spaced (kind_words become kids) ≡ spaced (node_words (projected_node evidence parts node))
+projected-line evidence parts node kind become kids b k s = (λ i. spaced (kind_words ((b ∙ ap (projected_kind evidence parts) k) i) (s i)))
 
 -- ---- the whole text
 
 -- children stay, and so does their number
-projected-edges : (words : List ℕ) (parts : ℕ) (nodes : List Node) → edges (map (projected_node words parts) nodes) ≡ edges nodes
-projected-edges words parts [] = refl
-projected-edges words parts (node ∷ nodes) =
-    sum_by-cons (λ (n : Node). length n.kids) (projected_node words parts node) (map (projected_node words parts) nodes)
-    ∙ ap (λ n. length node.kids + n) (projected-edges words parts nodes)
+projected-edges : (evidence : List ℕ) (parts : ℕ) (nodes : List Node) → edges (map (projected_node evidence parts) nodes) ≡ edges nodes
+projected-edges evidence parts [] = refl
+projected-edges evidence parts (node ∷ nodes) =
+    sum_by-cons (λ (n : Node). length n.kids) (projected_node evidence parts node) (map (projected_node evidence parts) nodes)
+    ∙ ap (λ n. length node.kids + n) (projected-edges evidence parts nodes)
     ∙ sym (sum_by-cons (λ (n : Node). length n.kids) node nodes)
 
 abbrev pub body_lines : Graph → List ℕ → ℕ → List ℕ
-body_lines graph words parts = flat_map (λ node. spaced (node_words (projected_node words parts node))) graph.nodes
+body_lines graph evidence parts = flat_map (λ node. spaced (node_words (projected_node evidence parts node))) graph.nodes
 
 abbrev pub end_lines : ℕ → List ℕ → ℕ → List ℕ
 end_lines nodes health held = flat_map held_line (enumerate_from 1 (known health)) ++ spaced (node_words (root_with nodes held))
 
-module _ (graph : Graph) (words : List ℕ) (parts : ℕ) where
+module _ (graph : Graph) (evidence : List ℕ) (parts : ℕ) where
   abbrev front : List Node
-  front = map (projected_node words parts) graph.nodes
+  front = map (projected_node evidence parts) graph.nodes
 
   abbrev held : List Node
-  held = held_literals words parts
+  held = held_literals evidence parts
 
   abbrev root : Node
   root = root_with (length graph.nodes) (length held)
 
-  all-length : length (projection graph words parts).nodes ≡ length graph.nodes + length held + 1
-  all-length = omega (arith, length-append front (held ++ root ∷ []), length-append held (root ∷ []), length-map graph.nodes (projected_node words parts))
+  all-length : length (projection graph evidence parts).nodes ≡ length graph.nodes + length held + 1
+  all-length = omega (arith, length-append front (held ++ root ∷ []), length-append held (root ∷ []), length-map graph.nodes (projected_node evidence parts))
 
-  all-edges : edges (projection graph words parts).nodes ≡ edges graph.nodes + length held + 1
+  all-edges : edges (projection graph evidence parts).nodes ≡ edges graph.nodes + length held + 1
   all-edges = omega (
     arith,
     sum_by-append (λ (n : Node). length n.kids) front (held ++ root ∷ []),
     sum_by-append (λ (n : Node). length n.kids) held (root ∷ []),
     sum_by-cons (λ (n : Node). length n.kids) root [],
-    projected-edges words parts graph.nodes,
-    held-edges 1 (known (take parts words)),
+    projected-edges evidence parts graph.nodes,
+    held-edges 1 (known (take parts evidence)),
     length-range_with_len (length graph.nodes) (length held),
   )
 
-  all-lines : body_lines graph words parts ++ end_lines (length graph.nodes) (take parts words) (length held) ≡ lines (projection graph words parts).nodes
+  all-lines : body_lines graph evidence parts ++ end_lines (length graph.nodes) (take parts evidence) (length held) ≡ lines (projection graph evidence parts).nodes
   all-lines = sym (
       flat_map-append (λ node. spaced (node_words node)) front (held ++ root ∷ [])
-      ∙ (λ i. flat_map-map (λ node. spaced (node_words node)) (projected_node words parts) graph.nodes i ++ flat_map-append (λ node. spaced (node_words node)) held (root ∷ []) i)
-      ∙ (λ i. body_lines graph words parts ++ (held-lines 1 (known (take parts words)) i ++ append-nil (spaced (node_words root)) i))
+      ∙ (λ i. flat_map-map (λ node. spaced (node_words node)) (projected_node evidence parts) graph.nodes i ++ flat_map-append (λ node. spaced (node_words node)) held (root ∷ []) i)
+      ∙ (λ i. body_lines graph evidence parts ++ (held-lines 1 (known (take parts evidence)) i ++ append-nil (spaced (node_words root)) i))
       )
 
   -- what is written is the projected text
-  pub written : (count kids nodes more : ℕ) → nodes ≡ length graph.nodes → more ≡ count_by (λ word. not (word == 0)) (take parts words) → count ≡ nodes + more + 1 → kids ≡ edges graph.nodes + more + 1
-      → header count kids parts ++ (body_lines graph words parts ++ end_lines nodes (take parts words) more) ≡ projected_text graph words parts
+  pub written : (count kids nodes more : ℕ) → nodes ≡ length graph.nodes → more ≡ count_by (λ word. not (word == 0)) (take parts evidence) → count ≡ nodes + more + 1 → kids ≡ edges graph.nodes + more + 1
+      → header count kids parts ++ (body_lines graph evidence parts ++ end_lines nodes (take parts evidence) more) ≡ projected_text graph evidence parts
   written count kids nodes more n m e f =
-      let same : more ≡ length held = m ∙ sym (held-count 1 (take parts words)) in
-      (λ i. header count kids parts ++ (body_lines graph words parts ++ end_lines (n i) (take parts words) (same i)))
+      let same : more ≡ length held = m ∙ sym (held-count 1 (take parts evidence)) in
+      (λ i. header count kids parts ++ (body_lines graph evidence parts ++ end_lines (n i) (take parts evidence) (same i)))
       ∙ ap (λ t. header count kids parts ++ t) all-lines
-      ∙ text-lines count kids parts (projection graph words parts).nodes (e ∙ (λ i. n i + same i + 1) ∙ sym all-length) (f ∙ (λ i. edges graph.nodes + same i + 1) ∙ sym all-edges)
+      ∙ text-lines count kids parts (projection graph evidence parts).nodes (e ∙ (λ i. n i + same i + 1) ∙ sym all-length) (f ∙ (λ i. edges graph.nodes + same i + 1) ∙ sym all-edges)

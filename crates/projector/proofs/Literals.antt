@@ -11,7 +11,7 @@ use Rattle.state_rules.specs.declared.nodes.NodeKind.TheVariants.{Literal, And, 
 use Rattle.state_rules.specs.Graphs.{truth_by, mention_by, kind_fits}
 use Rattle.nnf_text.specs.GraphTexts.{variable_fits}
 use Rattle.conditioner.specs.declared.leaves.Leaf.TheVariants.{True, False}
-use Rattle.conditioner.specs.Words.{leaf_of}
+use Rattle.conditioner.specs.Evidence.{leaf_of}
 use Rattle.projector.specs.Projecting.{projected_literal}
 
 pub variable_fits-from : (vars : ℕ) (kind : NodeKind) (kids : List ℕ) → kind_fits vars kind kids ≡ true → variable_fits vars kind ≡ true

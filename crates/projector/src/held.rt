@@ -4,7 +4,7 @@ ghost use Rattle.text_rules.specs.Tokens.{spaced};
 ghost use Rattle.diag_edge.specs.Adding.{Adds};
 ghost use Rattle.diag_edge.specs.Edge.{HasCause};
 ghost use Rattle.nnf_text.specs.WrittenGraphs.{node_words};
-ghost use Rattle.conditioner.specs.Words.{known};
+ghost use Rattle.conditioner.specs.Evidence.{known};
 ghost use Rattle.projector.specs.Projecting.{root_with};
 ghost use Rattle.projector.specs.inner.Lines.{held_line};
 

@@ -24,36 +24,36 @@ fn projected_literal(parts: u32, var: u32, positive: bool, leaf: Leaf) -> NodeKi
     }
 }
 
-// What a node becomes under the words.
-fn projected_kind(words: &[u32], parts: u32, kind: NodeKind) -> NodeKind
-    requires words { All (λ w. w < 3) words.now }
-    requires fits { variable_fits (length words.now) kind ≡ true }
-    ensures { result ≡ projected_kind words.now parts kind }
+// What a node becomes under the evidence.
+fn projected_kind(evidence: &[u32], parts: u32, kind: NodeKind) -> NodeKind
+    requires evidence { All (λ w. w < 3) evidence.now }
+    requires fits { variable_fits (length evidence.now) kind ≡ true }
+    ensures { result ≡ projected_kind evidence.now parts kind }
 {
     match kind {
         NodeKind::Literal { var, positive } => {
-            projected_literal(parts, var, positive, leaf(words, var, positive))
+            projected_literal(parts, var, positive, leaf(evidence, var, positive))
         }
         NodeKind::And | NodeKind::Or => kind,
     }
 }
 
-// Adds the line of each node under the words.
+// Adds the line of each node under the evidence.
 pub(crate) fn add_nodes<O: Sink>(
     chunk: &mut Chunk,
     out: &mut O,
     graph: &Graph,
-    words: &[u32],
+    evidence: &[u32],
     parts: u32,
 ) -> Result<(), WriteFailed>
-    requires words { length words.now ≡ graph.now.vars }
-    requires small { All (λ w. w < 3) words.now }
+    requires evidence { length evidence.now ≡ graph.now.vars }
+    requires small { All (λ w. w < 3) evidence.now }
     ensures bytes { Adds (O.got out.old) (O.got out.new) chunk.old chunk.new result
-        (flat_map (λ node. spaced (node_words (projected_node words.now parts node))) graph.now.nodes) }
+        (flat_map (λ node. spaced (node_words (projected_node evidence.now parts node))) graph.now.nodes) }
     ensures cause { HasCause (O.faults out.old) (O.faults out.new) result }
 {
     for node in 0..graph.len() {
-        let kind = projected_kind(words, parts, graph.what(node));
+        let kind = projected_kind(evidence, parts, graph.what(node));
         add_node(chunk, out, kind, graph.kids(node))?;
     }
     Ok(())

@@ -3,12 +3,12 @@ use Rattle.std.proofs.Common.{◌≡◌, ◌∙◌, ◌+◌, ◌<◌, ℕ, Bool,
 use Rattle.state_rules.specs.Graphs.{Graph}
 use Rattle.state_rules.specs.Systems.{least_cost, all_diagnoses}
 use Rattle.probe_report.specs.declared.verdicts.Blame.{Blame}
-use Rattle.fault_graph.specs.Distilled.{Kept, Serves}
+use Rattle.fault_graph.specs.Minimised.{Kept, Serves}
 use Rattle.scratch_pool.specs.Regions.{Carved}
 use Rattle.conditioner.specs.Models.{models, least_under, least_with, diagnoses_under}
 use Rattle.session_rules.specs.GraphSystems.{Subject}
 use Rattle.session_rules.specs.Replies.{least_at, seen_at}
-use Rattle.session_rules.proofs.ProbeWords.{least_with-by_words}
+use Rattle.session_rules.proofs.ProbeEvidence.{least_with-by_words}
 use Rattle.session_core.specs.Services.{served_system}
 use Rattle.session_core.specs.inner.Bases.{IsBasis, AreKnown, case_in}
 use Rattle.session_core.specs.inner.Desks.{OnDesk, FitsTogether}

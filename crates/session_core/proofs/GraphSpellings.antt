@@ -10,9 +10,9 @@ use Rattle.smooth_nnf.specs.Layouts.{least_graph}
 use Rattle.smooth_nnf.proofs.WholeText.{least_text-is_neat, least_text-means}
 use Rattle.session_rules.specs.Items.{Projected, LeastText}
 use Rattle.session_rules.specs.Spelling.{Spelled}
-use Rattle.session_rules.specs.GraphSystems.{Subject, HasLeastTexts, system_of, case_words}
+use Rattle.session_rules.specs.GraphSystems.{Subject, HasLeastTexts, system_of, case_evidence}
 use Rattle.session_rules.specs.CaseSizes.{IsCaseOf}
-use Rattle.session_rules.proofs.CaseWords.{length-case_words}
+use Rattle.session_rules.proofs.CaseEvidence.{length-case_evidence}
 use Rattle.session_core.specs.Services.{case_text, least_case_text}
 
 module _ (subject : Subject) (is : IsGraph subject.graph) (room : length subject.parts + length subject.wires ≤ subject.graph.vars) (few : length subject.graph.nodes + length subject.parts + 1 < 2 ^ 32)
@@ -22,8 +22,8 @@ module _ (subject : Subject) (is : IsGraph subject.graph) (room : length subject
       → Spelled (Projected (length subject.parts) ((system_of subject).consistent known)) (case_text subject known)
   case-spelled known h =
       let parts = length subject.parts in
-      let words = case_words subject.graph.vars known in
-      let long = length-case_words subject.graph.vars known (omega (arith, h.0, h.1, room)) in
+      let words = case_evidence subject.graph.vars known in
+      let long = length-case_evidence subject.graph.vars known (omega (arith, h.0, h.1, room)) in
       let narrow : parts ≤ subject.graph.vars = omega (arith, room) in
       ((projected_text-is_neat subject.graph words parts is long narrow few, (projection subject.graph words parts, refl)), projected_text-means subject.graph words parts is long narrow few)
 
@@ -31,8 +31,8 @@ module _ (subject : Subject) (is : IsGraph subject.graph) (room : length subject
   pub least-spelled : (known : Case) → IsCaseOf (system_of subject) known → subject.extras.least ≡ true
       → Spelled (LeastText (length subject.parts) (all_diagnoses (system_of subject) known)) (least_case_text subject known)
   least-spelled known h told =
-      let words = case_words subject.graph.vars known in
-      let long = length-case_words subject.graph.vars known (omega (arith, h.0, h.1, room)) in
+      let words = case_evidence subject.graph.vars known in
+      let long = length-case_evidence subject.graph.vars known (omega (arith, h.0, h.1, room)) in
       let has = least told in
       let narrow : length subject.costs ≤ subject.graph.vars = omega (arith, room, has.costs) in (
         (least_text-is_neat subject.graph words subject.costs is long narrow has.dear has.few, (least_graph subject.graph words subject.costs, refl)),

@@ -11,7 +11,7 @@ use Rattle.text_rules.proofs.NameLemmas.{same_if_equal}
 use Rattle.device_model.specs.Devices.{place_of}
 use Rattle.device_model.proofs.NameOrder.{same_name-other}
 use Rattle.device_model.proofs.CallerLemmas.{place_in-names_rise}
-use Rattle.conditioner.specs.Words.{bits_of}
+use Rattle.conditioner.specs.Evidence.{bits_of}
 use Rattle.session_rules.specs.Sessions.{state_of}
 
 -- a name that has a place is among the names, and one that has none is not

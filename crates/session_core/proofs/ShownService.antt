@@ -9,7 +9,7 @@ use Rattle.diag_edge.specs.Edge.{Puts}
 use Rattle.device_model.specs.Devices.{place_of}
 use Rattle.script_lang.specs.Script.{Request}
 use Rattle.script_lang.specs.declared.line.Noted.{Noted}
-use Rattle.session_rules.specs.CaseWords.{case_of_words, AreWords}
+use Rattle.session_rules.specs.CaseEvidence.{case_of_evidence, IsEvidence}
 use Rattle.session_rules.specs.GraphSystems.{Subject}
 use Rattle.session_rules.specs.Items.{line}
 use Rattle.session_rules.specs.Sessions.{Table, Entry, outcome_in, becomes, names_of, with_entry}
@@ -53,9 +53,9 @@ written_back {A} n new old e = ap (λ (k : ℕ). take k (new ++ drop (length new
 
 module _ (subject : Subject) (opened : Opened) (h : HoldsTogether subject opened) (words : List ℕ) where
   -- the words of a session are those of a case of what is asked over
-  pub known-there : AreWords opened.parts opened.wires opened.vars words → AreKnown subject words
+  pub known-there : IsEvidence opened.parts opened.wires opened.vars words → AreKnown subject words
   known-there are = grind arith
 
   -- and say the same case
-  pub case-there : (known : Case) → known ≡ case_of_words opened.parts opened.wires words → case_in subject words ≡ known
-  case-there known e = (λ i. case_of_words (sym h.parts i) (sym h.wires i) words) ∙ sym e
+  pub case-there : (known : Case) → known ≡ case_of_evidence opened.parts opened.wires words → case_in subject words ≡ known
+  case-there known e = (λ i. case_of_evidence (sym h.parts i) (sym h.wires i) words) ∙ sym e

@@ -11,7 +11,7 @@ use Rattle.diag_edge.specs.Adding.{Grown, Adds}
 use Rattle.diag_edge.proofs.Added.{grown_more, part_more, adds_first, spaced-first}
 use Rattle.text_rules.specs.Names.{Name}
 use Rattle.text_rules.specs.Tokens.{spaced}
-use Rattle.conditioner.specs.Words.{bits_of}
+use Rattle.conditioner.specs.Evidence.{bits_of}
 use Rattle.session_rules.specs.Replies.{faulty_names}
 use Rattle.session_core.specs.inner.Texts.{spaced_before}
 

@@ -14,7 +14,7 @@ use Rattle.session_rules.specs.Moves.{moves, line_moves, script_moves}
 use Rattle.session_rules.specs.Carrying.{Makes, BreaksOff}
 use Rattle.session_rules.specs.Spelling.{Writes}
 use Rattle.session_rules.specs.CaseSizes.{HasCasesOf}
-use Rattle.session_rules.specs.GraphSystems.{Subject, HasLeastTexts, system_of, case_words}
+use Rattle.session_rules.specs.GraphSystems.{Subject, HasLeastTexts, system_of, case_evidence}
 use Rattle.session_core.specs.declared.limits.TheConstants.{SERVED_BITS}
 
 -- States are listed up to this cost. The sets of the nodes have few bits: for each node one for each part, and those of its costs.
@@ -47,11 +47,11 @@ pub record IsSound (shown : Shown) : Type 0 where
 
 -- the text of the states that agree with a case: one for a graph and a case, whatever session asks and however often
 abbrev pub case_text : Subject → Case → List ℕ
-case_text subject known = projected_text subject.graph (case_words subject.graph.vars known) (length subject.parts)
+case_text subject known = projected_text subject.graph (case_evidence subject.graph.vars known) (length subject.parts)
 
 -- and that of the diagnoses' graph
 abbrev pub least_case_text : Subject → Case → List ℕ
-least_case_text subject known = least_text subject.graph (case_words subject.graph.vars known) subject.costs
+least_case_text subject known = least_text subject.graph (case_evidence subject.graph.vars known) subject.costs
 
 -- the system of a service, which says these texts
 abbrev pub served_system : Subject → System

@@ -34,7 +34,7 @@ impl Sessions {
             (O.got out.old) (O.got out.new) result }
         ensures cause { HasCause (O.faults out.old) (O.faults out.new) result }
     {
-        self.desk.take_up(self.open.words(session.place));
+        self.desk.take_up(self.open.evidence(session.place));
         tell::<O, Brand>(&mut self.desk, Blank::new(1), session.name, question, out)
     }
 
@@ -48,7 +48,7 @@ impl Sessions {
         ensures obeys { Obeys self.now self.now session.entry.name.now Dnnf (O.got out.old) (O.got out.new) result }
         ensures cause { HasCause (O.faults out.old) (O.faults out.new) result }
     {
-        let known = self.open.words(session.place);
+        let known = self.open.evidence(session.place);
         tell_graph(self.desk.basis(), known, session.name, out)
     }
 
@@ -65,7 +65,7 @@ impl Sessions {
         if !self.desk.basis().tells_least() {
             return put_refusal(out, session.name, Refusal::NoLeast);
         }
-        self.desk.take_up(self.open.words(session.place));
+        self.desk.take_up(self.open.evidence(session.place));
         tell_least(&mut self.desk, session.name, out)
     }
 }

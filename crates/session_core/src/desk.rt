@@ -6,7 +6,7 @@ ghost use Rattle.text_rules.specs.Names.{is_among};
 ghost use Rattle.text_rules.specs.Tokens.{words};
 ghost use Rattle.state_rules.specs.Ranking.{rest};
 ghost use Rattle.diag_edge.specs.Edge.{HasCause, Puts};
-ghost use Rattle.conditioner.specs.Words.{bits_of};
+ghost use Rattle.conditioner.specs.Evidence.{bits_of};
 ghost use Rattle.probe_report.specs.Probed.{probed};
 ghost use Rattle.level_lister.specs.Listing.{point_if};
 ghost use Rattle.session_rules.specs.Sessions.{state_of};
@@ -63,7 +63,7 @@ impl Model for Desk {
       state = d.memory.state.items;
       verdicts = d.memory.verdicts.items;
       numbers = d.memory.numbers.items;
-    }) d.memory.values.items d.memory.room d.memory.distiller };
+    }) d.memory.values.items d.memory.room d.memory.minimised_graph };
 }
 
 impl Desk {
@@ -100,11 +100,11 @@ impl Desk {
     }
 
     /// From here on the case of these words is asked.
-    pub(crate) fn take_up(&mut self, words: &[u32])
-        requires { AreKnown self.old.subject words.now }
-        ensures { self.new ≡ record self.old { known = words.now } }
+    pub(crate) fn take_up(&mut self, evidence: &[u32])
+        requires { AreKnown self.old.subject evidence.now }
+        ensures { self.new ≡ record self.old { known = evidence.now } }
     {
-        self.memory.known.copy_from_slice(words);
+        self.memory.known.copy_from_slice(evidence);
     }
 
     /// Whether a wire is seen in the case.
@@ -120,7 +120,7 @@ impl Desk {
         ensures some { result ≡ is_some (least_asked self.old) }
         ensures same { self.new ≡ self.old }
     {
-        self.memory.distiller.prepare(
+        self.memory.minimised_graph.prepare(
             self.basis.graph(),
             &self.memory.known,
             self.basis.costs(),
@@ -136,7 +136,7 @@ impl Desk {
         ensures stays { self.new ≡ record self.old { state = self.new.state } }
     {
         self.memory.state.fill(0);
-        self.memory.distiller.first(
+        self.memory.minimised_graph.first(
             self.basis.graph(),
             &mut self.memory.known,
             self.basis.costs(),
@@ -191,7 +191,7 @@ impl Desk {
     {
         self.memory.state.copy_from_slice(old);
         NextState::of_step(
-            self.memory.distiller.next(
+            self.memory.minimised_graph.next(
                 self.basis.graph(),
                 &mut self.memory.known,
                 self.basis.costs(),
@@ -255,7 +255,7 @@ impl Desk {
         ensures long { length self.new.verdicts ≡ length self.new.subject.parts }
         ensures stays { self.new ≡ record self.old { state = self.new.state; verdicts = self.new.verdicts } }
     {
-        self.memory.distiller.blame_all(
+        self.memory.minimised_graph.blame_all(
             self.basis.graph(),
             &mut self.memory.known,
             self.basis.costs(),

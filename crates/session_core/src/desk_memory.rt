@@ -4,7 +4,7 @@ ghost use Rattle.std.specs.Prelude.{◌≡◌, replicate, IfOk};
 ghost use Rattle.session_core.specs.inner.Desks.{FitsTogether};
 
 use crate::basis::Basis;
-use fault_graph::Distiller;
+use fault_graph::MinimisedGraph;
 use probe_report::Blame;
 use scratch_pool::Region;
 use std::alloc::{AllocError, Global};
@@ -23,7 +23,7 @@ pub(crate) struct DeskMemory {
     // room that an answer takes whole for its while: the probes of all wires, or a step by rising cost
     pub(crate) room: Region,
     // a smaller graph that has the diagnoses of the words that were asked last
-    pub(crate) distiller: Distiller,
+    pub(crate) minimised_graph: MinimisedGraph,
 }
 
 impl DeskMemory {
@@ -35,7 +35,7 @@ impl DeskMemory {
           state = memory.state.items;
           verdicts = memory.verdicts.items;
           numbers = memory.numbers.items;
-        }) memory.values.items memory.room memory.distiller) }
+        }) memory.values.items memory.room memory.minimised_graph) }
     {
         let parts = basis.parts().len();
         let wires = basis.wires().len();
@@ -46,7 +46,7 @@ impl DeskMemory {
             verdicts: vec![in alloc; Blame::Never; parts]?,
             numbers: zeros(alloc, 2 * wires)?,
             room: Region::new(alloc, basis.most_room())?,
-            distiller: Distiller::new(alloc, basis.graph())?,
+            minimised_graph: MinimisedGraph::new(alloc, basis.graph())?,
         })
     }
 }

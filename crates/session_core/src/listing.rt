@@ -3,7 +3,7 @@ ghost use Rattle.std.specs.Prelude.{◌≡◌, ◌<◌, length, true};
 ghost use Rattle.text_rules.specs.Names.{Name};
 ghost use Rattle.text_rules.specs.Tokens.{words};
 ghost use Rattle.diag_edge.specs.Edge.{HasCause};
-ghost use Rattle.conditioner.specs.Words.{bits_of};
+ghost use Rattle.conditioner.specs.Evidence.{bits_of};
 ghost use Rattle.script_lang.specs.Script.{After};
 ghost use Rattle.session_rules.specs.Sessions.{Entry};
 ghost use Rattle.session_rules.specs.Carrying.{CarriesOut};
@@ -44,7 +44,7 @@ fn find<L: Ledger>(
     ensures stays { opened.new ≡ record opened.old { table = opened.new.table } }
     ensures still { place < length opened.new.table }
 {
-    desk.take_up(opened.words(place));
+    desk.take_up(opened.evidence(place));
     let next = desk.next(listed, opened.point(place), &mut Steps::<L>::new(blank));
     if !next.is_found() {
         return next;

@@ -4,7 +4,7 @@ ghost use Rattle.std.specs.List.{flat_map};
 ghost use Rattle.text_rules.specs.Tokens.{spaced};
 ghost use Rattle.diag_edge.specs.Adding.{Adds};
 ghost use Rattle.diag_edge.specs.Edge.{HasCause, Puts};
-ghost use Rattle.conditioner.specs.Words.{bits_of};
+ghost use Rattle.conditioner.specs.Evidence.{bits_of};
 ghost use Rattle.session_rules.specs.Refusals.{refusal_row};
 ghost use Rattle.session_rules.specs.Sessions.{error_words};
 ghost use Rattle.script_lang.specs.Refusals as line_refusals;

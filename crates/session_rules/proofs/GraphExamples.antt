@@ -10,14 +10,14 @@ use Rattle.device_model.specs.Devices.{Device}
 use Rattle.conditioner.specs.Models.{models}
 use Rattle.session_rules.specs.Items.{line, Projected}
 use Rattle.session_rules.specs.Sessions.{replies}
-use Rattle.session_rules.specs.GraphSystems.{case_words, compiled_system}
+use Rattle.session_rules.specs.GraphSystems.{case_evidence, compiled_system}
 
 -- the part is held faulty, the wires are seen as 0 and 1, and two variables more are inner ones
-words_of_both_bits : case_words 5 (record { seen = Some false ∷ Some true ∷ []; held = Some false ∷ [] }) ≡ 2 ∷ 2 ∷ 1 ∷ 0 ∷ 0 ∷ []
+words_of_both_bits : case_evidence 5 (record { seen = Some false ∷ Some true ∷ []; held = Some false ∷ [] }) ≡ 2 ∷ 2 ∷ 1 ∷ 0 ∷ 0 ∷ []
 words_of_both_bits = refl
 
 -- of two parts the second is held ok, and one of three wires is seen
-words_of_what_is_open : case_words 5 (record { seen = None ∷ Some true ∷ None ∷ []; held = None ∷ Some true ∷ [] }) ≡ 0 ∷ 1 ∷ 0 ∷ 1 ∷ 0 ∷ []
+words_of_what_is_open : case_evidence 5 (record { seen = None ∷ Some true ∷ None ∷ []; held = None ∷ Some true ∷ [] }) ≡ 0 ∷ 1 ∷ 0 ∷ 1 ∷ 0 ∷ []
 words_of_what_is_open = refl
 
 -- ---- b = BUFF(a)

@@ -12,10 +12,10 @@ use Rattle.state_rules.specs.GraphsOver.{IsGraphOver}
 use Rattle.device_model.specs.declared.component.Component.{Component}
 use Rattle.device_model.specs.Devices.{Device, part_names, part_costs, fits}
 use Rattle.device_model.specs.Diagnosis.{is_consistent, fitting_system, device_system}
-use Rattle.conditioner.specs.Words.{known_of, word_of_known}
-use Rattle.conditioner.specs.Models.{has_model, fits_words}
+use Rattle.conditioner.specs.Evidence.{known_of, word_of_known}
+use Rattle.conditioner.specs.Models.{has_model, fits_evidence}
 use Rattle.session_rules.specs.Spelling.{IsGraphOf}
-use Rattle.session_rules.specs.GraphSystems.{case_words, graph_system, compiled_system}
+use Rattle.session_rules.specs.GraphSystems.{case_evidence, graph_system, compiled_system}
 use Rattle.session_rules.specs.CaseSizes.{IsCaseOf}
 use Rattle.session_rules.proofs.Enumerated.{Agree, passing-same, any-same, any-split, any-and}
 
@@ -40,26 +40,26 @@ all_known [] = refl
 all_known (k ∷ ks) = ap₂ (λ x xs. x ∷ xs) (known_of-word k) (all_known ks)
 
 -- and the words of a case say what the case does, and nothing of the inner variables
-pub known-case_words : (vars : ℕ) (known : Case) → map known_of (case_words vars known)
+pub known-case_evidence : (vars : ℕ) (known : Case) → map known_of (case_evidence vars known)
     ≡ known.held ++ (known.seen ++ map known_of (replicate (vars - (length known.held + length known.seen)) 0))
-known-case_words vars known = grind (arith, map-append, all_known)
+known-case_evidence vars known = grind (arith, map-append, all_known)
 
 -- bits fit the words of a case if they agree with the case
-pub fits-case_words : (vars : ℕ) (known : Case) (state wires inner : List Bool) → length known.held ≡ length state → length known.seen ≡ length wires
-    → fits_words (case_words vars known) (state ++ (wires ++ inner)) ≡ (agrees known.held state && agrees known.seen wires)
-fits-case_words vars known state wires inner held seen = grind (arith, known-case_words, agrees-append, agrees-zeros)
+pub fits-case_evidence : (vars : ℕ) (known : Case) (state wires inner : List Bool) → length known.held ≡ length state → length known.seen ≡ length wires
+    → fits_evidence (case_evidence vars known) (state ++ (wires ++ inner)) ≡ (agrees known.held state && agrees known.seen wires)
+fits-case_evidence vars known state wires inner held seen = grind (arith, known-case_evidence, agrees-append, agrees-zeros)
 
 module _ (parts wires : List Name) (costs : List ℕ) (fits_by : List Bool → List Bool → Bool) (graph : Graph) (is : IsGraphOver (length parts) (length wires) fits_by graph)
     (known : Case) (case : IsCaseOf (fitting_system parts wires costs fits_by) known) where
   abbrev words : List ℕ
-  words = case_words graph.vars known
+  words = case_evidence graph.vars known
 
   abbrev inner_count : ℕ
   inner_count = graph.vars - (length parts + length wires)
 
   -- the bits fit the words and make the graph true
   abbrev is_model : Test
-  is_model bits = fits_words words bits && holds graph bits
+  is_model bits = fits_evidence words bits && holds graph bits
 
   abbrev agreeing : Test
   agreeing = is_consistent fits_by (length wires) known
@@ -71,13 +71,13 @@ module _ (parts wires : List Name) (costs : List ℕ) (fits_by : List Bool → L
       let held : length known.held ≡ length state = case.1 ∙ sym states in
       let seen : length known.seen ≡ length bits = case.0 ∙ sym all in
       let agreed : Bool = agrees known.held state && agrees known.seen bits in
-      (λ j. list_any (λ inner. fits-case_words graph.vars known state bits inner held seen j && holds graph (state ++ (bits ++ inner))) (lists_of_bits inner_count))
+      (λ j. list_any (λ inner. fits-case_evidence graph.vars known state bits inner held seen j && holds graph (state ++ (bits ++ inner))) (lists_of_bits inner_count))
       ∙ any-and agreed (λ inner. holds graph (state ++ (bits ++ inner))) (lists_of_bits inner_count)
       ∙ (λ j. agreed && list_any (λ inner. holds graph (sym (append_assoc state bits inner) j)) (lists_of_bits (graph.vars - (sym states j + sym all j))))
       ∙ ap (λ b. agreed && b) (is.meaning state bits states all)
       ∙ and_assoc (agrees known.held state) (agrees known.seen bits) (fits_by state bits)
 
-  for_state : Agree (length parts) agreeing (has_model graph (fits_words words) (length parts))
+  for_state : Agree (length parts) agreeing (has_model graph (fits_evidence words) (length parts))
   for_state state states =
       let room = is.room in
       let parted : graph.vars - length parts ≡ length wires + inner_count = omega (arith, room) in
@@ -92,7 +92,7 @@ module _ (parts wires : List Name) (costs : List ℕ) (fits_by : List Bool → L
 
   -- for every case a graph that is true where bits fit has the consistent states of what fits
   pub same_fitting : (graph_system parts wires costs graph).consistent known ≡ (fitting_system parts wires costs fits_by).consistent known
-  same_fitting = sym (passing-same (length parts) agreeing (has_model graph (fits_words words) (length parts)) for_state)
+  same_fitting = sym (passing-same (length parts) agreeing (has_model graph (fits_evidence words) (length parts)) for_state)
 
 -- ---- devices
 

@@ -8,8 +8,8 @@ pub mod GraphMeaning
 pub mod KeptCases
 pub mod Same
 pub mod GraphReplies
-pub mod CaseWords
-pub mod ProbeWords
+pub mod CaseEvidence
+pub mod ProbeEvidence
 pub mod Locality
 pub mod Alone
 mod Examples

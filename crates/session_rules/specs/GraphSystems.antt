@@ -6,12 +6,12 @@ use Rattle.state_rules.specs.declared.extras.Extras.{Extras}
 use Rattle.state_rules.specs.Systems.{System, no_extras, open_texts, with_extras}
 use Rattle.state_rules.specs.Graphs.{Graph, edges}
 use Rattle.device_model.specs.Devices.{Device, part_names, part_costs}
-use Rattle.conditioner.specs.Words.{word_of_known}
+use Rattle.conditioner.specs.Evidence.{word_of_known}
 use Rattle.conditioner.specs.Models.{models}
 
 -- what a case says of so many variables: nothing of the inner ones
-abbrev pub case_words : ℕ → Case → List ℕ
-case_words vars known =
+abbrev pub case_evidence : ℕ → Case → List ℕ
+case_evidence vars known =
     map word_of_known known.held
     ++ (map word_of_known known.seen ++ replicate (vars - (length known.held + length known.seen)) 0)
 
@@ -20,7 +20,7 @@ graph_system parts wires costs graph = record {
   parts = parts;
   wires = wires;
   costs = costs;
-  consistent = λ known. models graph (case_words graph.vars known) (length parts);
+  consistent = λ known. models graph (case_evidence graph.vars known) (length parts);
   extras = no_extras;
   texts = open_texts;
 }

@@ -6,6 +6,6 @@ pub mod Moves
 pub mod Spelling
 pub mod Carrying
 pub mod CaseSizes
-pub mod CaseWords
+pub mod CaseEvidence
 pub mod GraphSystems
 pub mod Alone

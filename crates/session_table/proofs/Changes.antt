@@ -23,7 +23,7 @@ use Rattle.session_table.specs.contracts.open_sessions.OpenSessions.{the_view}
 use Rattle.session_table.proofs.Lookups.{order, IsGap, find_at, put_at, put_same, without_at, put_gap, find_gap}
 use Rattle.session_table.proofs.MappedSessions.{sorted_alike, map-insert, map-remove, gap_map, slice_get-set}
 use Rattle.session_table.proofs.SessionSearch.{so, as_true}
-use Rattle.session_table.proofs.NotedWords.{zeros-entry, zeros-laid}
+use Rattle.session_table.proofs.NotedEvidence.{zeros-entry, zeros-laid}
 use Rattle.session_table.proofs.KeptBlocks.{out_at, laid_at, have_insert, given_at, written_at, have_written, none_taken, table_taken, have_taken}
 
 -- what holds of the fields

@@ -3,7 +3,7 @@ use Rattle.std.proofs.Common.{◌≡◌, ℕ, List, [], ◌∷◌, Some, arith}
 use Rattle.text_rules.specs.Names.{Name}
 use Rattle.scratch_pool.specs.Pools.{Blocks}
 use Rattle.session_rules.specs.Sessions.{Entry, entry_of}
-use Rattle.session_rules.proofs.CaseWords.{length-held, length-seen}
+use Rattle.session_rules.proofs.CaseEvidence.{length-held, length-seen}
 use Rattle.session_table.specs.Tables.{Fits}
 use Rattle.session_table.specs.inner.Blocks.{entry_in, IsLaidOut}
 use Rattle.session_table.specs.inner.Ordered.{table_of, HaveBlocks}

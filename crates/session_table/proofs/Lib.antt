@@ -1,7 +1,7 @@
 mod Lookups
 mod SessionSearch
 mod MappedSessions
-mod NotedWords
+mod NotedEvidence
 mod KeptBlocks
 mod Changes
 mod FittingCases

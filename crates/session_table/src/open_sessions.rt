@@ -1,10 +1,10 @@
 ghost use Rattle.std.specs.Prelude.{◌≡◌, ◌+◌, ◌*◌, ◌<◌, ◌≤◌, [], Some, None, true, length, nat_le, All, IfOk, IfSome, IfNone};
 ghost use Rattle.std.specs.Option.{option_map};
 ghost use Rattle.text_rules.specs.Names.{Name, is_short_name};
-ghost use Rattle.conditioner.specs.Words.{bits_of};
+ghost use Rattle.conditioner.specs.Evidence.{bits_of};
 ghost use Rattle.scratch_pool.specs.declared.pool.TheConstants.{POOL_LIMIT};
 ghost use Rattle.session_rules.specs.Sessions.{Entry, entry_of, with_entry, without, with_noted};
-ghost use Rattle.session_rules.specs.CaseWords.{case_of_words, AreWords};
+ghost use Rattle.session_rules.specs.CaseEvidence.{case_of_evidence, IsEvidence};
 ghost use Rattle.session_table.specs.Tables.{StandsAt, fresh_entry, Fits, count_of};
 
 use crate::Memory;
@@ -125,11 +125,11 @@ impl OpenSessions {
     }
 
     /// What the session at a place knows: a word for each variable.
-    pub fn words(&self, place: usize) -> &[u32]
+    pub fn evidence(&self, place: usize) -> &[u32]
         requires { place < length self.now.table }
-        ensures words { AreWords self.now.parts self.now.wires self.now.vars result.now }
+        ensures evidence { IsEvidence self.now.parts self.now.wires self.now.vars result.now }
         ensures known { (session : Name) (entry : Entry) → StandsAt self.now.table place session entry
-            → entry.known ≡ case_of_words self.now.parts self.now.wires result.now }
+            → entry.known ≡ case_of_evidence self.now.parts self.now.wires result.now }
     {
         self.layout.known(self.pool.words(&self.open[place].block))
     }

@@ -62,9 +62,9 @@ cheapest-has : (C : ℕ → Option ℕ) (kids : List ℕ) (c : ℕ) → cheapest
 cheapest-has C [] c s = absurd (let no : None ≡ Some c = s in cc)
 cheapest-has C (j ∷ kids) c s = grind (arith, nat_tests, from_min, cheapest-has C kids c)
 
-module _ (graph : Graph) (words costs : List ℕ) (ok : IsGraph graph) (dear : All (λ c. 0 < c) costs) (small : length costs + 1 < 2 ^ 32) where
+module _ (graph : Graph) (evidence costs : List ℕ) (ok : IsGraph graph) (dear : All (λ c. 0 < c) costs) (small : length costs + 1 < 2 ^ 32) where
   abbrev L : Layout
-  L = layout_of graph words costs
+  L = layout_of graph evidence costs
 
   abbrev parts : ℕ
   parts = length costs
@@ -73,15 +73,15 @@ module _ (graph : Graph) (words costs : List ℕ) (ok : IsGraph graph) (dear : A
   M v k = mentions graph.nodes v k
 
   abbrev least : List (Option ℕ)
-  least = values (node_cost (known_at words) (part_cost costs)) graph.nodes
+  least = values (node_cost (known_at evidence) (part_cost costs)) graph.nodes
 
   abbrev own : ℕ → ℕ
   own k = own_line L k
 
   abbrev part_of : ℕ → Bool
-  part_of v = is_part graph words costs ok dear v
+  part_of v = is_part graph evidence costs ok dear v
 
-  pub Means-same : {t : Assignment → Bool} {m : ℕ → Bool} {c : ℕ} {line other : Assignment → Bool} → ((a : Assignment) → other a ≡ line a) → Means graph words costs ok dear t m c line → Means graph words costs ok dear t m c other
+  pub Means-same : {t : Assignment → Bool} {m : ℕ → Bool} {c : ℕ} {line other : Assignment → Bool} → ((a : Assignment) → other a ≡ line a) → Means graph evidence costs ok dear t m c line → Means graph evidence costs ok dear t m c other
   Means-same same means = record {
     sound = λ a b ag h few agree. same a ∙ means.sound a b ag h few agree;
     reached = λ a h. means.reached a (sym (same a) ∙ h);
@@ -89,9 +89,9 @@ module _ (graph : Graph) (words costs : List ℕ) (ok : IsGraph graph) (dear : A
 
   -- the line of a node is there, has the parts below it that the node has, and says what the node means
   pub record Drawn (lines : List Node) (k c : ℕ) : Type 0 where
-    pub inside : slice_index (layout_of graph words costs).lines k < length lines
-    pub mentioned : (v : ℕ) → mentions lines v (slice_index (layout_of graph words costs).lines k) ≡ ((nat_le 1 v && nat_le v (length costs)) && mentions graph.nodes v k)
-    pub means : NodeMeans graph words costs ok dear k c (λ a. is_true lines (slice_index (layout_of graph words costs).lines k) a)
+    pub inside : slice_index (layout_of graph evidence costs).lines k < length lines
+    pub mentioned : (v : ℕ) → mentions lines v (slice_index (layout_of graph evidence costs).lines k) ≡ ((nat_le 1 v && nat_le v (length costs)) && mentions graph.nodes v k)
+    pub means : NodeMeans graph evidence costs ok dear k c (λ a. is_true lines (slice_index (layout_of graph evidence costs).lines k) a)
 
   Drawn-more : (lines more : List Node) (k c : ℕ) → Drawn lines k c → Drawn (lines ++ more) k c
   Drawn-more lines more k c d = record {
@@ -103,11 +103,11 @@ module _ (graph : Graph) (words costs : List ℕ) (ok : IsGraph graph) (dear : A
   -- the lines of the nodes before one, after those of the literals
   pub record Upto (i : ℕ) (more : List Node) : Type 0 where
     pub stand : Stand (length costs) (literal_pairs (length costs) ++ more)
-    pub drawn : (k c : ℕ) → k < i → least_at graph words costs k ≡ Some c → Drawn (literal_pairs (length costs) ++ more) k c
+    pub drawn : (k c : ℕ) → k < i → least_at graph evidence costs k ≡ Some c → Drawn (literal_pairs (length costs) ++ more) k c
 
   -- ---- a line that is filled in
 
-  module _ (more : List Node) (k c : ℕ) (cost_is : least_at graph words costs k ≡ Some c) (drawn : Drawn (literal_pairs (length costs) ++ more) k c)
+  module _ (more : List Node) (k c : ℕ) (cost_is : least_at graph evidence costs k ≡ Some c) (drawn : Drawn (literal_pairs (length costs) ++ more) k c)
       (o : ℕ → Bool) (wider : (v : ℕ) → mentions graph.nodes v k ≡ true → o v ≡ true) where
     abbrev lines : List Node
     lines = literal_pairs parts ++ more
@@ -116,28 +116,28 @@ module _ (graph : Graph) (words costs : List ℕ) (ok : IsGraph graph) (dear : A
     rest v = o v && not (M v k)
 
     abbrev filling_in : List ℕ
-    filling_in = fillers words parts rest
+    filling_in = fillers evidence parts rest
 
     abbrev pub line_over : Node
-    line_over = and_over (slice_index (layout_of graph words costs).lines k ∷ fillers words (length costs) (λ v. o v && not (mentions graph.nodes v k)))
+    line_over = and_over (slice_index (layout_of graph evidence costs).lines k ∷ fillers evidence (length costs) (λ v. o v && not (mentions graph.nodes v k)))
 
     room : 2 * parts ≤ length lines
     room = omega (arith, length-append (literal_pairs parts) more, length-literal_pairs parts)
 
     few : length filling_in ≤ parts
-    few = omega (arith, length-map (filter rest (range_with_len 1 parts)) (λ p. literal_line p (filling (known_at words p))), length-filter-le rest (range_with_len 1 parts), length-range_with_len 1 parts)
+    few = omega (arith, length-map (filter rest (range_with_len 1 parts)) (λ p. literal_line p (filling (known_at evidence p))), length-filter-le rest (range_with_len 1 parts), length-range_with_len 1 parts)
 
     pub over-mention : (v : ℕ) → list_any (λ b. b) (map (mentions (literal_pairs (length costs) ++ more) v) line_over.kids) ≡ ((nat_le 1 v && nat_le v (length costs)) && o v)
-    over-mention v = (λ i. drawn.mentioned v i || fillers-mention parts more words rest room v i) ∙ below_filled (part_of v) (M v k) (o v) (wider v)
+    over-mention v = (λ i. drawn.mentioned v i || fillers-mention parts more evidence rest room v i) ∙ below_filled (part_of v) (M v k) (o v) (wider v)
 
     pub over-follows : MayFollow (length costs) (literal_pairs (length costs) ++ more) line_over
     over-follows = grind (arith, nat_tests, and_from, lt-ltb, fillers-below, room, few, at_most_one-from, and_parts, fillers-mention, drawn.mentioned, and_right, not-true, fillers-once)
 
-    pub over-means : Means graph words costs ok dear (λ a. is_true graph.nodes k a) o c (λ a. list_all (λ b. b) (map (λ q. is_true (literal_pairs (length costs) ++ more) q a) line_over.kids))
-    over-means = filled graph words costs ok dear k c cost_is o wider (λ a. is_true lines (own k) a) (λ a. list_all (λ b. b) (map (λ q. is_true lines q a) filling_in)) drawn.means
+    pub over-means : Means graph evidence costs ok dear (λ a. is_true graph.nodes k a) o c (λ a. list_all (λ b. b) (map (λ q. is_true (literal_pairs (length costs) ++ more) q a) line_over.kids))
+    over-means = filled graph evidence costs ok dear k c cost_is o wider (λ a. is_true lines (own k) a) (λ a. list_all (λ b. b) (map (λ q. is_true lines q a) filling_in)) drawn.means
         (record {
-          sound = λ a h. fillers-true parts more words rest room a h;
-          reached = λ a h. fillers-say parts more words rest room a h;
+          sound = λ a h. fillers-true parts more evidence rest room a h;
+          reached = λ a h. fillers-say parts more evidence rest room a h;
         })
 
   -- ---- the lines of one more node
@@ -152,19 +152,19 @@ module _ (graph : Graph) (words costs : List ℕ) (ok : IsGraph graph) (dear : A
     -- lines that are added, with the node's own as the last
     record Adds (block : List Node) : Type 0 where
       stand : Stand (length costs) (literal_pairs (length costs) ++ (more ++ block))
-      drawn : (c : ℕ) → least_at graph words costs i ≡ Some c → Drawn (literal_pairs (length costs) ++ (more ++ block)) i c
+      drawn : (c : ℕ) → least_at graph evidence costs i ≡ Some c → Drawn (literal_pairs (length costs) ++ (more ++ block)) i c
 
     regroup : (block : List Node) → before ++ block ≡ literal_pairs parts ++ (more ++ block)
     regroup block = append_assoc (literal_pairs parts) more block
 
     -- one line is added
     one-adds : (node : Node) → MayFollow parts before node → own i ≡ length before
-        → ((v : ℕ) (c : ℕ) → least_at graph words costs i ≡ Some c → mention_by v node.what (map (mentions before v) node.kids) ≡ (part_of v && M v i))
-        → ((c : ℕ) → least_at graph words costs i ≡ Some c → NodeMeans graph words costs ok dear i c (λ a. truth_by a node.what (map (λ q. is_true before q a) node.kids))) → Adds (node ∷ [])
+        → ((v : ℕ) (c : ℕ) → least_at graph evidence costs i ≡ Some c → mention_by v node.what (map (mentions before v) node.kids) ≡ (part_of v && M v i))
+        → ((c : ℕ) → least_at graph evidence costs i ≡ Some c → NodeMeans graph evidence costs ok dear i c (λ a. truth_by a node.what (map (λ q. is_true before q a) node.kids))) → Adds (node ∷ [])
     one-adds node follows at mentioned means =
         let here : (by : NodeKind → List Bool → Bool) → value_of by (before ++ node ∷ []) (own i) ≡ by node.what (map (value_of by before) node.kids) =
         λ by. ap (value_of by (before ++ node ∷ [])) at ∙ value_of-there by before node [] in
-        let drawn : (c : ℕ) → least_at graph words costs i ≡ Some c → Drawn (before ++ node ∷ []) i c = λ c e. record {
+        let drawn : (c : ℕ) → least_at graph evidence costs i ≡ Some c → Drawn (before ++ node ∷ []) i c = λ c e. record {
           inside = omega (arith, at, length-append before (node ∷ []));
           mentioned = λ v. here (mention_by v) ∙ mentioned v c e;
           means = Means-same (λ a. here (truth_by a)) (means c e);
@@ -175,13 +175,13 @@ module _ (graph : Graph) (words costs : List ℕ) (ok : IsGraph graph) (dear : A
         }
 
     -- a node that is never true
-    false-adds : least_at graph words costs i ≡ None → own i ≡ length before → Adds (false_node ∷ [])
+    false-adds : least_at graph evidence costs i ≡ None → own i ≡ length before → Adds (false_node ∷ [])
     false-adds none at = one-adds false_node (record { below = refl; kind = refl; apart = λ v. refl; smooth = λ v. refl }) at
         (λ v c e. absurd (let no : None ≡ Some c = sym none ∙ e in cc))
         (λ c e. absurd (let no : None ≡ Some c = sym none ∙ e in cc))
 
     -- a literal
-    module _ (var : ℕ) (positive : Bool) (kids : List ℕ) (e : slice_get graph.nodes i ≡ Some (record { what = Literal positive var; kids = kids })) (cost : ℕ) (cost_is : least_at graph words costs i ≡ Some cost) (at : own i ≡ length before) where
+    module _ (var : ℕ) (positive : Bool) (kids : List ℕ) (e : slice_get graph.nodes i ≡ Some (record { what = Literal positive var; kids = kids })) (cost : ℕ) (cost_is : least_at graph evidence costs i ≡ Some cost) (at : own i ≡ length before) where
       low : 1 ≤ var
       low = (literal graph.vars var positive kids (fits-get graph.vars graph.nodes i _ ok.nodes.fit e).kind).low
 
@@ -189,7 +189,7 @@ module _ (graph : Graph) (words costs : List ℕ) (ok : IsGraph graph) (dear : A
       high p = leb-true var parts p
 
       has-is : (v : ℕ) → M v i ≡ (var == v)
-      has-is v = mention-at graph words costs ok i _ e v
+      has-is v = mention-at graph evidence costs ok i _ e v
 
       part_alone : (v : ℕ) → part_of var ≡ true → (var == v) ≡ (part_of v && (var == v))
       part_alone v part = grind (arith, nat_tests, and_from, eqb-true, and-false)
@@ -207,18 +207,18 @@ module _ (graph : Graph) (words costs : List ℕ) (ok : IsGraph graph) (dear : A
             (record { below = and_from _ _ (lt-ltb (literal_line var positive) (length before) inside) refl; kind = refl; apart = λ v. one_alone (mentions before v (literal_line var positive)); smooth = λ v. refl })
             at
             (λ v c q. or-false (mentions before v (literal_line var positive)) ∙ literal-value parts more (mention_by v) var positive low (high p) inside ∙ part_alone v part ∙ ap (λ b. part_of v && b) (sym (has-is v)))
-            (λ c q. Means-same (λ a. and-true (is_true before (literal_line var positive) a) ∙ literal-value parts more (truth_by a) var positive low (high p) inside) (part-means graph words costs ok dear i var positive kids e c q part))
+            (λ c q. Means-same (λ a. and-true (is_true before (literal_line var positive) a) ∙ literal-value parts more (truth_by a) var positive low (high p) inside) (part-means graph evidence costs ok dear i var positive kids e c q part))
         by_part false p =
             one-adds (and_over []) (record { below = refl; kind = refl; apart = λ v. refl; smooth = λ v. refl }) at
             (λ v c q. other_none v (and_right (nat_le 1 var) _ p) ∙ ap (λ b. part_of v && b) (sym (has-is v)))
-            (λ c q. other-means graph words costs ok dear i var positive kids e c q (and_right (nat_le 1 var) _ p))
+            (λ c q. other-means graph evidence costs ok dear i var positive kids e c q (and_right (nat_le 1 var) _ p))
 
     -- an and
-    and-adds : (kids : List ℕ) → slice_get graph.nodes i ≡ Some (record { what = And; kids = kids }) → (cost : ℕ) → least_at graph words costs i ≡ Some cost → own i ≡ length before → Adds (and_over (map own kids) ∷ [])
+    and-adds : (kids : List ℕ) → slice_get graph.nodes i ≡ Some (record { what = And; kids = kids }) → (cost : ℕ) → least_at graph evidence costs i ≡ Some cost → own i ≡ length before → Adds (and_over (map own kids) ∷ [])
     and-adds kids e cost cost_is at =
         let fit = fits-get graph.vars graph.nodes i _ ok.nodes.fit e in
         let drawn_child : (k : ℕ) → In k kids → (d : ℕ) × Drawn before k d = λ k m.
-        let d = sum-child (least_at graph words costs) kids cost k (sym (costs-at graph words costs ok i _ e) ∙ cost_is) m in
+        let d = sum-child (least_at graph evidence costs) kids cost k (sym (costs-at graph evidence costs ok i _ e) ∙ cost_is) m in
         (d.0, upto.drawn k d.0 (all-below i kids k fit.below m) d.1) in
         let mention_children : (v : ℕ) → map (mentions before v) (map own kids) ≡ map (λ k. part_of v && M v k) kids = λ v.
         map-map (mentions before v) own kids ∙ map-in (λ k. mentions before v (own k)) (λ k. part_of v && M v k) kids (λ k m. (drawn_child k m).1.mentioned v) in
@@ -226,16 +226,16 @@ module _ (graph : Graph) (words costs : List ℕ) (ok : IsGraph graph) (dear : A
         (record {
           below = are_below-from (length before) (map own kids) (λ j d lt. let x = from_map own (get_or (map own kids) j d) kids (In-at (map own kids) j d lt) in subst (λ q. q < length before) (sym x.gives) (drawn_child x.item x.is_in).1.inside);
           kind = ap (λ n. nat_lt n CHILD_LIMIT) (length-map kids own) ∙ fit.kind;
-          apart = λ v. ap at_most_one (mention_children v) ∙ at_most_one-less (λ k. part_of v && M v k) (M v) i kids fit.below (λ k h q. (and_parts (part_of v) (M v k) q).1) (apart-kids graph words costs ok i kids e v);
+          apart = λ v. ap at_most_one (mention_children v) ∙ at_most_one-less (λ k. part_of v && M v k) (M v) i kids fit.below (λ k h q. (and_parts (part_of v) (M v k) q).1) (apart-kids graph evidence costs ok i kids e v);
           smooth = λ v. refl;
         })
         at
-        (λ v c q. ap (list_any (λ b. b)) (mention_children v) ∙ any-part (part_of v) (M v) kids ∙ ap (λ b. part_of v && b) (sym (mention-at graph words costs ok i _ e v)))
+        (λ v c q. ap (list_any (λ b. b)) (mention_children v) ∙ any-part (part_of v) (M v) kids ∙ ap (λ b. part_of v && b) (sym (mention-at graph evidence costs ok i _ e v)))
         (λ c q. Means-same (λ a. ap (list_all (λ b. b)) (map-map (λ p. is_true before p a) own kids))
-        (and-means graph words costs ok dear (λ k a. is_true before (own k) a) i kids c e q (λ k d m r. (upto.drawn k d (all-below i kids k fit.below m) r).means)))
+        (and-means graph evidence costs ok dear (λ k a. is_true before (own k) a) i kids c e q (λ k d m r. (upto.drawn k d (all-below i kids k fit.below m) r).means)))
 
     -- an or, after a line for each of its cheapest children
-    module _ (kids : List ℕ) (e : slice_get graph.nodes i ≡ Some (record { what = Or; kids = kids })) (cost : ℕ) (cost_is : least_at graph words costs i ≡ Some cost)
+    module _ (kids : List ℕ) (e : slice_get graph.nodes i ≡ Some (record { what = Or; kids = kids })) (cost : ℕ) (cost_is : least_at graph evidence costs i ≡ Some cost)
         (at : own i ≡ length before + length (cheapest_children least cost kids)) where
       abbrev best : List ℕ
       best = cheapest_children least cost kids
@@ -244,9 +244,9 @@ module _ (graph : Graph) (words costs : List ℕ) (ok : IsGraph graph) (dear : A
       fit = fits-get graph.vars graph.nodes i _ ok.nodes.fit e
 
       wider : (k : ℕ) → In k kids → (v : ℕ) → M v k ≡ true → M v i ≡ true
-      wider k m = child-inside graph words costs ok dear i kids cost e cost_is k m
+      wider k m = child-inside graph evidence costs ok dear i kids cost e cost_is k m
 
-      drawn_child : (k : ℕ) → In k kids → least_at graph words costs k ≡ Some cost → Drawn before k cost
+      drawn_child : (k : ℕ) → In k kids → least_at graph evidence costs k ≡ Some cost → Drawn before k cost
       drawn_child k m c = upto.drawn k cost (all-below i kids k fit.below m) c
 
       abbrev block : List Node
@@ -292,7 +292,7 @@ module _ (graph : Graph) (words costs : List ℕ) (ok : IsGraph graph) (dear : A
 
       some-best : best ≡ [] → ⊥
       some-best none =
-          let r = cheapest-has (least_at graph words costs) kids cost (sym (costs-at graph words costs ok i _ e) ∙ cost_is) in
+          let r = cheapest-has (least_at graph evidence costs) kids cost (sym (costs-at graph evidence costs ok i _ e) ∙ cost_is) in
           subst (In r.0) none (cheapest-in least cost kids r.0 r.1.0 r.1.1)
 
       abbrev or_node : Node
@@ -325,7 +325,7 @@ module _ (graph : Graph) (words costs : List ℕ) (ok : IsGraph graph) (dear : A
         mentioned = λ v. ap (value_of (mention_by v) (all_children ++ or_node ∷ [])) (at ∙ sym length-all_children) ∙ value_of-there (mention_by v) all_children or_node []
             ∙ ap (λ ks. list_any (λ b. b) (map (mentions all_children v) ks)) or_children ∙ ap (list_any (λ b. b)) (block-mentions v) ∙ any-const (part_of v && M v i) best some-best;
         means = Means-same (λ a. here (truth_by a))
-            (or-means graph words costs ok dear i kids cost e cost_is (λ k a. list_all (λ b. b) (map (λ q. is_true before q a) (child_line L i k).kids))
+            (or-means graph evidence costs ok dear i kids cost e cost_is (λ k a. list_all (λ b. b) (map (λ q. is_true before q a) (child_line L i k).kids))
             (λ k m c. over-means more k cost c (drawn_child k m c) (λ v. M v i) (wider k m)));
       }
 
@@ -340,24 +340,24 @@ module _ (graph : Graph) (words costs : List ℕ) (ok : IsGraph graph) (dear : A
       }
 
     -- the lines of a node, whatever it is
-    by_kind : (what : NodeKind) (kids : List ℕ) → slice_get graph.nodes i ≡ Some (record { what = what; kids = kids }) → (cost : ℕ) → least_at graph words costs i ≡ Some cost
+    by_kind : (what : NodeKind) (kids : List ℕ) → slice_get graph.nodes i ≡ Some (record { what = what; kids = kids }) → (cost : ℕ) → least_at graph evidence costs i ≡ Some cost
         → own i ≡ length before + lines_before least cost what kids → Adds (lines_by L i cost what kids)
     by_kind (Literal positive var) kids e cost cost_is at = literal-adds var positive kids e cost cost_is (omega (arith, at))
     by_kind And kids e cost cost_is at = and-adds kids e cost cost_is (omega (arith, at))
     by_kind Or kids e cost cost_is at = or-adds kids e cost cost_is at
 
-    node-adds : (node : Node) → slice_get graph.nodes i ≡ Some node → (o : Option ℕ) → least_at graph words costs i ≡ o → own i ≡ length before + lines_to least node o → Adds (lines_at L i node o)
+    node-adds : (node : Node) → slice_get graph.nodes i ≡ Some node → (o : Option ℕ) → least_at graph evidence costs i ≡ o → own i ≡ length before + lines_to least node o → Adds (lines_at L i node o)
     node-adds node e None c at = false-adds c (omega (arith, at))
     node-adds node e (Some cost) c at = by_kind node.what node.kids e cost c at
 
-    pub one_more : (node : Node) → slice_get graph.nodes i ≡ Some node → own i ≡ length before + lines_to least node (least_at graph words costs i) → Upto (i + 1) (more ++ node_lines L (i, node))
+    pub one_more : (node : Node) → slice_get graph.nodes i ≡ Some node → own i ≡ length before + lines_to least node (least_at graph evidence costs i) → Upto (i + 1) (more ++ node_lines L (i, node))
     one_more node e at =
-        let added = node-adds node e (least_at graph words costs i) refl at in
+        let added = node-adds node e (least_at graph evidence costs i) refl at in
         record {
           stand = added.stand;
           drawn = λ k c h q. ⊎_elim
               (λ (lt : k < i). subst (λ lines. Drawn lines k c) (regroup (node_lines L (i, node))) (Drawn-more before (node_lines L (i, node)) k c (upto.drawn k c lt q)))
-              (λ (le : i ≤ k). let same : i ≡ k = omega arith in subst (λ j. Drawn (literal_pairs parts ++ (more ++ node_lines L (i, node))) j c) same (added.drawn c (ap (least_at graph words costs) same ∙ q)))
+              (λ (le : i ≤ k). let same : i ≡ k = omega arith in subst (λ j. Drawn (literal_pairs parts ++ (more ++ node_lines L (i, node))) j c) same (added.drawn c (ap (least_at graph evidence costs) same ∙ q)))
               (cases_lt k i);
         }
 
@@ -374,18 +374,18 @@ module _ (graph : Graph) (words costs : List ℕ) (ok : IsGraph graph) (dear : A
   go front (node ∷ later) done more all long stand_at upto =
       let i = length front in
       let before : List Node = literal_pairs parts ++ more in
-      let at : ℕ = length before + lines_to least node (least_at graph words costs i) in
+      let at : ℕ = length before + lines_to least node (least_at graph evidence costs i) in
       let inside : i < length graph.nodes = omega (arith, ap length all, length-append front (node ∷ later)) in
       let there : slice_get graph.nodes i ≡ Some node = slice_get-get_or graph.nodes i true_node inside ∙ ap Some (ap (λ ns. get_or ns i true_node) all ∙ get_or_at front node later true_node i refl) in
       let own_is : own i ≡ at = ap (λ ls. get_or ls i 0) stand_at ∙ get_or_at done at (own_lines least (at + 1) (i + 1) later) 0 i long in
       let next = one_more i more upto node there own_is in
       let block : List Node = node_lines L (i, node) in
       let longer : length (front ++ node ∷ []) ≡ i + 1 = length-append front (node ∷ []) in
-      let grown : length (literal_pairs parts ++ (more ++ block)) ≡ at + 1 = omega (arith, length-append (literal_pairs parts) (more ++ block), length-append more block, length-append (literal_pairs parts) more, length-lines i node (least_at graph words costs i)) in
+      let grown : length (literal_pairs parts ++ (more ++ block)) ≡ at + 1 = omega (arith, length-append (literal_pairs parts) (more ++ block), length-append more block, length-append (literal_pairs parts) more, length-lines i node (least_at graph evidence costs i)) in
       grind (arith, nat_tests, append_assoc, length-append, go (front ++ node ∷ []) later (done ++ at ∷ []) (more ++ block))
 
   abbrev pub body : List Node
-  body = flat_map (node_lines (layout_of graph words costs)) (enumerate_from 0 graph.nodes)
+  body = flat_map (node_lines (layout_of graph evidence costs)) (enumerate_from 0 graph.nodes)
 
   pub all-drawn : Upto (length graph.nodes) body
   all-drawn =

@@ -41,9 +41,9 @@ filled_bit k b w dear ag free = grind (arith, nat_tests, same_bit-equal)
 only_fault : (k : Option Bool) (b : Bool) (w : ℕ) → (fault k w b ≡ 0 → ⊥) → b ≡ false
 only_fault k b w h = grind (arith, nat_tests)
 
-module _ (graph : Graph) (words costs : List ℕ) (ok : IsGraph graph) (dear : All (λ c. 0 < c) costs) where
+module _ (graph : Graph) (evidence costs : List ℕ) (ok : IsGraph graph) (dear : All (λ c. 0 < c) costs) where
   abbrev kn : ℕ → Option Bool
-  kn v = known_at words v
+  kn v = known_at evidence v
 
   abbrev price : ℕ → ℕ
   price v = part_cost costs v
@@ -66,12 +66,12 @@ module _ (graph : Graph) (words costs : List ℕ) (ok : IsGraph graph) (dear : A
 
   -- an assignment that agrees and passes a test at no more than a cost, with the same bits of some parts
   pub record Gives (t : Assignment → Bool) (m : ℕ → Bool) (c : ℕ) (a : Assignment) : Type 0 where
-    pub is : Reaches (known_at words) (part_cost costs) (length costs) t c
+    pub is : Reaches (known_at evidence) (part_cost costs) (length costs) t c
     pub same : (v : ℕ) → is_part v ≡ true → m v ≡ true → a v ≡ is.by v
 
   -- A line is true if its test can be passed at no more than a cost, with the same bits of the parts that the test is about.
   pub record Means (t : Assignment → Bool) (m : ℕ → Bool) (c : ℕ) (line : Assignment → Bool) : Type 0 where
-    pub sound : (a b : Assignment) → Agrees (known_at words) (part_cost costs) (length costs) b → t b ≡ true → faults_in (known_at words) (part_cost costs) (length costs) m b ≤ c
+    pub sound : (a b : Assignment) → Agrees (known_at evidence) (part_cost costs) (length costs) b → t b ≡ true → faults_in (known_at evidence) (part_cost costs) (length costs) m b ≤ c
         → ((v : ℕ) → is_part v ≡ true → m v ≡ true → a v ≡ b v) → line a ≡ true
     pub reached : (a : Assignment) → line a ≡ true → Gives t m c a
 
@@ -82,7 +82,7 @@ module _ (graph : Graph) (words costs : List ℕ) (ok : IsGraph graph) (dear : A
   -- ---- a part that is not below a node
 
   -- where a node is true at its least cost, parts that are not below it have the bits that fill them in
-  outside : (k c : ℕ) → least_at graph words costs k ≡ Some c → (o : ℕ → Bool) → ((v : ℕ) → M v k ≡ true → o v ≡ true) → (b : Assignment) → Agrees kn price n b → T b k ≡ true → faults_in kn price n o b ≤ c
+  outside : (k c : ℕ) → least_at graph evidence costs k ≡ Some c → (o : ℕ → Bool) → ((v : ℕ) → M v k ≡ true → o v ≡ true) → (b : Assignment) → Agrees kn price n b → T b k ≡ true → faults_in kn price n o b ≤ c
       → (v : ℕ) → is_part v ≡ true → o v ≡ true → M v k ≡ false → b v ≡ filling (kn v)
   outside k c e o wider b ag h few v part in_o not_below =
       let range = and_parts (nat_le 1 v) (nat_le v n) part in
@@ -93,23 +93,23 @@ module _ (graph : Graph) (words costs : List ℕ) (ok : IsGraph graph) (dear : A
         by_test zero q low high = q
         by_test (suc w) q low high =
             let costly : 0 < fault (kn v) (price v) (b v) = omega arith in
-            let most : c ≤ faults_in kn price n (λ u. M u k) b = subst (λ d. AtMost d (faults_in kn price n (λ u. M u k) b)) e ((is_cost graph words costs ok k).bound b ag h) in
+            let most : c ≤ faults_in kn price n (λ u. M u k) b = subst (λ d. AtMost d (faults_in kn price n (λ u. M u k) b)) e ((is_cost graph evidence costs ok k).bound b ag h) in
             let less : faults_in kn price n (λ u. M u k) b < faults_in kn price n o b =
-            faults-lt graph words costs ok b ag v low (omega arith) (only_fault (kn v) (b v) (price v) (λ z. omega arith)) costly (λ u. M u k) o wider not_below in_o in
+            faults-lt graph evidence costs ok b ag v low (omega arith) (only_fault (kn v) (b v) (price v) (λ z. omega arith)) costly (λ u. M u k) o wider not_below in_o in
             absurd (omega arith)
 
   -- ---- parts that are filled in
 
   -- bits of some parts are those that fill them in
   abbrev pub AreFilled : (ℕ → Bool) → Assignment → Type 0
-  AreFilled missing a = (v : ℕ) → is_part v ≡ true → missing v ≡ true → a v ≡ filling (known_at words v)
+  AreFilled missing a = (v : ℕ) → is_part v ≡ true → missing v ≡ true → a v ≡ filling (known_at evidence v)
 
   pub record Fills (missing : ℕ → Bool) (line : Assignment → Bool) : Type 0 where
     pub sound : (a : Assignment) → AreFilled missing a → line a ≡ true
     pub reached : (a : Assignment) → line a ≡ true → AreFilled missing a
 
   -- a node's line with the parts of a greater set that are not below the node
-  pub filled : (k c : ℕ) → least_at graph words costs k ≡ Some c → (o : ℕ → Bool) → ((v : ℕ) → M v k ≡ true → o v ≡ true) → (line fill : Assignment → Bool) → NodeMeans k c line
+  pub filled : (k c : ℕ) → least_at graph evidence costs k ≡ Some c → (o : ℕ → Bool) → ((v : ℕ) → M v k ≡ true → o v ≡ true) → (line fill : Assignment → Bool) → NodeMeans k c line
       → Fills (λ v. o v && not (M v k)) fill → Means (λ a. T a k) o c (λ a. line a && fill a)
   filled k c e o wider line fill means fills = record {
     sound = λ a b ag h few same. and_from _ _
@@ -128,22 +128,22 @@ module _ (graph : Graph) (words costs : List ℕ) (ok : IsGraph graph) (dear : A
 
   -- ---- a literal
 
-  module _ (k var : ℕ) (positive : Bool) (kids : List ℕ) (e : slice_get graph.nodes k ≡ Some (record { what = Literal positive var; kids = kids })) (c : ℕ) (cost_is : least_at graph words costs k ≡ Some c) where
+  module _ (k var : ℕ) (positive : Bool) (kids : List ℕ) (e : slice_get graph.nodes k ≡ Some (record { what = Literal positive var; kids = kids })) (c : ℕ) (cost_is : least_at graph evidence costs k ≡ Some c) where
     of_var : (v : ℕ) → M v k ≡ true → var ≡ v
-    of_var v m = eqb-true var v (sym (mention-at graph words costs ok k _ e v) ∙ m)
+    of_var v m = eqb-true var v (sym (mention-at graph evidence costs ok k _ e v) ∙ m)
 
     has_var : M var k ≡ true
-    has_var = mention-at graph words costs ok k _ e var ∙ eq-eqb var var refl
+    has_var = mention-at graph evidence costs ok k _ e var ∙ eq-eqb var var refl
 
     says : (a : Assignment) → T a k ≡ true → a var ≡ positive
-    says a h = sym (same_bit-equal positive (a var) (sym (true-at graph words costs ok k _ e a) ∙ h))
+    says a h = sym (same_bit-equal positive (a var) (sym (true-at graph evidence costs ok k _ e a) ∙ h))
 
     -- of a part
     pub part-means : is_part var ≡ true → NodeMeans k c (λ a. same_bit positive (a var))
     part-means part = record {
       sound = λ a b ag h few same. ap (same_bit positive) (same var part has_var ∙ says b h) ∙ same_bit-refl positive;
       reached = λ a h.
-          let r = (is_cost graph words costs ok k).reached c cost_is in
+          let r = (is_cost graph evidence costs ok k).reached c cost_is in
           record { is = r; same = λ v p m. subst (λ u. a u ≡ r.by u) (of_var v m) (sym (same_bit-equal positive (a var) h) ∙ sym (says r.by r.holds)) };
     }
 
@@ -152,27 +152,27 @@ module _ (graph : Graph) (words costs : List ℕ) (ok : IsGraph graph) (dear : A
     other-means other = record {
       sound = λ a b ag h few same. refl;
       reached = λ a h.
-          record { is = (is_cost graph words costs ok k).reached c cost_is; same = λ v p m. absurd (let no : true ≡ false = sym p ∙ ap is_part (sym (of_var v m)) ∙ other in cc) };
+          record { is = (is_cost graph evidence costs ok k).reached c cost_is; same = λ v p m. absurd (let no : true ≡ false = sym p ∙ ap is_part (sym (of_var v m)) ∙ other in cc) };
     }
 
   -- ---- an and
 
   module _ (line : ℕ → Assignment → Bool) where
-    all_lines : (kids : List ℕ) → ((v : ℕ) → at_most_one (map (M v) kids) ≡ true) → ((k c : ℕ) → In k kids → least_at graph words costs k ≡ Some c → NodeMeans k c (line k))
-        → (c : ℕ) → sum_costs (map (least_at graph words costs) kids) ≡ Some c
+    all_lines : (kids : List ℕ) → ((v : ℕ) → at_most_one (map (M v) kids) ≡ true) → ((k c : ℕ) → In k kids → least_at graph evidence costs k ≡ Some c → NodeMeans k c (line k))
+        → (c : ℕ) → sum_costs (map (least_at graph evidence costs) kids) ≡ Some c
         → Means (λ a. list_all (λ b. b) (map (T a) kids)) (λ v. list_any (λ b. b) (map (M v) kids)) c (λ a. list_all (λ b. b) (map (λ k. line k a) kids))
     unfolding Apart
     all_lines [] apart are c s = record {
       sound = λ a b ag h few same. refl;
       reached = λ a h.
-          record { is = (kids-cost graph words costs ok [] apart).reached c s; same = λ v p m. absurd (let no : false ≡ true = m in cc) };
+          record { is = (kids-cost graph evidence costs ok [] apart).reached c s; same = λ v p m. absurd (let no : false ≡ true = m in cc) };
     }
     all_lines (j ∷ kids) apart are c s =
-        let sum = from_add (least_at graph words costs j) (sum_costs (map (least_at graph words costs) kids)) c s in
+        let sum = from_add (least_at graph evidence costs j) (sum_costs (map (least_at graph evidence costs) kids)) c s in
         let later : (v : ℕ) → at_most_one (map (M v) kids) ≡ true = λ v. at_most_one-tail (M v j) (map (M v) kids) (apart v) in
         let both : (v : ℕ) → (M v j && list_any (λ b. b) (map (M v) kids)) ≡ false = λ v. not_both (M v j) (map (M v) kids) (apart v) in
-        let j_is = is_cost graph words costs ok j in
-        let children_are = kids-cost graph words costs ok kids later in
+        let j_is = is_cost graph evidence costs ok j in
+        let children_are = kids-cost graph evidence costs ok kids later in
         let first = are j sum.left (inl refl) sum.left_is in
         let rest = all_lines kids later (λ k d m. are k d (inr m)) sum.right sum.right_is in
         record {
@@ -207,40 +207,40 @@ module _ (graph : Graph) (words costs : List ℕ) (ok : IsGraph graph) (dear : A
         }
 
     -- all lines of the children of an and
-    pub and-means : (i : ℕ) (kids : List ℕ) (c : ℕ) → slice_get graph.nodes i ≡ Some (record { what = And; kids = kids }) → least_at graph words costs i ≡ Some c
-        → ((k d : ℕ) → In k kids → least_at graph words costs k ≡ Some d → NodeMeans k d (line k)) → NodeMeans i c (λ a. list_all (λ b. b) (map (λ k. line k a) kids))
+    pub and-means : (i : ℕ) (kids : List ℕ) (c : ℕ) → slice_get graph.nodes i ≡ Some (record { what = And; kids = kids }) → least_at graph evidence costs i ≡ Some c
+        → ((k d : ℕ) → In k kids → least_at graph evidence costs k ≡ Some d → NodeMeans k d (line k)) → NodeMeans i c (λ a. list_all (λ b. b) (map (λ k. line k a) kids))
     and-means i kids c e is are =
-        let m = all_lines kids (apart-kids graph words costs ok i kids e) are c (sym (costs-at graph words costs ok i _ e) ∙ is) in
+        let m = all_lines kids (apart-kids graph evidence costs ok i kids e) are c (sym (costs-at graph evidence costs ok i _ e) ∙ is) in
         record {
-          sound = λ a b ag h few same. m.sound a b ag (sym (true-at graph words costs ok i _ e b) ∙ h)
-              (omega (arith, few, faults_in-le kn price n (λ v. list_any (λ y. y) (map (M v) kids)) (λ v. M v i) b (λ v q. mention-at graph words costs ok i _ e v ∙ q)))
-              (λ v p q. same v p (mention-at graph words costs ok i _ e v ∙ q));
+          sound = λ a b ag h few same. m.sound a b ag (sym (true-at graph evidence costs ok i _ e b) ∙ h)
+              (omega (arith, few, faults_in-le kn price n (λ v. list_any (λ y. y) (map (M v) kids)) (λ v. M v i) b (λ v q. mention-at graph evidence costs ok i _ e v ∙ q)))
+              (λ v p q. same v p (mention-at graph evidence costs ok i _ e v ∙ q));
           reached = λ a h.
               let g = m.reached a h in
               record {
-                is = record { by = g.is.by; agrees = g.is.agrees; holds = true-at graph words costs ok i _ e g.is.by ∙ g.is.holds; cheap = g.is.cheap };
-                same = λ v p q. g.same v p (sym (mention-at graph words costs ok i _ e v) ∙ q);
+                is = record { by = g.is.by; agrees = g.is.agrees; holds = true-at graph evidence costs ok i _ e g.is.by ∙ g.is.holds; cheap = g.is.cheap };
+                same = λ v p q. g.same v p (sym (mention-at graph evidence costs ok i _ e v) ∙ q);
               };
         }
 
   -- ---- an or
 
-  module _ (i : ℕ) (kids : List ℕ) (c : ℕ) (e : slice_get graph.nodes i ≡ Some (record { what = Or; kids = kids })) (is : least_at graph words costs i ≡ Some c) where
+  module _ (i : ℕ) (kids : List ℕ) (c : ℕ) (e : slice_get graph.nodes i ≡ Some (record { what = Or; kids = kids })) (is : least_at graph evidence costs i ≡ Some c) where
     -- what is below a child is below the or
     pub child-inside : (k : ℕ) → In k kids → (v : ℕ) → M v k ≡ true → M v i ≡ true
-    child-inside k m v h = mention-at graph words costs ok i _ e v ∙ any-child (M v) kids k m h
+    child-inside k m v h = mention-at graph evidence costs ok i _ e v ∙ any-child (M v) kids k m h
 
     abbrev cheapest : List ℕ
     cheapest = cheapest_children (values (node_cost kn price) graph.nodes) c kids
 
     -- the lines of its cheapest children, each filled in
     pub or-means : (line : ℕ → Assignment → Bool)
-        → ((k : ℕ) → In k kids → least_at graph words costs k ≡ Some c → Means (λ a. is_true graph.nodes k a) (λ v. mentions graph.nodes v i) c (line k))
-        → NodeMeans i c (λ a. list_any (λ b. b) (map (λ k. line k a) (cheapest_children (values (node_cost (known_at words) (part_cost costs)) graph.nodes) c kids)))
+        → ((k : ℕ) → In k kids → least_at graph evidence costs k ≡ Some c → Means (λ a. is_true graph.nodes k a) (λ v. mentions graph.nodes v i) c (line k))
+        → NodeMeans i c (λ a. list_any (λ b. b) (map (λ k. line k a) (cheapest_children (values (node_cost (known_at evidence) (part_cost costs)) graph.nodes) c kids)))
     or-means line are = record {
       sound = λ a b ag h few same.
-          let j = child-with (T b) kids (sym (true-at graph words costs ok i _ e b) ∙ h) in
-          let cost_is = or-child graph words costs ok b ag i kids c e is few j.item j.is_in j.passes in
+          let j = child-with (T b) kids (sym (true-at graph evidence costs ok i _ e b) ∙ h) in
+          let cost_is = or-child graph evidence costs ok b ag i kids c e is few j.item j.is_in j.passes in
           any-child (λ k. line k a) cheapest j.item (cheapest-in (values (node_cost kn price) graph.nodes) c kids j.item j.is_in cost_is)
           ((are j.item j.is_in cost_is).sound a b ag j.passes few same);
       reached = λ a h.
@@ -248,7 +248,7 @@ module _ (graph : Graph) (words costs : List ℕ) (ok : IsGraph graph) (dear : A
           let m = cheapest-is (values (node_cost kn price) graph.nodes) c kids j.item j.is_in in
           let g = (are j.item m.0 m.1).reached a j.passes in
           record {
-            is = record { by = g.is.by; agrees = g.is.agrees; holds = true-at graph words costs ok i _ e g.is.by ∙ any-child (T g.is.by) kids j.item m.0 g.is.holds; cheap = g.is.cheap };
+            is = record { by = g.is.by; agrees = g.is.agrees; holds = true-at graph evidence costs ok i _ e g.is.by ∙ any-child (T g.is.by) kids j.item m.0 g.is.holds; cheap = g.is.cheap };
             same = g.same;
           };
     }

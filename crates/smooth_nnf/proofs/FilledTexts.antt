@@ -23,46 +23,46 @@ use Rattle.smooth_nnf.proofs.WordParts.{range-append, all-words, word-parts}
 -- ---- a word
 
 -- bit by bit, the parts of a word
-bits-text : (words : List ℕ) (word bits s d : ℕ) → flat_map (bit_text words word bits) (range_with_len s d)
-    ≡ numbers_text (map (filler words) (filter (λ part. has_bit bits (part - (32 * word + 1))) (range_with_len (32 * word + 1 + s) d)))
-bits-text words word bits s zero = refl
-bits-text words word bits s (suc d) = grind (arith, nat_tests, bits-text words word bits (s + 1) d)
+bits-text : (evidence : List ℕ) (word bits s d : ℕ) → flat_map (bit_text evidence word bits) (range_with_len s d)
+    ≡ numbers_text (map (filler evidence) (filter (λ part. has_bit bits (part - (32 * word + 1))) (range_with_len (32 * word + 1 + s) d)))
+bits-text evidence word bits s zero = refl
+bits-text evidence word bits s (suc d) = grind (arith, nat_tests, bits-text evidence word bits (s + 1) d)
 
 pub word-text : (d : Drawing) (node : ℕ) (over : Option ℕ) (word bits : ℕ) → ((b : ℕ) → b < 32 → has_bit bits b ≡ (nat_le (part_at word b) d.parts && missing_in d over node (part_at word b)))
-    → flat_map (bit_text d.words word bits) (range_with_len 0 32) ≡ word_text d node over word
+    → flat_map (bit_text d.evidence word bits) (range_with_len 0 32) ≡ word_text d node over word
 word-text d node over word bits is =
     let start : 32 * word + 1 + 0 ≡ 32 * word + 1 = omega arith in
-    bits-text d.words word bits 0 32
-    ∙ ap (λ n. numbers_text (map (filler d.words) (filter (λ part. has_bit bits (part - (32 * word + 1))) (range_with_len n 32)))) start
-    ∙ ap (λ ps. numbers_text (map (filler d.words) ps)) (word-parts (λ part. nat_le part d.parts && missing_in d over node part) word bits is)
+    bits-text d.evidence word bits 0 32
+    ∙ ap (λ n. numbers_text (map (filler d.evidence) (filter (λ part. has_bit bits (part - (32 * word + 1))) (range_with_len n 32)))) start
+    ∙ ap (λ ps. numbers_text (map (filler d.evidence) ps)) (word-parts (λ part. nat_le part d.parts && missing_in d over node part) word bits is)
 
 -- ---- all words
 
 words-text : (d : Drawing) (node : ℕ) (over : Option ℕ) (word count : ℕ) → flat_map (word_text d node over) (range_with_len word count)
-    ≡ numbers_text (map (filler d.words) (filter (λ part. nat_le part d.parts && missing_in d over node part) (range_with_len (32 * word + 1) (32 * count))))
-words-text d node over word zero = let none : 32 * 0 ≡ 0 = omega arith in ap (λ n. numbers_text (map (filler d.words) (filter (λ part. nat_le part d.parts && missing_in d over node part) (range_with_len (32 * word + 1) n)))) (sym none)
+    ≡ numbers_text (map (filler d.evidence) (filter (λ part. nat_le part d.parts && missing_in d over node part) (range_with_len (32 * word + 1) (32 * count))))
+words-text d node over word zero = let none : 32 * 0 ≡ 0 = omega arith in ap (λ n. numbers_text (map (filler d.evidence) (filter (λ part. nat_le part d.parts && missing_in d over node part) (range_with_len (32 * word + 1) n)))) (sym none)
 words-text d node over word (suc count) =
     let test : ℕ → Bool = λ part. nat_le part d.parts && missing_in d over node part in
     let here : List ℕ = filter test (range_with_len (32 * word + 1) 32) in
     let next : 32 * (word + 1) + 1 ≡ (32 * word + 1) + 32 = omega arith in
     let all : 32 * suc count ≡ 32 + 32 * count = omega arith in
-    ap (λ t. word_text d node over word ++ t) (words-text d node over (word + 1) count ∙ ap (λ n. numbers_text (map (filler d.words) (filter test (range_with_len n (32 * count))))) next)
-    ∙ sym (flat_map-append (λ n. 32 ∷ decimal n) (map (filler d.words) here) (map (filler d.words) (filter test (range_with_len ((32 * word + 1) + 32) (32 * count)))))
-    ∙ ap numbers_text (sym (map-append (filler d.words) here (filter test (range_with_len ((32 * word + 1) + 32) (32 * count)))))
-    ∙ ap (λ ps. numbers_text (map (filler d.words) ps)) (sym (filter-append test (range_with_len (32 * word + 1) 32) (range_with_len ((32 * word + 1) + 32) (32 * count))) ∙ ap (filter test) (sym (range-append (32 * word + 1) 32 (32 * count))))
-    ∙ ap (λ n. numbers_text (map (filler d.words) (filter test (range_with_len (32 * word + 1) n)))) (sym all)
+    ap (λ t. word_text d node over word ++ t) (words-text d node over (word + 1) count ∙ ap (λ n. numbers_text (map (filler d.evidence) (filter test (range_with_len n (32 * count))))) next)
+    ∙ sym (flat_map-append (λ n. 32 ∷ decimal n) (map (filler d.evidence) here) (map (filler d.evidence) (filter test (range_with_len ((32 * word + 1) + 32) (32 * count)))))
+    ∙ ap numbers_text (sym (map-append (filler d.evidence) here (filter test (range_with_len ((32 * word + 1) + 32) (32 * count)))))
+    ∙ ap (λ ps. numbers_text (map (filler d.evidence) ps)) (sym (filter-append test (range_with_len (32 * word + 1) 32) (range_with_len ((32 * word + 1) + 32) (32 * count))) ∙ ap (filter test) (sym (range-append (32 * word + 1) 32 (32 * count))))
+    ∙ ap (λ n. numbers_text (map (filler d.evidence) (filter test (range_with_len (32 * word + 1) n)))) (sym all)
 
-pub fillers-text : (d : Drawing) (node : ℕ) (over : Option ℕ) → flat_map (word_text d node over) (range_with_len 0 (part_words d.parts)) ≡ numbers_text (fillers d.words d.parts (missing_in d over node))
+pub fillers-text : (d : Drawing) (node : ℕ) (over : Option ℕ) → flat_map (word_text d node over) (range_with_len 0 (part_words d.parts)) ≡ numbers_text (fillers d.evidence d.parts (missing_in d over node))
 fillers-text d node over = grind (arith, nat_tests, words-text, all-words)
 
 -- ---- the line
 
-pub filled-text : (d : Drawing) (node : ℕ) (over : Option ℕ) (count : ℕ) → count ≡ length (fillers d.words d.parts (missing_in d over node)) + 1
-    → 65 ∷ ((32 ∷ decimal count) ++ ((32 ∷ decimal (slice_index d.lines node)) ++ (numbers_text (fillers d.words d.parts (missing_in d over node)) ++ 10 ∷ []))) ≡ spaced (node_words (filled_line d over node))
+pub filled-text : (d : Drawing) (node : ℕ) (over : Option ℕ) (count : ℕ) → count ≡ length (fillers d.evidence d.parts (missing_in d over node)) + 1
+    → 65 ∷ ((32 ∷ decimal count) ++ ((32 ∷ decimal (slice_index d.lines node)) ++ (numbers_text (fillers d.evidence d.parts (missing_in d over node)) ++ 10 ∷ []))) ≡ spaced (node_words (filled_line d over node))
 filled-text d node over count is =
     let kids : List ℕ = (filled_line d over node).kids in
     let long : count ≡ length kids = omega arith in
-    (λ i. 65 ∷ ((32 ∷ decimal (long i)) ++ sym (append_assoc (32 ∷ decimal (slice_index d.lines node)) (numbers_text (fillers d.words d.parts (missing_in d over node))) (10 ∷ [])) i)) ∙ and-spaced kids
+    (λ i. 65 ∷ ((32 ∷ decimal (long i)) ++ sym (append_assoc (32 ∷ decimal (slice_index d.lines node)) (numbers_text (fillers d.evidence d.parts (missing_in d over node))) (10 ∷ [])) i)) ∙ and-spaced kids
 
 -- ---- what is at a place
 
@@ -72,10 +72,10 @@ first-numbers n i lt = omega (arith, get_or-range_with_len 0 n i 0 lt)
 -- a word without bits fills nothing in
 pub no-bits : (d : Drawing) (node : ℕ) (over : Option ℕ) (word bits : ℕ) → bits ≡ 0 → ((b : ℕ) → b < 32 → has_bit bits b ≡ (nat_le (part_at word b) d.parts && missing_in d over node (part_at word b))) → [] ≡ word_text d node over word
 no-bits d node over word bits none is =
-    none_there 0 32 ∙ ap (λ n. flat_map (bit_text d.words word n) (range_with_len 0 32)) (sym none) ∙ word-text d node over word bits is where
-      none_there : (s n : ℕ) → [] ≡ flat_map (bit_text d.words word 0) (range_with_len s n)
+    none_there 0 32 ∙ ap (λ n. flat_map (bit_text d.evidence word n) (range_with_len 0 32)) (sym none) ∙ word-text d node over word bits is where
+      none_there : (s n : ℕ) → [] ≡ flat_map (bit_text d.evidence word 0) (range_with_len s n)
       none_there s zero = refl
-      none_there s (suc n) = none_there (s + 1) n ∙ ap (λ b. cond b (32 ∷ decimal (filler d.words (part_at word s))) [] ++ flat_map (bit_text d.words word 0) (range_with_len (s + 1) n)) (sym (has_bit-zero s))
+      none_there s (suc n) = none_there (s + 1) n ∙ ap (λ b. cond b (32 ∷ decimal (filler d.evidence (part_at word s))) [] ++ flat_map (bit_text d.evidence word 0) (range_with_len (s + 1) n)) (sym (has_bit-zero s))
 
 -- the same text, said otherwise
 pub grown_same : (a b : Option (List ℕ)) (p q xs ys : List ℕ) → xs ≡ ys → Grown a b p q xs → Grown a b p q ys

@@ -93,7 +93,7 @@ module _ (parts : ℕ) (more : List Node) where
 
   -- ---- fillers
 
-  module _ (words : List ℕ) (missing : ℕ → Bool) (room : 2 * parts ≤ length (literal_pairs parts ++ more)) where
+  module _ (evidence : List ℕ) (missing : ℕ → Bool) (room : 2 * parts ≤ length (literal_pairs parts ++ more)) where
     abbrev chosen : List ℕ
     chosen = filter missing (range_with_len 1 parts)
 
@@ -103,22 +103,22 @@ module _ (parts : ℕ) (more : List Node) where
     chosen-has : (p : ℕ) → 1 ≤ p → p ≤ parts → missing p ≡ true → In p chosen
     chosen-has p low high is = In-filtered missing p (range_with_len 1 parts) (range_has 1 parts p low (omega arith)) is
 
-    filler-value : (by : NodeKind → List Bool → Bool) (p : ℕ) → In p chosen → value_of by lines (filler words p) ≡ by (Literal (filling (known_at words p)) p) []
+    filler-value : (by : NodeKind → List Bool → Bool) (p : ℕ) → In p chosen → value_of by lines (filler evidence p) ≡ by (Literal (filling (known_at evidence p)) p) []
     filler-value by p m = grind (arith, nat_tests, chosen-is, literal-value, literal_line-lt)
 
     pub fillers-values : (by : NodeKind → List Bool → Bool)
-        → map (value_of by (literal_pairs parts ++ more)) (fillers words parts missing) ≡ map (λ p. by (Literal (filling (known_at words p)) p) []) (filter missing (range_with_len 1 parts))
-    fillers-values by = map-map (value_of by lines) (filler words) chosen ∙ map-in (λ p. value_of by lines (filler words p)) (λ p. by (Literal (filling (known_at words p)) p) []) chosen (filler-value by)
+        → map (value_of by (literal_pairs parts ++ more)) (fillers evidence parts missing) ≡ map (λ p. by (Literal (filling (known_at evidence p)) p) []) (filter missing (range_with_len 1 parts))
+    fillers-values by = map-map (value_of by lines) (filler evidence) chosen ∙ map-in (λ p. value_of by lines (filler evidence p)) (λ p. by (Literal (filling (known_at evidence p)) p) []) chosen (filler-value by)
 
     -- they are before all that fills parts in
-    pub fillers-below : (own : ℕ) → 2 * parts ≤ own → are_below own (fillers words parts missing) ≡ true
-    fillers-below own le = are_below-from own (map (filler words) chosen) (λ i d h.
-        let x = from_map (filler words) (get_or (map (filler words) chosen) i d) chosen (In-at (map (filler words) chosen) i d h) in
+    pub fillers-below : (own : ℕ) → 2 * parts ≤ own → are_below own (fillers evidence parts missing) ≡ true
+    fillers-below own le = are_below-from own (map (filler evidence) chosen) (λ i d h.
+        let x = from_map (filler evidence) (get_or (map (filler evidence) chosen) i d) chosen (In-at (map (filler evidence) chosen) i d h) in
         let is = chosen-is x.item x.is_in in
-        omega (arith, x.gives, literal_line-lt parts x.item (filling (known_at words x.item)) is.0 is.1))
+        omega (arith, x.gives, literal_line-lt parts x.item (filling (known_at evidence x.item)) is.0 is.1))
 
     -- together they mention what is missing
-    pub fillers-mention : (v : ℕ) → list_any (λ b. b) (map (mentions (literal_pairs parts ++ more) v) (fillers words parts missing)) ≡ ((nat_le 1 v && nat_le v parts) && missing v)
+    pub fillers-mention : (v : ℕ) → list_any (λ b. b) (map (mentions (literal_pairs parts ++ more) v) (fillers evidence parts missing)) ≡ ((nat_le 1 v && nat_le v parts) && missing v)
     fillers-mention v = ap (list_any (λ b. b)) (fillers-values (mention_by v)) ∙ both_ways _ _ from to where
       from : list_any (λ b. b) (map (λ p. p == v) chosen) ≡ true → ((nat_le 1 v && nat_le v parts) && missing v) ≡ true
       from any =
@@ -131,7 +131,7 @@ module _ (parts : ℕ) (more : List Node) where
       to all = grind (arith, nat_tests, and_parts, any-child, chosen-has, leb-true, eq-eqb)
 
     -- each once
-    pub fillers-once : (v : ℕ) → at_most_one (map (mentions (literal_pairs parts ++ more) v) (fillers words parts missing)) ≡ true
+    pub fillers-once : (v : ℕ) → at_most_one (map (mentions (literal_pairs parts ++ more) v) (fillers evidence parts missing)) ≡ true
     fillers-once v = ap at_most_one (fillers-values (mention_by v)) ∙ once 1 parts where
       once : (s n : ℕ) → at_most_one (map (λ p. p == v) (filter missing (range_with_len s n))) ≡ true
       once s zero = refl
@@ -149,15 +149,15 @@ module _ (parts : ℕ) (more : List Node) where
 
     -- and are true where what is missing is filled in
     abbrev truths : Assignment → Bool
-    truths a = list_all (λ b. b) (map (λ k. is_true (literal_pairs parts ++ more) k a) (fillers words parts missing))
+    truths a = list_all (λ b. b) (map (λ k. is_true (literal_pairs parts ++ more) k a) (fillers evidence parts missing))
 
-    as_bits : (a : Assignment) → truths a ≡ list_all (λ b. b) (map (λ p. same_bit (filling (known_at words p)) (a p)) chosen)
+    as_bits : (a : Assignment) → truths a ≡ list_all (λ b. b) (map (λ p. same_bit (filling (known_at evidence p)) (a p)) chosen)
     as_bits a = ap (list_all (λ b. b)) (fillers-values (truth_by a))
 
-    pub fillers-true : (a : Assignment) → ((v : ℕ) → (nat_le 1 v && nat_le v parts) ≡ true → missing v ≡ true → a v ≡ filling (known_at words v))
-        → list_all (λ b. b) (map (λ k. is_true (literal_pairs parts ++ more) k a) (fillers words parts missing)) ≡ true
+    pub fillers-true : (a : Assignment) → ((v : ℕ) → (nat_le 1 v && nat_le v parts) ≡ true → missing v ≡ true → a v ≡ filling (known_at evidence v))
+        → list_all (λ b. b) (map (λ k. is_true (literal_pairs parts ++ more) k a) (fillers evidence parts missing)) ≡ true
     fillers-true a filled = grind (arith, nat_tests, as_bits, all-from, chosen-is, filled, and_from, le-leb, same_bit-refl)
 
-    pub fillers-say : (a : Assignment) → list_all (λ b. b) (map (λ k. is_true (literal_pairs parts ++ more) k a) (fillers words parts missing)) ≡ true
-        → (v : ℕ) → (nat_le 1 v && nat_le v parts) ≡ true → missing v ≡ true → a v ≡ filling (known_at words v)
+    pub fillers-say : (a : Assignment) → list_all (λ b. b) (map (λ k. is_true (literal_pairs parts ++ more) k a) (fillers evidence parts missing)) ≡ true
+        → (v : ℕ) → (nat_le 1 v && nat_le v parts) ≡ true → missing v ≡ true → a v ≡ filling (known_at evidence v)
     fillers-say a all v part is = grind (arith, nat_tests, and_parts, same_bit-equal, all-child, chosen-has, leb-true, as_bits)

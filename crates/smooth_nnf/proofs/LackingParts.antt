@@ -38,9 +38,9 @@ pub is-lacking : (d : Drawing) → IsDrawing d → (lacking : List ℕ) → d.la
 is-lacking d is lacking e = subst (λ o. IfSome o (AreLacking d.graph d.parts)) e is.lacks
 
 -- then no part is filled in
-pub no-fillers : (d : Drawing) (over : Option ℕ) (node : ℕ) → ((part : ℕ) → 1 ≤ part → part ≤ d.parts → missing_in d over node part ≡ false) → fillers d.words d.parts (missing_in d over node) ≡ []
+pub no-fillers : (d : Drawing) (over : Option ℕ) (node : ℕ) → ((part : ℕ) → 1 ≤ part → part ≤ d.parts → missing_in d over node part ≡ false) → fillers d.evidence d.parts (missing_in d over node) ≡ []
 no-fillers d over node none =
-    ap (map (filler d.words)) (filter_same (missing_in d over node) (λ p. false) (range_with_len 1 d.parts) (λ p m. let r = in_range 1 d.parts p m in none p r.0 (omega (arith, r.1))) ∙ filter-never (range_with_len 1 d.parts))
+    ap (map (filler d.evidence)) (filter_same (missing_in d over node) (λ p. false) (range_with_len 1 d.parts) (λ p m. let r = in_range 1 d.parts p m in none p r.0 (omega (arith, r.1))) ∙ filter-never (range_with_len 1 d.parts))
 
 -- what is below such a node is among what its line is filled in up to
 pub under-wider : (d : Drawing) → IsDrawing d → IsGraph d.graph → (over : Option ℕ) (node : ℕ) → IsUnder d over node → (part : ℕ) → mentions d.graph.nodes part node ≡ true → is_over d.graph.nodes over part ≡ true

@@ -37,10 +37,10 @@ use Rattle.smooth_nnf.proofs.DrawnMeaning.{Means}
 use Rattle.smooth_nnf.proofs.Fillers.{length-literal_pairs}
 use Rattle.smooth_nnf.proofs.DrawnLines.{Means-same, Drawn, over-mention, over-follows, over-means, length-lines, body, all-drawn}
 
-module _ (graph : Graph) (words costs : List ℕ) (ok : IsGraph graph) (long : length words ≡ graph.vars) (within : length costs ≤ graph.vars) (dear : All (λ c. 0 < c) costs)
+module _ (graph : Graph) (evidence costs : List ℕ) (ok : IsGraph graph) (long : length evidence ≡ graph.vars) (within : length costs ≤ graph.vars) (dear : All (λ c. 0 < c) costs)
     (small : length graph.nodes + edges graph.nodes + 2 * length costs + 1 < 2 ^ 32) where
   abbrev L : Layout
-  L = layout_of graph words costs
+  L = layout_of graph evidence costs
 
   abbrev parts : ℕ
   parts = length costs
@@ -52,7 +52,7 @@ module _ (graph : Graph) (words costs : List ℕ) (ok : IsGraph graph) (long : l
   few = omega arith
 
   abbrev lines : List Node
-  lines = body graph words costs ok dear few
+  lines = body graph evidence costs ok dear few
 
   abbrev front : List Node
   front = literal_pairs parts ++ lines
@@ -66,17 +66,17 @@ module _ (graph : Graph) (words costs : List ℕ) (ok : IsGraph graph) (long : l
   all-is : all ≡ front ++ last ∷ []
   all-is = sym (append_assoc (literal_pairs parts) lines (last ∷ []))
 
-  drawn-root : (c : ℕ) → least_at graph words costs root ≡ Some c → Drawn graph words costs ok dear few front root c
-  drawn-root c e = (all-drawn graph words costs ok dear few).drawn root c (omega (arith, ok.some)) e
+  drawn-root : (c : ℕ) → least_at graph evidence costs root ≡ Some c → Drawn graph evidence costs ok dear few front root c
+  drawn-root c e = (all-drawn graph evidence costs ok dear few).drawn root c (omega (arith, ok.some)) e
 
   -- ---- the last line
 
-  last-follows : (o : Option ℕ) → least_at graph words costs root ≡ o → MayFollow parts front (last_at L root o)
+  last-follows : (o : Option ℕ) → least_at graph evidence costs root ≡ o → MayFollow parts front (last_at L root o)
   last-follows None e = record { below = refl; kind = refl; apart = λ v. refl; smooth = λ v. refl }
-  last-follows (Some c) e = over-follows graph words costs ok dear few lines root c e (drawn-root c e) (λ v. true) (λ v h. refl)
+  last-follows (Some c) e = over-follows graph evidence costs ok dear few lines root c e (drawn-root c e) (λ v. true) (λ v h. refl)
 
   stand : Stand parts all
-  stand = subst (Stand parts) (sym all-is) (stand-behind parts front (last ∷ []) (all-drawn graph words costs ok dear few).stand (last-follows (least_at graph words costs root) refl, tt))
+  stand = subst (Stand parts) (sym all-is) (stand-behind parts front (last ∷ []) (all-drawn graph evidence costs ok dear few).stand (last-follows (least_at graph evidence costs root) refl, tt))
 
   length-all : length all ≡ length front + 1
   length-all = ap length all-is ∙ length-append front (last ∷ [])
@@ -87,52 +87,52 @@ module _ (graph : Graph) (words costs : List ℕ) (ok : IsGraph graph) (long : l
       (λ j. value_of by (all-is j) (place j)) ∙ value_of-there by front last []
 
   -- the parts are below it
-  last-mentions : (c : ℕ) → least_at graph words costs root ≡ Some c → (v : ℕ) → mentions all v (length all - 1) ≡ (nat_le 1 v && nat_le v parts)
+  last-mentions : (c : ℕ) → least_at graph evidence costs root ≡ Some c → (v : ℕ) → mentions all v (length all - 1) ≡ (nat_le 1 v && nat_le v parts)
   last-mentions c e v =
       last-value (mention_by v) ∙ ap (λ o. mention_by v (last_at L root o).what (map (mentions front v) (last_at L root o).kids)) e
-      ∙ over-mention graph words costs ok dear few lines root c e (drawn-root c e) (λ u. true) (λ u h. refl) v ∙ and-true (nat_le 1 v && nat_le v parts)
+      ∙ over-mention graph evidence costs ok dear few lines root c e (drawn-root c e) (λ u. true) (λ u h. refl) v ∙ and-true (nat_le 1 v && nat_le v parts)
 
-  last-false : least_at graph words costs root ≡ None → (a : Assignment) → is_true all (length all - 1) a ≡ false
+  last-false : least_at graph evidence costs root ≡ None → (a : Assignment) → is_true all (length all - 1) a ≡ false
   last-false e a = last-value (truth_by a) ∙ ap (λ o. truth_by a (last_at L root o).what (map (λ k. is_true front k a) (last_at L root o).kids)) e
 
-  last-means : (c : ℕ) → least_at graph words costs root ≡ Some c → Means graph words costs ok dear (λ a. is_true graph.nodes root a) (λ v. true) c (λ a. is_true all (length all - 1) a)
-  last-means c e = Means-same graph words costs ok dear few
+  last-means : (c : ℕ) → least_at graph evidence costs root ≡ Some c → Means graph evidence costs ok dear (λ a. is_true graph.nodes root a) (λ v. true) c (λ a. is_true all (length all - 1) a)
+  last-means c e = Means-same graph evidence costs ok dear few
       (λ a. last-value (truth_by a) ∙ ap (λ o. truth_by a (last_at L root o).what (map (λ k. is_true front k a) (last_at L root o).kids)) e)
-      (over-means graph words costs ok dear few lines root c e (drawn-root c e) (λ v. true) (λ v h. refl))
+      (over-means graph evidence costs ok dear few lines root c e (drawn-root c e) (λ v. true) (λ v h. refl))
 
   -- ---- states and diagnoses
 
   abbrev ds : List (List Bool)
-  ds = diagnoses_under graph words costs
+  ds = diagnoses_under graph evidence costs
 
   abbrev held : ℕ
-  held = held_cost costs words
+  held = held_cost costs evidence
 
-  least-under : (o : Option ℕ) → least_at graph words costs root ≡ o → least_under graph words costs ≡ AddHeld held o
-  least-under o e = least_is graph words costs ok long within ∙ ap (AddHeld held) e
+  least-under : (o : Option ℕ) → least_at graph evidence costs root ≡ o → least_under graph evidence costs ≡ AddHeld held o
+  least-under o e = least_is graph evidence costs ok long within ∙ ap (AddHeld held) e
 
   -- there is a least cost if there is a diagnosis
-  has-cost : (d : List Bool) → In d ds → (c : ℕ) × (least_at graph words costs root ≡ Some c)
-  has-cost d m = by_cost (least_at graph words costs root) refl where
-    by_cost : (o : Option ℕ) → least_at graph words costs root ≡ o → (c : ℕ) × (least_at graph words costs root ≡ Some c)
+  has-cost : (d : List Bool) → In d ds → (c : ℕ) × (least_at graph evidence costs root ≡ Some c)
+  has-cost d m = by_cost (least_at graph evidence costs root) refl where
+    by_cost : (o : Option ℕ) → least_at graph evidence costs root ≡ o → (c : ℕ) × (least_at graph evidence costs root ≡ Some c)
     by_cost (Some c) e = (c, e)
     by_cost None e =
-        let low = In-filter (λ h. is_at_most (cost costs h) (least_under graph words costs)) d (models graph words parts) m in
+        let low = In-filter (λ h. is_at_most (cost costs h) (least_under graph evidence costs)) d (models graph evidence parts) m in
         absurd (false≢true (sym (ap (is_at_most (cost costs d)) (least-under None e)) ∙ low.1))
 
   module _ (h : List Bool) (as_long : length h ≡ parts) where
     is_diagnosis : is_true all (length all - 1) (assignment h) ≡ true → list_any (pointwise same_bit h) ds ≡ true
-    is_diagnosis t = by_cost (least_at graph words costs root) refl where
-      by_cost : (o : Option ℕ) → least_at graph words costs root ≡ o → list_any (pointwise same_bit h) ds ≡ true
+    is_diagnosis t = by_cost (least_at graph evidence costs root) refl where
+      by_cost : (o : Option ℕ) → least_at graph evidence costs root ≡ o → list_any (pointwise same_bit h) ds ≡ true
       by_cost None e = absurd (false≢true (sym (last-false e (assignment h)) ∙ t))
       by_cost (Some c) e =
           let g = (last-means c e).reached (assignment h) t in
-          let s = state_of graph words costs ok long within g.is.by g.is.agrees g.is.holds in
+          let s = state_of graph evidence costs ok long within g.is.by g.is.agrees g.is.holds in
           let same : h ≡ s.state = ext_get_or false h s.state (as_long ∙ sym s.long_state) (λ i lt.
           let place : (1 + i) - 1 ≡ i = omega arith in
           ap (bit_in h) (sym place) ∙ g.same (1 + i) (and_from _ _ (le-leb 1 (1 + i) (omega arith)) (le-leb (1 + i) parts (omega arith))) refl ∙ sym (s.bits i (omega arith))) in
           any_in (pointwise same_bit h) s.state ds
-          (diagnosis-in graph words costs (held + c) (least-under (Some c) e) s.state (record { long = s.long_state; model = s.model; cheap = omega (arith, s.cost_is, g.is.cheap) }))
+          (diagnosis-in graph evidence costs (held + c) (least-under (Some c) e) s.state (record { long = s.long_state; model = s.model; cheap = omega (arith, s.cost_is, g.is.cheap) }))
           (subst (λ k. pointwise same_bit h k ≡ true) same (pointwise-refl h))
 
     is_shown : list_any (pointwise same_bit h) ds ≡ true → is_true all (length all - 1) (assignment h) ≡ true
@@ -141,8 +141,8 @@ module _ (graph : Graph) (words costs : List ℕ) (ok : IsGraph graph) (long : l
         let same = pointwise-equal h r.item r.passes in
         let known = has-cost r.item r.is_in in
         let c = known.0 in
-        let p = diagnosis-out graph words costs (held + c) (least-under (Some c) known.1) r.item r.is_in in
-        let x = assignment_of graph words costs ok long within r.item p.long p.model in
+        let p = diagnosis-out graph evidence costs (held + c) (least-under (Some c) known.1) r.item r.is_in in
+        let x = assignment_of graph evidence costs ok long within r.item p.long p.model in
         (last-means c known.1).sound (assignment h) x.by x.agrees x.holds (omega (arith, x.cost_is, p.cheap)) (λ v part m.
         let range = and_parts (nat_le 1 v) (nat_le v parts) part in
         let low = leb-true 1 v range.0 in
@@ -150,7 +150,7 @@ module _ (graph : Graph) (words costs : List ℕ) (ok : IsGraph graph) (long : l
         let place : 1 + (v - 1) ≡ v = omega arith in
         ap (λ k. bit_in k (v - 1)) same ∙ x.bits (v - 1) (omega arith) ∙ ap x.by place)
 
-    pub least-holds : holds (least_graph graph words costs) h ≡ list_any (pointwise same_bit h) (diagnoses_under graph words costs)
+    pub least-holds : holds (least_graph graph evidence costs) h ≡ list_any (pointwise same_bit h) (diagnoses_under graph evidence costs)
     least-holds = both_ways _ _ is_diagnosis is_shown
 
   -- ---- its text
@@ -160,8 +160,8 @@ module _ (graph : Graph) (words costs : List ℕ) (ok : IsGraph graph) (long : l
   lines-le i (node ∷ nodes) = omega (
     arith,
     length-append (node_lines L (i, node)) (flat_map (node_lines L) (enumerate_from (i + 1) nodes)),
-    length-lines graph words costs ok dear few i node (least_at graph words costs i),
-    lines_to-le L.least node (least_at graph words costs i),
+    length-lines graph evidence costs ok dear few i node (least_at graph evidence costs i),
+    lines_to-le L.least node (least_at graph evidence costs i),
     sum_by-cons (λ (n : Node). length n.kids) node nodes,
     lines-le (i + 1) nodes,
   )
@@ -179,7 +179,7 @@ module _ (graph : Graph) (words costs : List ℕ) (ok : IsGraph graph) (long : l
   }
 
   -- the text has no blank line
-  pub least_text-is_neat : is_neat (least_text graph words costs) ≡ true
+  pub least_text-is_neat : is_neat (least_text graph evidence costs) ≡ true
   least_text-is_neat = graph_text-is_neat parts all all-are_list
 
   below-last : 0 < length ds → (part : ℕ) → 1 ≤ part → part ≤ parts → mentions all part (length all - 1) ≡ true
@@ -192,19 +192,19 @@ module _ (graph : Graph) (words costs : List ℕ) (ok : IsGraph graph) (long : l
         first (x ∷ xs) some = (x, inl refl)
 
   -- and is read as a smooth graph
-  pub least_text-means : IsSmoothGraphOfStates (length costs) (diagnoses_under graph words costs) (parsed (least_text graph words costs))
+  pub least_text-means : IsSmoothGraphOfStates (length costs) (diagnoses_under graph evidence costs) (parsed (least_text graph evidence costs))
   least_text-means = subst (IsSmoothGraphOfStates parts ds) (sym (graph_text-read parts all all-are_list))
       ((refl, stand.nodes.apart, (λ h as_long. least-holds h as_long)), stand.smooth, below-last)
 
   -- ---- as it is made
 
-  costs-all : costs_to graph words costs (length graph.nodes) ≡ values (node_cost (known_at words) (part_cost costs)) graph.nodes
+  costs-all : costs_to graph evidence costs (length graph.nodes) ≡ values (node_cost (known_at evidence) (part_cost costs)) graph.nodes
   unfolding costs_to
-  costs-all = ap (values (node_cost (known_at words) (part_cost costs))) (take-length graph.nodes)
+  costs-all = ap (values (node_cost (known_at evidence) (part_cost costs))) (take-length graph.nodes)
 
   -- with the least costs and the places of the lines, a layout is that of the graph
-  pub laid : (xs ls : List ℕ) → AreLeastCosts graph words costs xs → ls ≡ own_lines (map cost_in xs) (2 * length costs) 0 graph.nodes
-      → record { graph = graph; words = words; parts = length costs; least = map cost_in xs; lines = ls } ≡ layout_of graph words costs
+  pub laid : (xs ls : List ℕ) → AreLeastCosts graph evidence costs xs → ls ≡ own_lines (map cost_in xs) (2 * length costs) 0 graph.nodes
+      → record { graph = graph; evidence = evidence; parts = length costs; least = map cost_in xs; lines = ls } ≡ layout_of graph evidence costs
   laid xs ls is at = grind (arith, nat_tests, costs-all)
 
   body-length : (line i : ℕ) (nodes : List Node) → line + length (flat_map (node_lines L) (enumerate_from i nodes)) ≡ lines_after L.least line i nodes
@@ -212,16 +212,16 @@ module _ (graph : Graph) (words costs : List ℕ) (ok : IsGraph graph) (long : l
   body-length line i (node ∷ nodes) = omega (
     arith,
     length-append (node_lines L (i, node)) (flat_map (node_lines L) (enumerate_from (i + 1) nodes)),
-    length-lines graph words costs ok dear few i node (least_at graph words costs i),
-    body-length (line + lines_to L.least node (least_at graph words costs i) + 1) (i + 1) nodes,
+    length-lines graph evidence costs ok dear few i node (least_at graph evidence costs i),
+    body-length (line + lines_to L.least node (least_at graph evidence costs i) + 1) (i + 1) nodes,
   )
 
-  pub counted : (xs ls : List ℕ) (count : ℕ) → AreLeastCosts graph words costs xs → ls ≡ own_lines (map cost_in xs) (2 * length costs) 0 graph.nodes → count ≡ lines_after (map cost_in xs) (2 * length costs) 0 graph.nodes
-      → count + 1 ≡ length (all_lines (record { graph = graph; words = words; parts = length costs; least = map cost_in xs; lines = ls }))
+  pub counted : (xs ls : List ℕ) (count : ℕ) → AreLeastCosts graph evidence costs xs → ls ≡ own_lines (map cost_in xs) (2 * length costs) 0 graph.nodes → count ≡ lines_after (map cost_in xs) (2 * length costs) 0 graph.nodes
+      → count + 1 ≡ length (all_lines (record { graph = graph; evidence = evidence; parts = length costs; least = map cost_in xs; lines = ls }))
   counted xs ls count is at n = grind (arith, nat_tests, costs-all, laid, length-all, length-append, length-literal_pairs, body-length)
 
-  pub edges-fit : (xs ls : List ℕ) → AreLeastCosts graph words costs xs → ls ≡ own_lines (map cost_in xs) (2 * length costs) 0 graph.nodes
-      → edges (all_lines (record { graph = graph; words = words; parts = length costs; least = map cost_in xs; lines = ls })) < 2 ^ 64
+  pub edges-fit : (xs ls : List ℕ) → AreLeastCosts graph evidence costs xs → ls ≡ own_lines (map cost_in xs) (2 * length costs) 0 graph.nodes
+      → edges (all_lines (record { graph = graph; evidence = evidence; parts = length costs; least = map cost_in xs; lines = ls })) < 2 ^ 64
   edges-fit xs ls is at = omega (arith, ap (λ l. edges (all_lines l)) (laid xs ls is at), edges-le parts 0 all stand.nodes.fit, all-le)
 
 pub count-fits : (graph : Graph) (costs : List ℕ) (least : List (Option ℕ)) → length graph.nodes + edges graph.nodes + 2 * length costs + 1 < 2 ^ 32 → lines_after least (2 * length costs) 0 graph.nodes + 1 < 2 ^ 32

@@ -1,4 +1,4 @@
--- The graph of the diagnoses that a graph allows under words, line by line, and its text.
+-- The graph of the diagnoses that a graph allows under evidence, line by line, and its text.
 use Rattle.std.specs.Prelude.{ℕ, ◌+◌, ◌-◌, ◌*◌, ◌==◌, Bool, true, false, not, ◌&&◌, List, [], ◌∷◌, ◌++◌, map, length, Option, Some, None, nat_le, slice_index, if◌then◌else◌}
 use Rattle.std.specs.List.{filter, flat_map, enumerate_from, range_with_len}
 use Rattle.state_rules.specs.Values.{values}
@@ -31,11 +31,11 @@ filling (Some ok) = ok
 
 -- the line that fills in a part
 abbrev pub filler : List ℕ → ℕ → ℕ
-filler words part = literal_line part (filling (known_at words part))
+filler evidence part = literal_line part (filling (known_at evidence part))
 
 -- those that fill in the parts that are missing, in order
 abbrev pub fillers : List ℕ → ℕ → (ℕ → Bool) → List ℕ
-fillers words parts missing = map (filler words) (filter missing (range_with_len 1 parts))
+fillers evidence parts missing = map (filler evidence) (filter missing (range_with_len 1 parts))
 
 -- ---- the children of least cost
 
@@ -66,20 +66,20 @@ own_lines least line number [] = []
 own_lines least line number (node ∷ nodes) =
     let own = line + lines_to least node (cost_at least number) in own ∷ own_lines least (own + 1) (number + 1) nodes
 
--- a graph under words, the number of its parts, and the least cost and the own line of each node
+-- a graph under evidence, the number of its parts, and the least cost and the own line of each node
 pub record Layout : Type 0 where
   pub graph : Graph
-  pub words : List ℕ
+  pub evidence : List ℕ
   pub parts : ℕ
   pub least : List (Option ℕ)
   pub lines : List ℕ
 
 abbrev pub layout_of : Graph → List ℕ → List ℕ → Layout
-layout_of graph words costs =
-    let least = values (node_cost (known_at words) (part_cost costs)) graph.nodes in
+layout_of graph evidence costs =
+    let least = values (node_cost (known_at evidence) (part_cost costs)) graph.nodes in
     record {
       graph = graph;
-      words = words;
+      evidence = evidence;
       parts = length costs;
       least = least;
       lines = own_lines least (2 * length costs) 0 graph.nodes;
@@ -100,7 +100,7 @@ missing layout number child part = mentions layout.graph.nodes part number && no
 
 abbrev pub child_line : Layout → ℕ → ℕ → Node
 child_line layout number child =
-    and_over (own_line layout child ∷ fillers layout.words layout.parts (missing layout number child))
+    and_over (own_line layout child ∷ fillers layout.evidence layout.parts (missing layout number child))
 
 -- an or over so many lines that come before its own
 abbrev pub or_behind : ℕ → ℕ → Node
@@ -129,7 +129,7 @@ node_lines layout (number, node) = lines_at layout number node (cost_at layout.l
 abbrev pub last_at : Layout → ℕ → Option ℕ → Node
 last_at layout root None = false_node
 last_at layout root (Some cost) =
-    and_over (own_line layout root ∷ fillers layout.words layout.parts (λ part. not (mentions layout.graph.nodes part root)))
+    and_over (own_line layout root ∷ fillers layout.evidence layout.parts (λ part. not (mentions layout.graph.nodes part root)))
 
 abbrev pub last_line : Layout → Node
 last_line layout = let root = length layout.graph.nodes - 1 in last_at layout root (cost_at layout.least root)
@@ -141,7 +141,7 @@ all_lines layout =
 
 -- the graph of the diagnoses, over the parts
 abbrev pub least_graph : Graph → List ℕ → List ℕ → Graph
-least_graph graph words costs = record { nodes = all_lines (layout_of graph words costs); vars = length costs }
+least_graph graph evidence costs = record { nodes = all_lines (layout_of graph evidence costs); vars = length costs }
 
 abbrev pub least_text : Graph → List ℕ → List ℕ → List ℕ
-least_text graph words costs = graph_text (least_graph graph words costs)
+least_text graph evidence costs = graph_text (least_graph graph evidence costs)

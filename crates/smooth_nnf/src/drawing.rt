@@ -15,12 +15,12 @@ use node_store::Graph;
 use part_sets::{part_words, set_at};
 use std::marker::Model;
 
-/// A graph under words, the number of its parts, and of each node the least cost, the own line and the parts below it. If it is known,
+/// A graph under evidence, the number of its parts, and of each node the least cost, the own line and the parts below it. If it is known,
 /// which ors have a child that lacks a part.
 #[derive(Drop)]
 pub(crate) struct Drawing<'a> {
     pub(crate) graph: &'a Graph,
-    pub(crate) words: &'a [u32],
+    pub(crate) evidence: &'a [u32],
     pub(crate) parts: u32,
     pub(crate) values: &'a [u32],
     pub(crate) lines: &'a [u32],
@@ -34,9 +34,9 @@ impl<'a> Model for Drawing<'a> {
 
     ghost Value = { Kept };
 
-    ghost view = { λ d. record { graph = d.graph.now; words = d.words.now; parts = d.parts; values = d.values.now; lines = d.lines.now; sets = d.below.now; lacking = option_map (λ words. words.now) d.lacking } };
+    ghost view = { λ d. record { graph = d.graph.now; evidence = d.evidence.now; parts = d.parts; values = d.values.now; lines = d.lines.now; sets = d.below.now; lacking = option_map (λ evidence. evidence.now) d.lacking } };
 
-    ghost invariant = { λ d. IsDrawing (record { graph = d.graph.now; words = d.words.now; parts = d.parts; values = d.values.now; lines = d.lines.now; sets = d.below.now; lacking = option_map (λ words. words.now) d.lacking }) };
+    ghost invariant = { λ d. IsDrawing (record { graph = d.graph.now; evidence = d.evidence.now; parts = d.parts; values = d.values.now; lines = d.lines.now; sets = d.below.now; lacking = option_map (λ evidence. evidence.now) d.lacking }) };
 }
 
 impl<'a> Drawing<'a> {
@@ -146,7 +146,7 @@ impl<'a> Drawing<'a> {
         requires node { node < length self.now.graph.nodes }
         requires over { IsNodeOf self.now over }
         requires under { IsUnder self.now over node }
-        ensures count { result ≡ length (fillers self.now.words self.now.parts (missing_in self.now over node)) }
+        ensures count { result ≡ length (fillers self.now.evidence self.now.parts (missing_in self.now over node)) }
         ensures most { result ≤ self.now.parts }
     {
         if self.lacks_none(over) {
@@ -194,9 +194,9 @@ impl<'a> Drawing<'a> {
     // The line that fills in a part.
     pub(crate) fn filler(&self, part: u32) -> u32
         requires { (1 ≤ part) × (part ≤ self.now.parts) }
-        ensures { result ≡ filler self.now.words part }
+        ensures { result ≡ filler self.now.evidence part }
     {
-        literal_line(part, !is_false(self.words[part as usize - 1]))
+        literal_line(part, !is_false(self.evidence[part as usize - 1]))
     }
 }
 

@@ -53,7 +53,7 @@ fn add_over<O: Sink>(
     requires over { IsNodeOf drawing.now over }
     ensures bytes { Adds (O.got out.old) (O.got out.new) chunk.old chunk.new result
         (65 ∷ ((32 ∷ decimal count) ++ ((32 ∷ decimal (slice_index drawing.now.lines node))
-        ++ (numbers_text (fillers drawing.now.words drawing.now.parts (missing_in drawing.now over node)) ++ 10 ∷ [])))) }
+        ++ (numbers_text (fillers drawing.now.evidence drawing.now.parts (missing_in drawing.now over node)) ++ 10 ∷ [])))) }
     ensures cause { HasCause (O.faults out.old) (O.faults out.new) result }
 {
     chunk.add(out, b"A")?;
@@ -73,7 +73,7 @@ fn add_counted<O: Sink>(
     requires over { IsNodeOf drawing.now over }
     ensures bytes { Adds (O.got out.old) (O.got out.new) chunk.old chunk.new result
         ((32 ∷ decimal count) ++ ((32 ∷ decimal (slice_index drawing.now.lines node))
-        ++ (numbers_text (fillers drawing.now.words drawing.now.parts (missing_in drawing.now over node)) ++ 10 ∷ []))) }
+        ++ (numbers_text (fillers drawing.now.evidence drawing.now.parts (missing_in drawing.now over node)) ++ 10 ∷ []))) }
     ensures cause { HasCause (O.faults out.old) (O.faults out.new) result }
 {
     chunk.add_count(out, count)?;
@@ -91,7 +91,7 @@ fn add_own<O: Sink>(
     requires over { IsNodeOf drawing.now over }
     ensures bytes { Adds (O.got out.old) (O.got out.new) chunk.old chunk.new result
         ((32 ∷ decimal (slice_index drawing.now.lines node))
-        ++ (numbers_text (fillers drawing.now.words drawing.now.parts (missing_in drawing.now over node)) ++ 10 ∷ [])) }
+        ++ (numbers_text (fillers drawing.now.evidence drawing.now.parts (missing_in drawing.now over node)) ++ 10 ∷ [])) }
     ensures cause { HasCause (O.faults out.old) (O.faults out.new) result }
 {
     chunk.add_count(out, drawing.line(node))?;
@@ -109,7 +109,7 @@ fn add_end<O: Sink>(
     requires node { node < length drawing.now.graph.nodes }
     requires over { IsNodeOf drawing.now over }
     ensures bytes { Adds (O.got out.old) (O.got out.new) chunk.old chunk.new result
-        (numbers_text (fillers drawing.now.words drawing.now.parts (missing_in drawing.now over node)) ++ 10 ∷ []) }
+        (numbers_text (fillers drawing.now.evidence drawing.now.parts (missing_in drawing.now over node)) ++ 10 ∷ []) }
     ensures cause { HasCause (O.faults out.old) (O.faults out.new) result }
 {
     add_fillers(chunk, out, drawing, over, node)?;
@@ -127,7 +127,7 @@ fn add_fillers<O: Sink>(
     requires node { node < length drawing.now.graph.nodes }
     requires over { IsNodeOf drawing.now over }
     ensures bytes { Adds (O.got out.old) (O.got out.new) chunk.old chunk.new result
-        (numbers_text (fillers drawing.now.words drawing.now.parts (missing_in drawing.now over node))) }
+        (numbers_text (fillers drawing.now.evidence drawing.now.parts (missing_in drawing.now over node))) }
     ensures cause { HasCause (O.faults out.old) (O.faults out.new) result }
 {
     for word in 0..drawing.width() {
@@ -169,7 +169,7 @@ fn add_bits<O: Sink>(
 ) -> Result<(), WriteFailed>
     requires { (b : ℕ) → b < 32 → has_bit bits b ≡ true → part_at word b ≤ drawing.now.parts }
     ensures bytes { Adds (O.got out.old) (O.got out.new) chunk.old chunk.new result
-        (flat_map (bit_text drawing.now.words word bits) (range_with_len 0 32)) }
+        (flat_map (bit_text drawing.now.evidence word bits) (range_with_len 0 32)) }
     ensures cause { HasCause (O.faults out.old) (O.faults out.new) result }
 {
     for b in 0..32 {
@@ -190,7 +190,7 @@ fn add_bit<O: Sink>(
     requires bit { b < 32 }
     requires part { has_bit bits b ≡ true → part_at word b ≤ drawing.now.parts }
     ensures bytes { Adds (O.got out.old) (O.got out.new) chunk.old chunk.new result
-        (bit_text drawing.now.words word bits b) }
+        (bit_text drawing.now.evidence word bits b) }
     ensures cause { HasCause (O.faults out.old) (O.faults out.new) result }
 {
     if (bits >> b) & 1 != 1 {

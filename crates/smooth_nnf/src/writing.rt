@@ -26,20 +26,20 @@ use scratch_pool::Region;
 use std::marker::Brand;
 use std::sync::ledger::{Blank, Ledger};
 
-/// Writes the graph of the diagnoses that a graph allows under words, one word a variable: 0 if it is open, 1 if it is true,
+/// Writes the graph of the diagnoses that a graph allows under evidence, one word a variable: 0 if it is open, 1 if it is true,
 /// 2 if it is false. The parts are the first variables, and each has a cost.
 ///
 /// The text is smooth and decomposable, and has at most a line for each node of the graph and each of its edges, two for each part,
 /// and one more. The region lends 2 words for each node, and for each those of a set of parts. No memory is taken.
 pub fn write_least<O: Sink>(
     graph: &Graph,
-    words: &[u32],
+    evidence: &[u32],
     costs: &[u32],
     region: &mut Region,
     out: &mut O,
 ) -> Result<(), WriteFailed>
-    requires words { length words.now ≡ graph.now.vars }
-    requires small { All (λ w. w < 3) words.now }
+    requires evidence { length evidence.now ≡ graph.now.vars }
+    requires small { All (λ w. w < 3) evidence.now }
     requires parts { length costs.now ≤ graph.now.vars }
     requires dear { All (λ c. 0 < c) costs.now }
     requires total { total_cost costs.now < TOTAL_LIMIT }
@@ -49,22 +49,22 @@ pub fn write_least<O: Sink>(
     requires room { least_words (length graph.now.nodes) (length costs.now) ≤ free_words region.old }
 
     ensures bytes { Puts (O.got out.old) (O.got out.new) result
-        (least_text graph.now words.now costs.now) }
+        (least_text graph.now evidence.now costs.now) }
     ensures cause { HasCause (O.faults out.old) (O.faults out.new) result }
     ensures idle { region.new.runs ≡ [] }
     ensures free { length region.new.words ≡ length region.old.words }
 
     // The text has no blank line, and is read as a smooth and decomposable graph over the parts that is true for the diagnoses alone.
-    ensures neat { is_neat (least_text graph.now words.now costs.now) ≡ true }
-    ensures diagnoses { IsSmoothGraphOfStates (length costs.now) (diagnoses_under graph.now words.now costs.now)
-        (parsed (least_text graph.now words.now costs.now)) }
+    ensures neat { is_neat (least_text graph.now evidence.now costs.now) ≡ true }
+    ensures diagnoses { IsSmoothGraphOfStates (length costs.now) (diagnoses_under graph.now evidence.now costs.now)
+        (parsed (least_text graph.now evidence.now costs.now)) }
 {
     let size = 2 + part_words(costs.len());
     let run = region.carve(graph.len() as usize * size).unwrap();
     let written = write_fresh::<O, Brand>(
         Blank::new(1),
         graph,
-        words,
+        evidence,
         costs,
         region.run_mut(&run),
         out,
@@ -77,13 +77,13 @@ pub fn write_least<O: Sink>(
 pub fn write_least_with<O: Sink>(
     graph: &Graph,
     sets: &PartSets,
-    words: &[u32],
+    evidence: &[u32],
     costs: &[u32],
     region: &mut Region,
     out: &mut O,
 ) -> Result<(), WriteFailed>
-    requires words { length words.now ≡ graph.now.vars }
-    requires small { All (λ w. w < 3) words.now }
+    requires evidence { length evidence.now ≡ graph.now.vars }
+    requires small { All (λ w. w < 3) evidence.now }
     requires parts { length costs.now ≤ graph.now.vars }
     requires dear { All (λ c. 0 < c) costs.now }
     requires total { total_cost costs.now < TOTAL_LIMIT }
@@ -93,15 +93,15 @@ pub fn write_least_with<O: Sink>(
     requires room { drawing_words (length graph.now.nodes) ≤ free_words region.old }
 
     ensures bytes { Puts (O.got out.old) (O.got out.new) result
-        (least_text graph.now words.now costs.now) }
+        (least_text graph.now evidence.now costs.now) }
     ensures cause { HasCause (O.faults out.old) (O.faults out.new) result }
     ensures idle { region.new.runs ≡ [] }
     ensures free { length region.new.words ≡ length region.old.words }
 
     // The text has no blank line, and is read as a smooth and decomposable graph over the parts that is true for the diagnoses alone.
-    ensures neat { is_neat (least_text graph.now words.now costs.now) ≡ true }
-    ensures diagnoses { IsSmoothGraphOfStates (length costs.now) (diagnoses_under graph.now words.now costs.now)
-        (parsed (least_text graph.now words.now costs.now)) }
+    ensures neat { is_neat (least_text graph.now evidence.now costs.now) ≡ true }
+    ensures diagnoses { IsSmoothGraphOfStates (length costs.now) (diagnoses_under graph.now evidence.now costs.now)
+        (parsed (least_text graph.now evidence.now costs.now)) }
 {
     let run = region.carve(graph.len() as usize * 2).unwrap();
     let written = write_in::<O, Brand>(
@@ -109,7 +109,7 @@ pub fn write_least_with<O: Sink>(
         graph,
         sets.below(),
         Some(sets.lacking()),
-        words,
+        evidence,
         costs,
         region.run_mut(&run),
         out,
@@ -122,7 +122,7 @@ pub fn write_least_with<O: Sink>(
 fn write_fresh<O: Sink, L: Ledger>(
     blank: Blank,
     graph: &Graph,
-    words: &[u32],
+    evidence: &[u32],
     costs: &[u32],
     scratch: &mut [u32],
     out: &mut O,
@@ -130,8 +130,8 @@ fn write_fresh<O: Sink, L: Ledger>(
     requires name { blank.name ≡ L.name }
     requires shares { blank.parts ≡ L.parts }
     requires some { 0 < blank.parts }
-    requires words { length words.now ≡ graph.now.vars }
-    requires small { All (λ w. w < 3) words.now }
+    requires evidence { length evidence.now ≡ graph.now.vars }
+    requires small { All (λ w. w < 3) evidence.now }
     requires parts { length costs.now ≤ graph.now.vars }
     requires dear { All (λ c. 0 < c) costs.now }
     requires total { total_cost costs.now < TOTAL_LIMIT }
@@ -139,13 +139,13 @@ fn write_fresh<O: Sink, L: Ledger>(
     requires few_parts { length costs.now ≤ PART_LIMIT }
     requires room { length scratch.old ≡ least_words (length graph.now.nodes) (length costs.now) }
     ensures bytes { Puts (O.got out.old) (O.got out.new) result
-        (least_text graph.now words.now costs.now) }
+        (least_text graph.now evidence.now costs.now) }
     ensures cause { HasCause (O.faults out.old) (O.faults out.new) result }
     ensures valid { IsGraph graph.now }
 {
     let (below, scratch) = scratch.split_at_mut(graph.len() as usize * part_words(costs.len()));
     put_nodes(graph, costs.len(), below);
-    write_in::<O, L>(blank, graph, below, None, words, costs, scratch, out)
+    write_in::<O, L>(blank, graph, below, None, evidence, costs, scratch, out)
 }
 
 // Writes it, in scratch.
@@ -154,7 +154,7 @@ fn write_in<O: Sink, L: Ledger>(
     graph: &Graph,
     below: &[u32],
     lacking: Option<&[u32]>,
-    words: &[u32],
+    evidence: &[u32],
     costs: &[u32],
     scratch: &mut [u32],
     out: &mut O,
@@ -162,18 +162,18 @@ fn write_in<O: Sink, L: Ledger>(
     requires name { blank.name ≡ L.name }
     requires shares { blank.parts ≡ L.parts }
     requires some { 0 < blank.parts }
-    requires words { length words.now ≡ graph.now.vars }
-    requires small { All (λ w. w < 3) words.now }
+    requires evidence { length evidence.now ≡ graph.now.vars }
+    requires small { All (λ w. w < 3) evidence.now }
     requires parts { length costs.now ≤ graph.now.vars }
     requires dear { All (λ c. 0 < c) costs.now }
     requires total { total_cost costs.now < TOTAL_LIMIT }
     requires few { length graph.now.nodes + edges graph.now.nodes + 2 * length costs.now + 1 < 2 ^ 32 }
     requires wide { length graph.now.nodes * part_words (length costs.now) ≤ length below.now }
     requires below { ArePartsBelow graph.now (length costs.now) below.now (length graph.now.nodes) }
-    requires lacking { IfSome lacking (λ words. AreLacking graph.now (length costs.now) words.now) }
+    requires lacking { IfSome lacking (λ evidence. AreLacking graph.now (length costs.now) evidence.now) }
     requires room { length scratch.old ≡ drawing_words (length graph.now.nodes) }
     ensures bytes { Puts (O.got out.old) (O.got out.new) result
-        (least_text graph.now words.now costs.now) }
+        (least_text graph.now evidence.now costs.now) }
     ensures cause { HasCause (O.faults out.old) (O.faults out.new) result }
     ensures valid { IsGraph graph.now }
 {
@@ -182,7 +182,7 @@ fn write_in<O: Sink, L: Ledger>(
     let (values, lines) = scratch.split_at_mut(nodes);
     put_least_costs(
         &graph.view(),
-        words,
+        evidence,
         costs,
         values,
         &mut Steps::<L>::new(blank),
@@ -190,7 +190,7 @@ fn write_in<O: Sink, L: Ledger>(
     let count = place_lines(graph, parts, values, lines);
     let drawing = Drawing {
         graph,
-        words,
+        evidence,
         parts,
         values,
         lines,

@@ -18,6 +18,6 @@ pub record IsGraphBy (weighed : Weighed) (graph : Graph) : Type 0 where
   pub few_nodes : length graph.nodes ≤ most_nodes weighed.sum weighed.list.vars
 
 -- the graph of a device, if its clauses are found within a budget, or the refusal that is expected
-abbrev pub FindsGraph : Device → Result Weighed Output → Result Graph Refusal → Type 0
-FindsGraph device expected (Ok graph) = IsServable device graph × ((weighed : Weighed) × (expected ≡ Ok weighed) × IsGraphBy weighed graph)
-FindsGraph device expected (Err refusal) = IsExpectedFault (told_by refusal) expected
+abbrev pub FulfilsGraph : Device → Result Weighed Output → Result Graph Refusal → Type 0
+FulfilsGraph device expected (Ok graph) = IsServable device graph × ((weighed : Weighed) × (expected ≡ Ok weighed) × IsGraphBy weighed graph)
+FulfilsGraph device expected (Err refusal) = IsExpectedFault (told_by refusal) expected

@@ -15,8 +15,8 @@ use Rattle.device_files.specs.declared.refusal.Refusal.{Refusal}
 use Rattle.device_files.specs.declared.status.Status.{Status}
 use Rattle.device_files.specs.Output.{Output, no_memory}
 use Rattle.device_files.specs.Refusals.{told_by}
-use Rattle.diag_cli.specs.Courses.{Course, Tells, Serves, answers_of}
-use Rattle.diag_cli.specs.Following.{Follows}
+use Rattle.diag_cli.specs.Behaviours.{Behaviour, Prints, Replies, answers_of}
+use Rattle.diag_cli.specs.Fulfilled.{FulfilsBehaviour}
 use Rattle.diag_cli.specs.Frames.{not_unrolled}
 
 -- A graph is true exactly if the device fits, and such as a service takes.
@@ -36,14 +36,14 @@ pub record Answers (system : System) (sessions : ℕ) (service : Shown) : Type 0
   pub none_open : service.table ≡ []
   pub same : answers_of (system_of service.subject) service.limit ≡ answers_of system sessions
 
--- A service answers what a course serves, or the refusal of one is what the course prints.
-abbrev pub IsFor : Course → Result Shown Refusal → Type 0
-IsFor course (Ok service) = course ≡ Serves (answers_of (system_of service.subject) service.limit)
-IsFor course (Err refusal) = IfSome (told_by refusal) (λ output. course ≡ Tells output)
+-- A service answers what a behaviour serves, or the refusal of one is what the behaviour prints.
+abbrev pub IsFor : Behaviour → Result Shown Refusal → Type 0
+IsFor behaviour (Ok service) = behaviour ≡ Replies (answers_of (system_of service.subject) service.limit)
+IsFor behaviour (Err refusal) = IfSome (told_by refusal) (λ output. behaviour ≡ Prints output)
 
--- Memory ran out before the script was begun, or a course was followed.
-abbrev pub FollowsUnlessMemory : Course → Reading → Reading → Writing → Writing → Status → Type 0
-FollowsUnlessMemory course input new_input out new_out status = Follows (Tells no_memory) input new_input out new_out status ⊎ Follows course input new_input out new_out status
+-- Memory ran out before the script was begun, or a behaviour was followed.
+abbrev pub FulfilsBehaviourUnlessMemory : Behaviour → Reading → Reading → Writing → Writing → Status → Type 0
+FulfilsBehaviourUnlessMemory behaviour input new_input out new_out status = FulfilsBehaviour (Prints no_memory) input new_input out new_out status ⊎ FulfilsBehaviour behaviour input new_input out new_out status
 
 -- the output if a netlist is not unrolled; lack of memory is no refusal of it
 abbrev pub frames_told : UnrollError → Option Output

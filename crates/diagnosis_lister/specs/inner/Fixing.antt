@@ -3,7 +3,7 @@ use Rattle.std.specs.Prelude.{◌≡◌, ◌≢◌, ℕ, ◌+◌, ◌<◌, ◌�
 use Rattle.state_rules.specs.Bits.{bit_in, AlikeBelow}
 use Rattle.state_rules.specs.Cases.{agrees_at}
 use Rattle.state_rules.specs.Ranking.{is_before}
-use Rattle.conditioner.specs.Words.{known_of, word_of}
+use Rattle.conditioner.specs.Evidence.{known_of, word_of}
 
 -- a state that meets P, and is before all others that do
 pub record IsFirst (P : List Bool → Type 0) (h : List Bool) : Type 0 where
@@ -15,20 +15,20 @@ pub record Has (P : List Bool → Type 0) : Type 0 where
   pub state : List Bool
   pub is : P state
 
--- the state that the words of the parts say, if none is open
+-- the state that the evidence on the parts says, if none is open
 abbrev pub fixed_bits : ℕ → List ℕ → List Bool
-fixed_bits parts words = map (λ w. not (w == 2)) (take parts words)
+fixed_bits parts evidence = map (λ w. not (w == 2)) (take parts evidence)
 
--- a state of so many parts agrees with their words
-pub record Agrees (parts : ℕ) (words : List ℕ) (h : List Bool) : Type 0 where
+-- a state of so many parts agrees with their evidence
+pub record Agrees (parts : ℕ) (evidence : List ℕ) (h : List Bool) : Type 0 where
   pub long : length h ≡ parts
-  pub agrees : (i : ℕ) → i < parts → agrees_at (known_of (slice_index words i)) (bit_in h i) ≡ true
+  pub agrees : (i : ℕ) → i < parts → agrees_at (known_of (slice_index evidence i)) (bit_in h i) ≡ true
 
 -- no state that meets P has the point's first bits and comes after the point
 abbrev pub NoneAfter : (List Bool → Type 0) → List Bool → ℕ → Type 0
 NoneAfter P point n = (h : List Bool) → P h → AlikeBelow n h point → is_before point h ≡ true → ⊥
 
--- The words say the point's bits before the last of so many parts, and from there on what they said. No state that meets P has all
+-- The evidence says the point's bits before the last of so many parts, and from there on what it said. No state that meets P has all
 -- of these bits and comes after the point.
 pub record Follows (P : List Bool → Type 0) (old : List ℕ) (point : List Bool) (new : List ℕ) (n : ℕ) : Type 0 where
   pub front : (k : ℕ) → k + 1 < n → slice_index new k ≡ word_of (bit_in point k)
@@ -36,7 +36,7 @@ pub record Follows (P : List Bool → Type 0) (old : List ℕ) (point : List Boo
   pub behind : (k : ℕ) → n ≤ k → slice_index new k ≡ slice_index old k
   pub none : NoneAfter P point n
 
--- The words say the point's bits before a part, and ok for it, of which the point says faulty. They allow some state, and no state
+-- The evidence says the point's bits before a part, and ok for it, of which the point says faulty. It allows some state, and no state
 -- with more of the point's bits comes after the point.
 pub record Leaves (P : List ℕ → List Bool → Type 0) (old : List ℕ) (point : List Bool) (new : List ℕ) (part : ℕ) : Type 0 where
   pub within : part < length point

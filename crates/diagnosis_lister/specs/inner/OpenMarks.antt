@@ -1,4 +1,4 @@
--- Marks of open parts in the words of a state.
+-- Marks of open parts in the evidence of a state.
 use Rattle.std.specs.Prelude.{◌≡◌, ℕ, zero, suc, ◌+◌, ◌%◌, ◌<◌, Bool, List, map, length, slice_index, ◌==◌, nat_le}
 
 -- a part's word of the state, marked if its variable is open
@@ -15,4 +15,4 @@ marked_bits marks = map (λ mark. mark % 2 == 0) marks
 
 -- the open parts are marked, and no others
 abbrev pub AreMarks : List ℕ → List ℕ → Type 0
-AreMarks words marks = (k : ℕ) → k < length marks → is_marked (slice_index marks k) ≡ (slice_index words k == 0)
+AreMarks evidence marks = (k : ℕ) → k < length marks → is_marked (slice_index marks k) ≡ (slice_index evidence k == 0)

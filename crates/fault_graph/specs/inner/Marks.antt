@@ -3,7 +3,7 @@ use Rattle.std.specs.Prelude.{◌≡◌, ℕ, ◌-◌, ◌<◌, ◌≤◌, ◌�
 use Rattle.state_rules.specs.Graphs.{Node, node_at}
 use Rattle.minimiser.specs.inner.Swept.{is_child}
 use Rattle.fault_graph.specs.inner.Rows.{keeps}
-use Rattle.fault_graph.specs.declared.distilling.TheConstants.{MARKED}
+use Rattle.fault_graph.specs.declared.minimising.TheConstants.{MARKED}
 
 -- a child is marked if it costs something, and no more
 abbrev pub mark_of : List ℕ → List ℕ → ℕ → ℕ → ℕ → ℕ

@@ -14,6 +14,6 @@ presumed (suc (suc n)) suspect = Always
 
 -- the verdict on a part is right, or it is Sometimes and the part is open and faulty in some diagnosis
 abbrev pub IsPresumed : Graph → List ℕ → List ℕ → List Blame → ℕ → Type 0
-IsPresumed graph words costs verdicts part =
-    (slice_get verdicts part ≡ Some (blame_of graph words costs part))
-    ⊎ (Suspect graph words costs part × (slice_get verdicts part ≡ Some Sometimes))
+IsPresumed graph evidence costs verdicts part =
+    (slice_get verdicts part ≡ Some (blame_of graph evidence costs part))
+    ⊎ (Suspect graph evidence costs part × (slice_get verdicts part ≡ Some Sometimes))

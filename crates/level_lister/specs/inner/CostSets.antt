@@ -21,15 +21,15 @@ pub record AreSums (left right : List ℕ) (limit : ℕ) (set : List ℕ) : Type
   pub whole : (j k : ℕ) → has_number left j ≡ true → has_number right k ≡ true → k < limit → j + k < 32 * length set
       → has_number set (j + k) ≡ true
 
--- what the words say of the variables, and what a part costs if it is faulty
+-- what the evidence says of the variables, and what a part costs if it is faulty
 abbrev pub fault_weights : List ℕ → List ℕ → Weights
-fault_weights words costs = record { known = known_at words; weight = λ v b. if b then 0 else part_cost costs v; parts = length costs }
+fault_weights evidence costs = record { known = known_at evidence; weight = λ v b. if b then 0 else part_cost costs v; parts = length costs }
 
--- an assignment agrees with the words
+-- an assignment agrees with the evidence
 abbrev pub Follows : List ℕ → Assignment → Type 0
-Follows words a = (v : ℕ) → agrees_at (known_at words v) (a v) ≡ true
+Follows evidence a = (v : ℕ) → agrees_at (known_at evidence v) (a v) ≡ true
 
 -- The set has just the costs of a test, so far as it has room. The test depends on some variables alone.
-pub record IsCostSet (words costs : List ℕ) (test : Assignment → Bool) (some : ℕ → Bool) (set : List ℕ) : Type 0 where
-  pub row : IsRow (has_number set) (32 * length set) (TestCost (fault_weights words costs) some test)
+pub record IsCostSet (evidence costs : List ℕ) (test : Assignment → Bool) (some : ℕ → Bool) (set : List ℕ) : Type 0 where
+  pub row : IsRow (has_number set) (32 * length set) (TestCost (fault_weights evidence costs) some test)
   pub local : Depends some test

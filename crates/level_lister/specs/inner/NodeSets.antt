@@ -8,21 +8,21 @@ use Rattle.level_lister.specs.inner.Skips.{living}
 
 -- the set of the costs at which a node can be true, of the faulty parts below it
 abbrev pub IsNodeSet : Graph → List ℕ → List ℕ → List ℕ → ℕ → List ℕ → Type 0
-IsNodeSet graph skips words costs k set = IsCostSet words costs (λ a. is_true (living graph.nodes skips) k a) (λ v. mentions graph.nodes v k) set
+IsNodeSet graph skips evidence costs k set = IsCostSet evidence costs (λ a. is_true (living graph.nodes skips) k a) (λ v. mentions graph.nodes v k) set
 
 -- those of the first nodes
 abbrev pub AreNodeSets : Graph → List ℕ → List ℕ → List ℕ → ℕ → List ℕ → ℕ → Type 0
-AreNodeSets graph skips words costs size sets n = (k : ℕ) → k < n → IsNodeSet graph skips words costs k (set_at sets k size)
+AreNodeSets graph skips evidence costs size sets n = (k : ℕ) → k < n → IsNodeSet graph skips evidence costs k (set_at sets k size)
 
 -- the set of the costs at which the last node can be true, of all faulty parts
 abbrev pub IsWholeSet : Graph → List ℕ → List ℕ → List ℕ → List ℕ → Type 0
-IsWholeSet graph skips words costs set =
-    IsCostSet words costs (λ a. is_true (living graph.nodes skips) (length graph.nodes - 1) a) (λ v. true) set
+IsWholeSet graph skips evidence costs set =
+    IsCostSet evidence costs (λ a. is_true (living graph.nodes skips) (length graph.nodes - 1) a) (λ v. true) set
 
 -- Some words begin with the sets of all nodes, as many words each as the costs need.
 abbrev pub BeginWithSets : Graph → List ℕ → List ℕ → Kept → List ℕ → Type 0
-BeginWithSets graph skips words levels work = AreNodeSets graph skips words levels.costs (cost_words levels.top) work (length graph.nodes)
+BeginWithSets graph skips evidence levels work = AreNodeSets graph skips evidence levels.costs (cost_words levels.top) work (length graph.nodes)
 
 -- They are there where a pass goes by them: where costs of 32 and more are listed.
 abbrev pub AreReady : Graph → List ℕ → List ℕ → Kept → List ℕ → Type 0
-AreReady graph skips words levels work = 32 ≤ levels.top → BeginWithSets graph skips words levels work
+AreReady graph skips evidence levels work = 32 ≤ levels.top → BeginWithSets graph skips evidence levels work

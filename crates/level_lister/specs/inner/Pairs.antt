@@ -28,8 +28,8 @@ pub record IsSpread (left right step count word : ℕ) : Type 0 where
 
 -- the bits of a word that are a step apart, from one on, say the costs of a condition up to a greatest one
 abbrev pub AreCosts : List ℕ → List ℕ → ℕ → ℕ → ℕ → (ℕ → Bool) → (Assignment → Type 0) → ℕ → Type 0
-AreCosts words costs top step first some P word =
-    IsRow (λ n. has_bit word (step * n + first)) (top + 1) (CostOf (fault_weights words costs) some P)
+AreCosts evidence costs top step first some P word =
+    IsRow (λ n. has_bit word (step * n + first)) (top + 1) (CostOf (fault_weights evidence costs) some P)
 
 -- a variable of a group is faulty, and is among some
 pub record HasFault (group some : ℕ → Bool) (a : Assignment) : Type 0 where
@@ -40,20 +40,20 @@ pub record HasFault (group some : ℕ → Bool) (a : Assignment) : Type 0 where
 
 -- The first word says the costs at which a test is true, of some parts, and the second one at which of them a part of each group is
 -- faulty. The test depends on these variables alone.
-pub record Tells (words costs : List ℕ) (top step : ℕ) (group : ℕ → ℕ → Bool) (test : Assignment → Bool) (some : ℕ → Bool) (pair : Pair) : Type 0 where
-  pub cost_bits : AreCosts words costs top 1 0 some (λ a. test a ≡ true) pair.costs
-  pub fault_bits : (g : ℕ) → g < step → AreCosts words costs top step g some (λ a. (test a ≡ true) × HasFault (group g) some a) pair.faults
+pub record Tells (evidence costs : List ℕ) (top step : ℕ) (group : ℕ → ℕ → Bool) (test : Assignment → Bool) (some : ℕ → Bool) (pair : Pair) : Type 0 where
+  pub cost_bits : AreCosts evidence costs top 1 0 some (λ a. test a ≡ true) pair.costs
+  pub fault_bits : (g : ℕ) → g < step → AreCosts evidence costs top step g some (λ a. (test a ≡ true) × HasFault (group g) some a) pair.faults
   pub local : Depends some test
 
 -- the variables of the open parts of a group
 abbrev pub group_in : List ℕ → ℕ → Groups → ℕ → ℕ → Bool
-group_in words parts groups g v =
-    (nat_le (groups.low + 1) v && nat_le v parts) && ((slice_index words (v - 1) == 0) && ((v - 1 - groups.low) / groups.size == g))
+group_in evidence parts groups g v =
+    (nat_le (groups.low + 1) v && nat_le v parts) && ((slice_index evidence (v - 1) == 0) && ((v - 1 - groups.low) / groups.size == g))
 
 -- what is said of a node, if some are skipped
 abbrev pub TellsNode : Graph → List ℕ → List ℕ → List ℕ → ℕ → Groups → ℕ → Pair → Type 0
-TellsNode graph skips words costs top groups k pair =
-    Tells words costs top (group_count top) (group_in words (length costs) groups) (λ a. is_true (living graph.nodes skips) k a) (λ v. mentions graph.nodes v k) pair
+TellsNode graph skips evidence costs top groups k pair =
+    Tells evidence costs top (group_count top) (group_in evidence (length costs) groups) (λ a. is_true (living graph.nodes skips) k a) (λ v. mentions graph.nodes v k) pair
 
 -- the two words of a node
 abbrev pub pair_at : List ℕ → ℕ → Pair
@@ -61,33 +61,33 @@ pair_at values k = record { costs = slice_index values (2 * k); faults = slice_i
 
 -- those of the first nodes
 abbrev pub TellNodes : Graph → List ℕ → List ℕ → List ℕ → ℕ → Groups → List ℕ → ℕ → Type 0
-TellNodes graph skips words costs top groups values n = (k : ℕ) → k < n → TellsNode graph skips words costs top groups k (pair_at values k)
+TellNodes graph skips evidence costs top groups values n = (k : ℕ) → k < n → TellsNode graph skips evidence costs top groups k (pair_at values k)
 
 -- what is said of the last node, of all faulty parts
 abbrev pub TellsWhole : Graph → List ℕ → List ℕ → List ℕ → ℕ → Groups → Pair → Type 0
-TellsWhole graph skips words costs top groups pair =
-    Tells words costs top (group_count top) (group_in words (length costs) groups) (λ a. is_true (living graph.nodes skips) (length graph.nodes - 1) a) (λ v. true) pair
+TellsWhole graph skips evidence costs top groups pair =
+    Tells evidence costs top (group_count top) (group_in evidence (length costs) groups) (λ a. is_true (living graph.nodes skips) (length graph.nodes - 1) a) (λ v. true) pair
 
 -- an open part of a group is faulty in some state of a cost
-pub record FaultOf (graph : Graph) (words costs : List ℕ) (c : ℕ) (groups : Groups) (g : ℕ) : Type 0 where
+pub record FaultOf (graph : Graph) (evidence costs : List ℕ) (c : ℕ) (groups : Groups) (g : ℕ) : Type 0 where
   pub state : List Bool
-  pub is : OfCost graph words costs c state
+  pub is : OfCost graph evidence costs c state
   pub part : ℕ
   pub within : part < length costs
-  pub open_ : slice_index words part ≡ 0
+  pub open_ : slice_index evidence part ≡ 0
   pub faulty : bit_in state part ≡ false
   pub low : groups.low ≤ part
   pub group : (part - groups.low) / groups.size ≡ g
 
 -- an open part is faulty in some state of a cost
-pub record FaultIn (graph : Graph) (words costs : List ℕ) (c part : ℕ) : Type 0 where
+pub record FaultIn (graph : Graph) (evidence costs : List ℕ) (c part : ℕ) : Type 0 where
   pub within : part < length costs
-  pub open_ : slice_index words part ≡ 0
+  pub open_ : slice_index evidence part ≡ 0
   pub state : List Bool
-  pub is : OfCost graph words costs c state
+  pub is : OfCost graph evidence costs c state
   pub faulty : bit_in state part ≡ false
 
 -- the open parts from one up to another are ok in all states of a cost
 abbrev pub OkAmong : Graph → List ℕ → List ℕ → ℕ → ℕ → ℕ → Type 0
-OkAmong graph words costs c from to =
-    (part : ℕ) → from ≤ part → part < to → part < length costs → slice_index words part ≡ 0 → (h : List Bool) → OfCost graph words costs c h → bit_in h part ≡ true
+OkAmong graph evidence costs c from to =
+    (part : ℕ) → from ≤ part → part < to → part < length costs → slice_index evidence part ≡ 0 → (h : List Bool) → OfCost graph evidence costs c h → bit_in h part ≡ true

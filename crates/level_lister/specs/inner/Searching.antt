@@ -3,24 +3,24 @@ use Rattle.std.specs.Prelude.{◌≡◌, ℕ, ◌≤◌, Bool, true, List, lengt
 use Rattle.state_rules.specs.Ranking.{cost}
 use Rattle.state_rules.specs.Graphs.{Graph}
 use Rattle.state_rules.specs.Levels.{is_level_before}
-use Rattle.conditioner.specs.Models.{has_model, fits_words}
+use Rattle.conditioner.specs.Models.{has_model, fits_evidence}
 use Rattle.diagnosis_lister.specs.inner.Fixing.{Has, fixed_bits}
 use Rattle.level_lister.specs.Listing.{Kept}
 
--- a state of the parts that the graph allows under the words, of just so much cost
-pub record OfCost (graph : Graph) (words costs : List ℕ) (c : ℕ) (h : List Bool) : Type 0 where
+-- a state of the parts that the graph allows under the evidence, of just so much cost
+pub record OfCost (graph : Graph) (evidence costs : List ℕ) (c : ℕ) (h : List Bool) : Type 0 where
   pub long : length h ≡ length costs
-  pub model : has_model graph (fits_words words) (length costs) h ≡ true
+  pub model : has_model graph (fits_evidence evidence) (length costs) h ≡ true
   pub cost_is : cost costs h ≡ c
 
 -- some state is one
 abbrev pub HasCost : Graph → List ℕ → List ℕ → ℕ → Type 0
-HasCost graph words costs c = Has (OfCost graph words costs c)
+HasCost graph evidence costs c = Has (OfCost graph evidence costs c)
 
--- a state that the graph allows under the words, of a cost from one up to another
-pub record IsListed (graph : Graph) (words costs : List ℕ) (from top : ℕ) (h : List Bool) : Type 0 where
+-- a state that the graph allows under the evidence, of a cost from one up to another
+pub record IsListed (graph : Graph) (evidence costs : List ℕ) (from top : ℕ) (h : List Bool) : Type 0 where
   pub long : length h ≡ length costs
-  pub model : has_model graph (fits_words words) (length costs) h ≡ true
+  pub model : has_model graph (fits_evidence evidence) (length costs) h ≡ true
   pub low : from ≤ cost costs h
   pub high : cost costs h ≤ top
 
@@ -29,14 +29,14 @@ pub record IsFirstLevel (costs : List ℕ) (P : List Bool → Type 0) (h : List 
   pub meets : P h
   pub before : (k : List Bool) → P k → (k ≡ h) ⊎ (is_level_before costs h k ≡ true)
 
--- The words of the variables that are no parts' are as they were. The parts are fixed as the first state that meets P has them, by
+-- The evidence on the variables that are no parts' is as it was. The parts are fixed as the first state that meets P has them, by
 -- cost and then by order, and that costs so much.
 pub record Fixes (old costs : List ℕ) (P : List Bool → Type 0) (new : List ℕ) (c : ℕ) : Type 0 where
   pub others : (k : ℕ) → length costs ≤ k → slice_index new k ≡ slice_index old k
   pub first : IsFirstLevel costs P (fixed_bits (length costs) new)
   pub cost_is : cost costs (fixed_bits (length costs) new) ≡ c
 
--- The first state that meets P is found, or there is none and the words are as they were.
+-- The first state that meets P is found, or there is none and the evidence is as it was.
 abbrev pub Finds : List ℕ → List ℕ → (List Bool → Type 0) → List ℕ → Option ℕ → Type 0
 Finds old costs P new result =
     MatchOption result ((new ≡ old) × ((h : List Bool) → P h → ⊥)) (λ c. Fixes old costs P new c)

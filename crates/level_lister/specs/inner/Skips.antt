@@ -14,9 +14,9 @@ living (node ∷ nodes) [] = node ∷ nodes
 living (node ∷ nodes) (skip ∷ skips) = (if skip == 0 then node else false_node) ∷ living nodes skips
 
 -- What is left is enough for the costs up to a greatest one: it is true if the graph is, under an assignment that agrees with the
--- words.
-pub record IsEnough (graph : Graph) (skips words costs : List ℕ) (top : ℕ) : Type 0 where
-  pub left : (a : Assignment) → Follows words a → is_true graph.nodes (length graph.nodes - 1) a ≡ true → cost_among (fault_weights words costs) (λ v. true) a ≤ top
+-- evidence.
+pub record IsEnough (graph : Graph) (skips evidence costs : List ℕ) (top : ℕ) : Type 0 where
+  pub left : (a : Assignment) → Follows evidence a → is_true graph.nodes (length graph.nodes - 1) a ≡ true → cost_among (fault_weights evidence costs) (λ v. true) a ≤ top
       → is_true (living graph.nodes skips) (length graph.nodes - 1) a ≡ true
 
 -- what the other children of an and cost at least

@@ -1,6 +1,6 @@
 -- What the parts cost that are fixed to faulty.
 use Rattle.std.specs.Prelude.{ℕ, ◌+◌, Bool, true, false, List, [], ◌∷◌, Option, Some, None}
-use Rattle.conditioner.specs.Words.{known_of}
+use Rattle.conditioner.specs.Evidence.{known_of}
 
 abbrev pub held_one : ℕ → Option Bool → ℕ
 held_one cost None = 0
@@ -9,6 +9,6 @@ held_one cost (Some false) = cost
 
 -- what the parts cost that are fixed to faulty
 abbrev pub held_cost : List ℕ → List ℕ → ℕ
-held_cost [] words = 0
+held_cost [] evidence = 0
 held_cost (c ∷ costs) [] = 0
-held_cost (c ∷ costs) (w ∷ words) = held_one c (known_of w) + held_cost costs words
+held_cost (c ∷ costs) (w ∷ evidence) = held_one c (known_of w) + held_cost costs evidence

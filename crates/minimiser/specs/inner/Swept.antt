@@ -44,12 +44,12 @@ pub record IsSwept (nodes : List Node) (costs values : List ℕ) (from : ℕ) : 
 
 -- the part of an open literal that says faulty
 abbrev pub suspect_of : List ℕ → ℕ → NodeKind → Option ℕ
-suspect_of words parts (Literal positive var) =
-    if not positive && (nat_le var parts && (slice_index words (var - 1) == 0)) then Some (var - 1) else None
-suspect_of words parts And = None
-suspect_of words parts Or = None
+suspect_of evidence parts (Literal positive var) =
+    if not positive && (nat_le var parts && (slice_index evidence (var - 1) == 0)) then Some (var - 1) else None
+suspect_of evidence parts And = None
+suspect_of evidence parts Or = None
 
 -- of a marked node
 abbrev pub suspect_at : List Node → List ℕ → ℕ → List ℕ → ℕ → Option ℕ
-suspect_at nodes words parts values node =
-    if has_mark (slice_index values node) then suspect_of words parts (node_at nodes node).what else None
+suspect_at nodes evidence parts values node =
+    if has_mark (slice_index values node) then suspect_of evidence parts (node_at nodes node).what else None

@@ -1,4 +1,4 @@
--- What a service asks over, how much room its answers take, and the words of a case.
+-- What a service asks over, how much room its answers take, and the evidence of a case.
 use Rattle.std.specs.Prelude.{◌≡◌, ℕ, ◌+◌, ◌*◌, ◌<◌, ◌≤◌, Bool, Option, None, IfSome, is_some, List, length, All, true}
 use Rattle.std.specs.Option.{option_map}
 use Rattle.text_rules.specs.Names.{Name, names_rise}
@@ -10,7 +10,7 @@ use Rattle.minimiser.specs.declared.pass.TheConstants.{TOTAL_LIMIT}
 use Rattle.part_sets.specs.PartSets.{Kept as Sets, AreFor}
 use Rattle.level_lister.specs.Listing.{Kept, IsFor, cost_words}
 use Rattle.session_rules.specs.GraphSystems.{Subject}
-use Rattle.session_rules.specs.CaseWords.{case_of_words, AreWords}
+use Rattle.session_rules.specs.CaseEvidence.{case_of_evidence, IsEvidence}
 use Rattle.session_core.specs.declared.limits.TheConstants.{SERVED_VARIABLES, SERVED_NODES}
 use Rattle.session_core.specs.Services.{CanList, CanDraw}
 
@@ -59,10 +59,10 @@ pub record AreEnough (subject : Subject) (words : ℕ) : Type 0 where
   pub probes : 4 * length subject.graph.nodes ≤ words
   pub level : IfSome subject.extras.levels (λ top. level_room subject top ≤ words)
 
--- words of a case for each variable of the graph
+-- evidence of a case on each variable of the graph
 abbrev pub AreKnown : Subject → List ℕ → Type 0
-AreKnown subject words = AreWords (length subject.parts) (length subject.wires) subject.graph.vars words
+AreKnown subject evidence = IsEvidence (length subject.parts) (length subject.wires) subject.graph.vars evidence
 
 -- the case that they say
 abbrev pub case_in : Subject → List ℕ → Case
-case_in subject words = case_of_words (length subject.parts) (length subject.wires) words
+case_in subject evidence = case_of_evidence (length subject.parts) (length subject.wires) evidence

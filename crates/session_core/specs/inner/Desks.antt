@@ -7,7 +7,7 @@ use Rattle.state_rules.specs.Ranking.{cost, rest}
 use Rattle.state_rules.specs.Systems.{least_cost, all_diagnoses}
 use Rattle.probe_report.specs.Verdicts.{verdict}
 use Rattle.probe_report.specs.declared.verdicts.Blame.{Blame}
-use Rattle.fault_graph.specs.Distilled.{Kept, Serves}
+use Rattle.fault_graph.specs.Minimised.{Kept, Serves}
 use Rattle.scratch_pool.specs.Regions.{Carved}
 use Rattle.diagnosis_lister.specs.declared.listing.Step.{Step}
 use Rattle.diagnosis_lister.specs.declared.listing.Step.TheVariants as step

@@ -1,8 +1,8 @@
 -- What a block of a session holds: a word for each variable, one that says whether there is a point, and the words of the point.
 use Rattle.std.specs.Prelude.{◌≡◌, ℕ, zero, suc, ◌+◌, ◌<◌, Bool, List, take, drop, length, slice_index, All, Option, Some, None}
-use Rattle.conditioner.specs.Words.{bits_of}
+use Rattle.conditioner.specs.Evidence.{bits_of}
 use Rattle.session_rules.specs.Sessions.{Entry}
-use Rattle.session_rules.specs.CaseWords.{case_of_words, AreWords}
+use Rattle.session_rules.specs.CaseEvidence.{case_of_evidence, IsEvidence}
 use Rattle.session_table.specs.declared.block.Layout.{Layout}
 
 -- the words of the variables
@@ -21,7 +21,7 @@ point_of (suc n) state = Some (bits_of state)
 -- the entry that a block holds
 abbrev pub entry_in : Layout → List ℕ → Entry
 entry_in layout block = record {
-  known = case_of_words layout.parts layout.wires (known_in layout block);
+  known = case_of_evidence layout.parts layout.wires (known_in layout block);
   point = point_of (slice_index block layout.vars) (state_in layout block);
 }
 
@@ -36,5 +36,5 @@ block_size layout = layout.vars + 1 + layout.parts
 -- a block has its words, those of the variables are those of a case, and those of the point are below 2
 pub record IsLaidOut (layout : Layout) (block : List ℕ) : Type 0 where
   pub long : length block ≡ block_size layout
-  pub known : AreWords layout.parts layout.wires layout.vars (known_in layout block)
+  pub known : IsEvidence layout.parts layout.wires layout.vars (known_in layout block)
   pub state : All (λ s. s < 2) (state_in layout block)

@@ -13,7 +13,7 @@ use Rattle.smooth_nnf.specs.Layouts.{Layout, and_over, fillers, lines_to, own_li
 -- a layout, with its costs as numbers, the sets of the parts below each node, and, if it is known, whether a child lacks one
 pub record Drawing : Type 0 where
   pub graph : Graph
-  pub words : List ℕ
+  pub evidence : List ℕ
   pub parts : ℕ
   pub values : List ℕ
   pub lines : List ℕ
@@ -23,7 +23,7 @@ pub record Drawing : Type 0 where
 abbrev pub shown : Drawing → Layout
 shown drawing = record {
   graph = drawing.graph;
-  words = drawing.words;
+  evidence = drawing.evidence;
   parts = drawing.parts;
   least = map cost_in drawing.values;
   lines = drawing.lines;
@@ -31,8 +31,8 @@ shown drawing = record {
 
 -- each node has a cost, a line and a set
 pub record IsDrawing (drawing : Drawing) : Type 0 where
-  pub long : length drawing.words ≡ drawing.graph.vars
-  pub known : All (λ w. w < 3) drawing.words
+  pub long : length drawing.evidence ≡ drawing.graph.vars
+  pub known : All (λ w. w < 3) drawing.evidence
   pub within : drawing.parts ≤ drawing.graph.vars
   pub few : 2 * drawing.parts + 1 < 2 ^ 32
   pub costs : length drawing.values ≡ length drawing.graph.nodes
@@ -61,7 +61,7 @@ missing_in drawing over node part = is_over drawing.graph.nodes over part && not
 -- the line of a node, with the parts that are missing filled in
 abbrev pub filled_line : Drawing → Option ℕ → ℕ → Node
 filled_line drawing over node =
-    and_over (slice_index drawing.lines node ∷ fillers drawing.words drawing.parts (missing_in drawing over node))
+    and_over (slice_index drawing.lines node ∷ fillers drawing.evidence drawing.parts (missing_in drawing over node))
 
 -- such a node is one of the graph's
 abbrev pub IsNodeOf : Drawing → Option ℕ → Type 0

@@ -20,12 +20,12 @@ lines_text nodes = flat_map (λ node. spaced (node_words node)) nodes
 
 -- the line that fills in the part of a bit, if the word has the bit
 abbrev pub bit_text : List ℕ → ℕ → ℕ → ℕ → List ℕ
-bit_text words word bits b = if has_bit bits b then 32 ∷ decimal (filler words (part_at word b)) else []
+bit_text evidence word bits b = if has_bit bits b then 32 ∷ decimal (filler evidence (part_at word b)) else []
 
 -- those that fill in the parts of a word that are missing
 abbrev pub word_text : Drawing → ℕ → Option ℕ → ℕ → List ℕ
 word_text drawing node over word =
-    numbers_text (map (filler drawing.words)
+    numbers_text (map (filler drawing.evidence)
     (filter (λ part. nat_le part drawing.parts && missing_in drawing over node part) (range_with_len (32 * word + 1) 32)))
 
 -- the line of a child that has a cost, and nothing of any other

@@ -12,6 +12,6 @@ returns c =
     let three : List Reading = (c.signal-3.result, c.is_multiple_of.result) ∷ [] in
     let all : one ++ (two ++ three) ≡ readings_at c.args.place =
     (λ i. (c.signal.ensures i, false) ∷ (c.signal-2.ensures i, false) ∷ (c.signal-3.ensures i, is_zero c.is_multiple_of.result (c.args.place % 16) c.is_multiple_of.ensures i) ∷ []) in
-    subst (Notes device c.args.words.now c.note-3.new.words) all
-    (notes-append device c.args.words.now c.note.new.words c.note-3.new.words one (two ++ three) c.note.ensures
-    (notes-append device c.note.new.words c.note-2.new.words c.note-3.new.words two three c.note-2.ensures c.note-3.ensures))
+    subst (Notes device c.args.evidence.now c.note-3.new.evidence) all
+    (notes-append device c.args.evidence.now c.note.new.evidence c.note-3.new.evidence one (two ++ three) c.note.ensures
+    (notes-append device c.note.new.evidence c.note-2.new.evidence c.note-3.new.evidence two three c.note-2.ensures c.note-3.ensures))

@@ -6,7 +6,7 @@ use Rattle.adder_load.proofs.NotedReadings.{notes-append, zeros, all_noted}
 use Rattle.adder_load.proofs.readings.note_readings.Goals as goal
 
 pub note-requires : goal.note-requires
-note-requires c = record { words = zeros c.args.device.now c.args.words.now c.requires.none c.requires.room }
+note-requires c = record { evidence = zeros c.args.device.now c.args.evidence.now c.requires.none c.requires.room }
 
 pub loop-place-init : goal.loop-place-init
 loop-place-init c =
@@ -14,7 +14,7 @@ loop-place-init c =
     let two : List Reading = (c.signal-2.result, false) ∷ [] in
     let places : c.args.places - 0 ≡ c.args.places = omega arith in (
       one ++ two,
-      notes-append c.args.device.now c.args.words.now c.note.new.words c.note-2.new.words one two c.note.ensures c.note-2.ensures,
+      notes-append c.args.device.now c.args.evidence.now c.note.new.evidence c.note-2.new.evidence one two c.note.ensures c.note-2.ensures,
       (λ i. (c.signal.ensures i, false) ∷ (c.signal-2.ensures i, false) ∷ flat_map readings_at (range_with_len 0 (places i))),
     )
 
@@ -24,7 +24,7 @@ loop-place-preserved c =
     let place = c.loop-place.place in
     let places = c.args.places in (
       so_far.0 ++ readings_at place,
-      notes-append c.args.device.now c.args.words.now c.loop-place.words c.note_place.new.words so_far.0 (readings_at place) so_far.1 c.note_place.ensures,
+      notes-append c.args.device.now c.args.evidence.now c.loop-place.evidence c.note_place.new.evidence so_far.0 (readings_at place) so_far.1 c.note_place.ensures,
       append_assoc so_far.0 (readings_at place) (flat_map readings_at (range_with_len (place + 1) (places - (place + 1))))
           ∙ (ap (λ left. so_far.0 ++ left) (sym (left_more readings_at places place c.loop-place-test.true)) ∙ so_far.2),
     )
@@ -33,5 +33,5 @@ pub returns-clause-case : goal.returns-clause-case
 returns-clause-case c =
     let so_far = c.loop-place.invariant in
     let none : c.args.places - c.loop-place.place ≡ 0 = omega (arith, c.loop-place-test.false) in
-    all_noted c.args.device.now c.args.words.now c.requires.none c.requires.room c.args.places c.loop-place.words so_far.0
+    all_noted c.args.device.now c.args.evidence.now c.requires.none c.requires.room c.args.places c.loop-place.evidence so_far.0
     (sym (append-nil so_far.0) ∙ (ap (λ n. so_far.0 ++ flat_map readings_at (range_with_len c.loop-place.place n)) (sym none) ∙ so_far.2)) so_far.1

@@ -7,5 +7,5 @@ use Rattle.adder_load.proofs.readings.note_readings.Given as goal
 -- what was noted, and what is left, are all readings
 abbrev pub invariant-loop-place : goal.invariant-loop-place
 invariant-loop-place l =
-    (noted : List Reading) × Notes l.device l.fn.words l.words noted
+    (noted : List Reading) × Notes l.device l.fn.evidence l.evidence noted
     × (noted ++ flat_map readings_at (range_with_len l.place (l.places - l.place)) ≡ readings l.places)

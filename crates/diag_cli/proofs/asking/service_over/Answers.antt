@@ -1,7 +1,7 @@
 use Rattle.std.proofs.Common.{ap}
 use Rattle.session_rules.specs.GraphSystems.{system_of}
 use Rattle.session_core.specs.Services.{Shown}
-use Rattle.diag_cli.specs.Courses.{answers_of}
+use Rattle.diag_cli.specs.Behaviours.{answers_of}
 use Rattle.diag_cli.proofs.asking.service_over.Goals as goal
 
 pub returns-in-Ok-over-clause-ready : goal.returns-in-Ok-over-clause-ready

@@ -4,14 +4,14 @@ use Rattle.device_files.specs.Choices.{weighed_by}
 use Rattle.device_files.specs.Refusals.{told_by}
 use Rattle.device_files.proofs.ForestChoices.{by_any, by_same}
 use Rattle.device_files.proofs.KeptRefusals.{refused_then}
-use Rattle.diag_cli.specs.Courses.{served_frames, served_or_refused}
+use Rattle.diag_cli.specs.Behaviours.{served_frames, served_or_refused}
 use Rattle.diag_cli.specs.Frames.{sequential_in, if_unrolled}
 use Rattle.diag_cli.specs.inner.Serving.{IsFor}
 use Rattle.diag_cli.proofs.Services.{refused_for, service_for, none_open}
 use Rattle.diag_cli.proofs.framing.frame_service.Goals as goal
 
-pub returns-in_err-seq-clause-course : goal.returns-in_err-seq-clause-course
-returns-in_err-seq-clause-course c =
+pub returns-in_err-seq-clause-behaviour : goal.returns-in_err-seq-clause-behaviour
+returns-in_err-seq-clause-behaviour c =
     let p = err_from_is_err_and c.from_residual.result c.from_residual.ensures.1 in
     let fault = told_by c.in_err-seq.field-0.0 in
     let options = c.args.options in
@@ -19,8 +19,8 @@ returns-in_err-seq-clause-course c =
     rw (p.1, p.2) (by_any (λ choose.
     refused_for (served_frames frames options) options.sessions (if_unrolled frames options (weighed_by options.narrow choose) (sequential_in c.args.file.now)) fault (refused_then _ _ fault c.in_err-seq.ensures.read)))
 
-pub returns-clause-course : goal.returns-clause-course
-returns-clause-course c =
+pub returns-clause-behaviour : goal.returns-clause-behaviour
+returns-clause-behaviour c =
     let made = c.service_within.ensures in
     let options = c.args.options in
     let frames = c.args.frames in

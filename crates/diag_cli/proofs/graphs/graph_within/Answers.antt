@@ -1,7 +1,7 @@
 use Rattle.std.proofs.lemmas.Result.{err_from_is_err_and}
 use Rattle.device_files.specs.Weighing.{within}
 use Rattle.device_files.proofs.ForestChoices.{by_any, has_sum, list_gives}
-use Rattle.diag_cli.specs.inner.Compiling.{FindsGraph}
+use Rattle.diag_cli.specs.inner.Compiling.{FulfilsGraph}
 use Rattle.diag_cli.proofs.ServedDevices.{found_or_refused}
 use Rattle.diag_cli.proofs.graphs.graph_within.Goals as goal
 
@@ -16,6 +16,6 @@ compiled_within-requires-clause-sum c = has_sum c.in_ok-cnf.cnf c.args.is_narrow
 pub returns : goal.returns
 returns c =
     let of = c.in_ok-cnf.ensures.list in
-    list_gives c.args.is_narrow c.args.device.now c.in_ok-cnf.cnf c.in_ok-cnf.forest of c.in_ok-cnf.ensures.forest (λ clauses. FindsGraph c.args.device.now (within c.args.budget clauses) c.compiled_within.result)
+    list_gives c.args.is_narrow c.args.device.now c.in_ok-cnf.cnf c.in_ok-cnf.forest of c.in_ok-cnf.ensures.forest (λ clauses. FulfilsGraph c.args.device.now (within c.args.budget clauses) c.compiled_within.result)
     (λ sum has. found_or_refused c.args.device.now c.in_ok-cnf.cnf of c.parts-parts.ensures.valid c.args.budget sum c.requires c.compiled_within.result
     (c.compiled_within.ensures.list sum has) (c.compiled_within.ensures.within sum has) (c.compiled_within.ensures.graph sum has))

@@ -1,6 +1,6 @@
 use Rattle.std.proofs.Common.{◌∷◌, [], List, ℕ, codes, refl, subst}
 use Rattle.text_rules.specs.Names.{Name}
-use Rattle.conditioner.specs.Words.{bits_of}
+use Rattle.conditioner.specs.Evidence.{bits_of}
 use Rattle.session_rules.specs.Items.{Item}
 use Rattle.session_rules.specs.Spelling.{Writes, WritesPart}
 use Rattle.device_files.specs.Inspecting.{count_line}

@@ -1,8 +1,8 @@
 use Rattle.std.proofs.Common.{◌+◌, ◌≤◌, length, Err, ap, ◌∙◌, sym, subst}
 use Rattle.text_rules.specs.declared.text_lines.TheConstants.{TEXT_LIMIT}
 use Rattle.diag_edge.specs.declared.loading.LoadError.TheVariants.{Long}
-use Rattle.diag_cli.specs.Courses.{course_by}
-use Rattle.diag_cli.specs.inner.Serving.{FollowsUnlessMemory}
+use Rattle.diag_cli.specs.Behaviours.{behaviour_by}
+use Rattle.diag_cli.specs.inner.Serving.{FulfilsBehaviourUnlessMemory}
 use Rattle.diag_cli.proofs.Shown.{at_ends, run_shown}
 use Rattle.diag_cli.proofs.Headline.{same_file, run_loaded, run_unread}
 use Rattle.device_files.proofs.ForestChoices.{by_any, by_same}
@@ -22,7 +22,7 @@ returns-in-Ok g c =
     (λ gone. let is = read.absent gone in let never : ⊥ = cc in never)
     (read.failed.stayed (λ is. let never : ⊥ = cc in never))
     (read.taken ∙ ap (λ text. g.H.Source.taken c.args.shelf.now + length text) same) (subst (λ text. length text ≤ TEXT_LIMIT) same read.short)
-    (at_ends (λ x y u v. FollowsUnlessMemory (course_by choose c.args.path.now c.args.command c.deref.result.now) x y u v c.run_file.result)
+    (at_ends (λ x y u v. FulfilsBehaviourUnlessMemory (behaviour_by choose c.args.path.now c.args.command c.deref.result.now) x y u v c.run_file.result)
     (sym (input _)) (sym (input _)) (sym (out _)) (sym (out _)) follows)))
 
 pub say_load_error-requires-clause-limit : goal.say_load_error-requires-clause-limit

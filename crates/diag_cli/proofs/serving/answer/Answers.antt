@@ -3,7 +3,7 @@ use Rattle.text_rules.specs.TextLines.{cut, whole_lines, last_line, all_lines}
 use Rattle.diag_edge.proofs.GrownBytes.{consumes_none}
 use Rattle.session_rules.specs.GraphSystems.{system_of}
 use Rattle.session_core.specs.Services.{moves_of}
-use Rattle.diag_cli.specs.Courses.{Ended, Failed, Cut, read_error, answers_of}
+use Rattle.diag_cli.specs.Behaviours.{Ended, Failed, Cut, read_error, answers_of}
 use Rattle.device_files.specs.Output.{too_long_line}
 use Rattle.diag_cli.specs.declared.serving.TheConstants.{SCRIPT_LIMIT}
 use Rattle.device_files.proofs.FailedWrites.{gives_all, gives_after}

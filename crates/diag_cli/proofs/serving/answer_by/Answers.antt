@@ -10,10 +10,10 @@ pub answer-status-requires-clause-none_open : goal.answer-status-requires-clause
 answer-status-requires-clause-none_open g c = subst (λ made. IfOk made (λ service. service.table ≡ [])) c.in-Ok.is c.requires.none_open
 
 pub returns-in-Ok-clause-follows : goal.returns-in-Ok-clause-follows
-returns-in-Ok-clause-follows g c = λ course is.
-    follows_serves _ _ _ _ _ course _ (subst (IsFor course) c.in-Ok.is is) c.answer-status.ensures.served
+returns-in-Ok-clause-follows g c = λ behaviour is.
+    follows_serves _ _ _ _ _ behaviour _ (subst (IsFor behaviour) c.in-Ok.is is) c.answer-status.ensures.served
 
 pub returns-in-Err-clause-follows : goal.returns-in-Err-clause-follows
-returns-in-Err-clause-follows g c = λ course is.
-    follows_refusal _ _ _ _ _ course (told_by c.in-Err.refusal) (subst (IsFor course) c.in-Err.is is) (record { left = refl; taken = refl; faults = refl })
+returns-in-Err-clause-follows g c = λ behaviour is.
+    follows_refusal _ _ _ _ _ behaviour (told_by c.in-Err.refusal) (subst (IsFor behaviour) c.in-Err.is is) (record { left = refl; taken = refl; faults = refl })
     (gives_shown (g.O.Sink.shown_is _) (g.O.Sink.shown_is _) c.tell.ensures.said)

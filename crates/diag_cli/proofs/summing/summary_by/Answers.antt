@@ -1,9 +1,9 @@
 use Rattle.std.proofs.Common.{◌≡◌, ℕ, List, Vec, Global, length, refl, sym, ◌∙◌, ap, subst, subst₂}
 use Rattle.std.proofs.lemmas.List.{length-replicate}
-use Rattle.fault_graph.specs.Distilled.{Serves}
+use Rattle.fault_graph.specs.Minimised.{Serves}
 use Rattle.device_model.specs.Devices.{part_costs}
 use Rattle.adder_load.specs.Readings.{adder_case}
-use Rattle.session_rules.specs.GraphSystems.{case_words}
+use Rattle.session_rules.specs.GraphSystems.{case_evidence}
 use Rattle.diag_cli.specs.declared.summing.Summary.{Summary}
 use Rattle.diag_cli.specs.inner.Loading.{IsSummaryOf}
 use Rattle.diag_cli.proofs.LoadedAdders.{summary_is}
@@ -11,7 +11,7 @@ use Rattle.diag_cli.proofs.summing.summary_by.Goals as goal
 
 pub sample-found-requires-clause-serves : goal.sample-found-requires-clause-serves
 sample-found-requires-clause-serves g c =
-    subst (λ kept. Serves c.args.graph.now c.deref.result.now kept) (sym c.note.ensures.distiller) (c.in_ok-memory.ensures.serves c.deref.result.now)
+    subst (λ kept. Serves c.args.graph.now c.deref.result.now kept) (sym c.note.ensures.minimised_graph) (c.in_ok-memory.ensures.serves c.deref.result.now)
 
 pub returns-clause-summary : goal.returns-clause-summary
 returns-clause-summary g c =
@@ -23,7 +23,7 @@ returns-clause-summary g c =
     let priced : costs ≡ part_costs device = c.deref.ensures.value ∙ c.in_ok-costs.ensures.costs in
     let many : length costs ≡ length device.parts = ap length c.deref.ensures.value ∙ c.in_ok-costs.ensures.many in
     let long : length c.in_ok-memory.memory.words.items ≡ graph.vars = ap length c.in_ok-memory.ensures.words ∙ length-replicate graph.vars 0 in
-    let noted : words ≡ case_words graph.vars (adder_case device places) = c.note.ensures.case ∙ ap (λ n. case_words n (adder_case device places)) long in
+    let noted : words ≡ case_evidence graph.vars (adder_case device places) = c.note.ensures.case ∙ ap (λ n. case_evidence n (adder_case device places)) long in
     let found = c.sample-found.ensures in
     let states = c.states-first.ensures in
     let summary : Vec ℕ Global → Vec ℕ Global → Summary = λ first last. record {

@@ -6,6 +6,6 @@ pub returns : goal.returns
 returns c =
     let each = λ (k : ℕ) (h : k < length c.args.state.now). c.loop-part.invariant.done k (omega (arith, c.loop-part.auto.state)) in record {
       each = each;
-      marks = marked-AreMarks c.args.words.now c.args.state.now c.loop-part.state c.requires.small c.loop-part.auto.state each;
-      bits = marked-bits c.args.words.now c.args.state.now c.loop-part.state c.requires.small c.loop-part.auto.state each;
+      marks = marked-AreMarks c.args.evidence.now c.args.state.now c.loop-part.state c.requires.small c.loop-part.auto.state each;
+      bits = marked-bits c.args.evidence.now c.args.state.now c.loop-part.state c.requires.small c.loop-part.auto.state each;
     }

@@ -10,10 +10,10 @@ use Rattle.diagnosis_lister.proofs.settling.settle.Given as goal
 -- the parts before one are fixed, and the values are the costs of the nodes
 abbrev pub invariant-loop-part : goal.invariant-loop-part
 invariant-loop-part g l = record {
-  small : All (λ w. w < 3) l.words;
-  settles : (most : ℕ) → LeastIs l.graph l.costs l.fn.words most → Settles (λ words h. ModelWithin l.graph words l.costs most h) (length l.costs) l.fn.words l.words l.from;
-  values : AreLeastCosts l.graph l.words l.costs l.values;
-  steps : l.steps ≤ l.fn.steps + fault_count (fixed_bits (length l.costs) l.words);
+  small : All (λ w. w < 3) l.evidence;
+  settles : (most : ℕ) → LeastIs l.graph l.costs l.fn.evidence most → Settles (λ evidence h. ModelWithin l.graph evidence l.costs most h) (length l.costs) l.fn.evidence l.evidence l.from;
+  values : AreLeastCosts l.graph l.evidence l.costs l.values;
+  steps : l.steps ≤ l.fn.steps + fault_count (fixed_bits (length l.costs) l.evidence);
   within : l.from ≤ length l.costs;
 }
 

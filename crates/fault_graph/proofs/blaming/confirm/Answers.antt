@@ -3,7 +3,7 @@ use Rattle.std.specs.Prelude.{slice_get}
 use Rattle.std.proofs.lemmas.List.Sums.{count_by_more_yes, sum_by_more, sum_by-take-le}
 use borrow.Author.Count.{below_more}
 use Rattle.state_rules.specs.Bits.{bit_in}
-use Rattle.conditioner.specs.Words.{bits_of}
+use Rattle.conditioner.specs.Evidence.{bits_of}
 use Rattle.conditioner.specs.Models.{least_with}
 use Rattle.conditioner.proofs.StateBits.{is_ok, is_faulty, faulty_word, ok_word}
 use Rattle.diagnosis_lister.proofs.OpenMarks.{length-bits}
@@ -22,14 +22,14 @@ blame_faulty-requires-clause-faulty g c =
     let i = c.loop-part.part in
     let back : i ≡ i + 1 - 1 = omega arith in
     let faulty : bit_in (bits_of state) i ≡ false = is_faulty state i (omega arith) (faulty_word _ _ c.is_faulty.ensures c.if-is_faulty.true) in
-    subst (λ (ws : List ℕ). least_with graph ws costs (i + 1) false ≡ Some c.args.fewest) (sym c.loop-part.invariant.words)
-    (bit-in graph c.args.words.now costs (i + 1 - 1) false (omega (arith, c.requires.state)) c.args.fewest c.requires.parts c.requires.least (bits_of state) c.requires.diagnosis
+    subst (λ (ws : List ℕ). least_with graph ws costs (i + 1) false ≡ Some c.args.fewest) (sym c.loop-part.invariant.evidence)
+    (bit-in graph c.args.evidence.now costs (i + 1 - 1) false (omega (arith, c.requires.state)) c.args.fewest c.requires.parts c.requires.least (bits_of state) c.requires.diagnosis
     (ap (bit_in (bits_of state)) (sym back) ∙ faulty))
 
 pub loop-part-preserved : goal.loop-part-preserved
 loop-part-preserved g c =
     let graph = c.args.graph.now in
-    let words = c.args.words.now in
+    let evidence = c.args.evidence.now in
     let costs = c.args.costs.now in
     let state = c.args.state.now in
     let i = c.loop-part.part in
@@ -40,26 +40,26 @@ loop-part-preserved g c =
       | then-is_faulty+then-is_open w ↦
           let found = w.blame_faulty.result in
           let back : i + 1 - 1 ≡ i = omega arith in
-          let verdict : found ≡ blame_of graph words costs i = w.blame_faulty.ensures.blame ∙ (λ j. blame_of graph (c.loop-part.invariant.words j) costs (back j)) in
+          let verdict : found ≡ blame_of graph evidence costs i = w.blame_faulty.ensures.blame ∙ (λ j. blame_of graph (c.loop-part.invariant.evidence j) costs (back j)) in
           let faulty : bit_in (bits_of state) i ≡ false = is_faulty state i here (faulty_word _ _ c.is_faulty.ensures w.if-is_faulty.true) in
           record {
-            words = w.words-is ∙ w.blame_faulty.ensures.words ∙ c.loop-part.invariant.words;
-            done = below_more (λ (k : ℕ). slice_get c.if-is_faulty.verdicts k ≡ Some (blame_of graph words costs k)) i
+            evidence = w.evidence-is ∙ w.blame_faulty.ensures.evidence ∙ c.loop-part.invariant.evidence;
+            done = below_more (λ (k : ℕ). slice_get c.if-is_faulty.verdicts k ≡ Some (blame_of graph evidence costs k)) i
                 (λ (k : ℕ) (lt : k < i). ap (λ xs. slice_get xs k) w.verdicts-is ∙ slice_get-set_other verdicts i k found (λ e. absurd (omega arith)) ∙ c.loop-part.invariant.done k lt)
                 (ap (λ xs. slice_get xs i) w.verdicts-is ∙ slice_get-set_same verdicts i found (omega (arith, c.loop-part.auto.verdicts, c.requires.verdicts, c.requires.state)) ∙ ap Some verdict);
             left = λ k le. ap (λ xs. slice_get xs k) w.verdicts-is ∙ slice_get-set_other verdicts i k found (λ e. absurd (omega arith)) ∙ c.loop-part.invariant.left k (omega arith);
             steps = omega (arith, w.steps-is, w.blame_faulty.ensures.steps, c.loop-part.invariant.steps, count_by_more_yes not (bits_of state) i false (omega arith) (ap not faulty));
           }
       | else-is_faulty w ↦
-          let ok : get_or words i 0 ≡ 0 → bit_in (bits_of state) i ≡ true = λ e. elim w.else-is_faulty.branch [
-            | else-is_faulty-via-then-is_faulty+else-is_open v ↦ absurd (not_open _ v.is_open.ensures v.if-is_open.false (ap (λ ws. get_or ws i 0) c.loop-part.invariant.words ∙ e))
+          let ok : get_or evidence i 0 ≡ 0 → bit_in (bits_of state) i ≡ true = λ e. elim w.else-is_faulty.branch [
+            | else-is_faulty-via-then-is_faulty+else-is_open v ↦ absurd (not_open _ v.is_open.ensures v.if-is_open.false (ap (λ ws. get_or ws i 0) c.loop-part.invariant.evidence ∙ e))
             | else-is_faulty-via-else-is_faulty v ↦ is_ok state i here (ok_word _ _ c.is_faulty.ensures v.if-is_faulty.false)
           ] in
-          let stays = presumed-stays graph words costs i c.args.fewest (omega (arith, c.requires.state)) c.requires.parts c.requires.long c.requires.least c.args.verdicts.now (bits_of state) c.requires.diagnosis ok
+          let stays = presumed-stays graph evidence costs i c.args.fewest (omega (arith, c.requires.state)) c.requires.parts c.requires.long c.requires.least c.args.verdicts.now (bits_of state) c.requires.diagnosis ok
           (c.requires.presumed i (omega (arith, c.requires.state))) in
           record {
-            words = w.words-is ∙ c.loop-part.invariant.words;
-            done = below_more (λ (k : ℕ). slice_get c.if-is_faulty.verdicts k ≡ Some (blame_of graph words costs k)) i
+            evidence = w.evidence-is ∙ c.loop-part.invariant.evidence;
+            done = below_more (λ (k : ℕ). slice_get c.if-is_faulty.verdicts k ≡ Some (blame_of graph evidence costs k)) i
                 (λ (k : ℕ) (lt : k < i). ap (λ xs. slice_get xs k) w.verdicts-is ∙ c.loop-part.invariant.done k lt)
                 (ap (λ xs. slice_get xs i) w.verdicts-is ∙ c.loop-part.invariant.left i (omega arith) ∙ stays);
             left = λ k le. ap (λ xs. slice_get xs k) w.verdicts-is ∙ c.loop-part.invariant.left k (omega arith);

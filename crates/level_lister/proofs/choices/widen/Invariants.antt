@@ -10,7 +10,7 @@ use Rattle.level_lister.proofs.choices.widen.Given as goal
 abbrev pub invariant-loop-part : goal.invariant-loop-part
 invariant-loop-part l = record {
   set : (test : Assignment → Bool) (some more : ℕ → Bool) → ArePartsOf (length l.costs) some l.inner → ArePartsOf (length l.costs) more l.outer
-      → ((v : ℕ) → some v ≡ true → more v ≡ true) → IsCostSet l.words l.costs test some l.initial.set → IsCostSet l.words l.costs test (grown some more l.part) l.set;
+      → ((v : ℕ) → some v ≡ true → more v ≡ true) → IsCostSet l.evidence l.costs test some l.initial.set → IsCostSet l.evidence l.costs test (grown some more l.part) l.set;
   found : l.part < 32 * length l.outer → (has_number l.outer l.part && not (has_number l.inner l.part)) ≡ true;
 }
 

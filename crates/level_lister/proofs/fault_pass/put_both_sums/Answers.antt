@@ -4,7 +4,7 @@ use Rattle.level_lister.proofs.FaultCosts.{both_and}
 use Rattle.level_lister.proofs.fault_pass.put_both_sums.Goals as goal
 
 pub returns : goal.returns
-returns c words costs group test more_test some more apart is_all is_own =
+returns c evidence costs group test more_test some more apart is_all is_own =
     let set = c.args.set.now in
     let all = c.args.all.now in
     let own = c.args.own.now in
@@ -20,6 +20,6 @@ returns c words costs group test more_test some more apart is_all is_own =
     let sums_other : AreSums all faults (32 * length c.put_sums-2.new.set) other = subst (λ n. AreSums all faults (32 * n) other) (sym other_long) c.put_sums-2.ensures in
     let sums_all : AreSums all own (32 * length c.put_sums-3.new.set) new_all =
     subst (λ n. AreSums all own (32 * n) new_all) (sym all_long) (subst (λ (xs : List ℕ). AreSums xs own (32 * length c.args.all.now) new_all) c.copy_from_slice-2.ensures.after c.put_sums-3.ensures) in
-    both_and words costs group test more_test some more all set own faults one other new_all c.add_shifted.new.set
+    both_and evidence costs group test more_test some more all set own faults one other new_all c.add_shifted.new.set
     (omega arith) (omega arith) (omega arith) (omega arith) (omega arith) (omega arith) (omega arith) apart sums_all sums_one sums_other
     (λ n h. c.add_shifted.ensures n (omega arith)) is_all is_own

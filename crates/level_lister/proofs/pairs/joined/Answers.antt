@@ -4,10 +4,10 @@ use Rattle.level_lister.proofs.TwoWords.{tells_and}
 use Rattle.level_lister.proofs.pairs.joined.Goals as goal
 
 pub returns : goal.returns
-returns c words costs top groups group test other some more same few apart is_left is_right =
+returns c evidence costs top groups group test other some more same few apart is_left is_right =
     let left = c.args.left in
     let right = c.args.right in
-    tells_and words costs top groups group test other some more left right c.spread.result c.spread-2.result c.spread-3.result (subst (λ m. 0 < m) same c.requires.step)
+    tells_and evidence costs top groups group test other some more left right c.spread.result c.spread-2.result c.spread-3.result (subst (λ m. 0 < m) same c.requires.step)
     (subst (λ n. groups * n ≤ 32) few (subst (λ m. m * c.args.count ≤ 32) same c.requires.room)) apart
     (subst (λ n. IsSpread left.costs right.costs 1 n c.spread.result) few c.spread.ensures)
     (subst (λ m. IsSpread left.faults right.costs m (top + 1) c.spread-2.result) same (subst (λ n. IsSpread left.faults right.costs c.args.step n c.spread-2.result) few c.spread-2.ensures))

@@ -14,8 +14,8 @@ use Rattle.level_lister.proofs.pass.put_full.Goals as goal
 
 pub loop-child-init : goal.loop-child-init
 loop-child-init c = record {
-  all = λ skips words costs lives same sets. empty_is words costs _ c.clear.new.set c.clear.ensures;
-  faulty = λ skips words costs groups lives same sets. never_faults words costs _ _ c.clear.new.set c.clear.ensures;
+  all = λ skips evidence costs lives same sets. empty_is evidence costs _ c.clear.new.set c.clear.ensures;
+  faulty = λ skips evidence costs groups lives same sets. never_faults evidence costs _ _ c.clear.new.set c.clear.ensures;
 }
 
 pub set_at-requires : goal.set_at-requires
@@ -38,28 +38,28 @@ loop-child-preserved c =
     let own : length c.add_shifted.new.set ≡ length c.args.set.now = omega arith in
     let full = λ (costs : List ℕ) (same : SameBelow graph (length costs) at). child_full graph at kids ok c.requires.at c.kids-child-items.ensures (length costs) j c.requires.what lt same in
     let below = child-below graph at kids ok c.requires.at c.kids-child-items.ensures j lt in record {
-      all = λ skips words costs lives same sets.
-          or_next graph at kids ok c.requires.at c.kids-child-items.ensures skips lives (λ t m. IsCostSet words costs t m new) j lt
-          (or_is words costs _ _ _ c.loop-child.set child new (sym size) (omega (arith, c.set_at.ensures.long)) (λ n h. c.add_shifted.ensures n (omega arith))
-          (c.loop-child.invariant.all skips words costs lives same (subst (λ n. AreNodeSets graph skips words costs n earlier at) size sets))
-          (wider_is words costs _ _ _ child (full costs same)
-          (subst (IsNodeSet graph skips words costs (get_or kids j 0)) (sym c.set_at.ensures.set) (subst (λ n. AreNodeSets graph skips words costs n earlier at) own sets (get_or kids j 0) below))));
-      faulty = λ skips words costs groups lives same sets.
-          or_next graph at kids ok c.requires.at c.kids-child-items.ensures skips lives (λ t m. IsFaultSet words costs (in_first words costs groups) t m new) j lt
-          (fault_or words costs (in_first words costs groups) _ _ _ c.loop-child.set child new (sym size) (omega (arith, c.set_at.ensures.long)) (λ n h. c.add_shifted.ensures n (omega arith))
-          (c.loop-child.invariant.faulty skips words costs groups lives same (subst (λ n. AreNodeFaults graph skips words costs groups n earlier at) size sets))
-          (fault_wider words costs (in_first words costs groups) (first_parts words costs groups) _ _ _ child (full costs same)
-          (subst (IsNodeFaults graph skips words costs groups (get_or kids j 0)) (sym c.set_at.ensures.set) (subst (λ n. AreNodeFaults graph skips words costs groups n earlier at) own sets (get_or kids j 0) below))));
+      all = λ skips evidence costs lives same sets.
+          or_next graph at kids ok c.requires.at c.kids-child-items.ensures skips lives (λ t m. IsCostSet evidence costs t m new) j lt
+          (or_is evidence costs _ _ _ c.loop-child.set child new (sym size) (omega (arith, c.set_at.ensures.long)) (λ n h. c.add_shifted.ensures n (omega arith))
+          (c.loop-child.invariant.all skips evidence costs lives same (subst (λ n. AreNodeSets graph skips evidence costs n earlier at) size sets))
+          (wider_is evidence costs _ _ _ child (full costs same)
+          (subst (IsNodeSet graph skips evidence costs (get_or kids j 0)) (sym c.set_at.ensures.set) (subst (λ n. AreNodeSets graph skips evidence costs n earlier at) own sets (get_or kids j 0) below))));
+      faulty = λ skips evidence costs groups lives same sets.
+          or_next graph at kids ok c.requires.at c.kids-child-items.ensures skips lives (λ t m. IsFaultSet evidence costs (in_first evidence costs groups) t m new) j lt
+          (fault_or evidence costs (in_first evidence costs groups) _ _ _ c.loop-child.set child new (sym size) (omega (arith, c.set_at.ensures.long)) (λ n h. c.add_shifted.ensures n (omega arith))
+          (c.loop-child.invariant.faulty skips evidence costs groups lives same (subst (λ n. AreNodeFaults graph skips evidence costs groups n earlier at) size sets))
+          (fault_wider evidence costs (in_first evidence costs groups) (first_parts evidence costs groups) _ _ _ child (full costs same)
+          (subst (IsNodeFaults graph skips evidence costs groups (get_or kids j 0)) (sym c.set_at.ensures.set) (subst (λ n. AreNodeFaults graph skips evidence costs groups n earlier at) own sets (get_or kids j 0) below))));
     }
 
 pub returns-clause-all : goal.returns-clause-all
-returns-clause-all c skips words costs lives same sets =
+returns-clause-all c skips evidence costs lives same sets =
     let size : length c.args.set.now ≡ length c.loop-child.set = omega arith in
-    or_end c.args.graph.now c.args.at c.kids-child-items.result.now c.vars-vars.ensures.valid c.requires.at c.kids-child-items.ensures skips lives (λ t m. IsCostSet words costs t m c.loop-child.set) c.loop-child.child-index c.requires.what (omega arith)
-    (c.loop-child.invariant.all skips words costs lives same (subst (λ n. AreNodeSets c.args.graph.now skips words costs n c.args.sets.now c.args.at) size sets))
+    or_end c.args.graph.now c.args.at c.kids-child-items.result.now c.vars-vars.ensures.valid c.requires.at c.kids-child-items.ensures skips lives (λ t m. IsCostSet evidence costs t m c.loop-child.set) c.loop-child.child-index c.requires.what (omega arith)
+    (c.loop-child.invariant.all skips evidence costs lives same (subst (λ n. AreNodeSets c.args.graph.now skips evidence costs n c.args.sets.now c.args.at) size sets))
 
 pub returns-clause-faulty : goal.returns-clause-faulty
-returns-clause-faulty c skips words costs groups lives same sets =
+returns-clause-faulty c skips evidence costs groups lives same sets =
     let size : length c.args.set.now ≡ length c.loop-child.set = omega arith in
-    or_end c.args.graph.now c.args.at c.kids-child-items.result.now c.vars-vars.ensures.valid c.requires.at c.kids-child-items.ensures skips lives (λ t m. IsFaultSet words costs (in_first words costs groups) t m c.loop-child.set) c.loop-child.child-index c.requires.what (omega arith)
-    (c.loop-child.invariant.faulty skips words costs groups lives same (subst (λ n. AreNodeFaults c.args.graph.now skips words costs groups n c.args.sets.now c.args.at) size sets))
+    or_end c.args.graph.now c.args.at c.kids-child-items.result.now c.vars-vars.ensures.valid c.requires.at c.kids-child-items.ensures skips lives (λ t m. IsFaultSet evidence costs (in_first evidence costs groups) t m c.loop-child.set) c.loop-child.child-index c.requires.what (omega arith)
+    (c.loop-child.invariant.faulty skips evidence costs groups lives same (subst (λ n. AreNodeFaults c.args.graph.now skips evidence costs groups n c.args.sets.now c.args.at) size sets))

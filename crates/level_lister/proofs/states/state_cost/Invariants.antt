@@ -1,7 +1,7 @@
 use Rattle.std.proofs.Common.{◌≡◌, ◌≤◌, ◌+◌, drop}
 use Rattle.state_rules.specs.Ranking.{cost}
 use Rattle.conditioner.specs.Models.{total_cost}
-use Rattle.conditioner.specs.Words.{bits_of}
+use Rattle.conditioner.specs.Evidence.{bits_of}
 use Rattle.level_lister.proofs.states.state_cost.Given as goal
 
 -- the cost so far and that of the parts that are left; and they fit

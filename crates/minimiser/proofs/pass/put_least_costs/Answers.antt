@@ -5,7 +5,7 @@ use Rattle.minimiser.proofs.OnePass.{walked, fits_here, node_fits_room, goes_on,
 use Rattle.minimiser.proofs.pass.put_least_costs.Goals as goal
 
 pub loop-node-init : goal.loop-node-init
-loop-node-init g c = (sym (c.into_iter-node-iterator.ensures.into_iter_gives ∙ c.walk-node-items.ensures.nodes), none_yet c.args.graph.now c.args.words.now c.args.costs.now)
+loop-node-init g c = (sym (c.into_iter-node-iterator.ensures.into_iter_gives ∙ c.walk-node-items.ensures.nodes), none_yet c.args.graph.now c.args.evidence.now c.args.costs.now)
 
 pub node_value-value-requires-clause-fits : goal.node_value-value-requires-clause-fits
 node_value-value-requires-clause-fits g c =

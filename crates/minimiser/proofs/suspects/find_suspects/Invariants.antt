@@ -4,4 +4,4 @@ use Rattle.minimiser.proofs.suspects.find_suspects.Given as goal
 
 -- the nodes so far
 abbrev pub invariant-loop-at : goal.invariant-loop-at
-invariant-loop-at l = AreFlagged (suspect_at l.graph.nodes l.words l.parts l.values) l.state l.at
+invariant-loop-at l = AreFlagged (suspect_at l.graph.nodes l.evidence l.parts l.values) l.state l.at

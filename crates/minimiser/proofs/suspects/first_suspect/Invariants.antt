@@ -4,4 +4,4 @@ use Rattle.minimiser.proofs.suspects.first_suspect.Given as goal
 
 -- the nodes so far
 abbrev pub invariant-loop-at : goal.invariant-loop-at
-invariant-loop-at l = IsLeastSuspect (suspect_at l.graph.nodes l.words l.parts l.values) l.parts l.at l.first
+invariant-loop-at l = IsLeastSuspect (suspect_at l.graph.nodes l.evidence l.parts l.values) l.parts l.at l.first

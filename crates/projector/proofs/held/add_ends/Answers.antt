@@ -2,7 +2,7 @@ use Rattle.std.specs.List.{flat_map, enumerate_from}
 use Rattle.text_rules.specs.Tokens.{spaced}
 use Rattle.diag_edge.proofs.Added.{adds_first, adds_second, adds_same}
 use Rattle.nnf_text.specs.WrittenGraphs.{node_words}
-use Rattle.conditioner.specs.Words.{known}
+use Rattle.conditioner.specs.Evidence.{known}
 use Rattle.projector.specs.Projecting.{root_with}
 use Rattle.projector.specs.inner.Lines.{held_line}
 use Rattle.projector.proofs.Lines.{root-text}

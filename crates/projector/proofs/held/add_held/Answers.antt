@@ -2,7 +2,7 @@ use Rattle.std.proofs.Common.{rules, ◌+◌, ◌<◌, ◌≤◌, refl, length, 
 use Rattle.std.specs.List.{enumerate_from}
 use Rattle.std.proofs.lemmas.List.{length-map}
 use Rattle.std.proofs.lemmas.List.FromFn.{length-enumerate_from}
-use Rattle.conditioner.specs.Words.{known_of, known}
+use Rattle.conditioner.specs.Evidence.{known_of, known}
 use Rattle.projector.specs.inner.Lines.{held_line}
 use Rattle.diag_edge.proofs.Added.{each_more, each_part, each_all}
 use Rattle.projector.proofs.Lines.{held_line-at}

@@ -1,7 +1,7 @@
 use Rattle.std.proofs.Common.{◌≡◌, take}
 use Rattle.std.specs.List.{flat_map, enumerate_from}
 use Rattle.diag_edge.specs.Adding.{Grown}
-use Rattle.conditioner.specs.Words.{known}
+use Rattle.conditioner.specs.Evidence.{known}
 use Rattle.projector.specs.inner.Lines.{held_line}
 use Rattle.projector.proofs.held.add_held.Given as goal
 

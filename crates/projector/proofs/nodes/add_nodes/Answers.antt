@@ -15,21 +15,21 @@ projected_kind-kind-requires-clause-fits g c =
     let graph = c.args.graph.now in
     let node = node_at graph.nodes c.loop-node.node in
     let below : c.loop-node.node < length graph.nodes = omega (arith, c.loop-node.invariant.end) in
-    (λ i. variable_fits (c.requires.words i) (c.what.ensures i)) ∙ variable_fits-from graph.vars node.what node.kids (fits-at graph.vars graph.nodes c.loop-node.node c.len-node-end.ensures.valid.nodes.fit below).kind
+    (λ i. variable_fits (c.requires.evidence i) (c.what.ensures i)) ∙ variable_fits-from graph.vars node.what node.kids (fits-at graph.vars graph.nodes c.loop-node.node c.len-node-end.ensures.valid.nodes.fit below).kind
 
 pub returns-in_err-add_node-clause-bytes : goal.returns-in_err-add_node-clause-bytes
 returns-in_err-add_node-clause-bytes g c =
     let below : c.loop-node.node < length c.args.graph.now.nodes = omega (arith, c.loop-node.invariant.end) in
-    each_part (λ node. spaced (node_words (projected_node c.args.words.now c.args.parts node))) c.args.graph.now.nodes c.loop-node.node true_node _ _ _ _ _ _ (spaced (kind_words c.projected_kind-kind.result c.kids.result.now)) _
-    c.from_residual.ensures.0 below (projected-line c.args.words.now c.args.parts (node_at c.args.graph.now.nodes c.loop-node.node) c.what.result c.projected_kind-kind.result c.kids.result.now c.projected_kind-kind.ensures c.what.ensures c.kids.ensures)
+    each_part (λ node. spaced (node_words (projected_node c.args.evidence.now c.args.parts node))) c.args.graph.now.nodes c.loop-node.node true_node _ _ _ _ _ _ (spaced (kind_words c.projected_kind-kind.result c.kids.result.now)) _
+    c.from_residual.ensures.0 below (projected-line c.args.evidence.now c.args.parts (node_at c.args.graph.now.nodes c.loop-node.node) c.what.result c.projected_kind-kind.result c.kids.result.now c.projected_kind-kind.ensures c.what.ensures c.kids.ensures)
     c.loop-node.invariant.added c.in_err-add_node.ensures.bytes
 
 pub loop-node-preserved : goal.loop-node-preserved
 loop-node-preserved g c =
     let below : c.loop-node.node < length c.args.graph.now.nodes = omega (arith, c.loop-node.invariant.end) in
     record {
-      added = each_more (λ node. spaced (node_words (projected_node c.args.words.now c.args.parts node))) c.args.graph.now.nodes c.loop-node.node true_node _ _ _ _ _ _ (spaced (kind_words c.projected_kind-kind.result c.kids.result.now))
-          below (projected-line c.args.words.now c.args.parts (node_at c.args.graph.now.nodes c.loop-node.node) c.what.result c.projected_kind-kind.result c.kids.result.now c.projected_kind-kind.ensures c.what.ensures c.kids.ensures)
+      added = each_more (λ node. spaced (node_words (projected_node c.args.evidence.now c.args.parts node))) c.args.graph.now.nodes c.loop-node.node true_node _ _ _ _ _ _ (spaced (kind_words c.projected_kind-kind.result c.kids.result.now))
+          below (projected-line c.args.evidence.now c.args.parts (node_at c.args.graph.now.nodes c.loop-node.node) c.what.result c.projected_kind-kind.result c.kids.result.now c.projected_kind-kind.ensures c.what.ensures c.kids.ensures)
           c.loop-node.invariant.added c.in_ok-add_node.ensures.bytes;
       end = c.loop-node.invariant.end;
       faults = search rules;

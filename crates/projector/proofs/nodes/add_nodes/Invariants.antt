@@ -11,7 +11,7 @@ abbrev pub invariant-loop-node : goal.invariant-loop-node
 invariant-loop-node g l =
     let O = g.O.Sink in
     record {
-      added : Grown (O.got l.fn.out) (O.got l.out) l.fn.chunk l.chunk (flat_map (λ node. spaced (node_words (projected_node l.words l.parts node))) (take l.node l.graph.nodes));
+      added : Grown (O.got l.fn.out) (O.got l.out) l.fn.chunk l.chunk (flat_map (λ node. spaced (node_words (projected_node l.evidence l.parts node))) (take l.node l.graph.nodes));
       end : l.node-end ≡ length l.graph.nodes;
       faults : O.faults l.out ≡ O.faults l.fn.out;
     }

@@ -2,7 +2,7 @@ use Rattle.std.proofs.Common.{◌≡◌, ◌∷◌, [], ℕ, List, length, codes
 use Rattle.projector.specs.Projecting.{projected_text}
 use Rattle.session_rules.specs.GraphSystems.{Subject}
 use Rattle.session_rules.specs.Items.{Plain, line}
-use Rattle.session_rules.proofs.CaseWords.{words-of_case}
+use Rattle.session_rules.proofs.CaseEvidence.{words-of_case}
 use Rattle.session_rules.proofs.Spellings.{replies_one}
 use Rattle.session_core.specs.Services.{case_text}
 use Rattle.session_core.specs.inner.Bases.{AreKnown, case_in}

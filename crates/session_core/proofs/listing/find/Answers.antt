@@ -1,7 +1,7 @@
 use Rattle.std.proofs.Common.{◌≡◌, ◌∙◌, ℕ, List, Bool, Some, true, false, sym, ap, subst}
 use Rattle.std.specs.Prelude.{if◌then◌else◌}
 use Rattle.text_rules.specs.Names.{Name}
-use Rattle.conditioner.specs.Words.{bits_of}
+use Rattle.conditioner.specs.Evidence.{bits_of}
 use Rattle.session_rules.specs.GraphSystems.{Subject}
 use Rattle.session_rules.specs.Sessions.{Entry, Table, with_entry}
 use Rattle.session_table.specs.Tables.{Opened, StandsAt}
@@ -34,15 +34,15 @@ module _ (subject : Subject) (listed : Listed) (place : ℕ) (session : Name) (e
   }
 
 pub take_up-requires : goal.take_up-requires
-take_up-requires g c = known-there c.args.desk.now.subject c.args.opened.now c.requires.together c.words.result.now c.words.ensures.words
+take_up-requires g c = known-there c.args.desk.now.subject c.args.opened.now c.requires.together c.evidence.result.now c.evidence.ensures.evidence
 
 pub returns-then-not-is_found-clause-moves : goal.returns-then-not-is_found-clause-moves
 returns-then-not-is_found-clause-moves g c = λ session entry stands.
     let desk = c.args.desk.now in
     let opened = c.args.opened.now in
     let state = bits_of c.next-next.new.self.state in
-    let case = case-there desk.subject opened c.requires.together c.words.result.now entry.known (c.words.ensures.known session entry stands) in
-    let answer = found_there desk c.take_up.new.self c.words.result.now c.args.listed session entry _ c.next-next.result state c.take_up.ensures case
+    let case = case-there desk.subject opened c.requires.together c.evidence.result.now entry.known (c.evidence.ensures.known session entry stands) in
+    let answer = found_there desk c.take_up.new.self c.evidence.result.now c.args.listed session entry _ c.next-next.result state c.take_up.ensures case
     (sym (c.point.ensures.point session entry stands)) c.next-next.ensures.next c.next-next.ensures.state in
     stays desk.subject c.args.listed c.args.place session entry c.next-next.result state answer opened.table (sym c.if-not-is_found.ensures) stands
 
@@ -51,8 +51,8 @@ returns-clause-moves g c = λ session entry stands.
     let desk = c.args.desk.now in
     let opened = c.args.opened.now in
     let state = bits_of c.next-next.new.self.state in
-    let case = case-there desk.subject opened c.requires.together c.words.result.now entry.known (c.words.ensures.known session entry stands) in
-    let answer = found_there desk c.take_up.new.self c.words.result.now c.args.listed session entry _ c.next-next.result state c.take_up.ensures case
+    let case = case-there desk.subject opened c.requires.together c.evidence.result.now entry.known (c.evidence.ensures.known session entry stands) in
+    let answer = found_there desk c.take_up.new.self c.evidence.result.now c.args.listed session entry _ c.next-next.result state c.take_up.ensures case
     (sym (c.point.ensures.point session entry stands)) c.next-next.ensures.next c.next-next.ensures.state in
     let is = ap bits_of c.state.ensures.state in
     goes desk.subject c.args.listed c.args.place session entry c.next-next.result state answer opened.table c.set_point.new.self.table (sym c.if-not-is_found.ensures)

@@ -1,6 +1,6 @@
 use Rattle.std.proofs.Common.{◌≡◌, ◌∙◌, ◌∷◌, [], Ok, ℕ, List, ap, ap₂, sym, refl, subst}
 use Rattle.text_rules.specs.Names.{Name}
-use Rattle.conditioner.specs.Words.{bits_of}
+use Rattle.conditioner.specs.Evidence.{bits_of}
 use Rattle.session_rules.specs.GraphSystems.{Subject}
 use Rattle.session_rules.specs.Items.{line}
 use Rattle.session_rules.specs.Spelling.{Writes, WritesPart}

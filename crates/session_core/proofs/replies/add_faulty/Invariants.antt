@@ -1,6 +1,6 @@
 use Rattle.std.proofs.Common.{◌≡◌, ◌++◌, ℕ, List, drop}
 use Rattle.diag_edge.specs.Adding.{Grown}
-use Rattle.conditioner.specs.Words.{bits_of}
+use Rattle.conditioner.specs.Evidence.{bits_of}
 use Rattle.session_rules.specs.Replies.{faulty_names}
 use Rattle.session_core.specs.inner.Texts.{spaced_before}
 use Rattle.session_core.proofs.replies.add_faulty.Given as goal

@@ -1,5 +1,5 @@
 use Rattle.std.proofs.Common.{◌∙◌, [], append-nil}
-use Rattle.conditioner.specs.Words.{bits_of}
+use Rattle.conditioner.specs.Evidence.{bits_of}
 use Rattle.diag_edge.proofs.Added.{grown_more, part_more, put_all, put_part}
 use Rattle.session_rules.specs.Replies.{faulty_names}
 use Rattle.session_core.proofs.Texts.{line_pieces}

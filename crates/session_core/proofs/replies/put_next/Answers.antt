@@ -1,7 +1,7 @@
 use Rattle.std.proofs.Common.{◌≡◌, ◌∙◌, ◌∷◌, ℕ, List, codes, decimal, ap, sym, subst}
 use Rattle.diag_edge.specs.Edge.{Puts}
 use Rattle.text_rules.specs.Tokens.{spaced}
-use Rattle.conditioner.specs.Words.{bits_of}
+use Rattle.conditioner.specs.Evidence.{bits_of}
 use Rattle.session_rules.specs.Replies.{faulty_names}
 use Rattle.session_core.specs.declared.listed.NextState.{NextState}
 use Rattle.session_core.specs.declared.listed.NextState.TheVariants.{Found}

@@ -8,7 +8,7 @@ use Rattle.smooth_nnf.proofs.filling.add_bits.Goals as goal
 
 pub returns-in_err-add_bit-clause-bytes : goal.returns-in_err-add_bit-clause-bytes
 returns-in_err-add_bit-clause-bytes g c =
-    let text = bit_text c.args.drawing.now.words c.args.word c.args.bits in
+    let text = bit_text c.args.drawing.now.evidence c.args.word c.args.bits in
     let below : c.loop-b.b < length (range_with_len 0 32) = omega (arith, length-range_with_len 0 32, c.loop-b-test.true) in
     each_part text (range_with_len 0 32) c.loop-b.b 0 _ _ _ _ _ _ (text c.loop-b.b) _
     c.from_residual.ensures.0 below (ap text (first-numbers 32 c.loop-b.b c.loop-b-test.true))
@@ -16,7 +16,7 @@ returns-in_err-add_bit-clause-bytes g c =
 
 pub loop-b-preserved : goal.loop-b-preserved
 loop-b-preserved g c =
-    let text = bit_text c.args.drawing.now.words c.args.word c.args.bits in
+    let text = bit_text c.args.drawing.now.evidence c.args.word c.args.bits in
     let below : c.loop-b.b < length (range_with_len 0 32) = omega (arith, length-range_with_len 0 32, c.loop-b-test.true) in
     record {
       added = each_more text (range_with_len 0 32) c.loop-b.b 0 _ _ _ _ _ _ (text c.loop-b.b)

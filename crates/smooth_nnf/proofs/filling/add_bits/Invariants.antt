@@ -9,6 +9,6 @@ abbrev pub invariant-loop-b : goal.invariant-loop-b
 invariant-loop-b g l =
     let O = g.O.Sink in
     record {
-      added : Grown (O.got l.fn.out) (O.got l.out) l.fn.chunk l.chunk (flat_map (bit_text l.drawing.words l.word l.bits) (take l.b (range_with_len 0 32)));
+      added : Grown (O.got l.fn.out) (O.got l.out) l.fn.chunk l.chunk (flat_map (bit_text l.drawing.evidence l.word l.bits) (take l.b (range_with_len 0 32)));
       faults : O.faults l.out ≡ O.faults l.fn.out;
     }

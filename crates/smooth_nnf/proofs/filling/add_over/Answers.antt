@@ -9,11 +9,11 @@ use Rattle.smooth_nnf.proofs.filling.add_over.Goals as goal
 pub returns-in_err-add-clause-bytes : goal.returns-in_err-add-clause-bytes
 returns-in_err-add-clause-bytes g c =
     let d = c.args.drawing.now in
-    let rest = (32 ∷ decimal c.args.count) ++ ((32 ∷ decimal (slice_index d.lines c.args.node)) ++ (numbers_text (fillers d.words d.parts (missing_in d c.args.over c.args.node)) ++ 10 ∷ [])) in
+    let rest = (32 ∷ decimal c.args.count) ++ ((32 ∷ decimal (slice_index d.lines c.args.node)) ++ (numbers_text (fillers d.evidence d.parts (missing_in d c.args.over c.args.node)) ++ 10 ∷ [])) in
     adds_first _ _ _ _ _ (codes "A") rest c.from_residual.ensures.0 c.in_err-add.ensures.bytes
 
 pub returns-clause-bytes : goal.returns-clause-bytes
 returns-clause-bytes g c =
     let d = c.args.drawing.now in
-    let rest = (32 ∷ decimal c.args.count) ++ ((32 ∷ decimal (slice_index d.lines c.args.node)) ++ (numbers_text (fillers d.words d.parts (missing_in d c.args.over c.args.node)) ++ 10 ∷ [])) in
+    let rest = (32 ∷ decimal c.args.count) ++ ((32 ∷ decimal (slice_index d.lines c.args.node)) ++ (numbers_text (fillers d.evidence d.parts (missing_in d c.args.over c.args.node)) ++ 10 ∷ [])) in
     adds_second _ _ _ _ _ _ _ (codes "A") rest c.in_ok-add.ensures.bytes c.add_counted.ensures.bytes

@@ -9,7 +9,7 @@ use Rattle.level_lister.proofs.Children.{children_apart, and_next, and_end}
 use Rattle.level_lister.proofs.fault_pass.FaultPass.put_and_faults.Goals as goal
 
 pub loop-child-init : goal.loop-child-init
-loop-child-init c = both_zero c.args.self.now.words.now c.args.self.now.levels.now.costs _ c.put_one.new.set c.clear.new.set (λ n h. c.put_one.ensures n (omega arith)) c.clear.ensures
+loop-child-init c = both_zero c.args.self.now.evidence.now c.args.self.now.levels.now.costs _ c.put_one.new.set c.clear.new.set (λ n h. c.put_one.ensures n (omega arith)) c.clear.ensures
 
 pub set_at-own-requires : goal.set_at-own-requires
 set_at-own-requires c =
@@ -34,7 +34,7 @@ pub loop-child-preserved : goal.loop-child-preserved
 loop-child-preserved c =
     let graph = c.args.self.now.graph.now in
     let at = c.args.at in
-    let words = c.args.self.now.words.now in
+    let evidence = c.args.self.now.evidence.now in
     let costs = c.args.self.now.levels.now.costs in
     let groups = c.args.self.now.groups in
     let kids = c.kids-child-items.result.now in
@@ -44,17 +44,17 @@ loop-child-preserved c =
     let lt = c.loop-child-test.true in
     let below = child-below graph at kids ok c.requires.at c.kids-child-items.ensures j lt in
     let inside : child < length graph.nodes = omega (arith, below, c.requires.at) in
-    let own : IsNodeSet graph c.args.self.now.skips.now words costs child c.set_at-own.result.now =
-    subst (IsNodeSet graph c.args.self.now.skips.now words costs child) (sym (c.set_at-own.ensures.set ∙ ap (λ n. set_at c.args.self.now.sets.now child n) c.size-size.ensures)) (c.requires.are child inside) in
-    let faults : IsNodeFaults graph c.args.self.now.skips.now words costs groups child c.set_at-faults.result.now =
-    subst (IsNodeFaults graph c.args.self.now.skips.now words costs groups child) (sym (c.set_at-faults.ensures.set ∙ ap (λ n. set_at c.args.earlier.now child n) c.size-size.ensures)) (c.requires.earlier child below) in
-    and_next graph at kids ok c.requires.at c.kids-child-items.ensures c.args.self.now.skips.now c.requires.lives (λ t m. AreBothSets words costs (in_first words costs groups) t m c.put_both_sums.new.all c.put_both_sums.new.set) j lt
-    (c.put_both_sums.ensures words costs (in_first words costs groups) _ _ _ _ (children_apart graph at kids ok c.requires.at c.kids-child-items.ensures j c.requires.what lt)
+    let own : IsNodeSet graph c.args.self.now.skips.now evidence costs child c.set_at-own.result.now =
+    subst (IsNodeSet graph c.args.self.now.skips.now evidence costs child) (sym (c.set_at-own.ensures.set ∙ ap (λ n. set_at c.args.self.now.sets.now child n) c.size-size.ensures)) (c.requires.are child inside) in
+    let faults : IsNodeFaults graph c.args.self.now.skips.now evidence costs groups child c.set_at-faults.result.now =
+    subst (IsNodeFaults graph c.args.self.now.skips.now evidence costs groups child) (sym (c.set_at-faults.ensures.set ∙ ap (λ n. set_at c.args.earlier.now child n) c.size-size.ensures)) (c.requires.earlier child below) in
+    and_next graph at kids ok c.requires.at c.kids-child-items.ensures c.args.self.now.skips.now c.requires.lives (λ t m. AreBothSets evidence costs (in_first evidence costs groups) t m c.put_both_sums.new.all c.put_both_sums.new.set) j lt
+    (c.put_both_sums.ensures evidence costs (in_first evidence costs groups) _ _ _ _ (children_apart graph at kids ok c.requires.at c.kids-child-items.ensures j c.requires.what lt)
     c.loop-child.invariant (record { all = own; faulty = faults }))
 
 pub returns : goal.returns
 returns c =
-    let words = c.args.self.now.words.now in
+    let evidence = c.args.self.now.evidence.now in
     let costs = c.args.self.now.levels.now.costs in
-    and_end c.args.self.now.graph.now c.args.at c.kids-child-items.result.now c.vars-vars.ensures.valid c.requires.at c.kids-child-items.ensures c.args.self.now.skips.now c.requires.lives (λ t m. IsFaultSet words costs (in_first words costs c.args.self.now.groups) t m c.loop-child.set)
+    and_end c.args.self.now.graph.now c.args.at c.kids-child-items.result.now c.vars-vars.ensures.valid c.requires.at c.kids-child-items.ensures c.args.self.now.skips.now c.requires.lives (λ t m. IsFaultSet evidence costs (in_first evidence costs c.args.self.now.groups) t m c.loop-child.set)
     c.loop-child.child-index c.requires.what (omega arith) c.loop-child.invariant.faulty

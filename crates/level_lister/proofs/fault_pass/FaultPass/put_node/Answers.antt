@@ -10,20 +10,20 @@ put_literal_faults-requires c = record { var = (literal-fits c.args.self.now.gra
 
 pub returns-in-Literal : goal.returns-in-Literal
 returns-in-Literal c =
-    let words = c.args.self.now.words.now in
+    let evidence = c.args.self.now.evidence.now in
     let costs = c.args.self.now.levels.now.costs in
-    literal_at c.args.self.now.graph.now c.args.at _ c.vars-vars.ensures.valid c.requires.at refl c.args.self.now.skips.now c.if-self-at-ne0.false (λ t m. IsFaultSet words costs (in_first words costs c.args.self.now.groups) t m c.put_literal_faults.new.set)
+    literal_at c.args.self.now.graph.now c.args.at _ c.vars-vars.ensures.valid c.requires.at refl c.args.self.now.skips.now c.if-self-at-ne0.false (λ t m. IsFaultSet evidence costs (in_first evidence costs c.args.self.now.groups) t m c.put_literal_faults.new.set)
     c.in-Literal.var c.in-Literal.positive c.in-Literal.ensures c.put_literal_faults.ensures
 
 pub returns-then-lacking-at-eq0 : goal.returns-then-lacking-at-eq0
 returns-then-lacking-at-eq0 c =
     let graph = c.args.self.now.graph.now in
-    let words = c.args.self.now.words.now in
+    let evidence = c.args.self.now.evidence.now in
     let costs = c.args.self.now.levels.now.costs in
     let groups = c.args.self.now.groups in
-    c.put_full.ensures.faulty c.args.self.now.skips.now words costs groups c.if-self-at-ne0.false
+    c.put_full.ensures.faulty c.args.self.now.skips.now evidence costs groups c.if-self-at-ne0.false
     ((c.args.self.now.for_graph.lacking.nodes c.args.at c.requires.at).0 (sym (ap (λ xs. get_or xs c.args.at 0) c.lacking.ensures) ∙ c.if-lacking-at-eq0.true) (sym c.in-Or.ensures))
-    (subst (λ n. AreNodeFaults graph c.args.self.now.skips.now words costs groups n c.args.earlier.now c.args.at) (sym c.requires.set) c.requires.earlier)
+    (subst (λ n. AreNodeFaults graph c.args.self.now.skips.now evidence costs groups n c.args.earlier.now c.args.at) (sym c.requires.set) c.requires.earlier)
 
 pub returns-then-self-at-ne0 : goal.returns-then-self-at-ne0
-returns-then-self-at-ne0 c = skipped_faults c.args.self.now.graph.now c.args.self.now.skips.now c.args.self.now.words.now c.args.self.now.levels.now.costs c.args.self.now.groups c.args.at c.clear.new.set c.vars-vars.ensures.valid c.requires.at c.if-self-at-ne0.true c.clear.ensures
+returns-then-self-at-ne0 c = skipped_faults c.args.self.now.graph.now c.args.self.now.skips.now c.args.self.now.evidence.now c.args.self.now.levels.now.costs c.args.self.now.groups c.args.at c.clear.new.set c.vars-vars.ensures.valid c.requires.at c.if-self-at-ne0.true c.clear.ensures

@@ -12,7 +12,7 @@ use Rattle.level_lister.proofs.Children.{or_next, or_end}
 use Rattle.level_lister.proofs.fault_pass.FaultPass.put_or_faults.Goals as goal
 
 pub loop-child-init : goal.loop-child-init
-loop-child-init c = never_faults c.args.self.now.words.now c.args.self.now.levels.now.costs _ _ c.clear.new.set c.clear.ensures
+loop-child-init c = never_faults c.args.self.now.evidence.now c.args.self.now.levels.now.costs _ _ c.clear.new.set c.clear.ensures
 
 pub set_at-requires : goal.set_at-requires
 set_at-requires c =
@@ -43,7 +43,7 @@ loop-child-preserved c =
     let graph = c.args.self.now.graph.now in
     let kept = c.args.self.now.levels.now in
     let at = c.args.at in
-    let words = c.args.self.now.words.now in
+    let evidence = c.args.self.now.evidence.now in
     let costs = kept.costs in
     let groups = c.args.self.now.groups in
     let kids = c.kids-child-items.result.now in
@@ -53,19 +53,19 @@ loop-child-preserved c =
     let lt = c.loop-child-test.true in
     let below = child-below graph at kids ok c.requires.at c.kids-child-items.ensures j lt in
     let inside : child < length graph.nodes = omega (arith, below, c.requires.at) in
-    let all : IsNodeSet graph c.args.self.now.skips.now words costs child c.copy_from_slice.new.self =
-    subst (IsNodeSet graph c.args.self.now.skips.now words costs child) (sym (c.copy_from_slice.ensures.after ∙ c.set_at.ensures.set ∙ ap (λ n. set_at c.args.self.now.sets.now child n) c.size-size.ensures)) (c.requires.are child inside) in
-    let faults : IsNodeFaults graph c.args.self.now.skips.now words costs groups child c.copy_from_slice-in-loop-child.new.self =
-    subst (IsNodeFaults graph c.args.self.now.skips.now words costs groups child) (sym (c.copy_from_slice-in-loop-child.ensures.after ∙ c.set_at-in-loop-child.ensures.set ∙ ap (λ n. set_at c.args.earlier.now child n) c.size-size.ensures)) (c.requires.earlier child below) in
+    let all : IsNodeSet graph c.args.self.now.skips.now evidence costs child c.copy_from_slice.new.self =
+    subst (IsNodeSet graph c.args.self.now.skips.now evidence costs child) (sym (c.copy_from_slice.ensures.after ∙ c.set_at.ensures.set ∙ ap (λ n. set_at c.args.self.now.sets.now child n) c.size-size.ensures)) (c.requires.are child inside) in
+    let faults : IsNodeFaults graph c.args.self.now.skips.now evidence costs groups child c.copy_from_slice-in-loop-child.new.self =
+    subst (IsNodeFaults graph c.args.self.now.skips.now evidence costs groups child) (sym (c.copy_from_slice-in-loop-child.ensures.after ∙ c.set_at-in-loop-child.ensures.set ∙ ap (λ n. set_at c.args.earlier.now child n) c.size-size.ensures)) (c.requires.earlier child below) in
     let wide = c.widen_both.ensures (λ a. is_true (living graph.nodes c.args.self.now.skips.now) child a) (λ v. mentions graph.nodes v child) (λ v. mentions graph.nodes v at)
     (c.args.self.now.for_graph.below.nodes child inside) (c.args.self.now.for_graph.below.nodes at c.requires.at)
     (child-mentions graph at kids ok c.requires.at c.kids-child-items.ensures j c.requires.what lt) (record { all = all; faulty = faults }) in
-    or_next graph at kids ok c.requires.at c.kids-child-items.ensures c.args.self.now.skips.now c.requires.lives (λ t m. IsFaultSet words costs (in_first words costs groups) t m c.add_shifted.new.set) j lt
-    (fault_or words costs (in_first words costs groups) _ _ _ c.loop-child.set c.widen_both.new.faults c.add_shifted.new.set (omega arith) (omega arith) (λ n h. c.add_shifted.ensures n (omega arith)) c.loop-child.invariant wide.faulty)
+    or_next graph at kids ok c.requires.at c.kids-child-items.ensures c.args.self.now.skips.now c.requires.lives (λ t m. IsFaultSet evidence costs (in_first evidence costs groups) t m c.add_shifted.new.set) j lt
+    (fault_or evidence costs (in_first evidence costs groups) _ _ _ c.loop-child.set c.widen_both.new.faults c.add_shifted.new.set (omega arith) (omega arith) (λ n h. c.add_shifted.ensures n (omega arith)) c.loop-child.invariant wide.faulty)
 
 pub returns : goal.returns
 returns c =
-    let words = c.args.self.now.words.now in
+    let evidence = c.args.self.now.evidence.now in
     let costs = c.args.self.now.levels.now.costs in
-    or_end c.args.self.now.graph.now c.args.at c.kids-child-items.result.now c.vars-vars.ensures.valid c.requires.at c.kids-child-items.ensures c.args.self.now.skips.now c.requires.lives (λ t m. IsFaultSet words costs (in_first words costs c.args.self.now.groups) t m c.loop-child.set)
+    or_end c.args.self.now.graph.now c.args.at c.kids-child-items.result.now c.vars-vars.ensures.valid c.requires.at c.kids-child-items.ensures c.args.self.now.skips.now c.requires.lives (λ t m. IsFaultSet evidence costs (in_first evidence costs c.args.self.now.groups) t m c.loop-child.set)
     c.loop-child.child-index c.requires.what (omega arith) c.loop-child.invariant

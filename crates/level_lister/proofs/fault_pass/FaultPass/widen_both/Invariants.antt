@@ -10,8 +10,8 @@ abbrev pub invariant-loop-part : goal.invariant-loop-part
 invariant-loop-part l = record {
   both : (test : Assignment → Bool) (some more : ℕ → Bool) → ArePartsOf (length l.self.levels.now.costs) some l.own → ArePartsOf (length l.self.levels.now.costs) more l.below
       → ((v : ℕ) → some v ≡ true → more v ≡ true)
-      → AreBothSets l.self.words.now l.self.levels.now.costs (in_first l.self.words.now l.self.levels.now.costs l.self.groups) test some l.fn.all l.fn.faults
-      → AreBothSets l.self.words.now l.self.levels.now.costs (in_first l.self.words.now l.self.levels.now.costs l.self.groups) test (grown some more l.part) l.all l.faults;
+      → AreBothSets l.self.evidence.now l.self.levels.now.costs (in_first l.self.evidence.now l.self.levels.now.costs l.self.groups) test some l.fn.all l.fn.faults
+      → AreBothSets l.self.evidence.now l.self.levels.now.costs (in_first l.self.evidence.now l.self.levels.now.costs l.self.groups) test (grown some more l.part) l.all l.faults;
   found : l.part < 32 * length l.below → is_missing l.below l.own l.part ≡ true;
 }
 

@@ -13,15 +13,15 @@ none_from (Some n) e = absurd (cc)
 pub returns-then-is_none-clause-none : goal.returns-then-is_none-clause-none
 returns-then-is_none-clause-none g c e =
     let graph = c.args.graph.now in
-    let words = c.args.words.now in
+    let evidence = c.args.evidence.now in
     let costs = c.args.self.now.costs in
-    least-none costs (models graph words (length costs)) (ap (λ cs. least_under graph words cs) (sym c.costs.ensures) ∙ sym c.least.ensures.least ∙ none_from c.least.result (c.is_none.ensures ∙ ap not c.if-is_none.true))
+    least-none costs (models graph evidence (length costs)) (ap (λ cs. least_under graph evidence cs) (sym c.costs.ensures) ∙ sym c.least.ensures.least ∙ none_from c.least.result (c.is_none.ensures ∙ ap not c.if-is_none.true))
 
 pub returns-clause-enough : goal.returns-clause-enough
 returns-clause-enough g c e =
     let graph = c.args.graph.now in
-    let words = c.args.words.now in
+    let evidence = c.args.evidence.now in
     let costs = c.args.self.now.costs in
-    let least : AreLeastCosts graph words costs c.least.new.values = subst (λ (cs : List ℕ). AreLeastCosts graph words cs c.least.new.values) c.costs.ensures c.least.ensures.values in
-    enough graph words costs c.len.ensures.valid c.least.new.values least c.put_rests.new.rests c.mark_dear.new.rests c.args.self.now.top c.requires.long c.requires.graph.parts c.put_rests.ensures
+    let least : AreLeastCosts graph evidence costs c.least.new.values = subst (λ (cs : List ℕ). AreLeastCosts graph evidence cs c.least.new.values) c.costs.ensures c.least.ensures.values in
+    enough graph evidence costs c.len.ensures.valid c.least.new.values least c.put_rests.new.rests c.mark_dear.new.rests c.args.self.now.top c.requires.long c.requires.graph.parts c.put_rests.ensures
     (λ k h. c.mark_dear.ensures k (omega (arith, c.put_rests.auto.rests, c.requires.skips)) ∙ ap (λ top. skip_of top (get_or c.least.new.values k 0) (get_or c.put_rests.new.rests k 0)) c.top.ensures)

@@ -7,7 +7,7 @@ use Rattle.level_lister.proofs.PairNodes.{Told}
 use Rattle.level_lister.proofs.pair_pass.PairPass.and_pair.Goals as goal
 
 pub loop-child-init : goal.loop-child-init
-loop-child-init c words groups told = tells_true words c.args.self.now.levels.now.costs c.args.self.now.levels.now.top (group_count c.args.self.now.levels.now.top) (group_in words (length c.args.self.now.levels.now.costs) groups)
+loop-child-init c evidence groups told = tells_true evidence c.args.self.now.levels.now.costs c.args.self.now.levels.now.top (group_count c.args.self.now.levels.now.top) (group_in evidence (length c.args.self.now.levels.now.costs) groups)
 
 pub pair_at-requires : goal.pair_at-requires
 pair_at-requires c =
@@ -15,7 +15,7 @@ pair_at-requires c =
     omega (arith, c.requires.room, c.requires.at, child-below c.args.self.now.graph.now c.args.at kids c.vars-vars.ensures.valid c.requires.at c.kids-child-items.ensures c.loop-child.child-index c.loop-child-test.true)
 
 pub loop-child-preserved : goal.loop-child-preserved
-loop-child-preserved c words groups told =
+loop-child-preserved c evidence groups told =
     let graph = c.args.self.now.graph.now in
     let at = c.args.at in
     let kids = c.kids-child-items.result.now in
@@ -23,15 +23,15 @@ loop-child-preserved c words groups told =
     let top = c.args.self.now.levels.now.top in
     let j = c.loop-child.child-index in
     let ok = c.vars-vars.ensures.valid in
-    let group = group_in words (length costs) groups in
+    let group = group_in evidence (length costs) groups in
     let lt = c.loop-child-test.true in
     let below = child-below graph at kids ok c.requires.at c.kids-child-items.ensures j lt in
-    let child = subst (TellsNode graph c.args.self.now.skips.now words costs top groups (get_or kids j 0)) (sym c.pair_at.ensures) (told (get_or kids j 0) below) in
-    and_before graph at kids ok c.requires.at c.kids-child-items.ensures c.args.self.now.skips.now c.requires.lives (Told words costs top groups c.joined-pair.result) j lt
-    (c.joined-pair.ensures words costs top (group_count top) group _ _ _ _ c.group_count.ensures.count (ap (λ n. n + 1) c.top.ensures) (apart_children graph at kids ok c.requires.at c.kids-child-items.ensures j c.requires.what lt)
-    child (c.loop-child.invariant words groups told))
+    let child = subst (TellsNode graph c.args.self.now.skips.now evidence costs top groups (get_or kids j 0)) (sym c.pair_at.ensures) (told (get_or kids j 0) below) in
+    and_before graph at kids ok c.requires.at c.kids-child-items.ensures c.args.self.now.skips.now c.requires.lives (Told evidence costs top groups c.joined-pair.result) j lt
+    (c.joined-pair.ensures evidence costs top (group_count top) group _ _ _ _ c.group_count.ensures.count (ap (λ n. n + 1) c.top.ensures) (apart_children graph at kids ok c.requires.at c.kids-child-items.ensures j c.requires.what lt)
+    child (c.loop-child.invariant evidence groups told))
 
 pub returns : goal.returns
-returns c words groups told =
-    and_end c.args.self.now.graph.now c.args.at c.kids-child-items.result.now c.vars-vars.ensures.valid c.requires.at c.kids-child-items.ensures c.args.self.now.skips.now c.requires.lives (Told words c.args.self.now.levels.now.costs c.args.self.now.levels.now.top groups c.loop-child.pair) c.loop-child.child-index c.requires.what (omega arith)
-    (c.loop-child.invariant words groups told)
+returns c evidence groups told =
+    and_end c.args.self.now.graph.now c.args.at c.kids-child-items.result.now c.vars-vars.ensures.valid c.requires.at c.kids-child-items.ensures c.args.self.now.skips.now c.requires.lives (Told evidence c.args.self.now.levels.now.costs c.args.self.now.levels.now.top groups c.loop-child.pair) c.loop-child.child-index c.requires.what (omega arith)
+    (c.loop-child.invariant evidence groups told)

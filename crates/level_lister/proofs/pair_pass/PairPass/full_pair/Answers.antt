@@ -8,7 +8,7 @@ use Rattle.level_lister.proofs.PairNodes.{Told, told_wider}
 use Rattle.level_lister.proofs.pair_pass.PairPass.full_pair.Goals as goal
 
 pub loop-child-init : goal.loop-child-init
-loop-child-init c words groups told = tells_none words c.args.self.now.levels.now.costs c.args.self.now.levels.now.top (group_count c.args.self.now.levels.now.top) (group_in words (length c.args.self.now.levels.now.costs) groups) _ _ (λ a f e. false≢true e) (λ a b h. refl)
+loop-child-init c evidence groups told = tells_none evidence c.args.self.now.levels.now.costs c.args.self.now.levels.now.top (group_count c.args.self.now.levels.now.top) (group_in evidence (length c.args.self.now.levels.now.costs) groups) _ _ (λ a f e. false≢true e) (λ a b h. refl)
 
 pub pair_at-requires : goal.pair_at-requires
 pair_at-requires c =
@@ -16,7 +16,7 @@ pair_at-requires c =
     omega (arith, c.requires.room, c.requires.at, child-below c.args.self.now.graph.now c.args.at kids c.vars-vars.ensures.valid c.requires.at c.kids-child-items.ensures c.loop-child.child-index c.loop-child-test.true)
 
 pub loop-child-preserved : goal.loop-child-preserved
-loop-child-preserved c words groups told =
+loop-child-preserved c evidence groups told =
     let graph = c.args.self.now.graph.now in
     let at = c.args.at in
     let kids = c.kids-child-items.result.now in
@@ -26,12 +26,12 @@ loop-child-preserved c words groups told =
     let ok = c.vars-vars.ensures.valid in
     let lt = c.loop-child-test.true in
     let below = child-below graph at kids ok c.requires.at c.kids-child-items.ensures j lt in
-    let child = subst (TellsNode graph c.args.self.now.skips.now words costs top groups (get_or kids j 0)) (sym c.pair_at.ensures) (told (get_or kids j 0) below) in
-    or_next graph at kids ok c.requires.at c.kids-child-items.ensures c.args.self.now.skips.now c.requires.lives (Told words costs top groups c.either-pair.result) j lt
-    (c.either-pair.ensures words costs top (group_count top) (group_in words (length costs) groups) _ _ _ (c.loop-child.invariant words groups told)
-    (told_wider words costs top groups c.pair_at.result _ _ _ (child_full graph at kids ok c.requires.at c.kids-child-items.ensures (length costs) j c.requires.what lt c.requires.same) child))
+    let child = subst (TellsNode graph c.args.self.now.skips.now evidence costs top groups (get_or kids j 0)) (sym c.pair_at.ensures) (told (get_or kids j 0) below) in
+    or_next graph at kids ok c.requires.at c.kids-child-items.ensures c.args.self.now.skips.now c.requires.lives (Told evidence costs top groups c.either-pair.result) j lt
+    (c.either-pair.ensures evidence costs top (group_count top) (group_in evidence (length costs) groups) _ _ _ (c.loop-child.invariant evidence groups told)
+    (told_wider evidence costs top groups c.pair_at.result _ _ _ (child_full graph at kids ok c.requires.at c.kids-child-items.ensures (length costs) j c.requires.what lt c.requires.same) child))
 
 pub returns : goal.returns
-returns c words groups told =
-    or_end c.args.self.now.graph.now c.args.at c.kids-child-items.result.now c.vars-vars.ensures.valid c.requires.at c.kids-child-items.ensures c.args.self.now.skips.now c.requires.lives (Told words c.args.self.now.levels.now.costs c.args.self.now.levels.now.top groups c.loop-child.pair) c.loop-child.child-index c.requires.what (omega arith)
-    (c.loop-child.invariant words groups told)
+returns c evidence groups told =
+    or_end c.args.self.now.graph.now c.args.at c.kids-child-items.result.now c.vars-vars.ensures.valid c.requires.at c.kids-child-items.ensures c.args.self.now.skips.now c.requires.lives (Told evidence c.args.self.now.levels.now.costs c.args.self.now.levels.now.top groups c.loop-child.pair) c.loop-child.child-index c.requires.what (omega arith)
+    (c.loop-child.invariant evidence groups told)

@@ -8,7 +8,7 @@ use Rattle.level_lister.proofs.pair_pass.PairPass.full_pair.Given as goal
 
 -- the words are those of an Or of the children before the place, over the variables below all of them
 abbrev pub invariant-loop-child : goal.invariant-loop-child
-invariant-loop-child l = (words : List ℕ) (groups : Groups) → TellNodes l.self.graph.now l.self.skips.now words l.self.levels.now.costs l.self.levels.now.top groups l.values l.at
-    → Tells words l.self.levels.now.costs l.self.levels.now.top (group_count l.self.levels.now.top) (group_in words (length l.self.levels.now.costs) groups)
+invariant-loop-child l = (evidence : List ℕ) (groups : Groups) → TellNodes l.self.graph.now l.self.skips.now evidence l.self.levels.now.costs l.self.levels.now.top groups l.values l.at
+    → Tells evidence l.self.levels.now.costs l.self.levels.now.top (group_count l.self.levels.now.top) (group_in evidence (length l.self.levels.now.costs) groups)
     (λ a. list_any (λ b. b) (map (λ k. is_true (living l.self.graph.now.nodes l.self.skips.now) k a) (take l.child-index l.child-items)))
     (λ v. mentions l.self.graph.now.nodes v l.at) l.pair

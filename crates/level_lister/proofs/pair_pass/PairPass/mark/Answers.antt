@@ -16,4 +16,4 @@ returns c n g le lt =
     let room : group_count top * (top + 1) ≤ 32 = subst (λ m. m * (top + 1) ≤ 32) same c.group_count-count.ensures.room in
     c.one.ensures (group_count top * n + g) (omega (arith, below, room, lt))
     ∙ ap (λ m. (group_count top * n + g) == (m * c.args.cost + (c.args.part - groups.low) / groups.size)) same
-    ∙ mark_is c.args.self.now.words.now (length c.args.self.now.levels.now.costs) groups (group_count top) n g c.args.cost c.args.part ((c.args.part - groups.low) / groups.size) lt (omega (arith, c.if-group-count.false, same)) c.requires.part c.if-part-self.false (eqb-true _ 0 (sym c.is_open.ensures ∙ c.if-not-is_open.false)) refl
+    ∙ mark_is c.args.self.now.evidence.now (length c.args.self.now.levels.now.costs) groups (group_count top) n g c.args.cost c.args.part ((c.args.part - groups.low) / groups.size) lt (omega (arith, c.if-group-count.false, same)) c.requires.part c.if-part-self.false (eqb-true _ 0 (sym c.is_open.ensures ∙ c.if-not-is_open.false)) refl

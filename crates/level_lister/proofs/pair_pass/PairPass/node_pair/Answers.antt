@@ -10,17 +10,17 @@ literal_pair-requires c =
     record { var = (fits.0, omega (arith, fits.1, c.args.self.now.long)) }
 
 pub returns-in-Literal : goal.returns-in-Literal
-returns-in-Literal c = literal_at c.args.self.now.graph.now c.args.at _ c.vars-vars.ensures.valid c.requires.at refl c.args.self.now.skips.now c.if-self-at-ne0.false (Told c.args.self.now.words.now c.args.self.now.levels.now.costs c.args.self.now.levels.now.top c.args.self.now.groups c.literal_pair.result) c.in-Literal.var c.in-Literal.positive
+returns-in-Literal c = literal_at c.args.self.now.graph.now c.args.at _ c.vars-vars.ensures.valid c.requires.at refl c.args.self.now.skips.now c.if-self-at-ne0.false (Told c.args.self.now.evidence.now c.args.self.now.levels.now.costs c.args.self.now.levels.now.top c.args.self.now.groups c.literal_pair.result) c.in-Literal.var c.in-Literal.positive
     c.in-Literal.ensures c.literal_pair.ensures
 
 pub returns-in-And : goal.returns-in-And
-returns-in-And c = c.and_pair.ensures c.args.self.now.words.now c.args.self.now.groups c.requires.earlier
+returns-in-And c = c.and_pair.ensures c.args.self.now.evidence.now c.args.self.now.groups c.requires.earlier
 
 pub full_pair-requires-clause-same : goal.full_pair-requires-clause-same
 full_pair-requires-clause-same c = (c.args.self.now.for_graph.lacking.nodes c.args.at c.requires.at).0 (sym (ap (λ xs. get_or xs c.args.at 0) c.lacking.ensures) ∙ c.if-lacking-at-eq0.true) (sym c.in-Or.ensures)
 
 pub returns-then-lacking-at-eq0 : goal.returns-then-lacking-at-eq0
-returns-then-lacking-at-eq0 c = c.full_pair.ensures c.args.self.now.words.now c.args.self.now.groups c.requires.earlier
+returns-then-lacking-at-eq0 c = c.full_pair.ensures c.args.self.now.evidence.now c.args.self.now.groups c.requires.earlier
 
 pub returns-then-self-at-ne0 : goal.returns-then-self-at-ne0
-returns-then-self-at-ne0 c = skipped_told c.args.self.now.graph.now c.args.self.now.skips.now c.args.self.now.words.now c.args.self.now.levels.now.costs c.args.self.now.levels.now.top c.args.self.now.groups c.args.at c.vars-vars.ensures.valid c.requires.at c.if-self-at-ne0.true
+returns-then-self-at-ne0 c = skipped_told c.args.self.now.graph.now c.args.self.now.skips.now c.args.self.now.evidence.now c.args.self.now.levels.now.costs c.args.self.now.levels.now.top c.args.self.now.groups c.args.at c.vars-vars.ensures.valid c.requires.at c.if-self-at-ne0.true

@@ -12,7 +12,7 @@ use Rattle.level_lister.proofs.PairNodes.{Told}
 use Rattle.level_lister.proofs.pair_pass.PairPass.or_pair.Goals as goal
 
 pub loop-child-init : goal.loop-child-init
-loop-child-init c = tells_none c.args.self.now.words.now c.args.self.now.levels.now.costs c.args.self.now.levels.now.top (group_count c.args.self.now.levels.now.top) (group_in c.args.self.now.words.now (length c.args.self.now.levels.now.costs) c.args.self.now.groups) _ _ (λ a f e. false≢true e) (λ a b h. refl)
+loop-child-init c = tells_none c.args.self.now.evidence.now c.args.self.now.levels.now.costs c.args.self.now.levels.now.top (group_count c.args.self.now.levels.now.top) (group_in c.args.self.now.evidence.now (length c.args.self.now.levels.now.costs) c.args.self.now.groups) _ _ (λ a f e. false≢true e) (λ a b h. refl)
 
 pub pair_at-own-requires : goal.pair_at-own-requires
 pair_at-own-requires c =
@@ -39,7 +39,7 @@ pub loop-child-preserved : goal.loop-child-preserved
 loop-child-preserved c =
     let graph = c.args.self.now.graph.now in
     let at = c.args.at in
-    let words = c.args.self.now.words.now in
+    let evidence = c.args.self.now.evidence.now in
     let groups = c.args.self.now.groups in
     let kids = c.kids-child-items.result.now in
     let costs = c.args.self.now.levels.now.costs in
@@ -49,14 +49,14 @@ loop-child-preserved c =
     let lt = c.loop-child-test.true in
     let below = child-below graph at kids ok c.requires.at c.kids-child-items.ensures j lt in
     let inside : get_or kids j 0 < length graph.nodes = omega (arith, below, c.requires.at) in
-    let child = subst (TellsNode graph c.args.self.now.skips.now words costs top groups (get_or kids j 0)) (sym c.pair_at-own.ensures) (c.requires.earlier (get_or kids j 0) below) in
-    or_next graph at kids ok c.requires.at c.kids-child-items.ensures c.args.self.now.skips.now c.requires.lives (Told words costs top groups c.either-pair.result) j lt
-    (c.either-pair.ensures words costs top (group_count top) (group_in words (length costs) groups) _ _ _ c.loop-child.invariant
+    let child = subst (TellsNode graph c.args.self.now.skips.now evidence costs top groups (get_or kids j 0)) (sym c.pair_at-own.ensures) (c.requires.earlier (get_or kids j 0) below) in
+    or_next graph at kids ok c.requires.at c.kids-child-items.ensures c.args.self.now.skips.now c.requires.lives (Told evidence costs top groups c.either-pair.result) j lt
+    (c.either-pair.ensures evidence costs top (group_count top) (group_in evidence (length costs) groups) _ _ _ c.loop-child.invariant
     (c.widened.ensures (λ a. is_true (living graph.nodes c.args.self.now.skips.now) (get_or kids j 0) a) (λ v. mentions graph.nodes v (get_or kids j 0)) (λ v. mentions graph.nodes v at)
     (c.args.self.now.for_graph.below.nodes (get_or kids j 0) inside) (c.args.self.now.for_graph.below.nodes at c.requires.at)
     (child-mentions graph at kids ok c.requires.at c.kids-child-items.ensures j c.requires.what lt) child))
 
 pub returns : goal.returns
 returns c =
-    or_end c.args.self.now.graph.now c.args.at c.kids-child-items.result.now c.vars-vars.ensures.valid c.requires.at c.kids-child-items.ensures c.args.self.now.skips.now c.requires.lives (Told c.args.self.now.words.now c.args.self.now.levels.now.costs c.args.self.now.levels.now.top c.args.self.now.groups c.loop-child.pair) c.loop-child.child-index c.requires.what (omega arith)
+    or_end c.args.self.now.graph.now c.args.at c.kids-child-items.result.now c.vars-vars.ensures.valid c.requires.at c.kids-child-items.ensures c.args.self.now.skips.now c.requires.lives (Told c.args.self.now.evidence.now c.args.self.now.levels.now.costs c.args.self.now.levels.now.top c.args.self.now.groups c.loop-child.pair) c.loop-child.child-index c.requires.what (omega arith)
     c.loop-child.invariant

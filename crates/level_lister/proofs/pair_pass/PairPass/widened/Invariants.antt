@@ -10,8 +10,8 @@ abbrev pub invariant-loop-part : goal.invariant-loop-part
 invariant-loop-part l = record {
   told : (test : Assignment → Bool) (some more : ℕ → Bool) → ArePartsOf (length l.self.levels.now.costs) some l.own → ArePartsOf (length l.self.levels.now.costs) more l.below
       → ((v : ℕ) → some v ≡ true → more v ≡ true)
-      → Tells l.self.words.now l.self.levels.now.costs l.self.levels.now.top (group_count l.self.levels.now.top) (group_in l.self.words.now (length l.self.levels.now.costs) l.self.groups) test some l.fn.pair
-      → Tells l.self.words.now l.self.levels.now.costs l.self.levels.now.top (group_count l.self.levels.now.top) (group_in l.self.words.now (length l.self.levels.now.costs) l.self.groups) test (grown some more l.part) l.pair;
+      → Tells l.self.evidence.now l.self.levels.now.costs l.self.levels.now.top (group_count l.self.levels.now.top) (group_in l.self.evidence.now (length l.self.levels.now.costs) l.self.groups) test some l.fn.pair
+      → Tells l.self.evidence.now l.self.levels.now.costs l.self.levels.now.top (group_count l.self.levels.now.top) (group_in l.self.evidence.now (length l.self.levels.now.costs) l.self.groups) test (grown some more l.part) l.pair;
   found : l.part < 32 * length l.below → is_missing l.below l.own l.part ≡ true;
 }
 

@@ -10,29 +10,29 @@ use Rattle.level_lister.proofs.search.Asked.faulty_group_by_sets.Goals as goal
 pub put_all-requires-clause-are : goal.put_all-requires-clause-are
 put_all-requires-clause-are c =
     let graph = c.args.self.now.graph.now in
-    sets_before (IsNodeSet graph c.args.self.now.skips.now c.args.self.now.words.now c.args.self.now.levels.now.costs) (cost_words c.args.self.now.levels.now.top) c.args.work.now c.split_at_mut-sets.result.0.now c.split_at_mut-sets.result.1.now (length graph.nodes)
+    sets_before (IsNodeSet graph c.args.self.now.skips.now c.args.self.now.evidence.now c.args.self.now.levels.now.costs) (cost_words c.args.self.now.levels.now.top) c.args.work.now c.split_at_mut-sets.result.0.now c.split_at_mut-sets.result.1.now (length graph.nodes)
     c.split_at_mut-sets.ensures.value (c.split_at_mut-sets.ensures.front_len ∙ (λ i. c.len.ensures.len i * c.size-size.ensures i)) c.requires.sets
 
 pub returns-then-has_number-clause-found : goal.returns-then-has_number-clause-found
 returns-then-has_number-clause-found c lt =
-    first_sound c.args.self.now.graph.now c.args.self.now.words.now c.args.self.now.levels.now.costs c.args.groups c.len.ensures.valid c.args.self.now.long c.args.self.now.for_graph.parts c.args.self.now.skips.now c.args.self.now.levels.now.top c.args.self.now.enough c.put_all.new.whole c.put_all.ensures c.args.cost
+    first_sound c.args.self.now.graph.now c.args.self.now.evidence.now c.args.self.now.levels.now.costs c.args.groups c.len.ensures.valid c.args.self.now.long c.args.self.now.for_graph.parts c.args.self.now.skips.now c.args.self.now.levels.now.top c.args.self.now.enough c.put_all.new.whole c.put_all.ensures c.args.cost
     (sym c.has_number.ensures ∙ c.if-has_number.true)
 
 pub returns-else-has_number-clause-before : goal.returns-else-has_number-clause-before
 returns-else-has_number-clause-before c g lt f =
     let first : g ≡ 0 = omega arith in
-    false≢true (sym (sym c.has_number.ensures ∙ c.if-has_number.false) ∙ first_whole c.args.self.now.graph.now c.args.self.now.words.now c.args.self.now.levels.now.costs c.args.groups c.len.ensures.valid c.args.self.now.long c.args.self.now.for_graph.parts
+    false≢true (sym (sym c.has_number.ensures ∙ c.if-has_number.false) ∙ first_whole c.args.self.now.graph.now c.args.self.now.evidence.now c.args.self.now.levels.now.costs c.args.groups c.len.ensures.valid c.args.self.now.long c.args.self.now.for_graph.parts
     c.args.self.now.skips.now c.args.self.now.levels.now.top c.args.self.now.enough c.put_all.new.whole c.put_all.ensures c.args.cost c.requires.cost (omega (arith, c.split_at_mut-whole.ensures.front_len, c.size-size.ensures, c.requires.cost))
-    (subst (FaultOf c.args.self.now.graph.now c.args.self.now.words.now c.args.self.now.levels.now.costs c.args.cost c.args.groups) first f))
+    (subst (FaultOf c.args.self.now.graph.now c.args.self.now.evidence.now c.args.self.now.levels.now.costs c.args.cost c.args.groups) first f))
 
 pub returns-then-has_number-clause-sets : goal.returns-then-has_number-clause-sets
 returns-then-has_number-clause-sets c =
     let graph = c.args.self.now.graph.now in
-    sets_stay (IsNodeSet graph c.args.self.now.skips.now c.args.self.now.words.now c.args.self.now.levels.now.costs) (cost_words c.args.self.now.levels.now.top) c.args.work.now c.split_at_mut-sets.result.0.now c.split_at_mut-sets.result.1.now _ (length graph.nodes)
+    sets_stay (IsNodeSet graph c.args.self.now.skips.now c.args.self.now.evidence.now c.args.self.now.levels.now.costs) (cost_words c.args.self.now.levels.now.top) c.args.work.now c.split_at_mut-sets.result.0.now c.split_at_mut-sets.result.1.now _ (length graph.nodes)
     c.split_at_mut-sets.ensures.value (c.split_at_mut-sets.ensures.front_len ∙ (λ i. c.len.ensures.len i * c.size-size.ensures i)) c.requires.sets
 
 pub returns-else-has_number-clause-sets : goal.returns-else-has_number-clause-sets
 returns-else-has_number-clause-sets c =
     let graph = c.args.self.now.graph.now in
-    sets_stay (IsNodeSet graph c.args.self.now.skips.now c.args.self.now.words.now c.args.self.now.levels.now.costs) (cost_words c.args.self.now.levels.now.top) c.args.work.now c.split_at_mut-sets.result.0.now c.split_at_mut-sets.result.1.now _ (length graph.nodes)
+    sets_stay (IsNodeSet graph c.args.self.now.skips.now c.args.self.now.evidence.now c.args.self.now.levels.now.costs) (cost_words c.args.self.now.levels.now.top) c.args.work.now c.split_at_mut-sets.result.0.now c.split_at_mut-sets.result.1.now _ (length graph.nodes)
     c.split_at_mut-sets.ensures.value (c.split_at_mut-sets.ensures.front_len ∙ (λ i. c.len.ensures.len i * c.size-size.ensures i)) c.requires.sets

@@ -8,7 +8,7 @@ loop-span-init g c =
     let costs = c.args.self.now.levels.now.costs in
     let all : length c.costs-parts.result.now ≡ length costs = ap length c.costs-parts.ensures in
     record {
-      range = subst (λ (n : ℕ). IsRange c.args.self.now.graph.now c.args.self.now.words.now costs c.args.cost c.args.from c.args.from (n - c.args.from + 1)) (sym all) (range_start c.args.self.now.graph.now c.args.self.now.words.now costs c.args.cost c.args.from c.requires.from);
+      range = subst (λ (n : ℕ). IsRange c.args.self.now.graph.now c.args.self.now.evidence.now costs c.args.cost c.args.from c.args.from (n - c.args.from + 1)) (sym all) (range_start c.args.self.now.graph.now c.args.self.now.evidence.now costs c.args.cost c.args.from c.requires.from);
       some = omega arith;
       small = omega (arith, all, c.requires.from);
       passes = λ k h. record { rest = k; fits = omega (arith, all, h); few = omega (arith, c.prepare.ensures.steps) };
@@ -25,7 +25,7 @@ loop-span-preserved g c =
     let same : c.told_groups-count.result ≡ told_groups top = c.told_groups-count.ensures.count in
     let le : group ≤ count = omega (arith, c.faulty_group-group.ensures.few, same) in
     record {
-      range = range_next c.args.self.now.graph.now c.args.self.now.words.now c.args.self.now.levels.now.costs c.args.cost c.args.from low span count group le c.loop-span.invariant.some
+      range = range_next c.args.self.now.graph.now c.args.self.now.evidence.now c.args.self.now.levels.now.costs c.args.cost c.args.from low span count group le c.loop-span.invariant.some
           (λ h. c.faulty_group-group.ensures.found (omega (arith, h, same))) c.faulty_group-group.ensures.before c.loop-span.invariant.range;
       some = size_some span count c.loop-span.invariant.some;
       small = omega (arith, range_small low span count group le c.told_groups-count.ensures.few c.told_groups-count.ensures.some c.loop-span-test.true, c.loop-span.invariant.small);

@@ -14,7 +14,7 @@ loop-cost-preserved g c = record {
       (λ (p : d < c.loop-cost.cost). c.loop-cost.invariant.none d low p has)
       (λ (p : c.loop-cost.cost ≤ d). let same : d ≡ c.loop-cost.cost = omega arith in
       absurd (false≢true (sym (sym c.has_number.ensures ∙ c.if-has_number.false)
-      ∙ (c.put_costs.ensures c.loop-cost.cost (omega (arith, c.loop-cost.invariant.end))).1 (subst (HasCost c.args.self.now.graph.now c.args.self.now.words.now c.args.self.now.levels.now.costs) same has))))
+      ∙ (c.put_costs.ensures c.loop-cost.cost (omega (arith, c.loop-cost.invariant.end))).1 (subst (HasCost c.args.self.now.graph.now c.args.self.now.evidence.now c.args.self.now.levels.now.costs) same has))))
       (cases_lt d c.loop-cost.cost);
   end = c.loop-cost.invariant.end;
 }

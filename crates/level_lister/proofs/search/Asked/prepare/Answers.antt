@@ -11,5 +11,5 @@ returns-clause-ready g c high =
     let n = length graph.nodes in
     let size : length c.split_at_mut-spare.result.0.now ≡ cost_words c.args.self.now.levels.now.top = omega (arith, c.split_at_mut-spare.ensures.front_len, c.size-size.ensures) in
     let long : length c.put_sets.new.sets ≡ n * cost_words c.args.self.now.levels.now.top = c.put_sets.auto.sets ∙ c.split_at_mut-sets.ensures.front_len ∙ (λ i. c.len.ensures.len i * c.size-size.ensures i) in
-    sets_front (IsNodeSet graph c.args.self.now.skips.now c.args.self.now.words.now costs) (cost_words c.args.self.now.levels.now.top) c.put_sets.new.sets _ n long
-    (subst (λ m. AreNodeSets graph c.args.self.now.skips.now c.args.self.now.words.now costs m c.put_sets.new.sets n) size c.put_sets.ensures)
+    sets_front (IsNodeSet graph c.args.self.now.skips.now c.args.self.now.evidence.now costs) (cost_words c.args.self.now.levels.now.top) c.put_sets.new.sets _ n long
+    (subst (λ m. AreNodeSets graph c.args.self.now.skips.now c.args.self.now.evidence.now costs m c.put_sets.new.sets n) size c.put_sets.ensures)

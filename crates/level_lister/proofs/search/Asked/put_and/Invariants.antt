@@ -8,6 +8,6 @@ use Rattle.level_lister.proofs.search.Asked.put_and.Given as goal
 
 -- the set is that of an And of the children before the place
 abbrev pub invariant-loop-child : goal.invariant-loop-child
-invariant-loop-child l = (words costs : List ℕ) → AreNodeSets l.self.graph.now l.self.skips.now words costs (length l.set) l.sets l.at
-    → IsCostSet words costs (λ a. list_all (λ b. b) (map (λ k. is_true (living l.self.graph.now.nodes l.self.skips.now) k a) (take l.child-index l.child-items)))
+invariant-loop-child l = (evidence costs : List ℕ) → AreNodeSets l.self.graph.now l.self.skips.now evidence costs (length l.set) l.sets l.at
+    → IsCostSet evidence costs (λ a. list_all (λ b. b) (map (λ k. is_true (living l.self.graph.now.nodes l.self.skips.now) k a) (take l.child-index l.child-items)))
     (λ v. list_any (λ b. b) (map (mentions l.self.graph.now.nodes v) (take l.child-index l.child-items))) l.set

@@ -12,7 +12,7 @@ use Rattle.level_lister.proofs.ConditionCosts.{or_is}
 use Rattle.level_lister.proofs.search.Asked.put_or.Goals as goal
 
 pub loop-child-init : goal.loop-child-init
-loop-child-init c = empty_is c.args.self.now.words.now c.args.self.now.levels.now.costs _ c.clear.new.set c.clear.ensures
+loop-child-init c = empty_is c.args.self.now.evidence.now c.args.self.now.levels.now.costs _ c.clear.new.set c.clear.ensures
 
 pub set_at-requires : goal.set_at-requires
 set_at-requires c =
@@ -35,7 +35,7 @@ pub loop-child-preserved : goal.loop-child-preserved
 loop-child-preserved c =
     let graph = c.args.self.now.graph.now in
     let kept = c.args.self.now.levels.now in
-    let words = c.args.self.now.words.now in
+    let evidence = c.args.self.now.evidence.now in
     let kids = c.kids-child-items.result.now in
     let j = c.loop-child.child-index in
     let child = get_or kids j 0 in
@@ -49,15 +49,15 @@ loop-child-preserved c =
     subst (ArePartsOf parts (λ v. mentions graph.nodes v c.args.at)) (sym (c.set_at-own.ensures.set ∙ (λ i. set_at (c.below-below.ensures i) c.args.at (size i)))) (c.args.self.now.for_graph.below.nodes c.args.at c.requires.at) in
     let on_inner : ArePartsOf parts (λ v. mentions graph.nodes v child) c.set_at-in-loop-child.result.now =
     subst (ArePartsOf parts (λ v. mentions graph.nodes v child)) (sym (c.set_at-in-loop-child.ensures.set ∙ (λ i. set_at (c.below-below.ensures i) child (size i)))) (c.args.self.now.for_graph.below.nodes child inside) in
-    let is = subst (λ (cs : List ℕ). IsCostSet words cs (λ a. is_true (living graph.nodes c.args.self.now.skips.now) child a) (λ v. mentions graph.nodes v child) (set_at c.args.sets.now child (length c.args.set.now))) (sym c.costs-costs.ensures) (c.requires.earlier child below) in
-    let own = subst (IsCostSet words c.costs-costs.result.now (λ a. is_true (living graph.nodes c.args.self.now.skips.now) child a) (λ v. mentions graph.nodes v child)) (sym (c.copy_from_slice.ensures.after ∙ c.set_at.ensures.set)) is in
-    or_next graph c.args.at kids ok c.requires.at c.kids-child-items.ensures c.args.self.now.skips.now c.requires.lives (λ t m. IsCostSet words kept.costs t m c.add_shifted.new.set) j c.loop-child-test.true
-    (or_is words kept.costs _ _ _ c.loop-child.set c.widen.new.set c.add_shifted.new.set (omega arith) (omega arith) (λ n h. c.add_shifted.ensures n (omega arith)) c.loop-child.invariant
-    (subst (λ (cs : List ℕ). IsCostSet words cs (λ a. is_true (living graph.nodes c.args.self.now.skips.now) child a) (λ v. mentions graph.nodes v c.args.at) c.widen.new.set) c.costs-costs.ensures
+    let is = subst (λ (cs : List ℕ). IsCostSet evidence cs (λ a. is_true (living graph.nodes c.args.self.now.skips.now) child a) (λ v. mentions graph.nodes v child) (set_at c.args.sets.now child (length c.args.set.now))) (sym c.costs-costs.ensures) (c.requires.earlier child below) in
+    let own = subst (IsCostSet evidence c.costs-costs.result.now (λ a. is_true (living graph.nodes c.args.self.now.skips.now) child a) (λ v. mentions graph.nodes v child)) (sym (c.copy_from_slice.ensures.after ∙ c.set_at.ensures.set)) is in
+    or_next graph c.args.at kids ok c.requires.at c.kids-child-items.ensures c.args.self.now.skips.now c.requires.lives (λ t m. IsCostSet evidence kept.costs t m c.add_shifted.new.set) j c.loop-child-test.true
+    (or_is evidence kept.costs _ _ _ c.loop-child.set c.widen.new.set c.add_shifted.new.set (omega arith) (omega arith) (λ n h. c.add_shifted.ensures n (omega arith)) c.loop-child.invariant
+    (subst (λ (cs : List ℕ). IsCostSet evidence cs (λ a. is_true (living graph.nodes c.args.self.now.skips.now) child a) (λ v. mentions graph.nodes v c.args.at) c.widen.new.set) c.costs-costs.ensures
     (c.widen.ensures (λ a. is_true (living graph.nodes c.args.self.now.skips.now) child a) (λ v. mentions graph.nodes v child) (λ v. mentions graph.nodes v c.args.at)
     (subst (λ n. ArePartsOf n (λ v. mentions graph.nodes v child) c.set_at-in-loop-child.result.now) many on_inner)
     (subst (λ n. ArePartsOf n (λ v. mentions graph.nodes v c.args.at) c.set_at-own.result.now) many on_outer)
     (child-mentions graph c.args.at kids ok c.requires.at c.kids-child-items.ensures j c.requires.what c.loop-child-test.true) own)))
 
 pub returns : goal.returns
-returns c = or_end c.args.self.now.graph.now c.args.at c.kids-child-items.result.now c.vars-vars.ensures.valid c.requires.at c.kids-child-items.ensures c.args.self.now.skips.now c.requires.lives (λ t m. IsCostSet c.args.self.now.words.now c.args.self.now.levels.now.costs t m c.loop-child.set) c.loop-child.child-index c.requires.what (omega arith) c.loop-child.invariant
+returns c = or_end c.args.self.now.graph.now c.args.at c.kids-child-items.result.now c.vars-vars.ensures.valid c.requires.at c.kids-child-items.ensures c.args.self.now.skips.now c.requires.lives (λ t m. IsCostSet c.args.self.now.evidence.now c.args.self.now.levels.now.costs t m c.loop-child.set) c.loop-child.child-index c.requires.what (omega arith) c.loop-child.invariant

@@ -1,7 +1,7 @@
 use Rattle.std.specs.Prelude.{MatchOption}
 use Rattle.std.proofs.Common.{◌≡◌, ◌+◌, ℕ, Option, Some, None, true, List, length, refl, sym, ◌∙◌, ap, subst, arith}
 use Rattle.state_rules.specs.Ranking.{cost, is_before}
-use Rattle.conditioner.specs.Words.{bits_of}
+use Rattle.conditioner.specs.Evidence.{bits_of}
 use Rattle.diagnosis_lister.specs.inner.Fixing.{IsFirst, NoneAfter, fixed_bits}
 use Rattle.diagnosis_lister.proofs.OpenMarks.{length-bits}
 use Rattle.level_lister.specs.inner.Searching.{OfCost, FindsFirst, IsListed}
@@ -17,23 +17,23 @@ returns-then-own-top-clause-found g c =
     let costs = c.args.self.now.levels.now.costs in
     let point = bits_of c.args.state.now in
     let own_is : c.state_cost-own.result ≡ cost costs point = c.state_cost-own.ensures ∙ ap (λ cs. cost cs point) c.costs.ensures in
-    (refl, λ h l. none-too_dear c.args.self.now.graph.now c.args.words.now costs c.args.self.now.levels.now.top point h (omega (arith, own_is, c.if-own-top.true, c.top-top.ensures)) l)
+    (refl, λ h l. none-too_dear c.args.self.now.graph.now c.args.evidence.now costs c.args.self.now.levels.now.top point h (omega (arith, own_is, c.if-own-top.true, c.top-top.ensures)) l)
 
 pub returns-in-Some-clause-found : goal.returns-in-Some-clause-found
 returns-in-Some-clause-found g c =
     let graph = c.args.self.now.graph.now in
     let costs = c.args.self.now.levels.now.costs in
-    let words = c.args.words.now in
+    let evidence = c.args.evidence.now in
     let point = bits_of c.args.state.now in
     let own = c.state_cost-own.result in
     let leaves = c.in-Some.ensures.left in
-    let h = fixed_bits (length costs) c.settle.new.words in
+    let h = fixed_bits (length costs) c.settle.new.evidence in
     let own_is : c.state_cost-own.result ≡ cost costs point = c.state_cost-own.ensures ∙ ap (λ cs. cost cs point) c.costs.ensures in
-    let first : IsFirst (λ k. OfCost graph words costs (cost costs point) k × (is_before point k ≡ true)) h =
-    subst (λ (n : ℕ). IsFirst (λ k. OfCost graph words costs n k × (is_before point k ≡ true)) h) own_is
-    (leaves-first (allows-cost graph costs own c.args.self.now.for_graph.parts) words point c.requires.long (length-bits c.args.state.now ∙ c.requires.state) c.leave.auto.words leaves h c.settle.ensures.first) in record {
+    let first : IsFirst (λ k. OfCost graph evidence costs (cost costs point) k × (is_before point k ≡ true)) h =
+    subst (λ (n : ℕ). IsFirst (λ k. OfCost graph evidence costs n k × (is_before point k ≡ true)) h) own_is
+    (leaves-first (allows-cost graph costs own c.args.self.now.for_graph.parts) evidence point c.requires.long (length-bits c.args.state.now ∙ c.requires.state) c.leave.auto.evidence leaves h c.settle.ensures.first) in record {
       others = λ k g. c.settle.ensures.others k g ∙ leaves.follows.behind k (omega (arith, leaves.within, length-bits c.args.state.now, c.requires.state));
-      first = first-same graph words costs c.args.self.now.levels.now.top point h (omega (arith, own_is, c.if-own-top.false, c.top-top.ensures)) first;
+      first = first-same graph evidence costs c.args.self.now.levels.now.top point h (omega (arith, own_is, c.if-own-top.false, c.top-top.ensures)) first;
       cost_is = c.settle.ensures.first.meets.cost_is;
     }
 
@@ -42,16 +42,16 @@ returns-in-None-clause-found g c =
     let graph = c.args.self.now.graph.now in
     let kept = c.args.self.now.levels.now in
     let costs = kept.costs in
-    let words = c.args.words.now in
+    let evidence = c.args.evidence.now in
     let point = bits_of c.args.state.now in
     let own_is : c.state_cost-own.result ≡ cost costs point = c.state_cost-own.ensures ∙ ap (λ cs. cost cs point) c.costs.ensures in
     let left = c.in-None.ensures.left in
-    let none : NoneAfter (OfCost graph words costs (cost costs point)) point 0 = subst (λ n. NoneAfter (OfCost graph words costs n) point 0) own_is left.1 in
-    let found : FindsFirst graph words kept (cost costs point + 1) c.find_from.new.words c.find_from.result =
-    subst (λ n. FindsFirst graph words kept (n + 1) c.find_from.new.words c.find_from.result) own_is
-    (subst (λ ws. FindsFirst graph ws kept (c.state_cost-own.result + 1) c.find_from.new.words c.find_from.result) left.0 c.find_from.ensures.found) in
-    finds-alike words costs (IsListed graph words costs (cost costs point + 1) kept.top) (Later graph words costs kept.top point) c.find_from.new.words c.find_from.result
-    (dearer-later graph words costs kept.top point) (later-dearer graph words costs kept.top point none) found
+    let none : NoneAfter (OfCost graph evidence costs (cost costs point)) point 0 = subst (λ n. NoneAfter (OfCost graph evidence costs n) point 0) own_is left.1 in
+    let found : FindsFirst graph evidence kept (cost costs point + 1) c.find_from.new.evidence c.find_from.result =
+    subst (λ n. FindsFirst graph evidence kept (n + 1) c.find_from.new.evidence c.find_from.result) own_is
+    (subst (λ ws. FindsFirst graph ws kept (c.state_cost-own.result + 1) c.find_from.new.evidence c.find_from.result) left.0 c.find_from.ensures.found) in
+    finds-alike evidence costs (IsListed graph evidence costs (cost costs point + 1) kept.top) (Later graph evidence costs kept.top point) c.find_from.new.evidence c.find_from.result
+    (dearer-later graph evidence costs kept.top point) (later-dearer graph evidence costs kept.top point none) found
 
 more : (o : Option ℕ) (P Q : Type 0) (R S : ℕ → Type 0) → (P → Q) → ((n : ℕ) → R n → S n) → MatchOption o P R → MatchOption o Q S
 more None P Q R S to over m = to m
@@ -67,7 +67,7 @@ pub returns-in-None-clause-steps : goal.returns-in-None-clause-steps
 returns-in-None-clause-steps g c = more c.find_from.result _ _ _ _ (λ s. omega (arith, c.in-None.ensures.steps, s)) (λ n s wide search h. omega (arith, c.in-None.ensures.steps, s (omega (arith, wide)) search h)) c.find_from.ensures.steps
 
 pub settle-requires-clause-enough : goal.settle-requires-clause-enough
-settle-requires-clause-enough g c = enough_more c.args.self.now.graph.now c.args.self.now.skips.now c.args.self.now.levels.now.costs c.args.self.now.levels.now.top c.args.words.now c.leave.new.words c.in-Some.ensures.left.follows.kept c.requires.enough
+settle-requires-clause-enough g c = enough_more c.args.self.now.graph.now c.args.self.now.skips.now c.args.self.now.levels.now.costs c.args.self.now.levels.now.top c.args.evidence.now c.leave.new.evidence c.in-Some.ensures.left.follows.kept c.requires.enough
 
 pub find_from-requires-clause-enough : goal.find_from-requires-clause-enough
 find_from-requires-clause-enough g c = subst (λ (ws : List ℕ). IsEnough c.args.self.now.graph.now c.args.self.now.skips.now ws c.args.self.now.levels.now.costs c.args.self.now.levels.now.top) (sym c.in-None.ensures.left.0) c.requires.enough

@@ -6,7 +6,7 @@ use Rattle.std.proofs.lemmas.Grind.{same_number_lists}
 use Rattle.std.proofs.lemmas.List.{set-set}
 use Rattle.std.proofs.lemmas.List.Elements.{All-set}
 use Rattle.state_rules.specs.Bits.{bit_in}
-use Rattle.conditioner.specs.Words.{bits_of}
+use Rattle.conditioner.specs.Evidence.{bits_of}
 use Rattle.conditioner.proofs.StateBits.{is_ok, is_faulty, faulty_word, ok_word}
 use Rattle.diagnosis_lister.specs.Listing.{fault_count}
 use Rattle.diagnosis_lister.specs.inner.Fixing.{Follows}
@@ -21,45 +21,45 @@ use Rattle.level_lister.proofs.search.Search.leave.Goals.{then-is_faulty+then-no
 
 pub loop-part-init : goal.loop-part-init
 loop-part-init g c = record {
-  small = c.follow-end.ensures.words;
-  back = follows-start (allows-cost c.args.self.now.graph.now c.args.self.now.levels.now.costs c.args.cost c.args.self.now.for_graph.parts) c.args.words.now (bits_of c.args.state.now) c.requires.long
+  small = c.follow-end.ensures.evidence;
+  back = follows-start (allows-cost c.args.self.now.graph.now c.args.self.now.levels.now.costs c.args.cost c.args.self.now.for_graph.parts) c.args.evidence.now (bits_of c.args.state.now) c.requires.long
       (length-bits c.args.state.now ∙ c.requires.state) (rw (length-bits c.args.state.now) c.follow-end.ensures.follows);
   steps = omega arith;
   within = c.follow-end.ensures.within;
 }
 
 pub invariant_of-asked-clause-long : goal.invariant_of-asked-clause-long
-invariant_of-asked-clause-long g c = length-set c.loop-part.words (c.loop-part.part - 1) 1 ∙ c.loop-part.auto.words ∙ c.follow-end.auto.words ∙ c.requires.long
+invariant_of-asked-clause-long g c = length-set c.loop-part.evidence (c.loop-part.part - 1) 1 ∙ c.loop-part.auto.evidence ∙ c.follow-end.auto.evidence ∙ c.requires.long
 
 pub invariant_of-asked-clause-small : goal.invariant_of-asked-clause-small
-invariant_of-asked-clause-small g c = All-set (λ w. w < 3) c.loop-part.words (c.loop-part.part - 1) 1 (omega arith) c.loop-part.invariant.small
+invariant_of-asked-clause-small g c = All-set (λ w. w < 3) c.loop-part.evidence (c.loop-part.part - 1) 1 (omega arith) c.loop-part.invariant.small
 
 pub returns-then-reaches-clause-words : goal.returns-then-reaches-clause-words
-returns-then-reaches-clause-words g c = All-set (λ w. w < 3) c.loop-part.words (c.loop-part.part - 1) 1 (omega arith) c.loop-part.invariant.small
+returns-then-reaches-clause-words g c = All-set (λ w. w < 3) c.loop-part.evidence (c.loop-part.part - 1) 1 (omega arith) c.loop-part.invariant.small
 
 pub returns-then-reaches-clause-left : goal.returns-then-reaches-clause-left
 returns-then-reaches-clause-left g c =
     let graph = c.args.self.now.graph.now in
     let costs = c.args.self.now.levels.now.costs in
-    let old = c.args.words.now in
+    let old = c.args.evidence.now in
     let state = c.args.state.now in
-    let words = c.loop-part.words in
+    let evidence = c.loop-part.evidence in
     let j : ℕ = c.loop-part.part - 1 in
     let next : c.loop-part.part ≡ j + 1 = omega arith in
     let lt : j < length state = omega (arith, c.loop-part.invariant.within) in
     let within : j < length costs = omega (arith, c.requires.state) in
-    let back : Follows (OfCost graph old costs c.args.cost) old (bits_of state) words (j + 1) = subst (λ (n : ℕ). Follows (OfCost graph old costs c.args.cost) old (bits_of state) words n) next c.loop-part.invariant.back in
-    leaves-tried (allows-cost graph costs c.args.cost c.args.self.now.for_graph.parts) old (bits_of state) c.requires.long (length-bits state ∙ c.requires.state) within (c.loop-part.auto.words ∙ c.follow-end.auto.words) back
-    (c.requires.words j 0 (omega (arith, c.requires.long, c.args.self.now.for_graph.parts))) (λ e. eqb-false _ 2 (sym c.is_false.ensures ∙ c.if-not-is_false.true) (c.requires.same j within ∙ e))
+    let back : Follows (OfCost graph old costs c.args.cost) old (bits_of state) evidence (j + 1) = subst (λ (n : ℕ). Follows (OfCost graph old costs c.args.cost) old (bits_of state) evidence n) next c.loop-part.invariant.back in
+    leaves-tried (allows-cost graph costs c.args.cost c.args.self.now.for_graph.parts) old (bits_of state) c.requires.long (length-bits state ∙ c.requires.state) within (c.loop-part.auto.evidence ∙ c.follow-end.auto.evidence) back
+    (c.requires.evidence j 0 (omega (arith, c.requires.long, c.args.self.now.for_graph.parts))) (λ e. eqb-false _ 2 (sym c.is_false.ensures ∙ c.if-not-is_false.true) (c.requires.same j within ∙ e))
     (is_faulty state j lt (faulty_word (get_or state j 0) c.is_faulty.result c.is_faulty.ensures c.if-is_faulty.true)) (c.reaches.ensures.reached.0 c.if-reaches.true)
 
 pub loop-part-preserved : goal.loop-part-preserved
 loop-part-preserved g c =
     let graph = c.args.self.now.graph.now in
     let costs = c.args.self.now.levels.now.costs in
-    let old = c.args.words.now in
+    let old = c.args.evidence.now in
     let state = c.args.state.now in
-    let words = c.loop-part.words in
+    let evidence = c.loop-part.evidence in
     let point = bits_of state in
     let allows = allows-cost graph costs c.args.cost c.args.self.now.for_graph.parts in
     let j : ℕ = c.loop-part.part - 1 in
@@ -67,17 +67,17 @@ loop-part-preserved g c =
     let next : c.loop-part.part ≡ j + 1 = omega arith in
     let lt : j < length state = omega (arith, c.loop-part.invariant.within) in
     let within : j < length costs = omega (arith, c.requires.state) in
-    let same : length words ≡ length old = c.loop-part.auto.words ∙ c.follow-end.auto.words in
-    let few : get_or old j 0 < 3 = c.requires.words j 0 (omega (arith, c.requires.long, c.args.self.now.for_graph.parts)) in
+    let same : length evidence ≡ length old = c.loop-part.auto.evidence ∙ c.follow-end.auto.evidence in
+    let few : get_or old j 0 < 3 = c.requires.evidence j 0 (omega (arith, c.requires.long, c.args.self.now.for_graph.parts)) in
     let bits : length point ≡ length costs = length-bits state ∙ c.requires.state in
     let word : own ≡ get_or old j 0 = c.requires.same j within in
-    let back : Follows (OfCost graph old costs c.args.cost) old point words (j + 1) = subst (λ (n : ℕ). Follows (OfCost graph old costs c.args.cost) old point words n) next c.loop-part.invariant.back in
+    let back : Follows (OfCost graph old costs c.args.cost) old point evidence (j + 1) = subst (λ (n : ℕ). Follows (OfCost graph old costs c.args.cost) old point evidence n) next c.loop-part.invariant.back in
     let at : j < length point = omega (arith, bits, within) in
     let steps : c.loop-part.steps ≤ c.args.steps.now + fault_count (drop (j + 1) point) = subst (λ (n : ℕ). c.loop-part.steps ≤ c.args.steps.now + fault_count (drop n point)) next c.loop-part.invariant.steps in
-    let small : All (λ w. w < 3) (set words j own) = All-set (λ w. w < 3) words j own (omega (arith, word, few)) c.loop-part.invariant.small in
+    let small : All (λ w. w < 3) (set evidence j own) = All-set (λ w. w < 3) evidence j own (omega (arith, word, few)) c.loop-part.invariant.small in
     elim c.if-is_faulty.branch [
       | then-is_faulty+then-not-is_false+else-reaches w ↦
-          let is : set c.if-is_faulty.words j own ≡ set words j own = ap (λ ws. set ws j own) w.words-is ∙ set-set words j 1 own in record {
+          let is : set c.if-is_faulty.evidence j own ≡ set evidence j own = ap (λ ws. set ws j own) w.evidence-is ∙ set-set evidence j 1 own in record {
             small = rw is small;
             back = rw is (follows-back allows old point c.requires.long bits within same back own word
                 (none-tried allows old point c.requires.long bits within same back few (λ e. eqb-false _ 2 (sym w.is_false.ensures ∙ w.if-not-is_false.true) (word ∙ e))
@@ -86,7 +86,7 @@ loop-part-preserved g c =
             within = omega (arith, c.loop-part.invariant.within);
           }
       | else-is_faulty w ↦
-          let is : set c.if-is_faulty.words j own ≡ set words j own = ap (λ ws. set ws j own) w.words-is in
+          let is : set c.if-is_faulty.evidence j own ≡ set evidence j own = ap (λ ws. set ws j own) w.evidence-is in
           let cases : (bit_in point j ≡ true) ⊎ (get_or old j 0 ≡ 2) = elim w.else-is_faulty.branch [
             | else-is_faulty-via-then-is_faulty+else-not-is_false v ↦ inr (sym word ∙ eqb-true _ 2 (sym v.is_false.ensures ∙ v.if-not-is_false.false))
             | else-is_faulty-via-else-is_faulty v ↦ inl (is_ok state j lt (ok_word (get_or state j 0) c.is_faulty.result c.is_faulty.ensures v.if-is_faulty.false))
@@ -101,8 +101,8 @@ loop-part-preserved g c =
 pub returns-clause-left : goal.returns-clause-left
 returns-clause-left g c =
     let all : c.loop-part.part ≡ 0 = omega arith in
-    let back : Follows (OfCost c.args.self.now.graph.now c.args.words.now c.args.self.now.levels.now.costs c.args.cost) c.args.words.now (bits_of c.args.state.now) c.loop-part.words 0 = rw all at c.loop-part.invariant.back in
-    (same_number_lists c.loop-part.words c.args.words.now (c.loop-part.auto.words ∙ c.follow-end.auto.words) (λ k h. back.behind k (omega arith)), back.none)
+    let back : Follows (OfCost c.args.self.now.graph.now c.args.evidence.now c.args.self.now.levels.now.costs c.args.cost) c.args.evidence.now (bits_of c.args.state.now) c.loop-part.evidence 0 = rw all at c.loop-part.invariant.back in
+    (same_number_lists c.loop-part.evidence c.args.evidence.now (c.loop-part.auto.evidence ∙ c.follow-end.auto.evidence) (λ k h. back.behind k (omega arith)), back.none)
 
 pub returns-then-reaches-clause-steps : goal.returns-then-reaches-clause-steps
 returns-then-reaches-clause-steps g c =
@@ -122,14 +122,14 @@ pub invariant_of-asked-clause-enough : goal.invariant_of-asked-clause-enough
 invariant_of-asked-clause-enough g c =
     let graph = c.args.self.now.graph.now in
     let costs = c.args.self.now.levels.now.costs in
-    let old = c.args.words.now in
+    let old = c.args.evidence.now in
     let state = c.args.state.now in
-    let words = c.loop-part.words in
+    let evidence = c.loop-part.evidence in
     let j : ℕ = c.loop-part.part - 1 in
     let next : c.loop-part.part ≡ j + 1 = omega arith in
     let within : j < length costs = omega (arith, c.loop-part.invariant.within, c.requires.state) in
-    let back : Follows (OfCost graph old costs c.args.cost) old (bits_of state) words (j + 1) = subst (λ (n : ℕ). Follows (OfCost graph old costs c.args.cost) old (bits_of state) words n) next c.loop-part.invariant.back in
-    enough_more graph c.args.self.now.skips.now costs c.args.self.now.levels.now.top old (set words j 1)
-    (tried-kept (allows-cost graph costs c.args.cost c.args.self.now.for_graph.parts) old (bits_of state) c.requires.long (length-bits state ∙ c.requires.state) within (c.loop-part.auto.words ∙ c.follow-end.auto.words) back
-    (c.requires.words j 0 (omega (arith, c.requires.long, c.args.self.now.for_graph.parts))) (λ e. eqb-false _ 2 (sym c.is_false.ensures ∙ c.if-not-is_false.true) (c.requires.same j within ∙ e)))
+    let back : Follows (OfCost graph old costs c.args.cost) old (bits_of state) evidence (j + 1) = subst (λ (n : ℕ). Follows (OfCost graph old costs c.args.cost) old (bits_of state) evidence n) next c.loop-part.invariant.back in
+    enough_more graph c.args.self.now.skips.now costs c.args.self.now.levels.now.top old (set evidence j 1)
+    (tried-kept (allows-cost graph costs c.args.cost c.args.self.now.for_graph.parts) old (bits_of state) c.requires.long (length-bits state ∙ c.requires.state) within (c.loop-part.auto.evidence ∙ c.follow-end.auto.evidence) back
+    (c.requires.evidence j 0 (omega (arith, c.requires.long, c.args.self.now.for_graph.parts))) (λ e. eqb-false _ 2 (sym c.is_false.ensures ∙ c.if-not-is_false.true) (c.requires.same j within ∙ e)))
     c.requires.enough

@@ -9,9 +9,9 @@ use Rattle.level_lister.proofs.search.Search.settle_by_groups.Given as goal
 -- the parts before one are fixed, and each fault was searched
 abbrev pub invariant-loop-part : goal.invariant-loop-part
 invariant-loop-part g l = record {
-  small : All (λ w. w < 3) l.words;
-  settles : Settles (λ words h. OfCost l.self.graph.now words l.self.levels.now.costs l.cost h) (length l.self.levels.now.costs) l.fn.words l.words l.from;
-  steps : (search : ℕ) → AreEnough (length l.self.levels.now.costs) l.self.levels.now.top search → l.steps ≤ l.fn.steps + fault_count (fixed_bits (length l.self.levels.now.costs) l.words) * search;
+  small : All (λ w. w < 3) l.evidence;
+  settles : Settles (λ evidence h. OfCost l.self.graph.now evidence l.self.levels.now.costs l.cost h) (length l.self.levels.now.costs) l.fn.evidence l.evidence l.from;
+  steps : (search : ℕ) → AreEnough (length l.self.levels.now.costs) l.self.levels.now.top search → l.steps ≤ l.fn.steps + fault_count (fixed_bits (length l.self.levels.now.costs) l.evidence) * search;
   within : l.from ≤ length l.self.levels.now.costs;
 }
 

@@ -6,6 +6,6 @@ use Rattle.level_lister.proofs.search.Search.settle_by_parts.Given as goal
 -- the parts before one are fixed
 abbrev pub invariant-loop-part : goal.invariant-loop-part
 invariant-loop-part g l = record {
-  small : All (λ w. w < 3) l.words;
-  settles : Settles (λ words h. OfCost l.self.graph.now words l.self.levels.now.costs l.cost h) (length l.self.levels.now.costs) l.fn.words l.words l.part;
+  small : All (λ w. w < 3) l.evidence;
+  settles : Settles (λ evidence h. OfCost l.self.graph.now evidence l.self.levels.now.costs l.cost h) (length l.self.levels.now.costs) l.fn.evidence l.evidence l.part;
 }

@@ -1,6 +1,6 @@
 use Rattle.std.proofs.Common.{◌∙◌, ◌<◌, ℕ, List, Some, All, get_or, length, ap, sym, subst}
 use Rattle.state_rules.specs.Ranking.{rest}
-use Rattle.conditioner.specs.Words.{bits_of}
+use Rattle.conditioner.specs.Evidence.{bits_of}
 use Rattle.diagnosis_lister.specs.Listing.{step_of}
 use Rattle.session_core.specs.Services.{served_system}
 use Rattle.session_core.specs.declared.listed.Listed.TheVariants.{Diagnoses}
@@ -36,15 +36,15 @@ returns-clause-state g c =
 
 pub invariant_of-self : goal.invariant_of-self
 invariant_of-self g c =
-    let known = written_back c.self.inside.memory.known.len c.next.new.words c.self.inside.memory.known.items (sym (c.next.auto.words ∙ c.deref_mut.ensures.len)) in
+    let known = written_back c.self.inside.memory.known.len c.next.new.evidence c.self.inside.memory.known.items (sym (c.next.auto.words ∙ c.deref_mut.ensures.len)) in
     let values = written_back c.self.inside.memory.values.len c.next.new.values c.self.inside.memory.values.items (sym (c.next.auto.values ∙ c.deref_mut-2.ensures.len)) in
     let state = written_back c.copy_from_slice.new.self.len c.next.new.state c.copy_from_slice.new.self.items (sym (c.next.auto.state ∙ c.deref_mut-3.ensures.len)) in
-    fits_after _ _ _ _ c.self.invariant _ _ _ _ _ _ _ (known ∙ (c.next.ensures.words ∙ c.deref_mut.ensures.value))
+    fits_after _ _ _ _ c.self.invariant _ _ _ _ _ _ _ (known ∙ (c.next.ensures.evidence ∙ c.deref_mut.ensures.value))
     (ap length state ∙ (c.next.auto.state ∙ (c.deref_mut-3.ensures.len ∙ (c.copy_from_slice.ensures.len ∙ (c.self.inside.memory.state.ok.0 ∙ c.self.invariant.one_a_part)))))
     (subst (λ (xs : List ℕ). All (λ s. s < 2) xs) (sym state) c.next.ensures.state) c.self.invariant.verdict_a_part
     (ap length values ∙ (c.next.auto.values ∙ ap length c.deref_mut-2.ensures.value)) c.graph.ensures.graph c.costs.ensures c.next.ensures.serves
 
 pub returns-clause-stays : goal.returns-clause-stays
 returns-clause-stays g c =
-    let known = written_back c.self.inside.memory.known.len c.next.new.words c.self.inside.memory.known.items (sym (c.next.auto.words ∙ c.deref_mut.ensures.len)) in
-    stays_after _ _ _ _ c.self.view_is (known ∙ (c.next.ensures.words ∙ c.deref_mut.ensures.value))
+    let known = written_back c.self.inside.memory.known.len c.next.new.evidence c.self.inside.memory.known.items (sym (c.next.auto.words ∙ c.deref_mut.ensures.len)) in
+    stays_after _ _ _ _ c.self.view_is (known ∙ (c.next.ensures.evidence ∙ c.deref_mut.ensures.value))

@@ -1,7 +1,7 @@
 use Rattle.std.proofs.Common.{◌≡◌, ◌∙◌, ℕ, List, None, Some, sym, subst}
 use Rattle.std.specs.Option.{option_map}
 use denote.Ref.{Bor}
-use Rattle.conditioner.specs.Words.{bits_of}
+use Rattle.conditioner.specs.Evidence.{bits_of}
 use Rattle.session_core.specs.declared.listed.Listed.TheVariants.{Diagnoses}
 use Rattle.session_core.specs.inner.Desks.{asked_case, later_states, next_after, IsFirst}
 use Rattle.session_core.proofs.desk.Desk.next.Goals as goal

@@ -3,7 +3,7 @@ use Rattle.std.specs.Prelude.{IfSome}
 use Rattle.std.specs.Option.{option_map}
 use Rattle.state_rules.specs.Graphs.{Graph}
 use Rattle.state_rules.specs.Levels.{levels, levels_rest}
-use Rattle.conditioner.specs.Words.{bits_of}
+use Rattle.conditioner.specs.Evidence.{bits_of}
 use Rattle.level_lister.specs.Listing.{Kept, IsFor, level_step, point_if, cost_words, step_words}
 use Rattle.session_rules.specs.GraphSystems.{Subject}
 use Rattle.session_core.specs.declared.listed.Listed.TheVariants.{Levels}
@@ -27,8 +27,8 @@ invariant_of-self g c =
     let before = c.self.inside.memory.room in
     let run = c.unwrap-run.result in
     let at = carved_so before c.carve.new.self c.level_room.result c.carve.result run c.unwrap-run.ensures c.carve.ensures.run in
-    let known = written_back c.self.inside.memory.known.len c.next_in-step.new.words c.self.inside.memory.known.items (sym (c.next_in-step.auto.words ∙ c.deref_mut-2.ensures.len))
-    ∙ (c.next_in-step.ensures.words ∙ c.deref_mut-2.ensures.value) in
+    let known = written_back c.self.inside.memory.known.len c.next_in-step.new.evidence c.self.inside.memory.known.items (sym (c.next_in-step.auto.words ∙ c.deref_mut-2.ensures.len))
+    ∙ (c.next_in-step.ensures.evidence ∙ c.deref_mut-2.ensures.value) in
     let state = written_back c.self.inside.memory.state.len c.next_in-step.new.state _ (sym (c.next_in-step.auto.state ∙ c.deref_mut-3.ensures.len)) in
     record {
       known = subst (AreKnown c.self.inside.basis) (sym known) c.self.invariant.known;
@@ -99,5 +99,5 @@ next_in-step-requires g c =
 
 pub returns-clause-stays : goal.returns-clause-stays
 returns-clause-stays g c =
-    let known = written_back c.self.inside.memory.known.len c.next_in-step.new.words c.self.inside.memory.known.items (sym (c.next_in-step.auto.words ∙ c.deref_mut-2.ensures.len)) in
-    stays_after _ _ _ _ c.self.view_is (known ∙ (c.next_in-step.ensures.words ∙ c.deref_mut-2.ensures.value))
+    let known = written_back c.self.inside.memory.known.len c.next_in-step.new.evidence c.self.inside.memory.known.items (sym (c.next_in-step.auto.words ∙ c.deref_mut-2.ensures.len)) in
+    stays_after _ _ _ _ c.self.view_is (known ∙ (c.next_in-step.ensures.evidence ∙ c.deref_mut-2.ensures.value))

@@ -2,7 +2,7 @@ use Rattle.std.proofs.Common.{◌≡◌, ◌∙◌, ℕ, List, length, sym, ap, 
 use Rattle.diag_edge.specs.Edge.{Puts}
 use Rattle.smooth_nnf.specs.Layouts.{least_text}
 use Rattle.session_rules.specs.GraphSystems.{Subject}
-use Rattle.session_rules.proofs.CaseWords.{words-of_case}
+use Rattle.session_rules.proofs.CaseEvidence.{words-of_case}
 use Rattle.session_core.specs.Services.{least_case_text}
 use Rattle.session_core.specs.inner.Bases.{AreKnown, case_in}
 use Rattle.session_core.specs.inner.Desks.{OnDesk, asked_case}

@@ -2,9 +2,9 @@ use Rattle.std.proofs.Common.{◌∙◌, ◌<◌, ℕ, List, All, length, replic
 use Rattle.std.proofs.lemmas.List.{length-replicate}
 use Rattle.std.proofs.lemmas.List.Elements.{All-replicate}
 use Rattle.state_rules.specs.Graphs.{Graph}
-use Rattle.fault_graph.specs.Distilled.{Serves}
+use Rattle.fault_graph.specs.Minimised.{Serves}
 use Rattle.scratch_pool.specs.Regions.{Carved}
-use Rattle.session_rules.proofs.CaseWords.{zeros-are}
+use Rattle.session_rules.proofs.CaseEvidence.{zeros-are}
 use Rattle.session_core.specs.inner.Bases.{AreEnough, AreKnown}
 use Rattle.session_core.proofs.desk_memory.DeskMemory.new.Goals as goal
 

@@ -3,7 +3,7 @@ use Rattle.std.specs.Prelude.{if◌then◌else◌}
 use Rattle.std.specs.List.{list_all}
 use Rattle.text_rules.specs.Names.{is_among}
 use Rattle.text_rules.specs.Tokens.{words}
-use Rattle.conditioner.specs.Words.{bits_of}
+use Rattle.conditioner.specs.Evidence.{bits_of}
 use Rattle.script_lang.specs.Script.{After}
 use Rattle.session_rules.specs.declared.refusal.Refusal.TheVariants.{NoPart}
 use Rattle.session_rules.specs.GraphSystems.{Subject}

@@ -13,7 +13,7 @@ use Rattle.session_core.proofs.OneMove.{obeys_told}
 use Rattle.session_core.proofs.sessions.Sessions.ask_case.Goals as goal
 
 pub take_up-requires : goal.take_up-requires
-take_up-requires g c = known-there c.self.inside.desk.subject c.self.inside.open c.self.invariant c.words.result.now c.words.ensures.words
+take_up-requires g c = known-there c.self.inside.desk.subject c.self.inside.open c.self.invariant c.evidence.result.now c.evidence.ensures.evidence
 
 pub returns-clause-obeys : goal.returns-clause-obeys
 returns-clause-obeys g c =
@@ -23,7 +23,7 @@ returns-clause-obeys g c =
     let s = c.args.session.name.now in
     let q = question_of c.args.question in
     let there = subst (λ (v : Shown). IsOpen v.table c.args.session) (sym c.self.view_is) c.requires in
-    let known = case-there desk.subject opened c.self.invariant c.words.result.now there.entry.known (c.words.ensures.known s there.entry there.stands) in
+    let known = case-there desk.subject opened c.self.invariant c.evidence.result.now there.entry.known (c.evidence.ensures.known s there.entry there.stands) in
     let same : shown_of c.tell.new.desk.subject opened ≡ shown = ap (λ u. shown_of u opened) (c.tell.ensures.subject ∙ ap (λ (d : OnDesk). d.subject) c.take_up.ensures) in
     subst (λ (v : Shown). Obeys v (shown_of c.tell.new.desk.subject opened) s (Tell q) (g.O.Sink.got c.args.out.now) (g.O.Sink.got c.tell.new.out) c.tell.result) c.self.view_is
     (obeys_told shown (shown_of c.tell.new.desk.subject opened) s there.entry q _ _ _ there.stands.found same

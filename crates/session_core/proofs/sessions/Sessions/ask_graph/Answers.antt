@@ -20,8 +20,8 @@ items subject session known = line (session ∷ codes "dnnf" ∷ []) ∷ Plain (
 
 pub tell_graph-requires : goal.tell_graph-requires
 tell_graph-requires g c =
-    subst (λ (u : Subject). AreKnown u c.words-known.result.now) (sym c.basis.ensures)
-    (known-there c.self.inside.desk.subject c.self.inside.open c.self.invariant c.words-known.result.now c.words-known.ensures.words)
+    subst (λ (u : Subject). AreKnown u c.evidence-known.result.now) (sym c.basis.ensures)
+    (known-there c.self.inside.desk.subject c.self.inside.open c.self.invariant c.evidence-known.result.now c.evidence-known.ensures.words)
 
 pub returns-clause-obeys : goal.returns-clause-obeys
 returns-clause-obeys g c =
@@ -29,10 +29,10 @@ returns-clause-obeys g c =
     let shown = shown_of basis c.self.inside.open in
     let s = c.args.session.name.now in
     let there = subst (λ (v : Shown). IsOpen v.table c.args.session) (sym c.self.view_is) c.requires in
-    let known = case-there basis c.self.inside.open c.self.invariant c.words-known.result.now there.entry.known (c.words-known.ensures.known s there.entry there.stands) in
+    let known = case-there basis c.self.inside.open c.self.invariant c.evidence-known.result.now there.entry.known (c.evidence-known.ensures.known s there.entry there.stands) in
     subst (λ (v : Shown). Obeys v v s Dnnf (g.O.Sink.got c.args.out.now) (g.O.Sink.got c.tell_graph.new.out) c.tell_graph.result) c.self.view_is
     (obeys_move shown shown s Dnnf (record { table = shown.table; items = items basis s there.entry.known }) _ _ _
     (ap (λ (e : Option Entry). carried shown.table s (outcome (served_system basis) s (nat_le shown.limit (length shown.table)) e Dnnf) ∷ []) there.stands.found)
     refl
     (subst (λ (k : Case). Replies (g.O.Sink.got c.args.out.now) (g.O.Sink.got c.tell_graph.new.out) c.tell_graph.result (items basis s k)) known
-    (subst (λ (u : Subject). Replies (g.O.Sink.got c.args.out.now) (g.O.Sink.got c.tell_graph.new.out) c.tell_graph.result (items u s (case_in u c.words-known.result.now))) c.basis.ensures c.tell_graph.ensures.reply)))
+    (subst (λ (u : Subject). Replies (g.O.Sink.got c.args.out.now) (g.O.Sink.got c.tell_graph.new.out) c.tell_graph.result (items u s (case_in u c.evidence-known.result.now))) c.basis.ensures c.tell_graph.ensures.reply)))

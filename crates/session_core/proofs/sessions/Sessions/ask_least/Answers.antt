@@ -46,7 +46,7 @@ returns-then-not-tells_least-clause-obeys g c =
     (obeys_refusal shown s LeastNnf _ _ _ NoLeast (asked_open shown s LeastNnf there.entry there.stands.found ∙ untold (served_system shown.subject) s there.entry off) c.put_refusal.ensures.text)
 
 pub take_up-requires : goal.take_up-requires
-take_up-requires g c = known-there c.self.inside.desk.subject c.self.inside.open c.self.invariant c.words.result.now c.words.ensures.words
+take_up-requires g c = known-there c.self.inside.desk.subject c.self.inside.open c.self.invariant c.evidence.result.now c.evidence.ensures.evidence
 
 pub tell_least-requires : goal.tell_least-requires
 tell_least-requires g c = record {
@@ -61,7 +61,7 @@ returns-clause-obeys g c =
     let s = c.args.session.name.now in
     let there = subst (λ (v : Shown). IsOpen v.table c.args.session) (sym c.self.view_is) c.requires in
     let on : desk.subject.extras.least ≡ true = subst (λ (u : Subject). u.extras.least ≡ true) c.basis.ensures (sym c.if-not-tells_least.ensures) in
-    let known = case-there desk.subject c.self.inside.open c.self.invariant c.words.result.now there.entry.known (c.words.ensures.known s there.entry there.stands) in
+    let known = case-there desk.subject c.self.inside.open c.self.invariant c.evidence.result.now there.entry.known (c.evidence.ensures.known s there.entry there.stands) in
     let stays : shown_of c.tell_least.new.desk.subject c.self.inside.open ≡ shown =
     ap (λ (d : OnDesk). shown_of d.subject c.self.inside.open) (c.tell_least.ensures.same ∙ c.take_up.ensures) in
     subst (λ (v : Shown). Obeys v (shown_of c.tell_least.new.desk.subject c.self.inside.open) s LeastNnf (g.O.Sink.got c.args.out.now) (g.O.Sink.got c.tell_least.new.out) c.tell_least.result) c.self.view_is

@@ -1,5 +1,5 @@
 use Rattle.std.proofs.Common.{◌≡◌, ◌+◌, arith}
-use Rattle.session_table.proofs.NotedWords.{word_place, noted-entry, noted-laid}
+use Rattle.session_table.proofs.NotedEvidence.{word_place, noted-entry, noted-laid}
 use Rattle.session_table.proofs.block.Layout.note.Goals as goal
 use Rattle.session_table.proofs.block.Layout.note.Goals.{After-word_of_known, in-Part, in-Wire}
 

@@ -29,4 +29,4 @@ pub overflow_sub-result : goal.overflow_sub-result
 overflow_sub-result c = omega (arith, counted c)
 
 pub returns-clause-count : goal.returns-clause-count
-returns-clause-count c = omega (arith, counted c, length-map (filter (missing_in c.args.self.now c.args.over c.args.node) (range_with_len 1 c.args.self.now.parts)) (filler c.args.self.now.words))
+returns-clause-count c = omega (arith, counted c, length-map (filter (missing_in c.args.self.now c.args.over c.args.node) (range_with_len 1 c.args.self.now.parts)) (filler c.args.self.now.evidence))

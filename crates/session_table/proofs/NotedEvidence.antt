@@ -1,0 +1,91 @@
+-- A change of what a session knows is a change of a word of its block.
+use Rattle.std.proofs.Common.{◌≡◌, ℕ, ◌+◌, ◌<◌, ◌≤◌, Bool, List, replicate, get_or, set, ap, sym, ◌∙◌, subst, Option, None, arith, get_or-set_same}
+use Rattle.std.specs.Prelude.{All}
+use Rattle.std.proofs.Math.Seq.{take-set-lt}
+use Rattle.std.proofs.lemmas.List.{length-set, length-replicate, take-set-le, drop-set-lt, take-replicate, drop-replicate, get_or-replicate}
+use Rattle.std.proofs.lemmas.List.Elements.{All-replicate}
+use Rattle.state_rules.specs.Cases.{Case, empty_case}
+use Rattle.conditioner.specs.Evidence.{word_of_known}
+use Rattle.script_lang.specs.declared.line.Noted.{Noted}
+use Rattle.script_lang.specs.declared.line.Noted.TheVariants.{Wire, Part}
+use Rattle.session_rules.specs.Sessions.{noted, with_noted}
+use Rattle.session_rules.specs.CaseEvidence.{case_of_evidence, IsEvidence}
+use Rattle.session_rules.proofs.CaseEvidence.{zeros-say, zeros-are, wire-says, wire-are, part-says, part-are}
+use Rattle.session_table.specs.Tables.{count_of}
+use Rattle.session_table.specs.inner.Blocks.{known_in, state_in, entry_in, point_of, block_size, IsLaidOut}
+use Rattle.session_table.specs.declared.block.Layout.{Layout}
+
+-- the block after the word of a variable was written, with no point
+abbrev pub with_word : Layout → List ℕ → ℕ → Option Bool → List ℕ
+with_word layout block place known = set (set block place (word_of_known known)) layout.vars 0
+
+module _ (layout : Layout) (block : List ℕ) (laid : IsLaidOut layout block) (place : ℕ) (within : place < layout.vars) (known : Option Bool) where
+  abbrev w : ℕ
+  w = word_of_known known
+
+  with_word-known : known_in layout (with_word layout block place known) ≡ set (known_in layout block) place (word_of_known known)
+  with_word-known = take-set-le layout.vars (set block place w) layout.vars 0 (omega arith) ∙ take-set-lt layout.vars block place w within
+
+  with_word-state : state_in layout (with_word layout block place known) ≡ state_in layout block
+  with_word-state = grind (arith, drop-set-lt)
+
+  with_word-point : point_of (get_or (with_word layout block place known) layout.vars 0) (state_in layout (with_word layout block place known)) ≡ None
+  with_word-point = grind (arith, length-set, get_or-set_same)
+
+  -- it is laid out again if its first words are those of a case
+  with_word-laid : IsEvidence layout.parts layout.wires layout.vars (set (known_in layout block) place (word_of_known known))
+      → IsLaidOut layout (with_word layout block place known)
+  with_word-laid are = grind (arith, length-set, with_word-known, with_word-state)
+
+  -- and holds the case that they say
+  with_word-entry : (after : Case)
+      → case_of_evidence layout.parts layout.wires (set (known_in layout block) place (word_of_known known)) ≡ after
+      → entry_in layout (with_word layout block place known) ≡ record { known = after; point = None }
+  with_word-entry after says = λ i. record { known = (ap (case_of_evidence layout.parts layout.wires) with_word-known ∙ says) i; point = with_word-point i }
+
+-- the place of the word of a wire, or of a part
+abbrev pub word_place : Layout → Noted → ℕ → ℕ
+word_place layout Wire place = layout.parts + place
+word_place layout Part place = place
+
+module _ (layout : Layout) (block : List ℕ) (laid : IsLaidOut layout block) where
+  word-within : (what : Noted) (place : ℕ) → place < count_of layout.parts layout.wires what → word_place layout what place < layout.vars
+  word-within what place within = grind arith
+
+  -- the word that is written there says what is known of the wire, or of the part
+  module _ (known : Option Bool) where
+    word-says : (what : Noted) (place : ℕ) → place < count_of layout.parts layout.wires what
+        → case_of_evidence layout.parts layout.wires (set (known_in layout block) (word_place layout what place) (word_of_known known)) ≡ noted what (entry_in layout block).known place known
+    word-says what place within = grind (arith, wire-says, part-says)
+
+    word-are : (what : Noted) (place : ℕ) → place < count_of layout.parts layout.wires what
+        → IsEvidence layout.parts layout.wires layout.vars (set (known_in layout block) (word_place layout what place) (word_of_known known))
+    word-are Wire place within = wire-are layout.parts layout.wires layout.vars (known_in layout block) laid.known place within known
+    word-are Part place within = part-are layout.parts layout.wires layout.vars (known_in layout block) laid.known place within known
+
+    pub noted-entry : (what : Noted) (place : ℕ) → place < count_of layout.parts layout.wires what
+        → entry_in layout (with_word layout block (word_place layout what place) known) ≡ with_noted (entry_in layout block) what place known
+    noted-entry what place within = grind (arith, with_word-entry, word-says)
+
+    pub noted-laid : (what : Noted) (place : ℕ) → place < count_of layout.parts layout.wires what
+        → IsLaidOut layout (with_word layout block (word_place layout what place) known)
+    noted-laid what place within =
+        with_word-laid layout block laid (word_place layout what place) (word-within what place within) known (word-are what place within)
+
+-- a block of zeros is that of a session that opens
+module _ (layout : Layout) (room : layout.parts + layout.wires ≤ layout.vars) where
+  abbrev zeros : List ℕ
+  zeros = replicate (block_size layout) 0
+
+  zeros-known : known_in layout zeros ≡ replicate layout.vars 0
+  zeros-known = take-replicate layout.vars (block_size layout) 0 (omega arith)
+
+  pub zeros-entry : entry_in layout (replicate (block_size layout) 0) ≡ record { known = empty_case layout.wires layout.parts; point = None }
+  zeros-entry = grind (arith, zeros-known, zeros-say, get_or-replicate)
+
+  pub zeros-laid : IsLaidOut layout (replicate (block_size layout) 0)
+  zeros-laid = record {
+    long = length-replicate (block_size layout) 0;
+    known = subst (IsEvidence layout.parts layout.wires layout.vars) (sym zeros-known) (zeros-are layout.parts layout.wires layout.vars room);
+    state = subst (All (λ s. s < 2)) (sym (drop-replicate (layout.vars + 1) (block_size layout) 0)) (All-replicate (λ s. s < 2) _ 0 (omega arith));
+  }

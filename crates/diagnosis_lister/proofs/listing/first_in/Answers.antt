@@ -19,8 +19,8 @@ returns-clause-first g c =
     c.write_back.ensures.bits ∙ ap (λ n. fixed_bits n c.settle.new.evidence) marks
     ∙ first-diagnosis graph c.args.evidence.now costs c.in_ok-fewest.fewest least _ _ (first-passes graph c.args.evidence.now costs c.in_ok-fewest.fewest _ least c.settle.ensures.first)
 
-pub returns-clause-words : goal.returns-clause-words
-returns-clause-words g c =
+pub returns-clause-evidence : goal.returns-clause-evidence
+returns-clause-evidence g c =
     let marks : length c.mark.new.state ≡ length c.args.costs.now = c.mark.auto.state ∙ c.requires.state in
     opened-again c.args.evidence.now c.args.state.now c.mark.new.state c.requires.state_words c.mark.auto.state c.mark.ensures.each
     c.settle.new.evidence c.write_back.new.evidence c.settle.auto.evidence c.write_back.auto.evidence (omega (arith, marks, c.requires.long, c.requires.parts)) c.settle.ensures.kept

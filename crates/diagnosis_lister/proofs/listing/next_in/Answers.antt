@@ -67,8 +67,8 @@ returns-in-Some-leave-clause-next g c =
     ∙ next-diagnosis graph c.args.evidence.now costs most (sym c.in-Some.ensures.least) (bits_of c.args.state.now) h (bits_of c.args.state.now)
     (later-first graph costs c.args.evidence.now c.leave.new.evidence most c.in-Some-leave.part c.args.state.now c.mark.new.state h c.requires.parts c.requires.long c.leave.auto.evidence c.requires.state c.mark.ensures.bits c.in-Some-leave.ensures.left c.in-Some-leave.ensures.least c.settle.ensures.first)
 
-pub returns-in-Some-leave-clause-words : goal.returns-in-Some-leave-clause-words
-returns-in-Some-leave-clause-words g c =
+pub returns-in-Some-leave-clause-evidence : goal.returns-in-Some-leave-clause-evidence
+returns-in-Some-leave-clause-evidence g c =
     let marks : length c.mark.new.state ≡ length c.args.costs.now = c.mark.auto.state ∙ c.requires.state in
     let leaves = c.in-Some-leave.ensures.left in
     opened-again c.args.evidence.now c.args.state.now c.mark.new.state c.requires.state_words c.mark.auto.state c.mark.ensures.each

@@ -18,6 +18,6 @@ returns-in-Open-clause-least g c = c.least_in-fewest.ensures.least ∙ ap (λ ws
     ∙ ap (least c.args.costs.now)
     (with-open c.args.graph.now c.args.evidence.now c.args.costs.now c.args.var c.args.bit c.requires.long c.requires.parts c.requires.var.0 c.requires.var.1 c.in-Open.ensures)
 
-pub returns-in-Open-clause-words : goal.returns-in-Open-clause-words
-returns-in-Open-clause-words g c = c.loose.ensures.open ∙ ap (λ ws. set ws (c.args.var - 1) 0) c.fix.ensures.fixed
+pub returns-in-Open-clause-evidence : goal.returns-in-Open-clause-evidence
+returns-in-Open-clause-evidence g c = c.loose.ensures.open ∙ ap (λ ws. set ws (c.args.var - 1) 0) c.fix.ensures.fixed
     ∙ loose-again c.args.evidence.now (c.args.var - 1) (word_of c.args.bit) (omega (arith, c.requires.long, c.requires.var.0, c.requires.var.1)) (leaf-open c.args.bit _ c.in-Open.ensures)

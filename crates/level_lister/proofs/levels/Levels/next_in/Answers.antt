@@ -45,8 +45,8 @@ returns-in-Some-clause-next g c =
     c.read_state.ensures.bits ∙ ap (λ n. fixed_bits n c.find.new.evidence) c.requires.state
     ∙ next-first kept.costs c.args.graph.now c.args.evidence.now kept.top (point_if c.args.pointed state) (fixed_bits (length kept.costs) c.find.new.evidence) state c.in-Some.ensures.found.first
 
-pub returns-in-Some-clause-words : goal.returns-in-Some-clause-words
-returns-in-Some-clause-words g c =
+pub returns-in-Some-clause-evidence : goal.returns-in-Some-clause-evidence
+returns-in-Some-clause-evidence g c =
     let saved = c.keep.new.saved in
     let long : length c.keep.new.saved ≡ length c.split_at_mut-saved.result.0.now = omega arith in
     c.put_back.ensures

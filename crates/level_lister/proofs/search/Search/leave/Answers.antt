@@ -34,8 +34,8 @@ invariant_of-asked-clause-long g c = length-set c.loop-part.evidence (c.loop-par
 pub invariant_of-asked-clause-small : goal.invariant_of-asked-clause-small
 invariant_of-asked-clause-small g c = All-set (λ w. w < 3) c.loop-part.evidence (c.loop-part.part - 1) 1 (omega arith) c.loop-part.invariant.small
 
-pub returns-then-reaches-clause-words : goal.returns-then-reaches-clause-words
-returns-then-reaches-clause-words g c = All-set (λ w. w < 3) c.loop-part.evidence (c.loop-part.part - 1) 1 (omega arith) c.loop-part.invariant.small
+pub returns-then-reaches-clause-evidence : goal.returns-then-reaches-clause-evidence
+returns-then-reaches-clause-evidence g c = All-set (λ w. w < 3) c.loop-part.evidence (c.loop-part.part - 1) 1 (omega arith) c.loop-part.invariant.small
 
 pub returns-then-reaches-clause-left : goal.returns-then-reaches-clause-left
 returns-then-reaches-clause-left g c =

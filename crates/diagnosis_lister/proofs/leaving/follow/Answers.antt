@@ -7,7 +7,7 @@ use Rattle.diagnosis_lister.specs.inner.OpenMarks.{marked_bits}
 use Rattle.diagnosis_lister.proofs.OpenMarks.{bit_in-marked, marked-open, length-marked}
 use Rattle.diagnosis_lister.proofs.Points.{FollowsTo, FollowsTo-set, FollowsTo-stay, Follows-all}
 use Rattle.diagnosis_lister.proofs.leaving.follow.Goals as goal
-use Rattle.diagnosis_lister.proofs.leaving.follow.Goals.{then-mark-ge2, else-mark-ge2+else-words-part}
+use Rattle.diagnosis_lister.proofs.leaving.follow.Goals.{then-mark-ge2, else-mark-ge2+else-evidence-part}
 
 pub loop-part-preserved : goal.loop-part-preserved
 loop-part-preserved c =
@@ -22,9 +22,9 @@ loop-part-preserved c =
         follows = FollowsTo-set c.args.evidence.now point c.loop-part.evidence c.if-mark-ge2.evidence i c.word_of_known-word.result (omega arith) c.loop-part.invariant.follows word
             (marked-open c.args.evidence.now marks i c.requires.marks c.loop-part-test.true w.if-mark-ge2.true) w.evidence-is;
       }
-      | else-mark-ge2+else-words-part w ↦ record {
+      | else-mark-ge2+else-evidence-part w ↦ record {
         small = subst (λ (ws : List ℕ). All (λ w. w < 3) ws) (sym w.evidence-is) c.loop-part.invariant.small;
-        follows = subst (λ (ws : List ℕ). FollowsTo c.args.evidence.now point ws (i + 1)) (sym w.evidence-is) (FollowsTo-stay c.args.evidence.now point c.loop-part.evidence i c.loop-part.invariant.follows (w.if-words-part.false ∙ word));
+        follows = subst (λ (ws : List ℕ). FollowsTo c.args.evidence.now point ws (i + 1)) (sym w.evidence-is) (FollowsTo-stay c.args.evidence.now point c.loop-part.evidence i c.loop-part.invariant.follows (w.if-evidence-part.false ∙ word));
       }
     ]
 

@@ -9,7 +9,7 @@ use Rattle.conditioner.proofs.StateBits.{bit_in-bits}
 use Rattle.diagnosis_lister.proofs.OpenMarks.{length-bits}
 use Rattle.diagnosis_lister.proofs.Points.{FollowsTo, FollowsTo-set, FollowsTo-stay, Follows-all}
 use Rattle.level_lister.proofs.states.follow.Goals as goal
-use Rattle.level_lister.proofs.states.follow.Goals.{then-is_open, else-is_open+else-words-part}
+use Rattle.level_lister.proofs.states.follow.Goals.{then-is_open, else-is_open+else-evidence-part}
 
 own_bit : (state : List ℕ) (i : ℕ) → i < length state → (faulty : Bool) → faulty ≡ not (get_or state i 0 == 0) → not faulty ≡ bit_in (bits_of state) i
 own_bit state i h faulty e = ap not e ∙ twice (get_or state i 0 == 0) ∙ sym (bit_in-bits state i h) where
@@ -30,9 +30,9 @@ loop-part-preserved c =
         follows = FollowsTo-set c.args.evidence.now point c.loop-part.evidence c.if-is_open.evidence i c.word_of_known-word.result (omega arith) c.loop-part.invariant.follows word
             (sym (c.loop-part.invariant.follows.behind i (omega arith)) ∙ eqb-true _ 0 (sym c.is_open.ensures ∙ w.if-is_open.true)) w.evidence-is;
       }
-      | else-is_open+else-words-part w ↦ record {
+      | else-is_open+else-evidence-part w ↦ record {
         small = subst (λ (ws : List ℕ). All (λ w. w < 3) ws) (sym w.evidence-is) c.loop-part.invariant.small;
-        follows = subst (λ (ws : List ℕ). FollowsTo c.args.evidence.now point ws (i + 1)) (sym w.evidence-is) (FollowsTo-stay c.args.evidence.now point c.loop-part.evidence i c.loop-part.invariant.follows (w.if-words-part.false ∙ word));
+        follows = subst (λ (ws : List ℕ). FollowsTo c.args.evidence.now point ws (i + 1)) (sym w.evidence-is) (FollowsTo-stay c.args.evidence.now point c.loop-part.evidence i c.loop-part.invariant.follows (w.if-evidence-part.false ∙ word));
       }
     ]
 

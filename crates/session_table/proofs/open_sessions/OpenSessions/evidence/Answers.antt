@@ -10,8 +10,8 @@ pub known-requires : goal.known-requires
 known-requires c =
     rw c.words.ensures (is_laid_out c.self.inside c.args.self.now c.self.view_is c.self.invariant c.args.place c.index.result.now c.requires c.index.ensures)
 
-pub returns-clause-words : goal.returns-clause-words
-returns-clause-words c =
+pub returns-clause-evidence : goal.returns-clause-evidence
+returns-clause-evidence c =
     rw (← c.self.view_is, c.known.ensures, c.words.ensures)
     (is_laid_out c.self.inside c.args.self.now c.self.view_is c.self.invariant c.args.place c.index.result.now c.requires c.index.ensures).known
 

@@ -1,24 +1,33 @@
 -- A session among others is answered as it is alone.
-use Rattle.std.proofs.Common.{◌≡◌, ℕ, Bool, true, false, List, [], ◌∷◌, ◌++◌, length, drop, refl, ap, ap₂, sym, ◌∙◌, subst, Some, None, Option, arith, length-append}
+use Rattle.std.proofs.Common.{◌≡◌, ℕ, Bool, true, false, List, [], ◌∷◌, ◌++◌, map, length, drop, refl, ap, ap₂, sym, ◌∙◌, subst, Some, None, Option, arith, length-append}
 use Rattle.std.specs.Prelude.{is_some, codes, nat_le, if◌then◌else◌}
 use Rattle.std.specs.Fmt.{decimal}
+use Rattle.std.specs.List.{flat_map}
 use Rattle.text_rules.specs.Names.{Name}
 use Rattle.text_rules.proofs.NameLemmas.{equal_if_same}
+use Rattle.state_rules.specs.Cases.{Case, empty_case}
 use Rattle.state_rules.specs.Systems.{System}
 use Rattle.script_lang.specs.Script.{Line, Blank, Refused, Ask, Request, Start, line_of}
 use Rattle.session_rules.specs.declared.refusal.Refusal.{Refusal}
 use Rattle.session_rules.specs.declared.refusal.Refusal.TheVariants.{OpenAlready, Full}
 use Rattle.session_rules.specs.Refusals.{refusal_row}
+use Rattle.session_rules.specs.Replies.{Found}
 use Rattle.session_rules.specs.Items.{Item, Plain, Projected, LeastText, Whole, line}
-use Rattle.session_rules.specs.Sessions.{Table, Entry, Declined, carried, step, entry_of, outcome, when_open, becomes, new_entry}
-use Rattle.session_rules.specs.Moves.{line_step}
+use Rattle.session_rules.specs.Sessions.{Table, Entry, Change, Becomes, Move, moves, said, left_by, entry_of, outcome, when_open, becomes, declined}
+use Rattle.session_rules.specs.Moves.{line_moves}
 use Rattle.session_rules.specs.Alone.{Answer, lines_of, dialogue, names_session, closes_session, own_answers, Opens, AreAnsweredAlone}
-use Rattle.session_rules.proofs.Locality.{after_outcome, same_as_itself, own_step, others-stay}
+use Rattle.session_rules.proofs.Locality.{after_change, after, same_as_itself, own_moves, moves-said, others-stay}
+use Rattle.session_rules.proofs.KeptCases.{last_change}
 
 -- ---- an open session stays open until it is closed
 
-when_open-open : (system : System) (s : Name) (entry : Entry) (request : Request) → closes_session s (Ask s request) ≡ false → is_some (after_outcome (when_open system s entry request) (Some entry)) ≡ true
-when_open-open system s entry request goes = grind (arith, same_as_itself)
+lists-open : (change : Change) (entry : Entry) (found : List Found) → is_some (after_change change (Some entry)) ≡ true
+    → is_some (after_change (last_change change (map (λ (f : Found). record { change = Becomes (record entry { point = f.point }); items = f.item ∷ [] }) found)) (Some entry)) ≡ true
+lists-open change entry [] is = is
+lists-open change entry (f ∷ found) is = lists-open (Becomes (record entry { point = f.point })) entry found refl
+
+when_open-open : (system : System) (s : Name) (entry : Entry) (request : Request) → closes_session s (Ask s request) ≡ false → is_some (after (when_open system s entry request) (Some entry)) ≡ true
+when_open-open system s entry request goes = grind (arith, same_as_itself, lists-open)
 
 entry_there : (o : Option Entry) → is_some o ≡ true → (entry : Entry) × (o ≡ Some entry)
 entry_there None some = absurd (let never : ⊥ = cc in never)
@@ -40,8 +49,8 @@ first_bytes (item ∷ items) = bytes_of item
 refused_apart : (s tail : List ℕ) → length (s ++ (32 ∷ (codes "error" ++ (32 ∷ tail)))) ≡ length (s ++ (32 ∷ (codes "open" ++ 10 ∷ []))) → ⊥
 refused_apart s tail e = grind (arith, length-append)
 
-declined_apart : (s : Name) (refusal : Refusal) (t : Table) → (carried t s (Declined refusal)).items ≡ line (s ∷ codes "open" ∷ []) ∷ [] → ⊥
-declined_apart s refusal t e = refused_apart s (decimal (refusal_row refusal).0 ++ (32 ∷ ((refusal_row refusal).1 ++ 10 ∷ []))) (ap (λ items. length (first_bytes items)) e)
+declined_apart : (s : Name) (refusal : Refusal) → flat_map (λ (move : Move). move.items) (declined s refusal) ≡ line (s ∷ codes "open" ∷ []) ∷ [] → ⊥
+declined_apart s refusal e = refused_apart s (decimal (refusal_row refusal).0 ++ (32 ∷ ((refusal_row refusal).1 ++ 10 ∷ []))) (ap (λ items. length (first_bytes items)) e)
 
 -- ---- the answers of one session
 
@@ -51,16 +60,16 @@ module _ (system : System) (limit : ℕ) (s : Name) where
   Both t u = (entry : Entry) × (entry_of s t ≡ Some entry) × (entry_of s u ≡ Some entry)
 
   -- an open session is answered the same from both tables
-  answered_same : (request : Request) (t u : Table) → Both t u → (step system limit t (Ask s request)).items ≡ (step system 1 u (Ask s request)).items
-  answered_same request t u (entry, a, b) = grind arith
+  answered_same : (request : Request) (t u : Table) → Both t u → said (moves system limit t (Ask s request)) ≡ said (moves system 1 u (Ask s request))
+  answered_same request t u (entry, a, b) = grind (arith, moves-said)
 
   -- and goes on the same
-  left : (m : ℕ) (request : Request) (t : Table) (entry : Entry) → entry_of s t ≡ Some entry → entry_of s (step system m t (Ask s request)).table ≡ after_outcome (when_open system s entry request) (Some entry)
-  left m request t entry is = grind (arith, own_step)
+  left : (m : ℕ) (request : Request) (t : Table) (entry : Entry) → entry_of s t ≡ Some entry → entry_of s (left_by t (moves system m t (Ask s request))) ≡ after (when_open system s entry request) (Some entry)
+  left m request t entry is = grind (arith, own_moves)
 
-  still : (request : Request) (t u : Table) → Both t u → closes_session s (Ask s request) ≡ false → Both (step system limit t (Ask s request)).table (step system 1 u (Ask s request)).table
+  still : (request : Request) (t u : Table) → Both t u → closes_session s (Ask s request) ≡ false → Both (left_by t (moves system limit t (Ask s request))) (left_by u (moves system 1 u (Ask s request)))
   still request t u (entry, a, b) goes =
-      let new = entry_there (after_outcome (when_open system s entry request) (Some entry)) (when_open-open system s entry request goes) in
+      let new = entry_there (after (when_open system s entry request) (Some entry)) (when_open-open system s entry request goes) in
       (new.0, left limit request t entry a ∙ new.1, left 1 request u entry b ∙ new.1)
 
   the_request : (l : Line) → names_session s l ≡ true → (request : Request) × (l ≡ Ask s request)
@@ -76,29 +85,28 @@ module _ (system : System) (limit : ℕ) (s : Name) where
   AsAlone answers u = answers ≡ dialogue system 1 u (lines_of answers)
 
   abbrev first_answer : Table → List ℕ → Answer
-  first_answer t bytes = record { bytes = bytes; items = (line_step system limit t bytes).items }
+  first_answer t bytes = record { bytes = bytes; items = said (line_moves system limit t bytes) }
 
   -- the answers from a line on that names the session, by whether it closes it
   abbrev own_from : Bool → Table → List ℕ → List (List ℕ) → List Answer
   own_from closes t bytes lines =
-      let now = line_step system limit t bytes in
-      first_answer t bytes ∷ (if closes then [] else own_answers s (among now.table lines))
+      first_answer t bytes ∷ (if closes then [] else own_answers s (among (left_by t (line_moves system limit t bytes)) lines))
 
   -- what holds for all tables with an entry of the session holds after its own line
   own-alone : (bytes : List ℕ) (lines : List (List ℕ)) (t u : Table) → Both t u → (request : Request) → line_of bytes ≡ Ask s request
       → ((v w : Table) → Both v w → AsAlone (own_answers s (among v lines)) w) → (closes : Bool) → closes_session s (line_of bytes) ≡ closes
       → AsAlone (own_from closes t bytes lines) u
   own-alone bytes lines t u both request asked more closes is =
-      let items : (line_step system limit t bytes).items ≡ (line_step system 1 u bytes).items =
-      ap (λ l. (step system limit t l).items) asked ∙ (answered_same request t u both ∙ sym (ap (λ l. (step system 1 u l).items) asked)) in
+      let items : said (line_moves system limit t bytes) ≡ said (line_moves system 1 u bytes) =
+      ap (λ l. said (moves system limit t l)) asked ∙ (answered_same request t u both ∙ sym (ap (λ l. said (moves system 1 u l)) asked)) in
       ap₂ (λ now rest. record { bytes = bytes; items = now } ∷ rest) items (by closes is)
     where
       by : (closes : Bool) → closes_session s (line_of bytes) ≡ closes
-          → AsAlone (if closes then [] else own_answers s (among (line_step system limit t bytes).table lines)) (line_step system 1 u bytes).table
+          → AsAlone (if closes then [] else own_answers s (among (left_by t (line_moves system limit t bytes)) lines)) (left_by u (line_moves system 1 u bytes))
       by true is = refl
       by false is =
-          more (line_step system limit t bytes).table (line_step system 1 u bytes).table
-          (subst (λ l. Both (step system limit t l).table (step system 1 u l).table) (sym asked)
+          more (left_by t (line_moves system limit t bytes)) (left_by u (line_moves system 1 u bytes))
+          (subst (λ l. Both (left_by t (moves system limit t l)) (left_by u (moves system 1 u l))) (sym asked)
           (still request t u both (sym (ap (closes_session s) asked) ∙ is)))
 
   -- an open session is answered as it would be from any table with its entry
@@ -107,31 +115,34 @@ module _ (system : System) (limit : ℕ) (s : Name) where
   open-alone (bytes ∷ lines) t u both = by (open-alone lines) (names_session s (line_of bytes)) refl
     where
       by : ((v w : Table) → Both v w → AsAlone (own_answers s (among v lines)) w) → (named : Bool) → names_session s (line_of bytes) ≡ named
-          → AsAlone (if named then own_from (closes_session s (line_of bytes)) t bytes lines else own_answers s (among (line_step system limit t bytes).table lines)) u
+          → AsAlone (if named then own_from (closes_session s (line_of bytes)) t bytes lines else own_answers s (among (left_by t (line_moves system limit t bytes)) lines)) u
       by more true named = let asked = the_request (line_of bytes) named in own-alone bytes lines t u both asked.0 asked.1 more (closes_session s (line_of bytes)) refl
       by more false apart = grind (arith, others-stay)
 
+  abbrev new_case : Case
+  new_case = empty_case (length system.wires) (length system.parts)
+
   -- a session that is opened was not open, and there was room
-  opened : (full : Bool) (entry : Option Entry) (t : Table) → (carried t s (outcome system s full entry Start)).items ≡ line (s ∷ codes "open" ∷ []) ∷ []
-      → outcome system s full entry Start ≡ becomes s (new_entry system) (codes "open")
-  opened full (Some entry) t e = absurd (declined_apart s OpenAlready t e)
-  opened true None t e = absurd (declined_apart s Full t e)
-  opened false None t e = refl
+  opened : (full : Bool) (entry : Option Entry) → flat_map (λ (move : Move). move.items) (outcome system s full entry Start) ≡ line (s ∷ codes "open" ∷ []) ∷ []
+      → outcome system s full entry Start ≡ becomes s new_case None (codes "open")
+  opened full (Some entry) e = absurd (declined_apart s OpenAlready e)
+  opened true None e = absurd (declined_apart s Full e)
+  opened false None e = refl
 
   -- from the line that opens it on, whatever others do, a session has the answers that its lines have alone
   opening-alone : (bytes : List ℕ) (lines : List (List ℕ)) (t : Table) → Opens s (first_answer t bytes) → AsAlone (own_answers s (among t (bytes ∷ lines))) []
   opening-alone bytes lines t opens =
       let asked = opens.asked in
-      let free : outcome system s (nat_le limit (length t)) (entry_of s t) Start ≡ becomes s (new_entry system) (codes "open") =
-      opened (nat_le limit (length t)) (entry_of s t) t (sym (ap (λ l. (step system limit t l).items) asked) ∙ opens.said) in
+      let first = outcome system s (nat_le limit (length t)) (entry_of s t) Start in
+      let free : first ≡ becomes s new_case None (codes "open") =
+      opened (nat_le limit (length t)) (entry_of s t) (sym (moves-said s first t) ∙ (sym (ap (λ l. said (moves system limit t l)) asked) ∙ opens.said)) in
       let named : names_session s (line_of bytes) ≡ true = ap (names_session s) asked ∙ same_as_itself s in
       let goes : closes_session s (line_of bytes) ≡ false = ap (closes_session s) asked in
-      let items : (line_step system limit t bytes).items ≡ (line_step system 1 [] bytes).items = opens.said ∙ sym (ap (λ l. (step system 1 [] l).items) asked) in
-      let new_among : entry_of s (line_step system limit t bytes).table ≡ Some (new_entry system) =
-      ap (λ l. entry_of s (step system limit t l).table) asked
-      ∙ (own_step s (outcome system s (nat_le limit (length t)) (entry_of s t) Start) t ∙ ap (λ o. after_outcome o (entry_of s t)) free) in
-      let new_alone : entry_of s (line_step system 1 [] bytes).table ≡ Some (new_entry system) =
-      ap (λ l. entry_of s (step system 1 [] l).table) asked ∙ own_step s (outcome system s false None Start) [] in
+      let items : said (line_moves system limit t bytes) ≡ said (line_moves system 1 [] bytes) = opens.said ∙ sym (ap (λ l. said (moves system 1 [] l)) asked) in
+      let new_among : entry_of s (left_by t (line_moves system limit t bytes)) ≡ Some (record { known = new_case; point = None }) =
+      ap (λ l. entry_of s (left_by t (moves system limit t l))) asked ∙ (own_moves s first t ∙ ap (λ ms. after ms (entry_of s t)) free) in
+      let new_alone : entry_of s (left_by [] (line_moves system 1 [] bytes)) ≡ Some (record { known = new_case; point = None }) =
+      ap (λ l. entry_of s (left_by [] (moves system 1 [] l))) asked ∙ own_moves s (outcome system s false None Start) [] in
       grind (arith, open-alone)
 
   -- what begins at an answer is a dialogue from some table
@@ -141,7 +152,7 @@ module _ (system : System) (limit : ℕ) (s : Name) where
   from_answer table [] (b ∷ before) later opening e = absurd (let never : ⊥ = cc in never)
   from_answer table (bytes ∷ lines) [] later opening e = (table, bytes, lines, sym e)
   from_answer table (bytes ∷ lines) (b ∷ before) later opening e =
-      from_answer (line_step system limit table bytes).table lines before later opening (ap (λ (answers : List Answer). drop 1 answers) e)
+      from_answer (left_by table (line_moves system limit table bytes)) lines before later opening (ap (λ (answers : List Answer). drop 1 answers) e)
 
 -- Wherever a session opens, its own lines from there to its end have the answers that they have alone.
 pub answered_alone : (system : System) (limit : ℕ) (table : Table) (lines : List (List ℕ)) → AreAnsweredAlone system limit table lines

@@ -2,7 +2,7 @@
 use Rattle.std.proofs.Common.{ℕ, List, [], ◌∷◌, ◌++◌, map, Option, refl, append_assoc, arith}
 use Rattle.diag_edge.proofs.GrownBytes.{grows_more}
 use Rattle.session_rules.specs.Items.{Item, line}
-use Rattle.session_rules.specs.Spelling.{Spelled, Spells, Begins, Writes, WritesPart}
+use Rattle.session_rules.specs.Spelling.{Spelled, Spells, Writes, WritesPart}
 use Rattle.session_rules.proofs.Spellings.{spells_more}
 
 -- some text spells each of the items
@@ -29,15 +29,9 @@ lines-have [] = tt
 lines-have (words ∷ lines) = ((_, refl), lines-have lines)
 
 -- what begins some items begins more of them
-pub begins_more : (xs ys : List Item) (text : List ℕ) → Begins xs text → HaveSpellings ys → Begins (xs ++ ys) text
-begins_more xs ys text begun h = grind (arith, spelling, append_assoc, spells_more)
+pub part_more : (a b : Option (List ℕ)) (xs ys : List Item) → WritesPart a b xs → HaveSpellings ys → WritesPart a b (xs ++ ys)
+part_more a b xs ys part h = grind (arith, spelling, append_assoc, spells_more)
 
 -- and so does what begins the later ones, after a text that spells the first
-pub begins_after : (xs ys : List Item) (front text : List ℕ) → Spells xs front → Begins ys text → Begins (xs ++ ys) (front ++ text)
-begins_after xs ys front text spelled begun = grind (arith, append_assoc, spells_more)
-
-pub part_more : (a b : Option (List ℕ)) (xs ys : List Item) → WritesPart a b xs → HaveSpellings ys → WritesPart a b (xs ++ ys)
-part_more a b xs ys part h = record { text = part.text; begun = begins_more xs ys part.text part.begun h; grown = part.grown }
-
 pub part_after : (a b c : Option (List ℕ)) (xs ys : List Item) → Writes a b xs → WritesPart b c ys → WritesPart a c (xs ++ ys)
-part_after a b c xs ys first part = grind (arith, begins_after xs ys first.text part.text first.spelled part.begun, grows_more a b c first.text part.text first.grown part.grown)
+part_after a b c xs ys first part = grind (arith, append_assoc, spells_more, grows_more a b c first.text part.text first.grown part.grown)

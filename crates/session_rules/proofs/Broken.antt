@@ -1,13 +1,25 @@
 -- Moves that are made, and moves that break off.
 use Rattle.std.proofs.Common.{◌≡◌, ℕ, List, [], ◌∷◌, ◌++◌, Option, Result, Ok, Err, refl, sym, ◌∙◌, ap, subst, append_assoc, append-nil, arith}
 use Rattle.state_rules.specs.Systems.{System}
-use Rattle.session_rules.specs.Sessions.{Table, Step, replies}
-use Rattle.session_rules.specs.Moves.{said, left_by, line_moves, script_moves}
+use Rattle.std.proofs.lemmas.Grind.{flat_map-append}
+use Rattle.session_rules.specs.Sessions.{Table, Step, said, left_by, replies}
+use Rattle.session_rules.specs.Moves.{line_moves, script_moves}
 use Rattle.session_rules.specs.Spelling.{Writes, WritesPart, Replies}
 use Rattle.session_rules.specs.Carrying.{Makes, BreaksOff, CarriesOut}
 use Rattle.session_rules.proofs.Spellings.{writes_more, writes_none}
-use Rattle.session_rules.proofs.Whole.{said-append, left_by-append, said-replies}
 use Rattle.session_rules.proofs.Begun.{HaveSpellings, have_after, part_more, part_after}
+
+pub said-append : (ms ns : List Step) → said (ms ++ ns) ≡ said ms ++ said ns
+said-append ms ns = flat_map-append (λ (move : Step). move.items) ms ns
+
+pub left_by-append : (t : Table) (ms ns : List Step) → left_by t (ms ++ ns) ≡ left_by (left_by t ms) ns
+left_by-append t [] ns = refl
+left_by-append t (m ∷ ms) ns = left_by-append m.table ms ns
+
+-- the moves of a script say its replies
+pub said-replies : (system : System) (limit : ℕ) (table : Table) (lines : List (List ℕ)) → said (script_moves (line_moves system limit) table lines) ≡ replies system limit table lines
+said-replies system limit table [] = refl
+said-replies system limit table (l ∷ lines) = grind (arith, said-append, said-replies system limit (left_by table (line_moves system limit table l)) lines)
 
 pub makes_none : (t : Table) (a : Option (List ℕ)) → Makes t t [] a a
 makes_none t a = record { written = writes_none a; table = refl }

@@ -1,6 +1,6 @@
 -- What is answered keeps a place for each wire and each part in every case.
-use Rattle.std.proofs.Common.{◌≡◌, ℕ, Bool, [], length, ap, sym, ◌∙◌, Option, Some, None, Equal, arith}
-use Rattle.std.specs.Prelude.{cond, not, nat_le, if◌then◌else◌}
+use Rattle.std.proofs.Common.{◌≡◌, ℕ, Bool, List, [], ◌∷◌, map, length, refl, ap, sym, subst, ◌∙◌, Option, Some, None, Equal, arith}
+use Rattle.std.specs.Prelude.{cond, not, nat_le}
 use Rattle.std.specs.Ordering.{nat_cmp, is_eq}
 use Rattle.std.specs.Cmp.Lexicographic.{slice_cmp}
 use Rattle.std.specs.FinMap.Entries.{find-put, find-where_key}
@@ -12,9 +12,8 @@ use Rattle.text_rules.proofs.NameLemmas.{equal_if_same}
 use Rattle.state_rules.specs.Cases.{Case}
 use Rattle.state_rules.specs.Systems.{System}
 use Rattle.script_lang.specs.Script.{Line, Blank, Refused, Ask, Request}
-use Rattle.script_lang.specs.declared.line.Noted.{Noted}
-use Rattle.session_rules.specs.declared.refusal.Refusal.{Refusal}
-use Rattle.session_rules.specs.Sessions.{Entry, Table, Outcome, Declined, Done, Change, Stays, Becomes, Ends, entry_of, without, changed, carried, when_open, outcome, outcome_in, with_number, step, noted, new_entry}
+use Rattle.session_rules.specs.Replies.{Found}
+use Rattle.session_rules.specs.Sessions.{Entry, Table, Change, Stays, Becomes, Ends, Move, Step, entry_of, without, changed, when_open, outcome, moves, left_by}
 use Rattle.session_rules.specs.CaseSizes.{IsCaseOf, HasCasesOf}
 
 -- the empty table has no case
@@ -34,28 +33,39 @@ ChangeKeeps system Stays = Unit {0}
 ChangeKeeps system (Becomes entry) = IsCaseOf system entry.known
 ChangeKeeps system Ends = Unit {0}
 
-abbrev Keeps : System → Outcome → Type 0
-Keeps system (Declined refusal) = Unit {0}
-Keeps system (Done change items) = ChangeKeeps system change
+abbrev pub Keeps : System → List Move → Type 0
+Keeps system [] = Unit {0}
+Keeps system (move ∷ moves) = ChangeKeeps system move.change × Keeps system moves
+
+-- ---- what moves leave
+
+-- the change that counts: the last
+abbrev pub last_change : Change → List Move → Change
+last_change change [] = change
+last_change change (move ∷ moves) = last_change move.change moves
+
+abbrev pub step_from : Table → Name → Move → Step
+step_from table session move = record { table = changed session move.change table; items = move.items }
+
+pub left_by-last : (s : Name) (t : Table) (change : Change) (ms : List Move) → left_by (changed s change t) (map (step_from t s) ms) ≡ changed s (last_change change ms) t
+left_by-last s t change [] = refl
+left_by-last s t change (m ∷ ms) = left_by-last s t m.change ms
 
 module _ (system : System) where
-  placed : (refusal : Refusal) (act : ℕ → Outcome) (place : Option ℕ) → ((i : ℕ) → Keeps system (act i)) → Keeps system (with_number refusal act place)
-  placed refusal act place k = grind arith
+  last-keeps : (change : Change) (ms : List Move) → ChangeKeeps system change → Keeps system ms → ChangeKeeps system (last_change change ms)
+  last-keeps change [] h k = h
+  last-keeps change (m ∷ ms) h k = last-keeps m.change ms k.0 k.1
 
-  chosen : (b : Bool) (one other : Outcome) → Keeps system one → Keeps system other → Keeps system (if b then one else other)
-  chosen b one other h k = grind arith
-
-  noted-keeps : (what : Noted) (known : Case) (i : ℕ) (bit : Option Bool) → IsCaseOf system known → IsCaseOf system (noted what known i bit)
-  noted-keeps what known i bit h = grind (arith, length-set)
+  lists-keeps : (entry : Entry) → IsCaseOf system entry.known → (found : List Found)
+      → Keeps system (map (λ (f : Found). record { change = Becomes (record entry { point = f.point }); items = f.item ∷ [] }) found)
+  lists-keeps entry h [] = tt
+  lists-keeps entry h (f ∷ found) = (h, lists-keeps entry h found)
 
   when_open-keeps : (s : Name) (entry : Entry) → IsCaseOf system entry.known → (request : Request) → Keeps system (when_open system s entry request)
-  when_open-keeps s entry h request = grind (arith, noted-keeps)
-
-  new-keeps : IsCaseOf system (new_entry system).known
-  new-keeps = (length-replicate (length system.wires) None, length-replicate (length system.parts) None)
+  when_open-keeps s entry h request = grind (arith, length-set, lists-keeps)
 
   outcome-keeps : (s : Name) (full : Bool) (entry : Option Entry) → ((e : Entry) → entry ≡ Some e → IsCaseOf system e.known) → (request : Request) → Keeps system (outcome system s full entry request)
-  outcome-keeps s full entry h request = grind (arith, when_open-keeps, new-keeps)
+  outcome-keeps s full entry h request = grind (arith, when_open-keeps, length-replicate)
 
   -- an entry found after a change is the new one or an old one
   put_found : (b : Bool) (entry found : Entry) (old : Option Entry) → IsCaseOf system entry.known → ((e : Entry) → old ≡ Some e → IsCaseOf system e.known)
@@ -74,15 +84,11 @@ module _ (system : System) where
   changed-keeps s Ends table h k = λ r found e.
       kept_found (not (same_name r s)) found (entry_of r table) (k r) (sym (entry_of-without r s table) ∙ e)
 
-  outcome_in-keeps : (limit : ℕ) (table : Table) (s : Name) (request : Request) → HasCasesOf system table → Keeps system (outcome_in system limit table s request)
-  outcome_in-keeps limit table s request h = outcome-keeps s (nat_le limit (length table)) (entry_of s table) (h s) request
-
-  carried-keeps : (s : Name) (o : Outcome) (table : Table) → Keeps system o → HasCasesOf system table → HasCasesOf system (carried table s o).table
-  carried-keeps s (Declined refusal) table h k = k
-  carried-keeps s (Done change items) table h k = changed-keeps s change table h k
-
   -- a line keeps the lengths of all cases
-  pub step-keeps : (limit : ℕ) (table : Table) (l : Line) → HasCasesOf system table → HasCasesOf system (step system limit table l).table
-  step-keeps limit table Blank h = h
-  step-keeps limit table (Refused refusal) h = h
-  step-keeps limit table (Ask s request) h = grind (arith, carried-keeps s (outcome_in system limit table s request) table (outcome_in-keeps limit table s request h) h)
+  pub moves-keep : (limit : ℕ) (table : Table) (l : Line) → HasCasesOf system table → HasCasesOf system (left_by table (moves system limit table l))
+  moves-keep limit table Blank h = h
+  moves-keep limit table (Refused refusal) h = h
+  moves-keep limit table (Ask s request) h =
+      let ms = outcome system s (nat_le limit (length table)) (entry_of s table) request in
+      subst (HasCasesOf system) (sym (left_by-last s table Stays ms))
+      (changed-keeps s (last_change Stays ms) table (last-keeps Stays ms tt (outcome-keeps s (nat_le limit (length table)) (entry_of s table) (h s) request)) h)

@@ -1,5 +1,4 @@
 pub mod Spellings
-pub mod Whole
 pub mod Begun
 pub mod Broken
 pub mod LineFronts

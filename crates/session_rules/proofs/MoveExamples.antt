@@ -5,8 +5,8 @@ use Rattle.std.specs.Fmt.{digits}
 use Rattle.state_rules.specs.Cases.{empty_case}
 use Rattle.state_rules.specs.Systems.{System, no_extras, open_texts, with_extras}
 use Rattle.session_rules.specs.Items.{line, LeastText}
-use Rattle.session_rules.specs.Sessions.{Table, Step}
-use Rattle.session_rules.specs.Moves.{left_by, line_moves, script_moves}
+use Rattle.session_rules.specs.Sessions.{Table, Step, left_by}
+use Rattle.session_rules.specs.Moves.{line_moves, script_moves}
 
 -- one of two parts is faulty, or both are
 abbrev either : System
@@ -90,12 +90,12 @@ the_least = refl
 
 -- ---- lines of one move
 
--- what is refused is one move, and so is what says nothing, or more than one line
+-- what is refused is one move, and so is what says more than one line; a blank line is none
 no_session : line_moves either 16 after_b (codes "list T 3") ≡ says after_b (codes "T error 6 no session") ∷ []
 unfolding digits
 no_session = refl
 
-no_reply : line_moves either 16 after_b [] ≡ record { table = after_b; items = [] } ∷ []
+no_reply : line_moves either 16 after_b [] ≡ []
 no_reply = refl
 
 all_of_blame : line_moves either 16 after_b (codes "blame S")

@@ -1,18 +1,25 @@
 -- Two systems that differ in their consistent states alone, which are the same for each case of theirs, answer alike.
-use Rattle.std.proofs.Common.{◌≡◌, ℕ, suc, ◌+◌, Bool, List, [], ◌∷◌, refl, ap, ap₂, Option, Some, None, Ok, arith}
+use Rattle.std.proofs.Common.{◌≡◌, ℕ, ◌+◌, Bool, List, [], ◌∷◌, map, length, refl, ap, Option, Some, arith}
+use Rattle.std.specs.Prelude.{codes, nat_le}
+use Rattle.std.specs.Fmt.{decimal}
+use Rattle.std.specs.Option.{option_map_or}
 use Rattle.std.proofs.lemmas.List.{length-set}
 use Rattle.text_rules.specs.Names.{Name}
 use Rattle.state_rules.specs.Cases.{Case}
-use Rattle.state_rules.specs.Ranking.{diagnoses}
+use Rattle.state_rules.specs.Ranking.{cost, diagnoses, rest}
+use Rattle.state_rules.specs.Levels.{levels, levels_rest}
 use Rattle.state_rules.specs.Systems.{System}
-use Rattle.script_lang.specs.Script.{Line, Blank, Refused, Ask, Request, Several, Question, Levels, line_of}
-use Rattle.session_rules.specs.declared.refusal.Refusal.TheVariants.{NoLevels}
-use Rattle.session_rules.specs.Replies.{next_of, listing, least_at, probe_line, probe_lines, probe_told, if_any, told, level_of}
-use Rattle.session_rules.specs.Sessions.{Entry, Table, Step, when_open, outcome, goes_through, step, replies, with_number}
-use Rattle.session_rules.specs.Moves.{left_by, level_moves, moves, line_moves, script_moves}
+use Rattle.device_model.specs.Devices.{place_of}
+use Rattle.script_lang.specs.Script.{Line, Blank, Refused, Ask, Request, Level, Levels, Question, Probe, line_of}
+use Rattle.session_rules.specs.Refusals.{refusal_row, error_words}
+use Rattle.session_rules.specs.declared.refusal.Refusal.TheVariants.{NoWire, NoLevels}
+use Rattle.session_rules.specs.Items.{line}
+use Rattle.session_rules.specs.Replies.{faulty_names, found, next_of, level_of, least_at, probe_line, probe_lines, if_any, told}
+use Rattle.session_rules.specs.Sessions.{Entry, Table, Step, entry_of, declined, lists, when_open, outcome, moves, left_by, replies}
+use Rattle.session_rules.specs.Moves.{line_moves, script_moves}
 use Rattle.session_rules.specs.CaseSizes.{IsCaseOf, HasCasesOf}
-use Rattle.session_rules.proofs.KeptCases.{step-keeps}
-use Rattle.session_rules.proofs.Whole.{line_moves-whole, said-replies}
+use Rattle.session_rules.proofs.KeptCases.{step_from, moves-keep}
+use Rattle.session_rules.proofs.Broken.{said-replies}
 
 -- Two ways to answer by moves that agree while something holds, which lines keep
 module _ (one other : Table → List ℕ → List Step) (Holds : Table → Type 0) (kept : (t : Table) (l : List ℕ) → Holds t → Holds (left_by t (one t l))) (agree : (t : Table) (l : List ℕ) → Holds t → one t l ≡ other t l) where
@@ -35,47 +42,37 @@ module _ (system : System) (consistent : Case → List (List Bool)) (same : (kno
   probe_lines-same s known wire [] h = refl
   probe_lines-same s known wire (name ∷ names) h = grind (arith, probe_line-same s known name wire h, probe_lines-same s known (wire + 1) names h)
 
-  probe_told-same : (s : Name) (known : Case) (name : Name) (place : Option ℕ) → IsCaseOf system known → probe_told system s known name place ≡ probe_told other s known name place
-  probe_told-same s known name None h = refl
-  probe_told-same s known name (Some wire) h = ap₂ (λ hs l. Ok (if_any s hs (l ∷ []))) (same known h) (probe_line-same s known name wire h)
-
   -- what a question is answered
   told-same : (s : Name) (known : Case) (question : Question) → IsCaseOf system known → told system s known question ≡ told other s known question
-  told-same s known question h = grind (arith, probe_told-same, probe_lines-same)
+  told-same s known (Probe name) h =
+      λ i. option_map_or (λ wire. if_any s (same known h i) (probe_line-same s known name wire h i ∷ [])) (place_of name system.wires) ((s ∷ error_words (refusal_row NoWire)) ∷ [])
+  told-same s known question h = grind (arith, probe_lines-same)
+
+  -- what comes next
+  next_of-same : (s : Name) (known : Case) → IsCaseOf system known → next_of system s known ≡ next_of other s known
+  next_of-same s known h = ap (λ hs point. let ds = diagnoses system.costs hs in found s (λ state. line (s ∷ codes "diag" ∷ faulty_names system.parts state)) point ds (rest ds point)) (same known h)
+
+  level_of-same : (s : Name) (top : ℕ) (known : Case) → IsCaseOf system known → level_of system s top known ≡ level_of other s top known
+  level_of-same s top known h = ap (λ hs point. found s (λ state. line (s ∷ codes "level" ∷ decimal (cost system.costs state) ∷ faulty_names system.parts state)) point hs (levels_rest system.costs (levels system.costs top hs) point)) (same known h)
 
   when_open-same : (s : Name) (entry : Entry) (request : Request) → IsCaseOf system entry.known → when_open system s entry request ≡ when_open other s entry request
-  when_open-same s entry (Several count) h =
-      ap (λ hs. goes_through entry (listing (next_of system s (diagnoses system.costs hs)) count entry.point)) (same entry.known h)
-  when_open-same s entry (Levels count) h =
-      ap (λ hs. with_number NoLevels (λ top. goes_through entry (listing (level_of system s top hs) count entry.point)) system.extras.levels) (same entry.known h)
-  when_open-same s entry request h = grind (arith, told-same)
+  when_open-same s entry Level h = λ i. option_map_or (λ top. lists entry (level_of-same s top entry.known h i) 1) system.extras.levels (declined s NoLevels)
+  when_open-same s entry (Levels count) h = λ i. option_map_or (λ top. lists entry (level_of-same s top entry.known h i) count) system.extras.levels (declined s NoLevels)
+  when_open-same s entry request h = grind (arith, told-same, next_of-same)
 
   outcome-same : (s : Name) (full : Bool) (entry : Option Entry) (request : Request) → ((e : Entry) → entry ≡ Some e → IsCaseOf system e.known)
       → outcome system s full entry request ≡ outcome other s full entry request
   outcome-same s full entry request h = grind (arith, when_open-same)
 
-  -- a line is one step in both
-  step-same : (limit : ℕ) (table : Table) (l : Line) → HasCasesOf system table → step system limit table l ≡ step other limit table l
-  step-same limit table Blank h = refl
-  step-same limit table (Refused refusal) h = refl
-  step-same limit table (Ask s request) h = grind (arith, outcome-same)
-
-  level_moves-same : (limit : ℕ) (table : Table) (s : Name) (count : ℕ) (levels : Option ℕ) → HasCasesOf system table → level_moves system limit table s count levels ≡ level_moves other limit table s count levels
-  level_moves-same limit table s count None h = ap (λ (move : Step). move ∷ []) (step-same limit table (Ask s (Levels count)) h)
-  level_moves-same limit table s count (Some top) h = grind arith
-
   moves-same : (limit : ℕ) (table : Table) (l : Line) → HasCasesOf system table → moves system limit table l ≡ moves other limit table l
-  moves-same limit table (Ask s (Several (suc n))) h = grind arith
-  moves-same limit table (Ask s (Levels (suc n))) h = level_moves-same limit table s (suc n) system.extras.levels h
-  moves-same limit table l h = ap (λ (move : Step). move ∷ []) (step-same limit table l h)
-
-  line_moves-keep : (limit : ℕ) (table : Table) (bytes : List ℕ) → HasCasesOf system table → HasCasesOf system (left_by table (line_moves system limit table bytes))
-  line_moves-keep limit table bytes h = grind (arith, line_moves-whole, step-keeps)
+  moves-same limit table Blank h = refl
+  moves-same limit table (Refused refusal) h = refl
+  moves-same limit table (Ask s request) h = ap (map (step_from table s)) (outcome-same s (nat_le limit (length table)) (entry_of s table) request (h s))
 
   -- the moves of a script are the same in both
   pub script_moves-same : (limit : ℕ) (table : Table) (lines : List (List ℕ)) → HasCasesOf system table
       → script_moves (line_moves system limit) table lines ≡ script_moves (line_moves other limit) table lines
-  script_moves-same limit = moves_of_lines-same _ _ (HasCasesOf system) (line_moves-keep limit) (λ t l. moves-same limit t (line_of l))
+  script_moves-same limit = moves_of_lines-same _ _ (HasCasesOf system) (λ t l. moves-keep system limit t (line_of l)) (λ t l. moves-same limit t (line_of l))
 
   -- and so are its replies
   pub replies-same : (limit : ℕ) (table : Table) (lines : List (List ℕ)) → HasCasesOf system table → replies system limit table lines ≡ replies other limit table lines

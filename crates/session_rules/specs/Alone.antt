@@ -4,8 +4,7 @@ use Rattle.text_rules.specs.Names.{Name, same_name}
 use Rattle.state_rules.specs.Systems.{System}
 use Rattle.script_lang.specs.Script.{Line, Ask, Start, Stop, line_of}
 use Rattle.session_rules.specs.Items.{Item, line}
-use Rattle.session_rules.specs.Sessions.{Table, entry_of, step}
-use Rattle.session_rules.specs.Moves.{line_step}
+use Rattle.session_rules.specs.Sessions.{Table, entry_of, moves, said, left_by}
 
 -- a line, and what it was answered
 pub record Answer : Type 0 where
@@ -19,8 +18,8 @@ lines_of answers = map (λ (answer : Answer). answer.bytes) answers
 abbrev pub dialogue : System → ℕ → Table → List (List ℕ) → List Answer
 dialogue system limit table [] = []
 dialogue system limit table (bytes ∷ lines) =
-    let now = line_step system limit table bytes in
-    record { bytes = bytes; items = now.items } ∷ dialogue system limit now.table lines
+    let now = moves system limit table (line_of bytes) in
+    record { bytes = bytes; items = said now } ∷ dialogue system limit (left_by table now) lines
 
 -- whether a line asks something of this session
 abbrev pub names_session : Name → Line → Bool
@@ -60,8 +59,8 @@ pub record LooksSame (limit : ℕ) (line : Line) (one other : Table) : Type 0 wh
 -- What a line is answered, and what becomes of the session that it names, depends on no more than that, and it changes no other.
 pub record IsItsOwn (system : System) (limit : ℕ) (line : Line) : Type 0 where
   pub answer : (one other : Table) → LooksSame limit line one other
-      → (step system limit one line).items ≡ (step system limit other line).items
+      → said (moves system limit one line) ≡ said (moves system limit other line)
   pub named : (one other : Table) → LooksSame limit line one other → (session : Name) → names_session session line ≡ true
-      → entry_of session (step system limit one line).table ≡ entry_of session (step system limit other line).table
+      → entry_of session (left_by one (moves system limit one line)) ≡ entry_of session (left_by other (moves system limit other line))
   pub others : (table : Table) (session : Name) → names_session session line ≡ false
-      → entry_of session (step system limit table line).table ≡ entry_of session table
+      → entry_of session (left_by table (moves system limit table line)) ≡ entry_of session table

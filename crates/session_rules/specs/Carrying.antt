@@ -1,7 +1,6 @@
 -- Moves that are made one after the other, and moves that break off.
 use Rattle.std.specs.Prelude.{◌≡◌, ℕ, List, ◌∷◌, ◌++◌, Option, Result, MatchResult}
-use Rattle.session_rules.specs.Sessions.{Table, Step}
-use Rattle.session_rules.specs.Moves.{said, left_by}
+use Rattle.session_rules.specs.Sessions.{Table, Step, said, left_by}
 use Rattle.session_rules.specs.Spelling.{Writes, WritesPart}
 
 -- the moves were made and their replies written, and the table is the one that they leave

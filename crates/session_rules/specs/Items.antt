@@ -1,7 +1,6 @@
 -- What replies consist of.
-use Rattle.std.specs.Prelude.{ℕ, Bool, List, Option, Some, None}
+use Rattle.std.specs.Prelude.{ℕ, Bool, List}
 use Rattle.text_rules.specs.Tokens.{spaced}
-use Rattle.state_rules.specs.Cases.{Case}
 use Rattle.device_model.specs.Devices.{Device}
 
 -- A text, or a graph whose text is left open: over so many parts, true for these states alone; or that and smooth; or over so
@@ -15,8 +14,3 @@ pub data Item : Type 0 where
 -- a line of words
 abbrev pub line : List (List ℕ) → Item
 line words = Plain (spaced words)
-
--- a graph by its text for a case, or left open
-abbrev pub graph_item : Option (Case → List ℕ) → Case → Item → Item
-graph_item None known left_open = left_open
-graph_item (Some text) known left_open = Plain (text known)

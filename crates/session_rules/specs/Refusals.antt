@@ -1,5 +1,6 @@
 -- Why what a line asks is not done: the number of each refusal, and what it says.
-use Rattle.std.specs.Prelude.{ℕ, List, codes}
+use Rattle.std.specs.Prelude.{ℕ, List, [], ◌∷◌, codes}
+use Rattle.std.specs.Fmt.{decimal}
 use Rattle.session_rules.specs.declared.refusal.Refusal.{Refusal}
 use Rattle.session_rules.specs.declared.refusal.Refusal.TheVariants.{NoSession, OpenAlready, Full, NoWire, NoPart, NoLevels, NoLeast}
 
@@ -11,3 +12,7 @@ refusal_row NoWire = (9, codes "no wire")
 refusal_row NoPart = (10, codes "no part")
 refusal_row NoLevels = (11, codes "no levels")
 refusal_row NoLeast = (12, codes "no least")
+
+-- the words of a refusal, by its number and what it says
+abbrev pub error_words : ℕ × List ℕ → List (List ℕ)
+error_words row = codes "error" ∷ decimal row.0 ∷ row.1 ∷ []

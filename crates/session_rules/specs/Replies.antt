@@ -1,25 +1,25 @@
 -- The lines of replies: the diagnoses one after the other, and what is answered of a case.
-use Rattle.std.specs.Prelude.{ℕ, zero, suc, ◌+◌, Bool, true, false, not, List, [], ◌∷◌, ◌++◌, map, length, Option, Some, None, Result, Ok, Err, set, slice_index_or, codes, is_some, if◌then◌else◌}
+use Rattle.std.specs.Prelude.{ℕ, zero, suc, ◌+◌, Bool, true, false, not, List, [], ◌∷◌, ◌++◌, map, length, Option, Some, None, set, slice_index_or, codes, is_some, if◌then◌else◌}
 use Rattle.std.specs.Fmt.{decimal}
 use Rattle.std.specs.List.{list_any, list_all}
+use Rattle.std.specs.Option.{option_map_or}
 use Rattle.text_rules.specs.Names.{Name}
-use Rattle.state_rules.specs.Bits.{bit_in}
+use Rattle.state_rules.specs.Bits.{bit_in, same_bit}
 use Rattle.state_rules.specs.Cases.{Case}
 use Rattle.state_rules.specs.Ranking.{cost, rest}
 use Rattle.state_rules.specs.Levels.{levels, levels_rest}
 use Rattle.state_rules.specs.Systems.{System, least_cost, all_diagnoses}
 use Rattle.device_model.specs.Devices.{place_of}
 use Rattle.script_lang.specs.Script.{Question, Min, Probe, Probes, Blame}
-use Rattle.session_rules.specs.declared.refusal.Refusal.{Refusal}
 use Rattle.session_rules.specs.declared.refusal.Refusal.TheVariants.{NoWire}
-use Rattle.session_rules.specs.Items.{Item, Projected, LeastText, line, graph_item}
+use Rattle.session_rules.specs.Refusals.{refusal_row, error_words}
+use Rattle.session_rules.specs.Items.{Item, Plain, Projected, LeastText, line}
 
 -- the names of the faulty parts
 abbrev pub faulty_names : List Name → List Bool → List Name
-faulty_names [] state = []
-faulty_names (name ∷ names) [] = []
 faulty_names (name ∷ names) (true ∷ state) = faulty_names names state
 faulty_names (name ∷ names) (false ∷ state) = name ∷ faulty_names names state
+faulty_names names state = []
 
 -- a line is its words
 abbrev pub inconsistent : Name → List (List ℕ)
@@ -29,8 +29,7 @@ abbrev pub end_line : Name → List (List ℕ)
 end_line session = session ∷ codes "end" ∷ []
 
 abbrev pub count_text : Option ℕ → List ℕ
-count_text None = codes "-"
-count_text (Some n) = decimal n
+count_text count = option_map_or decimal count (codes "-")
 
 -- the state that comes next, the point after it, and whether there was one
 pub record Found : Type 0 where
@@ -44,31 +43,23 @@ found session shown point [] later = record { item = line (inconsistent session)
 found session shown point (d ∷ ds) [] = record { item = line (end_line session); point = point; more = false }
 found session shown point (d ∷ ds) (state ∷ later) = record { item = shown state; point = Some state; more = true }
 
-abbrev pub diagnosis_line : System → Name → List Bool → Item
-diagnosis_line system session state = line (session ∷ codes "diag" ∷ faulty_names system.parts state)
+-- what comes next of the diagnoses
+abbrev pub next_of : System → Name → Case → Option (List Bool) → Found
+next_of system session known point =
+    let ds = all_diagnoses system known in
+    found session (λ state. line (session ∷ codes "diag" ∷ faulty_names system.parts state)) point ds (rest ds point)
 
-abbrev pub next_of : System → Name → List (List Bool) → Option (List Bool) → Found
-next_of system session ds point = found session (diagnosis_line system session) point ds (rest ds point)
-
-abbrev pub level_line : System → Name → List Bool → Item
-level_line system session state =
-    line (session ∷ codes "level" ∷ decimal (cost system.costs state) ∷ faulty_names system.parts state)
-
--- what comes next of these states by rising cost, up to a cost
-abbrev pub level_of : System → Name → ℕ → List (List Bool) → Option (List Bool) → Found
-level_of system session top states point =
-    found session (level_line system session) point states (levels_rest system.costs (levels system.costs top states) point)
+-- what comes next of the states by rising cost, up to a cost
+abbrev pub level_of : System → Name → ℕ → Case → Option (List Bool) → Found
+level_of system session top known point =
+    let states = system.consistent known in
+    found session (λ state. line (session ∷ codes "level" ∷ decimal (cost system.costs state) ∷ faulty_names system.parts state))
+    point states (levels_rest system.costs (levels system.costs top states) point)
 
 -- what at most so many steps find, up to the first that finds nothing
 abbrev pub listing : (Option (List Bool) → Found) → ℕ → Option (List Bool) → List Found
 listing next zero point = []
-listing next (suc n) point =
-    let f = next point in f ∷ (elim f.more as (λ _. List Found) [ true ↦ listing next n f.point | false ↦ [] ])
-
--- the point after what was found
-abbrev pub point_after : Option (List Bool) → List Found → Option (List Bool)
-point_after point [] = point
-point_after point (f ∷ found) = point_after f.point found
+listing next (suc n) point = let f = next point in f ∷ (if f.more then listing next n f.point else [])
 
 -- the least cost, and one of the diagnoses
 abbrev pub min_line : System → Name → Option ℕ → List (List Bool) → List (List ℕ)
@@ -78,10 +69,7 @@ min_line system session fewest (state ∷ states) = session ∷ codes "min" ∷ 
 -- the least cost if a wire is seen so too, if that is not against what was seen
 abbrev pub least_at : System → Case → ℕ → Bool → Option Bool → Option ℕ
 least_at system known wire bit None = least_cost system (record known { seen = set known.seen wire (Some bit) })
-least_at system known wire true (Some true) = least_cost system known
-least_at system known wire false (Some false) = least_cost system known
-least_at system known wire true (Some false) = None
-least_at system known wire false (Some true) = None
+least_at system known wire bit (Some seen) = if same_bit bit seen then least_cost system known else None
 
 abbrev pub seen_at : Case → ℕ → Option Bool
 seen_at known wire = slice_index_or known.seen wire None
@@ -95,10 +83,8 @@ probe_line system session known name wire =
 abbrev pub probe_lines : System → Name → Case → ℕ → List Name → List (List (List ℕ))
 probe_lines system session known wire [] = []
 probe_lines system session known wire (name ∷ names) =
-    elim (is_some (seen_at known wire)) [
-      | true ↦ probe_lines system session known (wire + 1) names
-      | false ↦ probe_line system session known name wire ∷ probe_lines system session known (wire + 1) names
-    ]
+    let later = probe_lines system session known (wire + 1) names in
+    if is_some (seen_at known wire) then later else probe_line system session known name wire ∷ later
 
 -- in all, in some but not all, or in none
 abbrev pub blame_word : List Bool → List ℕ
@@ -117,25 +103,22 @@ abbrev pub if_any : Name → List (List Bool) → List (List (List ℕ)) → Lis
 if_any session [] lines = inconsistent session ∷ []
 if_any session (state ∷ states) lines = lines
 
--- the line of a wire by its place, or that there is none
-abbrev pub probe_told : System → Name → Case → Name → Option ℕ → Result (List (List (List ℕ))) Refusal
-probe_told system session known name None = Err NoWire
-probe_told system session known name (Some wire) =
-    Ok (if_any session (system.consistent known) (probe_line system session known name wire ∷ []))
-
--- what a question is answered, line by line, or why it is not
-abbrev pub told : System → Name → Case → Question → Result (List (List (List ℕ))) Refusal
-told system session known Min = Ok (min_line system session (least_cost system known) (all_diagnoses system known) ∷ [])
-told system session known (Probe name) = probe_told system session known name (place_of name system.wires)
+-- the lines that a question is answered
+abbrev pub told : System → Name → Case → Question → List (List (List ℕ))
+told system session known Min = min_line system session (least_cost system known) (all_diagnoses system known) ∷ []
+told system session known (Probe name) =
+    option_map_or (λ wire. if_any session (system.consistent known) (probe_line system session known name wire ∷ []))
+    (place_of name system.wires) ((session ∷ error_words (refusal_row NoWire)) ∷ [])
 told system session known Probes =
-    Ok (if_any session (system.consistent known) (probe_lines system session known 0 system.wires ++ end_line session ∷ []))
+    if_any session (system.consistent known) (probe_lines system session known 0 system.wires ++ end_line session ∷ [])
 told system session known Blame =
-    let ds = all_diagnoses system known in
-    Ok (if_any session ds (blame_lines session ds 0 system.parts ++ end_line session ∷ []))
+    let ds = all_diagnoses system known in if_any session ds (blame_lines session ds 0 system.parts ++ end_line session ∷ [])
 
--- the graph of the states that agree with a case, and that of its diagnoses
+-- the graph of the states that agree with a case, and that of its diagnoses: a text for the case, or left open
 abbrev pub dnnf_item : System → Case → Item
-dnnf_item system known = graph_item system.texts.dnnf known (Projected (length system.parts) (system.consistent known))
+dnnf_item system known =
+    option_map_or (λ text. Plain (text known)) system.texts.dnnf (Projected (length system.parts) (system.consistent known))
 
 abbrev pub least_item : System → Case → Item
-least_item system known = graph_item system.texts.least known (LeastText (length system.parts) (all_diagnoses system known))
+least_item system known =
+    option_map_or (λ text. Plain (text known)) system.texts.least (LeastText (length system.parts) (all_diagnoses system known))

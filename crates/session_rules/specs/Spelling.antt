@@ -36,20 +36,17 @@ Spells [] text = text ≡ []
 Spells (item ∷ items) text =
     (front : List ℕ) × (rest : List ℕ) × (text ≡ front ++ rest) × Spelled item front × Spells items rest
 
--- some rest makes the text spell the items
-abbrev pub Begins : List Item → List ℕ → Type 0
-Begins items text = (rest : List ℕ) × Spells items (text ++ rest)
-
 -- known bytes grew by a text that spells the items
 pub record Writes (before after : Option (List ℕ)) (items : List Item) : Type 0 where
   pub text : List ℕ
   pub spelled : Spells items text
   pub grown : Appends before after text
 
--- they grew by the beginning of one
+-- they grew by the beginning of one, which goes on with a rest
 pub record WritesPart (before after : Option (List ℕ)) (items : List Item) : Type 0 where
   pub text : List ℕ
-  pub begun : Begins items text
+  pub rest : List ℕ
+  pub begun : Spells items (text ++ rest)
   pub grown : Appends before after text
 
 -- the items were written, or begun

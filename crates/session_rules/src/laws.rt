@@ -13,7 +13,7 @@ ghost use Rattle.session_rules.specs.Spelling.{IsGraphOf};
 ghost use Rattle.session_rules.specs.Alone.{AreAnsweredAlone, IsItsOwn};
 ghost use Rattle.session_rules.specs.CaseSizes.{IsCaseOf, HasCasesOf};
 ghost use Rattle.session_rules.specs.GraphSystems.{graph_system, compiled_system};
-ghost use Rattle.session_rules.specs.Moves.{whole, line_moves, line_step, script_moves};
+ghost use Rattle.session_rules.specs.Moves.{line_moves, script_moves};
 ghost use Rattle.session_rules.specs.Sessions.{Table, replies};
 
 /// Each session is answered as if it were alone: wherever it opens among some lines, its own lines from there to its end have
@@ -27,12 +27,6 @@ pub fn answered_alone()
 /// opens it on whether there is room. It changes no other session.
 pub fn is_its_own()
     ensures { (system : System) (limit : ℕ) (line : Line) → IsItsOwn system limit line }
-{}
-
-/// The moves of a line, taken whole, are its step, over any system.
-pub fn moves_are_steps()
-    ensures { (system : System) (limit : ℕ) (table : Table) (line : List ℕ)
-        → whole table (line_moves system limit table line) ≡ line_step system limit table line }
 {}
 
 /// Over a graph that is true exactly if bits of wires fit a health state, a case that has a place for each wire and each part has

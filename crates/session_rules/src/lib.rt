@@ -4,5 +4,5 @@
 mod laws;
 mod refusal;
 
-pub use laws::{answered_alone, graph_replies, is_its_own, moves_are_steps, same_states};
+pub use laws::{answered_alone, graph_replies, is_its_own, same_states};
 pub use refusal::Refusal;

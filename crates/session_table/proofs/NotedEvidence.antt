@@ -8,10 +8,9 @@ use Rattle.state_rules.specs.Cases.{Case, empty_case}
 use Rattle.conditioner.specs.Evidence.{word_of_known}
 use Rattle.script_lang.specs.declared.line.Noted.{Noted}
 use Rattle.script_lang.specs.declared.line.Noted.TheVariants.{Wire, Part}
-use Rattle.session_rules.specs.Sessions.{noted, with_noted}
 use Rattle.session_rules.specs.CaseEvidence.{case_of_evidence, IsEvidence}
 use Rattle.session_rules.proofs.CaseEvidence.{zeros-say, zeros-are, wire-says, wire-are, part-says, part-are}
-use Rattle.session_table.specs.Tables.{count_of}
+use Rattle.session_table.specs.Tables.{count_of, with_noted}
 use Rattle.session_table.specs.inner.Blocks.{known_in, state_in, entry_in, point_of, block_size, IsLaidOut}
 use Rattle.session_table.specs.declared.block.Layout.{Layout}
 
@@ -55,8 +54,9 @@ module _ (layout : Layout) (block : List ℕ) (laid : IsLaidOut layout block) wh
   -- the word that is written there says what is known of the wire, or of the part
   module _ (known : Option Bool) where
     word-says : (what : Noted) (place : ℕ) → place < count_of layout.parts layout.wires what
-        → case_of_evidence layout.parts layout.wires (set (known_in layout block) (word_place layout what place) (word_of_known known)) ≡ noted what (entry_in layout block).known place known
-    word-says what place within = grind (arith, wire-says, part-says)
+        → case_of_evidence layout.parts layout.wires (set (known_in layout block) (word_place layout what place) (word_of_known known)) ≡ (with_noted (entry_in layout block) what place known).known
+    word-says Wire place within = wire-says layout.parts layout.wires layout.vars (known_in layout block) laid.known place within known
+    word-says Part place within = part-says layout.parts layout.wires layout.vars (known_in layout block) laid.known place within known
 
     word-are : (what : Noted) (place : ℕ) → place < count_of layout.parts layout.wires what
         → IsEvidence layout.parts layout.wires layout.vars (set (known_in layout block) (word_place layout what place) (word_of_known known))

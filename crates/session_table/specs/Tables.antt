@@ -1,5 +1,5 @@
 -- What contracts see of the open sessions.
-use Rattle.std.specs.Prelude.{◌≡◌, ℕ, length, Some, None, slice_get}
+use Rattle.std.specs.Prelude.{◌≡◌, ℕ, Bool, length, Option, Some, None, set, slice_get}
 use Rattle.text_rules.specs.Names.{Name}
 use Rattle.state_rules.specs.Cases.{empty_case}
 use Rattle.script_lang.specs.declared.line.Noted.{Noted}
@@ -17,6 +17,11 @@ pub record Opened : Type 0 where
 -- a session as it is when it opens
 abbrev pub fresh_entry : Opened → Entry
 fresh_entry opened = record { known = empty_case opened.wires opened.parts; point = None }
+
+-- the session knows something of the wire, or of the part, at a place, or nothing any more; it has no point then
+abbrev pub with_noted : Entry → Noted → ℕ → Option Bool → Entry
+with_noted entry Wire place bit = record { known = record entry.known { seen = set entry.known.seen place bit }; point = None }
+with_noted entry Part place bit = record { known = record entry.known { held = set entry.known.held place bit }; point = None }
 
 -- the case of a session has a place for each wire and each part
 abbrev pub Fits : (parts wires : ℕ) → Entry → Type 0

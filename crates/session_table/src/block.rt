@@ -1,8 +1,7 @@
 ghost use Rattle.std.specs.Prelude.{◌≡◌, ◌<◌, length, All, IfSome};
 ghost use Rattle.std.specs.Option.{option_map};
 ghost use Rattle.conditioner.specs.Evidence.{bits_of};
-ghost use Rattle.session_rules.specs.Sessions.{with_noted};
-ghost use Rattle.session_table.specs.Tables.{count_of};
+ghost use Rattle.session_table.specs.Tables.{count_of, with_noted};
 ghost use Rattle.session_table.specs.inner.Blocks.{known_in, entry_in, with_point, IsLaidOut};
 
 use conditioner::word_of_known;

@@ -3,9 +3,9 @@ ghost use Rattle.std.specs.Option.{option_map};
 ghost use Rattle.text_rules.specs.Names.{Name, is_short_name};
 ghost use Rattle.conditioner.specs.Evidence.{bits_of};
 ghost use Rattle.scratch_pool.specs.declared.pool.TheConstants.{POOL_LIMIT};
-ghost use Rattle.session_rules.specs.Sessions.{Entry, entry_of, with_entry, without, with_noted};
+ghost use Rattle.session_rules.specs.Sessions.{Entry, entry_of, with_entry, without};
 ghost use Rattle.session_rules.specs.CaseEvidence.{case_of_evidence, IsEvidence};
-ghost use Rattle.session_table.specs.Tables.{StandsAt, fresh_entry, Fits, count_of};
+ghost use Rattle.session_table.specs.Tables.{StandsAt, fresh_entry, Fits, count_of, with_noted};
 
 use crate::Memory;
 use crate::block::Layout;

@@ -1,5 +1,5 @@
 use Rattle.std.proofs.Common.{sym, subst}
-use Rattle.session_rules.specs.Sessions.{with_noted}
+use Rattle.session_table.specs.Tables.{with_noted}
 use Rattle.session_table.specs.inner.Blocks.{IsLaidOut}
 use Rattle.session_table.proofs.Changes.{is_out, is_laid_out, written, shows_written}
 use Rattle.session_table.proofs.open_sessions.OpenSessions.note.Goals as goal

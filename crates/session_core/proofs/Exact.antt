@@ -1,6 +1,6 @@
 -- What a service writes is one text of what its system answers: where its moves were made, or broke off, those over the
 -- system were.
-use Rattle.std.proofs.Common.{◌≡◌, ℕ, true, ◌+◌, ◌^◌, ◌<◌, ◌≤◌, List, [], ◌∷◌, ◌++◌, length, Option, Some, refl, ap, sym, ◌∙◌, subst, append_assoc, arith}
+use Rattle.std.proofs.Common.{◌≡◌, ℕ, true, ◌+◌, ◌^◌, ◌<◌, ◌≤◌, List, [], ◌∷◌, ◌++◌, map, length, Option, Some, refl, ap, sym, ◌∙◌, subst, append_assoc, arith}
 use Rattle.std.proofs.lemmas.Bool.Decides.{nat_tests}
 use Rattle.std.specs.Prelude.{nat_le}
 use Rattle.text_rules.specs.Names.{Name}
@@ -9,14 +9,14 @@ use Rattle.state_rules.specs.Graphs.{IsGraph}
 use Rattle.script_lang.specs.Script.{Line, Ask, Request, Dnnf, LeastNnf, line_of}
 use Rattle.session_rules.specs.Items.{Item, Plain}
 use Rattle.session_rules.specs.Spelling.{Spelled, Spells, Writes}
-use Rattle.session_rules.specs.Sessions.{Table, Entry, Step, entry_of, carried, outcome}
-use Rattle.session_rules.specs.Moves.{said, left_by, moves, line_moves, script_moves}
+use Rattle.session_rules.specs.Sessions.{Table, Entry, Step, entry_of, outcome, moves, said, left_by}
+use Rattle.session_rules.specs.Moves.{line_moves, script_moves}
 use Rattle.session_rules.specs.Carrying.{Makes, BreaksOff}
 use Rattle.session_rules.specs.GraphSystems.{HasLeastTexts, system_of}
 use Rattle.session_rules.specs.CaseSizes.{IsCaseOf, HasCasesOf}
 use Rattle.session_rules.proofs.Spellings.{spells_more}
-use Rattle.session_rules.proofs.Whole.{line_moves-whole, left_by-append, said-replies}
-use Rattle.session_rules.proofs.KeptCases.{step-keeps}
+use Rattle.session_rules.proofs.Broken.{left_by-append, said-replies}
+use Rattle.session_rules.proofs.KeptCases.{step_from, moves-keep}
 use Rattle.session_core.proofs.GraphSpellings.{case-spelled, least-spelled}
 use Rattle.session_core.specs.Services.{Shown, SpellReplies, served_system, moves_of}
 
@@ -96,7 +96,7 @@ module _ (shown : Shown) (is_graph : IsGraph shown.subject.graph) (room : length
 
   module _ (table : Table) (s : Name) (h : (e : Entry) → entry_of s table ≡ Some e → IsCaseOf system e.known) where
     abbrev answer : System → Request → Option Entry → List Step
-    answer over request entry = carried table s (outcome over s (nat_le shown.limit (length table)) entry request) ∷ []
+    answer over request entry = map (step_from table s) (outcome over s (nat_le shown.limit (length table)) entry request)
 
     dnnf_exact : (entry : Option Entry) → entry_of s table ≡ entry → AreExact (answer served Dnnf entry) (answer system Dnnf entry)
     dnnf_exact entry there = grind (arith, nat_tests, case-spelled)
@@ -111,8 +111,7 @@ module _ (shown : Shown) (is_graph : IsGraph shown.subject.graph) (room : length
   line_exact table l h = are_same (moves system shown.limit table l)
 
   cases_kept : (table : Table) (bytes : List ℕ) → HasCasesOf system table → HasCasesOf system (left_by table (line_moves system shown.limit table bytes))
-  cases_kept table bytes h =
-      subst (λ (s : Step). HasCasesOf system s.table) (sym (line_moves-whole system shown.limit table bytes)) (step-keeps system shown.limit table (line_of bytes) h)
+  cases_kept table bytes h = moves-keep system shown.limit table (line_of bytes) h
 
   pub script_exact : (table : Table) (lines : List (List ℕ)) → HasCasesOf system table → AreExact (script_moves (moves_of shown) table lines) (script_moves (line_moves system shown.limit) table lines)
   script_exact table [] h = tt

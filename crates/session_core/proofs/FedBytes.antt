@@ -5,8 +5,8 @@ use Rattle.std.proofs.lemmas.Grind.{common_steps}
 use Rattle.std.proofs.lemmas.List.{take_more}
 use Rattle.std.specs.Io.KnownBytes.{Consumes, Keeps}
 use Rattle.text_rules.specs.TextLines.{cut, last_line, whole_lines, all_lines}
-use Rattle.session_rules.specs.Sessions.{Table, Step}
-use Rattle.session_rules.specs.Moves.{left_by, script_moves}
+use Rattle.session_rules.specs.Sessions.{Table, Step, left_by}
+use Rattle.session_rules.specs.Moves.{script_moves}
 use Rattle.session_rules.specs.Carrying.{Makes, BreaksOff, CarriesOut}
 use Rattle.session_core.specs.declared.serving.TheConstants.{READ_LIMIT}
 use Rattle.session_core.specs.Serving.{FailsBehind, FailsAtOnce}

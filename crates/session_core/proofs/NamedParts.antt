@@ -12,7 +12,7 @@ use Rattle.device_model.specs.Devices.{place_of}
 use Rattle.device_model.proofs.NameOrder.{same_name-other}
 use Rattle.device_model.proofs.CallerLemmas.{place_in-names_rise}
 use Rattle.conditioner.specs.Evidence.{bits_of}
-use Rattle.session_rules.specs.Sessions.{state_of}
+use Rattle.session_core.specs.inner.Desks.{state_of}
 
 -- a name that has a place is among the names, and one that has none is not
 pub is_among-at : (name : Name) (names : List Name) (place : ℕ) → Some place ≡ place_of name names → is_among names name ≡ true

@@ -1,6 +1,6 @@
 -- What is answered of a case, by what the graph answers under its words.
 use Rattle.std.proofs.Common.{◌≡◌, ◌≢◌, ℕ, suc, ◌+◌, ◌<◌, Bool, true, false, not, List, [], ◌∷◌, ◌++◌, map, length, get_or, drop, Option, Some, None, refl, ap, ap₂, ◌∙◌, arith, codes}
-use Rattle.std.specs.Prelude.{is_some, slice_get}
+use Rattle.std.specs.Prelude.{is_some, slice_get, if◌then◌else◌}
 use Rattle.std.proofs.lemmas.List.{drop_more}
 use Rattle.text_rules.specs.Names.{Name}
 use Rattle.state_rules.specs.Bits.{bit_in}
@@ -34,7 +34,7 @@ lines-next system s known names i h =
     rest : List (List (List ℕ))
     rest = probe_lines system s known (i + 1) (drop (i + 1) names)
 
-    by : (b : Bool) → (elim b [ true ↦ rest | false ↦ probe_line system s known (get_or names i []) i ∷ rest ])
+    by : (b : Bool) → (if b then rest else probe_line system s known (get_or names i []) i ∷ rest)
         ≡ (elim b as (λ (_ : Bool). List (List (List ℕ))) [ true ↦ [] | false ↦ probe_line system s known (get_or names i []) i ∷ [] ]) ++ rest
     by true = refl
     by false = refl

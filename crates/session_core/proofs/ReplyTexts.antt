@@ -2,15 +2,14 @@
 use Rattle.std.proofs.Common.{◌≡◌, ℕ, ◌+◌, ◌^◌, ◌<◌, ◌≤◌, true, List, [], ◌∷◌, ◌++◌, length, Option, refl, arith}
 use Rattle.state_rules.specs.Graphs.{IsGraph}
 use Rattle.session_rules.specs.Items.{Item, Plain, Projected, LeastText, Whole}
-use Rattle.session_rules.specs.Sessions.{Table, replies}
-use Rattle.session_rules.specs.Moves.{said, line_moves, script_moves}
+use Rattle.session_rules.specs.Sessions.{Table, said, replies}
+use Rattle.session_rules.specs.Moves.{line_moves, script_moves}
 use Rattle.session_rules.specs.Spelling.{Spells, WritesPart}
 use Rattle.session_rules.specs.Carrying.{BreaksOff}
 use Rattle.session_rules.specs.GraphSystems.{Subject, HasLeastTexts, system_of}
 use Rattle.session_rules.specs.CaseSizes.{HasCasesOf}
 use Rattle.session_rules.proofs.Begun.{HaveSpellings}
-use Rattle.session_rules.proofs.Broken.{breaks_before, script_moves-append, broken_replies}
-use Rattle.session_rules.proofs.Whole.{said-replies}
+use Rattle.session_rules.proofs.Broken.{breaks_before, script_moves-append, broken_replies, said-replies}
 use Rattle.session_core.specs.Services.{Shown, moves_of}
 use Rattle.session_core.proofs.OneText.{ArePlain, script-plain}
 use Rattle.session_core.proofs.Exact.{same_said, script_exact}

@@ -1,32 +1,30 @@
 -- A session that moves on, once and so many times.
 use Rattle.std.proofs.Common.{◌≡◌, ◌∙◌, ◌∷◌, ◌++◌, ◌+◌, ◌-◌, ◌<◌, ◌≤◌, arith, [], ℕ, zero, suc, Bool, true, false, List, map, Option, Some, Result, Ok, Err, IsErr, Ordering, refl, ap, sym, subst, append_assoc, append-nil}
-use Rattle.std.specs.Prelude.{IfOk}
+use Rattle.std.specs.Prelude.{IfOk, if◌then◌else◌}
 use Rattle.std.proofs.lemmas.List.{map-append}
 use Rattle.std.specs.Ordering.{nat_cmp}
 use Rattle.std.specs.Cmp.Lexicographic.{slice_cmp}
 use Rattle.std.specs.FinMap.Entries.{by_order, put}
 use Rattle.std.proofs.lemmas.Cmp.{nat_list_cmp_total, tied_itself}
 use Rattle.text_rules.specs.Names.{Name}
-use Rattle.script_lang.specs.Script.{Ask}
 use Rattle.session_rules.specs.GraphSystems.{Subject}
 use Rattle.session_rules.specs.declared.refusal.Refusal.TheVariants.{NoLevels}
 use Rattle.session_rules.specs.Items.{Item, line}
 use Rattle.session_rules.specs.Replies.{Found as Reply, listing}
-use Rattle.session_rules.specs.Sessions.{Table, Entry, Step, Declined, goes_through, entry_of, with_entry, when_open}
-use Rattle.session_rules.specs.Moves.{goes_on}
+use Rattle.session_rules.specs.Sessions.{Table, Entry, Becomes, Step, declined, lists, with_entry, when_open}
 use Rattle.session_rules.specs.Spelling.{WritesPart, Replies}
 use Rattle.session_rules.specs.Carrying.{Makes, BreaksOff, CarriesOut}
 use Rattle.session_rules.proofs.Spellings.{writes_none}
 use Rattle.session_rules.proofs.Broken.{makes_none, makes_more, breaks_after}
 use Rattle.session_table.specs.Tables.{StandsAt}
-use Rattle.session_core.specs.Services.{Shown, ChangesTable, exact_moves, served_system}
+use Rattle.session_core.specs.Services.{Shown, ChangesTable, served_system}
 use Rattle.session_core.specs.declared.listed.Listed.{Listed}
 use Rattle.session_core.specs.declared.listed.NextState.{NextState}
 use Rattle.session_core.specs.inner.Desks.{is_listed, is_found}
 use Rattle.session_core.specs.inner.Texts.{next_text}
-use Rattle.session_core.specs.inner.Obeying.{Obeys, next_request, list_request, the_found, found_by, found_entry, found_moves, PointMoves, MovesOn}
-use Rattle.session_core.proofs.RefusedLines.{no_more}
-use Rattle.session_core.proofs.OneMove.{obeys_outcome}
+use Rattle.session_core.specs.inner.Obeying.{Obeys, goes_on, list_request, the_found, found_by, found_entry, found_moves, PointMoves, MovesOn}
+use Rattle.session_rules.proofs.KeptCases.{step_from}
+use Rattle.session_core.proofs.OneMove.{asked_open}
 
 -- ---- a reply that failed
 
@@ -55,21 +53,9 @@ pub moves_on : {E : Type 0} (old new : Shown) (listed : Listed) (place : ℕ) (s
     → MovesOn old new listed place session entry before after result
 moves_on old new listed place session entry next state before after result m stays reply more = grind arith
 
--- a listing, and the request for its next state
-
 -- what is not listed is declined
-pub next_declined : (subject : Subject) (listed : Listed) (session : Name) (entry : Entry) → is_listed subject listed ≡ false → when_open (served_system subject) session entry (next_request listed) ≡ Declined NoLevels
-next_declined subject listed session entry off = grind arith
-
-pub list_declined : (subject : Subject) (listed : Listed) (session : Name) (entry : Entry) (count : ℕ) → is_listed subject listed ≡ false → when_open (served_system subject) session entry (list_request listed count) ≡ Declined NoLevels
+pub list_declined : (subject : Subject) (listed : Listed) (session : Name) (entry : Entry) (count : ℕ) → is_listed subject listed ≡ false → when_open (served_system subject) session entry (list_request listed count) ≡ declined session NoLevels
 list_declined subject listed session entry count off = grind arith
-
--- the request was obeyed
-pub obeys_next : {T E : Type 0} (old new : Shown) (listed : Listed) (session : Name) (entry : Entry) (before after : Option (List ℕ)) (result : Result T E)
-    → is_listed old.subject listed ≡ true → entry_of session old.table ≡ Some entry
-    → Replies before after result ((the_found old.subject listed session entry).item ∷ [])
-    → new ≡ record old { table = with_entry session (found_entry old.subject listed session entry) old.table } → Obeys old new session (next_request listed) before after result
-obeys_next old new listed session entry before after result is there reply moves = grind (arith, obeys_outcome)
 
 -- ---- so many times
 
@@ -105,10 +91,10 @@ module _ (old : Shown) (listed : Listed) (place : ℕ) (session : Name) (entry :
 
   -- what comes after the next one
   abbrev later_of : ℕ → Option (List Bool) → List Reply
-  later_of left point = elim (next point).more as (λ _. List Reply) [ true ↦ listing next left (next point).point | false ↦ [] ]
+  later_of left point = if (next point).more then listing next left (next point).point else []
 
   none_left : (left : ℕ) (point : Option (List Bool)) → (next point).more ≡ false → listing next (suc left) point ≡ next point ∷ []
-  none_left left point e = ap (λ (b : Bool). next point ∷ (elim b as (λ _. List Reply) [ true ↦ listing next left (next point).point | false ↦ [] ])) e
+  none_left left point e = ap (λ (b : Bool). next point ∷ (if b then listing next left (next point).point else [])) e
 
   -- the move that was made, or broke off
   module _ (now new : Shown) (counter : ℕ) (less : counter < count) (a b c : Option (List ℕ)) (lists : Lists old now listed place session entry count (count - counter) a b) where
@@ -172,16 +158,23 @@ carries_broken old new ms before after result failed broke = grind arith
 
 -- ---- the request for so many
 
-list_moves : (old : Shown) (listed : Listed) (session : Name) (entry : Entry) (n : ℕ) → is_listed old.subject listed ≡ true → entry_of session old.table ≡ Some entry
-    → found_moves old listed session entry (suc n) ≡ exact_moves old old.table (Ask session (list_request listed (suc n)))
-list_moves old listed session entry n is found = grind arith
+stepped : (table : Table) (session : Name) (entry : Entry) (found : List Reply)
+    → map (goes_on table session entry) found ≡ map (step_from table session) (map (λ (f : Reply). record { change = Becomes (record entry { point = f.point }); items = f.item ∷ [] }) found)
+stepped table session entry [] = refl
+stepped table session entry (f ∷ found) = ap (λ (ms : List Step). goes_on table session entry f ∷ ms) (stepped table session entry found)
 
-none_open : (subject : Subject) (listed : Listed) (session : Name) (entry : Entry) → is_listed subject listed ≡ true
-    → when_open (served_system subject) session entry (list_request listed zero) ≡ goes_through entry []
-none_open subject listed session entry is = grind arith
+open_lists : (subject : Subject) (listed : Listed) (session : Name) (entry : Entry) (count : ℕ) → is_listed subject listed ≡ true
+    → lists entry (found_by subject listed session entry) count ≡ when_open (served_system subject) session entry (list_request listed count)
+open_lists subject listed session entry count is = grind arith
 
--- the request was obeyed; for none it is one move, which says nothing and changes nothing
+-- the request was obeyed
 pub obeys_list : {T E : Type 0} (old new : Shown) (listed : Listed) (place : ℕ) (session : Name) (entry : Entry) (count : ℕ) (before after : Option (List ℕ)) (result : Result T E)
     → is_listed old.subject listed ≡ true → StandsAt old.table place session entry
     → CarriesOut old.table new.table (found_moves old listed session entry count) before after result → ChangesTable old new → Obeys old new session (list_request listed count) before after result
-obeys_list old new listed place session entry count before after result is stands given stays = grind (arith, no_more, list_moves)
+obeys_list old new listed place session entry count before after result is stands given stays = record {
+  carried = subst (λ (ms : List Step). CarriesOut old.table new.table ms before after result)
+      (stepped old.table session entry (listing (found_by old.subject listed session entry) count entry.point)
+      ∙ ap (map (step_from old.table session)) (open_lists old.subject listed session entry count is ∙ sym (asked_open old session (list_request listed count) entry stands.found)))
+      given;
+  stays = stays;
+}

@@ -1,5 +1,5 @@
 -- What a service shows of what it holds, and what its changes are.
-use Rattle.std.proofs.Common.{◌≡◌, ◌∙◌, ◌∷◌, ◌++◌, [], ◌<◌, ℕ, List, Option, Some, Result, length, take, drop, refl, ap, sym, arith}
+use Rattle.std.proofs.Common.{◌≡◌, ◌∙◌, ◌∷◌, ◌++◌, [], ◌<◌, ℕ, List, Option, Some, Result, length, take, drop, refl, ap, sym, subst, arith}
 use Rattle.std.proofs.Math.Seq.{take-append_seam}
 use Rattle.std.proofs.lemmas.List.Quantifiers.{position-Some}
 use Rattle.text_rules.specs.Names.{Name, same_name}
@@ -12,14 +12,18 @@ use Rattle.script_lang.specs.declared.line.Noted.{Noted}
 use Rattle.session_rules.specs.CaseEvidence.{case_of_evidence, IsEvidence}
 use Rattle.session_rules.specs.GraphSystems.{Subject}
 use Rattle.session_rules.specs.Items.{line}
-use Rattle.session_rules.specs.Sessions.{Table, Entry, outcome_in, becomes, names_of, with_entry}
+use Rattle.session_rules.specs.declared.refusal.Refusal.{Refusal}
+use Rattle.session_rules.specs.Refusals.{refusal_row, error_words}
+use Rattle.session_rules.specs.Sessions.{Table, Change, Move, changed, declined, when_open}
+use Rattle.session_rules.specs.Spelling.{Replies}
 use Rattle.session_rules.proofs.Spellings.{replies_one}
 use Rattle.session_table.specs.Tables.{Opened, count_of}
-use Rattle.session_core.specs.Services.{served_system}
-use Rattle.session_core.specs.inner.Bases.{AreKnown, case_in}
+use Rattle.session_core.specs.Services.{Shown, served_system}
+use Rattle.session_core.specs.declared.sessions.OpenSession.{OpenSession}
+use Rattle.session_core.specs.inner.Bases.{AreKnown, case_in, names_of}
 use Rattle.session_core.specs.inner.Holding.{HoldsTogether, shown_of}
-use Rattle.session_core.specs.inner.Obeying.{Obeys}
-use Rattle.session_core.proofs.OneMove.{IsOneMove, obeys_outcome}
+use Rattle.session_core.specs.inner.Obeying.{Obeys, IsOpen}
+use Rattle.session_core.proofs.OneMove.{obeys_one, asked_open}
 
 -- sessions with another table
 abbrev pub opened_with : Opened → Table → Opened
@@ -32,18 +36,41 @@ place-within name names place e = (position-Some (same_name name) names place []
 pub holds_more : (subject : Subject) (old new : Opened) (table : Table) → HoldsTogether subject old → new ≡ opened_with old table → HoldsTogether subject new
 holds_more subject old new table h e = grind arith
 
--- a session became another, and a word was said
-pub obeys_becomes : {T E : Type 0} (subject : Subject) (old new : Opened) (session : Name) (request : Request) (entry : Entry) (word : List ℕ) (before after : Option (List ℕ)) (result : Result T E)
-    → IsOneMove request → outcome_in (served_system subject) old.limit old.table session request ≡ becomes session entry word
-    → new ≡ opened_with old (with_entry session entry old.table) → Puts before after result (spaced (session ∷ word ∷ []))
-    → Obeys (shown_of subject old) (shown_of subject new) session request before after result
-obeys_becomes subject old new session request entry word before after result one is e put =
-    obeys_outcome (shown_of subject old) session request one before after result (becomes session entry word) (shown_of subject new) is (ap (shown_of subject) e)
-    (replies_one before after result (line (session ∷ word ∷ [])) _ refl put)
-
 -- there are as many places for notes as wires, or parts
-pub count-there : (subject : Subject) (opened : Opened) → HoldsTogether subject opened → (what : Noted) → length (names_of (served_system subject) what) ≡ count_of opened.parts opened.wires what
+pub count-there : (subject : Subject) (opened : Opened) → HoldsTogether subject opened → (what : Noted) → length (names_of subject what) ≡ count_of opened.parts opened.wires what
 count-there subject opened h what = grind arith
+
+-- ---- what an open session is asked
+
+module _ (subject : Subject) (opened : Opened) (old : Shown) (view : shown_of subject opened ≡ old) (session : OpenSession) (is : IsOpen old.table session) where
+  pub there : IsOpen opened.table session
+  there = subst (λ (v : Shown). IsOpen v.table session) (sym view) is
+
+  -- it comes to one move
+  pub open_one : {T E : Type 0} (request : Request) (move : Move) (after : Subject) (new : Opened) (a b : Option (List ℕ)) (result : Result T E)
+      → when_open (served_system subject) session.name.now there.entry request ≡ move ∷ [] → after ≡ subject
+      → new ≡ opened_with opened (changed session.name.now move.change opened.table) → Replies a b result move.items → Obeys old (shown_of after new) session.name.now request a b result
+  open_one request move after new a b result one same becomes reply =
+      let shown : Shown = shown_of subject opened in
+      subst (λ (v : Shown). Obeys v (shown_of after new) session.name.now request a b result) view
+      (obeys_one shown (shown_of after new) session.name.now request move a b result
+      (asked_open shown session.name.now request there.entry there.stands.found ∙ one)
+      (λ i. shown_of (same i) (becomes i)) reply)
+
+  -- a word
+  pub open_word : {T E : Type 0} (request : Request) (change : Change) (word : List ℕ) (after : Subject) (new : Opened) (a b : Option (List ℕ)) (result : Result T E)
+      → when_open (served_system subject) session.name.now there.entry request ≡ record { change = change; items = line (session.name.now ∷ word ∷ []) ∷ [] } ∷ [] → after ≡ subject
+      → new ≡ opened_with opened (changed session.name.now change opened.table) → Puts a b result (spaced (session.name.now ∷ word ∷ []))
+      → Obeys old (shown_of after new) session.name.now request a b result
+  open_word request change word after new a b result one same becomes put =
+      open_one request _ after new a b result one same becomes (replies_one a b result (line (session.name.now ∷ word ∷ [])) _ refl put)
+
+  -- or a refusal
+  pub open_refused : {T E : Type 0} (request : Request) (refusal : Refusal) (after : Subject) (a b : Option (List ℕ)) (result : Result T E)
+      → when_open (served_system subject) session.name.now there.entry request ≡ declined session.name.now refusal → after ≡ subject
+      → Puts a b result (spaced (session.name.now ∷ error_words (refusal_row refusal))) → Obeys old (shown_of after opened) session.name.now request a b result
+  open_refused request refusal after a b result one same put =
+      open_one request _ after opened a b result one same refl (replies_one a b result (line (session.name.now ∷ error_words (refusal_row refusal))) _ refl put)
 
 -- a list that was lent whole and written back
 pub written_back : {A : Type 0} (n : ℕ) (new old : List A) → n ≡ length new → take n (new ++ drop (length new) old) ≡ new

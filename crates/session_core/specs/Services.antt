@@ -1,5 +1,5 @@
 -- What contracts see of a service.
-use Rattle.std.specs.Prelude.{◌≡◌, ◌+◌, ◌*◌, ◌^◌, ◌<◌, ◌≤◌, ℕ, true, List, length, Option, Some}
+use Rattle.std.specs.Prelude.{◌≡◌, ◌+◌, ◌*◌, ◌^◌, ◌<◌, ◌≤◌, ℕ, true, List, length, nat_le, Option, Some}
 use Rattle.state_rules.specs.Cases.{Case}
 use Rattle.state_rules.specs.Systems.{System, with_texts}
 use Rattle.state_rules.specs.Graphs.{Graph, IsGraph, edges}
@@ -7,10 +7,11 @@ use Rattle.projector.specs.Projecting.{projected_text}
 use Rattle.level_lister.specs.Listing.{cost_words}
 use Rattle.smooth_nnf.specs.Layouts.{least_text}
 use Rattle.smooth_nnf.specs.Sizes.{drawing_bits}
-use Rattle.script_lang.specs.Script.{Line, Blank, Refused, Ask, line_of}
+use Rattle.text_rules.specs.Names.{Name}
+use Rattle.script_lang.specs.Script.{Line, Request, Blank, Refused, Ask, line_of}
 use Rattle.session_rules.specs.declared.refusal.Refusal.{Refusal}
-use Rattle.session_rules.specs.Sessions.{Table, Step, Declined, outcome_in, replies}
-use Rattle.session_rules.specs.Moves.{moves, line_moves, script_moves}
+use Rattle.session_rules.specs.Sessions.{Table, Move, Step, entry_of, outcome, declined, moves, replies}
+use Rattle.session_rules.specs.Moves.{line_moves, script_moves}
 use Rattle.session_rules.specs.Carrying.{Makes, BreaksOff}
 use Rattle.session_rules.specs.Spelling.{Writes}
 use Rattle.session_rules.specs.CaseSizes.{HasCasesOf}
@@ -64,13 +65,17 @@ exact_moves shown table line = moves (served_system shown.subject) shown.limit t
 abbrev pub moves_of : Shown → Table → List ℕ → List Step
 moves_of shown table bytes = exact_moves shown table (line_of bytes)
 
+-- what a request comes to
+abbrev pub outcome_of : Shown → Name → Request → List Move
+outcome_of shown session request =
+    outcome (served_system shown.subject) session (nat_le shown.limit (length shown.table)) (entry_of session shown.table) request
+
 -- A line is refused: it is none of the language, or what it asks is declined, as if its session is not open or if it names
 -- no part or wire. A blank line is not refused.
 abbrev pub IsRefused : Shown → Line → Type 0
 IsRefused shown Blank = ⊥
 IsRefused shown (Refused refusal) = Unit {0}
-IsRefused shown (Ask session request) =
-    (refusal : Refusal) × (outcome_in (served_system shown.subject) shown.limit shown.table session request ≡ Declined refusal)
+IsRefused shown (Ask session request) = (refusal : Refusal) × (outcome_of shown session request ≡ declined session refusal)
 
 -- nothing but the table changed
 abbrev pub ChangesTable : Shown → Shown → Type 0

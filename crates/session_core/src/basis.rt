@@ -8,8 +8,8 @@ ghost use Rattle.minimiser.specs.declared.pass.TheConstants.{TOTAL_LIMIT};
 ghost use Rattle.scratch_pool.specs.declared.region.TheConstants.{REGION_LIMIT};
 ghost use Rattle.part_sets.specs.PartSets.{AreFor};
 ghost use Rattle.level_lister.specs.Listing.{IsFor};
-ghost use Rattle.session_rules.specs.Sessions.{names_of};
-ghost use Rattle.session_core.specs.Services.{CanList, CanDraw, served_system};
+ghost use Rattle.session_core.specs.Services.{CanList, CanDraw};
+ghost use Rattle.session_core.specs.inner.Bases.{names_of};
 
 use crate::limits::{SERVED_NODES, SERVED_VARIABLES};
 use crate::listed::Listed;
@@ -148,7 +148,7 @@ impl Basis {
 
     /// The place of a wire, or of a part. There is none exactly if none has the name.
     pub(crate) fn find(&self, what: Noted, name: &[u8]) -> Option<u32>
-        ensures { result ≡ place_of name.now (names_of (served_system self.now) what) }
+        ensures { result ≡ place_of name.now (names_of self.now what) }
     {
         match what {
             Noted::Wire => place_of(&self.wires, name),

@@ -9,11 +9,10 @@ ghost use Rattle.diag_edge.specs.Edge.{HasCause, Puts};
 ghost use Rattle.conditioner.specs.Evidence.{bits_of};
 ghost use Rattle.probe_report.specs.Probed.{probed};
 ghost use Rattle.level_lister.specs.Listing.{point_if};
-ghost use Rattle.session_rules.specs.Sessions.{state_of};
 ghost use Rattle.session_rules.specs.Replies.{seen_at};
 ghost use Rattle.session_core.specs.Services.{least_case_text};
 ghost use Rattle.session_core.specs.inner.Bases.{AreKnown};
-ghost use Rattle.session_core.specs.inner.Desks.{asked_case, least_asked, diagnoses_asked, least_seen, blame_asked, is_listed, later_states, next_after, IsFirst};
+ghost use Rattle.session_core.specs.inner.Desks.{state_of, asked_case, least_asked, diagnoses_asked, least_seen, blame_asked, is_listed, later_states, next_after, IsFirst};
 
 use crate::basis::Basis;
 use crate::desk_memory::DeskMemory;

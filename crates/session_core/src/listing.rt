@@ -11,7 +11,7 @@ ghost use Rattle.session_table.specs.Tables.{StandsAt};
 ghost use Rattle.session_core.specs.Services.{ChangesTable};
 ghost use Rattle.session_core.specs.inner.Desks.{is_listed};
 ghost use Rattle.session_core.specs.inner.Holding.{HoldsTogether, shown_of};
-ghost use Rattle.session_core.specs.inner.Obeying.{Obeys, IsOpen, PointMoves, MovesOn, found_moves, next_request, list_request};
+ghost use Rattle.session_core.specs.inner.Obeying.{Obeys, IsOpen, PointMoves, MovesOn, found_moves, list_request};
 
 use crate::desk::Desk;
 use crate::listed::{Listed, NextState};
@@ -105,24 +105,6 @@ fn move_so_far<O: Sink>(
 }
 
 impl Sessions {
-    // Shows what comes next of a listing of a session.
-    pub(crate) fn next<O: Sink>(
-        &mut self,
-        listed: Listed,
-        session: OpenSession<'_>,
-        out: &mut O,
-    ) -> Result<(), WriteFailed>
-        requires { IsOpen self.old.table session }
-        ensures obeys { Obeys self.old self.new session.entry.name.now (next_request listed) (O.got out.old) (O.got out.new) result }
-        ensures cause { HasCause (O.faults out.old) (O.faults out.new) result }
-    {
-        if !self.desk.basis().lists(listed) {
-            return put_refusal(out, session.name, Refusal::NoLevels);
-        }
-        move_on(&mut self.desk, &mut self.open, listed, session, out)?;
-        Ok(())
-    }
-
     // Shows what comes next of a listing of a session, up to so many times.
     pub(crate) fn list<O: Sink>(
         &mut self,

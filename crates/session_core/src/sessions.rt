@@ -3,9 +3,9 @@ ghost use Rattle.text_rules.specs.Names.{is_short_name};
 ghost use Rattle.diag_edge.specs.Edge.{HasCause};
 ghost use Rattle.script_lang.specs.Script.{asked, Start, Stop, Note};
 ghost use Rattle.session_rules.specs.Carrying.{CarriesOut};
-ghost use Rattle.session_rules.specs.Sessions.{entry_of, no_such};
+ghost use Rattle.session_rules.specs.Sessions.{entry_of};
 ghost use Rattle.session_core.specs.Services.{moves_of, ChangesTable, IsSound};
-ghost use Rattle.session_core.specs.inner.Obeying.{Obeys, IsOpen};
+ghost use Rattle.session_core.specs.inner.Obeying.{Obeys, IsOpen, no_such};
 
 use crate::basis::Basis;
 use crate::desk::Desk;
@@ -147,11 +147,11 @@ impl Sessions {
             Request::Stop => self.stop(session, out),
             Request::Note { what, name, known } => self.note(session, what, name, known, out),
             Request::Tell(question) => self.ask_case(session, question, out),
-            Request::Next => self.next(Listed::Diagnoses, session, out),
+            Request::Next => self.list(Listed::Diagnoses, session, 1, out),
             Request::List { count } => self.list(Listed::Diagnoses, session, count, out),
             Request::After { names } => self.after(session, names, out),
             Request::Dnnf => self.ask_graph(session, out),
-            Request::Level => self.next(Listed::Levels, session, out),
+            Request::Level => self.list(Listed::Levels, session, 1, out),
             Request::Levels { count } => self.list(Listed::Levels, session, count, out),
             Request::LeastNnf => self.ask_least(session, out),
         }

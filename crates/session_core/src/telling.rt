@@ -1,14 +1,13 @@
 //! What is answered of a case that stays as it is.
 ghost use Rattle.std.specs.Prelude.{◌≡◌, ◌<◌, ◌++◌, ◌∷◌, [], map};
 ghost use Rattle.diag_edge.specs.Edge.{HasCause};
-ghost use Rattle.device_model.specs.Devices.{place_of};
-ghost use Rattle.script_lang.specs.Script.{question_of};
+ghost use Rattle.script_lang.specs.Script.{question_of, Probe};
 ghost use Rattle.session_rules.specs.Items.{line};
-ghost use Rattle.session_rules.specs.Replies.{end_line, min_line, blame_lines, if_any, probe_told, told};
+ghost use Rattle.session_rules.specs.Replies.{end_line, min_line, blame_lines, if_any, told};
 ghost use Rattle.session_rules.specs.Spelling.{Replies};
 ghost use Rattle.session_core.specs.Services.{served_system};
 ghost use Rattle.session_core.specs.inner.Desks.{asked_case, least_asked, diagnoses_asked};
-ghost use Rattle.session_core.specs.inner.Telling.{items_told, verdict_lines};
+ghost use Rattle.session_core.specs.inner.Telling.{verdict_lines};
 
 use crate::desk::Desk;
 use crate::probing::tell_probes;
@@ -31,8 +30,7 @@ pub(crate) fn tell<O: Sink, L: Ledger>(
     requires shares { blank.parts ≡ L.parts }
     requires some { 0 < blank.parts }
     ensures reply { Replies (O.got out.old) (O.got out.new) result
-        (items_told session.now
-        (told (served_system desk.old.subject) session.now (asked_case desk.old) (question_of question.entry))) }
+        (map line (told (served_system desk.old.subject) session.now (asked_case desk.old) (question_of question.entry))) }
     ensures subject { desk.new.subject ≡ desk.old.subject }
     ensures cause { HasCause (O.faults out.old) (O.faults out.new) result }
 {
@@ -69,9 +67,8 @@ fn tell_probe<O: Sink, L: Ledger>(
     out: &mut O,
     steps: &mut Steps<L>,
 ) -> Result<(), WriteFailed>
-    ensures reply { let system = served_system desk.old.subject in
-        Replies (O.got out.old) (O.got out.new) result (items_told session.now
-        (probe_told system session.now (asked_case desk.old) name.now (place_of name.now system.wires))) }
+    ensures reply { Replies (O.got out.old) (O.got out.new) result
+        (map line (told (served_system desk.old.subject) session.now (asked_case desk.old) (Probe name.now))) }
     ensures subject { desk.new.subject ≡ desk.old.subject }
     ensures cause { HasCause (O.faults out.old) (O.faults out.new) result }
 {

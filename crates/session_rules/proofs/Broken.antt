@@ -37,7 +37,7 @@ pub breaks_after : {t u v : Table} {ms ns : List Step} {a b c : Option (List ℕ
 breaks_after {t} {u} {v} {ms} {ns} {a} {b} {c} first broke = grind (arith, append_assoc ms broke.made (broke.move ∷ broke.others), said-append ms broke.made, writes_more a b broke.middle (said ms) (said broke.made) first.written broke.written)
 
 -- a line of one move was carried out
-carries_one : {T E : Type 0} (s t : Table) (step : Step) (a b : Option (List ℕ)) (result : Result T E) → Replies a b result step.items → t ≡ step.table → CarriesOut s t (step ∷ []) a b result
+pub carries_one : {T E : Type 0} (s t : Table) (step : Step) (a b : Option (List ℕ)) (result : Result T E) → Replies a b result step.items → t ≡ step.table → CarriesOut s t (step ∷ []) a b result
 carries_one s t step a b (Ok v) written table = record { written = subst (Writes a b) (sym (append-nil step.items)) written; table = table }
 carries_one s t step a b (Err e) part table = record {
   made = [];
@@ -49,10 +49,6 @@ carries_one s t step a b (Err e) part table = record {
   begun = part;
   table = table;
 }
-
--- also where the step that was shown is said otherwise
-pub carries_step : {T E : Type 0} (s t : Table) (step other : Step) (a b : Option (List ℕ)) (result : Result T E) → step ≡ other → Replies a b result step.items → t ≡ step.table → CarriesOut s t (other ∷ []) a b result
-carries_step s t step other a b result same reply table = subst (λ move. CarriesOut s t (move ∷ []) a b result) same (carries_one s t step a b result reply table)
 
 pub script_moves-append : (one : Table → List ℕ → List Step) (t : Table) (ls ks : List (List ℕ))
     → script_moves one t (ls ++ ks) ≡ script_moves one t ls ++ script_moves one (left_by t (script_moves one t ls)) ks

@@ -9,6 +9,8 @@ use Rattle.conditioner.specs.Models.{total_cost}
 use Rattle.minimiser.specs.declared.pass.TheConstants.{TOTAL_LIMIT}
 use Rattle.part_sets.specs.PartSets.{Kept as Sets, AreFor}
 use Rattle.level_lister.specs.Listing.{Kept, IsFor, cost_words}
+use Rattle.script_lang.specs.declared.line.Noted.{Noted}
+use Rattle.script_lang.specs.declared.line.Noted.TheVariants.{Wire, Part}
 use Rattle.session_rules.specs.GraphSystems.{Subject}
 use Rattle.session_rules.specs.CaseEvidence.{case_of_evidence, IsEvidence}
 use Rattle.session_core.specs.declared.limits.TheConstants.{SERVED_VARIABLES, SERVED_NODES}
@@ -39,6 +41,11 @@ basis_of parts wires costs graph levels least = record {
   graph = graph;
   extras = record { levels = option_map (λ (kept : Kept). kept.top) levels; least = least };
 }
+
+-- the names of wires, or of parts
+abbrev pub names_of : Subject → Noted → List Name
+names_of subject Wire = subject.wires
+names_of subject Part = subject.parts
 
 -- what lists states by rising cost was made for the graph
 abbrev pub ListsLevels : Subject → Option Kept → Type 0

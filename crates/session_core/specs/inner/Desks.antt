@@ -1,5 +1,6 @@
 -- What answers are worked out with.
 use Rattle.std.specs.Prelude.{◌≡◌, ℕ, ◌*◌, ◌<◌, Bool, true, false, not, List, [], ◌∷◌, map, length, All, Option, Some, None, is_some}
+use Rattle.text_rules.specs.Names.{Name, is_among}
 use Rattle.state_rules.specs.Bits.{bit_in}
 use Rattle.state_rules.specs.Cases.{Case}
 use Rattle.state_rules.specs.Levels.{levels, levels_rest}
@@ -56,6 +57,10 @@ least_asked desk = least_cost (served_system desk.subject) (asked_case desk)
 
 abbrev pub diagnoses_asked : OnDesk → List (List Bool)
 diagnoses_asked desk = all_diagnoses (served_system desk.subject) (asked_case desk)
+
+-- the state whose faulty parts are those named
+abbrev pub state_of : List Name → List Name → List Bool
+state_of named parts = map (λ part. not (is_among named part)) parts
 
 -- up to which cost states are listed
 abbrev pub top_of : Option ℕ → ℕ

@@ -1,11 +1,16 @@
 -- What a request does with the sessions.
-use Rattle.std.specs.Prelude.{◌≡◌, ℕ, ◌<◌, Bool, List, [], ◌∷◌, length, map, Option, Some, Result, IfOk, if◌then◌else◌}
+use Rattle.std.specs.Prelude.{◌≡◌, ℕ, ◌<◌, Bool, List, [], ◌∷◌, length, map, Option, Some, Result, IfOk, codes, if◌then◌else◌}
+use Rattle.std.specs.Fmt.{decimal}
 use Rattle.text_rules.specs.Names.{Name}
-use Rattle.script_lang.specs.Script.{Request, Ask, Next, Several, Level, Levels as LevelsOf}
+use Rattle.state_rules.specs.Ranking.{cost}
+use Rattle.script_lang.specs.declared.line.Noted.{Noted}
+use Rattle.script_lang.specs.declared.line.Noted.TheVariants.{Wire, Part}
+use Rattle.script_lang.specs.Script.{Request, Ask, Several, Levels as LevelsOf}
 use Rattle.session_rules.specs.GraphSystems.{Subject}
 use Rattle.session_rules.specs.Items.{Item, line}
-use Rattle.session_rules.specs.Replies.{Found, found, listing, diagnosis_line, level_line}
-use Rattle.session_rules.specs.Moves.{goes_on}
+use Rattle.session_rules.specs.Replies.{Found, found, listing, faulty_names}
+use Rattle.session_rules.specs.declared.refusal.Refusal.{Refusal}
+use Rattle.session_rules.specs.declared.refusal.Refusal.TheVariants.{NoWire, NoPart}
 use Rattle.session_rules.specs.Sessions.{Entry, Table, Step, with_entry}
 use Rattle.session_rules.specs.Spelling.{Replies}
 use Rattle.session_rules.specs.Carrying.{CarriesOut}
@@ -29,23 +34,30 @@ pub record IsOpen (table : Table) (session : OpenSession) : Type 0 where
   pub entry : Entry
   pub stands : StandsAt table session.place session.name.now entry
 
--- the requests for the next of a listing, and for so many
-abbrev pub next_request : Listed → Request
-next_request Diagnoses = Next
-next_request Levels = Level
+-- why nothing is noted of a wire, or a part, that there is not
+abbrev pub no_such : Noted → Refusal
+no_such Wire = NoWire
+no_such Part = NoPart
 
+-- the request for so many of a listing
 abbrev pub list_request : Listed → ℕ → Request
 list_request Diagnoses count = Several count
 list_request Levels count = LevelsOf count
 
 abbrev pub state_line : Subject → Listed → Name → List Bool → Item
-state_line subject Diagnoses session state = diagnosis_line (served_system subject) session state
-state_line subject Levels session state = level_line (served_system subject) session state
+state_line subject Diagnoses session state = line (session ∷ codes "diag" ∷ faulty_names subject.parts state)
+state_line subject Levels session state =
+    line (session ∷ codes "level" ∷ decimal (cost subject.costs state) ∷ faulty_names subject.parts state)
 
 -- what comes after a point of a listing
 abbrev pub found_by : Subject → Listed → Name → Entry → Option (List Bool) → Found
 found_by subject listed session entry point = found session (state_line subject listed session) point
     (listed_states subject listed entry.known) (later_states subject listed entry.known point)
+
+-- the session goes on after what was found
+abbrev pub goes_on : Table → Name → Entry → Found → Step
+goes_on table session entry f =
+    record { table = with_entry session (record entry { point = f.point }) table; items = f.item ∷ [] }
 
 -- the moves of a listing of so many
 abbrev pub found_moves : Shown → Listed → Name → Entry → ℕ → List Step

@@ -1,23 +1,15 @@
 -- What is answered of a case that stays as it is.
-use Rattle.std.specs.Prelude.{◌≡◌, ℕ, ◌<◌, Bool, Option, Result, Ok, Err, List, [], ◌∷◌, ◌++◌, map, length, codes, is_some, true, false}
+use Rattle.std.specs.Prelude.{◌≡◌, ℕ, ◌<◌, Bool, Option, List, [], ◌∷◌, ◌++◌, map, length, codes, is_some, true, false}
 use Rattle.text_rules.specs.Names.{Name}
 use Rattle.state_rules.specs.Cases.{Case}
 use Rattle.state_rules.specs.Systems.{System}
 use Rattle.probe_report.specs.Probed.{probed}
 use Rattle.probe_report.specs.declared.verdicts.Blame.{Blame as Verdict}
-use Rattle.session_rules.specs.declared.refusal.Refusal.{Refusal}
-use Rattle.session_rules.specs.Refusals.{refusal_row}
-use Rattle.session_rules.specs.Items.{Item, line}
+use Rattle.session_rules.specs.Items.{line}
 use Rattle.session_rules.specs.Replies.{end_line, probe_line, probe_lines, if_any, seen_at}
-use Rattle.session_rules.specs.Sessions.{error_words}
 use Rattle.session_rules.specs.Spelling.{Writes}
 use Rattle.session_core.specs.inner.Texts.{blame_text}
 use Rattle.session_core.specs.inner.Desks.{OnDesk, least_seen}
-
--- what is answered, line by line, or the line of the refusal
-abbrev pub items_told : Name → Result (List (List (List ℕ))) Refusal → List Item
-items_told session (Ok lines) = map line lines
-items_told session (Err refusal) = line (session ∷ error_words (refusal_row refusal)) ∷ []
 
 -- what is answered of all wires
 abbrev pub probes_told : System → Name → Case → List (List (List ℕ))

@@ -6,7 +6,7 @@ use Rattle.script_lang.proofs.AskedLemmas.{well_asked}
 use Rattle.script_lang.specs.Script.{asked, Line}
 use Rattle.session_core.specs.Services.{exact_moves}
 use Rattle.session_rules.specs.Carrying.{Makes, CarriesOut}
-use Rattle.session_rules.proofs.Broken.{carries_step}
+use Rattle.session_rules.proofs.Broken.{carries_one}
 use Rattle.session_rules.proofs.Spellings.{writes_none, replies_one}
 use Rattle.session_core.proofs.OneMove.{line_carried}
 use Rattle.session_core.proofs.sessions.Sessions.line.Goals as goal
@@ -27,7 +27,7 @@ pub returns-in-Refused-clause-carried : goal.returns-in-Refused-clause-carried
 returns-in-Refused-clause-carried g c =
     let old = c.args.self.now in
     subst (λ (l : Line). CarriesOut old.table old.table (exact_moves old old.table l) (g.O.Sink.got c.args.out.now) (g.O.Sink.got c.put_line_refusal.new.out) c.put_line_refusal.result) (c.in-Refused.ensures ∙ c.parse_line.ensures.means)
-    (carries_step _ _ _ _ _ _ _ refl (replies_one _ _ _ _ _ refl c.put_line_refusal.ensures.text) refl)
+    (carries_one _ _ _ _ _ _ (replies_one _ _ _ _ _ refl c.put_line_refusal.ensures.text) refl)
 
 pub returns-in-Of-clause-carried : goal.returns-in-Of-clause-carried
 returns-in-Of-clause-carried g c = line_carried c.args.self.now c.ask.new.self _ _ c.args.line.now _ _ _ (c.in-Of.ensures ∙ c.parse_line.ensures.means) c.ask.ensures.obeys

@@ -8,16 +8,15 @@ use Rattle.state_rules.specs.Systems.{System}
 use Rattle.diag_edge.specs.Edge.{AppendsPrefix}
 use Rattle.diag_edge.proofs.GrownBytes.{grows_more}
 use Rattle.session_rules.specs.Items.{Item}
-use Rattle.session_rules.specs.Sessions.{Table, Step, replies}
-use Rattle.session_rules.specs.Moves.{said, left_by, line_moves, script_moves}
+use Rattle.session_rules.specs.Sessions.{Table, Step, left_by, replies}
+use Rattle.session_rules.specs.Moves.{line_moves, script_moves}
 use Rattle.session_rules.specs.Spelling.{Writes, WritesPart}
 use Rattle.session_rules.specs.GraphSystems.{system_of}
 use Rattle.session_rules.specs.Carrying.{Makes, BreaksOff}
 use Rattle.session_rules.specs.CaseSizes.{HasCasesOf}
 use Rattle.session_rules.proofs.Spellings.{writes_more, spells_one}
-use Rattle.session_rules.proofs.Whole.{said-append, said-replies}
 use Rattle.session_rules.proofs.Begun.{part_more, part_after}
-use Rattle.session_rules.proofs.Broken.{breaks_after, script_moves-append}
+use Rattle.session_rules.proofs.Broken.{said-append, said-replies, breaks_after, script_moves-append}
 use Rattle.session_rules.proofs.KeptCases.{HasCases-empty}
 use Rattle.session_core.proofs.ReplyTexts.{replies-have, broken_begins_more}
 use Rattle.session_core.specs.Services.{Shown, moves_of, IsSound}

@@ -22,7 +22,7 @@ returns-clause-blame g c = λ (part : ℕ) below.
 
 pub invariant_of-self : goal.invariant_of-self
 invariant_of-self g c =
-    let known = written_back c.self.inside.memory.known.len c.blame_all.new.evidence c.self.inside.memory.known.items (sym (c.blame_all.auto.words ∙ c.deref_mut.ensures.len)) in
+    let known = written_back c.self.inside.memory.known.len c.blame_all.new.evidence c.self.inside.memory.known.items (sym (c.blame_all.auto.evidence ∙ c.deref_mut.ensures.len)) in
     let values = written_back c.self.inside.memory.values.len c.blame_all.new.values c.self.inside.memory.values.items (sym (c.blame_all.auto.values ∙ c.deref_mut-2.ensures.len)) in
     let state = written_back c.self.inside.memory.state.len c.blame_all.new.state c.self.inside.memory.state.items (sym (c.blame_all.auto.state ∙ c.deref_mut-3.ensures.len)) in
     let verdicts = written_back c.self.inside.memory.verdicts.len c.blame_all.new.verdicts c.self.inside.memory.verdicts.items (sym (c.blame_all.auto.verdicts ∙ c.deref_mut-4.ensures.len)) in
@@ -34,5 +34,5 @@ invariant_of-self g c =
 
 pub returns-clause-stays : goal.returns-clause-stays
 returns-clause-stays g c =
-    let known = written_back c.self.inside.memory.known.len c.blame_all.new.evidence c.self.inside.memory.known.items (sym (c.blame_all.auto.words ∙ c.deref_mut.ensures.len)) in
+    let known = written_back c.self.inside.memory.known.len c.blame_all.new.evidence c.self.inside.memory.known.items (sym (c.blame_all.auto.evidence ∙ c.deref_mut.ensures.len)) in
     judged_after _ _ _ _ _ c.self.view_is (known ∙ (c.blame_all.ensures.evidence ∙ c.deref_mut.ensures.value))

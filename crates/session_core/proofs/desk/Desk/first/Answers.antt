@@ -22,7 +22,7 @@ returns-clause-first g c =
 
 pub invariant_of-self : goal.invariant_of-self
 invariant_of-self g c =
-    let known = written_back c.self.inside.memory.known.len c.first.new.evidence c.self.inside.memory.known.items (sym (c.first.auto.words ∙ c.deref_mut.ensures.len)) in
+    let known = written_back c.self.inside.memory.known.len c.first.new.evidence c.self.inside.memory.known.items (sym (c.first.auto.evidence ∙ c.deref_mut.ensures.len)) in
     let values = written_back c.self.inside.memory.values.len c.first.new.values c.self.inside.memory.values.items (sym (c.first.auto.values ∙ c.deref_mut-2.ensures.len)) in
     let state = written_back c.fill.new.self.len c.first.new.state c.fill.new.self.items (sym (c.first.auto.state ∙ c.deref_mut-3.ensures.len)) in
     fits_after _ _ _ _ c.self.invariant _ _ _ _ _ _ _ (known ∙ (c.first.ensures.evidence ∙ c.deref_mut.ensures.value))
@@ -32,5 +32,5 @@ invariant_of-self g c =
 
 pub returns-clause-stays : goal.returns-clause-stays
 returns-clause-stays g c =
-    let known = written_back c.self.inside.memory.known.len c.first.new.evidence c.self.inside.memory.known.items (sym (c.first.auto.words ∙ c.deref_mut.ensures.len)) in
+    let known = written_back c.self.inside.memory.known.len c.first.new.evidence c.self.inside.memory.known.items (sym (c.first.auto.evidence ∙ c.deref_mut.ensures.len)) in
     stays_after _ _ _ _ c.self.view_is (known ∙ (c.first.ensures.evidence ∙ c.deref_mut.ensures.value))

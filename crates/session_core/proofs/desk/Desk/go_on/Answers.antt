@@ -36,7 +36,7 @@ returns-clause-state g c =
 
 pub invariant_of-self : goal.invariant_of-self
 invariant_of-self g c =
-    let known = written_back c.self.inside.memory.known.len c.next.new.evidence c.self.inside.memory.known.items (sym (c.next.auto.words ∙ c.deref_mut.ensures.len)) in
+    let known = written_back c.self.inside.memory.known.len c.next.new.evidence c.self.inside.memory.known.items (sym (c.next.auto.evidence ∙ c.deref_mut.ensures.len)) in
     let values = written_back c.self.inside.memory.values.len c.next.new.values c.self.inside.memory.values.items (sym (c.next.auto.values ∙ c.deref_mut-2.ensures.len)) in
     let state = written_back c.copy_from_slice.new.self.len c.next.new.state c.copy_from_slice.new.self.items (sym (c.next.auto.state ∙ c.deref_mut-3.ensures.len)) in
     fits_after _ _ _ _ c.self.invariant _ _ _ _ _ _ _ (known ∙ (c.next.ensures.evidence ∙ c.deref_mut.ensures.value))
@@ -46,5 +46,5 @@ invariant_of-self g c =
 
 pub returns-clause-stays : goal.returns-clause-stays
 returns-clause-stays g c =
-    let known = written_back c.self.inside.memory.known.len c.next.new.evidence c.self.inside.memory.known.items (sym (c.next.auto.words ∙ c.deref_mut.ensures.len)) in
+    let known = written_back c.self.inside.memory.known.len c.next.new.evidence c.self.inside.memory.known.items (sym (c.next.auto.evidence ∙ c.deref_mut.ensures.len)) in
     stays_after _ _ _ _ c.self.view_is (known ∙ (c.next.ensures.evidence ∙ c.deref_mut.ensures.value))

@@ -27,7 +27,7 @@ invariant_of-self g c =
     let before = c.self.inside.memory.room in
     let run = c.unwrap-run.result in
     let at = carved_so before c.carve.new.self c.level_room.result c.carve.result run c.unwrap-run.ensures c.carve.ensures.run in
-    let known = written_back c.self.inside.memory.known.len c.next_in-step.new.evidence c.self.inside.memory.known.items (sym (c.next_in-step.auto.words ∙ c.deref_mut-2.ensures.len))
+    let known = written_back c.self.inside.memory.known.len c.next_in-step.new.evidence c.self.inside.memory.known.items (sym (c.next_in-step.auto.evidence ∙ c.deref_mut-2.ensures.len))
     ∙ (c.next_in-step.ensures.evidence ∙ c.deref_mut-2.ensures.value) in
     let state = written_back c.self.inside.memory.state.len c.next_in-step.new.state _ (sym (c.next_in-step.auto.state ∙ c.deref_mut-3.ensures.len)) in
     record {
@@ -91,7 +91,7 @@ next_in-step-requires g c =
     record {
       graph = subst (λ (h : Graph). IsFor h kept) (sym c.graph.ensures.graph) so.1;
       long = ap length c.deref_mut-2.ensures.value ∙ (c.self.invariant.known.long ∙ ap (λ (h : Graph). h.vars) (sym c.graph.ensures.graph));
-      words = subst (λ (xs : List ℕ). All (λ w. w < 3) xs) (sym c.deref_mut-2.ensures.value) c.self.invariant.known.small;
+      evidence = subst (λ (xs : List ℕ). All (λ w. w < 3) xs) (sym c.deref_mut-2.ensures.value) c.self.invariant.known.small;
       state = ap length at ∙ (c.start_at-pointed.auto.state ∙ (ap length c.deref_mut.ensures.value ∙ (c.self.invariant.one_a_part ∙ (sym c.levels.ensures.basis.costs ∙ ap length (sym so.2)))));
       state_words = subst (λ (xs : List ℕ). All (λ s. s < 2) xs) (sym at) c.start_at-pointed.ensures.bits;
       room = subst (λ (n : ℕ). step_words c.graph.result.now kept ≤ n) (sym room) (omega arith);
@@ -99,5 +99,5 @@ next_in-step-requires g c =
 
 pub returns-clause-stays : goal.returns-clause-stays
 returns-clause-stays g c =
-    let known = written_back c.self.inside.memory.known.len c.next_in-step.new.evidence c.self.inside.memory.known.items (sym (c.next_in-step.auto.words ∙ c.deref_mut-2.ensures.len)) in
+    let known = written_back c.self.inside.memory.known.len c.next_in-step.new.evidence c.self.inside.memory.known.items (sym (c.next_in-step.auto.evidence ∙ c.deref_mut-2.ensures.len)) in
     stays_after _ _ _ _ c.self.view_is (known ∙ (c.next_in-step.ensures.evidence ∙ c.deref_mut-2.ensures.value))

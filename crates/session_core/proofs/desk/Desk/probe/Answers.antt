@@ -23,7 +23,7 @@ returns-clause-one g c =
 
 pub invariant_of-self : goal.invariant_of-self
 invariant_of-self g c =
-    let known = written_back c.self.inside.memory.known.len c.probe.new.evidence c.self.inside.memory.known.items (sym (c.probe.auto.words ∙ c.deref_mut.ensures.len)) in
+    let known = written_back c.self.inside.memory.known.len c.probe.new.evidence c.self.inside.memory.known.items (sym (c.probe.auto.evidence ∙ c.deref_mut.ensures.len)) in
     let values = written_back c.self.inside.memory.values.len c.probe.new.values c.self.inside.memory.values.items (sym (c.probe.auto.values ∙ c.deref_mut-2.ensures.len)) in
     fits_after _ _ _ _ c.self.invariant _ _ _ _ _ _ _ (known ∙ (c.probe.ensures.evidence ∙ c.deref_mut.ensures.value))
     c.self.invariant.one_a_part c.self.invariant.bits c.self.invariant.verdict_a_part

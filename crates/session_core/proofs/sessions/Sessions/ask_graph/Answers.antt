@@ -19,7 +19,7 @@ items subject session known = line (session ∷ codes "dnnf" ∷ []) ∷ Plain (
 pub tell_graph-requires : goal.tell_graph-requires
 tell_graph-requires g c =
     subst (λ (u : Subject). AreKnown u c.evidence-known.result.now) (sym c.basis.ensures)
-    (known-there c.self.inside.desk.subject c.self.inside.open c.self.invariant c.evidence-known.result.now c.evidence-known.ensures.words)
+    (known-there c.self.inside.desk.subject c.self.inside.open c.self.invariant c.evidence-known.result.now c.evidence-known.ensures.evidence)
 
 pub returns-clause-obeys : goal.returns-clause-obeys
 returns-clause-obeys g c =

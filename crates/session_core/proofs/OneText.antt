@@ -1,12 +1,13 @@
 -- What a service writes is one text: where the moves of a script were made twice after the same bytes, the same bytes stand.
 use Rattle.std.proofs.Common.{◌≡◌, ℕ, zero, suc, Bool, List, [], ◌∷◌, ◌++◌, map, Option, Some, sym, subst, ◌∙◌, append-nil, arith}
+use Rattle.std.specs.Prelude.{length, nat_le}
 use Rattle.std.specs.List.{flat_map}
 use Rattle.text_rules.specs.Names.{Name}
 use Rattle.state_rules.specs.Systems.{System}
-use Rattle.script_lang.specs.Script.{Line, Request, line_of}
+use Rattle.script_lang.specs.Script.{Line, Blank, Refused, Ask, Request, line_of}
 use Rattle.session_rules.specs.Items.{Item, Plain, Projected, LeastText, Whole, line}
 use Rattle.session_rules.specs.Replies.{Found, listing}
-use Rattle.session_rules.specs.Sessions.{Table, Entry, Becomes, Move, outcome, moves, said, left_by}
+use Rattle.session_rules.specs.Sessions.{Table, Entry, Becomes, Move, entry_of, outcome, moves, said, left_by}
 use Rattle.session_rules.specs.Moves.{script_moves}
 use Rattle.session_rules.specs.Spelling.{Spells}
 use Rattle.session_rules.specs.Carrying.{Makes}
@@ -62,7 +63,11 @@ module _ (subject : Subject) where
   outcome-plain s full entry request = grind (arith, append-nil, lines-plain, lists-plain)
 
   moves-plain : (limit : ℕ) (table : Table) (l : Line) → ArePlain (said (moves system limit table l))
-  moves-plain limit table l = grind (arith, moves-said, outcome-plain)
+  moves-plain limit table Blank = tt
+  moves-plain limit table (Refused refusal) = tt
+  moves-plain limit table (Ask s request) =
+      let ms = outcome system s (nat_le limit (length table)) (entry_of s table) request in
+      subst ArePlain (sym (moves-said s ms table)) (outcome-plain s (nat_le limit (length table)) (entry_of s table) request)
 
 -- all that a service answers to a script
 pub script-plain : (shown : Shown) (table : Table) (lines : List (List ℕ)) → ArePlain (said (script_moves (moves_of shown) table lines))

@@ -30,8 +30,7 @@ when_open-open : (system : System) (s : Name) (entry : Entry) (request : Request
 when_open-open system s entry request goes = grind (arith, same_as_itself, lists-open)
 
 entry_there : (o : Option Entry) → is_some o ≡ true → (entry : Entry) × (o ≡ Some entry)
-entry_there None some = absurd (let never : ⊥ = cc in never)
-entry_there (Some entry) some = (entry, refl)
+entry_there o some = grind arith
 
 -- ---- a refusal is no opening
 
@@ -98,7 +97,7 @@ module _ (system : System) (limit : ℕ) (s : Name) where
       → AsAlone (own_from closes t bytes lines) u
   own-alone bytes lines t u both request asked more closes is =
       let items : said (line_moves system limit t bytes) ≡ said (line_moves system 1 u bytes) =
-      ap (λ l. said (moves system limit t l)) asked ∙ (answered_same request t u both ∙ sym (ap (λ l. said (moves system 1 u l)) asked)) in
+      grind (arith, answered_same) in
       ap₂ (λ now rest. record { bytes = bytes; items = now } ∷ rest) items (by closes is)
     where
       by : (closes : Bool) → closes_session s (line_of bytes) ≡ closes
@@ -135,12 +134,12 @@ module _ (system : System) (limit : ℕ) (s : Name) where
       let asked = opens.asked in
       let first = outcome system s (nat_le limit (length t)) (entry_of s t) Start in
       let free : first ≡ becomes s new_case None (codes "open") =
-      opened (nat_le limit (length t)) (entry_of s t) (sym (moves-said s first t) ∙ (sym (ap (λ l. said (moves system limit t l)) asked) ∙ opens.said)) in
+      grind (arith, opened) in
       let named : names_session s (line_of bytes) ≡ true = ap (names_session s) asked ∙ same_as_itself s in
       let goes : closes_session s (line_of bytes) ≡ false = ap (closes_session s) asked in
       let items : said (line_moves system limit t bytes) ≡ said (line_moves system 1 [] bytes) = opens.said ∙ sym (ap (λ l. said (moves system 1 [] l)) asked) in
       let new_among : entry_of s (left_by t (line_moves system limit t bytes)) ≡ Some (record { known = new_case; point = None }) =
-      ap (λ l. entry_of s (left_by t (moves system limit t l))) asked ∙ (own_moves s first t ∙ ap (λ ms. after ms (entry_of s t)) free) in
+      grind (arith, own_moves) in
       let new_alone : entry_of s (left_by [] (line_moves system 1 [] bytes)) ≡ Some (record { known = new_case; point = None }) =
       ap (λ l. entry_of s (left_by [] (moves system 1 [] l))) asked ∙ own_moves s (outcome system s false None Start) [] in
       grind (arith, open-alone)
@@ -151,8 +150,7 @@ module _ (system : System) (limit : ℕ) (s : Name) where
   from_answer table [] [] later opening e = absurd (let never : ⊥ = cc in never)
   from_answer table [] (b ∷ before) later opening e = absurd (let never : ⊥ = cc in never)
   from_answer table (bytes ∷ lines) [] later opening e = (table, bytes, lines, sym e)
-  from_answer table (bytes ∷ lines) (b ∷ before) later opening e =
-      from_answer (left_by table (line_moves system limit table bytes)) lines before later opening (ap (λ (answers : List Answer). drop 1 answers) e)
+  from_answer table (bytes ∷ lines) (b ∷ before) later opening e = grind (arith, from_answer (left_by table (line_moves system limit table bytes)) lines before later opening)
 
 -- Wherever a session opens, its own lines from there to its end have the answers that they have alone.
 pub answered_alone : (system : System) (limit : ℕ) (table : Table) (lines : List (List ℕ)) → AreAnsweredAlone system limit table lines

@@ -56,9 +56,7 @@ script_moves-append one t [] ks = refl
 script_moves-append one t (l ∷ ls) ks =
     let first = one t l in
     let rest = script_moves one (left_by t first) ls in
-    ap (λ xs. first ++ xs) (script_moves-append one (left_by t first) ls ks)
-    ∙ (ap (λ u. first ++ (rest ++ script_moves one u ks)) (sym (left_by-append t first rest))
-    ∙ sym (append_assoc first rest (script_moves one (left_by t (first ++ rest)) ks)))
+    grind (arith, script_moves-append one (left_by t first) ls ks, left_by-append, append_assoc)
 
 -- What was written where moves broke off begins a text that spells all that they say, if some text does.
 pub broken_begins : (t : Table) (ms : List Step) (a b : Option (List ℕ)) → BreaksOff t ms a b → HaveSpellings (said ms) → WritesPart a b (said ms)

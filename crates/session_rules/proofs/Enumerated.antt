@@ -23,7 +23,7 @@ pub any-split : (m n : ℕ) (p : Test) → list_any p (lists_of_bits (m + n)) �
 any-split zero n p = grind arith
 any-split (suc m) n p =
     let e : suc m + n ≡ suc (m + n) = omega arith in
-    rw (e, any-suc p (m + n), any-suc (λ front. list_any (λ rest. p (front ++ rest)) (lists_of_bits n)) m, any-split m n (λ bits. p (false ∷ bits)), any-split m n (λ bits. p (true ∷ bits))) refl
+    grind (arith, any-suc, any-split m n)
 
 -- what does not depend on the list is before the search
 pub any-and : {A : Type 0} (b : Bool) (p : A → Bool) (xs : List A) → list_any (λ x. b && p x) xs ≡ b && list_any p xs

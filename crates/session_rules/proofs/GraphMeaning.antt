@@ -98,7 +98,7 @@ module _ (parts wires : List Name) (costs : List ℕ) (fits_by : List Bool → L
 
 -- its graph is one over its names
 pub over_names : (device : Device) (graph : Graph) → IsGraphOf device graph → IsGraphOver (length (part_names device.parts)) (length device.wires) (fits device) graph
-over_names device graph is = subst (λ n. IsGraphOver n (length device.wires) (fits device) graph) (sym (length-map device.parts (λ (part : Component). part.name))) is
+over_names device graph is = grind (arith, length-map)
 
 -- for every case of the device it has the same consistent states
 pub same_consistent : (device : Device) (graph : Graph) → IsGraphOf device graph → (known : Case) → IsCaseOf (device_system device) known

@@ -51,8 +51,7 @@ module _ (parts wires : List Name) (costs : List ℕ) (graph : Graph) (vars : �
   asked-open bit e =
       ap (least costs) (with_bit-open graph words (length parts) place bit (are.long ∙ sym wide) narrow inside (word_of_known (Some bit)) (known_of-word (Some bit)) (word_there ∙ e)
       ∙ ap (λ ws. models graph ws (length parts))
-      (wire-written (length parts) (length wires) vars words are wire within (Some bit)
-      ∙ ap (λ n. case_evidence n (record the_case { seen = set the_case.seen wire (Some bit) })) (sym wide)))
+      (grind (arith, wire-written)))
 
   -- a wire seen as the bit has it in all states
   asked-same : (bit : Bool) → seen_at the_case wire ≡ Some bit → least_asked bit ≡ least costs (models graph (case_evidence graph.vars the_case) (length parts))

@@ -50,14 +50,14 @@ module _ (system : System) (consistent : Case → List (List Bool)) (same : (kno
 
   -- what comes next
   next_of-same : (s : Name) (known : Case) → IsCaseOf system known → next_of system s known ≡ next_of other s known
-  next_of-same s known h = ap (λ hs point. let ds = diagnoses system.costs hs in found s (λ state. line (s ∷ codes "diag" ∷ faulty_names system.parts state)) point ds (rest ds point)) (same known h)
+  next_of-same s known h = grind arith
 
   level_of-same : (s : Name) (top : ℕ) (known : Case) → IsCaseOf system known → level_of system s top known ≡ level_of other s top known
-  level_of-same s top known h = ap (λ hs point. found s (λ state. line (s ∷ codes "level" ∷ decimal (cost system.costs state) ∷ faulty_names system.parts state)) point hs (levels_rest system.costs (levels system.costs top hs) point)) (same known h)
+  level_of-same s top known h = grind arith
 
   when_open-same : (s : Name) (entry : Entry) (request : Request) → IsCaseOf system entry.known → when_open system s entry request ≡ when_open other s entry request
-  when_open-same s entry Level h = λ i. option_map_or (λ top. lists entry (level_of-same s top entry.known h i) 1) system.extras.levels (declined s NoLevels)
-  when_open-same s entry (Levels count) h = λ i. option_map_or (λ top. lists entry (level_of-same s top entry.known h i) count) system.extras.levels (declined s NoLevels)
+  when_open-same s entry Level h = grind arith
+  when_open-same s entry (Levels count) h = grind arith
   when_open-same s entry request h = grind (arith, told-same, next_of-same)
 
   outcome-same : (s : Name) (full : Bool) (entry : Option Entry) (request : Request) → ((e : Entry) → entry ≡ Some e → IsCaseOf system e.known)

@@ -31,7 +31,7 @@ line_given text status s a b other is grown = gives_all (says text status) s a b
 
 pub line_begun : (text : List ℕ) (status s : Status) (a b : Option (List ℕ)) → s ≡ WriteFailed → AppendsPrefix a b text → FulfilsOutput (says text status) s a b
 line_begun text status s a b five (part, rest, all, grown) =
-    gives_part (says text status) s a b five (record { text = part; begun = (rest, spells_one (Plain text) (part ++ rest) (sym all)); grown = grown })
+    gives_part (says text status) s a b five (record { text = part; rest = rest; begun = spells_one (Plain text) (part ++ rest) (sym all); grown = grown })
 
 pub ruleset gives_line = (line_given, line_begun)
 

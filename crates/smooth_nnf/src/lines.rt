@@ -21,11 +21,7 @@ use state_rules::NodeKind;
 
 // Adds the lines of the parts' literals.
 #[tactic(auto, using(nnf_text::proofs::Extended::extending))]
-pub(crate) fn add_literals<O: Sink>(
-    text: &mut GraphText,
-    out: &mut O,
-    parts: u32,
-)
+pub(crate) fn add_literals<O: Sink>(text: &mut GraphText, out: &mut O, parts: u32)
     ensures { Extends (O.shown out.old) (O.shown out.new) text.old text.new
         (flat_map (λ part. lines_text (literal_pair part)) (range_with_len 1 parts)) }
 {
@@ -54,11 +50,7 @@ fn add_pair<O: Sink>(text: &mut GraphText, out: &mut O, var: u32)
 
 // Adds the lines of all nodes.
 #[tactic(auto, using(nnf_text::proofs::Extended::extending))]
-pub(crate) fn add_nodes<O: Sink>(
-    text: &mut GraphText,
-    out: &mut O,
-    drawing: &Drawing<'_>,
-)
+pub(crate) fn add_nodes<O: Sink>(text: &mut GraphText, out: &mut O, drawing: &Drawing<'_>)
     ensures { Extends (O.shown out.old) (O.shown out.new) text.old text.new
         (flat_map (λ x. lines_text (node_lines (shown drawing.now) x)) (enumerate_from 0 drawing.now.graph.nodes)) }
 {
@@ -68,11 +60,7 @@ pub(crate) fn add_nodes<O: Sink>(
 }
 
 // Adds the line of the root.
-pub(crate) fn add_last<O: Sink>(
-    text: &mut GraphText,
-    out: &mut O,
-    drawing: &Drawing<'_>,
-)
+pub(crate) fn add_last<O: Sink>(text: &mut GraphText, out: &mut O, drawing: &Drawing<'_>)
     ensures { Extends (O.shown out.old) (O.shown out.new) text.old text.new
         (spaced (node_words (last_line (shown drawing.now)))) }
 {
@@ -85,12 +73,7 @@ pub(crate) fn add_last<O: Sink>(
 }
 
 // Adds the lines of a node.
-fn add_node_lines<O: Sink>(
-    text: &mut GraphText,
-    out: &mut O,
-    drawing: &Drawing<'_>,
-    node: u32,
-)
+fn add_node_lines<O: Sink>(text: &mut GraphText, out: &mut O, drawing: &Drawing<'_>, node: u32)
     requires { node < length drawing.now.graph.nodes }
     ensures { Extends (O.shown out.old) (O.shown out.new) text.old text.new
         (lines_text (node_lines (shown drawing.now) (node, node_at drawing.now.graph.nodes node))) }
@@ -131,13 +114,7 @@ fn add_lines_by<O: Sink>(
 }
 
 // Adds the line of a literal: it stands for the part's line, or for what is true.
-fn add_literal<O: Sink>(
-    text: &mut GraphText,
-    out: &mut O,
-    parts: u32,
-    var: u32,
-    positive: bool,
-)
+fn add_literal<O: Sink>(text: &mut GraphText, out: &mut O, parts: u32, var: u32, positive: bool)
     requires var { 1 ≤ var }
     requires few { 2 * parts < 2 ^ 32 }
     ensures { Extends (O.shown out.old) (O.shown out.new) text.old text.new
@@ -152,12 +129,7 @@ fn add_literal<O: Sink>(
 
 // Adds the line of an and.
 #[tactic(auto, using(nnf_text::proofs::Extended::extending))]
-fn add_and<O: Sink>(
-    text: &mut GraphText,
-    out: &mut O,
-    drawing: &Drawing<'_>,
-    kids: &[u32],
-)
+fn add_and<O: Sink>(text: &mut GraphText, out: &mut O, drawing: &Drawing<'_>, kids: &[u32])
     requires { All (λ child. child < length drawing.now.graph.nodes) kids.now }
     ensures { Extends (O.shown out.old) (O.shown out.new) text.old text.new
         (65 ∷ ((32 ∷ decimal (length kids.now))

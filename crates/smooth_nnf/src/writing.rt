@@ -81,12 +81,7 @@ pub fn write_least<O: Sink>(
     };
     let size = 2 + part_words(costs.len());
     let run = region.carve(graph.len() as usize * size).unwrap();
-    let written = write_fresh::<O, Brand>(
-        Blank::new(1),
-        &asked,
-        region.run_mut(&run),
-        out,
-    );
+    let written = write_fresh::<O, Brand>(Blank::new(1), &asked, region.run_mut(&run), out);
     region.release(run);
     written
 }

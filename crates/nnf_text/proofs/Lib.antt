@@ -3,6 +3,7 @@ pub mod Options
 pub mod ReadTexts
 pub mod LineSteps
 pub mod LineTexts
+pub mod Extended
 pub mod ReadingBack
 pub mod Sparse
 pub mod Bits

@@ -3,6 +3,7 @@
 
 mod checking;
 mod error;
+mod graph_text;
 mod header;
 mod lines;
 mod node_lines;
@@ -14,6 +15,7 @@ mod writing;
 
 pub use checking::BITS_LIMIT;
 pub use error::NnfError;
+pub use graph_text::GraphText;
 pub use lines::{add_header, add_node};
 pub use ranges::add_counted_range;
 pub use reading::read_nnf;

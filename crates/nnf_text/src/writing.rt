@@ -3,12 +3,13 @@ ghost use Rattle.std.specs.List.{flat_map};
 ghost use Rattle.text_rules.specs.Tokens.{spaced, is_neat};
 ghost use Rattle.state_rules.specs.Graphs.{IsGraph};
 ghost use Rattle.diag_edge.specs.Edge.{HasCause, Puts};
-ghost use Rattle.diag_edge.specs.Adding.{Adds};
+ghost use Rattle.nnf_text.specs.Extending.{Extends};
 ghost use Rattle.nnf_text.specs.GraphTexts.{parsed};
 ghost use Rattle.nnf_text.specs.WrittenGraphs.{node_words, graph_text};
 
+use crate::GraphText;
 use crate::lines::{add_header, add_node};
-use diag_edge::{Chunk, Sink, WriteFailed};
+use diag_edge::{Sink, WriteFailed};
 use node_store::Graph;
 
 /// Writes a graph as text: a line of its numbers of nodes, edges and variables, and a line for each node. The number of
@@ -35,20 +36,19 @@ fn put_lines<O: Sink>(out: &mut O, graph: &Graph, vars: u32) -> Result<(), Write
     ensures cause { HasCause (O.faults out.old) (O.faults out.new) result }
     ensures valid { IsGraph graph.now }
 {
-    let mut chunk = Chunk::new();
-    add_header(&mut chunk, out, graph.len(), graph.edges(), vars)?;
-    add_nodes(&mut chunk, out, graph)?;
-    chunk.put(out)
+    let mut text = GraphText::new();
+    add_header(&mut text, out, graph.len(), graph.edges(), vars);
+    add_nodes(&mut text, out, graph);
+    text.finish(out)
 }
 
 // Adds the lines of all nodes.
-fn add_nodes<O: Sink>(chunk: &mut Chunk, out: &mut O, graph: &Graph) -> Result<(), WriteFailed>
-    ensures bytes { Adds (O.got out.old) (O.got out.new) chunk.old chunk.new result
+#[tactic(auto, using(crate::proofs::Extended::extending))]
+fn add_nodes<O: Sink>(text: &mut GraphText, out: &mut O, graph: &Graph)
+    ensures { Extends (O.shown out.old) (O.shown out.new) text.old text.new
         (flat_map (λ node. spaced (node_words node)) graph.now.nodes) }
-    ensures cause { HasCause (O.faults out.old) (O.faults out.new) result }
 {
     for node in 0..graph.len() {
-        add_node(chunk, out, graph.what(node), graph.kids(node))?;
+        add_node(text, out, graph.what(node), graph.kids(node));
     }
-    Ok(())
 }

@@ -83,10 +83,10 @@ projected-edges evidence parts (node ∷ nodes) =
     ∙ ap (λ n. length node.kids + n) (projected-edges evidence parts nodes)
     ∙ sym (sum_by-cons (λ (n : Node). length n.kids) node nodes)
 
-abbrev pub body_lines : Graph → List ℕ → ℕ → List ℕ
+abbrev body_lines : Graph → List ℕ → ℕ → List ℕ
 body_lines graph evidence parts = flat_map (λ node. spaced (node_words (projected_node evidence parts node))) graph.nodes
 
-abbrev pub end_lines : ℕ → List ℕ → ℕ → List ℕ
+abbrev end_lines : ℕ → List ℕ → ℕ → List ℕ
 end_lines nodes health held = flat_map held_line (enumerate_from 1 (known health)) ++ spaced (node_words (root_with nodes held))
 
 module _ (graph : Graph) (evidence : List ℕ) (parts : ℕ) where
@@ -121,10 +121,10 @@ module _ (graph : Graph) (evidence : List ℕ) (parts : ℕ) where
       )
 
   -- what is written is the projected text
-  pub written : (count kids nodes more : ℕ) → nodes ≡ length graph.nodes → more ≡ count_by (λ word. not (word == 0)) (take parts evidence) → count ≡ nodes + more + 1 → kids ≡ edges graph.nodes + more + 1
-      → header count kids parts ++ (body_lines graph evidence parts ++ end_lines nodes (take parts evidence) more) ≡ projected_text graph evidence parts
-  written count kids nodes more n m e f =
+  pub written : (count kids more : ℕ) → more ≡ count_by (λ word. not (word == 0)) (take parts evidence) → count ≡ length graph.nodes + more + 1 → kids ≡ edges graph.nodes + more + 1
+      → header count kids parts ++ (body_lines graph evidence parts ++ end_lines (length graph.nodes) (take parts evidence) more) ≡ projected_text graph evidence parts
+  written count kids more m e f =
       let same : more ≡ length held = m ∙ sym (held-count 1 (take parts evidence)) in
-      (λ i. header count kids parts ++ (body_lines graph evidence parts ++ end_lines (n i) (take parts evidence) (same i)))
+      (λ i. header count kids parts ++ (body_lines graph evidence parts ++ end_lines (length graph.nodes) (take parts evidence) (same i)))
       ∙ ap (λ t. header count kids parts ++ t) all-lines
-      ∙ text-lines count kids parts (projection graph evidence parts).nodes (e ∙ (λ i. n i + same i + 1) ∙ sym all-length) (f ∙ (λ i. edges graph.nodes + same i + 1) ∙ sym all-edges)
+      ∙ text-lines count kids parts (projection graph evidence parts).nodes (e ∙ (λ i. length graph.nodes + same i + 1) ∙ sym all-length) (f ∙ (λ i. edges graph.nodes + same i + 1) ∙ sym all-edges)

@@ -3,6 +3,7 @@
 
 mod held;
 mod nodes;
+mod projection;
 mod writing;
 
 pub use writing::write_projected;

@@ -1,16 +1,15 @@
-ghost use Rattle.std.specs.Prelude.{◌≡◌, ◌<◌, length, All, true};
+ghost use Rattle.std.specs.Prelude.{◌≡◌, true};
 ghost use Rattle.std.specs.List.{flat_map};
 ghost use Rattle.text_rules.specs.Tokens.{spaced};
-ghost use Rattle.diag_edge.specs.Adding.{Adds};
-ghost use Rattle.diag_edge.specs.Edge.{HasCause};
+ghost use Rattle.nnf_text.specs.Extending.{Extends};
 ghost use Rattle.nnf_text.specs.GraphTexts.{variable_fits};
 ghost use Rattle.nnf_text.specs.WrittenGraphs.{node_words};
 ghost use Rattle.projector.specs.Projecting.{projected_literal, projected_kind, projected_node};
 
+use crate::projection::Projection;
 use conditioner::{Leaf, leaf};
-use diag_edge::{Chunk, Sink, WriteFailed};
-use nnf_text::add_node;
-use node_store::Graph;
+use diag_edge::Sink;
+use nnf_text::{GraphText, add_node};
 use state_rules::NodeKind;
 
 // What a literal becomes.
@@ -24,37 +23,30 @@ fn projected_literal(parts: u32, var: u32, positive: bool, leaf: Leaf) -> NodeKi
     }
 }
 
-// What a node becomes under the evidence.
-fn projected_kind(evidence: &[u32], parts: u32, kind: NodeKind) -> NodeKind
-    requires evidence { All (λ w. w < 3) evidence.now }
-    requires fits { variable_fits (length evidence.now) kind ≡ true }
-    ensures { result ≡ projected_kind evidence.now parts kind }
-{
-    match kind {
-        NodeKind::Literal { var, positive } => {
-            projected_literal(parts, var, positive, leaf(evidence, var, positive))
+impl Projection<'_> {
+    // What a node becomes under the evidence.
+    fn kind(&self, kind: NodeKind) -> NodeKind
+        requires { variable_fits self.now.graph.now.vars kind ≡ true }
+        ensures { result ≡ projected_kind self.now.evidence.now self.now.parts kind }
+    {
+        match kind {
+            NodeKind::Literal { var, positive } => {
+                let leaf = leaf(self.evidence, var, positive);
+                projected_literal(self.parts, var, positive, leaf)
+            }
+            NodeKind::And | NodeKind::Or => kind,
         }
-        NodeKind::And | NodeKind::Or => kind,
     }
-}
 
-// Adds the line of each node under the evidence.
-pub(crate) fn add_nodes<O: Sink>(
-    chunk: &mut Chunk,
-    out: &mut O,
-    graph: &Graph,
-    evidence: &[u32],
-    parts: u32,
-) -> Result<(), WriteFailed>
-    requires evidence { length evidence.now ≡ graph.now.vars }
-    requires small { All (λ w. w < 3) evidence.now }
-    ensures bytes { Adds (O.got out.old) (O.got out.new) chunk.old chunk.new result
-        (flat_map (λ node. spaced (node_words (projected_node evidence.now parts node))) graph.now.nodes) }
-    ensures cause { HasCause (O.faults out.old) (O.faults out.new) result }
-{
-    for node in 0..graph.len() {
-        let kind = projected_kind(evidence, parts, graph.what(node));
-        add_node(chunk, out, kind, graph.kids(node))?;
+    // Adds the line of each node under the evidence.
+    #[tactic(auto, using(nnf_text::proofs::Extended::extending))]
+    pub(crate) fn add_nodes<O: Sink>(&self, text: &mut GraphText, out: &mut O)
+        ensures { Extends (O.shown out.old) (O.shown out.new) text.old text.new
+            (flat_map (λ node. spaced (node_words (projected_node self.now.evidence.now self.now.parts node))) self.now.graph.now.nodes) }
+    {
+        let graph = self.graph;
+        for node in 0..graph.len() {
+            add_node(text, out, self.kind(graph.what(node)), graph.kids(node));
+        }
     }
-    Ok(())
 }

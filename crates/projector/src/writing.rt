@@ -7,10 +7,9 @@ ghost use Rattle.nnf_text.specs.StateGraphs.{IsGraphOfStates};
 ghost use Rattle.conditioner.specs.Models.{models};
 ghost use Rattle.projector.specs.Projecting.{projected_text};
 
-use crate::held::{add_ends, held_count};
-use crate::nodes::add_nodes;
-use diag_edge::{Chunk, Sink, WriteFailed};
-use nnf_text::add_header;
+use crate::projection::Projection;
+use diag_edge::{Sink, WriteFailed};
+use nnf_text::{GraphText, add_header};
 use node_store::Graph;
 
 /// Writes the graph of the health states that a graph allows under evidence, one word a variable: 0 if it is open, 1 if it
@@ -38,37 +37,29 @@ pub fn write_projected<O: Sink>(
     ensures models { IsGraphOfStates parts (models graph.now evidence.now parts)
         (parsed (projected_text graph.now evidence.now parts)) }
 {
-    put_lines(graph, evidence, parts, out)
+    let projection = Projection {
+        graph,
+        evidence,
+        parts,
+    };
+    projection.put(out)
 }
 
-// Writes all lines.
-fn put_lines<O: Sink>(
-    graph: &Graph,
-    evidence: &[u32],
-    parts: u32,
-    out: &mut O,
-) -> Result<(), WriteFailed>
-    requires evidence { length evidence.now ≡ graph.now.vars }
-    requires small { All (λ w. w < 3) evidence.now }
-    requires parts { parts ≤ graph.now.vars }
-    requires few { length graph.now.nodes + parts + 1 < 2 ^ 32 }
-    ensures bytes { Puts (O.got out.old) (O.got out.new) result
-        (projected_text graph.now evidence.now parts) }
-    ensures cause { HasCause (O.faults out.old) (O.faults out.new) result }
-    ensures valid { IsGraph graph.now }
-{
-    let nodes = graph.len();
-    let health = &evidence[..parts as usize];
-    let held = held_count(health);
-    let mut chunk = Chunk::new();
-    add_header(
-        &mut chunk,
-        out,
-        nodes + held + 1,
-        graph.edges() + u64::from(held) + 1,
-        parts,
-    )?;
-    add_nodes(&mut chunk, out, graph, evidence, parts)?;
-    add_ends(&mut chunk, out, nodes, health, held)?;
-    chunk.put(out)
+impl Projection<'_> {
+    // Writes all lines.
+    fn put<O: Sink>(&self, out: &mut O) -> Result<(), WriteFailed>
+        ensures bytes { Puts (O.got out.old) (O.got out.new) result
+            (projected_text self.now.graph.now self.now.evidence.now self.now.parts) }
+        ensures cause { HasCause (O.faults out.old) (O.faults out.new) result }
+        ensures valid { IsGraph self.now.graph.now }
+    {
+        let held = self.held_count();
+        let nodes = self.graph.len() + held + 1;
+        let edges = self.graph.edges() + u64::from(held) + 1;
+        let mut text = GraphText::new();
+        add_header(&mut text, out, nodes, edges, self.parts);
+        self.add_nodes(&mut text, out);
+        self.add_ends(&mut text, out, held);
+        text.finish(out)
+    }
 }

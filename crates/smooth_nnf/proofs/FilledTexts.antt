@@ -1,16 +1,14 @@
 -- The texts of lines that are filled in, word by word.
-use Rattle.std.proofs.Common.{◌≡◌, ℕ, zero, suc, ◌+◌, ◌-◌, ◌*◌, ◌<◌, Bool, cond, ◌&&◌, List, [], ◌∷◌, ◌++◌, map, length, get_or, Option, refl, sym, ap, ◌∙◌, subst, arith, append_assoc}
+use Rattle.std.proofs.Common.{◌≡◌, ℕ, zero, suc, ◌+◌, ◌-◌, ◌*◌, ◌<◌, Bool, cond, ◌&&◌, List, [], ◌∷◌, ◌++◌, map, length, Option, refl, sym, ap, ◌∙◌, arith, append_assoc}
 use Rattle.std.proofs.lemmas.Bool.Decides.{nat_tests}
 use Rattle.std.specs.Prelude.{nat_le, decimal, slice_index}
 use Rattle.std.specs.List.{filter, flat_map, range_with_len}
 use Rattle.std.proofs.lemmas.List.{map-append}
 use Rattle.std.proofs.lemmas.List.Concat.{flat_map-append}
 use Rattle.std.proofs.lemmas.List.Elements.{filter-append}
-use Rattle.std.proofs.lemmas.List.FromFn.{get_or-range_with_len}
 use Rattle.text_rules.specs.Tokens.{spaced}
 use Rattle.state_rules.proofs.WordBits.{has_bit-zero}
 use Rattle.state_rules.specs.Bits.{has_bit}
-use Rattle.diag_edge.specs.Adding.{Grown}
 use Rattle.nnf_text.specs.WrittenGraphs.{node_words}
 use Rattle.nnf_text.proofs.LineTexts.{and-spaced}
 use Rattle.part_sets.specs.Numbers.{part_words}
@@ -64,11 +62,6 @@ filled-text d node over count is =
     let long : count ≡ length kids = omega arith in
     (λ i. 65 ∷ ((32 ∷ decimal (long i)) ++ sym (append_assoc (32 ∷ decimal (slice_index d.lines node)) (numbers_text (fillers d.evidence d.parts (missing_in d over node))) (10 ∷ [])) i)) ∙ and-spaced kids
 
--- ---- what is at a place
-
-pub first-numbers : (n i : ℕ) → i < n → i ≡ get_or (range_with_len 0 n) i 0
-first-numbers n i lt = omega (arith, get_or-range_with_len 0 n i 0 lt)
-
 -- a word without bits fills nothing in
 pub no-bits : (d : Drawing) (node : ℕ) (over : Option ℕ) (word bits : ℕ) → bits ≡ 0 → ((b : ℕ) → b < 32 → has_bit bits b ≡ (nat_le (part_at word b) d.parts && missing_in d over node (part_at word b))) → [] ≡ word_text d node over word
 no-bits d node over word bits none is =
@@ -76,7 +69,3 @@ no-bits d node over word bits none is =
       none_there : (s n : ℕ) → [] ≡ flat_map (bit_text d.evidence word 0) (range_with_len s n)
       none_there s zero = refl
       none_there s (suc n) = none_there (s + 1) n ∙ ap (λ b. cond b (32 ∷ decimal (filler d.evidence (part_at word s))) [] ++ flat_map (bit_text d.evidence word 0) (range_with_len (s + 1) n)) (sym (has_bit-zero s))
-
--- the same text, said otherwise
-pub grown_same : (a b : Option (List ℕ)) (p q xs ys : List ℕ) → xs ≡ ys → Grown a b p q xs → Grown a b p q ys
-grown_same a b p q xs ys same h = subst (λ t. Grown a b p q t) same h

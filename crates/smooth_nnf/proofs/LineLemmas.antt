@@ -7,7 +7,7 @@ use Rattle.std.proofs.lemmas.Bool.{ltb-true}
 use Rattle.std.proofs.lemmas.List.{length-map}
 use Rattle.std.proofs.lemmas.List.Concat.{flat_map-append}
 use Rattle.std.proofs.lemmas.List.Folds.{flat_map-map}
-use Rattle.std.proofs.lemmas.List.FromFn.{get_or-enumerate_from, get_or-range_with_len}
+use Rattle.std.proofs.lemmas.List.FromFn.{get_or-enumerate_from}
 use Rattle.part_sets.proofs.Children.{child-mentions}
 use Rattle.text_rules.specs.Tokens.{spaced}
 use Rattle.state_rules.specs.declared.nodes.TheConstants.{CHILD_LIMIT}
@@ -27,9 +27,6 @@ use Rattle.smooth_nnf.specs.inner.Texts.{numbers_text, lines_text, child_text}
 
 pub numbered : (nodes : List Node) (i : ℕ) → i < length nodes → (i, node_at nodes i) ≡ get_or (enumerate_from 0 nodes) i (0, true_node)
 numbered nodes i lt = let e : i ≡ 0 + i = omega arith in (λ j. (e j, node_at nodes i)) ∙ sym (get_or-enumerate_from 0 nodes i (0, true_node) lt)
-
-pub from-one : (n i : ℕ) → i < n → i + 1 ≡ get_or (range_with_len 1 n) i 0
-from-one n i lt = omega (arith, get_or-range_with_len 1 n i 0 lt)
 
 -- the root's line
 pub last-text : (d : Drawing) (root value : ℕ) → root ≡ length d.graph.nodes - 1 → cost_in value ≡ cost_at (map cost_in d.values) root → (value ≡ 4294967295 → ⊥)

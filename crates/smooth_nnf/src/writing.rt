@@ -6,6 +6,7 @@ ghost use Rattle.nnf_text.specs.GraphTexts.{parsed};
 ghost use Rattle.nnf_text.specs.WrittenGraphs.{graph_text};
 ghost use Rattle.nnf_text.specs.StateGraphs.{IsSmoothGraphOfStates};
 ghost use Rattle.conditioner.specs.Models.{diagnoses_under, total_cost};
+ghost use Rattle.minimiser.specs.declared.pass.TheConstants.{TOTAL_LIMIT};
 ghost use Rattle.scratch_pool.specs.Regions.{free_words};
 ghost use Rattle.part_sets.specs.Numbers.{part_words};
 ghost use Rattle.part_sets.specs.PartSets.{ArePartsBelow, AreLacking, AreFor};
@@ -17,14 +18,28 @@ use crate::drawing::Drawing;
 use crate::edges::edge_count;
 use crate::lines::{add_last, add_literals, add_nodes};
 use crate::places::place_lines;
-use diag_edge::{Chunk, Sink, WriteFailed};
+use diag_edge::{Sink, WriteFailed};
 use minimiser::{Steps, TOTAL_LIMIT, put_least_costs};
-use nnf_text::add_header;
+use nnf_text::{GraphText, add_header};
 use node_store::Graph;
 use part_sets::{PART_LIMIT, PartSets, part_words, put_nodes};
 use scratch_pool::Region;
 use std::marker::Brand;
 use std::sync::ledger::{Blank, Ledger};
+
+// A graph under evidence, and what its parts cost.
+#[derive(Clone, Copy)]
+struct Asked<'a> {
+    graph: &'a Graph,
+    evidence: &'a [u32],
+    costs: &'a [u32],
+    ghost long: { length evidence.now ≡ graph.now.vars },
+    ghost small: { All (λ w. w < 3) evidence.now },
+    ghost parts: { length costs.now ≤ graph.now.vars },
+    ghost dear: { All (λ c. 0 < c) costs.now },
+    ghost total: { total_cost costs.now < TOTAL_LIMIT },
+    ghost few: { length graph.now.nodes + edges graph.now.nodes + 2 * length costs.now + 1 < 2 ^ 32 },
+}
 
 /// Writes the graph of the diagnoses that a graph allows under evidence, one word a variable: 0 if it is open, 1 if it is true,
 /// 2 if it is false. The parts are the first variables, and each has a cost.
@@ -59,16 +74,14 @@ pub fn write_least<O: Sink>(
     ensures diagnoses { IsSmoothGraphOfStates (length costs.now) (diagnoses_under graph.now evidence.now costs.now)
         (parsed (least_text graph.now evidence.now costs.now)) }
 {
-    let size = 2 + part_words(costs.len());
-    let run = region.carve(graph.len() as usize * size).unwrap();
-    let written = write_fresh::<O, Brand>(
-        Blank::new(1),
+    let asked = Asked {
         graph,
         evidence,
         costs,
-        region.run_mut(&run),
-        out,
-    );
+    };
+    let size = 2 + part_words(costs.len());
+    let run = region.carve(graph.len() as usize * size).unwrap();
+    let written = write_fresh::<O, Brand>(Blank::new(1), &asked, region.run_mut(&run), out);
     region.release(run);
     written
 }
@@ -103,14 +116,17 @@ pub fn write_least_with<O: Sink>(
     ensures diagnoses { IsSmoothGraphOfStates (length costs.now) (diagnoses_under graph.now evidence.now costs.now)
         (parsed (least_text graph.now evidence.now costs.now)) }
 {
+    let asked = Asked {
+        graph,
+        evidence,
+        costs,
+    };
     let run = region.carve(graph.len() as usize * 2).unwrap();
     let written = write_in::<O, Brand>(
         Blank::new(1),
-        graph,
+        &asked,
         sets.below(),
         Some(sets.lacking()),
-        evidence,
-        costs,
         region.run_mut(&run),
         out,
     );
@@ -121,62 +137,53 @@ pub fn write_least_with<O: Sink>(
 // Puts the sets, and writes it.
 fn write_fresh<O: Sink, L: Ledger>(
     blank: Blank,
-    graph: &Graph,
-    evidence: &[u32],
-    costs: &[u32],
+    asked: &Asked<'_>,
     scratch: &mut [u32],
     out: &mut O,
 ) -> Result<(), WriteFailed>
     requires name { blank.name ≡ L.name }
     requires shares { blank.parts ≡ L.parts }
     requires some { 0 < blank.parts }
-    requires evidence { length evidence.now ≡ graph.now.vars }
-    requires small { All (λ w. w < 3) evidence.now }
-    requires parts { length costs.now ≤ graph.now.vars }
-    requires dear { All (λ c. 0 < c) costs.now }
-    requires total { total_cost costs.now < TOTAL_LIMIT }
-    requires few { length graph.now.nodes + edges graph.now.nodes + 2 * length costs.now + 1 < 2 ^ 32 }
-    requires few_parts { length costs.now ≤ PART_LIMIT }
-    requires room { length scratch.old ≡ least_words (length graph.now.nodes) (length costs.now) }
+    requires few_parts { length asked.now.costs.now ≤ PART_LIMIT }
+    requires room { length scratch.old ≡ least_words (length asked.now.graph.now.nodes) (length asked.now.costs.now) }
     ensures bytes { Puts (O.got out.old) (O.got out.new) result
-        (least_text graph.now evidence.now costs.now) }
+        (least_text asked.now.graph.now asked.now.evidence.now asked.now.costs.now) }
     ensures cause { HasCause (O.faults out.old) (O.faults out.new) result }
-    ensures valid { IsGraph graph.now }
+    ensures valid { IsGraph asked.now.graph.now }
 {
-    let (below, scratch) = scratch.split_at_mut(graph.len() as usize * part_words(costs.len()));
-    put_nodes(graph, costs.len(), below);
-    write_in::<O, L>(blank, graph, below, None, evidence, costs, scratch, out)
+    let graph = asked.graph;
+    let parts = asked.costs.len();
+    let (below, scratch) = scratch.split_at_mut(graph.len() as usize * part_words(parts));
+    put_nodes(graph, parts, below);
+    write_in::<O, L>(blank, asked, below, None, scratch, out)
 }
 
 // Writes it, in scratch.
 fn write_in<O: Sink, L: Ledger>(
     blank: Blank,
-    graph: &Graph,
+    asked: &Asked<'_>,
     below: &[u32],
     lacking: Option<&[u32]>,
-    evidence: &[u32],
-    costs: &[u32],
     scratch: &mut [u32],
     out: &mut O,
 ) -> Result<(), WriteFailed>
     requires name { blank.name ≡ L.name }
     requires shares { blank.parts ≡ L.parts }
     requires some { 0 < blank.parts }
-    requires evidence { length evidence.now ≡ graph.now.vars }
-    requires small { All (λ w. w < 3) evidence.now }
-    requires parts { length costs.now ≤ graph.now.vars }
-    requires dear { All (λ c. 0 < c) costs.now }
-    requires total { total_cost costs.now < TOTAL_LIMIT }
-    requires few { length graph.now.nodes + edges graph.now.nodes + 2 * length costs.now + 1 < 2 ^ 32 }
-    requires wide { length graph.now.nodes * part_words (length costs.now) ≤ length below.now }
-    requires below { ArePartsBelow graph.now (length costs.now) below.now (length graph.now.nodes) }
-    requires lacking { IfSome lacking (λ evidence. AreLacking graph.now (length costs.now) evidence.now) }
-    requires room { length scratch.old ≡ drawing_words (length graph.now.nodes) }
+    requires wide { length asked.now.graph.now.nodes * part_words (length asked.now.costs.now) ≤ length below.now }
+    requires below { ArePartsBelow asked.now.graph.now (length asked.now.costs.now) below.now (length asked.now.graph.now.nodes) }
+    requires lacking { IfSome lacking (λ evidence. AreLacking asked.now.graph.now (length asked.now.costs.now) evidence.now) }
+    requires room { length scratch.old ≡ drawing_words (length asked.now.graph.now.nodes) }
     ensures bytes { Puts (O.got out.old) (O.got out.new) result
-        (least_text graph.now evidence.now costs.now) }
+        (least_text asked.now.graph.now asked.now.evidence.now asked.now.costs.now) }
     ensures cause { HasCause (O.faults out.old) (O.faults out.new) result }
-    ensures valid { IsGraph graph.now }
+    ensures valid { IsGraph asked.now.graph.now }
 {
+    let Asked {
+        graph,
+        evidence,
+        costs,
+    } = *asked;
     let parts = costs.len() as u32;
     let nodes = graph.len() as usize;
     let (values, lines) = scratch.split_at_mut(nodes);
@@ -208,10 +215,10 @@ fn put_lines<O: Sink>(drawing: &Drawing<'_>, count: u32, out: &mut O) -> Result<
         (graph_text (record { nodes = all_lines (shown drawing.now); vars = drawing.now.parts })) }
     ensures cause { HasCause (O.faults out.old) (O.faults out.new) result }
 {
-    let mut chunk = Chunk::new();
-    add_header(&mut chunk, out, count, edge_count(drawing), drawing.parts())?;
-    add_literals(&mut chunk, out, drawing.parts())?;
-    add_nodes(&mut chunk, out, drawing)?;
-    add_last(&mut chunk, out, drawing)?;
-    chunk.put(out)
+    let mut text = GraphText::new();
+    add_header(&mut text, out, count, edge_count(drawing), drawing.parts());
+    add_literals(&mut text, out, drawing.parts());
+    add_nodes(&mut text, out, drawing);
+    add_last(&mut text, out, drawing);
+    text.finish(out)
 }

@@ -1,17 +1,11 @@
-use Rattle.std.proofs.Common.{ℕ, List, ◌∷◌, ◌++◌, [], codes, ◌∙◌}
+use Rattle.std.proofs.Common.{◌∷◌, [], codes, ◌∙◌}
 use Rattle.std.specs.Prelude.{decimal}
-use Rattle.std.specs.List.{flat_map}
 use Rattle.text_rules.specs.Tokens.{spaced}
-use Rattle.diag_edge.proofs.Added.{adds_first, adds_second, adds_same}
+use Rattle.nnf_text.proofs.Extended.{extends_on}
 use Rattle.nnf_text.proofs.LineTexts.{listed-spaced}
 use Rattle.nnf_text.proofs.lines.add_header.Goals as goal
 
-pub returns-in_err-add-clause-bytes : goal.returns-in_err-add-clause-bytes
-returns-in_err-add-clause-bytes g c = adds_first _ _ _ _ _ (codes "nnf") (32 ∷ (decimal c.args.nodes ++ 32 ∷ (decimal c.args.edges ++ 32 ∷ (decimal c.args.vars ++ 10 ∷ [])))) c.from_residual.ensures.0 c.in_err-add.ensures.bytes
-
-pub returns-clause-bytes : goal.returns-clause-bytes
-returns-clause-bytes g c =
-    let numbers : List ℕ = c.from.result ∷ c.args.edges ∷ c.from-2.result ∷ [] in
-    adds_same _ _ _ _ _ _ _
-    (listed-spaced (codes "nnf") numbers ∙ (λ i. spaced (codes "nnf" ∷ decimal (c.from.ensures i) ∷ decimal c.args.edges ∷ decimal (c.from-2.ensures i) ∷ [])))
-    (adds_second _ _ _ _ _ _ _ (codes "nnf") (flat_map (λ n. 32 ∷ decimal n) numbers ++ 10 ∷ []) c.in_ok-add.ensures.bytes c.add_listed.ensures.bytes)
+pub returns : goal.returns
+returns g c =
+    extends_on _ _ _ _ _ _ _ _ _ c.add.ensures c.add_listed.ensures
+    (listed-spaced (codes "nnf") (c.from.result ∷ c.args.edges ∷ c.from-2.result ∷ []) ∙ (λ i. spaced (codes "nnf" ∷ decimal (c.from.ensures i) ∷ decimal c.args.edges ∷ decimal (c.from-2.ensures i) ∷ [])))

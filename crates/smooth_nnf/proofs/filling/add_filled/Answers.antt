@@ -1,20 +1,29 @@
-use Rattle.std.proofs.Common.{◌+◌, ◌∷◌, ap, sym, arith}
+use Rattle.std.proofs.Common.{◌+◌, ◌∷◌, ◌++◌, [], refl, ap, sym, ◌∙◌, arith}
+use Rattle.std.specs.Prelude.{decimal}
 use Rattle.text_rules.specs.Tokens.{spaced}
 use Rattle.state_rules.specs.declared.nodes.NodeKind.TheVariants.{And}
-use Rattle.diag_edge.proofs.Added.{adds_same}
 use Rattle.nnf_text.specs.WrittenGraphs.{kind_words}
+use Rattle.nnf_text.proofs.Extended.{extends_on, extends_three, extends_same}
+use Rattle.smooth_nnf.specs.Layouts.{fillers}
+use Rattle.smooth_nnf.specs.inner.Drawings.{missing_in}
+use Rattle.smooth_nnf.specs.inner.Texts.{numbers_text}
 use Rattle.smooth_nnf.proofs.FilledTexts.{filled-text}
 use Rattle.smooth_nnf.proofs.LackingParts.{no-fillers}
 use Rattle.smooth_nnf.proofs.filling.add_filled.Goals as goal
 
-pub returns-then-lacks_none-clause-bytes : goal.returns-then-lacks_none-clause-bytes
-returns-then-lacks_none-clause-bytes g c =
+pub returns-then-lacks_none : goal.returns-then-lacks_none
+returns-then-lacks_none g c =
     let none = no-fillers c.args.drawing.now c.args.over c.args.node (λ part low high. c.lacks_none.ensures c.args.node part c.if-lacks_none.true c.requires.under low high) in
-    adds_same _ _ _ _ _ _ _ (λ i. spaced (kind_words And (c.line.ensures i ∷ sym none i))) c.add_node.ensures.bytes
+    extends_same _ _ _ _ _ _ c.add_node.ensures (λ i. spaced (kind_words And (c.line-line.ensures i ∷ sym none i)))
 
 pub overflow_add-count : goal.overflow_add-count
 overflow_add-count g c = omega (arith, c.missing_count-count.ensures.most, c.parts-parts.ensures.whole.few)
 
-pub returns-clause-bytes : goal.returns-clause-bytes
-returns-clause-bytes g c =
-    adds_same _ _ _ _ _ _ _ (filled-text c.args.drawing.now c.args.node c.args.over _ (ap (λ n. n + 1) c.missing_count-count.ensures.count)) c.add_over.ensures.bytes
+pub returns : goal.returns
+returns g c =
+    let d = c.args.drawing.now in
+    let count = c.missing_count-count.result + 1 in
+    let rest = numbers_text (fillers d.evidence d.parts (missing_in d c.args.over c.args.node)) ++ 10 ∷ [] in
+    extends_on _ _ _ _ _ _ _ _ _ c.add.ensures
+    (extends_on _ _ _ _ _ _ _ _ _ c.add_count.ensures (extends_three _ _ _ _ _ _ _ _ _ _ _ _ c.add_count-2.ensures c.add_fillers.ensures c.add-2.ensures refl) refl)
+    ((λ i. 65 ∷ ((32 ∷ decimal count) ++ ((32 ∷ decimal (c.line-line.ensures i)) ++ rest))) ∙ filled-text d c.args.node c.args.over count (ap (λ n. n + 1) c.missing_count-count.ensures.count))

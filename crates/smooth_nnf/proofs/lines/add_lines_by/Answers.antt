@@ -1,7 +1,7 @@
 use Rattle.std.proofs.Common.{◌≡◌, ℕ, List, sym, ap, ◌∙◌, subst}
 use Rattle.state_rules.specs.declared.nodes.NodeKind.{NodeKind}
 use Rattle.state_rules.specs.Graphs.{Graph, node_at, IsGraph}
-use Rattle.diag_edge.proofs.Added.{adds_same}
+use Rattle.nnf_text.proofs.Extended.{extends_same}
 use Rattle.smooth_nnf.specs.Layouts.{lines_by}
 use Rattle.smooth_nnf.specs.inner.Drawings.{shown}
 use Rattle.smooth_nnf.specs.inner.Texts.{lines_text}
@@ -52,14 +52,14 @@ add_or-requires-clause-room g c =
     let is = here _ d.graph c.args.node c.what.result c.args.kids.now c.graph-graph.ensures.graph c.len-nodes.ensures.valid c.what.ensures c.requires.kids in
     line-room d c.parts-parts.ensures.whole is.0 c.args.node c.requires.node c.what.result c.args.kids.now is.1 c.in-Or.is c.args.cost c.requires.known
 
-pub returns-in-And-clause-bytes : goal.returns-in-And-clause-bytes
-returns-in-And-clause-bytes g c =
+pub returns-in-And : goal.returns-in-And
+returns-in-And g c =
     let d = c.args.drawing.now in
     let what = what-of _ d.graph c.args.node c.what.result c.what.ensures c.graph-graph.ensures.graph in
-    adds_same _ _ _ _ _ _ _ (and-text d c.args.kids.now ∙ ap (λ w. lines_text (lines_by (shown d) c.args.node c.args.cost w c.args.kids.now)) (sym c.in-And.is ∙ what)) c.add_and.ensures.bytes
+    extends_same _ _ _ _ _ _ c.add_and.ensures (and-text d c.args.kids.now ∙ ap (λ w. lines_text (lines_by (shown d) c.args.node c.args.cost w c.args.kids.now)) (sym c.in-And.is ∙ what))
 
-pub returns-in-Or-clause-bytes : goal.returns-in-Or-clause-bytes
-returns-in-Or-clause-bytes g c =
+pub returns-in-Or : goal.returns-in-Or
+returns-in-Or g c =
     let d = c.args.drawing.now in
     let what = what-of _ d.graph c.args.node c.what.result c.what.ensures c.graph-graph.ensures.graph in
-    adds_same _ _ _ _ _ _ _ (or-lines-text d c.args.node c.args.cost c.args.kids.now ∙ ap (λ w. lines_text (lines_by (shown d) c.args.node c.args.cost w c.args.kids.now)) (sym c.in-Or.is ∙ what)) c.add_or.ensures.bytes
+    extends_same _ _ _ _ _ _ c.add_or.ensures (or-lines-text d c.args.node c.args.cost c.args.kids.now ∙ ap (λ w. lines_text (lines_by (shown d) c.args.node c.args.cost w c.args.kids.now)) (sym c.in-Or.is ∙ what))

@@ -1,28 +1,22 @@
-use Rattle.std.proofs.Common.{◌≡◌, ◌+◌, ◌-◌, map, length, ap, ◌∙◌, arith}
+use Rattle.std.proofs.Common.{◌≡◌, ◌+◌, ◌-◌, ◌++◌, map, length, ap, ◌∙◌, arith}
 use Rattle.std.specs.Prelude.{slice_index}
 use Rattle.std.specs.List.{flat_map}
 use Rattle.text_rules.specs.Tokens.{spaced}
-use Rattle.diag_edge.proofs.Added.{adds_first, adds_second, adds_same}
 use Rattle.nnf_text.specs.WrittenGraphs.{node_words}
+use Rattle.nnf_text.proofs.Extended.{extends_three}
 use Rattle.minimiser.specs.Stored.{cost_in}
 use Rattle.smooth_nnf.specs.Layouts.{cheapest_children, or_behind}
 use Rattle.smooth_nnf.specs.inner.Texts.{child_text}
+use Rattle.smooth_nnf.proofs.LineLemmas.{or-text}
 use Rattle.smooth_nnf.proofs.lines.add_or.Goals as goal
 
 pub cheapest_count-count-requires-clause-kids : goal.cheapest_count-count-requires-clause-kids
 cheapest_count-count-requires-clause-kids g c k d h = omega (arith, c.requires.kids k d h, c.parts-parts.ensures.whole.costs, ap length c.values.ensures)
 
-pub returns-in_err-add_child_lines-clause-bytes : goal.returns-in_err-add_child_lines-clause-bytes
-returns-in_err-add_child_lines-clause-bytes g c =
-    let d = c.args.drawing.now in
-    adds_first _ _ _ _ _ (flat_map (child_text d c.args.node c.args.cost) c.args.kids.now)
-    (spaced (node_words (or_behind (slice_index d.lines c.args.node) (length (cheapest_children (map cost_in d.values) c.args.cost c.args.kids.now))))) c.from_residual.ensures.0 c.in_err-add_child_lines.ensures.bytes
-
-pub returns-clause-bytes : goal.returns-clause-bytes
-returns-clause-bytes g c =
+pub returns : goal.returns
+returns g c =
     let d = c.args.drawing.now in
     let count : c.cheapest_count-count.result ≡ length (cheapest_children (map cost_in d.values) c.args.cost c.args.kids.now) = c.cheapest_count-count.ensures.count ∙ ap (λ vs. length (cheapest_children (map cost_in vs) c.args.cost c.args.kids.now)) c.values.ensures in
     let own : (c.line.result - c.cheapest_count-count.result) + c.cheapest_count-count.result ≡ slice_index d.lines c.args.node = omega (arith, count, c.requires.room, c.line.ensures) in
-    adds_second _ _ _ _ _ _ _ (flat_map (child_text d c.args.node c.args.cost) c.args.kids.now)
-    (spaced (node_words (or_behind (slice_index d.lines c.args.node) (length (cheapest_children (map cost_in d.values) c.args.cost c.args.kids.now))))) c.in_ok-add_child_lines.ensures.bytes
-    (adds_same _ _ _ _ _ _ _ (λ i. spaced (node_words (or_behind (own i) (count i)))) c.add_or_line.ensures.bytes)
+    extends_three _ _ _ _ _ _ _ _ _ _ _ _ c.add_child_lines.ensures c.add.ensures c.add_counted_range.ensures
+    (ap (λ t. flat_map (child_text d c.args.node c.args.cost) c.args.kids.now ++ t) (or-text (c.line.result - c.cheapest_count-count.result) c.cheapest_count-count.result ∙ (λ i. spaced (node_words (or_behind (own i) (count i))))))

@@ -2,6 +2,7 @@
 use Rattle.std.proofs.Common.{◌≡◌, ℕ, ◌+◌, ◌<◌, ◌≤◌, Bool, true, false, List, [], ◌∷◌, ◌++◌, map, length, drop, get_or, Bor, Ok, refl, sym, ap, subst, ◌∙◌, append_assoc, arith}
 use Rattle.std.specs.Prelude.{◌||◌, if◌then◌else◌}
 use Rattle.std.specs.List.{list_any, list_all, filter, filter_map, flat_map, enumerate_from}
+use Rattle.std.specs.Result.{result_map_both}
 use Rattle.std.proofs.lemmas.Bool.{and_parts}
 use Rattle.std.proofs.lemmas.List.{drop_more}
 use Rattle.std.proofs.lemmas.List.Folds.{list_any-append, list_all-map}
@@ -28,7 +29,7 @@ use Rattle.bench_reader.specs.Faults.{Fault, unless_fault}
 use Rattle.bench_reader.specs.Statements.{Statement, Input, Output, Gate}
 use Rattle.bench_reader.specs.Signals.{driven, driven_by_gate}
 use Rattle.bench_reader.specs.Netlists.{part_of, device_of, fault_in, statement_in, faults_together, readings, netlist_with}
-use Rattle.bench_reader.specs.SequentialNetlists.{flip_flop, flip_flops, places_where, with_delayed, sequential_netlist, HasShortNames}
+use Rattle.bench_reader.specs.SequentialNetlists.{flip_flop, flip_flops, places_where, sequential_netlist, HasShortNames}
 use Rattle.bench_reader.specs.inner.Lines.{meaning}
 use Rattle.bench_reader.specs.inner.Steps.{statements_or_fault, device_or_fault, is_faultless}
 use Rattle.bench_reader.proofs.Lines.{said, read_are_faultless}
@@ -132,6 +133,7 @@ module _ (text : List ℕ) where
     pub is_sequential : (device : Device) (delayed : List ℕ) → device_or_fault statements ≡ Ok device → delayed ≡ places_where (is_among (flip_flops statements)) (part_names device.parts)
         → sequential_netlist text ≡ Ok (record { device = device; delayed = delayed })
     is_sequential device delayed made are =
-        ap (with_delayed (flip_flops (filter_map statement_in (readings Taken text)))) (device_read device made)
-        ∙ ap (λ (ss : List (ℕ × Statement)). with_delayed (flip_flops ss) (Ok device)) (both Taken text statements read).1
+        let outputs = flip_flops (filter_map statement_in (readings Taken text)) in
+        ap (result_map_both (λ (d : Device). record { device = d; delayed = places_where (is_among outputs) (part_names d.parts) }) (λ fault. fault)) (device_read device made)
+        ∙ ap (λ (ss : List (ℕ × Statement)). Ok (record { device = device; delayed = places_where (is_among (flip_flops ss)) (part_names device.parts) })) (both Taken text statements read).1
         ∙ ap (λ (ds : List ℕ). Ok (record { device = device; delayed = ds })) (sym are)

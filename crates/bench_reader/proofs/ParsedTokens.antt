@@ -3,13 +3,13 @@ use Rattle.std.proofs.Common.{◌≡◌, ℕ, ◌<◌, ◌≤◌, Bool, true, fa
 use Rattle.std.specs.Prelude.{◌&&◌, option_map, if◌then◌else◌}
 use Rattle.std.specs.List.{filter}
 use Rattle.std.proofs.lemmas.List.Sums.{length-filter, count_by-le-length}
-use Rattle.text_rules.specs.Names.{Name, is_short_name}
+use Rattle.text_rules.specs.Names.{Name, same_name, is_short_name}
 use Rattle.text_rules.proofs.NameLemmas.{equal_if_same}
 use Rattle.text_rules.proofs.TokenLemmas.{length-tokens}
 use Rattle.bench_reader.specs.declared.kinds.FlipFlops.{FlipFlops}
 use Rattle.bench_reader.specs.declared.kinds.NamedKind.{NamedKind}
 use Rattle.bench_reader.specs.declared.statement.Inputs.{Inputs}
-use Rattle.bench_reader.specs.Statements.{Gate, has_no_mark, is_the_mark, listed_from, inputs_in, statement_of, kind_named, kind_fault, statement_fault}
+use Rattle.bench_reader.specs.Statements.{Gate, has_no_mark, listed_from, inputs_in, statement_of, kind_named, kind_fault, statement_fault}
 use Rattle.bench_reader.specs.inner.Lines.{input_names, count_names}
 
 -- ---- lists of inputs
@@ -38,15 +38,15 @@ with_more x mark ts o w m h = grind arith
 listed_words : (ts : List (List ℕ)) → IsEvidence ts (listed_from ts)
 listed_words [] = tt
 listed_words (x ∷ []) = tt
-listed_words (x ∷ m ∷ []) = by (has_no_mark x) (is_the_mark (codes ")") m) refl refl
+listed_words (x ∷ m ∷ []) = by (has_no_mark x) (same_name m (codes ")")) refl refl
   where
-    by : (b d : Bool) → has_no_mark x ≡ b → is_the_mark (codes ")") m ≡ d → IsEvidence (x ∷ m ∷ []) (if b && d then Some (x ∷ []) else None)
+    by : (b d : Bool) → has_no_mark x ≡ b → same_name m (codes ")") ≡ d → IsEvidence (x ∷ m ∷ []) (if b && d then Some (x ∷ []) else None)
     by true true w e = rw (equal_if_same m (codes ")") e, w) refl
     by true false w e = tt
     by false d w e = tt
-listed_words (x ∷ m ∷ y ∷ ts) = by (has_no_mark x) (is_the_mark (codes ",") m) refl refl (listed_words (y ∷ ts))
+listed_words (x ∷ m ∷ y ∷ ts) = by (has_no_mark x) (same_name m (codes ",")) refl refl (listed_words (y ∷ ts))
   where
-    by : (b d : Bool) → has_no_mark x ≡ b → is_the_mark (codes ",") m ≡ d → IsEvidence (y ∷ ts) (listed_from (y ∷ ts))
+    by : (b d : Bool) → has_no_mark x ≡ b → same_name m (codes ",") ≡ d → IsEvidence (y ∷ ts) (listed_from (y ∷ ts))
         → IsEvidence (x ∷ m ∷ y ∷ ts) (if b && d then option_map (λ (names : List Name). x ∷ names) (listed_from (y ∷ ts)) else None)
     by true true w e h = with_more x m (y ∷ ts) (listed_from (y ∷ ts)) w (equal_if_same m (codes ",") e) h
     by true false w e h = tt
@@ -54,9 +54,9 @@ listed_words (x ∷ m ∷ y ∷ ts) = by (has_no_mark x) (is_the_mark (codes ","
 
 input_words : (ts : List (List ℕ)) → IsEvidence ts (inputs_in ts)
 input_words [] = tt
-input_words (m ∷ []) = by (is_the_mark (codes ")") m) refl
+input_words (m ∷ []) = by (same_name m (codes ")")) refl
   where
-    by : (b : Bool) → is_the_mark (codes ")") m ≡ b → IsEvidence (m ∷ []) (if b then Some [] else None)
+    by : (b : Bool) → same_name m (codes ")") ≡ b → IsEvidence (m ∷ []) (if b then Some [] else None)
     by true e = rw (equal_if_same m (codes ")") e) refl
     by false e = tt
 input_words (x ∷ y ∷ ts) = listed_words (x ∷ y ∷ ts)

@@ -14,7 +14,7 @@ use Rattle.bench_reader.specs.declared.signals.Driver.TheVariants.{Outside, Gate
 use Rattle.bench_reader.specs.declared.fault.BenchFault.TheVariants.{DrivenTwice}
 use Rattle.bench_reader.specs.Faults.{Fault, fault_at}
 use Rattle.bench_reader.specs.Statements.{Statement, Input, Output, Gate}
-use Rattle.bench_reader.specs.Signals.{driven_by_gate, driven, is_driven_twice, driven_twice_below}
+use Rattle.bench_reader.specs.Signals.{driven_by_gate, driven, is_driven_twice, driven_twice}
 use Rattle.bench_reader.specs.inner.Steps.{Signals, and_then, if_free, unless_gate, driven_more, signals_from}
 use Rattle.bench_reader.proofs.Drivers.{is_gate, driver_of, Drives, Drives-gate, Drives-input, Drives-output}
 use Rattle.bench_reader.proofs.Lines.{said}
@@ -27,8 +27,8 @@ pub record Ends (ds : Signals) (above below : List Statement) : Type 0 where
 
 -- no statement drives again what is driven above it, or the first that does is the fault
 abbrev pub Splits : Result Signals Fault → List (ℕ × Statement) → List Statement → Type 0
-Splits (Err fault) statements above = (lines : List ℕ) × (fault ≡ fault_at DrivenTwice fault.line) × (driven_twice_below above statements ≡ fault.line ∷ lines)
-Splits (Ok ds) statements above = (driven_twice_below above statements ≡ []) × Ends ds above (map said statements)
+Splits (Err fault) statements above = (lines : List ℕ) × (fault ≡ fault_at DrivenTwice fault.line) × (driven_twice above statements ≡ fault.line ∷ lines)
+Splits (Ok ds) statements above = (driven_twice above statements ≡ []) × Ends ds above (map said statements)
 
 module _ (f : ℕ × Statement) (statements : List (ℕ × Statement)) (above : List Statement) where
   step_on : (ds more : Signals) → driven_more ds f ≡ Ok more → is_driven_twice above f.1 ≡ false → Splits (signals_from more statements) statements (f.1 ∷ above)
@@ -38,7 +38,7 @@ module _ (f : ℕ × Statement) (statements : List (ℕ × Statement)) (above : 
   step_off : (ds : Signals) → driven_more ds f ≡ Err (fault_at DrivenTwice f.0) → is_driven_twice above f.1 ≡ true → Splits (signals_from ds (f ∷ statements)) (f ∷ statements) above
   step_off ds e t =
       subst (λ (o : Result Signals Fault). Splits o (f ∷ statements) above) (sym (ap (λ r. and_then r (λ (ms : Signals). signals_from ms statements)) e))
-      (driven_twice_below (f.1 ∷ above) statements, refl, ap (λ (b : Bool). if b then f.0 ∷ driven_twice_below (f.1 ∷ above) statements else driven_twice_below (f.1 ∷ above) statements) t)
+      (driven_twice (f.1 ∷ above) statements, refl, ap (λ (b : Bool). if b then f.0 ∷ driven_twice (f.1 ∷ above) statements else driven_twice (f.1 ∷ above) statements) t)
 
 pub splits : (statements : List (ℕ × Statement)) (above : List Statement) (ds : Signals) → Drives ds above → Splits (signals_from ds statements) statements above
 splits [] above ds h = (refl, record { all = λ m. or-false (is_among (flat_map driven above) m) ∙ h.all m; once = h.once })
@@ -67,15 +67,15 @@ splits ((line, Input s) ∷ statements) above ds h =
 
 -- ---- gates drive different signals
 
-twice_parts : (f : ℕ × Statement) (statements : List (ℕ × Statement)) (above : List Statement) → driven_twice_below above (f ∷ statements) ≡ []
-    → (is_driven_twice above f.1 ≡ false) × (driven_twice_below (f.1 ∷ above) statements ≡ [])
+twice_parts : (f : ℕ × Statement) (statements : List (ℕ × Statement)) (above : List Statement) → driven_twice above (f ∷ statements) ≡ []
+    → (is_driven_twice above f.1 ≡ false) × (driven_twice (f.1 ∷ above) statements ≡ [])
 twice_parts f statements above h = grind arith
 
 still_above : (f : Statement) (above : List Statement) (m : Name) → is_among (flat_map driven above) m ≡ true → is_among (flat_map driven (f ∷ above)) m ≡ true
 still_above f above m e = list_any-append (same_name m) (driven f) (flat_map driven above) ∙ or_right (is_among (driven f) m) _ e
 
 -- no gate drives again what is driven above
-gates_apart : (statements : List (ℕ × Statement)) (above : List Statement) (m : Name) → driven_twice_below above statements ≡ [] → is_among (flat_map driven above) m ≡ true
+gates_apart : (statements : List (ℕ × Statement)) (above : List Statement) (m : Name) → driven_twice above statements ≡ [] → is_among (flat_map driven above) m ≡ true
     → is_among (flat_map driven_by_gate (map said statements)) m ≡ false
 gates_apart [] above m h e = refl
 gates_apart ((line, Input s) ∷ statements) above m h e = gates_apart statements (Input s ∷ above) m (twice_parts (line, Input s) statements above h).1 (still_above (Input s) above m e)
@@ -87,7 +87,7 @@ gates_apart ((line, Gate o k is) ∷ statements) above m h e =
     by false g rest = rest
     by true g rest = absurd (true≢false (sym e ∙ ap (λ (n : Name). is_among (flat_map driven above) n) (equal_if_same m o g) ∙ (twice_parts (line, Gate o k is) statements above h).0))
 
-pub gates_once : (statements : List (ℕ × Statement)) (above : List Statement) → driven_twice_below above statements ≡ [] → repeated (flat_map driven_by_gate (map said statements)) ≡ []
+pub gates_once : (statements : List (ℕ × Statement)) (above : List Statement) → driven_twice above statements ≡ [] → repeated (flat_map driven_by_gate (map said statements)) ≡ []
 gates_once [] above h = refl
 gates_once ((line, Input s) ∷ statements) above h = gates_once statements (Input s ∷ above) (twice_parts (line, Input s) statements above h).1
 gates_once ((line, Output s) ∷ statements) above h = gates_once statements (Output s ∷ above) (twice_parts (line, Output s) statements above h).1

@@ -30,7 +30,7 @@ use Rattle.bench_reader.specs.declared.kinds.FlipFlops.{FlipFlops}
 use Rattle.bench_reader.specs.declared.statement.NumberedStatement.{NumberedStatement}
 use Rattle.bench_reader.specs.Faults.{Fault, fault_at, told, unless_fault}
 use Rattle.bench_reader.specs.Statements.{Statement, Input, Output, Gate}
-use Rattle.bench_reader.specs.Signals.{driven, driven_by_gate, used, driven_twice, lines_without, undriven}
+use Rattle.bench_reader.specs.Signals.{driven, driven_by_gate, used, driven_twice, undriven}
 use Rattle.bench_reader.specs.Netlists.{part_of, device_of, fault_in, statement_in, too_many, readings, netlist_with}
 use Rattle.bench_reader.specs.inner.Lines.{unnumbered, with_number}
 use Rattle.bench_reader.specs.inner.Steps.{statements_or_fault, device_or_fault, Signals, signals_from, first_undriven, is_too_large, is_faultless, AreFaultless}
@@ -113,7 +113,7 @@ IsFirst (Some line) lines = (rest : List ℕ) × (lines ≡ line ∷ rest)
 
 -- The first line that uses what is not among the driven signals, if each of two lists has them.
 first_without : (there signals : List Name) → ((n : Name) → is_among there n ≡ is_among signals n) → (statements : List (ℕ × Statement))
-    → IsFirst (first_undriven signals statements) (lines_without there statements)
+    → IsFirst (first_undriven signals statements) (undriven there statements)
 first_without there signals alike [] = refl
 first_without there signals alike ((line, s) ∷ statements) = grind (arith, first_without there signals alike statements)
 
@@ -128,25 +128,26 @@ abbrev unless_together : List (ℕ × Statement) → List Fault → List Fault �
 unless_together statements twice without many = unless_fault (twice ++ without ++ many) (device_of (map said statements))
 
 module _ (statements : List (ℕ × Statement)) where
+  abbrev there : List Name
+  there = flat_map (λ (s : ℕ × Statement). driven s.1) statements
+
   pub fault_driven : (fault : Fault) → signals_from [] statements ≡ Err fault → device_or_fault statements ≡ Err fault
   fault_driven fault h =
       let split : Splits (Err fault) statements [] = subst (λ o. Splits o statements []) h (splits statements [] [] Drives-none) in
       grind arith
 
   module _ (signals : Signals) (driven_so : signals_from [] statements ≡ Ok signals) where
-    split : (driven_twice statements ≡ []) × Ends signals [] (map said statements)
+    split : (driven_twice [] statements ≡ []) × Ends signals [] (map said statements)
     split = subst (λ o. Splits o statements []) driven_so (splits statements [] [] Drives-none)
 
     members : (m : Name) → is_among (keys_of signals) m ≡ is_among (flat_map driven (map said statements)) m
     members m = among_keys m signals ∙ sym (split.1.all m)
 
-    without_twice : device_or_fault statements ≡ unless_together statements [] (map (fault_at Undriven) (undriven statements)) (too_many (map said statements))
-    without_twice = ap (λ ls. unless_together statements (map (fault_at DrivenTwice) ls) (map (fault_at Undriven) (undriven statements)) (too_many (map said statements))) split.0
+    without_twice : device_or_fault statements ≡ unless_together statements [] (map (fault_at Undriven) (undriven there statements)) (too_many (map said statements))
+    without_twice = ap (λ ls. unless_together statements (map (fault_at DrivenTwice) ls) (map (fault_at Undriven) (undriven there statements)) (too_many (map said statements))) split.0
 
-    first : IsFirst (first_undriven (keys_of signals) statements) (undriven statements)
-    first =
-        let there : (m : Name) → is_among (flat_map (λ (s : ℕ × Statement). driven s.1) statements) m ≡ is_among (keys_of signals) m = λ m. ap (λ ns. is_among ns m) (there-said statements) ∙ sym (members m) in
-        first_without (flat_map (λ (s : ℕ × Statement). driven s.1) statements) (keys_of signals) there statements
+    first : IsFirst (first_undriven (keys_of signals) statements) (undriven there statements)
+    first = first_without there (keys_of signals) (λ m. ap (λ ns. is_among ns m) (there-said statements) ∙ sym (members m)) statements
 
     pub fault_used : (line : ℕ) → first_undriven (keys_of signals) statements ≡ Some line → device_or_fault statements ≡ Err (fault_at Undriven line)
     fault_used line h = grind (arith, first, without_twice)

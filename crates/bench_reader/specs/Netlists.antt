@@ -2,10 +2,8 @@
 use Rattle.std.specs.Prelude.{ℕ, ◌||◌, List, [], ◌∷◌, ◌++◌, map, length, Option, Some, None, option_map, Result, Ok, Err, nat_lt, if◌then◌else◌}
 use Rattle.std.specs.List.{filter_map, flat_map, enumerate_from}
 use Rattle.std.specs.Option.{option_to_list}
-use Rattle.text_rules.specs.Names.{Name}
 use Rattle.text_rules.specs.TextLines.{all_lines}
 use Rattle.device_model.specs.declared.limits.TheConstants.{PART_LIMIT, WIRE_LIMIT}
-use Rattle.device_model.specs.declared.gates.Kind.{Kind}
 use Rattle.device_model.specs.Devices.{Device}
 use Rattle.device_model.specs.Building.{NamedPart, device_over}
 use Rattle.bench_reader.specs.declared.kinds.FlipFlops.{FlipFlops}
@@ -16,13 +14,10 @@ use Rattle.bench_reader.specs.Faults.{Fault, fault_at, unless_fault}
 use Rattle.bench_reader.specs.Statements.{Statement, Gate, part_gate, reading}
 use Rattle.bench_reader.specs.Signals.{driven_by_gate, driven, driven_twice, undriven}
 
--- the wires at its ports are its inputs and then its output
-abbrev pub part_over : Name → List Name → Kind → NamedPart
-part_over output inputs gate = record { name = output; kind = gate; wires = inputs ++ output ∷ [] }
-
--- the part of a gate or of a flip-flop
+-- The part of a gate or of a flip-flop: the wires at its ports are its inputs and then its output.
 abbrev pub part_of : Statement → List NamedPart
-part_of (Gate output kind inputs) = option_to_list (option_map (part_over output inputs) (part_gate kind))
+part_of (Gate output kind inputs) =
+    option_to_list (option_map (λ gate. record { name = output; kind = gate; wires = inputs ++ output ∷ [] }) (part_gate kind))
 part_of statement = []
 
 -- a part for each gate, and a wire for each driven signal
@@ -35,8 +30,7 @@ fault_in (line, Ok statement) = None
 
 abbrev pub statement_in : ℕ × Result (Option Statement) BenchFault → Option (ℕ × Statement)
 statement_in (line, Ok (Some statement)) = Some (line, statement)
-statement_in (line, Ok None) = None
-statement_in (line, Err what) = None
+statement_in (line, other) = None
 
 -- too many parts or wires, of no line
 abbrev pub too_many : List Statement → List Fault
@@ -48,23 +42,20 @@ too_many statements =
 -- the faults that statements have together, in the order in which the first one counts
 abbrev pub faults_together : List (ℕ × Statement) → List Fault
 faults_together statements =
-    map (fault_at DrivenTwice) (driven_twice statements)
-    ++ map (fault_at Undriven) (undriven statements)
+    map (fault_at DrivenTwice) (driven_twice [] statements)
+    ++ map (fault_at Undriven) (undriven (flat_map (λ (s : ℕ × Statement). driven s.1) statements) statements)
     ++ too_many (map (λ (s : ℕ × Statement). s.1) statements)
-
--- A fault that a line has alone counts before these.
-abbrev pub netlist_of : List (ℕ × Result (Option Statement) BenchFault) → Result Device Fault
-netlist_of readings =
-    let statements = filter_map statement_in readings in
-    unless_fault (filter_map fault_in readings ++ faults_together statements) (device_of (map (λ (s : ℕ × Statement). s.1) statements))
 
 -- what the lines of a text say, numbered from 1
 abbrev pub readings : FlipFlops → List ℕ → List (ℕ × Result (Option Statement) BenchFault)
 readings flip_flops text = enumerate_from 1 (map (reading flip_flops) (all_lines text))
 
--- The device of a text or its first fault, if flip-flops are refused or taken.
+-- The device of a text or its first fault, if flip-flops are refused or taken. A fault that a line has alone counts first.
 abbrev pub netlist_with : FlipFlops → List ℕ → Result Device Fault
-netlist_with flip_flops text = netlist_of (readings flip_flops text)
+netlist_with flip_flops text =
+    let lines = readings flip_flops text in
+    let statements = filter_map statement_in lines in
+    unless_fault (filter_map fault_in lines ++ faults_together statements) (device_of (map (λ (s : ℕ × Statement). s.1) statements))
 
 -- The netlist of a text has gates alone.
 abbrev pub netlist : List ℕ → Result Device Fault

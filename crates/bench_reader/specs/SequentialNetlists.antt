@@ -1,6 +1,7 @@
 -- Netlists with flip-flops: the device, in which a flip-flop is a buffer, and which of its parts are flip-flops.
-use Rattle.std.specs.Prelude.{ℕ, ◌≤◌, Bool, List, [], ◌∷◌, map, length, Result, Ok, Err, All}
+use Rattle.std.specs.Prelude.{ℕ, ◌≤◌, Bool, List, [], ◌∷◌, map, length, Result, All}
 use Rattle.std.specs.List.{filter, filter_map, flat_map, enumerate_from}
+use Rattle.std.specs.Result.{result_map_both}
 use Rattle.text_rules.specs.declared.names.TheConstants.{SHORT_NAME_LIMIT}
 use Rattle.text_rules.specs.Names.{Name, is_among}
 use Rattle.device_model.specs.declared.component.Component.{Component}
@@ -25,14 +26,12 @@ flip_flops statements = flat_map (λ (s : ℕ × Statement). flip_flop s.1) stat
 abbrev pub places_where : (Name → Bool) → List Name → List ℕ
 places_where test names = map (λ (n : ℕ × Name). n.0) (filter (λ (n : ℕ × Name). test n.1) (enumerate_from 0 names))
 
--- A part is named as its output, so that the delayed parts are those that are named as flip-flops.
-abbrev pub with_delayed : List Name → Result Device Fault → Result Sequential Fault
-with_delayed outputs (Ok device) = Ok (record { device = device; delayed = places_where (is_among outputs) (part_names device.parts) })
-with_delayed outputs (Err fault) = Err fault
-
--- The device of a text whose flip-flops are taken, and its delayed parts; or the first fault.
+-- The device of a text whose flip-flops are taken, and its delayed parts, which are named as their outputs; or the first fault.
 abbrev pub sequential_netlist : List ℕ → Result Sequential Fault
-sequential_netlist text = with_delayed (flip_flops (filter_map statement_in (readings Taken text))) (netlist_with Taken text)
+sequential_netlist text =
+    let outputs = flip_flops (filter_map statement_in (readings Taken text)) in
+    result_map_both (λ (device : Device). record { device = device; delayed = places_where (is_among outputs) (part_names device.parts) })
+    (λ fault. fault) (netlist_with Taken text)
 
 -- the names of parts and wires are not longer than those of a file
 pub record HasShortNames (device : Device) : Type 0 where

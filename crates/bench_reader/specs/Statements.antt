@@ -1,6 +1,9 @@
 -- What one line of a netlist says, or what is wrong with it.
-use Rattle.std.specs.Prelude.{ℕ, ◌-◌, Bool, true, not, ◌&&◌, List, [], ◌∷◌, map, length, Option, Some, None, option_map, Result, Ok, Err, codes, nat_le, if◌then◌else◌}
+use Rattle.std.specs.Prelude.{ℕ, Bool, true, not, ◌&&◌, List, [], ◌∷◌, map, length, Option, Some, None, option_map, Result, Ok, Err, codes, if◌then◌else◌}
+use Rattle.std.specs.Char.{to_ascii_uppercase}
 use Rattle.std.specs.List.{list_any, list_all}
+use Rattle.std.specs.Map.{lookup}
+use Rattle.std.specs.Option.{option_map_or}
 use Rattle.text_rules.specs.Names.{Name, same_name, is_short_name, is_mark}
 use Rattle.text_rules.specs.TextLines.{uncommented}
 use Rattle.text_rules.specs.Tokens.{tokens}
@@ -19,25 +22,16 @@ use Rattle.bench_reader.specs.declared.fault.BenchFault.TheVariants.{Line as NoF
 abbrev pub has_no_mark : List ℕ → Bool
 has_no_mark token = not (list_any is_mark token)
 
-abbrev pub is_the_mark : List ℕ → List ℕ → Bool
-is_the_mark mark token = same_name token mark
-
-abbrev pub capital : ℕ → ℕ
-capital b = if nat_le 97 b && nat_le b 122 then b - 32 else b
-
 abbrev pub capitals : List ℕ → List ℕ
-capitals word = map capital word
+capitals word = map to_ascii_uppercase word
 
--- The word of a gate names that gate. `BUF` is another word for a buffer, and `DFF` is the word of a flip-flop, which keeps its
--- value for a time.
-abbrev pub gate_or_other : Name → Option Kind → NamedKind
-gate_or_other word (Some gate) = Combinational gate
-gate_or_other word None =
-    if same_name word (codes "BUF") then Combinational Buff else if same_name word (codes "DFF") then Sequential else Unknown
-
--- what a word names, in capital or in small letters: a gate, a flip-flop or nothing
+-- What a word names, in capital or in small letters: the gate of that word, a buffer by another word, a flip-flop, which keeps its value
+-- for a time, or nothing.
 abbrev pub kind_named : Name → NamedKind
-kind_named word = gate_or_other (capitals word) (gate_named (capitals word))
+kind_named word =
+    option_map_or Combinational (gate_named (capitals word))
+    (if same_name (capitals word) (codes "BUF") then Combinational Buff
+    else if same_name (capitals word) (codes "DFF") then Sequential else Unknown)
 
 -- ---- statements
 
@@ -49,30 +43,23 @@ pub data Statement : Type 0 where
 
 -- words with a comma between each two, and a closing bracket
 abbrev pub listed_from : List (List ℕ) → Option (List Name)
-listed_from [] = None
-listed_from (x ∷ []) = None
-listed_from (x ∷ mark ∷ []) = if has_no_mark x && is_the_mark (codes ")") mark then Some (x ∷ []) else None
+listed_from (x ∷ mark ∷ []) = if has_no_mark x && same_name mark (codes ")") then Some (x ∷ []) else None
 listed_from (x ∷ mark ∷ y ∷ rest) =
-    if has_no_mark x && is_the_mark (codes ",") mark then option_map (λ names. x ∷ names) (listed_from (y ∷ rest)) else None
+    if has_no_mark x && same_name mark (codes ",") then option_map (λ names. x ∷ names) (listed_from (y ∷ rest)) else None
+listed_from tokens = None
 
 -- what is after an opening bracket
 abbrev pub inputs_in : List (List ℕ) → Option (List Name)
-inputs_in [] = None
-inputs_in (mark ∷ []) = if is_the_mark (codes ")") mark then Some [] else None
-inputs_in (x ∷ y ∷ rest) = listed_from (x ∷ y ∷ rest)
-
-abbrev pub signal_statement : Name → Name → Option Statement
-signal_statement word signal =
-    if same_name (capitals word) (codes "INPUT") then Some (Input signal)
-    else if same_name (capitals word) (codes "OUTPUT") then Some (Output signal)
-    else None
+inputs_in (mark ∷ []) = if same_name mark (codes ")") then Some [] else None
+inputs_in tokens = listed_from tokens
 
 -- `WORD ( signal )` or `output = KIND ( inputs )`
 abbrev pub statement_of : List (List ℕ) → Option Statement
 statement_of (a ∷ b ∷ c ∷ d ∷ []) =
-    if (is_the_mark (codes "(") b && has_no_mark c) && is_the_mark (codes ")") d then signal_statement a c else None
+    if (same_name b (codes "(") && has_no_mark c) && same_name d (codes ")")
+    then lookup (same_name (capitals a)) ((codes "INPUT", Input c) ∷ (codes "OUTPUT", Output c) ∷ []) else None
 statement_of (a ∷ b ∷ c ∷ d ∷ e ∷ rest) =
-    if (has_no_mark a && is_the_mark (codes "=") b) && (has_no_mark c && is_the_mark (codes "(") d)
+    if (has_no_mark a && same_name b (codes "=")) && (has_no_mark c && same_name d (codes "("))
     then option_map (Gate a (kind_named c)) (inputs_in (e ∷ rest))
     else None
 statement_of tokens = None
@@ -85,15 +72,12 @@ part_gate (Combinational gate) = Some gate
 part_gate Sequential = Some Buff
 part_gate Unknown = None
 
--- a kind that is not known, or a number of inputs that it does not take
-abbrev pub inputs_fault : ℕ → Option Kind → Option BenchFault
-inputs_fault inputs None = Some NoKind
-inputs_fault inputs (Some gate) = if takes_inputs (rule gate) inputs then None else Some WrongInputs
-
--- A flip-flop that is refused is reported whatever its inputs; one that is taken has those of a buffer.
+-- A flip-flop that is refused is reported whatever its inputs; one that is taken has those of a buffer. A kind that is not known is
+-- reported, or a number of inputs that it does not take.
 abbrev pub kind_fault : FlipFlops → ℕ → NamedKind → Option BenchFault
 kind_fault Refused inputs Sequential = Some KeepsItsValue
-kind_fault flip_flops inputs kind = inputs_fault inputs (part_gate kind)
+kind_fault flip_flops inputs kind =
+    option_map_or (λ gate. if takes_inputs (rule gate) inputs then None else Some WrongInputs) (part_gate kind) (Some NoKind)
 
 -- A signal that is no name is reported before the kind, and a kind that is not known before its inputs.
 abbrev pub statement_fault : FlipFlops → Statement → Option BenchFault
@@ -104,17 +88,10 @@ statement_fault flip_flops (Gate output kind inputs) =
 
 -- ---- lines
 
-abbrev pub unless_faulty : Statement → Option BenchFault → Result (Option Statement) BenchFault
-unless_faulty statement None = Ok (Some statement)
-unless_faulty statement (Some fault) = Err fault
-
-abbrev pub reading_of_statement : FlipFlops → Option Statement → Result (Option Statement) BenchFault
-reading_of_statement flip_flops None = Err NoForm
-reading_of_statement flip_flops (Some statement) = unless_faulty statement (statement_fault flip_flops statement)
-
 abbrev pub reading_of : FlipFlops → List (List ℕ) → Result (Option Statement) BenchFault
 reading_of flip_flops [] = Ok None
-reading_of flip_flops (t ∷ ts) = reading_of_statement flip_flops (statement_of (t ∷ ts))
+reading_of flip_flops (t ∷ ts) =
+    option_map_or (λ s. option_map_or Err (statement_fault flip_flops s) (Ok (Some s))) (statement_of (t ∷ ts)) (Err NoForm)
 
 -- A line says nothing or makes a statement, or has a fault.
 abbrev pub reading : FlipFlops → List ℕ → Result (Option Statement) BenchFault

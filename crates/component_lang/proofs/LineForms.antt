@@ -101,11 +101,7 @@ part_of-name reader name kind places part h = grind arith
 pub outside-block : (reader : Reader) (word name : Name) (words ports : List Name) → words ≡ name ∷ ports → same_name word (codes "block") ≡ true
     → outside reader (word ∷ words) ≡ block_line reader name ports
 outside-block reader word name words ports e b =
-    ap (λ (ns : List Name). outside reader (word ∷ ns)) e ∙ ap (λ (w : Name). outside reader (w ∷ name ∷ ports)) (equal_if_same word (codes "block") b) ∙ by ports
-  where
-    by : (ps : List Name) → outside reader (codes "block" ∷ name ∷ ps) ≡ block_line reader name ps
-    by [] = refl
-    by (p ∷ ps) = refl
+    ap (λ (ns : List Name). outside reader (word ∷ ns)) e ∙ ap (λ (w : Name). outside reader (w ∷ name ∷ ports)) (equal_if_same word (codes "block") b)
 
 pub in_type-ok : (reader : Reader) (open_type : OpenType) (word row : Name) (words left : List Name) → words ≡ row ∷ left → left ≡ [] → same_name word (codes "ok") ≡ true
     → in_type reader open_type (word ∷ words) ≡ ok_line reader open_type row

@@ -5,9 +5,11 @@ use Rattle.std.specs.List.{list_all, prefix_len}
 use Rattle.std.proofs.lemmas.Bool.{and_parts, and_from, ltb-true, lt-ltb}
 use Rattle.std.proofs.lemmas.Nat.{pow_pos}
 use Rattle.text_rules.specs.Names.{Name, same_name, is_among}
+use Rattle.text_rules.specs.Numbers.{plain_number_in}
 use Rattle.text_rules.specs.TextLines.{uncommented}
 use Rattle.text_rules.specs.Tokens.{words}
 use Rattle.text_rules.proofs.TokenLemmas.{length-tokens}
+use Rattle.device_model.specs.declared.limits.TheConstants.{COST_LIMIT}
 use Rattle.device_model.specs.TruthTable.{has_few_ports, is_cost}
 use Rattle.device_model.specs.Building.{place_in}
 use Rattle.component_lang.specs.declared.design.UsedKind.{UsedKind}
@@ -15,9 +17,9 @@ use Rattle.component_lang.specs.declared.design.Block.{Block}
 use Rattle.component_lang.specs.declared.fault.LangFault.{LangFault}
 use Rattle.component_lang.specs.declared.fault.LangFault.TheVariants.{Line as NotHere, Name as NoName, Twice, Ports, Row, Cost}
 use Rattle.component_lang.specs.Designs.{is_plain_name, used_names, takes_args, is_block, are_blocks}
-use Rattle.component_lang.specs.Kinds.{OpenType, Section, InType, Reader, kind_named}
-use Rattle.component_lang.specs.TypeRows.{is_row, row_in, with_row, cost_in}
-use Rattle.component_lang.specs.DesignLines.{at, type_line, block_line, wire_line, part_of, with_part, part_line, outside, in_type, in_block, at_section, after_words, after_line}
+use Rattle.component_lang.specs.Kinds.{OpenType, Section, Outside, InType, InBlock, AfterTop, Reader, kind_named}
+use Rattle.component_lang.specs.TypeRows.{is_row, row_in, with_row}
+use Rattle.component_lang.specs.DesignLines.{at, type_line, block_line, wire_line, part_of, with_part, part_line, outside, in_type, in_block, at_section, after_line, top_line}
 use Rattle.component_lang.specs.inner.Sound.{is_free, is_sound_type, is_sound_block, is_sound_section, is_sound, open_wires, reader_size}
 use Rattle.component_lang.proofs.RowSets.{row_in-fits, with_row-fits}
 use Rattle.component_lang.proofs.NameLists.{among_position}
@@ -39,8 +41,8 @@ either-keeps : (n : ℕ) (b : Bool) (r s : Result Reader LangFault) → Keeps n 
 either-keeps n b r s h g = grind arith
 
 -- a cost that is read may be one
-cost_in-fits : (word : List ℕ) → is_cost (unwrap_or (cost_in word) 1) ≡ true
-cost_in-fits word = grind arith
+cost-fits : (word : List ℕ) → is_cost (unwrap_or (plain_number_in 4 1 COST_LIMIT word) 1) ≡ true
+cost-fits word = grind arith
 
 module _ (reader : Reader) (n : ℕ) (blocks_sound : are_blocks reader.types [] reader.blocks ≡ true) where
   type_line-keeps : (name : Name) (ports : List Name) → length reader.types + length reader.blocks ≤ n → Keeps n (type_line reader name ports)
@@ -49,13 +51,16 @@ module _ (reader : Reader) (n : ℕ) (blocks_sound : are_blocks reader.types [] 
   block_line-keeps : (name : Name) (ports : List Name) → length reader.types + length reader.blocks + length ports ≤ n → Keeps n (block_line reader name ports)
   block_line-keeps name ports l = grind arith
 
+  top_line-keeps : (name : Name) → length reader.types + length reader.blocks ≤ n → Keeps n (top_line reader name)
+  top_line-keeps name l = grind (arith, kind_named-place)
+
   outside-keeps : (line : List Name) → length reader.types + length reader.blocks + length line ≤ n → Keeps n (outside reader line)
   outside-keeps [] l = tt
   outside-keeps (word ∷ []) l = tt
-  outside-keeps (word ∷ name ∷ []) l = grind (arith, kind_named-place)
-  outside-keeps (word ∷ name ∷ port ∷ ports) l =
-      either-keeps n (same_name word (codes "type")) _ _ (type_line-keeps name (port ∷ ports) (omega arith))
-      (either-keeps n (same_name word (codes "block")) _ (Err NotHere) (block_line-keeps name (port ∷ ports) (omega arith)) tt)
+  outside-keeps (word ∷ name ∷ ports) l =
+      either-keeps n (same_name word (codes "type")) _ _ (type_line-keeps name ports (omega arith))
+      (either-keeps n (same_name word (codes "block")) _ _ (block_line-keeps name ports (omega arith))
+      (either-keeps n (same_name word (codes "top") && (length ports == 0)) _ (Err NotHere) (top_line-keeps name (omega arith)) tt))
 
   -- ---- in a type
 
@@ -99,8 +104,8 @@ module _ (reader : Reader) (n : ℕ) (blocks_sound : are_blocks reader.types [] 
         (and_from _ _ blocks_sound (and_from _ _ free (and_from _ _ few (and_from _ _ ok_test (and_from _ _ (more_fits (unwrap_or open_type.bad 0) value (bad_fits open_type.bad bad_test) is) cost_test)))), omega arith)))
         (either-keeps n (same_name word (codes "cost")) _ (Err NotHere)
         (if-keeps n (not (is_some open_type.cost)) Twice _ (λ first.
-        if-keeps n (is_some (cost_in value)) Cost (Ok (at reader (InType (record open_type { cost = cost_in value })))) (λ is.
-        (and_from _ _ blocks_sound (and_from _ _ free (and_from _ _ few (and_from _ _ ok_test (and_from _ _ bad_test (cost_in-fits value))))), omega arith)))) tt))
+        if-keeps n (is_some (plain_number_in 4 1 COST_LIMIT value)) Cost (Ok (at reader (InType (record open_type { cost = plain_number_in 4 1 COST_LIMIT value })))) (λ is.
+        (and_from _ _ blocks_sound (and_from _ _ free (and_from _ _ few (and_from _ _ ok_test (and_from _ _ bad_test (cost-fits value))))), omega arith)))) tt))
     in_type-keeps (word ∷ value ∷ more ∷ line) l = tt
 
   -- ---- in a block
@@ -154,19 +159,20 @@ module _ (reader : Reader) (n : ℕ) (blocks_sound : are_blocks reader.types [] 
 
 -- ---- lines
 
-at_section-keeps : (reader : Reader) (place : Section) (n : ℕ) (line : List (List ℕ)) → are_blocks reader.types [] reader.blocks ≡ true → is_sound_section reader place ≡ true
+at_section-keeps : (reader : Reader) (place : Section) (n : ℕ) (line : List (List ℕ)) → reader.section ≡ place → are_blocks reader.types [] reader.blocks ≡ true → is_sound_section reader place ≡ true
     → length reader.types + length reader.blocks + open_wires place + length line ≤ n → Keeps n (at_section reader place line)
-at_section-keeps reader place n line blocks sound l = grind (arith, outside-keeps, in_type-keeps, in_block-keeps)
-
-after_words-keeps : (reader : Reader) (n : ℕ) (line : List (List ℕ)) → is_sound reader ≡ true → reader_size reader + length line ≤ n → Keeps n (after_words reader line)
-after_words-keeps reader n line sound l = grind (arith, at_section-keeps)
+at_section-keeps reader place n [] is blocks sound l = grind arith
+at_section-keeps reader Outside n (word ∷ line) is blocks sound l = outside-keeps reader n blocks (word ∷ line) (omega (arith, l))
+at_section-keeps reader (InType open_type) n (word ∷ line) is blocks sound l = in_type-keeps reader n blocks open_type sound (word ∷ line) (omega (arith, l))
+at_section-keeps reader (InBlock block) n (word ∷ line) is blocks sound l = in_block-keeps reader n blocks block sound (word ∷ line) (omega (arith, l))
+at_section-keeps reader (AfterTop top) n (word ∷ line) is blocks sound l = tt
 
 uncommented-fits : (line : List ℕ) → length (uncommented line) ≤ length line
 uncommented-fits line = omega (arith, length-take (prefix_len (λ b. not (b == 35)) line) line)
 
 -- A line keeps a reader sound, and adds no more types, blocks and wires than it has bytes.
 pub after_line-keeps : (reader : Reader) (line : List ℕ) (n : ℕ) → is_sound reader ≡ true → reader_size reader + length line ≤ n → Keeps n (after_line reader line)
-after_line-keeps reader line n sound l = grind (arith, after_words-keeps, length-tokens, uncommented-fits)
+after_line-keeps reader line n sound l = grind (arith, at_section-keeps reader reader.section n (words (uncommented line)) refl, length-tokens, uncommented-fits)
 
 -- a line has no more words than bytes
 pub words-fit : (line : List ℕ) → length (words (uncommented line)) ≤ length line

@@ -1,9 +1,11 @@
 -- What each line of a design adds to what was read above it, or what its fault is.
-use Rattle.std.specs.Prelude.{ℕ, Bool, not, ◌&&◌, List, [], ◌∷◌, ◌++◌, map, length, Option, Some, None, Result, Ok, Err, codes, is_some, unwrap_or, if◌then◌else◌}
+use Rattle.std.specs.Prelude.{ℕ, Bool, not, ◌&&◌, List, [], ◌∷◌, ◌++◌, map, length, ◌==◌, Option, Some, None, Result, Ok, Err, codes, is_some, unwrap_or, if◌then◌else◌}
 use Rattle.std.specs.List.{list_any, list_all}
 use Rattle.text_rules.specs.Names.{Name, same_name, is_among}
+use Rattle.text_rules.specs.Numbers.{plain_number_in}
 use Rattle.text_rules.specs.TextLines.{uncommented}
 use Rattle.text_rules.specs.Tokens.{words}
+use Rattle.device_model.specs.declared.limits.TheConstants.{COST_LIMIT}
 use Rattle.device_model.specs.TruthTable.{has_few_ports}
 use Rattle.device_model.specs.Building.{place_in}
 use Rattle.component_lang.specs.declared.design.UsedKind.{UsedKind}
@@ -14,7 +16,7 @@ use Rattle.component_lang.specs.declared.fault.LangFault.{LangFault}
 use Rattle.component_lang.specs.declared.fault.LangFault.TheVariants.{Line as NotHere, Name as NoName, Twice, Unknown, Ports, Row, AfterTop as PastTop, Cost}
 use Rattle.component_lang.specs.Designs.{is_plain_name, are_distinct, used_names, takes_args}
 use Rattle.component_lang.specs.Kinds.{OpenType, Section, Outside, InType, InBlock, AfterTop, Reader, kind_named}
-use Rattle.component_lang.specs.TypeRows.{is_row, row_in, with_row, cost_in, shape_of}
+use Rattle.component_lang.specs.TypeRows.{is_row, row_in, with_row, shape_of}
 
 -- Of the tests of a line the first that fails is its fault. If none does, the reader goes on.
 abbrev pub tested : List (Bool × LangFault) → Reader → Result Reader LangFault
@@ -46,9 +48,7 @@ block_line reader name ports =
 -- the top has to be a block
 abbrev pub top_of_kind : Reader → Option UsedKind → Result Reader LangFault
 top_of_kind reader (Some (OfBlock place)) = Ok (at reader (AfterTop place))
-top_of_kind reader (Some (OfShape place)) = Err Unknown
-top_of_kind reader (Some (Gate gate)) = Err Unknown
-top_of_kind reader None = Err Unknown
+top_of_kind reader kind = Err Unknown
 
 -- `top NAME`
 abbrev pub top_line : Reader → Name → Result Reader LangFault
@@ -56,14 +56,10 @@ top_line reader name = if is_plain_name name then top_of_kind reader (kind_named
 
 -- a line by its words
 abbrev pub outside : Reader → List (List ℕ) → Result Reader LangFault
-outside reader (word ∷ name ∷ []) =
-    if same_name word (codes "top") then top_line reader name
-    else if same_name word (codes "type") then type_line reader name []
-    else if same_name word (codes "block") then block_line reader name []
-    else Err NotHere
-outside reader (word ∷ name ∷ port ∷ ports) =
-    if same_name word (codes "type") then type_line reader name (port ∷ ports)
-    else if same_name word (codes "block") then block_line reader name (port ∷ ports)
+outside reader (word ∷ name ∷ ports) =
+    if same_name word (codes "type") then type_line reader name ports
+    else if same_name word (codes "block") then block_line reader name ports
+    else if same_name word (codes "top") && (length ports == 0) then top_line reader name
     else Err NotHere
 outside reader line = Err NotHere
 
@@ -81,11 +77,11 @@ bad_line reader open_type row =
     tested ((is_row open_type.ports row, Row) ∷ [])
     (at reader (InType (record open_type { bad = Some (with_row (unwrap_or open_type.bad 0) (row_in row)) })))
 
--- `cost N`, which may be once
+-- `cost N`, which may be once, N from 1 to 1000
 abbrev pub cost_line : Reader → OpenType → List ℕ → Result Reader LangFault
 cost_line reader open_type word =
-    tested ((not (is_some open_type.cost), Twice) ∷ (is_some (cost_in word), Cost) ∷ [])
-    (at reader (InType (record open_type { cost = cost_in word })))
+    let cost = plain_number_in 4 1 COST_LIMIT word in
+    tested ((not (is_some open_type.cost), Twice) ∷ (is_some cost, Cost) ∷ []) (at reader (InType (record open_type { cost = cost })))
 
 -- a line by its words, of which `end` closes the type
 abbrev pub in_type : Reader → OpenType → List (List ℕ) → Result Reader LangFault
@@ -150,18 +146,14 @@ in_block reader block line = Err NotHere
 
 -- ---- any line
 
--- nothing may follow the top
+-- A line without words does nothing, and nothing may follow the top.
 abbrev pub at_section : Reader → Section → List (List ℕ) → Result Reader LangFault
+at_section reader section [] = Ok reader
 at_section reader Outside line = outside reader line
 at_section reader (InType open_type) line = in_type reader open_type line
 at_section reader (InBlock block) line = in_block reader block line
 at_section reader (AfterTop top) line = Err PastTop
 
--- a line without words does nothing
-abbrev pub after_words : Reader → List (List ℕ) → Result Reader LangFault
-after_words reader [] = Ok reader
-after_words reader (w ∷ ws) = at_section reader reader.section (w ∷ ws)
-
 -- what was read after a line
 abbrev pub after_line : Reader → List ℕ → Result Reader LangFault
-after_line reader line = after_words reader (words (uncommented line))
+after_line reader line = at_section reader reader.section (words (uncommented line))

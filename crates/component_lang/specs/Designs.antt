@@ -1,6 +1,7 @@
 -- Designs: types of parts, and blocks of parts, wires and instances of blocks above them.
-use Rattle.std.specs.Prelude.{ℕ, ◌-◌, Bool, true, false, not, ◌&&◌, List, [], ◌∷◌, ◌++◌, map, length, ◌==◌, Option, Some, None, nat_lt, nat_le, slice_get}
+use Rattle.std.specs.Prelude.{ℕ, ◌-◌, Bool, true, false, not, ◌&&◌, List, [], ◌∷◌, ◌++◌, map, length, ◌==◌, nat_lt, nat_le, slice_get}
 use Rattle.std.specs.List.{list_all, list_any}
+use Rattle.std.specs.Option.{option_map_or}
 use Rattle.text_rules.specs.Names.{Name, is_short_name}
 use Rattle.device_model.specs.Gates.{rule, takes_inputs}
 use Rattle.device_model.specs.Building.{repeated}
@@ -20,34 +21,19 @@ pub record Design : Type 0 where
 abbrev pub is_plain_name : Name → Bool
 is_plain_name word = is_short_name word && not (list_any (λ b. b == 46) word)
 
--- a list without names
-abbrev pub is_empty : List Name → Bool
-is_empty [] = true
-is_empty (name ∷ names) = false
-
 -- no name is twice
 abbrev pub are_distinct : List Name → Bool
-are_distinct names = is_empty (repeated names)
+are_distinct names = length (repeated names) == 0
 
 -- the names of parts
 abbrev pub used_names : List Used → List Name
 used_names parts = map (λ (u : Used). u.name) parts
 
--- a type takes as many arguments as it has ports
-abbrev pub shape_takes : Option Shape → ℕ → Bool
-shape_takes None args = false
-shape_takes (Some shape) args = shape.table.ports == args
-
--- and so does a block
-abbrev pub block_takes : Option Block → ℕ → Bool
-block_takes None args = false
-block_takes (Some block) args = block.ports == args
-
--- whether a kind takes so many arguments, of which a gate's last is its output
+-- whether a kind takes so many arguments: of a gate the last is its output, and a type and a block have as many ports
 abbrev pub takes_args : List Shape → List Block → UsedKind → ℕ → Bool
 takes_args types blocks (Gate kind) args = takes_inputs (rule kind) (args - 1)
-takes_args types blocks (OfShape place) args = shape_takes (slice_get types place) args
-takes_args types blocks (OfBlock place) args = block_takes (slice_get blocks place) args
+takes_args types blocks (OfShape place) args = option_map_or (λ (shape : Shape). shape.table.ports == args) (slice_get types place) false
+takes_args types blocks (OfBlock place) args = option_map_or (λ (block : Block). block.ports == args) (slice_get blocks place) false
 
 -- a part of a block over these types and the blocks above
 abbrev pub is_used : List Shape → List Block → ℕ → Used → Bool

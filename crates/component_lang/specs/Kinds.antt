@@ -1,5 +1,6 @@
 -- What is closed above a line, and which kind of parts a name means there.
-use Rattle.std.specs.Prelude.{ℕ, ◌+◌, List, [], ◌∷◌, ◌++◌, map, Option}
+use Rattle.std.specs.Prelude.{ℕ, List, ◌++◌, map, Option}
+use Rattle.std.specs.List.{enumerate_from}
 use Rattle.std.specs.Map.{lookup}
 use Rattle.text_rules.specs.Names.{Name, same_name}
 use Rattle.device_model.specs.Gates.{gate_words}
@@ -30,20 +31,8 @@ pub record Reader : Type 0 where
   pub blocks : List Block
   pub section : Section
 
--- the names of gates
-abbrev pub gates : List (List ℕ × UsedKind)
-gates = map (λ (word, gate). (word, Gate gate)) gate_words
-
--- the names of types, each with its place
-abbrev pub types_from : ℕ → List Shape → List (List ℕ × UsedKind)
-types_from place [] = []
-types_from place (shape ∷ types) = (shape.name, OfShape place) ∷ types_from (place + 1) types
-
--- the names of blocks, each with its place
-abbrev pub blocks_from : ℕ → List Block → List (List ℕ × UsedKind)
-blocks_from place [] = []
-blocks_from place (block ∷ blocks) = (block.name, OfBlock place) ∷ blocks_from (place + 1) blocks
-
--- Gates, types and blocks share one set of names.
+-- Gates, types and blocks share one set of names. Types and blocks are meant by their places.
 abbrev pub kind_named : Reader → Name → Option UsedKind
-kind_named reader name = lookup (same_name name) (gates ++ (types_from 0 reader.types ++ blocks_from 0 reader.blocks))
+kind_named reader name = lookup (same_name name) (map (λ (word, gate). (word, Gate gate)) gate_words
+    ++ (map (λ (t : ℕ × Shape). (t.1.name, OfShape t.0)) (enumerate_from 0 reader.types)
+    ++ map (λ (b : ℕ × Block). (b.1.name, OfBlock b.0)) (enumerate_from 0 reader.blocks)))

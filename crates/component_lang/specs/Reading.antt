@@ -1,10 +1,11 @@
 -- Designs in `.dev` text: the design that a text gives, or the line of its fault and what it is.
 use Rattle.std.specs.Prelude.{ℕ, ◌+◌, List, [], ◌∷◌, Result, Ok, Err}
+use Rattle.std.specs.Result.{result_flatten, result_map_both}
 use Rattle.text_rules.specs.TextLines.{all_lines}
 use Rattle.component_lang.specs.declared.fault.LangFault.{LangFault}
 use Rattle.component_lang.specs.declared.fault.LangFault.TheVariants.{NoTop}
 use Rattle.component_lang.specs.Designs.{Design}
-use Rattle.component_lang.specs.Kinds.{Section, Outside, InType, InBlock, AfterTop, Reader}
+use Rattle.component_lang.specs.Kinds.{Section, Outside, AfterTop, Reader}
 use Rattle.component_lang.specs.DesignLines.{after_line}
 
 pub record Fault : Type 0 where
@@ -14,18 +15,13 @@ pub record Fault : Type 0 where
 -- a text without a top has its fault in no line
 abbrev pub ended : Reader → Section → Result Design Fault
 ended reader (AfterTop top) = Ok (record { types = reader.types; blocks = reader.blocks; top = top })
-ended reader Outside = Err (record { line = 0; what = NoTop })
-ended reader (InType open_type) = Err (record { line = 0; what = NoTop })
-ended reader (InBlock block) = Err (record { line = 0; what = NoTop })
+ended reader section = Err (record { line = 0; what = NoTop })
 
 -- the reader goes on from line to line, up to the first fault
-abbrev pub unless_wrong : ℕ → Result Reader LangFault → (Reader → Result Design Fault) → Result Design Fault
-unless_wrong line (Err what) next = Err (record { line = line; what = what })
-unless_wrong line (Ok reader) next = next reader
-
 abbrev pub design_from : ℕ → List (List ℕ) → Reader → Result Design Fault
 design_from line [] reader = ended reader reader.section
-design_from line (l ∷ lines) reader = unless_wrong line (after_line reader l) (design_from (line + 1) lines)
+design_from line (l ∷ lines) reader =
+    result_flatten (result_map_both (design_from (line + 1) lines) (λ what. record { line = line; what = what }) (after_line reader l))
 
 -- The design of a text whose lines are numbered from 1, or its first fault.
 abbrev pub design : List ℕ → Result Design Fault

@@ -1,9 +1,7 @@
 -- What the lines of a type say: the rows that they allow, and what a failure costs.
-use Rattle.std.specs.Prelude.{ℕ, ◌+◌, ◌-◌, ◌^◌, Bool, ◌&&◌, ◌||◌, List, map, length, Option, ◌==◌, unwrap_or, if◌then◌else◌}
+use Rattle.std.specs.Prelude.{ℕ, ◌+◌, ◌-◌, ◌^◌, Bool, ◌&&◌, ◌||◌, List, map, length, ◌==◌, unwrap_or, if◌then◌else◌}
 use Rattle.std.specs.List.{list_all}
-use Rattle.text_rules.specs.Numbers.{plain_number_in}
 use Rattle.state_rules.specs.Bits.{row_number, has_bit}
-use Rattle.device_model.specs.declared.limits.TheConstants.{COST_LIMIT}
 use Rattle.component_lang.specs.declared.design.Shape.{Shape}
 use Rattle.component_lang.specs.Kinds.{OpenType}
 
@@ -18,10 +16,6 @@ row_in word = row_number (map (λ b. b == 49) word)
 -- a set of rows and a row
 abbrev pub with_row : ℕ → ℕ → ℕ
 with_row rows row = if has_bit rows row then rows else rows + 2 ^ row
-
--- a cost in decimal digits without a leading zero, from 1 to 1000
-abbrev pub cost_in : List ℕ → Option ℕ
-cost_in word = plain_number_in 4 1 COST_LIMIT word
 
 -- the type whose lines have ended
 abbrev pub shape_of : OpenType → Shape

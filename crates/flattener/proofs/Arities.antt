@@ -1,7 +1,8 @@
 -- Each part of an instance has as many wires as its kind takes.
-use Rattle.std.proofs.Common.{◌≡◌, ℕ, zero, suc, ◌-◌, Bool, true, List, [], ◌∷◌, ◌++◌, map, length, get_or, drop, refl, ap, ◌∙◌, arith}
-use Rattle.std.specs.Prelude.{slice_get}
+use Rattle.std.proofs.Common.{◌≡◌, ℕ, zero, suc, ◌-◌, Bool, true, false, List, [], ◌∷◌, ◌++◌, map, length, get_or, drop, refl, ap, ◌∙◌, arith}
+use Rattle.std.specs.Prelude.{◌==◌, slice_get}
 use Rattle.std.specs.List.{list_all, flat_map}
+use Rattle.std.specs.Option.{option_map_or}
 use Rattle.std.proofs.lemmas.Bool.{and_from}
 use Rattle.std.proofs.lemmas.List.{length-map}
 use Rattle.text_rules.specs.Names.{Name}
@@ -17,7 +18,7 @@ use Rattle.component_lang.specs.declared.design.UsedKind.TheVariants.{Gate, Shap
 use Rattle.component_lang.specs.declared.design.Used.{Used}
 use Rattle.component_lang.specs.declared.design.Shape.{Shape}
 use Rattle.component_lang.specs.declared.design.Block.{Block}
-use Rattle.component_lang.specs.Designs.{is_used, are_blocks, takes_args, shape_takes}
+use Rattle.component_lang.specs.Designs.{is_used, are_blocks, takes_args}
 use Rattle.flattener.specs.Flat.{Content, Instance, nothing, below, kind_content, used_content, instance}
 use Rattle.flattener.proofs.Relative.{GoodBlock-from_test}
 use Rattle.flattener.proofs.Values.{values-hold}
@@ -32,7 +33,7 @@ is_fed tables part = takes_ports tables (rule part.kind) (length part.wires)
 gate_fed : (tables : List TruthTable) (r : Rule) (ports : ℕ) → takes_inputs r (ports - 1) ≡ true → takes_ports tables r ports ≡ true
 gate_fed tables r ports h = grind arith
 
-type_fed : (types : List Shape) (place n : ℕ) → shape_takes (slice_get types place) n ≡ true → rows_take (slice_get (tables_of types) place) n ≡ true
+type_fed : (types : List Shape) (place n : ℕ) → option_map_or (λ (s : Shape). s.table.ports == n) (slice_get types place) false ≡ true → rows_take (slice_get (tables_of types) place) n ≡ true
 type_fed [] place n h = h
 type_fed (s ∷ types) zero n h = h
 type_fed (s ∷ types) (suc place) n h = type_fed types place n h

@@ -1,7 +1,8 @@
 -- How parts and wires grow while an instance is expanded.
-use Rattle.std.proofs.Common.{◌≡◌, ℕ, zero, suc, ◌+◌, ◌<◌, ◌≤◌, Bool, true, List, [], ◌∷◌, ◌++◌, map, length, get_or, take, drop, refl, sym, ap, subst, ◌∙◌, arith}
-use Rattle.std.specs.Prelude.{slice_index, nat_lt, nat_le, Some, slice_get}
+use Rattle.std.proofs.Common.{◌≡◌, ℕ, zero, suc, ◌+◌, ◌<◌, ◌≤◌, Bool, true, List, [], ◌∷◌, ◌++◌, map, length, get_or, take, drop, false, refl, sym, ap, subst, ◌∙◌, arith}
+use Rattle.std.specs.Prelude.{◌==◌, slice_index, nat_lt, nat_le, Some, slice_get}
 use Rattle.std.specs.List.{flat_map}
+use Rattle.std.specs.Option.{option_map_or}
 use Rattle.std.proofs.lemmas.Bool.{and_parts, ltb-true, leb-true, cases_lt}
 use Rattle.std.proofs.lemmas.List.{append_assoc, append-nil, map-append, length-append, length-map, length-drop, take-append-drop, drop_more, take_more, take_all, get_or_default, get_or_append_left, get_or-append_right, get_or-map, get_or-take, length-take-le}
 use Rattle.std.proofs.lemmas.List.Concat.{flat_map-append}
@@ -21,7 +22,7 @@ use Rattle.component_lang.specs.declared.design.UsedKind.TheVariants.{Gate, Shap
 use Rattle.component_lang.specs.declared.design.Used.{Used}
 use Rattle.component_lang.specs.declared.design.Shape.{Shape}
 use Rattle.component_lang.specs.declared.design.Block.{Block}
-use Rattle.component_lang.specs.Designs.{Design, is_design, are_blocks, block_takes, is_used, takes_args}
+use Rattle.component_lang.specs.Designs.{Design, is_plain_name, is_design, are_blocks, is_used, takes_args}
 use Rattle.flattener.specs.Flat.{Content, Instance, nothing, below, one_part, kind_content, used_content, instance}
 use Rattle.flattener.specs.inner.Expanding.{CanExpand, Grows, wire_at, shown, are_joined, are_within, position_of, instance_at, are_short, paths_of, prefix_of, behind}
 use Rattle.flattener.proofs.Lists.{all_parts, map_same}
@@ -122,12 +123,21 @@ module _ (types : List Shape) (blocks : List Block) (good : are_blocks types [] 
   pub good_block : GoodBlock types (take place blocks) (get_or blocks place no_block)
   good_block = GoodBlock-from_test types (take place blocks) (get_or blocks place no_block) (block_among types [] blocks place no_block good within)
 
-  pub before : (inner args : ℕ) → block_takes (slice_get (take place blocks) inner) args ≡ true → IsBefore blocks place inner args
+  pub before : (inner args : ℕ) → option_map_or (λ (b : Block). b.ports == args) (slice_get (take place blocks) inner) false ≡ true → IsBefore blocks place inner args
   before inner args h = grind (arith, length-take-le, got, get_or-take, slice_get_past)
 
   used-fixed : (path : Name) (wires : List Name) (used : Used) → is_used types (take place blocks) (length (get_or blocks place no_block).wires) used ≡ true
       → used_content (values instance (take place blocks)) path wires used ≡ used_content (values instance blocks) path wires used
-  used-fixed path wires used h = grind (arith, before, values-before)
+  used-fixed path wires used h =
+      by used.kind (and_parts _ _ (and_parts (is_plain_name used.name) _ h).1).0 (below path used.name) (map (λ wire. get_or wires wire []) used.args)
+    where
+      by : (kind : UsedKind) → takes_args types (take place blocks) kind (length used.args) ≡ true → (path : Name) (passed : List Name)
+          → kind_content (values instance (take place blocks)) kind path passed ≡ kind_content (values instance blocks) kind path passed
+      by (Gate gate) takes path passed = refl
+      by (OfShape type) takes path passed = refl
+      by (OfBlock inner) takes path passed =
+          let b = before inner (length used.args) takes in
+          ap (λ (made : Instance). let c = made path passed in record c { instances = path ∷ c.instances }) (values-before instance blocks place no_block within inner nothing b.before)
 
   pub fixed : (path : Name) (passed : List Name) → get_or (values instance blocks) place nothing path passed ≡ instance (get_or blocks place no_block) (values instance blocks) path passed
   fixed path passed =

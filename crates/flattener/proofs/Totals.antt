@@ -2,6 +2,7 @@
 use Rattle.std.proofs.Common.{◌≡◌, ℕ, zero, suc, ◌+◌, ◌≤◌, true, List, [], ◌∷◌, ◌++◌, map, length, get_or, take, drop, Option, Some, None, Result, Ok, Err, refl, sym, ap, subst, ◌∙◌, arith}
 use Rattle.std.specs.Prelude.{max, nat_lt, nat_le}
 use Rattle.std.specs.List.{range_with_len}
+use Rattle.std.specs.Option.{option_map_or}
 use Rattle.std.proofs.lemmas.Bool.{lt-ltb, le-leb, and_from}
 use Rattle.std.proofs.lemmas.List.FromFn.{length-range_with_len}
 use Rattle.std.proofs.lemmas.List.{append_assoc, take-append-drop, length-map, map-id, length-append, length-take-le}
@@ -11,12 +12,13 @@ use Rattle.device_model.specs.declared.component.Component.{Component}
 use Rattle.device_model.specs.declared.limits.TheConstants.{PART_LIMIT, WIRE_LIMIT, NAME_LIMIT}
 use Rattle.device_model.specs.Devices.{Device}
 use Rattle.device_model.specs.Building.{NamedPart}
+use Rattle.component_lang.specs.declared.design.Block.{Block}
 use Rattle.component_lang.specs.Designs.{Design, is_design, are_blocks}
 use Rattle.flattener.specs.declared.counting.Counts.{Counts}
 use Rattle.flattener.specs.declared.flattening.FlattenError.{FlattenError}
 use Rattle.flattener.specs.declared.flattening.FlattenError.TheVariants.{TooManyParts, TooManyWires, TooManyBlocks, PathTooLong}
 use Rattle.flattener.specs.declared.flattening.TheConstants.{INSTANCE_LIMIT}
-use Rattle.flattener.specs.Flat.{ports_of, top_ports, top_content, flat_wires, flat_device, longest_path, saturated, unless_over, flattened}
+use Rattle.flattener.specs.Flat.{top_ports, top_content, flat_wires, flat_device, longest_path, saturated, unless_over, flattened}
 use Rattle.flattener.specs.inner.Counting.{no_counts, longest_of, counts_of_wires, counts_of_block, counts_of_design, refusal}
 use Rattle.flattener.specs.inner.Expanding.{CanExpand, Grows, IsFlat, wire_at, are_within, are_short, instance_at, ports_at}
 use Rattle.flattener.proofs.PathNames.{AllSome, AllSome-left, AllSome-plain, longest-append}
@@ -84,7 +86,7 @@ module _ (design : Design) (valid : is_design design ≡ true) where
   top_good = good_block design.types design.blocks good design.top (top_within design valid)
 
   pub top_ports-are : top_ports design ≡ take (get_or design.blocks design.top no_block).ports (get_or design.blocks design.top no_block).wires
-  top_ports-are = ap ports_of (got design.blocks design.top (top_within design valid))
+  top_ports-are = ap (λ block. option_map_or (λ (b : Block). take b.ports b.wires) block []) (got design.blocks design.top (top_within design valid))
 
   abbrev pub inner : Inner
   inner = get_or (values names_in design.blocks) design.top no_names

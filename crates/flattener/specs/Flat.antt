@@ -1,6 +1,7 @@
 -- The device of a design. Its parts, wires and instances of blocks are named by paths.
 use Rattle.std.specs.Prelude.{ℕ, ◌-◌, ◌^◌, min, max, List, [], ◌∷◌, ◌++◌, map, length, take, drop, Option, Some, None, Result, Ok, Err, nat_lt, slice_get, slice_index_or, if◌then◌else◌}
 use Rattle.std.specs.List.{flat_map}
+use Rattle.std.specs.Option.{option_map_or}
 use Rattle.text_rules.specs.Names.{Name}
 use Rattle.state_rules.specs.Values.{values}
 use Rattle.device_model.specs.declared.gates.Kind.{Kind}
@@ -39,14 +40,12 @@ below (b ∷ path) name = (b ∷ path) ++ 46 ∷ name
 abbrev pub one_part : Name → Kind → List Name → Content
 one_part path kind wires = record { parts = record { name = path; kind = kind; wires = wires } ∷ []; wires = []; instances = [] }
 
-abbrev pub one_instance : Name → Content → Content
-one_instance path inner = record inner { instances = path ∷ inner.instances }
-
 -- what a part of a block is, by the instances of the blocks before
 abbrev pub kind_content : List Instance → UsedKind → Instance
 kind_content above (Gate gate) path passed = one_part path gate passed
 kind_content above (OfShape place) path passed = one_part path (Table place) passed
-kind_content above (OfBlock place) path passed = one_instance path (slice_index_or above place nothing path passed)
+kind_content above (OfBlock place) path passed =
+    let inner = slice_index_or above place nothing path passed in record inner { instances = path ∷ inner.instances }
 
 abbrev pub used_content : List Instance → Name → List Name → Used → Content
 used_content above path wires used =
@@ -63,12 +62,8 @@ instance block above path passed =
       instances = flat_map (λ (c : Content). c.instances) used;
     }
 
-abbrev pub ports_of : Option Block → List Name
-ports_of None = []
-ports_of (Some block) = take block.ports block.wires
-
 abbrev pub top_ports : Design → List Name
-top_ports design = ports_of (slice_get design.blocks design.top)
+top_ports design = option_map_or (λ (block : Block). take block.ports block.wires) (slice_get design.blocks design.top) []
 
 -- what the top has
 abbrev pub top_content : Design → Content

@@ -24,8 +24,8 @@ use Rattle.clause_encoder.specs.Encoding.{Describes, DescribesBy}
 use Rattle.clause_encoder.specs.Replacing.{variable_for}
 use Rattle.clause_encoder.proofs.OtherVariables.{all_hold-same}
 use Rattle.frame_unroller.specs.Times.{times, wire_at}
-use Rattle.frame_unroller.specs.Frames.{is_delayed, inputs, output, row_across, fits_at}
-use Rattle.frame_unroller.specs.Diagnosis.{frame_wires, waves_of, fits_over}
+use Rattle.frame_unroller.specs.Frames.{is_delayed, inputs, output, fits_at}
+use Rattle.frame_unroller.specs.Diagnosis.{frame_wires, fits_over}
 use Rattle.frame_unroller.specs.Unrolling.{Copy, copies_of, copies_for, copies, wires_at, named_copy, frame_device, owners, shared_variables, shared}
 use Rattle.frame_unroller.proofs.Copies.{are_copies}
 use Rattle.frame_unroller.proofs.Members.{among-range, among-enumerate, list_all-flat_map, list_all-same, both_pass}
@@ -45,7 +45,7 @@ module _ (seq : Sequential) (frames : ℕ) (valid : IsDevice seq.device) (state 
   tables = seq.device.tables
 
   abbrev waves : ℕ → List Bool
-  waves = waves_of seq frames bits
+  waves t = map (λ wire. bit_in bits (place_in (frame_wires seq frames) (wire_at t wire))) names
 
   -- a part that is made allows the row of its wires' bits
   abbrev allowed : Copy → Bool
@@ -68,14 +68,14 @@ module _ (seq : Sequential) (frames : ℕ) (valid : IsDevice seq.device) (state 
     wired : (list_all (λ port. nat_lt port (length names)) (inputs part) ≡ true) × (list_all (λ port. nat_lt port (length names)) (output part) ≡ true)
     wired = both_pass (λ port. nat_lt port (length names)) (length part.ports - 1) part.ports (list_all-among (has_wires (length names)) seq.device.parts valid.joined part there)
 
-    allowed-row : (before now : ℕ) → allowed (copy before now) ≡ allows tables (rule part.kind) (bit_in state place) (row_across part (waves before) (waves now))
+    allowed-row : (before now : ℕ) → allowed (copy before now) ≡ allows tables (rule part.kind) (bit_in state place) (map (bit_in (waves before)) (inputs part) ++ map (bit_in (waves now)) (output part))
     allowed-row before now =
         ap (allows tables (rule part.kind) (bit_in state place))
         (ap (map (bit_in bits)) (map-append (place_in (frame_wires seq frames)) (wires_at names before (inputs part)) (wires_at names now (output part)))
         ∙ map-append (bit_in bits) (map (place_in (frame_wires seq frames)) (wires_at names before (inputs part))) (map (place_in (frame_wires seq frames)) (wires_at names now (output part)))
         ∙ (λ i. row_at before (inputs part) wired.0 i ++ row_at now (output part) wired.1 i))
 
-    row-now : (now : ℕ) → row_across part (waves now) (waves now) ≡ map (bit_in (waves now)) part.ports
+    row-now : (now : ℕ) → map (bit_in (waves now)) (inputs part) ++ map (bit_in (waves now)) (output part) ≡ map (bit_in (waves now)) part.ports
     row-now now = sym (map-append (bit_in (waves now)) (inputs part) (output part)) ∙ ap (map (bit_in (waves now))) (take-append-drop (length part.ports - 1) part.ports)
 
     one_copy : (before now : ℕ) → 1 ≤ before → list_all allowed (if nat_lt 0 before then copy before now ∷ [] else []) ≡ allowed (copy before now)

@@ -10,14 +10,14 @@ use Rattle.device_model.specs.declared.component.Component.{Component}
 use Rattle.bench_reader.specs.declared.sequential.Sequential.{Sequential}
 use Rattle.frame_unroller.specs.Frames.{is_delayed}
 use Rattle.frame_unroller.specs.Times.{wire_at}
-use Rattle.frame_unroller.specs.Unrolling.{Copy, input_time, copies_of, copies_for, copies}
+use Rattle.frame_unroller.specs.Unrolling.{Copy, copies_of, copies_for, copies}
 use Rattle.frame_unroller.specs.inner.Copying.{given_copy, AreCopies}
 
 module _ (seq : Sequential) (t : ℕ) where
   abbrev pub copy : ℕ → Component → ℕ → Copy
   copy place part before = record { place = place; part = part; before = before; now = t }
 
-  none : (place : ℕ) (part : Component) (before : ℕ) → before ≡ input_time seq place t → before ≤ 0 → copies_of seq t (place, part) ≡ []
+  none : (place : ℕ) (part : Component) (before : ℕ) → before ≡ (if is_delayed seq place then t - 1 else t) → before ≤ 0 → copies_of seq t (place, part) ≡ []
   none place part before is low = grind arith
 
   -- ---- a part more
@@ -30,10 +30,10 @@ module _ (seq : Sequential) (t : ℕ) where
     next : whole ≡ done ++ (map shown (copies_of seq t (place, part)) ++ rest)
     next = grind (arith, drop_more)
 
-    pub copied : (before : ℕ) → before ≡ input_time seq place t → 0 < before → whole ≡ (done ++ shown (copy place part before) ∷ []) ++ rest
+    pub copied : (before : ℕ) → before ≡ (if is_delayed seq place then t - 1 else t) → 0 < before → whole ≡ (done ++ shown (copy place part before) ∷ []) ++ rest
     copied before same some = grind (arith, next, append_assoc)
 
-    pub left_out : (before : ℕ) → before ≡ input_time seq place t → before ≤ 0 → whole ≡ done ++ rest
+    pub left_out : (before : ℕ) → before ≡ (if is_delayed seq place then t - 1 else t) → before ≤ 0 → whole ≡ done ++ rest
     left_out before same low = next ∙ ap (λ (cs : List Copy). done ++ (map shown cs ++ rest)) (none place part before same low)
 
 -- ---- how many copies there are

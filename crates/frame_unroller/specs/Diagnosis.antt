@@ -11,7 +11,7 @@ use Rattle.device_model.specs.Devices.{part_names}
 use Rattle.device_model.specs.Building.{place_in}
 use Rattle.bench_reader.specs.declared.sequential.Sequential.{Sequential}
 use Rattle.frame_unroller.specs.Times.{times, wire_at}
-use Rattle.frame_unroller.specs.Frames.{Waves, frame_fits}
+use Rattle.frame_unroller.specs.Frames.{frame_fits}
 
 -- all wires at all times, by time
 abbrev pub wires_by_time : Sequential → ℕ → List Name
@@ -21,13 +21,10 @@ wires_by_time seq frames = flat_map (λ t. map (wire_at t) seq.device.wires) (ti
 abbrev pub frame_wires : Sequential → ℕ → List Name
 frame_wires seq frames = sorted_distinct (λ n. n) (wires_by_time seq frames)
 
--- the bits at each time, from those of all wires at all times
-abbrev pub waves_of : Sequential → ℕ → List Bool → Waves
-waves_of seq frames bits t = map (λ wire. bit_in bits (place_in (frame_wires seq frames) (wire_at t wire))) seq.device.wires
-
--- whether such bits fit
+-- whether bits of all wires at all times fit
 abbrev pub fits_over : Sequential → ℕ → List Bool → List Bool → Bool
-fits_over seq frames state bits = frame_fits seq frames state (waves_of seq frames bits)
+fits_over seq frames state bits =
+    frame_fits seq frames state (λ t. map (λ wire. bit_in bits (place_in (frame_wires seq frames) (wire_at t wire))) seq.device.wires)
 
 -- Parts keep their names, and each failure costs 1.
 abbrev pub frame_system : Sequential → ℕ → System

@@ -24,15 +24,12 @@ inputs part = take (length part.ports - 1) part.ports
 abbrev pub output : Component → List ℕ
 output part = drop (length part.ports - 1) part.ports
 
--- the bits of the inputs at one time, and that of the output at another
-abbrev pub row_across : Component → List Bool → List Bool → List Bool
-row_across part before now = map (bit_in before) (inputs part) ++ map (bit_in now) (output part)
-
 -- A part allows the bits of its wires at a time. One that is delayed allows those of its inputs at the time before and of its
 -- output at the time; at the first time its output is free.
 abbrev pub fits_at : List TruthTable → Bool → Component → Bool → Waves → ℕ → Bool
 fits_at tables false part ok waves t = part_allows tables part ok (waves t)
-fits_at tables true part ok waves t = nat_le t 1 || allows tables (rule part.kind) ok (row_across part (waves (t - 1)) (waves t))
+fits_at tables true part ok waves t =
+    nat_le t 1 || allows tables (rule part.kind) ok (map (bit_in (waves (t - 1))) (inputs part) ++ map (bit_in (waves t)) (output part))
 
 -- At each time each part fits, and each is ok, or faulty, at all times alike.
 abbrev pub frame_fits : Sequential → ℕ → List Bool → Waves → Bool

@@ -28,14 +28,10 @@ pub record Copy : Type 0 where
   pub before : ℕ
   pub now : ℕ
 
--- the inputs of a delayed part are of the time before
-abbrev pub input_time : Sequential → ℕ → ℕ → ℕ
-input_time seq place t = if is_delayed seq place then t - 1 else t
-
--- There is no time before the first, and no copy of a delayed part for it.
+-- The inputs of a delayed part are of the time before. There is none before the first, and no copy of a delayed part for it.
 abbrev pub copies_of : Sequential → ℕ → ℕ × Component → List Copy
 copies_of seq t p =
-    let before = input_time seq p.0 t in
+    let before = if is_delayed seq p.0 then t - 1 else t in
     if nat_lt 0 before then record { place = p.0; part = p.1; before = before; now = t } ∷ [] else []
 
 -- all copies for a time, as the parts stand

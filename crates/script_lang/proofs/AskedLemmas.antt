@@ -4,13 +4,14 @@ use Rattle.std.specs.Prelude.{nat_le, nat_lt, if◌then◌else◌}
 use Rattle.std.specs.List.{list_all}
 use Rattle.std.proofs.lemmas.Bool.{and_parts, and_from, cases_Bool}
 use Rattle.std.specs.Map.{lookup}
+use Rattle.std.specs.Option.{option_map_or}
 use Rattle.text_rules.specs.Names.{Name, same_name, is_short_name}
 use Rattle.text_rules.specs.Tokens.{words}
 use Rattle.text_rules.specs.Numbers.{number_in, value_behind, are_digits, has_leading_zero}
 use Rattle.script_lang.specs.declared.limits.TheConstants.{COUNT_LIMIT, LINE_LIMIT}
 use Rattle.script_lang.proofs.Asked.{is_well_named, is_well_asked}
-use Rattle.script_lang.specs.declared.refusal.LineRefusal.TheVariants.{TooLong}
-use Rattle.script_lang.specs.Script.{Request, After, Line, Blank, Refused, is_script_name, on_session, on_name, on_value, on_pair, if_value, on_count, if_count, on_names, at_equals, value_in, read_by, read_as, commands, begins_comment, line_of_words, line_of}
+use Rattle.script_lang.specs.declared.refusal.LineRefusal.TheVariants.{UnknownCommand, BadValue, TooLong}
+use Rattle.script_lang.specs.Script.{Request, After, Line, Blank, Refused, Ask, is_script_name, on_session, on_name, on_value, on_pair, on_count, on_names, at_equals, value_in, read_as, commands, begins_comment, line_of_words, line_of}
 
 choice : (test : Bool) (one other : Line) → (test ≡ true → is_well_asked one ≡ true) → is_well_asked other ≡ true → is_well_asked (if test then one else other) ≡ true
 choice true one other first second = first refl
@@ -30,16 +31,16 @@ well-on_name request well (s ∷ name ∷ []) =
     refl
 well-on_name request well (s ∷ name ∷ t ∷ ws) = refl
 
-well-if_value : (s : Name) (request : Bool → Request) → is_short_name s ≡ true → ((value : Bool) → is_well_named (request value) ≡ true) → (value : Option Bool) → is_well_asked (if_value s request value) ≡ true
-well-if_value s request named well None = refl
-well-if_value s request named well (Some value) = and_from _ _ named (well value)
+well-value : (s : Name) (request : Bool → Request) → is_short_name s ≡ true → ((value : Bool) → is_well_named (request value) ≡ true) → (value : Option Bool) → is_well_asked (option_map_or (λ value. Ask s (request value)) value (Refused BadValue)) ≡ true
+well-value s request named well None = refl
+well-value s request named well (Some value) = and_from _ _ named (well value)
 
 well-on_pair : (one other : List ℕ) (request : Name → Bool → Request) → ((name : Name) (value : Bool) → is_script_name name ≡ true → is_well_named (request name value) ≡ true) → (s : Name) (pair : Option (List ℕ × List ℕ)) → is_well_asked (on_pair one other request s pair) ≡ true
 well-on_pair one other request well s None = refl
 well-on_pair one other request well s (Some pair) =
     choice (is_short_name s && is_script_name pair.0) _ _
     (λ named. let parts = and_parts (is_short_name s) (is_script_name pair.0) named in
-    well-if_value s (request pair.0) parts.0 (λ value. well pair.0 value parts.1) (value_in one other pair.1))
+    well-value s (request pair.0) parts.0 (λ value. well pair.0 value parts.1) (value_in one other pair.1))
     refl
 
 well-on_value : (one other : List ℕ) (request : Name → Bool → Request) → ((name : Name) (value : Bool) → is_script_name name ≡ true → is_well_named (request name value) ≡ true) → (ws : List (List ℕ)) → is_well_asked (on_value one other request ws) ≡ true
@@ -52,17 +53,17 @@ well-on_value one other request well (s ∷ pair ∷ t ∷ ws) = refl
 abbrev IsCounted : (ℕ → Request) → Type 0
 IsCounted request = (n : ℕ) → (nat_le 1 n && nat_le n COUNT_LIMIT) ≡ true → is_well_named (request n) ≡ true
 
-chosen : (request : ℕ → Request) (test : Bool) (n : ℕ) (s : Name) → is_short_name s ≡ true → (test ≡ true → is_well_named (request n) ≡ true) → is_well_asked (if_count s request (if test then Some n else None)) ≡ true
+chosen : (request : ℕ → Request) (test : Bool) (n : ℕ) (s : Name) → is_short_name s ≡ true → (test ≡ true → is_well_named (request n) ≡ true) → is_well_asked (option_map_or (λ n. Ask s (request n)) (if test then Some n else None) (Refused BadValue)) ≡ true
 chosen request true n s named well = and_from _ _ named (well refl)
 chosen request false n s named well = refl
 
-in_range : (request : ℕ → Request) → IsCounted request → (word : List ℕ) (s : Name) → is_short_name s ≡ true → is_well_asked (if_count s request (number_in 7 1 COUNT_LIMIT word)) ≡ true
+in_range : (request : ℕ → Request) → IsCounted request → (word : List ℕ) (s : Name) → is_short_name s ≡ true → is_well_asked (option_map_or (λ n. Ask s (request n)) (number_in 7 1 COUNT_LIMIT word) (Refused BadValue)) ≡ true
 in_range request well word s named = elim (cases_Bool (are_digits 7 word)) [
   | inl digits ↦ rw (digits, number_in) (chosen request (nat_le 1 (value_behind 0 word) && nat_le (value_behind 0 word) COUNT_LIMIT) (value_behind 0 word) s named (well (value_behind 0 word)))
   | inr other ↦ rw (other, number_in)
 ]
 
-well-count : (request : ℕ → Request) → IsCounted request → (zero_first : Bool) (word : List ℕ) (s : Name) → is_short_name s ≡ true → is_well_asked (if_count s request (if zero_first then None else number_in 7 1 COUNT_LIMIT word)) ≡ true
+well-count : (request : ℕ → Request) → IsCounted request → (zero_first : Bool) (word : List ℕ) (s : Name) → is_short_name s ≡ true → is_well_asked (option_map_or (λ n. Ask s (request n)) (if zero_first then None else number_in 7 1 COUNT_LIMIT word) (Refused BadValue)) ≡ true
 well-count request well true word s named = refl
 well-count request well false word s named = in_range request well word s named
 
@@ -81,13 +82,13 @@ abbrev AllRead : List (List ℕ) → List (List ℕ × (List (List ℕ) → Line
 AllRead ws [] = Unit {0}
 AllRead ws (command ∷ rest) = (is_well_asked (command.1 ws) ≡ true) × AllRead ws rest
 
-well-read_by : (word : List ℕ) (ws : List (List ℕ)) (known : List (List ℕ × (List (List ℕ) → Line))) → AllRead ws known
-    → is_well_asked (read_by (lookup (same_name word) known) ws) ≡ true
-well-read_by word ws [] all = refl
-well-read_by word ws (command ∷ rest) all = by (same_name word command.0) (well-read_by word ws rest all.1)
+well-read_as : (word : List ℕ) (ws : List (List ℕ)) (known : List (List ℕ × (List (List ℕ) → Line))) → AllRead ws known
+    → is_well_asked (read_as known word ws) ≡ true
+well-read_as word ws [] all = refl
+well-read_as word ws (command ∷ rest) all = by (same_name word command.0) (well-read_as word ws rest all.1)
   where
-    by : (b : Bool) → is_well_asked (read_by (lookup (same_name word) rest) ws) ≡ true
-        → is_well_asked (read_by (cond b (Some command.1) (lookup (same_name word) rest)) ws) ≡ true
+    by : (b : Bool) → is_well_asked (read_as rest word ws) ≡ true
+        → is_well_asked (option_map_or (λ reading. reading ws) (cond b (Some command.1) (lookup (same_name word) rest)) (Refused UnknownCommand)) ≡ true
     by true later = all.0
     by false later = later
 
@@ -96,7 +97,7 @@ each_command ws = search (well-on_session, well-on_name, well-on_value, well-on_
 
 well-line_of_words : (ws : List (List ℕ)) → is_well_asked (line_of_words ws) ≡ true
 well-line_of_words [] = refl
-well-line_of_words (word ∷ ws) = choice (begins_comment word) Blank (read_as word ws) (λ _. refl) (well-read_by word ws commands (each_command ws))
+well-line_of_words (word ∷ ws) = choice (begins_comment word) Blank (read_as commands word ws) (λ _. refl) (well-read_as word ws commands (each_command ws))
 
 -- what a line asks has names that are names, and a count from 1 to a million
 pub well_asked : (line : List ℕ) → is_well_asked (line_of line) ≡ true

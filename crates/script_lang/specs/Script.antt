@@ -2,7 +2,7 @@
 use Rattle.std.specs.Prelude.{ℕ, Bool, true, false, ◌&&◌, List, [], ◌∷◌, length, Option, Some, None, codes, ◌==◌, nat_lt, if◌then◌else◌, ◌≤◌}
 use Rattle.std.specs.List.{list_all}
 use Rattle.std.specs.Map.{lookup}
-use Rattle.std.specs.Option.{option_map}
+use Rattle.std.specs.Option.{option_map, option_map_or}
 use Rattle.text_rules.specs.Names.{Name, same_name, is_name, is_short_name}
 use Rattle.text_rules.specs.Tokens.{words}
 use Rattle.text_rules.specs.Numbers.{plain_number_in}
@@ -72,28 +72,22 @@ at_equals (b ∷ bytes) = if b == 61 then Some ([], bytes) else option_map (λ (
 abbrev pub value_in : List ℕ → List ℕ → List ℕ → Option Bool
 value_in one other word = if same_name word one then Some true else if same_name word other then Some false else None
 
-abbrev pub if_value : Name → (Bool → Request) → Option Bool → Line
-if_value s request None = Refused BadValue
-if_value s request (Some value) = Ask s (request value)
-
 abbrev pub on_pair : List ℕ → List ℕ → (Name → Bool → Request) → Name → Option (List ℕ × List ℕ) → Line
 on_pair one other request s None = Refused BadWords
 on_pair one other request s (Some pair) =
-    if is_short_name s && is_script_name pair.0 then if_value s (request pair.0) (value_in one other pair.1) else Refused BadName
+    if is_short_name s && is_script_name pair.0
+    then option_map_or (λ value. Ask s (request pair.0 value)) (value_in one other pair.1) (Refused BadValue) else Refused BadName
 
 -- a session, and a name with one of two values
 abbrev pub on_value : List ℕ → List ℕ → (Name → Bool → Request) → List (List ℕ) → Line
 on_value one other request (s ∷ pair ∷ []) = on_pair one other request s (at_equals pair)
 on_value one other request ws = Refused BadWords
 
-abbrev pub if_count : Name → (ℕ → Request) → Option ℕ → Line
-if_count s request None = Refused BadValue
-if_count s request (Some count) = Ask s (request count)
-
 -- a session and a count from 1 to a million
 abbrev pub on_count : (ℕ → Request) → List (List ℕ) → Line
 on_count request (s ∷ count ∷ []) =
-    if is_short_name s then if_count s request (plain_number_in 7 1 COUNT_LIMIT count) else Refused BadName
+    if is_short_name s
+    then option_map_or (λ n. Ask s (request n)) (plain_number_in 7 1 COUNT_LIMIT count) (Refused BadValue) else Refused BadName
 on_count request ws = Refused BadWords
 
 -- a session and any number of names
@@ -122,13 +116,9 @@ commands = (codes "open", on_session Start)
     ∷ (codes "leastnnf", on_session LeastNnf)
     ∷ []
 
--- a first word that is no command is refused
-abbrev pub read_by : Option (List (List ℕ) → Line) → List (List ℕ) → Line
-read_by None ws = Refused UnknownCommand
-read_by (Some reading) ws = reading ws
-
-abbrev pub read_as : List ℕ → List (List ℕ) → Line
-read_as word ws = read_by (lookup (same_name word) commands) ws
+-- the words after a command, by such a table; a first word that is no command is refused
+abbrev pub read_as : List (List ℕ × (List (List ℕ) → Line)) → List ℕ → List (List ℕ) → Line
+read_as table word ws = option_map_or (λ reading. reading ws) (lookup (same_name word) table) (Refused UnknownCommand)
 
 -- a word that begins with a number sign begins a comment
 abbrev pub begins_comment : List ℕ → Bool
@@ -137,7 +127,7 @@ begins_comment (b ∷ bytes) = b == 35
 
 abbrev pub line_of_words : List (List ℕ) → Line
 line_of_words [] = Blank
-line_of_words (word ∷ ws) = if begins_comment word then Blank else read_as word ws
+line_of_words (word ∷ ws) = if begins_comment word then Blank else read_as commands word ws
 
 -- A line that is too long is refused, a comment too.
 abbrev pub line_of : List ℕ → Line

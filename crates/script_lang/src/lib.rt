@@ -5,12 +5,11 @@ mod cutting;
 mod limits;
 mod line;
 mod naming;
-mod parsing;
+mod operands;
 mod refusal;
 
 pub use limits::{COUNT_LIMIT, LINE_LIMIT};
-pub use line::{AskedLine, Line, Noted, Question, Request};
+pub use line::{AskedLine, Line, Noted, Question, Request, parse_line};
 pub use naming::each_name;
-pub use parsing::parse_line;
 pub use refusal::LineRefusal;
 pub use text_rules::Tokens as NameIter;

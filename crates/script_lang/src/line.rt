@@ -1,6 +1,13 @@
-ghost use Rattle.std.specs.Prelude.{◌≡◌};
-ghost use Rattle.script_lang.specs.Script.{Note, asked, asked_line, meaning};
+ghost use Rattle.std.specs.Prelude.{◌≡◌, drop};
+ghost use Rattle.text_rules.specs.Names.{same_name};
+ghost use Rattle.text_rules.specs.Tokens.{words};
+ghost use Rattle.script_lang.specs.Script.{Note, asked, asked_line, begins_comment, commands, line_of, meaning, read_as, IsNumbered};
+ghost use Rattle.script_lang.specs.inner.Found.{asked_by};
+ghost use Rattle.script_lang.specs.Script as script;
 
+use crate::cutting::split_word;
+use crate::limits::LINE_LIMIT;
+use crate::operands::{count_in, name_in, names_in, session_in, value_in};
 use crate::refusal::LineRefusal;
 
 /// A line of a script. Its names are spelled as names are, but not looked up: there need be no such session, wire or part.
@@ -203,4 +210,122 @@ fn note<'a>(what: Noted, name: &'a [u8], known: Option<bool>) -> Request<'a>
     ensures { asked result ≡ Note what name.now known }
 {
     Request::Note { what, name, known }
+}
+
+fn same_word(word: &[u8], other: &[u8]) -> bool
+    ensures { result ≡ same_name word.now other.now }
+{
+    word == other
+}
+
+// What a command and the text after it say, if the command is one of a session's life or of its case.
+fn read_command<'a>(command: &[u8], text: &'a [u8]) -> Result<Line<'a>, LineRefusal>
+    ensures { asked_by meaning result ≡ read_as commands command.now (words text.now) }
+{
+    if same_word(command, b"open") {
+        let session = session_in(text)?;
+        Ok(Line::Start { session })
+    } else if same_word(command, b"close") {
+        let session = session_in(text)?;
+        Ok(Line::Stop { session })
+    } else if same_word(command, b"see") {
+        let (session, name, bit) = value_in(text, b"1", b"0")?;
+        Ok(Line::See { session, name, bit })
+    } else if same_word(command, b"unsee") {
+        let (session, name) = name_in(text)?;
+        Ok(Line::Unsee { session, name })
+    } else if same_word(command, b"hold") {
+        let (session, name, ok) = value_in(text, b"ok", b"bad")?;
+        Ok(Line::Hold { session, name, ok })
+    } else if same_word(command, b"unhold") {
+        let (session, name) = name_in(text)?;
+        Ok(Line::Unhold { session, name })
+    } else {
+        read_question(command, text)
+    }
+}
+
+// What they say if the command is none of these six.
+fn read_question<'a>(command: &[u8], text: &'a [u8]) -> Result<Line<'a>, LineRefusal>
+    ensures { asked_by meaning result ≡ read_as (drop 6 commands) command.now (words text.now) }
+{
+    if same_word(command, b"min") {
+        let session = session_in(text)?;
+        Ok(Line::Min { session })
+    } else if same_word(command, b"next") {
+        let session = session_in(text)?;
+        Ok(Line::Next { session })
+    } else if same_word(command, b"list") {
+        let (session, count) = count_in(text)?;
+        Ok(Line::List { session, count })
+    } else if same_word(command, b"after") {
+        let (session, names) = names_in(text)?;
+        Ok(Line::After { session, names })
+    } else if same_word(command, b"probe") {
+        let (session, name) = name_in(text)?;
+        Ok(Line::Probe { session, name })
+    } else if same_word(command, b"probes") {
+        let session = session_in(text)?;
+        Ok(Line::Probes { session })
+    } else {
+        read_other(command, text)
+    }
+}
+
+// What they say if it is none of these twelve.
+fn read_other<'a>(command: &[u8], text: &'a [u8]) -> Result<Line<'a>, LineRefusal>
+    ensures { asked_by meaning result ≡ read_as (drop 12 commands) command.now (words text.now) }
+{
+    if same_word(command, b"blame") {
+        let session = session_in(text)?;
+        Ok(Line::Blame { session })
+    } else if same_word(command, b"dnnf") {
+        let session = session_in(text)?;
+        Ok(Line::Dnnf { session })
+    } else if same_word(command, b"level") {
+        let session = session_in(text)?;
+        Ok(Line::Level { session })
+    } else if same_word(command, b"levels") {
+        let (session, count) = count_in(text)?;
+        Ok(Line::Levels { session, count })
+    } else if same_word(command, b"leastnnf") {
+        let session = session_in(text)?;
+        Ok(Line::LeastNnf { session })
+    } else {
+        Err(LineRefusal::UnknownCommand)
+    }
+}
+
+// Whether a word begins with a number sign.
+fn begins_comment(word: &[u8]) -> bool
+    ensures { result ≡ begins_comment word.now }
+{
+    word.first() == Some(&b'#')
+}
+
+// A refused line, by its number.
+fn refused<'a>(refusal: LineRefusal) -> Line<'a>
+    ensures means { meaning result ≡ script.Refused refusal }
+    ensures numbered { IsNumbered result }
+{
+    Line::Refused(refusal.number())
+}
+
+/// Reads one line of a script, without its line feed. Nothing is copied: the parts of the result lie in the line.
+pub fn parse_line(line: &[u8]) -> Line<'_>
+    ensures means { meaning result ≡ line_of line.now }
+    // A refusal is one of the five.
+    ensures numbered { IsNumbered result }
+{
+    if line.len() > LINE_LIMIT {
+        return refused(LineRefusal::TooLong);
+    }
+    match split_word(line) {
+        None => Line::Blank,
+        Some((command, _)) if begins_comment(command) => Line::Blank,
+        Some((command, text)) => match read_command(command, text) {
+            Ok(line) => line,
+            Err(refusal) => refused(refusal),
+        },
+    }
 }

@@ -2,14 +2,14 @@
 use Rattle.std.specs.Prelude.{ℕ, ◌+◌, ◌==◌, Bool, true, false, ◌&&◌, List, [], ◌∷◌, length, Option, Some, None, option_map, drop, codes, Result, nat_le, if◌then◌else◌}
 use Rattle.std.specs.List.{list_all, filter, position_or_len}
 use Rattle.std.specs.Result.{result_map_both}
-use Rattle.text_rules.specs.Names.{Name, is_short_name}
+use Rattle.text_rules.specs.Names.{Name, same_name, is_short_name}
 use Rattle.text_rules.specs.Tokens.{tokens}
 use Rattle.bench_reader.specs.declared.fault.BenchFault.{BenchFault}
 use Rattle.bench_reader.specs.declared.statement.Inputs.{Inputs}
 use Rattle.bench_reader.specs.declared.statement.Statement.{Statement as StatementRead}
 use Rattle.bench_reader.specs.declared.statement.Statement.TheVariants.{Input as InputRead, Output as OutputRead, Gate as GateRead}
 use Rattle.bench_reader.specs.declared.statement.NumberedStatement.{NumberedStatement}
-use Rattle.bench_reader.specs.Statements.{Statement, Input, Output, Gate, has_no_mark, is_the_mark}
+use Rattle.bench_reader.specs.Statements.{Statement, Input, Output, Gate, has_no_mark}
 
 abbrev pub is_capital : ℕ → Bool
 is_capital b = nat_le 65 b && nat_le b 90
@@ -47,7 +47,7 @@ with_number numbered = (numbered.line, unnumbered numbered)
 -- a closing bracket alone
 abbrev pub is_close : List (List ℕ) → Bool
 is_close [] = false
-is_close (mark ∷ []) = is_the_mark (codes ")") mark
+is_close (mark ∷ []) = same_name mark (codes ")")
 is_close (mark ∷ next ∷ rest) = false
 
 -- how many names there are, if all of them are names of signals

@@ -1,11 +1,12 @@
 use Rattle.std.proofs.Common.{◌+◌, [], length, ap, sym, ◌∙◌, subst, arith}
 use Rattle.std.specs.List.{sum_by}
 use Rattle.std.proofs.lemmas.List.Sums.{sum_by-cons}
+use Rattle.std.specs.Result.{result_flatten, result_map_both}
 use Rattle.text_rules.specs.TextLines.{all_lines}
 use Rattle.text_rules.proofs.LineLemmas.{sum-all_lines, length-all_lines}
 use Rattle.component_lang.specs.Kinds.{Outside}
 use Rattle.component_lang.specs.DesignLines.{at, after_line}
-use Rattle.component_lang.specs.Reading.{design_from, unless_wrong}
+use Rattle.component_lang.specs.Reading.{design_from}
 use Rattle.component_lang.specs.inner.Sections.{reader_in}
 use Rattle.component_lang.specs.inner.Sound.{is_sound, reader_size}
 use Rattle.component_lang.proofs.SoundReaders.{Keeps, after_line-keeps}
@@ -39,7 +40,7 @@ loop-line-preserved c =
       can_next = tt;
       is_finite = tt;
       same = c.loop-line.invariant.same ∙ ap (λ ls. design_from (c.loop-line.number + 1) ls reader) c.in-Some.ensures.steps
-          ∙ ap (λ r. unless_wrong (c.loop-line.number + 1) r (design_from (c.loop-line.number + 1 + 1) left)) c.in-Ok.ensures;
+          ∙ ap (λ r. result_flatten (result_map_both (design_from (c.loop-line.number + 1 + 1) left) (λ what. record { line = c.loop-line.number + 1; what = what }) r)) c.in-Ok.ensures;
       sound = keeps.0;
       numbered = omega arith;
       few = omega (arith, keeps.1, c.loop-line.invariant.few);

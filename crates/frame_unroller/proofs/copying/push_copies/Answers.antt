@@ -2,7 +2,8 @@ use Rattle.std.proofs.Common.{◌≡◌, ◌<◌, ◌+◌, ◌-◌, ◌++◌, �
 use Rattle.std.specs.Prelude.{if◌then◌else◌}
 use Rattle.std.specs.List.{flat_map, enumerate_from}
 use Rattle.device_model.specs.declared.component.Component.{Component}
-use Rattle.frame_unroller.specs.Unrolling.{Copy, input_time, copies_of}
+use Rattle.frame_unroller.specs.Frames.{is_delayed}
+use Rattle.frame_unroller.specs.Unrolling.{Copy, copies_of}
 use Rattle.frame_unroller.specs.inner.Copying.{given_copy}
 use Rattle.frame_unroller.proofs.TimeCopies.{copy, copied, left_out}
 use Rattle.frame_unroller.proofs.copying.push_copies.Goals as goal
@@ -21,7 +22,7 @@ loop-place-preserved c =
     let lt : place < length parts = omega (arith, c.loop-place-test.true, ap length c.parts-part-items.ensures.parts) in
     let is = c.part-item.is ∙ ap (λ ps. get_or ps place part) c.parts-part-items.ensures.parts in
     let said = c.requires.delays.say place lt in
-    let same : before ≡ input_time seq place t = elim c.if-delays-place.branch [
+    let same : before ≡ (if is_delayed seq place then t - 1 else t) = elim c.if-delays-place.branch [
       | then-delays-place w ↦ w.before-is ∙ ap (λ b. if b then t - 1 else t) (sym w.if-delays-place.true ∙ said)
       | else-delays-place w ↦ w.before-is ∙ ap (λ b. if b then t - 1 else t) (sym w.if-delays-place.false ∙ said)
     ] in

@@ -3,7 +3,7 @@ use Rattle.std.proofs.lemmas.Iterator.Search.{all_from_yields_List}
 use Rattle.std.proofs.lemmas.Iterator.Consumers.{YieldsList-from_first}
 use Rattle.text_rules.specs.Tokens.{Uncut, tokens, words}
 use Rattle.script_lang.specs.Script.{is_script_name}
-use Rattle.script_lang.proofs.parsing.are_script_names.Goals as goal
+use Rattle.script_lang.proofs.operands.are_script_names.Goals as goal
 
 pub returns : goal.returns
 returns c =

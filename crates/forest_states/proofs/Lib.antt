@@ -3,6 +3,7 @@ pub mod WayDown
 pub mod ClausesByVariable
 pub mod BitsLeft
 pub mod Mapped
+pub mod Masking
 pub mod MarkedVariables
 pub mod MetClauses
 pub mod Numbers

@@ -3,7 +3,7 @@ use Rattle.std.proofs.Common.{◌≡◌, ℕ, zero, suc, ◌+◌, ◌<◌, ◌�
 use Rattle.std.proofs.lemmas.Bool.Decides.{nat_tests}
 use mir.Val.{bool_byte}
 use Rattle.std.specs.Prelude.{Option}
-use Rattle.std.proofs.lemmas.List.{length-append, length-replicate, replicate-append-replicate, append_assoc, take_all, drop-drop, drop_more}
+use Rattle.std.proofs.lemmas.List.{length-append, length-replicate, replicate-append-replicate, append_assoc, take_all, take_more, drop-drop, drop_more}
 use Rattle.std.proofs.Math.Seq.{drop-nil}
 use Rattle.state_rules.specs.Bits.{bit_in}
 use Rattle.forest_states.specs.declared.entries.Entry.{Entry}
@@ -26,6 +26,16 @@ spread-run (e ∷ es) n count = ap (λ xs. replicate e.run plain ++ (e.entry ∷
 pub spread-event : (es : List Event) (n : ℕ) (x : Entry) → spread (es ++ (record { run = n; entry = x }) ∷ []) 0 ≡ spread es n ++ x ∷ []
 spread-event [] n x = refl
 spread-event (e ∷ es) n x = ap (λ xs. replicate e.run plain ++ (e.entry ∷ xs)) (spread-event es n x) ∙ sym (append_assoc (replicate e.run plain) (e.entry ∷ spread es n) (x ∷ []))
+
+pub spread-rest : (es : List Event) (n : ℕ) → spread es 0 ++ replicate n plain ≡ spread es n
+spread-rest es n = let same : n ≡ 0 + n = omega arith in sym (ap (spread es) same ∙ spread-run es 0 n)
+
+-- the next event of those that are there
+pub spread-next : (es : List Event) (k : ℕ) (e : Event) → k < length es
+    → (spread (take k es) 0 ++ replicate (get_or es k e).run plain) ++ (get_or es k e).entry ∷ [] ≡ spread (take (k + 1) es) 0
+spread-next es k e low =
+    let next = get_or es k e in
+    ap (λ xs. xs ++ next.entry ∷ []) (spread-rest (take k es) next.run) ∙ sym (spread-event (take k es) next.run next.entry) ∙ ap (λ xs. spread xs 0) (sym (take_more es k e low))
 
 -- ---- how many clauses there are
 

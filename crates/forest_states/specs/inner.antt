@@ -1,3 +1,4 @@
 pub mod BitLists
 pub mod Tables
 pub mod Walked
+pub mod Masked

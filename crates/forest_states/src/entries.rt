@@ -1,10 +1,10 @@
-ghost use Rattle.std.specs.Prelude.{◌≡◌, ◌+◌, ◌<◌, ◌≤◌, true, List, Bool, ◌^◌, ◌&&◌, ◌||◌, ◌++◌, [], ◌∷◌, not, length, replicate, IfOk, OnOk};
-ghost use Rattle.state_rules.specs.Bits.{row_number};
+ghost use Rattle.std.specs.Prelude.{◌≡◌, ◌+◌, ◌<◌, true, false, ◌^◌, ◌&&◌, ◌||◌, ◌++◌, [], ◌∷◌, not, length, replicate, IfOk, OnOk, IfSome};
 ghost use Rattle.forest_states.specs.inner.Tables.{true_at, plain, is_plain, spread};
 ghost use Rattle.forest_states.specs.inner.Walked.{walked};
+ghost use Rattle.forest_states.specs.inner.Masked.{IsShort};
 
 use crate::bit_list::BitList;
-use crate::rows::{bit_of, first_bits, later_bits, with_bits};
+use crate::masks::Masks;
 use std::alloc::{AllocError, Global};
 use std::marker::Model;
 
@@ -96,42 +96,53 @@ impl Table {
         self.rest += count;
     }
 
-    /// Whether there are so few clauses that what a bit leaves of a state is in one word.
-    pub(crate) fn is_short(&self) -> bool
-        ensures { result ≡ true → length self.now < 64 }
+    /// The same in words, if the clauses are so few that what a bit leaves of a state is in one word.
+    pub(crate) fn masks(&self, alloc: Global) -> Result<Option<Masks>, AllocError>
+        ensures { IfOk result (λ found. IfSome found (λ masks. IsShort masks self.now)) }
     {
-        are_few(self.events.as_slice(), self.rest)
+        find_masks(alloc, self.events.as_slice(), self.rest)
     }
 
-    /// What a bit leaves of a state, unless that is dead.
+    /// What the bits 0 and 1 leave of a state, unless that is dead.
     pub(crate) fn walk(
         &self,
         alloc: Global,
-        is_short: bool,
-        bit: bool,
+        masks: &Option<Masks>,
         state: &BitList,
-    ) -> Result<Option<BitList>, AllocError>
+    ) -> Result<(Option<BitList>, Option<BitList>), AllocError>
         requires fits { length self.now < 2 ^ 63 }
-        requires short { is_short ≡ true → length self.now < 64 }
-        ensures { IfOk result (λ left. left ≡ walked bit self.now state.now) }
+        requires short { IfSome masks.now (λ masks. IsShort masks self.now) }
+        ensures zero { IfOk result (λ r. r.0 ≡ walked false self.now state.now) }
+        ensures one { IfOk result (λ r. r.1 ≡ walked true self.now state.now) }
     {
-        if is_short && state.len() <= 64 {
-            walk_row(alloc, self.events.as_slice(), self.rest, bit, state)
-        } else {
-            walk_on(alloc, self.events.as_slice(), self.rest, bit, state)
+        match masks {
+            Some(masks) if state.len() <= 64 => masks.walk(alloc, state),
+            _ => {
+                let zero = walk_on(alloc, self.events.as_slice(), self.rest, false, state)?;
+                let one = walk_on(alloc, self.events.as_slice(), self.rest, true, state)?;
+                Ok((zero, one))
+            }
         }
     }
 }
 
-// Whether there are few clauses, by the events and how many come after the last one.
-fn are_few(events: &[Event], rest: usize) -> bool
-    ensures { result ≡ true → length (spread events.now rest) < 64 }
+// The events in words, and how many clauses come after the last one, if there are few clauses.
+fn find_masks(alloc: Global, events: &[Event], rest: usize) -> Result<Option<Masks>, AllocError>
+    ensures { IfOk result (λ found. IfSome found (λ masks. IsShort masks (spread events.now rest))) }
 {
-    let mut len = rest;
+    let mut masks = Masks::new(alloc);
     for event in events {
-        len = len.saturating_add(event.run).saturating_add(1);
+        if event.run >= 63 - masks.len {
+            return Ok(None);
+        }
+        masks.skip(event.run)?;
+        masks.push(event.entry)?;
     }
-    len < 64
+    if rest >= 64 - masks.len {
+        return Ok(None);
+    }
+    masks.skip(rest)?;
+    Ok(Some(masks))
 }
 
 // What a bit leaves of a state, by the events and how many clauses come after the last one.
@@ -160,37 +171,4 @@ fn walk_on(
     }
     left.append(state, next, rest)?;
     Ok(Some(left))
-}
-
-// The same, if the clauses are few and the state is in one word.
-fn walk_row(
-    alloc: Global,
-    events: &[Event],
-    rest: usize,
-    bit: bool,
-    state: &BitList,
-) -> Result<Option<BitList>, AllocError>
-    requires few { length (spread events.now rest) < 64 }
-    requires short { length state.now ≤ 64 }
-    ensures { IfOk result (λ left. left ≡ walked bit (spread events.now rest) state.now) }
-{
-    let mut from = state.read(0, 64);
-    let mut left = 0;
-    let mut len = 0;
-    for event in events {
-        left = with_bits(left, len, first_bits(from, event.run));
-        len += event.run;
-        let is_left = event.entry.is_left(bit, bit_of(from, event.run));
-        from = later_bits(from, event.run + usize::from(!event.entry.fresh));
-        if event.entry.ends {
-            if is_left {
-                return Ok(None);
-            }
-        } else {
-            left = with_bits(left, len, u64::from(is_left));
-            len += 1;
-        }
-    }
-    let bits = with_bits(left, len, first_bits(from, rest));
-    Ok(Some(BitList::of_word(alloc, bits, len + rest)?))
 }

@@ -5,6 +5,7 @@ mod bit_list;
 mod descent;
 mod entries;
 mod marks;
+mod masks;
 mod picks;
 mod places;
 mod rows;

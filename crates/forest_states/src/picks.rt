@@ -1,8 +1,11 @@
-ghost use Rattle.std.specs.Prelude.{◌≡◌, ◌<◌, ◌^◌, ◌++◌, [], ◌∷◌, length, IfOk, OnOk};
-ghost use Rattle.forest_states.specs.inner.Tables.{flags_in};
+ghost use Rattle.std.specs.Prelude.{◌≡◌, ◌<◌, ◌+◌, ◌^◌, ◌++◌, List, Bool, true, [], length, drop, replicate, IfOk, OnOk};
+ghost use Rattle.state_rules.specs.Bits.{row_number};
+ghost use Rattle.forest_states.specs.inner.BitLists.{copied};
+ghost use Rattle.forest_states.specs.inner.Tables.{flags_in, filled};
 ghost use Rattle.forest_states.specs.inner.Walked.{picked};
 
 use crate::bit_list::BitList;
+use crate::rows::{first_bits, later_bits, ones, with_bits};
 use std::alloc::{AllocError, Global};
 use std::marker::Model;
 
@@ -43,22 +46,22 @@ impl Picks {
         }
     }
 
-    /// Adds whether the next bit is picked.
-    pub(crate) fn push(&mut self, is_picked: bool) -> Result<(), AllocError>
-        requires { length self.old < 2 ^ 63 }
-        ensures { OnOk result (self.new ≡ self.old ++ is_picked ∷ []) }
+    /// Adds whether the next so many bits are picked.
+    pub(crate) fn push(&mut self, is_picked: bool, count: usize) -> Result<(), AllocError>
+        requires { length self.old + count < 2 ^ 63 }
+        ensures { OnOk result (self.new ≡ self.old ++ replicate count is_picked) }
     {
         if is_picked {
-            self.last.count += 1;
+            self.last.count += count;
             return Ok(());
         }
         if self.last.count == 0 {
-            self.last.others += 1;
+            self.last.others += count;
             return Ok(());
         }
         self.runs.push(self.last)?;
         self.last = Run {
-            others: 1,
+            others: count,
             count: 0,
         };
         Ok(())
@@ -77,6 +80,22 @@ impl Picks {
         let mut bits = BitList::new(alloc, room)?;
         add_picked(&mut bits, self.runs.as_slice(), self.last, state)?;
         Ok(bits)
+    }
+
+    /// The bits of a word that are picked, and how many they are.
+    pub(crate) fn pick_row(&self, word: u64) -> (u64, usize)
+        requires { length self.now < 64 }
+        ensures { (state : List Bool) → word ≡ row_number state → (result.0 ≡ row_number (picked self.now state)) × (result.1 ≡ length (picked self.now state)) }
+    {
+        pick_row(self.runs.as_slice(), self.last, word)
+    }
+
+    /// A word that is 1 where a bit is picked, and has the bits of another word in turn where none is.
+    pub(crate) fn fill_row(&self, word: u64) -> u64
+        requires { length self.now < 64 }
+        ensures { (state : List Bool) → word ≡ row_number state → result ≡ row_number (filled self.now state) }
+    {
+        fill_row(self.runs.as_slice(), self.last, word)
     }
 }
 
@@ -99,4 +118,58 @@ fn add_picked(
     }
     bits.append(state, at + last.others, last.count)?;
     Ok(())
+}
+
+fn pick_row(runs: &[Run], last: Run, word: u64) -> (u64, usize)
+    requires { length (flags_in runs.now last) < 64 }
+    ensures { (state : List Bool) → word ≡ row_number state
+        → (result.0 ≡ row_number (picked (flags_in runs.now last) state)) × (result.1 ≡ length (picked (flags_in runs.now last) state)) }
+{
+    let mut from = word;
+    let mut left = 0;
+    let mut len = 0;
+    for run in runs {
+        left = pick_run(*run, left, len, from);
+        len += run.count;
+        from = later_bits(from, run.others + run.count);
+    }
+    (pick_run(last, left, len, from), len + last.count)
+}
+
+// Adds the bits that a run picks to so many others.
+fn pick_run(run: Run, left: u64, len: usize, from: u64) -> u64
+    requires { len + run.others + run.count < 64 }
+    ensures { (bits state : List Bool) → length bits ≡ len → left ≡ row_number bits → from ≡ row_number state
+        → result ≡ row_number (bits ++ copied run.count (drop run.others state)) }
+{
+    with_bits(
+        left,
+        len,
+        first_bits(later_bits(from, run.others), run.count),
+    )
+}
+
+fn fill_row(runs: &[Run], last: Run, word: u64) -> u64
+    requires { length (flags_in runs.now last) < 64 }
+    ensures { (state : List Bool) → word ≡ row_number state → result ≡ row_number (filled (flags_in runs.now last) state) }
+{
+    let mut from = word;
+    let mut left = 0;
+    let mut len = 0;
+    for run in runs {
+        left = fill_run(*run, left, len, from);
+        len += run.others + run.count;
+        from = later_bits(from, run.others);
+    }
+    fill_run(last, left, len, from)
+}
+
+// Adds the bits that a run does not pick, and a 1 for each that it picks, to so many others.
+fn fill_run(run: Run, left: u64, len: usize, from: u64) -> u64
+    requires { len + run.others + run.count < 64 }
+    ensures { (bits state : List Bool) → length bits ≡ len → left ≡ row_number bits → from ≡ row_number state
+        → result ≡ row_number ((bits ++ copied run.others state) ++ replicate run.count true) }
+{
+    let others = with_bits(left, len, first_bits(from, run.others));
+    with_bits(others, len + run.others, ones(run.count))
 }

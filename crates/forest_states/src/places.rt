@@ -1,12 +1,14 @@
-ghost use Rattle.std.specs.Prelude.{◌≡◌, ◌<◌, ◌≤◌, ◌+◌, ◌^◌, ◌++◌, ℕ, [], ◌∷◌, true, false, length, map, reverse, slice_set, slice_index_or, option_map, Some, IfOk, OnOk, ◌==◌, ◌&&◌};
+ghost use Rattle.std.specs.Prelude.{◌≡◌, ◌<◌, ◌≤◌, ◌+◌, ◌^◌, ◌++◌, ℕ, [], ◌∷◌, true, false, length, map, reverse, slice_set, slice_index_or, option_map, Some, IfOk, OnOk, IfSome, ◌==◌, ◌&&◌};
 ghost use Rattle.std.specs.List.{list_all, range_with_len, position_or_len};
 ghost use Rattle.elimination_forests.specs.Branches.{different};
 ghost use Rattle.forest_states.specs.inner.BitLists.{is_same};
+ghost use Rattle.forest_states.specs.inner.Masked.{IsShort};
 ghost use Rattle.forest_states.specs.inner.Walked.{any_leads, picked, joined, lead, decided_states, decided_forks, parts_by, column_by, table_at, forks_of, row_at, row_of, row_in, stand_decided, stand_part, column_at, stands_below, forks_below, first_stand, or_first, stand_of};
 
 use crate::bit_list::BitList;
 use crate::entries::Table;
 use crate::marks::{clauses_with, mark, number_trees};
+use crate::masks::Masks;
 use crate::picks::Picks;
 use crate::tables::{find_picks, find_table};
 use clause_encoder::Cnf;
@@ -97,7 +99,8 @@ fn go_by_bit(
 {
     let touched = clauses_with(of, var);
     let (table, opened) = find_table(alloc, cnf, seen, var, touched, &spot.opened)?;
-    let (leads, states) = decide(alloc, &table, &spot.states)?;
+    let masks = table.masks(alloc)?;
+    let (leads, states) = decide(alloc, &table, &masks, &spot.states)?;
     Ok((leads, Spot { opened, states }))
 }
 
@@ -225,12 +228,14 @@ fn put(state: BitList, states: &mut IndexSet<BitList>) -> Result<u32, AllocError
     Ok(place as u32)
 }
 
-// Where the states of a place lead to by a bit, and the states there.
+// Where the states of a place lead to by a bit, and the states there. `masks` are the table in words, if it is short.
 fn decide(
     alloc: Global,
     table: &Table,
+    masks: &Option<Masks>,
     states: &IndexSet<BitList>,
 ) -> Result<(Vec<Fork>, IndexSet<BitList>), AllocError>
+    requires masks { IfSome masks.now (λ masks. IsShort masks table.now) }
     requires few { length states.now.keys < 2 ^ 31 }
     requires short { length table.now < 2 ^ 63 }
     ensures leads { IfOk result (λ r. r.0.items ≡ decided_forks table.now states.now.keys) }
@@ -239,10 +244,10 @@ fn decide(
 {
     let mut next = IndexSet::with_capacity(alloc, states.len())?;
     let mut leads = Vec::with_capacity(alloc, states.len())?;
-    let is_short = table.is_short();
     for state in states.as_slice() {
-        let zero = add(table.walk(alloc, is_short, false, state)?, &mut next)?;
-        let one = add(table.walk(alloc, is_short, true, state)?, &mut next)?;
+        let (left_by_0, left_by_1) = table.walk(alloc, masks, state)?;
+        let zero = add(left_by_0, &mut next)?;
+        let one = add(left_by_1, &mut next)?;
         leads.push(Fork { zero, one })?;
     }
     Ok((leads, next))

@@ -1,6 +1,7 @@
-ghost use Rattle.std.specs.Prelude.{◌≡◌, ◌<◌, ◌≤◌, ◌+◌, ◌++◌, Bool, List, length, drop};
+ghost use Rattle.std.specs.Prelude.{◌≡◌, ◌<◌, ◌≤◌, ◌+◌, ◌++◌, ◌==◌, Bool, List, true, not, length, drop, replicate};
 ghost use Rattle.state_rules.specs.Bits.{bit_in, row_number};
 ghost use Rattle.forest_states.specs.inner.BitLists.{copied};
+ghost use Rattle.forest_states.specs.inner.Tables.{in_both, in_one};
 
 /// Writes bits after so many others of a word.
 pub(crate) fn with_bits(word: u64, len: usize, row: u64) -> u64
@@ -27,10 +28,24 @@ pub(crate) fn later_bits(word: u64, count: usize) -> u64
     word >> count
 }
 
-/// The bit at a place of a word.
-pub(crate) fn bit_of(word: u64, at: usize) -> bool
-    requires { at < 64 }
-    ensures { (bits : List Bool) → word ≡ row_number bits → result ≡ bit_in bits at }
+/// So many bits that are 1.
+pub(crate) fn ones(count: usize) -> u64
+    requires { count < 64 }
+    ensures { result ≡ row_number (replicate count true) }
 {
-    (word >> at) & 1 == 1
+    (1 << count) - 1
+}
+
+/// The bits of a word that are not in another one.
+pub(crate) fn without(word: u64, other: u64) -> u64
+    ensures { (bits others : List Bool) → word ≡ row_number bits → other ≡ row_number others → result ≡ row_number (in_one bits others) }
+{
+    word - (word & other)
+}
+
+/// Whether two words have a bit in common.
+pub(crate) fn meets(word: u64, other: u64) -> bool
+    ensures { (bits others : List Bool) → word ≡ row_number bits → other ≡ row_number others → result ≡ not (row_number (in_both bits others) == 0) }
+{
+    word & other != 0
 }

@@ -132,7 +132,7 @@ pub(crate) fn find_picks(
         if is_picked {
             kept.push(*number)?;
         }
-        picks.push(is_picked)?;
+        picks.push(is_picked, 1)?;
     }
     Ok((picks, kept))
 }

@@ -1,5 +1,6 @@
 -- What the bit of a variable does to clauses one after the other, by those to which it does something.
-use Rattle.std.specs.Prelude.{ℕ, Bool, true, false, not, ◌||◌, List, [], ◌∷◌, ◌++◌, replicate}
+use Rattle.std.specs.Prelude.{ℕ, Bool, true, false, not, ◌&&◌, ◌||◌, List, [], ◌∷◌, ◌++◌, replicate, if◌then◌else◌}
+use Rattle.forest_states.specs.inner.BitLists.{first_bit, other_bits}
 use Rattle.forest_states.specs.declared.entries.Entry.{Entry}
 use Rattle.forest_states.specs.declared.entries.Event.{Event}
 use Rattle.forest_states.specs.declared.picks.Run.{Run}
@@ -27,3 +28,19 @@ flag_run r = replicate r.others false ++ replicate r.count true
 abbrev pub flags_in : List Run → Run → List Bool
 flags_in [] last = flag_run last
 flags_in (r ∷ runs) last = flag_run r ++ flags_in runs last
+
+-- ---- all clauses at once
+
+-- 1 for each flag, and the bits of a state in turn where there is none
+abbrev pub filled : List Bool → List Bool → List Bool
+filled [] state = []
+filled (f ∷ flags) state = if f then true ∷ filled flags state else first_bit state ∷ filled flags (other_bits state)
+
+-- the bits that others have too, and those that they do not have
+abbrev pub in_both : List Bool → List Bool → List Bool
+in_both [] others = []
+in_both (b ∷ bits) others = (b && first_bit others) ∷ in_both bits (other_bits others)
+
+abbrev pub in_one : List Bool → List Bool → List Bool
+in_one [] others = []
+in_one (b ∷ bits) others = (b && not (first_bit others)) ∷ in_one bits (other_bits others)

@@ -2,7 +2,7 @@
 use Rattle.std.specs.Prelude.{ℕ, ◌+◌, ◌-◌, ◌*◌, ◌==◌, Bool, true, false, not, ◌&&◌, ◌||◌, List, [], ◌∷◌, ◌++◌, map, length, nat_lt, slice_set, slice_index_or, drop, option_map, is_some, Option, Some, None, option_to_list, if◌then◌else◌}
 use Rattle.std.specs.List.{filter, flat_map, list_any, list_all, position_or_len, prefix_len, take_while, range_with_len}
 use Rattle.indexmap.specs.IndexSet.{insert_key}
-use Rattle.state_rules.specs.Bits.{bit_in}
+use Rattle.state_rules.specs.Bits.{bit_in, row_number}
 use Rattle.clause_encoder.specs.Clauses.{Clause, var_of}
 use Rattle.elimination_forests.specs.Branches.{has_true, different}
 use Rattle.forest_states.specs.declared.places.Fork.{Fork}
@@ -12,7 +12,7 @@ use Rattle.elimination_forests.specs.declared.steps.Step.{Step}
 use Rattle.elimination_forests.specs.declared.steps.Weight.{Weight}
 use Rattle.elimination_forests.specs.declared.forks.Forks.{Forks}
 use Rattle.elimination_forests.specs.Forests.{weigh}
-use Rattle.forest_states.specs.inner.Tables.{true_at, plain}
+use Rattle.forest_states.specs.inner.Tables.{true_at, plain, in_both}
 use Rattle.forest_states.specs.declared.entries.Entry.{Entry}
 use Rattle.forest_states.specs.inner.BitLists.{is_same, first_bit, other_bits}
 
@@ -38,6 +38,10 @@ walked bit (e ∷ table) state =
 abbrev pub picked : List Bool → List Bool → List Bool
 picked [] state = []
 picked (f ∷ flags) state = if f then first_bit state ∷ picked flags (other_bits state) else picked flags (other_bits state)
+
+-- If none of the clauses that end is left, the others are.
+abbrev pub left_by : List Bool → List Bool → List Bool → Option (List Bool)
+left_by kept ends left = if row_number (in_both left ends) == 0 then Some (picked kept left) else None
 
 -- ---- the states of a place
 

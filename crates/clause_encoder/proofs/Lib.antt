@@ -9,4 +9,3 @@ pub mod OtherVariables
 pub mod WrittenClauses
 pub mod ClauseCounts
 pub mod Sizes
-mod Examples

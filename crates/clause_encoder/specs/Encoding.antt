@@ -81,8 +81,8 @@ abbrev pub table_clauses : Option TruthTable → ℕ → List ℕ → List Claus
 table_clauses None h ports = []
 table_clauses (Some rows) h ports = blocked_rows true rows.ok h ports ++ blocked_rows false rows.bad h ports
 
--- If the part is ok, the output is what is asked of the inputs, or its opposite. That one input or more are 1 is that not all
--- are 0.
+-- If the part is ok, the output is what is asked of the inputs, or its opposite. An or is the opposite of the
+-- and of the opposite inputs.
 abbrev pub reduction_clauses : Reduction → Bool → ℕ → List ℕ → ℕ → List Clause
 reduction_clauses AllOnes positive h xs y = and_clauses (pos h) (literal positive y) (map (literal true) xs)
 reduction_clauses AnyOne positive h xs y = and_clauses (pos h) (literal (not positive) y) (map (literal false) xs)

@@ -35,7 +35,7 @@ gates = And ∷ Or ∷ Nand ∷ Nor ∷ Xor ∷ Xnor ∷ Not ∷ Buff ∷ []
 abbrev pub word : Kind → Name
 word kind = (kind_row kind).0
 
--- what a part of a kind goes by
+-- the rule of a part of a kind
 abbrev pub rule : Kind → Rule
 rule kind = (kind_row kind).1
 

@@ -37,7 +37,7 @@ pub struct Gate {
     pub most_inputs: usize,
 }
 
-/// What a part goes by: a gate, or the place of a table.
+/// The rule of a part: a gate, or the place of a table.
 #[derive(Clone, Copy, Debug, PartialEq, Eq)]
 pub enum Rule {
     Gate(Gate),
@@ -82,7 +82,7 @@ impl Kind {
         self.row().0
     }
 
-    /// What the parts of this kind go by.
+    /// The rule of the parts of this kind.
     pub fn rule(self) -> Rule
         ensures { result ≡ rule self }
     {

@@ -1,4 +1,4 @@
--- What follows from it that something is a run.
+-- `HasDetails` follows from `IsRun`.
 use Rattle.std.proofs.Common.{◌≡◌, ◌≢◌, ◌⊎◌, ◌<◌, ◌≤◌, ◌+◌, ℕ, Bool, true, false, List, [], length, nat_le, Option, Some, None, IfSome, inl, inr, refl, ◌∙◌, ap, subst, sym, arith, append-nil, codes, if◌then◌else◌}
 use Rattle.std.specs.Prelude.{◌↔◌, is_some}
 use Rattle.std.specs.Io.KnownBytes.{Consumes, IsAtEnd}

@@ -7,6 +7,9 @@ use Rattle.device_model.specs.declared.limits.TheConstants.{PART_LIMIT, WIRE_LIM
 use Rattle.flattener.specs.declared.flattening.TheConstants.{INSTANCE_LIMIT}
 use Rattle.clause_encoder.specs.declared.limits.TheConstants.{CLAUSE_LIMIT}
 use Rattle.branch_states.specs.declared.measuring.TheConstants.{BUDGET_LIMIT}
+use Rattle.frame_unroller.specs.declared.unrolling.TheConstants.{FRAME_LIMIT}
+use Rattle.level_lister.specs.declared.levels.TheConstants.{TOP_LIMIT}
+use Rattle.script_lang.specs.declared.limits.TheConstants.{LINE_LIMIT, COUNT_LIMIT}
 use Rattle.session_core.specs.declared.limits.TheConstants.{SESSION_LIMIT}
 use Rattle.adder_load.specs.declared.adders.TheConstants.{PLACE_LIMIT}
 use Rattle.diag_cli.specs.declared.words.TheConstants.{DEFAULT_BUDGET, DEFAULT_SESSIONS}
@@ -20,6 +23,9 @@ a_file = refl
 
 a_script : SCRIPT_LIMIT ≡ 2 ^ 40
 a_script = refl
+
+a_line_of_a_script : LINE_LIMIT ≡ 1048576
+a_line_of_a_script = refl
 
 a_short_name : SHORT_NAME_LIMIT ≡ 64
 a_short_name = refl
@@ -55,14 +61,23 @@ clauses = refl
 a_budget : BUDGET_LIMIT ≡ 8388608
 a_budget = refl
 
-the_budget_where_none_is_given : DEFAULT_BUDGET ≡ 2097152
-the_budget_where_none_is_given = refl
+the_budget_if_none_is_given : DEFAULT_BUDGET ≡ 2097152
+the_budget_if_none_is_given = refl
 
 sessions : SESSION_LIMIT ≡ 1024
 sessions = refl
 
-the_sessions_where_none_are_given : DEFAULT_SESSIONS ≡ 16
-the_sessions_where_none_are_given = refl
+the_sessions_if_none_are_given : DEFAULT_SESSIONS ≡ 16
+the_sessions_if_none_are_given = refl
+
+states_of_a_listing : COUNT_LIMIT ≡ 1000000
+states_of_a_listing = refl
+
+the_greatest_cost_that_is_listed : TOP_LIMIT ≡ 4096000
+the_greatest_cost_that_is_listed = refl
+
+times : FRAME_LIMIT ≡ 64
+times = refl
 
 places_of_an_adder : PLACE_LIMIT ≡ 800
 places_of_an_adder = refl

@@ -1,4 +1,4 @@
--- What holds of what the ends are at holds of what they show.
+-- Facts about the ends, as facts about what they show.
 use Rattle.std.proofs.Common.{◌≡◌, ℕ, List, Option, inl, inr, sym, ap, subst₂, refl}
 use Rattle.diag_edge.specs.Edge.{Reading, Writing, Holding}
 use Rattle.clause_encoder.specs.Clauses.{ClauseList}

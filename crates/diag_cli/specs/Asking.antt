@@ -1,4 +1,4 @@
--- What is asked over a graph of which no device is known.
+-- What is asked over a graph without a device.
 use Rattle.std.specs.Prelude.{ℕ, List, Result, Ok, codes}
 use Rattle.std.specs.Result.{result_and}
 use Rattle.state_rules.specs.Graphs.{Graph}

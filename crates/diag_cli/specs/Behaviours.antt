@@ -1,4 +1,4 @@
--- What a run comes to by its words and its file: an output, or a script whose lines are answered.
+-- What a run does, given its words and its file: it prints an output, or it answers the lines of a script.
 use Rattle.std.specs.Prelude.{ℕ, List, [], ◌∷◌, ◌++◌, length, Option, Some, None, Result, Ok, Err, codes, nat_le, if◌then◌else◌}
 use Rattle.std.specs.Result.{result_and}
 use Rattle.std.specs.Fmt.{decimal}

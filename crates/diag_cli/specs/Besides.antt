@@ -1,4 +1,4 @@
--- How many bits what is printed besides may take.
+-- How many bits the extras (`--levels`, `--least`) may take.
 use Rattle.std.specs.Prelude.{ℕ, Result, Ok, Err, codes, nat_lt, if◌then◌else◌}
 use Rattle.std.specs.Option.{option_map_or}
 use Rattle.state_rules.specs.declared.extras.Extras.{Extras}

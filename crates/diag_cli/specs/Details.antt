@@ -1,4 +1,4 @@
--- What follows from it that something is a run, clause by clause: a law of `laws.rt`.
+-- What follows from `IsRun`, clause by clause: a law of `laws.rt`.
 use Rattle.std.specs.Prelude.{◌≡◌, ◌≢◌, ◌⊎◌, ◌↔◌, ◌+◌, ◌<◌, ◌≤◌, ℕ, Bool, true, false, List, length, take, Option, Some, None, IfSome, nat_lt, if◌then◌else◌}
 use Rattle.std.specs.Option.{IsSome, option_map}
 use Rattle.std.specs.Io.KnownBytes.{Consumes, IsAtEnd}
@@ -41,7 +41,7 @@ whole_output (Replies answers) left = option_map (wholly_served answers) left
 abbrev pub FulfilsOutputUnlessShort : Option Form → Output → Status → Option (List ℕ) → Option (List ℕ) → Type 0
 FulfilsOutputUnlessShort form output status before after = (IsSome form × FulfilsOutput no_memory status before after) ⊎ FulfilsOutput output status before after
 
--- What holds of each run besides, by its words, over a shelf that holds this, with its input and its output.
+-- What else holds of each run, by its words, over a shelf that holds this, with its input and its output.
 pub record HasDetails (choose : ClauseList → Option Forest) (form : Option Form) (held : List ℕ → Holding) (shelf new_shelf input new_input : Reading) (out new_out : Writing) (status : Status) : Type 0 where
   -- Without a failed write the status is `ReadFailed` exactly if a read failed.
   pub read_fault : status ≢ WriteFailed → (status ≡ ReadFailed) ↔ ((shelf.faults < new_shelf.faults) ⊎ (input.faults < new_input.faults))

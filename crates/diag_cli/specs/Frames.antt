@@ -1,4 +1,4 @@
--- What a run comes to over a netlist with flip-flops and several times.
+-- What a run with `--frames` does: a netlist with flip-flops over several times.
 use Rattle.std.specs.Prelude.{ℕ, List, length, Result, Ok, Err, codes}
 use Rattle.std.specs.Result.{result_and}
 use Rattle.device_model.specs.declared.limits.TheConstants.{PART_LIMIT, WIRE_LIMIT}

@@ -1,4 +1,4 @@
-//! The services of graphs of which no device is known.
+//! The services of graphs without a device.
 ghost use Rattle.std.specs.Prelude.{◌≡◌, ◌≤◌, [], Ok, length, IfOk};
 ghost use Rattle.std.specs.Option.{option_map};
 ghost use Rattle.text_rules.specs.Expected.{Fulfils};

@@ -1,4 +1,4 @@
-//! What is printed besides, and whether it takes few bits over the graph of clauses.
+//! How many bits the extras (`--levels`, `--least`) take over the graph of clauses, and whether these are few.
 ghost use Rattle.std.specs.Prelude.{◌≡◌, ◌^◌, ◌+◌, ◌*◌, ◌<◌, ◌≤◌, ℕ, true, Ok, Some, not, ◌&&◌, is_none, length, IfOk, IfErr, IfSome};
 ghost use Rattle.text_rules.specs.Expected.{IsExpectedFault, Fulfils};
 ghost use Rattle.state_rules.specs.Graphs.{edges};
@@ -27,7 +27,7 @@ use std::alloc::Global;
 use tree_finder::Narrowed;
 
 // Lines are numbered in 32 bits.
-const LINE_LIMIT: u64 = 1 << 32;
+const NODE_LINE_LIMIT: u64 = 1 << 32;
 
 /// The graph of a device, if the sum of its clauses is within the budget and what is printed besides takes few bits.
 pub(crate) fn graph_in_few_bits(
@@ -98,13 +98,13 @@ fn check_bits(
 }
 
 // Whether the lines of the graph of the diagnoses can be numbered, if that is printed. If not, they do not fit into memory either.
-fn check_lines(graph: &Graph, parts: u32, is_told: bool) -> Result<(), Refusal>
+fn check_lines(graph: &Graph, parts: u32, with_least: bool) -> Result<(), Refusal>
     requires { parts ≤ PART_LIMIT }
-    ensures few { IfOk result (λ _. is_told ≡ true → length graph.now.nodes + edges graph.now.nodes + 2 * parts + 1 < 2 ^ 32) }
+    ensures few { IfOk result (λ _. with_least ≡ true → length graph.now.nodes + edges graph.now.nodes + 2 * parts + 1 < 2 ^ 32) }
     ensures memory { IfErr result (λ refusal. refusal ≡ Refusal.Memory) }
 {
     let others = u64::from(graph.len()) + 2 * u64::from(parts) + 1;
-    if is_told && LINE_LIMIT <= others.saturating_add(graph.edges()) {
+    if with_least && NODE_LINE_LIMIT <= others.saturating_add(graph.edges()) {
         return Err(Refusal::Memory);
     }
     Ok(())

@@ -1,4 +1,4 @@
-//! An adder that is made in memory, and what its readings come to.
+//! An adder that is made in memory, its readings and their diagnoses.
 ghost use Rattle.std.specs.Prelude.{◌≡◌, ◌⊎◌, [], ◌∷◌, ◌-◌, ◌^◌, ◌<◌, ◌≤◌, Ok, length, IfOk};
 ghost use Rattle.bench_reader.specs.Netlists.{netlist};
 ghost use Rattle.diag_edge.specs.Edge.{HasCause, RoseExactly};

@@ -114,7 +114,7 @@ impl Source for MemShelf {
         ensures cause { HasCause self.old.faults self.new.faults result }
         ensures files { self.new.files ≡ self.old.files }
 
-        // What this one does besides.
+        // What this type promises besides the trait.
         ensures fails { IsErr result ↔ IsNextFailing self.old.calls }
         ensures count { IfOk result (λ count.
             count ≡ min (length into.new) (length self.old.left)) }
@@ -153,7 +153,7 @@ impl Shelf for MemShelf {
         ensures cause { HasCause self.old.faults self.new.faults result }
         ensures files { self.new.files ≡ self.old.files }
 
-        // What this one does besides.
+        // What this type promises besides the trait.
         ensures fails { IsErr result ↔
             (IsNextFailing self.old.calls ⊎ (held_in self.old.files name.now ≡ absent)) }
         ensures empty_after_failure { OnErr result (self.new.left ≡ []) }

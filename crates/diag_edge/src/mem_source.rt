@@ -86,7 +86,7 @@ impl Source for MemSource {
             (λ _. self.new.taken ≡ self.old.taken) }
         ensures cause { HasCause self.old.faults self.new.faults result }
 
-        // What this one does besides.
+        // What this type promises besides the trait.
         ensures fails { IsErr result ↔ IsNextFailing self.old.calls }
         ensures count { IfOk result (λ count.
             count ≡ min self.old.piece (min (length into.new) (length self.old.left))) }

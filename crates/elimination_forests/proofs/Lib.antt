@@ -8,7 +8,6 @@ pub mod LevelLeads
 pub mod LevelLaws
 pub mod WayLists
 pub mod PassedClauses
-pub mod Examples
 pub mod Chains
 pub mod Lasts
 pub mod Weights

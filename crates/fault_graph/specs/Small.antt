@@ -1,4 +1,4 @@
--- A graph of which each node but the root is needed, and costs something, under evidence.
+-- A graph in which every node except the root is needed, and costs something, under evidence.
 use Rattle.std.specs.Prelude.{◌≡◌, ℕ, ◌+◌, ◌-◌, ◌<◌, ◌≤◌, false, List, length, All, Contains, IsSomeAnd, slice_index, ⊤}
 use Rattle.state_rules.specs.declared.nodes.NodeKind.{NodeKind}
 use Rattle.state_rules.specs.declared.nodes.NodeKind.TheVariants.{Literal, And, Or}

@@ -8,4 +8,3 @@ pub mod ExpandedInstances
 pub mod Totals
 pub mod Arities
 pub mod Built
-mod Examples

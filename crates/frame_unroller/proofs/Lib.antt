@@ -9,4 +9,3 @@ pub mod CopyClauses
 pub mod TimeCopies
 pub mod ClauseCounts
 pub mod UnrollRefusals
-mod Examples

@@ -1,4 +1,4 @@
-//! Tables are copied in a file of few imports: the prover is slow with it among many.
+//! Copies tables. It is a file of its own because the prover is slow with many imports.
 ghost use Rattle.std.specs.Prelude.{◌≡◌, IfOk};
 
 use device_model::Table;

@@ -1,4 +1,3 @@
-mod Examples
 pub mod SetBits
 pub mod Sums
 pub mod PartVariables

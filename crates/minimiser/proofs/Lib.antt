@@ -9,4 +9,3 @@ pub mod Derivations
 pub mod Valued
 pub mod SpreadMarks
 pub mod OutsideCosts
-mod Examples

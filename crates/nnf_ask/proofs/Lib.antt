@@ -1,4 +1,3 @@
 pub mod FiveDigits
 pub mod VariableNames
 pub mod Law
-mod Examples

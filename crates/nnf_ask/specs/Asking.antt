@@ -1,4 +1,4 @@
--- Questions to a graph of which no device is known. Its first variables are parts, true if the part is ok, and all others are
+-- Questions to a graph without a device. Its first variables are parts, true if the part is ok, and all others are
 -- wires. Every failure costs 1.
 use Rattle.std.specs.Prelude.{ℕ, ◌+◌, ◌-◌, ◌/◌, ◌%◌, List, [], ◌∷◌, map, Option, Some, None, Result, Ok, Err, nat_lt, if◌then◌else◌}
 use Rattle.std.specs.List.{range_with_len}

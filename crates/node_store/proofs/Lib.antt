@@ -1,4 +1,3 @@
-mod Examples
 pub mod Zipped
 pub mod NodeMeaning
 pub mod EqualNodes

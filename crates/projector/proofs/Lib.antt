@@ -1,4 +1,3 @@
-mod Examples
 mod HeldLiterals
 mod Lines
 mod Literals

@@ -1,4 +1,4 @@
-//! Requests that leave every session as it is.
+//! Dispatches requests that change no session.
 ghost use Rattle.std.specs.Prelude.{◌≡◌, ◌∷◌, [], codes, true};
 ghost use Rattle.diag_edge.specs.Edge.{HasCause};
 ghost use Rattle.script_lang.specs.Script.{question_of, Tell, Dnnf, LeastNnf};

@@ -1,4 +1,4 @@
-//! What is answered of a case that stays as it is.
+//! The replies to `min`, `probe`, `probes` and `blame`.
 ghost use Rattle.std.specs.Prelude.{◌≡◌, ◌<◌, ◌++◌, ◌∷◌, [], map};
 ghost use Rattle.diag_edge.specs.Edge.{HasCause};
 ghost use Rattle.script_lang.specs.Script.{question_of, Probe};

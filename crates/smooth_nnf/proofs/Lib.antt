@@ -1,4 +1,3 @@
-mod Examples
 pub mod LaterLines
 pub mod Fillers
 pub mod DrawnMeaning

@@ -1,5 +1,3 @@
-mod RankingExamples
-mod GraphExamples
 pub mod Values
 pub mod Lists
 pub mod Bits

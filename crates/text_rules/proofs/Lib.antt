@@ -4,4 +4,3 @@ pub mod TokenLemmas
 pub mod NameLemmas
 pub mod NumberLemmas
 pub mod SpacedLines
-mod Examples

@@ -1,4 +1,4 @@
--- What is thought of the parts before those are asked for that are faulty in the first diagnosis.
+-- A first guess at the verdicts, before the parts are asked for that are faulty in the first diagnosis.
 use Rattle.std.specs.Prelude.{◌≡◌, ℕ, zero, suc, ◌==◌, List, ◌⊎◌, Some, slice_get, if◌then◌else◌}
 use Rattle.state_rules.specs.Graphs.{Graph}
 use Rattle.minimiser.specs.LeastStates.{Suspect}

@@ -1,5 +1,6 @@
 -- What is asked has names that are names, and a count in its range.
-use Rattle.std.proofs.Common.{◌≡◌, ℕ, Bool, true, false, cond, ◌&&◌, List, [], ◌∷◌, length, Option, Some, None, refl, inl, inr}
+use Rattle.std.proofs.lemmas.Bool.Decides.{nat_tests}
+use Rattle.std.proofs.Common.{◌≡◌, ℕ, Bool, true, false, cond, ◌&&◌, List, [], ◌∷◌, length, Option, Some, None, refl, inl, inr, arith}
 use Rattle.std.specs.Prelude.{nat_le, nat_lt, if◌then◌else◌}
 use Rattle.std.specs.List.{list_all}
 use Rattle.std.proofs.lemmas.Bool.{and_parts, and_from, cases_Bool}
@@ -13,68 +14,41 @@ use Rattle.script_lang.specs.declared.refusal.LineRefusal.TheVariants.{TooLong}
 use Rattle.script_lang.specs.Script.{Request, After, Line, Blank, Refused, is_script_name, on_session, on_name, on_value, on_pair, if_value, on_count, if_count, on_names, at_equals, value_in, read_by, read_as, commands, begins_comment, line_of_words, line_of}
 
 choice : (test : Bool) (one other : Line) → (test ≡ true → is_well_asked one ≡ true) → is_well_asked other ≡ true → is_well_asked (if test then one else other) ≡ true
-choice true one other first second = first refl
-choice false one other first second = second
+choice test one other first second = grind arith
 
 well-on_session : (request : Request) → is_well_named request ≡ true → (ws : List (List ℕ)) → is_well_asked (on_session request ws) ≡ true
-well-on_session request well [] = refl
-well-on_session request well (s ∷ []) = choice (is_short_name s) _ _ (λ named. and_from _ _ named well) refl
-well-on_session request well (s ∷ t ∷ ws) = refl
+well-on_session request well x = grind arith
 
 well-on_name : (request : Name → Request) → ((name : Name) → is_script_name name ≡ true → is_well_named (request name) ≡ true) → (ws : List (List ℕ)) → is_well_asked (on_name request ws) ≡ true
-well-on_name request well [] = refl
-well-on_name request well (s ∷ []) = refl
-well-on_name request well (s ∷ name ∷ []) =
-    choice (is_short_name s && is_script_name name) _ _
-    (λ named. let parts = and_parts (is_short_name s) (is_script_name name) named in and_from _ _ parts.0 (well name parts.1))
-    refl
-well-on_name request well (s ∷ name ∷ t ∷ ws) = refl
+well-on_name request well ws = grind (arith, choice)
 
 well-if_value : (s : Name) (request : Bool → Request) → is_short_name s ≡ true → ((value : Bool) → is_well_named (request value) ≡ true) → (value : Option Bool) → is_well_asked (if_value s request value) ≡ true
-well-if_value s request named well None = refl
-well-if_value s request named well (Some value) = and_from _ _ named (well value)
+well-if_value s request named well x = grind arith
 
 well-on_pair : (one other : List ℕ) (request : Name → Bool → Request) → ((name : Name) (value : Bool) → is_script_name name ≡ true → is_well_named (request name value) ≡ true) → (s : Name) (pair : Option (List ℕ × List ℕ)) → is_well_asked (on_pair one other request s pair) ≡ true
-well-on_pair one other request well s None = refl
-well-on_pair one other request well s (Some pair) =
-    choice (is_short_name s && is_script_name pair.0) _ _
-    (λ named. let parts = and_parts (is_short_name s) (is_script_name pair.0) named in
-    well-if_value s (request pair.0) parts.0 (λ value. well pair.0 value parts.1) (value_in one other pair.1))
-    refl
+well-on_pair one other request well s s2 = grind (arith, nat_tests)
 
 well-on_value : (one other : List ℕ) (request : Name → Bool → Request) → ((name : Name) (value : Bool) → is_script_name name ≡ true → is_well_named (request name value) ≡ true) → (ws : List (List ℕ)) → is_well_asked (on_value one other request ws) ≡ true
-well-on_value one other request well [] = refl
-well-on_value one other request well (s ∷ []) = refl
-well-on_value one other request well (s ∷ pair ∷ []) = well-on_pair one other request well s (at_equals pair)
-well-on_value one other request well (s ∷ pair ∷ t ∷ ws) = refl
+well-on_value one other request well value = grind (arith, well-on_pair)
 
 -- a number that is read lies in its range
 abbrev IsCounted : (ℕ → Request) → Type 0
 IsCounted request = (n : ℕ) → (nat_le 1 n && nat_le n COUNT_LIMIT) ≡ true → is_well_named (request n) ≡ true
 
 chosen : (request : ℕ → Request) (test : Bool) (n : ℕ) (s : Name) → is_short_name s ≡ true → (test ≡ true → is_well_named (request n) ≡ true) → is_well_asked (if_count s request (if test then Some n else None)) ≡ true
-chosen request true n s named well = and_from _ _ named (well refl)
-chosen request false n s named well = refl
+chosen request test n s named well = grind arith
 
 in_range : (request : ℕ → Request) → IsCounted request → (word : List ℕ) (s : Name) → is_short_name s ≡ true → is_well_asked (if_count s request (number_in 7 1 COUNT_LIMIT word)) ≡ true
-in_range request well word s named = elim (cases_Bool (are_digits 7 word)) [
-  | inl digits ↦ rw (digits, number_in) (chosen request (nat_le 1 (value_behind 0 word) && nat_le (value_behind 0 word) COUNT_LIMIT) (value_behind 0 word) s named (well (value_behind 0 word)))
-  | inr other ↦ rw (other, number_in)
-]
+in_range request well word s named = grind arith
 
 well-count : (request : ℕ → Request) → IsCounted request → (zero_first : Bool) (word : List ℕ) (s : Name) → is_short_name s ≡ true → is_well_asked (if_count s request (if zero_first then None else number_in 7 1 COUNT_LIMIT word)) ≡ true
-well-count request well true word s named = refl
-well-count request well false word s named = in_range request well word s named
+well-count request well word s x named = grind arith
 
 well-on_count : (request : ℕ → Request) → IsCounted request → (ws : List (List ℕ)) → is_well_asked (on_count request ws) ≡ true
-well-on_count request well [] = refl
-well-on_count request well (s ∷ []) = refl
-well-on_count request well (s ∷ count ∷ []) = choice (is_short_name s) _ _ (λ named. well-count request well (has_leading_zero count) count s named) refl
-well-on_count request well (s ∷ count ∷ t ∷ ws) = refl
+well-on_count request well x = grind (arith, choice, well-count)
 
 well-on_names : (ws : List (List ℕ)) → is_well_asked (on_names After ws) ≡ true
-well-on_names [] = refl
-well-on_names (s ∷ names) = choice (is_short_name s && list_all is_script_name names) _ _ (λ named. named) refl
+well-on_names ws = grind arith
 
 -- each command reads well
 abbrev AllRead : List (List ℕ) → List (List ℕ × (List (List ℕ) → Line)) → Type 0
@@ -84,12 +58,7 @@ AllRead ws (command ∷ rest) = (is_well_asked (command.1 ws) ≡ true) × AllRe
 well-read_by : (word : List ℕ) (ws : List (List ℕ)) (known : List (List ℕ × (List (List ℕ) → Line))) → AllRead ws known
     → is_well_asked (read_by (lookup (same_name word) known) ws) ≡ true
 well-read_by word ws [] all = refl
-well-read_by word ws (command ∷ rest) all = by (same_name word command.0) (well-read_by word ws rest all.1)
-  where
-    by : (b : Bool) → is_well_asked (read_by (lookup (same_name word) rest) ws) ≡ true
-        → is_well_asked (read_by (cond b (Some command.1) (lookup (same_name word) rest)) ws) ≡ true
-    by true later = all.0
-    by false later = later
+well-read_by word ws (command ∷ rest) all = grind (arith, well-read_by word ws rest all.1)
 
 each_command : (ws : List (List ℕ)) → AllRead ws commands
 each_command ws = search (well-on_session, well-on_name, well-on_value, well-on_count, well-on_names)
@@ -100,4 +69,4 @@ well-line_of_words (word ∷ ws) = choice (begins_comment word) Blank (read_as w
 
 -- what a line asks has names that are names, and a count from 1 to a million
 pub well_asked : (line : List ℕ) → is_well_asked (line_of line) ≡ true
-well_asked line = choice (nat_lt LINE_LIMIT (length line)) (Refused TooLong) (line_of_words (words line)) (λ _. refl) (well-line_of_words (words line))
+well_asked line = grind (arith, well-line_of_words)

@@ -1,17 +1,13 @@
 -- What is asked has names that are names, and a count in its range.
 use Rattle.std.proofs.lemmas.Bool.Decides.{nat_tests}
-use Rattle.std.proofs.Common.{◌≡◌, ℕ, Bool, true, false, cond, ◌&&◌, List, [], ◌∷◌, length, Option, Some, None, refl, inl, inr, arith}
-use Rattle.std.specs.Prelude.{nat_le, nat_lt, if◌then◌else◌}
-use Rattle.std.specs.List.{list_all}
-use Rattle.std.proofs.lemmas.Bool.{and_parts, and_from, cases_Bool}
+use Rattle.std.proofs.Common.{◌≡◌, ℕ, Bool, true, ◌&&◌, List, [], ◌∷◌, Option, Some, None, refl, arith}
+use Rattle.std.specs.Prelude.{nat_le, if◌then◌else◌}
 use Rattle.std.specs.Map.{lookup}
 use Rattle.text_rules.specs.Names.{Name, same_name, is_short_name}
-use Rattle.text_rules.specs.Tokens.{words}
-use Rattle.text_rules.specs.Numbers.{number_in, value_behind, are_digits, has_leading_zero}
-use Rattle.script_lang.specs.declared.limits.TheConstants.{COUNT_LIMIT, LINE_LIMIT}
+use Rattle.text_rules.specs.Numbers.{number_in}
+use Rattle.script_lang.specs.declared.limits.TheConstants.{COUNT_LIMIT}
 use Rattle.script_lang.proofs.Asked.{is_well_named, is_well_asked}
-use Rattle.script_lang.specs.declared.refusal.LineRefusal.TheVariants.{TooLong}
-use Rattle.script_lang.specs.Script.{Request, After, Line, Blank, Refused, is_script_name, on_session, on_name, on_value, on_pair, if_value, on_count, if_count, on_names, at_equals, value_in, read_by, read_as, commands, begins_comment, line_of_words, line_of}
+use Rattle.script_lang.specs.Script.{Request, After, Line, Blank, is_script_name, on_session, on_name, on_value, on_pair, on_count, if_count, on_names, read_by, read_as, commands, begins_comment, line_of_words, line_of}
 
 choice : (test : Bool) (one other : Line) → (test ≡ true → is_well_asked one ≡ true) → is_well_asked other ≡ true → is_well_asked (if test then one else other) ≡ true
 choice test one other first second = grind arith
@@ -21,9 +17,6 @@ well-on_session request well x = grind arith
 
 well-on_name : (request : Name → Request) → ((name : Name) → is_script_name name ≡ true → is_well_named (request name) ≡ true) → (ws : List (List ℕ)) → is_well_asked (on_name request ws) ≡ true
 well-on_name request well ws = grind (arith, choice)
-
-well-if_value : (s : Name) (request : Bool → Request) → is_short_name s ≡ true → ((value : Bool) → is_well_named (request value) ≡ true) → (value : Option Bool) → is_well_asked (if_value s request value) ≡ true
-well-if_value s request named well x = grind arith
 
 well-on_pair : (one other : List ℕ) (request : Name → Bool → Request) → ((name : Name) (value : Bool) → is_script_name name ≡ true → is_well_named (request name value) ≡ true) → (s : Name) (pair : Option (List ℕ × List ℕ)) → is_well_asked (on_pair one other request s pair) ≡ true
 well-on_pair one other request well s s2 = grind (arith, nat_tests)

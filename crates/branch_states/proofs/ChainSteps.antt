@@ -3,7 +3,7 @@ use Rattle.std.proofs.Common.{◌≡◌, ℕ, zero, suc, ◌+◌, List, [], ◌�
 use mir.Val.{bool_byte}
 use Rattle.std.specs.Prelude.{nat_lt}
 use Rattle.std.specs.List.{range_with_len}
-use Rattle.std.proofs.lemmas.Bool.{cases_lt, lt-ltb, le-ltb}
+use Rattle.std.proofs.lemmas.Bool.{cases_lt, lt-ltb}
 use Rattle.std.proofs.lemmas.List.{drop_more, drop_all, append-nil, map-append}
 use Rattle.state_rules.proofs.Lists.{range_more}
 use Rattle.elimination_forests.specs.declared.steps.Step.{Step}
@@ -13,7 +13,7 @@ use Rattle.elimination_forests.specs.Forests.{trees, steps_of, chain}
 pub trees_are : (vs : List ℕ) (i : ℕ) → bool_byte (nat_lt (i + 1) (length vs)) ≡ trees (chain (drop (i + 1) vs))
 trees_are vs i = elim (cases_lt (i + 1) (length vs)) [
   | inl low ↦ ap bool_byte (lt-ltb (i + 1) (length vs) low) ∙ sym (ap (λ us. trees (chain us)) (drop_more vs (i + 1) 0 low))
-  | inr high ↦ ap bool_byte (le-ltb (i + 1) (length vs) high) ∙ sym (ap (λ us. trees (chain us)) (drop_all (i + 1) vs high))
+  | inr high ↦ grind (arith, drop_all)
 ]
 
 abbrev pub chain_step : List ℕ → ℕ → Step
@@ -21,15 +21,11 @@ chain_step vs i = record { var = get_or vs i 0; trees = trees (chain (drop (i + 
 
 steps_along : (vs : List ℕ) (n i : ℕ) → i + n ≡ length vs → steps_of (chain (drop i vs)) ≡ map (chain_step vs) (range_with_len i n)
 steps_along vs zero i e = ap (λ us. steps_of (chain us)) (drop_all i vs (omega arith))
-steps_along vs (suc n) i e =
-    ap (λ us. steps_of (chain us)) (drop_more vs i 0 (omega arith))
-    ∙ ap (λ ss. chain_step vs i ∷ ss) (append-nil (steps_of (chain (drop (i + 1) vs))) ∙ steps_along vs n (i + 1) (omega arith))
+steps_along vs (suc n) i e = grind (arith, drop_more, append-nil, steps_along vs n (i + 1))
 
 pub chain_steps : (vs : List ℕ) → steps_of (chain vs) ≡ map (chain_step vs) (range_with_len 0 (length vs))
 chain_steps vs = steps_along vs (length vs) 0 (omega arith)
 
 -- one more item along a range
 pub range_next : {X : Type 0} (f : ℕ → X) (k : ℕ) (xs : List X) (x : X) → xs ≡ map f (range_with_len 0 k) → x ≡ f k → xs ++ x ∷ [] ≡ map f (range_with_len 0 (k + 1))
-range_next f k xs x e g =
-    let at : 0 + k ≡ k = omega arith in
-    (λ j. e j ++ g j ∷ []) ∙ sym (ap (map f) (range_more 0 k) ∙ map-append f (range_with_len 0 k) ((0 + k) ∷ []) ∙ ap (λ n. map f (range_with_len 0 k) ++ f n ∷ []) at)
+range_next f k xs x e g = grind (arith, range_more, map-append)

@@ -2,8 +2,8 @@
 use Rattle.std.proofs.Common.{◌≡◌, ℕ, zero, suc, ◌+◌, ◌<◌, ◌≤◌, Bool, true, false, not, ◌&&◌, ◌||◌, cond, List, [], ◌∷◌, ◌++◌, length, take, get_or, refl, ap, sym, ◌∙◌, arith}
 use mir.Val.{bool_byte}
 use Rattle.std.specs.List.{filter}
-use Rattle.std.proofs.Math.Bool.{or-false, or_assoc}
-use Rattle.std.proofs.lemmas.Bool.{false≢true, and_from, and_parts, and_right, or_left, or_right, or_from, not-true}
+use Rattle.std.proofs.Math.Bool.{or-false}
+use Rattle.std.proofs.lemmas.Bool.{false≢true}
 use Rattle.std.proofs.lemmas.List.{append-nil, length-take-le, take_all}
 use Rattle.std.proofs.lemmas.List.Filters.{length-filter_more}
 use Rattle.state_rules.specs.Bits.{bit_in}
@@ -18,29 +18,21 @@ some-more : (test : Clause → Bool) (cs : List Clause) (list : List Bool) (k : 
 some-more test [] list k h e = absurd (omega arith)
 some-more test (c ∷ cs) [] k h e = absurd (omega arith)
 some-more test (c ∷ cs) (b ∷ list) zero h e = or-false (b && test c)
-some-more test (c ∷ cs) (b ∷ list) (suc k) h e =
-    ap (λ t. (b && test c) || t) (some-more test cs list k (omega arith) (omega arith)) ∙ sym (or_assoc (b && test c) (some_passes test (take k cs) list) (get_or list k false && test (get_or cs k [])))
+some-more test (c ∷ cs) (b ∷ list) (suc k) h e = grind (arith, some-more test cs list k)
 
 bits-more : (test : Clause → Bool) (cs : List Clause) (list : List Bool) (k : ℕ) → k < length cs → length list ≡ length cs
     → bits_of test (take (suc k) cs) list ≡ bits_of test (take k cs) list ++ cond (test (get_or cs k [])) (get_or list k false ∷ []) []
 bits-more test [] list k h e = absurd (omega arith)
 bits-more test (c ∷ cs) [] k h e = absurd (omega arith)
 bits-more test (c ∷ cs) (b ∷ list) zero h e = refl
-bits-more test (c ∷ cs) (b ∷ list) (suc k) h e = by_test (test c) (bits-more test cs list k (omega arith) (omega arith)) where
-  last : List Bool
-  last = cond (test (get_or cs k [])) (get_or list k false ∷ []) []
-
-  by_test : (t : Bool) → bits_of test (take (suc k) cs) list ≡ bits_of test (take k cs) list ++ last
-      → cond t (b ∷ bits_of test (take (suc k) cs) list) (bits_of test (take (suc k) cs) list) ≡ cond t (b ∷ bits_of test (take k cs) list) (bits_of test (take k cs) list) ++ last
-  by_test true rest = ap (λ bits. b ∷ bits) rest
-  by_test false rest = rest
+bits-more test (c ∷ cs) (b ∷ list) (suc k) h e = grind (arith, bits-more test cs list k)
 
 -- what comes later does not bring a list back
 some-whole : (test : Clause → Bool) (cs : List Clause) (list : List Bool) (k : ℕ) → k < length cs → test (get_or cs k []) ≡ true → get_or list k false ≡ true → some_passes test cs list ≡ true
 some-whole test [] list k h e f = absurd (omega arith)
 some-whole test (c ∷ cs) [] k h e f = absurd (false≢true f)
-some-whole test (c ∷ cs) (b ∷ list) zero h e f = or_left (b && test c) (some_passes test cs list) (and_from b (test c) f e)
-some-whole test (c ∷ cs) (b ∷ list) (suc k) h e f = or_right (b && test c) (some_passes test cs list) (some-whole test cs list k (omega arith) e f)
+some-whole test (c ∷ cs) (b ∷ list) zero h e f = grind arith
+some-whole test (c ∷ cs) (b ∷ list) (suc k) h e f = grind (arith, some-whole test cs list k)
 
 length-without : (test : Clause → Bool) (cs : List Clause) (list : List Bool) → length list ≡ length cs → length (without test cs list) ≡ length cs
 length-without test [] list e = refl
@@ -59,41 +51,22 @@ in-list : (vs : List ℕ) (i : ℕ) (cs : List Clause) (list : List Bool) (k : �
     → (not (is_covered vs i (get_or cs k [])) && (not (is_touched vs i (get_or cs k [])) || bit_in (bits_of (is_open vs i) cs list) (length (filter (is_open vs i) (take k cs))))) ≡ get_or list k false
 in-list vs i [] list k h low = absurd (omega arith)
 in-list vs i (c ∷ cs) [] k h low = absurd h
-in-list vs i (c ∷ cs) (b ∷ list) zero h low = by_test (is_touched vs i c) (is_covered vs i c) refl refl where
-  by_test : (t u : Bool) → is_touched vs i c ≡ t → is_covered vs i c ≡ u
-      → (not u && (not t || bit_in (cond (t && not u) (b ∷ bits_of (is_open vs i) cs list) (bits_of (is_open vs i) cs list)) 0)) ≡ b
-  by_test true true e f = sym (h.1 f)
-  by_test true false e f = refl
-  by_test false true e f = sym (h.1 f)
-  by_test false false e f = sym (h.0 e)
-in-list vs i (c ∷ cs) (b ∷ list) (suc k) h low =
-    ap (λ t. not (is_covered vs i (get_or cs k [])) && (not (is_touched vs i (get_or cs k [])) || t)) (by_test (is_open vs i c)) ∙ in-list vs i cs list k h.2 (omega arith)
-  where
-    bits : List Bool
-    bits = bits_of (is_open vs i) cs list
-
-    by_test : (t : Bool) → bit_in (cond t (b ∷ bits) bits) (length (cond t (c ∷ filter (is_open vs i) (take k cs)) (filter (is_open vs i) (take k cs)))) ≡ bit_in bits (length (filter (is_open vs i) (take k cs)))
-    by_test true = refl
-    by_test false = refl
+in-list vs i (c ∷ cs) (b ∷ list) zero h low = grind arith
+in-list vs i (c ∷ cs) (b ∷ list) (suc k) h low = grind (arith, in-list vs i cs list k h.2)
 
 -- there is room for what is read and written
 pub filter-room : (test : Clause → Bool) (cs : List Clause) (k : ℕ) → k < length cs → test (get_or cs k []) ≡ true → length (filter test (take k cs)) < length (filter test cs)
 filter-room test [] k h e = absurd (omega arith)
 filter-room test (c ∷ cs) zero h e = omega (arith, ap (λ t. length (cond t (c ∷ filter test cs) (filter test cs))) e)
-filter-room test (c ∷ cs) (suc k) h e = by_test (test c) (filter-room test cs k (omega arith) e) where
-  by_test : (t : Bool) → length (filter test (take k cs)) < length (filter test cs)
-      → length (cond t (c ∷ filter test (take k cs)) (filter test (take k cs))) < length (cond t (c ∷ filter test cs) (filter test cs))
-  by_test true rest = omega arith
-  by_test false rest = rest
+filter-room test (c ∷ cs) (suc k) h e = grind (arith, filter-room test cs k)
 
 byte-one : (b : Bool) → bool_byte b ≡ cond {A = ℕ} b 1 0
-byte-one true = refl
-byte-one false = refl
+byte-one b = grind arith
 
 -- what is counted with one clause more
 pub count-more : (test : Clause → Bool) (cs : List Clause) (k count r : ℕ) (b : Bool) → k < length cs → count ≡ length (filter test (take k cs)) → r ≡ bool_byte b → b ≡ test (get_or cs k [])
     → count + r ≡ length (filter test (take (k + 1) cs))
-count-more test cs k count r b low e is t = (λ j. e j + (is ∙ byte-one b ∙ ap (λ t. cond {A = ℕ} t 1 0) t) j) ∙ sym (length-filter_more test cs k [] low)
+count-more test cs k count r b low e is t = grind (arith, byte-one, length-filter_more)
 
 -- ---- what a step has done with the first so many clauses
 
@@ -120,21 +93,15 @@ pub left-at : (cs : List Clause) (vs : List ℕ) (i v : ℕ) (bit : Bool) (state
     → k < length cs → vs ≡ order cs → d ≡ get_or cs k [] → v ≡ get_or (order cs) i 0 → length state ≡ size cs i → read ≡ length (filter (is_open (order cs) i) (take k cs))
     → ((bits : List Bool) → state ≡ words_of (length state) bits → was_in ≡ (not (is_covered vs i d) && (not (is_touched vs i d) || bit_in bits read)))
     → left ≡ (was_in && not (has_true v bit d)) → IsLeft cs i bit state k left
-left-at cs vs i v bit state k read d was_in left low ordered e is many reads was rest list lives s =
-    rest
-    ∙ (λ j. (was bits (s ∙ ap (λ n. words_of n bits) (sym many)) ∙ (λ m. not (is_covered (ordered m) i (e m)) && (not (is_touched (ordered m) i (e m)) || bit_in bits (reads m))) ∙ in-list (order cs) i cs list k (known cs i list lives) low) j && not (has_true (is j) bit (e j)))
-    ∙ sym (without-at (has_true (get_or (order cs) i 0) bit) cs list k low (long cs i list lives))
-  where
-    bits : List Bool
-    bits = bits_of (is_open (order cs) i) cs list
+left-at cs vs i v bit state k read d was_in left low ordered e is many reads was rest list lives s = grind (arith, in-list, known, without-at, long)
 
 pub stepped-none : (cs : List Clause) (i : ℕ) (bit : Bool) (state next : List ℕ) → next ≡ words_of (length next) [] → IsStepped cs i bit state next 0 0 0
-stepped-none cs i bit state next e = record { reads = refl; writes = refl; told = λ list lives s. record { alive = refl; words = e } }
+stepped-none cs i bit state next e = grind arith
 
 -- a clause that is covered and left: the list is dead
 pub stepped-dead : (cs : List Clause) (i : ℕ) (bit : Bool) (state : List ℕ) (k : ℕ) (left : Bool) → k < length cs → IsLeft cs i bit state k left → left ≡ true → is_covered (order cs) (i + 1) (get_or cs k []) ≡ true
     → (list : List Bool) → IsLiving cs i list → state ≡ state_of cs i list → is_dead cs (i + 1) (branch cs i list bit) ≡ true
-stepped-dead cs i bit state k left low is e c list lives s = some-whole (is_covered (order cs) (i + 1)) cs (branch cs i list bit) k low c (sym (is list lives s) ∙ e)
+stepped-dead cs i bit state k left low is e c list lives s = grind (arith, some-whole)
 
 module _ (cs : List Clause) (i : ℕ) (bit : Bool) (state next : List ℕ) (k read written more : ℕ) (left : Bool) (low : k < length cs) (is : IsLeft cs i bit state k left) (h : IsStepped cs i bit state next k read written)
     (reads : more ≡ length (filter (is_open (order cs) i) (take (k + 1) cs))) where
@@ -146,18 +113,11 @@ module _ (cs : List Clause) (i : ℕ) (bit : Bool) (state next : List ℕ) (k re
 
   alive-more : (list : List Bool) → IsLiving cs i list → state ≡ state_of cs i list → (left && is_covered (order cs) (i + 1) here) ≡ false
       → some_passes (is_covered (order cs) (i + 1)) (take (k + 1) cs) (branch cs i list bit) ≡ false
-  alive-more list lives s e =
-      ap (λ n. some_passes (is_covered (order cs) (i + 1)) (take n cs) (branch cs i list bit)) (sym one)
-      ∙ some-more (is_covered (order cs) (i + 1)) cs (branch cs i list bit) k low (long-branch cs i list bit lives)
-      ∙ or_from (some_passes (is_covered (order cs) (i + 1)) (take k cs) (branch cs i list bit)) (get_or (branch cs i list bit) k false && is_covered (order cs) (i + 1) here)
-      (h.told list lives s).alive (ap (λ t. t && is_covered (order cs) (i + 1) here) (sym (is list lives s)) ∙ e)
+  alive-more list lives s e = grind (arith, some-more, long-branch)
 
   bits-next : (list : List Bool) → IsLiving cs i list → (t : Bool) → is_open (order cs) (i + 1) here ≡ t
       → bits_of (is_open (order cs) (i + 1)) (take (k + 1) cs) (branch cs i list bit) ≡ bits_of (is_open (order cs) (i + 1)) (take k cs) (branch cs i list bit) ++ cond t (get_or (branch cs i list bit) k false ∷ []) []
-  bits-next list lives t e =
-      ap (λ n. bits_of (is_open (order cs) (i + 1)) (take n cs) (branch cs i list bit)) (sym one)
-      ∙ bits-more (is_open (order cs) (i + 1)) cs (branch cs i list bit) k low (long-branch cs i list bit lives)
-      ∙ ap (λ t. bits_of (is_open (order cs) (i + 1)) (take k cs) (branch cs i list bit) ++ cond t (get_or (branch cs i list bit) k false ∷ []) []) e
+  bits-next list lives t e = grind (arith, bits-more, long-branch)
 
   writes-more : (t : Bool) → is_open (order cs) (i + 1) here ≡ t → written + cond {A = ℕ} t 1 0 ≡ length (filter (is_open (order cs) (i + 1)) (take (k + 1) cs))
   writes-more t e = (λ j. h.writes j + cond {A = ℕ} (sym e j) 1 0) ∙ sym (length-filter_more (is_open (order cs) (i + 1)) cs k [] low)
@@ -170,10 +130,10 @@ module _ (cs : List Clause) (i : ℕ) (bit : Bool) (state next : List ℕ) (k re
     reads = reads;
     writes = writes-more true e;
     told = λ list lives s. record {
-      alive = alive-more list lives s (and_right left (is_covered (order cs) (i + 1) here) (not-true (is_covered (order cs) (i + 1) here) (and_parts (is_touched (order cs) (i + 1) here) (not (is_covered (order cs) (i + 1) here)) e).1));
+      alive = grind (arith, alive-more);
       words =
           put (bits_of (is_open (order cs) (i + 1)) (take k cs) (branch cs i list bit))
-          (length-bits_of (is_open (order cs) (i + 1)) (take k cs) (branch cs i list bit) (omega (arith, long-branch cs i list bit lives, length-take-le k cs (omega arith))) ∙ sym h.writes)
+          (grind (arith, length-bits_of, long-branch, length-take-le))
           (h.told list lives s).words
           ∙ (λ j. words_of (sym same j) (bits_of (is_open (order cs) (i + 1)) (take k cs) (branch cs i list bit) ++ is list lives s j ∷ []))
           ∙ ap (words_of (length after)) (sym (bits-next list lives true e));
@@ -187,14 +147,11 @@ module _ (cs : List Clause) (i : ℕ) (bit : Bool) (state next : List ℕ) (k re
     writes = omega (arith, writes-more false e);
     told = λ list lives s. record {
       alive = alive-more list lives s rest;
-      words = (h.told list lives s).words ∙ ap (words_of (length next)) (sym (append-nil (bits_of (is_open (order cs) (i + 1)) (take k cs) (branch cs i list bit))) ∙ sym (bits-next list lives false e));
+      words = (h.told list lives s).words ∙ ap (words_of (length next)) (sym (grind (arith, append-nil)) ∙ sym (bits-next list lives false e));
     };
   }
 
 -- all clauses
 pub stepped-all : (cs : List Clause) (i : ℕ) (bit : Bool) (state next : List ℕ) (k read written : ℕ) → length cs ≤ k → IsStepped cs i bit state next k read written
     → (list : List Bool) → IsLiving cs i list → state ≡ state_of cs i list → (is_dead cs (i + 1) (branch cs i list bit) ≡ false) × (next ≡ words_of (length next) (bits_of (is_open (order cs) (i + 1)) cs (branch cs i list bit)))
-stepped-all cs i bit state next k read written all h list lives s = (
-  ap (λ ds. some_passes (is_covered (order cs) (i + 1)) ds (branch cs i list bit)) (sym (take_all k cs all)) ∙ (h.told list lives s).alive,
-  (h.told list lives s).words ∙ ap (λ ds. words_of (length next) (bits_of (is_open (order cs) (i + 1)) ds (branch cs i list bit))) (take_all k cs all),
-)
+stepped-all cs i bit state next k read written all h list lives s = grind (arith, take_all)

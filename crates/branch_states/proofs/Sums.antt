@@ -1,5 +1,5 @@
 -- The sum of the levels, by that along the forest that is their order.
-use Rattle.std.proofs.Common.{◌≡◌, ℕ, ◌+◌, ◌<◌, ◌≤◌, Bool, true, List, ◌∙◌, arith}
+use Rattle.std.proofs.Common.{◌≡◌, ℕ, ◌+◌, ◌<◌, ◌≤◌, Bool, true, List, arith}
 use Rattle.std.specs.Prelude.{if◌then◌else◌}
 use Rattle.clause_encoder.specs.Clauses.{ClauseList, is_clause_list}
 use Rattle.elimination_forests.specs.Branches.{order, sum_of}
@@ -20,10 +20,7 @@ module _ (cnf : ClauseList) (valid : is_clause_list cnf ≡ true) where
       → ((forest : Forest) → steps ≡ steps_of forest → is_forest_of forest cnf ≡ true → sum ≡ forest_sum Words forest cnf.clauses)
       → ((forest : Forest) → steps ≡ steps_of forest → is_forest_of forest cnf ≡ true → leads ≡ leads_on (forks_on forest (root cnf.clauses)))
       → sum + (if leads then 1 else 0) ≡ 1 + sum_of cnf.clauses
-  whole-sum steps sum leads e s l =
-      let forest = chain (order cnf.clauses) in
-      let is = chain-forest cnf valid in
-      (λ j. s forest e is j + (if l forest e is j then 1 else 0)) ∙ chain-last cnf valid
+  whole-sum steps sum leads e s l = grind (arith, chain-forest, chain-last)
 
   pub above-sum : (top : ℕ) → top + 1 < its_sum → top < sum_of cnf.clauses
   above-sum top h = omega (arith, h, chain-last cnf valid)

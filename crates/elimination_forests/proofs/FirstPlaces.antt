@@ -1,5 +1,5 @@
 -- The place at which something is found in a list.
-use Rattle.std.proofs.Common.{◌≡◌, ℕ, zero, suc, ◌≤◌, Bool, true, false, cond, List, [], ◌∷◌, ◌++◌, length, take, Some, None, ap, ◌∙◌, arith}
+use Rattle.std.proofs.Common.{◌≡◌, ℕ, zero, suc, ◌≤◌, Bool, true, false, List, [], ◌∷◌, ◌++◌, length, take, Some, None, arith}
 use Rattle.std.specs.Prelude.{nat_lt, position}
 use Rattle.std.specs.List.{list_any, position_or_len}
 use Rattle.std.proofs.lemmas.Bool.{false≢true, le-ltb}
@@ -19,10 +19,10 @@ place-low p (suc i) (x ∷ xs) h = grind (arith, nat_tests, place-low p i xs)
 
 -- It is somewhere if one is there.
 pub place-there : {X : Type 0} (p : X → Bool) (xs : List X) → nat_lt (position_or_len p xs) (length xs) ≡ list_any p xs
-place-there p xs = place-low p (length xs) xs (omega arith) ∙ ap (list_any p) (take_all (length xs) xs (omega arith))
+place-there p xs = grind (arith, place-low, take_all)
 
 pub found-at : {X : Type 0} (p : X → Bool) (xs : List X) → list_any p xs ≡ true → position p xs ≡ Some (position_or_len p xs)
-found-at p xs e = ap (λ t. cond t (Some (position_or_len p xs)) None) (place-there p xs ∙ e)
+found-at p xs e = grind (arith, place-there)
 
 pub not-found : {X : Type 0} (p : X → Bool) (xs : List X) → list_any p xs ≡ false → position p xs ≡ None
-not-found p xs e = ap (λ t. cond t (Some (position_or_len p xs)) None) (place-there p xs ∙ e)
+not-found p xs e = grind (arith, place-there)

@@ -1,5 +1,5 @@
 -- Steps from one level to the next, and lists of one state: what the laws and the sum are on.
-use Rattle.std.proofs.Common.{◌-◌, ◌≡◌, ℕ, zero, suc, ◌+◌, ◌*◌, ◌<◌, ◌≤◌, Bool, true, false, not, ◌&&◌, List, [], ◌∷◌, ◌++◌, map, length, take, drop, get_or, refl, ap, sym, ◌∙◌, arith}
+use Rattle.std.proofs.Common.{◌≡◌, ℕ, zero, suc, ◌+◌, ◌*◌, ◌<◌, ◌≤◌, Bool, true, false, not, ◌&&◌, List, [], ◌∷◌, ◌++◌, map, length, take, drop, get_or, refl, ap, arith}
 use Rattle.std.specs.List.{filter, flat_map}
 use Rattle.std.proofs.lemmas.List.Folds.{flat_map-map}
 use Rattle.std.proofs.lemmas.List.{take-append-drop, length-take, length-drop, length-append, nil_from_length}
@@ -38,7 +38,7 @@ without-map f g test h (c ∷ cs) = λ i. h c i ∷ without-map f g test h cs i
 -- What is left under one further bit is what was left, without the clauses in which the next variable's literal is true.
 pub left-next : (clauses : List Clause) (bits : List Bool) (bit : Bool) → length bits < length (order clauses)
     → left clauses (bits ++ bit ∷ []) ≡ branch clauses (length bits) (left clauses bits) bit
-left-next clauses bits bit h = without-map _ (is_left (order clauses) bits) (has_true (get_or (order clauses) (length bits) 0) bit) (λ c. is_left-more (order clauses) bits bit c h) clauses
+left-next clauses bits bit h = grind (arith, without-map, is_left-more)
 
 pub order-once : (clauses : List Clause) → AllOnce (order clauses)
 order-once clauses = first_met-once _
@@ -108,7 +108,7 @@ number-same (x ∷ xs) [] h e = absurd (omega arith)
 number-same (x ∷ xs) (y ∷ ys) h e = grind (arith, number-same xs ys)
 
 pub words-same : (n : ℕ) (xs ys : List Bool) → length xs ≡ length ys → length xs ≤ 64 * n → words_of n xs ≡ words_of n ys → xs ≡ ys
-words-same zero xs ys h few e = nil_from_length xs (omega arith) ∙ sym (nil_from_length ys (omega arith))
+words-same zero xs ys h few e = grind (arith, nil_from_length)
 words-same (suc n) xs ys h few e = grind (arith, number-same (take 64 xs) (take 64 ys), length-take 64 xs, length-take 64 ys, length-drop 64 xs, length-drop 64 ys, take-append-drop 64 xs, take-append-drop 64 ys, words-same n (drop 64 xs) (drop 64 ys))
 
 pub length-bits_of : {X : Type 0} (test : X → Bool) (xs : List X) (list : List Bool) → length xs ≤ length list → length (bits_of test xs list) ≡ length (filter test xs)

@@ -1,5 +1,5 @@
 -- Lists that are counted once, the first level, and the sum of the first levels.
-use Rattle.std.proofs.Common.{◌≡◌, ℕ, ◌+◌, Bool, true, false, not, cond, List, [], ◌∷◌, arith}
+use Rattle.std.proofs.Common.{◌≡◌, ℕ, ◌+◌, Bool, true, false, List, [], ◌∷◌, arith}
 use Rattle.std.specs.List.{list_all, sum_by, range_with_len}
 use Rattle.std.proofs.lemmas.List.Sums.{sum_by-append}
 use Rattle.state_rules.proofs.Bits.{pointwise-equal}
@@ -7,7 +7,6 @@ use Rattle.state_rules.proofs.Lists.{range_more}
 use Rattle.clause_encoder.specs.Clauses.{Clause, ClauseList, is_clause, is_clause_list}
 use Rattle.elimination_forests.specs.Branches.{order, left, is_covered, some_passes, same_list, different, living, weight}
 use Rattle.elimination_forests.proofs.Lists.{is_among, all-at, any-met}
-use Rattle.elimination_forests.proofs.MetOrder.{clauses-valid}
 use Rattle.elimination_forests.proofs.PassedClauses.{none_passes}
 
 pub among-different : (ls : List (List Bool)) (x : List Bool) → is_among (different ls) x ≡ is_among ls x
@@ -15,14 +14,11 @@ among-different ls x = any-met same_list pointwise-equal (λ other. same_list ot
 
 -- ---- level 0
 
-uncovered-first : (vars : ℕ) (vs : List ℕ) (c : Clause) → is_clause vars c ≡ true → is_covered vs 0 c ≡ false
-uncovered-first vars vs c e = grind arith
-
 alive-first : (vars : ℕ) (vs : List ℕ) (cs : List Clause) (list : List Bool) → list_all (is_clause vars) cs ≡ true → some_passes (is_covered vs 0) cs list ≡ false
-alive-first vars vs cs list e = none_passes (is_covered vs 0) cs list (λ c m. uncovered-first vars vs c (all-at (is_clause vars) c cs e m))
+alive-first vars vs cs list e = grind (arith, none_passes, all-at)
 
 pub first-living : (cnf : ClauseList) → is_clause_list cnf ≡ true → living cnf.clauses 0 ≡ left cnf.clauses [] ∷ []
-first-living cnf e = (λ j. different (cond (not (alive-first cnf.vars (order cnf.clauses) cnf.clauses (left cnf.clauses []) (clauses-valid cnf e).2 j)) (left cnf.clauses [] ∷ []) []))
+first-living cnf e = grind (arith, alive-first cnf.vars (order cnf.clauses) cnf.clauses (left cnf.clauses []))
 
 -- ---- the sum
 

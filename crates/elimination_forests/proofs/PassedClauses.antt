@@ -1,12 +1,11 @@
 -- Which clauses of a list pass a test, and variables that are once.
-use Rattle.std.proofs.Common.{◌≡◌, ℕ, Bool, true, false, not, ◌&&◌, ◌||◌, List, [], ◌∷◌, ◌++◌, refl, ap, sym, ◌∙◌, inl, inr, arith}
-use Rattle.std.specs.Prelude.{◌==◌}
+use Rattle.std.proofs.Common.{◌≡◌, ℕ, Bool, true, false, not, ◌&&◌, ◌||◌, List, [], ◌∷◌, ◌++◌, refl, ap, sym, ◌∙◌, arith}
 use Rattle.std.specs.List.{list_all}
-use Rattle.std.proofs.lemmas.Bool.{false≢true, and_parts, and_from, and_right, or_from, not-false}
+use Rattle.std.proofs.lemmas.Bool.{false≢true}
 use Rattle.std.proofs.lemmas.Bool.Decides.{nat_tests}
 use Rattle.std.proofs.lemmas.List.Folds.{list_any-append}
 use Rattle.state_rules.proofs.Members.{In}
-use Rattle.clause_encoder.specs.Clauses.{Clause, var_of}
+use Rattle.clause_encoder.specs.Clauses.{Clause}
 use Rattle.elimination_forests.specs.Branches.{some_passes, without}
 use Rattle.elimination_forests.specs.Forests.{is_among, meets, is_once}
 use Rattle.elimination_forests.proofs.Lists.{all-at}
@@ -32,9 +31,6 @@ passes_without p t [] list = refl
 passes_without p t (c ∷ cs) [] = refl
 passes_without p t (c ∷ cs) (b ∷ list) = grind (arith, passes_without p t cs list)
 
-pub swap : (a b m n : Bool) → ((a || b) || (m || n)) ≡ ((a || m) || (b || n))
-swap a b m n = grind arith
-
 pub passes_or : (p q : Clause → Bool) (cs : List Clause) (list : List Bool) → some_passes (λ c. p c || q c) cs list ≡ (some_passes p cs list || some_passes q cs list)
 passes_or p q [] list = refl
 passes_or p q (c ∷ cs) [] = refl
@@ -42,12 +38,12 @@ passes_or p q (c ∷ cs) (b ∷ list) = grind (arith, passes_or p q cs list)
 
 -- if all clauses of a list pass a test, it may be asked for
 pub passes_full : (t p : Clause → Bool) (cs : List Clause) (list : List Bool) → some_passes (λ c. not (t c)) cs list ≡ false → some_passes (λ c. t c && p c) cs list ≡ some_passes p cs list
-passes_full t p = agree (λ c. not (t c)) (λ c. t c && p c) p (λ c f. ap (λ b. b && p c) (not-false (t c) f))
+passes_full t p = grind (arith, agree)
 
 pub none_passes : (p : Clause → Bool) (cs : List Clause) (list : List Bool) → ((c : Clause) → In c cs → p c ≡ false) → some_passes p cs list ≡ false
 none_passes p [] list h = refl
 none_passes p (c ∷ cs) [] h = refl
-none_passes p (c ∷ cs) (b ∷ list) h = or_from (b && p c) (some_passes p cs list) (and_right b (p c) (h c (inl refl))) (none_passes p cs list (λ d m. h d (inr m)))
+none_passes p (c ∷ cs) (b ∷ list) h = grind (arith, none_passes p cs list)
 
 pub all_fail : (p : Clause → Bool) (cs : List Clause) (list : List Bool) → list_all p cs ≡ true → some_passes (λ c. not (p c)) cs list ≡ false
 all_fail p cs list e = none_passes (λ c. not (p c)) cs list (λ c m. ap not (all-at p c cs e m))
@@ -59,18 +55,18 @@ passes_never cs list = none_passes (λ c. false) cs list (λ c m. refl)
 
 pub meets-append : (xs ys : List ℕ) (c : Clause) → meets (xs ++ ys) c ≡ (meets xs c || meets ys c)
 meets-append xs ys [] = refl
-meets-append xs ys (l ∷ c) = (λ j. list_any-append (λ u. u == var_of l) xs ys j || meets-append xs ys c j) ∙ swap (is_among xs (var_of l)) (is_among ys (var_of l)) (meets xs c) (meets ys c)
+meets-append xs ys (l ∷ c) = grind (arith, list_any-append, meets-append xs ys c)
 
 pub once_back : (xs ys : List ℕ) → is_once (xs ++ ys) ≡ true → is_once ys ≡ true
 once_back [] ys e = e
-once_back (x ∷ xs) ys e = once_back xs ys (and_parts (not (is_among (xs ++ ys) x)) (is_once (xs ++ ys)) e).1
+once_back (x ∷ xs) ys e = grind (arith, once_back xs ys)
 
 first_apart : (xs ys : List ℕ) (x : ℕ) → is_once (x ∷ (xs ++ ys)) ≡ true → (is_among xs x ≡ false) × (is_among ys x ≡ false)
 first_apart xs ys x e = grind (arith, list_any-append)
 
 pub once_front : (xs ys : List ℕ) → is_once (xs ++ ys) ≡ true → is_once xs ≡ true
 once_front [] ys e = refl
-once_front (x ∷ xs) ys e = and_from (not (is_among xs x)) (is_once xs) (ap not (first_apart xs ys x e).0) (once_front xs ys (and_parts (not (is_among (xs ++ ys) x)) (is_once (xs ++ ys)) e).1)
+once_front (x ∷ xs) ys e = grind (arith, first_apart, once_front xs ys)
 
 -- a variable of the first ones is not among the others
 pub once_apart : (xs ys : List ℕ) (u : ℕ) → is_once (xs ++ ys) ≡ true → is_among xs u ≡ true → is_among ys u ≡ false

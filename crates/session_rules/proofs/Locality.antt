@@ -1,13 +1,8 @@
 -- A line depends on the entry of the session that it names, and leaves every other.
-use Rattle.std.proofs.Common.{◌≡◌, ℕ, true, false, cond, List, map, length, refl, ap, ◌∙◌, Some, None, Option, arith}
+use Rattle.std.proofs.Common.{◌≡◌, ℕ, true, false, List, map, length, refl, ap, ◌∙◌, Some, None, Option, arith}
 use Rattle.std.specs.Prelude.{nat_le}
 use Rattle.std.specs.List.{flat_map}
 use Rattle.std.proofs.lemmas.List.Folds.{flat_map-map}
-use Rattle.std.specs.Ordering.{nat_cmp}
-use Rattle.std.specs.Cmp.Lexicographic.{slice_cmp}
-use Rattle.std.specs.FinMap.Entries.{find-put}
-use Rattle.std.proofs.lemmas.Cmp.{nat_list_cmp_total}
-use Rattle.std.proofs.lemmas.Map.Text.{is_eq-slice_cmp}
 use Rattle.text_rules.specs.Names.{Name, same_name}
 use Rattle.text_rules.proofs.NameLemmas.{equal_if_same, same_if_equal}
 use Rattle.state_rules.specs.Systems.{System}

@@ -1,5 +1,5 @@
 -- Bytes of a script that are taken piece by piece.
-use Rattle.std.proofs.Common.{◌≡◌, ◌≢◌, ◌<◌, ◌≤◌, ◌+◌, get_or, length, drop, Result, Ok, Err, OnErr, arith, ℕ, List, [], ◌∷◌, ◌++◌, take, Option, None, Some, refl, sym, ◌∙◌, ap, ap₂, subst, append-nil, true, false, if◌then◌else◌, ◌==◌}
+use Rattle.std.proofs.Common.{◌≡◌, ◌≢◌, ◌<◌, ◌≤◌, ◌+◌, get_or, length, drop, Result, Ok, Err, OnErr, arith, ℕ, List, [], ◌∷◌, ◌++◌, take, Option, None, Some, refl, sym, ◌∙◌, ap, ap₂, subst, append-nil, false, ◌==◌}
 use Rattle.std.specs.Prelude.{⊤}
 use Rattle.std.proofs.lemmas.Grind.{common_steps}
 use Rattle.std.proofs.lemmas.List.{take_more}
@@ -16,25 +16,16 @@ use Rattle.session_rules.proofs.Broken.{makes_none, makes_more, breaks_before, b
 
 ended_from-append : (l xs ys : List ℕ) → ended_from l (xs ++ ys) ≡ ended_from l xs ++ ended_from (rest_from l xs) ys
 ended_from-append l [] ys = refl
-ended_from-append l (b ∷ xs) ys = elim (b == 10) as (λ v. (if v then l ∷ ended_from [] (xs ++ ys) else ended_from (l ++ b ∷ []) (xs ++ ys)) ≡ (if v then l ∷ ended_from [] xs else ended_from (l ++ b ∷ []) xs) ++ ended_from (if v then rest_from [] xs else rest_from (l ++ b ∷ []) xs) ys) [
-  | true ↦ ap (λ ls. l ∷ ls) (ended_from-append [] xs ys)
-  | false ↦ ended_from-append (l ++ b ∷ []) xs ys
-]
+ended_from-append l (b ∷ xs) ys = grind (arith, ended_from-append [] xs ys, ended_from-append (l ++ b ∷ []) xs ys)
 
 rest_from-append : (l xs ys : List ℕ) → rest_from l (xs ++ ys) ≡ rest_from (rest_from l xs) ys
 rest_from-append l [] ys = refl
-rest_from-append l (b ∷ xs) ys = elim (b == 10) as (λ v. (if v then rest_from [] (xs ++ ys) else rest_from (l ++ b ∷ []) (xs ++ ys)) ≡ rest_from (if v then rest_from [] xs else rest_from (l ++ b ∷ []) xs) ys) [
-  | true ↦ rest_from-append [] xs ys
-  | false ↦ rest_from-append (l ++ b ∷ []) xs ys
-]
+rest_from-append l (b ∷ xs) ys = grind (arith, rest_from-append [] xs ys, rest_from-append (l ++ b ∷ []) xs ys)
 
 -- how much of the line before the bytes is kept past the limit does not matter
 rest-take : (line bytes : List ℕ) → kept (rest_from (kept line) bytes) ≡ kept (rest_from line bytes)
 rest-take line [] = kept-kept line
-rest-take line (b ∷ bs) = elim (b == 10) as (λ v. kept (if v then rest_from [] bs else rest_from (kept line ++ b ∷ []) bs) ≡ kept (if v then rest_from [] bs else rest_from (line ++ b ∷ []) bs)) [
-  | true ↦ refl
-  | false ↦ sym (rest-take (kept line ++ b ∷ []) bs) ∙ ap (λ l. kept (rest_from l bs)) (kept-append line (b ∷ [])) ∙ rest-take (line ++ b ∷ []) bs
-]
+rest-take line (b ∷ bs) = grind (arith, rest-take (kept line ++ b ∷ []) bs, kept-append line (b ∷ []), rest-take (line ++ b ∷ []) bs)
 
 alike_rest : (l k bytes : List ℕ) → kept l ≡ kept k → kept (rest_from l bytes) ≡ kept (rest_from k bytes)
 alike_rest l k bytes e = sym (rest-take l bytes) ∙ ap (λ j. kept (rest_from j bytes)) e ∙ rest-take k bytes
@@ -48,10 +39,7 @@ FirstAlike (l ∷ ls) (k ∷ ks) = (kept l ≡ kept k) × (ls ≡ ks)
 
 ended_alike : (l k bytes : List ℕ) → kept l ≡ kept k → FirstAlike (ended_from l bytes) (ended_from k bytes)
 ended_alike l k [] e = tt
-ended_alike l k (b ∷ bs) e = elim (b == 10) as (λ v. FirstAlike (if v then l ∷ ended_from [] bs else ended_from (l ++ b ∷ []) bs) (if v then k ∷ ended_from [] bs else ended_from (k ++ b ∷ []) bs)) [
-  | true ↦ (e, refl)
-  | false ↦ ended_alike (l ++ b ∷ []) (k ++ b ∷ []) bs (sym (kept-append l (b ∷ [])) ∙ ap (λ j. kept (j ++ b ∷ [])) e ∙ kept-append k (b ∷ []))
-]
+ended_alike l k (b ∷ bs) e = grind (arith, ended_alike (l ++ b ∷ []) (k ++ b ∷ []) bs, kept-append l (b ∷ []), kept-append k (b ∷ []))
 
 last_line_alike : (l k : List ℕ) → kept l ≡ kept k → FirstAlike (last_line l) (last_line k)
 last_line_alike [] [] e = tt

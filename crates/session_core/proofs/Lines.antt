@@ -1,64 +1,44 @@
 -- Lines that are gathered byte by byte, and what of a line counts.
-use Rattle.std.proofs.Common.{◌≡◌, ℕ, ◌+◌, ◌<◌, ◌≤◌, List, [], ◌∷◌, ◌++◌, length, take, refl, sym, ◌∙◌, ap, inl, inr, arith, true, false, ◌==◌, if◌then◌else◌, append_assoc, append-nil, take_all, length-take, lit<}
+use Rattle.std.proofs.Common.{◌≡◌, ℕ, ◌+◌, ◌<◌, ◌≤◌, List, [], ◌∷◌, ◌++◌, length, take, refl, sym, ◌∙◌, ap, inl, inr, arith, true, false, ◌==◌, append_assoc, append-nil, take_all, length-take, lit<}
 use Rattle.std.proofs.lemmas.Grind.{common_steps}
 use Rattle.std.proofs.lemmas.Bool.{cases_lt}
 use Rattle.std.proofs.lemmas.List.{take-take}
-use Rattle.text_rules.specs.TextLines.{cut, with_byte, whole_lines}
+use Rattle.text_rules.specs.TextLines.{Cut, cut, whole_lines}
 use Rattle.script_lang.specs.declared.limits.TheConstants.{LINE_LIMIT}
 use Rattle.script_lang.specs.Script.{line_of}
 use Rattle.script_lang.proofs.LineLemmas.{line_of-too_long}
 use Rattle.session_core.specs.Services.{Shown, exact_moves, moves_of}
 use Rattle.session_core.specs.inner.Gathering.{ended_from, rest_from, kept, IsCut}
 
-onto : List ℕ → List (List ℕ) → List (List ℕ)
-onto line [] = []
-onto line (l ∷ ls) = (line ++ l) ∷ ls
+-- ---- lines by the bytes that end them
 
-onto_last : List ℕ → List (List ℕ) → List ℕ → List ℕ
-onto_last line [] last = line ++ last
-onto_last line (l ∷ ls) last = last
+abbrev HasNoFeed : List ℕ → Type 0
+HasNoFeed [] = Unit {0}
+HasNoFeed (b ∷ line) = ((b == 10) ≡ false) × HasNoFeed line
 
-onto-nothing : (ls : List (List ℕ)) → onto [] ls ≡ ls
-unfolding onto
-onto-nothing [] = refl
-onto-nothing (l ∷ ls) = refl
+none-more : (line : List ℕ) (b : ℕ) → HasNoFeed line → (b == 10) ≡ false → HasNoFeed (line ++ b ∷ [])
+none-more [] b h apart = (apart, tt)
+none-more (c ∷ line) b h apart = (h.0, none-more line b h.1 apart)
 
-last-nothing : (ls : List (List ℕ)) (last : List ℕ) → onto_last [] ls last ≡ last
-unfolding onto_last
-last-nothing [] last = refl
-last-nothing (l ∷ ls) last = refl
+cut-begun : (line : List ℕ) → HasNoFeed line → cut line ≡ record { whole = []; unfinished = line }
+cut-begun [] h = refl
+cut-begun (b ∷ line) h = grind (arith, cut-begun line h.1)
 
-onto-byte : (line : List ℕ) (b : ℕ) (ls : List (List ℕ)) (last : List ℕ) → onto (line ++ b ∷ []) ls ≡ onto line (with_byte b ls last).whole
-unfolding onto
-onto-byte line b [] last = refl
-onto-byte line b (l ∷ ls) last = ap (λ k. k ∷ ls) (append_assoc line (b ∷ []) l)
+cut-line : (line : List ℕ) (b : ℕ) (bytes : List ℕ) → HasNoFeed line → (b == 10) ≡ true → cut (line ++ b ∷ bytes) ≡ record { whole = line ∷ (cut bytes).whole; unfinished = (cut bytes).unfinished }
+cut-line [] b bytes h feed = grind arith
+cut-line (c ∷ line) b bytes h feed = grind (arith, cut-line line b bytes h.1 feed)
 
-last-byte : (line : List ℕ) (b : ℕ) (ls : List (List ℕ)) (last : List ℕ) → onto_last (line ++ b ∷ []) ls last ≡ onto_last line (with_byte b ls last).whole (with_byte b ls last).unfinished
-unfolding onto_last
-last-byte line b [] last = append_assoc line (b ∷ []) last
-last-byte line b (l ∷ ls) last = refl
-
-ended_cut : (line bytes : List ℕ) → ended_from line bytes ≡ onto line (cut bytes).whole
-unfolding onto
-ended_cut line [] = refl
-ended_cut line (b ∷ bytes) = elim (b == 10) as (λ v. (if v then line ∷ ended_from [] bytes else ended_from (line ++ b ∷ []) bytes) ≡ onto line (if v then record { whole = [] ∷ (cut bytes).whole; unfinished = (cut bytes).unfinished } else with_byte b (cut bytes).whole (cut bytes).unfinished).whole) [
-  | true ↦ (λ i. sym (append-nil line) i ∷ (ended_cut [] bytes ∙ onto-nothing (cut bytes).whole) i)
-  | false ↦ ended_cut (line ++ b ∷ []) bytes ∙ onto-byte line b (cut bytes).whole (cut bytes).unfinished
-]
-
-rest_cut : (line bytes : List ℕ) → rest_from line bytes ≡ onto_last line (cut bytes).whole (cut bytes).unfinished
-unfolding onto_last
-rest_cut line [] = sym (append-nil line)
-rest_cut line (b ∷ bytes) = elim (b == 10) as (λ v. (if v then rest_from [] bytes else rest_from (line ++ b ∷ []) bytes) ≡ onto_last line (if v then record { whole = [] ∷ (cut bytes).whole; unfinished = (cut bytes).unfinished } else with_byte b (cut bytes).whole (cut bytes).unfinished).whole (if v then record { whole = [] ∷ (cut bytes).whole; unfinished = (cut bytes).unfinished } else with_byte b (cut bytes).whole (cut bytes).unfinished).unfinished) [
-  | true ↦ rest_cut [] bytes ∙ last-nothing (cut bytes).whole (cut bytes).unfinished
-  | false ↦ rest_cut (line ++ b ∷ []) bytes ∙ last-byte line b (cut bytes).whole (cut bytes).unfinished
-]
+cut-from : (line bytes : List ℕ) → HasNoFeed line → cut (line ++ bytes) ≡ record { whole = ended_from line bytes; unfinished = rest_from line bytes }
+cut-from line [] h = grind (arith, append-nil line, cut-begun line h)
+cut-from line (b ∷ bytes) h = grind (arith, cut-line line b bytes h, cut-from [] bytes tt, cut-from (line ++ b ∷ []) bytes, none-more line b h, append_assoc line (b ∷ []) bytes)
 
 pub ended_from-start : (bytes : List ℕ) → ended_from [] bytes ≡ whole_lines bytes
-ended_from-start bytes = ended_cut [] bytes ∙ onto-nothing (cut bytes).whole
+ended_from-start bytes = sym (ap (λ (c : Cut). c.whole) (cut-from [] bytes tt))
 
 pub rest_from-start : (bytes : List ℕ) → rest_from [] bytes ≡ (cut bytes).unfinished
-rest_from-start bytes = rest_cut [] bytes ∙ last-nothing (cut bytes).whole (cut bytes).unfinished
+rest_from-start bytes = sym (ap (λ (c : Cut). c.unfinished) (cut-from [] bytes tt))
+
+-- ---- what of a line counts
 
 is_long : (n : ℕ) (line : List ℕ) → n < length line → n < length (take (n + 1) line)
 is_long n line long = grind (arith, common_steps)

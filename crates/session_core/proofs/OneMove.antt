@@ -5,7 +5,7 @@ use Rattle.text_rules.specs.Names.{Name}
 use Rattle.text_rules.specs.Tokens.{spaced}
 use Rattle.state_rules.specs.Systems.{System}
 use Rattle.diag_edge.specs.Edge.{Puts}
-use Rattle.script_lang.specs.Script.{asked, Request, Next, Several, Level, Levels, Line, Ask, line_of}
+use Rattle.script_lang.specs.Script.{asked, Request, Line, Ask, line_of}
 use Rattle.script_lang.specs.declared.line.Request.{Request as Read}
 use Rattle.script_lang.specs.declared.line.Request.TheVariants as read
 use Rattle.session_rules.specs.declared.refusal.Refusal.{Refusal}
@@ -53,28 +53,6 @@ pub unopened : (old : Shown) (session : Name) (request : Read) → (request ≡ 
 unopened old session request other none =
     let full = nat_le old.limit (length old.table) in
     ap (λ (e : Option Entry). outcome (served_system old.subject) session full e (asked request)) none ∙ unopened_by (served_system old.subject) session full request other
-
--- what comes next is a listing of one
-next_by : (system : System) (session : Name) (full : Bool) (entry : Option Entry) → outcome system session full entry (Several 1) ≡ outcome system session full entry Next
-next_by system session full None = refl
-next_by system session full (Some entry) = refl
-
-level_by : (system : System) (session : Name) (full : Bool) (entry : Option Entry) → outcome system session full entry (Levels 1) ≡ outcome system session full entry Level
-level_by system session full None = refl
-level_by system session full (Some entry) = refl
-
-module _ {T E : Type 0} (old new : Shown) (session : Name) (before after : Option (List ℕ)) (result : Result T E) where
-  alike : (one other : Request) → outcome_of old session one ≡ outcome_of old session other → Obeys old new session one before after result → Obeys old new session other before after result
-  alike one other same obeys = record {
-    carried = subst (λ (ms : List Move). CarriesOut old.table new.table (map (step_from old.table session) ms) before after result) same obeys.carried;
-    stays = obeys.stays;
-  }
-
-  pub obeys_next : Obeys old new session (Several 1) before after result → Obeys old new session Next before after result
-  obeys_next = alike (Several 1) Next (next_by (served_system old.subject) session (nat_le old.limit (length old.table)) (entry_of session old.table))
-
-  pub obeys_level : Obeys old new session (Levels 1) before after result → Obeys old new session Level before after result
-  obeys_level = alike (Levels 1) Level (level_by (served_system old.subject) session (nat_le old.limit (length old.table)) (entry_of session old.table))
 
 -- a line that asks this was carried out
 pub line_carried : {T E : Type 0} (old new : Shown) (session : Name) (request : Request) (bytes : List ℕ) (before after : Option (List ℕ)) (result : Result T E) → Ask session request ≡ line_of bytes

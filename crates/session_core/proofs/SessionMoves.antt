@@ -1,5 +1,5 @@
 -- A session that moves on, once and so many times.
-use Rattle.std.proofs.Common.{◌≡◌, ◌∙◌, ◌∷◌, ◌++◌, ◌+◌, ◌-◌, ◌<◌, ◌≤◌, arith, [], ℕ, zero, suc, Bool, true, false, List, map, Option, Some, Result, Ok, Err, IsErr, Ordering, refl, ap, sym, subst, append_assoc, append-nil}
+use Rattle.std.proofs.Common.{◌≡◌, ◌∙◌, ◌∷◌, ◌++◌, ◌+◌, ◌-◌, ◌<◌, ◌≤◌, arith, [], ℕ, suc, Bool, true, false, List, map, Option, Result, Ok, Err, IsErr, Ordering, refl, ap, sym, subst, append_assoc, append-nil}
 use Rattle.std.specs.Prelude.{IfOk, if◌then◌else◌}
 use Rattle.std.proofs.lemmas.List.{map-append}
 use Rattle.std.specs.Ordering.{nat_cmp}
@@ -22,7 +22,7 @@ use Rattle.session_core.specs.declared.listed.Listed.{Listed}
 use Rattle.session_core.specs.declared.listed.NextState.{NextState}
 use Rattle.session_core.specs.inner.Desks.{is_listed, is_found}
 use Rattle.session_core.specs.inner.Texts.{next_text}
-use Rattle.session_core.specs.inner.Obeying.{Obeys, goes_on, list_request, the_found, found_by, found_entry, found_moves, PointMoves, MovesOn}
+use Rattle.session_core.specs.inner.Obeying.{Obeys, goes_on, list_request, the_found, found_by, found_moves, PointMoves, MovesOn}
 use Rattle.session_rules.proofs.KeptCases.{step_from}
 use Rattle.session_core.proofs.OneMove.{asked_open}
 

@@ -1,18 +1,19 @@
 -- A session among others is answered as it is alone.
-use Rattle.std.proofs.Common.{◌≡◌, ℕ, Bool, true, false, List, [], ◌∷◌, ◌++◌, map, length, drop, refl, ap, ap₂, sym, ◌∙◌, subst, Some, None, Option, arith, length-append}
+use Rattle.std.proofs.Common.{◌≡◌, ℕ, Bool, true, false, List, [], ◌∷◌, ◌++◌, map, length, refl, ap, ap₂, sym, ◌∙◌, subst, Some, None, Option, arith, length-append}
 use Rattle.std.specs.Prelude.{is_some, codes, nat_le, if◌then◌else◌}
 use Rattle.std.specs.Fmt.{decimal}
 use Rattle.std.specs.List.{flat_map}
 use Rattle.text_rules.specs.Names.{Name}
+use Rattle.text_rules.specs.Tokens.{spaced}
 use Rattle.text_rules.proofs.NameLemmas.{equal_if_same}
 use Rattle.state_rules.specs.Cases.{Case, empty_case}
 use Rattle.state_rules.specs.Systems.{System}
 use Rattle.script_lang.specs.Script.{Line, Blank, Refused, Ask, Request, Start, line_of}
 use Rattle.session_rules.specs.declared.refusal.Refusal.{Refusal}
 use Rattle.session_rules.specs.declared.refusal.Refusal.TheVariants.{OpenAlready, Full}
-use Rattle.session_rules.specs.Refusals.{refusal_row}
+use Rattle.session_rules.specs.Refusals.{refusal_row, error_words}
 use Rattle.session_rules.specs.Replies.{Found}
-use Rattle.session_rules.specs.Items.{Item, Plain, Projected, LeastText, Whole, line}
+use Rattle.session_rules.specs.Items.{line}
 use Rattle.session_rules.specs.Sessions.{Table, Entry, Change, Becomes, Move, moves, said, left_by, entry_of, outcome, when_open, becomes, declined}
 use Rattle.session_rules.specs.Moves.{line_moves}
 use Rattle.session_rules.specs.Alone.{Answer, lines_of, dialogue, names_session, closes_session, own_answers, Opens, AreAnsweredAlone}
@@ -34,22 +35,14 @@ entry_there o some = grind arith
 
 -- ---- a refusal is no opening
 
-abbrev bytes_of : Item → List ℕ
-bytes_of (Plain bytes) = bytes
-bytes_of (Projected parts states) = []
-bytes_of (LeastText parts states) = []
-bytes_of (Whole device vars most) = []
-
-abbrev first_bytes : List Item → List ℕ
-first_bytes [] = []
-first_bytes (item ∷ items) = bytes_of item
-
 -- a refusal is longer than what says that a session is open
 refused_apart : (s tail : List ℕ) → length (s ++ (32 ∷ (codes "error" ++ (32 ∷ tail)))) ≡ length (s ++ (32 ∷ (codes "open" ++ 10 ∷ []))) → ⊥
 refused_apart s tail e = grind (arith, length-append)
 
 declined_apart : (s : Name) (refusal : Refusal) → flat_map (λ (move : Move). move.items) (declined s refusal) ≡ line (s ∷ codes "open" ∷ []) ∷ [] → ⊥
-declined_apart s refusal e = refused_apart s (decimal (refusal_row refusal).0 ++ (32 ∷ ((refusal_row refusal).1 ++ 10 ∷ []))) (ap (λ items. length (first_bytes items)) e)
+declined_apart s refusal e =
+    let same : spaced (s ∷ error_words (refusal_row refusal)) ≡ spaced (s ∷ codes "open" ∷ []) = cc in
+    refused_apart s (decimal (refusal_row refusal).0 ++ (32 ∷ ((refusal_row refusal).1 ++ 10 ∷ []))) (ap length same)
 
 -- ---- the answers of one session
 

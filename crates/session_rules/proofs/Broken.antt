@@ -1,5 +1,5 @@
 -- Moves that are made, and moves that break off.
-use Rattle.std.proofs.Common.{◌≡◌, ℕ, List, [], ◌∷◌, ◌++◌, Option, Result, Ok, Err, refl, sym, ◌∙◌, ap, subst, append_assoc, append-nil, arith}
+use Rattle.std.proofs.Common.{◌≡◌, ℕ, List, [], ◌∷◌, ◌++◌, Option, Result, Ok, Err, refl, sym, subst, append_assoc, append-nil, arith}
 use Rattle.state_rules.specs.Systems.{System}
 use Rattle.std.proofs.lemmas.Grind.{flat_map-append}
 use Rattle.session_rules.specs.Sessions.{Table, Step, said, left_by, replies}

@@ -9,7 +9,6 @@ use Rattle.std.proofs.lemmas.Cmp.{nat_list_cmp_total}
 use Rattle.std.proofs.lemmas.List.{length-set, length-replicate}
 use Rattle.text_rules.specs.Names.{Name, same_name}
 use Rattle.text_rules.proofs.NameLemmas.{equal_if_same}
-use Rattle.state_rules.specs.Cases.{Case}
 use Rattle.state_rules.specs.Systems.{System}
 use Rattle.script_lang.specs.Script.{Line, Blank, Refused, Ask, Request}
 use Rattle.session_rules.specs.Replies.{Found}
@@ -27,6 +26,11 @@ equal_names a b tie = equal_if_same a b (sym (is_eq-slice_cmp a b) ∙ ap is_eq 
 pub entry_of-without : (r s : Name) (table : Table) → entry_of r (without s table) ≡ cond (not (same_name r s)) (entry_of r table) None
 entry_of-without r s table =
     find-where_key (slice_cmp nat_cmp) (λ n. not (same_name n s)) r (λ x tie. ap (λ n. not (same_name n s)) (sym (equal_names r x tie))) table
+
+-- and when one is put in
+pub entry_of-with : (r s : Name) (entry : Entry) (table : Table) → entry_of r (changed s (Becomes entry) table) ≡ cond (same_name r s) (Some entry) (entry_of r table)
+entry_of-with r s entry table =
+    find-put (slice_cmp nat_cmp) nat_list_cmp_total r s entry table ∙ ap (λ b. cond b (Some entry) (entry_of r table)) (is_eq-slice_cmp r s)
 
 abbrev pub ChangeKeeps : System → Change → Type 0
 ChangeKeeps system Stays = Unit {0}
@@ -67,22 +71,10 @@ module _ (system : System) where
   outcome-keeps : (s : Name) (full : Bool) (entry : Option Entry) → ((e : Entry) → entry ≡ Some e → IsCaseOf system e.known) → (request : Request) → Keeps system (outcome system s full entry request)
   outcome-keeps s full entry h request = grind (arith, when_open-keeps, length-replicate)
 
-  -- an entry found after a change is the new one or an old one
-  put_found : (b : Bool) (entry found : Entry) (old : Option Entry) → IsCaseOf system entry.known → ((e : Entry) → old ≡ Some e → IsCaseOf system e.known)
-      → cond b (Some entry) old ≡ Some found → IsCaseOf system found.known
-  put_found b entry found old h k e = grind arith
-
-  kept_found : (b : Bool) (found : Entry) (old : Option Entry) → ((e : Entry) → old ≡ Some e → IsCaseOf system e.known)
-      → cond b old None ≡ Some found → IsCaseOf system found.known
-  kept_found b found old k e = grind arith
-
-  pub changed-keeps : (s : Name) (change : Change) (table : Table) → ChangeKeeps system change → HasCasesOf system table → HasCasesOf system (changed s change table)
+  changed-keeps : (s : Name) (change : Change) (table : Table) → ChangeKeeps system change → HasCasesOf system table → HasCasesOf system (changed s change table)
   changed-keeps s Stays table h k = k
-  changed-keeps s (Becomes entry) table h k = λ r found e.
-      put_found (is_eq (slice_cmp nat_cmp r s)) entry found (entry_of r table) h (k r)
-      (sym (find-put (slice_cmp nat_cmp) nat_list_cmp_total r s entry table) ∙ e)
-  changed-keeps s Ends table h k = λ r found e.
-      kept_found (not (same_name r s)) found (entry_of r table) (k r) (sym (entry_of-without r s table) ∙ e)
+  changed-keeps s (Becomes entry) table h k = λ r found e. grind (arith, entry_of-with, k r)
+  changed-keeps s Ends table h k = λ r found e. grind (arith, entry_of-without, k r)
 
   -- a line keeps the lengths of all cases
   pub moves-keep : (limit : ℕ) (table : Table) (l : Line) → HasCasesOf system table → HasCasesOf system (left_by table (moves system limit table l))

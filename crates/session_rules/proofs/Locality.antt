@@ -1,20 +1,15 @@
 -- A line depends on the entry of the session that it names, and leaves every other.
-use Rattle.std.proofs.Common.{◌≡◌, ℕ, true, false, cond, List, map, length, refl, ap, ◌∙◌, Some, None, Option, arith}
+use Rattle.std.proofs.Common.{◌≡◌, ℕ, true, false, List, map, length, refl, ap, ◌∙◌, Some, None, Option, arith}
 use Rattle.std.specs.Prelude.{nat_le}
 use Rattle.std.specs.List.{flat_map}
 use Rattle.std.proofs.lemmas.List.Folds.{flat_map-map}
-use Rattle.std.specs.Ordering.{nat_cmp}
-use Rattle.std.specs.Cmp.Lexicographic.{slice_cmp}
-use Rattle.std.specs.FinMap.Entries.{find-put}
-use Rattle.std.proofs.lemmas.Cmp.{nat_list_cmp_total}
-use Rattle.std.proofs.lemmas.Map.Text.{is_eq-slice_cmp}
 use Rattle.text_rules.specs.Names.{Name, same_name}
 use Rattle.text_rules.proofs.NameLemmas.{equal_if_same, same_if_equal}
 use Rattle.state_rules.specs.Systems.{System}
 use Rattle.script_lang.specs.Script.{Line, Blank, Refused, Ask, Request}
 use Rattle.session_rules.specs.Sessions.{Table, Entry, Change, Stays, Becomes, Ends, Move, Step, changed, entry_of, outcome, moves, said, left_by}
 use Rattle.session_rules.specs.Alone.{names_session, LooksSame, IsItsOwn}
-use Rattle.session_rules.proofs.KeptCases.{entry_of-without, last_change, step_from, left_by-last}
+use Rattle.session_rules.proofs.KeptCases.{entry_of-with, entry_of-without, last_change, step_from, left_by-last}
 
 -- what a change leaves of a session's entry
 abbrev pub after_change : Change → Option Entry → Option Entry
@@ -24,10 +19,6 @@ after_change Ends entry = None
 
 abbrev pub after : List Move → Option Entry → Option Entry
 after ms entry = after_change (last_change Stays ms) entry
-
-entry_of-with : (r s : Name) (entry : Entry) (table : Table) → entry_of r (changed s (Becomes entry) table) ≡ cond (same_name r s) (Some entry) (entry_of r table)
-entry_of-with r s entry table =
-    find-put (slice_cmp nat_cmp) nat_list_cmp_total r s entry table ∙ ap (λ b. cond b (Some entry) (entry_of r table)) (is_eq-slice_cmp r s)
 
 pub same_as_itself : (s : Name) → same_name s s ≡ true
 same_as_itself s = same_if_equal s s refl

@@ -1,21 +1,17 @@
 -- Two systems that differ in their consistent states alone, which are the same for each case of theirs, answer alike.
 use Rattle.std.proofs.Common.{◌≡◌, ℕ, ◌+◌, Bool, List, [], ◌∷◌, map, length, refl, ap, Option, Some, arith}
-use Rattle.std.specs.Prelude.{codes, nat_le}
-use Rattle.std.specs.Fmt.{decimal}
+use Rattle.std.specs.Prelude.{nat_le}
 use Rattle.std.specs.Option.{option_map_or}
 use Rattle.std.proofs.lemmas.List.{length-set}
 use Rattle.text_rules.specs.Names.{Name}
 use Rattle.state_rules.specs.Cases.{Case}
-use Rattle.state_rules.specs.Ranking.{cost, diagnoses, rest}
-use Rattle.state_rules.specs.Levels.{levels, levels_rest}
 use Rattle.state_rules.specs.Systems.{System}
 use Rattle.device_model.specs.Devices.{place_of}
 use Rattle.script_lang.specs.Script.{Line, Blank, Refused, Ask, Request, Level, Levels, Question, Probe, line_of}
 use Rattle.session_rules.specs.Refusals.{refusal_row, error_words}
-use Rattle.session_rules.specs.declared.refusal.Refusal.TheVariants.{NoWire, NoLevels}
-use Rattle.session_rules.specs.Items.{line}
-use Rattle.session_rules.specs.Replies.{faulty_names, found, next_of, level_of, least_at, probe_line, probe_lines, if_any, told}
-use Rattle.session_rules.specs.Sessions.{Entry, Table, Step, entry_of, declined, lists, when_open, outcome, moves, left_by, replies}
+use Rattle.session_rules.specs.declared.refusal.Refusal.TheVariants.{NoWire}
+use Rattle.session_rules.specs.Replies.{next_of, least_at, probe_line, probe_lines, if_any, told}
+use Rattle.session_rules.specs.Sessions.{Entry, Table, Step, entry_of, when_open, outcome, moves, left_by, replies}
 use Rattle.session_rules.specs.Moves.{line_moves, script_moves}
 use Rattle.session_rules.specs.CaseSizes.{IsCaseOf, HasCasesOf}
 use Rattle.session_rules.proofs.KeptCases.{step_from, moves-keep}
@@ -51,9 +47,6 @@ module _ (system : System) (consistent : Case → List (List Bool)) (same : (kno
   -- what comes next
   next_of-same : (s : Name) (known : Case) → IsCaseOf system known → next_of system s known ≡ next_of other s known
   next_of-same s known h = grind arith
-
-  level_of-same : (s : Name) (top : ℕ) (known : Case) → IsCaseOf system known → level_of system s top known ≡ level_of other s top known
-  level_of-same s top known h = grind arith
 
   when_open-same : (s : Name) (entry : Entry) (request : Request) → IsCaseOf system entry.known → when_open system s entry request ≡ when_open other s entry request
   when_open-same s entry Level h = grind arith

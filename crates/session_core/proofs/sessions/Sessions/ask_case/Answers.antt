@@ -1,4 +1,4 @@
-use Rattle.std.proofs.Common.{◌≡◌, ◌∙◌, List, ℕ, map, ap, subst, refl}
+use Rattle.std.proofs.Common.{◌∙◌, map, ap, subst, refl}
 use Rattle.state_rules.specs.Cases.{Case}
 use Rattle.script_lang.specs.Script.{question_of, Tell}
 use Rattle.session_rules.specs.Items.{line}

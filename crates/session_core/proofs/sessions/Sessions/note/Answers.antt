@@ -1,7 +1,6 @@
 use Rattle.std.proofs.Common.{◌≡◌, ◌∙◌, ℕ, Bool, Option, None, Some, ap, subst, sym, refl, codes, arith}
 use Rattle.std.specs.Option.{option_map_or}
 use Rattle.text_rules.specs.Names.{Name}
-use Rattle.state_rules.specs.Systems.{System}
 use Rattle.device_model.specs.Devices.{place_of}
 use Rattle.script_lang.specs.Script.{Note}
 use Rattle.script_lang.specs.declared.line.Noted.{Noted}

@@ -6,7 +6,7 @@ use Rattle.std.proofs.lemmas.Nat.{div_below}
 use Rattle.std.proofs.Math.Nat.{lt-div-mul-add}
 use Rattle.state_rules.specs.Graphs.{Graph, IsGraph}
 use Rattle.part_sets.specs.Numbers.{has_number}
-use Rattle.level_lister.specs.declared.pairs.Groups.{Groups}
+use Rattle.level_lister.specs.declared.groups.Groups.{Groups}
 use Rattle.level_lister.specs.inner.Pairs.{group_in}
 use Rattle.level_lister.specs.inner.FaultSets.{in_first, IsFaultSet, AreBothSets, IsNodeFaults}
 use Rattle.level_lister.proofs.LivingNodes.{skipped-is}

@@ -6,7 +6,7 @@ use Rattle.std.proofs.lemmas.Nat.{div_below}
 use Rattle.std.proofs.Math.Nat.{lt-div-mul-add, div-mul-le_self, pow-zero, pow-suc}
 use Rattle.state_rules.specs.Bits.{bit_in}
 use Rattle.state_rules.specs.Graphs.{Graph}
-use Rattle.level_lister.specs.declared.pairs.Groups.{Groups}
+use Rattle.level_lister.specs.declared.groups.Groups.{Groups}
 use Rattle.level_lister.specs.inner.Pairs.{FaultOf, FaultIn, OkAmong}
 
 pub size_some : (span count : ℕ) → 0 < span → 0 < (span + count) / (count + 1)
@@ -28,14 +28,14 @@ module _ (graph : Graph) (evidence costs : List ℕ) (c from : ℕ) where
   pub range_start : from ≤ length costs → IsRange from (length costs - from + 1)
   range_start le = record { le = omega arith; ok = λ part l h lt o s is. absurd (omega arith); some = inr (omega arith) }
 
-  module _ (low span count g : ℕ) (le : g ≤ count) (spans : 0 < span) where
+  module _ (low span count g : ℕ) (le : g ≤ count) (some_size : 0 < (span + count) / (count + 1)) where
     size : ℕ
     size = (span + count) / (count + 1)
 
     abbrev groups : Groups
-    groups = record { low = low; size = (span + count) / (count + 1) }
+    groups = record { low = low; size = (span + count) / (count + 1); some = some_size }
 
-    pub range_next : (g < count → FaultOf graph evidence costs c (record { low = low; size = (span + count) / (count + 1) }) g) → ((h : ℕ) → h < g → FaultOf graph evidence costs c (record { low = low; size = (span + count) / (count + 1) }) h → ⊥)
+    pub range_next : (g < count → FaultOf graph evidence costs c (record { low = low; size = (span + count) / (count + 1); some = some_size }) g) → ((h : ℕ) → h < g → FaultOf graph evidence costs c (record { low = low; size = (span + count) / (count + 1); some = some_size }) h → ⊥)
         → IsRange low span → IsRange (low + g * ((span + count) / (count + 1))) ((span + count) / (count + 1))
     range_next found none is = record {
       le = omega (arith, is.le);
@@ -45,9 +45,6 @@ module _ (graph : Graph) (evidence costs : List ℕ) (c from : ℕ) where
       s : ℕ
       s = (span + count) / (count + 1)
 
-      some_size : 0 < (span + count) / (count + 1)
-      some_size = size_some span count spans
-
       before : OkAmong graph evidence costs c from (low + g * ((span + count) / (count + 1)))
       before part l h lt o state p = ⊎_elim
           (λ (q : part < low). is.ok part l q lt o state p)
@@ -55,7 +52,7 @@ module _ (graph : Graph) (evidence costs : List ℕ) (c from : ℕ) where
           (record { state = state; is = p; part = part; within = lt; open_ = o; faulty = e; low = q; group = refl })))
           (cases_lt part low)
 
-      in_group : FaultOf graph evidence costs c (record { low = low; size = (span + count) / (count + 1) }) g → FaultWithin (low + g * ((span + count) / (count + 1))) ((span + count) / (count + 1))
+      in_group : FaultOf graph evidence costs c (record { low = low; size = (span + count) / (count + 1); some = some_size }) g → FaultWithin (low + g * ((span + count) / (count + 1))) ((span + count) / (count + 1))
       in_group f = grind (arith, div-mul-le_self, lt-div-mul-add)
 
       -- the groups and one more reach to the end

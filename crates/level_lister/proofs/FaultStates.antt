@@ -6,7 +6,7 @@ use Rattle.part_sets.proofs.SetBits.{has-within}
 use Rattle.level_lister.specs.inner.CostSets.{fault_weights}
 use Rattle.minimiser.proofs.Whole.{state_of, assignment_of}
 use Rattle.part_sets.specs.Numbers.{has_number}
-use Rattle.level_lister.specs.declared.pairs.Groups.{Groups}
+use Rattle.level_lister.specs.declared.groups.Groups.{Groups}
 use Rattle.level_lister.specs.inner.Pairs.{HasFault, FaultOf, group_in}
 use Rattle.level_lister.specs.inner.FaultSets.{IsWholeFaults}
 use Rattle.level_lister.specs.inner.Skips.{IsEnough}

@@ -12,8 +12,7 @@ use Rattle.state_rules.specs.Graphs.{Graph, IsGraph}
 use Rattle.conditioner.specs.Evidence.{known_of, word_of}
 use Rattle.minimiser.specs.Costs.{known_at}
 use Rattle.level_lister.specs.declared.pairs.Pair.{Pair}
-use Rattle.level_lister.specs.declared.pairs.Groups.{Groups}
-use Rattle.level_lister.specs.inner.CostSets.{Follows}
+use Rattle.level_lister.specs.declared.groups.Groups.{Groups}
 use Rattle.level_lister.specs.inner.Pairs.{Tells, TellsNode, TellNodes, pair_at, group_in, group_count}
 use Rattle.level_lister.proofs.LivingNodes.{skipped-is}
 use Rattle.level_lister.proofs.PartVariables.{Wider}
@@ -94,5 +93,5 @@ pub allowed_ok : (evidence : List ℕ) (part : ℕ) (word : ℕ) → get_or evid
 allowed_ok evidence part word e lt = grind arith
 
 -- what a word says
-pub said : (evidence : List ℕ) (part : ℕ) (b : Bool) (a : Assignment) → get_or evidence part 0 ≡ word_of b → Follows evidence a → a (part + 1) ≡ b
+pub said : (evidence : List ℕ) (part : ℕ) (b : Bool) (a : Assignment) → get_or evidence part 0 ≡ word_of b → ((v : ℕ) → agrees_at (known_at evidence v) (a v) ≡ true) → a (part + 1) ≡ b
 said evidence part b a e f = Agree-bit b (a (part + 1)) (sym (ap (λ k. agrees_at (known_of (get_or evidence k 0)) (a (part + 1))) (let g : part + 1 - 1 ≡ part = omega arith in g) ∙ ap (λ w. agrees_at (known_of w) (a (part + 1))) e) ∙ f (part + 1))

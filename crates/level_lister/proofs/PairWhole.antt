@@ -6,7 +6,7 @@ use Rattle.state_rules.specs.Bits.{has_bit}
 use Rattle.node_costs.specs.Costs.{cost_among}
 use Rattle.minimiser.proofs.Whole.{state_of, assignment_of}
 use Rattle.level_lister.specs.declared.pairs.Pair.{Pair}
-use Rattle.level_lister.specs.declared.pairs.Groups.{Groups}
+use Rattle.level_lister.specs.declared.groups.Groups.{Groups}
 use Rattle.level_lister.specs.inner.CostSets.{fault_weights}
 use Rattle.level_lister.specs.inner.Pairs.{TellsWhole, FaultOf, group_count}
 use Rattle.level_lister.specs.inner.Searching.{HasCost}

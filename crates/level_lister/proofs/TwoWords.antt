@@ -7,14 +7,14 @@ use Rattle.state_rules.specs.Assignments.{Assignment}
 use Rattle.state_rules.specs.Cases.{agrees_at}
 use Rattle.state_rules.specs.Bits.{same_bit, has_bit}
 use Rattle.state_rules.proofs.WordBits.{has_bit-zero, one_bit, has_bit-or}
-use Rattle.node_costs.specs.Costs.{Weights, SumOf, Depends, IsRow}
+use Rattle.node_costs.specs.Costs.{Weights, Agrees, SumOf, Depends, IsRow}
 use Rattle.node_costs.proofs.Conditions.{cost_among-none, cost-none}
 use Rattle.node_costs.proofs.Sets.{sum-flip, row-none, row-as, row-or, row-sum}
 use Rattle.node_costs.proofs.Tests.{cost-any, any-costs, cost-all, all-costs, depends-all, row-cost, row-literal}
 use Rattle.minimiser.specs.Costs.{known_at, part_cost}
 use Rattle.scratch_pool.proofs.Counted.{block-below}
 use Rattle.level_lister.specs.declared.pairs.Pair.{Pair}
-use Rattle.level_lister.specs.inner.CostSets.{fault_weights, Follows}
+use Rattle.level_lister.specs.inner.CostSets.{fault_weights}
 use Rattle.level_lister.specs.inner.Pairs.{IsSpread, Tells}
 use Rattle.level_lister.proofs.PartVariables.{Wider}
 use Rattle.level_lister.proofs.TestCosts.{only_parts, part_cost-at}
@@ -78,7 +78,7 @@ module _ (evidence costs : List ℕ) (top step : ℕ) (group : ℕ → ℕ → B
   }
 
   -- tests that say the same where assignments agree with the evidence
-  pub tells_known : (t u : Assignment → Bool) (some : ℕ → Bool) (pair : Pair) → ((a : Assignment) → Follows evidence a → t a ≡ u a) → Depends some u → Tells evidence costs top step group t some pair → Tells evidence costs top step group u some pair
+  pub tells_known : (t u : Assignment → Bool) (some : ℕ → Bool) (pair : Pair) → ((a : Assignment) → Agrees (fault_weights evidence costs) a → t a ≡ u a) → Depends some u → Tells evidence costs top step group t some pair → Tells evidence costs top step group u some pair
   tells_known t u some pair e local is = record {
     cost_bits = row-cost g (top + 1) _ some some _ _ (λ a f h. sym (e a f) ∙ h) (λ a f h. e a f ∙ h) (λ v l h. refl) is.cost_bits;
     fault_bits = λ i lt. row-cost g (top + 1) _ some some _ _ (λ a f h. (sym (e a f) ∙ h.0, h.1)) (λ a f h. (e a f ∙ h.0, h.1)) (λ v l h. refl) (is.fault_bits i lt);
@@ -115,7 +115,7 @@ module _ (evidence costs : List ℕ) (top step : ℕ) (group : ℕ → ℕ → B
   -- ---- what stands alone
 
   -- a test that no assignment meets
-  pub tells_none : (t : Assignment → Bool) (some : ℕ → Bool) → ((a : Assignment) → Follows evidence a → t a ≡ true → ⊥) → Depends some t → Tells evidence costs top step group t some (record { costs = 0; faults = 0 })
+  pub tells_none : (t : Assignment → Bool) (some : ℕ → Bool) → ((a : Assignment) → Agrees (fault_weights evidence costs) a → t a ≡ true → ⊥) → Depends some t → Tells evidence costs top step group t some (record { costs = 0; faults = 0 })
   tells_none t some none local = record { cost_bits = zero_row _ 1 0 (λ n c. none c.by c.agrees c.meets); fault_bits = λ i lt. zero_row _ step i (λ n c. none c.by c.agrees c.meets.0); local = local }
 
   one_at : (n : ℕ) → has_bit 1 (1 * n + 0) ≡ (n == 0)

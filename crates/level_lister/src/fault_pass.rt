@@ -1,18 +1,20 @@
 //! One pass over the nodes, which brings for each the set of the costs at which an open part of a group is faulty.
 ghost use Rattle.std.specs.Prelude.{◌≡◌, ℕ, ◌+◌, ◌*◌, ◌<◌, ◌≤◌, Bool, true, false, ◌&&◌, ◌||◌, List, length, slice_index, All, ◌==◌};
+ghost use Rattle.std.proofs.Props.{props};
 ghost use Rattle.state_rules.specs.Assignments.{Assignment};
 ghost use Rattle.state_rules.specs.Bits.{same_bit};
 ghost use Rattle.state_rules.specs.declared.nodes.NodeKind.TheVariants.{And, Or};
-ghost use Rattle.state_rules.specs.Graphs.{node_at};
+ghost use Rattle.state_rules.specs.Graphs.{IsGraph};
 ghost use Rattle.part_sets.specs.Numbers.{part_words, set_at};
 ghost use Rattle.part_sets.specs.PartSets.{ArePartsOf};
 ghost use Rattle.level_lister.specs.Listing.{IsFor, cost_words};
+ghost use Rattle.level_lister.specs.inner.Skips.{LivesAs};
 ghost use Rattle.level_lister.specs.inner.NodeSets.{AreNodeSets};
 ghost use Rattle.level_lister.specs.inner.FaultSets.{in_first, IsFaultSet, AreBothSets, IsNodeFaults, AreNodeFaults, IsWholeFaults};
 
 use crate::choices::add_part;
+use crate::groups::Groups;
 use crate::levels::Levels;
-use crate::pairs::Groups;
 use crate::pass::put_full;
 use crate::sets::{SET_LIMIT, add_shifted, put_sums};
 use conditioner::is_open;
@@ -29,49 +31,42 @@ pub(crate) struct FaultPass<'a> {
     pub(crate) groups: Groups,
     pub(crate) sets: &'a [u32],
     pub(crate) skips: &'a [u32],
+    ghost valid: { IsGraph graph.now } by { Prim.hlevel props },
     ghost for_graph: { IsFor graph.now levels.now },
     ghost long: { length evidence.now ≡ graph.now.vars },
     ghost small: { All (λ w. w < 3) evidence.now },
-    ghost some: { 0 < groups.size },
     ghost room: { length sets.now ≡ length graph.now.nodes * cost_words levels.now.top },
     ghost marks: { length skips.now ≡ length graph.now.nodes },
 }
 
 impl FaultPass<'_> {
     // Brings the set of each node, and that of the last node for all parts.
-    pub(crate) fn put_all(
-        &self,
-        faults: &mut [u32],
-        whole: &mut [u32],
-        all: &mut [u32],
-        spare: &mut [u32],
-    )
+    pub(crate) fn put_all(&self, faults: &mut [u32], whole: &mut [u32], scratch: &mut [u32])
         requires are { AreNodeSets self.now.graph.now self.now.skips.now self.now.evidence.now self.now.levels.now.costs (cost_words self.now.levels.now.top)
             self.now.sets.now (length self.now.graph.now.nodes) }
         requires faults { length faults.old ≡ length self.now.graph.now.nodes * cost_words self.now.levels.now.top }
         requires whole { length whole.old ≡ cost_words self.now.levels.now.top }
-        requires all { length all.old ≡ cost_words self.now.levels.now.top }
-        requires spare { length spare.old ≡ cost_words self.now.levels.now.top }
+        requires scratch { length scratch.old ≡ 3 * cost_words self.now.levels.now.top }
         ensures { IsWholeFaults self.now.graph.now self.now.skips.now self.now.evidence.now self.now.levels.now.costs self.now.groups whole.new }
     {
-        self.put_faults(faults, whole, all, spare);
+        self.put_faults(faults, scratch);
         let root = self.graph.len() as usize - 1;
         let size = self.levels.size();
         whole.copy_from_slice(set_at(faults, root, size));
         if self.levels.lacking()[root + 1] == 0 {
             return;
         }
+        let (all, rest) = scratch.split_at_mut(size);
+        let (spare, _) = rest.split_at_mut(size);
         all.copy_from_slice(set_at(self.sets, root, size));
         self.widen_both(root, root + 1, all, whole, spare);
     }
 
-    fn put_faults(&self, faults: &mut [u32], own: &mut [u32], all: &mut [u32], spare: &mut [u32])
+    fn put_faults(&self, faults: &mut [u32], scratch: &mut [u32])
         requires are { AreNodeSets self.now.graph.now self.now.skips.now self.now.evidence.now self.now.levels.now.costs (cost_words self.now.levels.now.top)
             self.now.sets.now (length self.now.graph.now.nodes) }
         requires faults { length faults.old ≡ length self.now.graph.now.nodes * cost_words self.now.levels.now.top }
-        requires own { length own.old ≡ cost_words self.now.levels.now.top }
-        requires all { length all.old ≡ cost_words self.now.levels.now.top }
-        requires spare { length spare.old ≡ cost_words self.now.levels.now.top }
+        requires scratch { length scratch.old ≡ 3 * cost_words self.now.levels.now.top }
         ensures { AreNodeFaults self.now.graph.now self.now.skips.now self.now.evidence.now self.now.levels.now.costs self.now.groups (cost_words self.now.levels.now.top)
             faults.new (length self.now.graph.now.nodes) }
     {
@@ -79,20 +74,12 @@ impl FaultPass<'_> {
         for at in 0..self.graph.len() {
             let (earlier, rest) = faults.split_at_mut(at as usize * size);
             let (set, _) = rest.split_at_mut(size);
-            self.put_node(earlier, at, set, own, all, spare);
+            self.put_node(earlier, at, set, scratch);
         }
     }
 
     // The set of a node, from those of the nodes before it. One that is skipped has no cost.
-    fn put_node(
-        &self,
-        earlier: &[u32],
-        at: u32,
-        set: &mut [u32],
-        own: &mut [u32],
-        all: &mut [u32],
-        spare: &mut [u32],
-    )
+    fn put_node(&self, earlier: &[u32], at: u32, set: &mut [u32], scratch: &mut [u32])
         requires are { AreNodeSets self.now.graph.now self.now.skips.now self.now.evidence.now self.now.levels.now.costs (cost_words self.now.levels.now.top)
             self.now.sets.now (length self.now.graph.now.nodes) }
         requires at { at < length self.now.graph.now.nodes }
@@ -100,25 +87,21 @@ impl FaultPass<'_> {
         requires earlier { AreNodeFaults self.now.graph.now self.now.skips.now self.now.evidence.now self.now.levels.now.costs self.now.groups
             (cost_words self.now.levels.now.top) earlier.now at }
         requires set { length set.old ≡ cost_words self.now.levels.now.top }
-        requires own { length own.old ≡ cost_words self.now.levels.now.top }
-        requires all { length all.old ≡ cost_words self.now.levels.now.top }
-        requires spare { length spare.old ≡ cost_words self.now.levels.now.top }
+        requires scratch { length scratch.old ≡ 3 * cost_words self.now.levels.now.top }
         ensures { IsNodeFaults self.now.graph.now self.now.skips.now self.now.evidence.now self.now.levels.now.costs self.now.groups at set.new }
     {
-        // Its contract says that this is a graph.
-        let _vars = self.graph.vars();
         if self.skips[at as usize] != 0 {
             clear(set);
             return;
         }
         match self.graph.what(at) {
             NodeKind::Literal { var, positive } => self.put_literal_faults(var, positive, set),
-            NodeKind::And => self.put_and_faults(earlier, at, set, own, all, spare),
+            NodeKind::And => self.put_and_faults(earlier, at, set, scratch),
             NodeKind::Or => {
                 if self.levels.lacking()[at as usize] == 0 {
                     put_full(self.graph, earlier, at, set)
                 } else {
-                    self.put_or_faults(earlier, at, set, own, all, spare)
+                    self.put_or_faults(earlier, at, set, scratch)
                 }
             }
         }
@@ -156,32 +139,20 @@ impl FaultPass<'_> {
     }
 
     // The set of an And: a part of one child is faulty. Its children share no variable.
-    fn put_and_faults(
-        &self,
-        earlier: &[u32],
-        at: u32,
-        set: &mut [u32],
-        other: &mut [u32],
-        all: &mut [u32],
-        spare: &mut [u32],
-    )
+    fn put_and_faults(&self, earlier: &[u32], at: u32, set: &mut [u32], scratch: &mut [u32])
         requires are { AreNodeSets self.now.graph.now self.now.skips.now self.now.evidence.now self.now.levels.now.costs (cost_words self.now.levels.now.top)
             self.now.sets.now (length self.now.graph.now.nodes) }
-        requires at { at < length self.now.graph.now.nodes }
-        requires what { (node_at self.now.graph.now.nodes at).what ≡ And }
-        requires lives { slice_index self.now.skips.now at ≡ 0 }
+        requires node { LivesAs self.now.graph.now self.now.skips.now at And }
         requires sets { length earlier.now ≡ at * cost_words self.now.levels.now.top }
         requires earlier { AreNodeFaults self.now.graph.now self.now.skips.now self.now.evidence.now self.now.levels.now.costs self.now.groups
             (cost_words self.now.levels.now.top) earlier.now at }
         requires set { length set.old ≡ cost_words self.now.levels.now.top }
-        requires other { length other.old ≡ cost_words self.now.levels.now.top }
-        requires all { length all.old ≡ cost_words self.now.levels.now.top }
-        requires spare { length spare.old ≡ cost_words self.now.levels.now.top }
+        requires scratch { length scratch.old ≡ 3 * cost_words self.now.levels.now.top }
         ensures { IsNodeFaults self.now.graph.now self.now.skips.now self.now.evidence.now self.now.levels.now.costs self.now.groups at set.new }
     {
-        // Its contract says that this is a graph.
-        let _vars = self.graph.vars();
         let size = self.levels.size();
+        let (other, rest) = scratch.split_at_mut(size);
+        let (all, spare) = rest.split_at_mut(size);
         clear(set);
         put_one(all, 0);
         for child in self.graph.kids(at) {
@@ -192,32 +163,20 @@ impl FaultPass<'_> {
     }
 
     // The set of an Or: parts that a child does not mention are free where it is true.
-    fn put_or_faults(
-        &self,
-        earlier: &[u32],
-        at: u32,
-        set: &mut [u32],
-        own: &mut [u32],
-        all: &mut [u32],
-        spare: &mut [u32],
-    )
+    fn put_or_faults(&self, earlier: &[u32], at: u32, set: &mut [u32], scratch: &mut [u32])
         requires are { AreNodeSets self.now.graph.now self.now.skips.now self.now.evidence.now self.now.levels.now.costs (cost_words self.now.levels.now.top)
             self.now.sets.now (length self.now.graph.now.nodes) }
-        requires at { at < length self.now.graph.now.nodes }
-        requires what { (node_at self.now.graph.now.nodes at).what ≡ Or }
-        requires lives { slice_index self.now.skips.now at ≡ 0 }
+        requires node { LivesAs self.now.graph.now self.now.skips.now at Or }
         requires sets { length earlier.now ≡ at * cost_words self.now.levels.now.top }
         requires earlier { AreNodeFaults self.now.graph.now self.now.skips.now self.now.evidence.now self.now.levels.now.costs self.now.groups
             (cost_words self.now.levels.now.top) earlier.now at }
         requires set { length set.old ≡ cost_words self.now.levels.now.top }
-        requires own { length own.old ≡ cost_words self.now.levels.now.top }
-        requires all { length all.old ≡ cost_words self.now.levels.now.top }
-        requires spare { length spare.old ≡ cost_words self.now.levels.now.top }
+        requires scratch { length scratch.old ≡ 3 * cost_words self.now.levels.now.top }
         ensures { IsNodeFaults self.now.graph.now self.now.skips.now self.now.evidence.now self.now.levels.now.costs self.now.groups at set.new }
     {
-        // Its contract says that this is a graph.
-        let _vars = self.graph.vars();
         let size = self.levels.size();
+        let (own, rest) = scratch.split_at_mut(size);
+        let (all, spare) = rest.split_at_mut(size);
         clear(set);
         for child in self.graph.kids(at) {
             all.copy_from_slice(set_at(self.sets, *child as usize, size));

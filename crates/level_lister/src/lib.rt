@@ -4,6 +4,7 @@
 mod bits;
 mod choices;
 mod fault_pass;
+mod groups;
 mod levels;
 mod pair_pass;
 mod pairs;

@@ -1,19 +1,22 @@
 //! One pass over the nodes, which brings two words for each, if only costs below 32 are listed.
 ghost use Rattle.std.specs.Prelude.{◌≡◌, ℕ, ◌+◌, ◌*◌, ◌<◌, ◌≤◌, Bool, true, false, ◌&&◌, List, length, slice_index, All, ◌==◌};
+ghost use Rattle.std.proofs.Props.{props};
 ghost use Rattle.state_rules.specs.Assignments.{Assignment};
 ghost use Rattle.state_rules.specs.Bits.{same_bit, has_bit};
 ghost use Rattle.state_rules.specs.Cases.{agrees_at};
 ghost use Rattle.state_rules.specs.declared.nodes.NodeKind.TheVariants.{And, Or};
-ghost use Rattle.state_rules.specs.Graphs.{node_at};
+ghost use Rattle.state_rules.specs.Graphs.{IsGraph};
 ghost use Rattle.minimiser.specs.Costs.{known_at};
 ghost use Rattle.part_sets.specs.Numbers.{part_words, set_at};
 ghost use Rattle.part_sets.specs.PartSets.{ArePartsOf, SameBelow};
 ghost use Rattle.level_lister.specs.Listing.{IsFor};
 ghost use Rattle.level_lister.specs.Passes.{group_count};
+ghost use Rattle.level_lister.specs.inner.Skips.{LivesAs};
 ghost use Rattle.level_lister.specs.inner.Pairs.{Tells, TellsNode, TellNodes, TellsWhole, group_in, pair_at};
 
+use crate::groups::Groups;
 use crate::levels::Levels;
-use crate::pairs::{Groups, Pair, either, joined, one};
+use crate::pairs::{Pair, either, joined, one};
 use crate::search::Asked;
 use conditioner::{Leaf, is_open, known_of, leaf};
 use node_store::Graph;
@@ -51,12 +54,12 @@ struct PairPass<'a> {
     skips: &'a [u32],
     evidence: &'a [u32],
     groups: Groups,
+    ghost valid: { IsGraph graph.now } by { Prim.hlevel props },
     ghost for_graph: { IsFor graph.now levels.now },
     ghost marks: { length skips.now ≡ length graph.now.nodes },
     ghost long: { length evidence.now ≡ graph.now.vars },
     ghost small: { All (λ w. w < 3) evidence.now },
     ghost few: { levels.now.top < 32 },
-    ghost some: { 0 < groups.size },
 }
 
 impl Levels {
@@ -75,7 +78,6 @@ impl Asked<'_> {
     // Puts the two words of each node, and gives those of all parts.
     pub(crate) fn put_pairs(&self, groups: Groups, values: &mut [u32]) -> Pair
         requires top { self.now.levels.now.top < 32 }
-        requires size { 0 < groups.size }
         requires room { 2 * length self.now.graph.now.nodes ≤ length values.old }
         ensures { TellsWhole self.now.graph.now self.now.skips.now self.now.evidence.now self.now.levels.now.costs self.now.levels.now.top groups result }
     {
@@ -202,8 +204,6 @@ impl PairPass<'_> {
         requires earlier { TellNodes self.now.graph.now self.now.skips.now self.now.evidence.now self.now.levels.now.costs self.now.levels.now.top self.now.groups values.now at }
         ensures { TellsNode self.now.graph.now self.now.skips.now self.now.evidence.now self.now.levels.now.costs self.now.levels.now.top self.now.groups at result }
     {
-        // Its contract says that this is a graph.
-        let _vars = self.graph.vars();
         if self.skips[at as usize] != 0 {
             return NEVER;
         }
@@ -221,16 +221,12 @@ impl PairPass<'_> {
     }
 
     fn and_pair(&self, values: &[u32], at: u32) -> Pair
-        requires at { at < length self.now.graph.now.nodes }
-        requires what { (node_at self.now.graph.now.nodes at).what ≡ And }
-        requires lives { slice_index self.now.skips.now at ≡ 0 }
+        requires node { LivesAs self.now.graph.now self.now.skips.now at And }
         requires room { 2 * length self.now.graph.now.nodes ≤ length values.now }
         ensures { (evidence : List ℕ) (groups : Groups)
             → TellNodes self.now.graph.now self.now.skips.now evidence self.now.levels.now.costs self.now.levels.now.top groups values.now at
             → TellsNode self.now.graph.now self.now.skips.now evidence self.now.levels.now.costs self.now.levels.now.top groups at result }
     {
-        // Its contract says that this is a graph.
-        let _vars = self.graph.vars();
         let mut pair = FREE;
         for child in self.graph.kids(at) {
             // The second one is to have few costs: what was joined so far is of literals, mostly.
@@ -246,17 +242,13 @@ impl PairPass<'_> {
 
     // The words of an Or whose children lack no part.
     fn full_pair(&self, values: &[u32], at: u32) -> Pair
-        requires at { at < length self.now.graph.now.nodes }
-        requires what { (node_at self.now.graph.now.nodes at).what ≡ Or }
-        requires lives { slice_index self.now.skips.now at ≡ 0 }
+        requires node { LivesAs self.now.graph.now self.now.skips.now at Or }
         requires same { SameBelow self.now.graph.now (length self.now.levels.now.costs) at }
         requires room { 2 * length self.now.graph.now.nodes ≤ length values.now }
         ensures { (evidence : List ℕ) (groups : Groups)
             → TellNodes self.now.graph.now self.now.skips.now evidence self.now.levels.now.costs self.now.levels.now.top groups values.now at
             → TellsNode self.now.graph.now self.now.skips.now evidence self.now.levels.now.costs self.now.levels.now.top groups at result }
     {
-        // Its contract says that this is a graph.
-        let _vars = self.graph.vars();
         let mut pair = NEVER;
         for child in self.graph.kids(at) {
             pair = either(pair, pair_at(values, *child as usize));
@@ -266,15 +258,11 @@ impl PairPass<'_> {
 
     // The words of an Or: parts that a child does not mention are free where it is true.
     fn or_pair(&self, values: &[u32], at: u32) -> Pair
-        requires at { at < length self.now.graph.now.nodes }
-        requires what { (node_at self.now.graph.now.nodes at).what ≡ Or }
-        requires lives { slice_index self.now.skips.now at ≡ 0 }
+        requires node { LivesAs self.now.graph.now self.now.skips.now at Or }
         requires room { 2 * length self.now.graph.now.nodes ≤ length values.now }
         requires earlier { TellNodes self.now.graph.now self.now.skips.now self.now.evidence.now self.now.levels.now.costs self.now.levels.now.top self.now.groups values.now at }
         ensures { TellsNode self.now.graph.now self.now.skips.now self.now.evidence.now self.now.levels.now.costs self.now.levels.now.top self.now.groups at result }
     {
-        // Its contract says that this is a graph.
-        let _vars = self.graph.vars();
         let mut pair = NEVER;
         for child in self.graph.kids(at) {
             let own = pair_at(values, *child as usize);

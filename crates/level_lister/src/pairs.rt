@@ -14,13 +14,6 @@ pub(crate) struct Pair {
     pub(crate) faults: u32,
 }
 
-/// The open parts from one on, in groups of so many.
-#[derive(Clone, Copy, Debug)]
-pub(crate) struct Groups {
-    pub(crate) low: usize,
-    pub(crate) size: usize,
-}
-
 // The word of one number, if it has room for it.
 pub(crate) fn one(number: u32) -> u32
     ensures { (n : ℕ) → n < 32 → has_bit result n ≡ (n == number) }

@@ -5,7 +5,8 @@ ghost use Rattle.state_rules.specs.Graphs.{node_at};
 ghost use Rattle.conditioner.specs.declared.leaves.Leaf.{Leaf};
 ghost use Rattle.part_sets.specs.Numbers.{has_number, part_words, set_at};
 ghost use Rattle.part_sets.specs.PartSets.{SameBelow};
-ghost use Rattle.level_lister.specs.declared.pairs.Groups.{Groups};
+ghost use Rattle.level_lister.specs.declared.groups.Groups.{Groups};
+ghost use Rattle.level_lister.specs.inner.Skips.{LivesAs};
 ghost use Rattle.level_lister.specs.inner.NodeSets.{IsNodeSet, AreNodeSets, IsWholeSet};
 ghost use Rattle.level_lister.specs.inner.FaultSets.{IsNodeFaults, AreNodeFaults};
 
@@ -70,8 +71,6 @@ impl Asked<'_> {
         requires other { length other.old ≡ length set.old }
         ensures { IsNodeSet self.now.graph.now self.now.skips.now self.now.evidence.now self.now.levels.now.costs at set.new }
     {
-        // Its contract says that this is a graph.
-        let _vars = self.graph.vars();
         if self.skips[at as usize] != 0 {
             clear(set);
             return;
@@ -99,16 +98,12 @@ impl Asked<'_> {
     // The set of an And: its children share no variable.
     fn put_and(&self, sets: &[u32], at: u32, set: &mut [u32], spare: &mut [u32])
         requires room { length set.old ≤ SET_LIMIT }
-        requires at { at < length self.now.graph.now.nodes }
-        requires what { (node_at self.now.graph.now.nodes at).what ≡ And }
-        requires lives { slice_index self.now.skips.now at ≡ 0 }
+        requires node { LivesAs self.now.graph.now self.now.skips.now at And }
         requires sets { length sets.now ≡ at * length set.old }
         requires spare { length spare.old ≡ length set.old }
         ensures { (evidence costs : List ℕ) → AreNodeSets self.now.graph.now self.now.skips.now evidence costs (length set.old) sets.now at
             → IsNodeSet self.now.graph.now self.now.skips.now evidence costs at set.new }
     {
-        // Its contract says that this is a graph.
-        let _vars = self.graph.vars();
         let size = set.len();
         put_one(set, 0);
         for child in self.graph.kids(at) {
@@ -119,17 +114,13 @@ impl Asked<'_> {
 
     // The set of an Or: parts that a child does not mention are free where it is true.
     fn put_or(&self, sets: &[u32], at: u32, set: &mut [u32], spare: &mut [u32], other: &mut [u32])
-        requires at { at < length self.now.graph.now.nodes }
-        requires what { (node_at self.now.graph.now.nodes at).what ≡ Or }
-        requires lives { slice_index self.now.skips.now at ≡ 0 }
+        requires node { LivesAs self.now.graph.now self.now.skips.now at Or }
         requires sets { length sets.now ≡ at * length set.old }
         requires earlier { AreNodeSets self.now.graph.now self.now.skips.now self.now.evidence.now self.now.levels.now.costs (length set.old) sets.now at }
         requires spare { length spare.old ≡ length set.old }
         requires other { length other.old ≡ length set.old }
         ensures { IsNodeSet self.now.graph.now self.now.skips.now self.now.evidence.now self.now.levels.now.costs at set.new }
     {
-        // Its contract says that this is a graph.
-        let _vars = self.graph.vars();
         let size = set.len();
         let costs = self.levels.costs();
         let below = self.levels.below();

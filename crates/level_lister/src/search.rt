@@ -1,11 +1,13 @@
 //! The search for the next state.
 ghost use Rattle.std.specs.Prelude.{◌≡◌, ℕ, ◌+◌, ◌*◌, ◌<◌, ◌≤◌, length, All, Some, MatchOption, slice_index};
+ghost use Rattle.std.proofs.Props.{props};
+ghost use Rattle.state_rules.specs.Graphs.{IsGraph};
 ghost use Rattle.conditioner.specs.Evidence.{bits_of};
 ghost use Rattle.diagnosis_lister.specs.Listing.{fault_count};
 ghost use Rattle.diagnosis_lister.specs.inner.Fixing.{fixed_bits};
 ghost use Rattle.level_lister.specs.Listing.{IsFor, cost_words, point_if};
 ghost use Rattle.level_lister.specs.Passes.{AreEnough, fixing_passes, point_faults};
-ghost use Rattle.level_lister.specs.inner.Searching.{FindsFirst, FindsNext};
+ghost use Rattle.level_lister.specs.inner.Searching.{CanAsk, AreSaved, FindsFirst, FindsNext};
 ghost use Rattle.level_lister.specs.inner.Skips.{IsEnough};
 
 use crate::levels::Levels;
@@ -20,6 +22,7 @@ pub(crate) struct Search<'a> {
     pub(crate) levels: &'a Levels,
     pub(crate) graph: &'a Graph,
     pub(crate) skips: &'a [u32],
+    ghost valid: { IsGraph graph.now } by { Prim.hlevel props },
     ghost for_graph: { IsFor graph.now levels.now },
     ghost marks: { length skips.now ≡ length graph.now.nodes },
 }
@@ -31,6 +34,7 @@ pub(crate) struct Asked<'a> {
     pub(crate) graph: &'a Graph,
     pub(crate) skips: &'a [u32],
     pub(crate) evidence: &'a [u32],
+    ghost valid: { IsGraph graph.now } by { Prim.hlevel props },
     ghost for_graph: { IsFor graph.now levels.now },
     ghost marks: { length skips.now ≡ length graph.now.nodes },
     ghost long: { length evidence.now ≡ graph.now.vars },
@@ -49,11 +53,8 @@ impl Search<'_> {
         pointed: bool,
         steps: &mut Steps<L>,
     ) -> Option<u32>
-        requires long { length evidence.old ≡ self.now.graph.now.vars }
-        requires evidence { All (λ w. w < 3) evidence.old }
-        requires enough { IsEnough self.now.graph.now self.now.skips.now evidence.old self.now.levels.now.costs self.now.levels.now.top }
-        requires saved { length saved.now ≡ length self.now.levels.now.costs }
-        requires same { (k : ℕ) → k < length self.now.levels.now.costs → slice_index saved.now k ≡ slice_index evidence.old k }
+        requires asked { CanAsk self.now.graph.now self.now.skips.now evidence.old self.now.levels.now }
+        requires saved { AreSaved (length self.now.levels.now.costs) evidence.old saved.now }
         requires work { (length self.now.graph.now.nodes + 2) * cost_words self.now.levels.now.top ≤ length work.old }
         requires state { length state.now ≡ length self.now.levels.now.costs }
         ensures found { FindsNext self.now.graph.now evidence.old self.now.levels.now (point_if pointed (bits_of state.now)) evidence.new result }
@@ -79,11 +80,8 @@ impl Search<'_> {
         state: &[u32],
         steps: &mut Steps<L>,
     ) -> Option<u32>
-        requires long { length evidence.old ≡ self.now.graph.now.vars }
-        requires evidence { All (λ w. w < 3) evidence.old }
-        requires enough { IsEnough self.now.graph.now self.now.skips.now evidence.old self.now.levels.now.costs self.now.levels.now.top }
-        requires saved { length saved.now ≡ length self.now.levels.now.costs }
-        requires same { (k : ℕ) → k < length self.now.levels.now.costs → slice_index saved.now k ≡ slice_index evidence.old k }
+        requires asked { CanAsk self.now.graph.now self.now.skips.now evidence.old self.now.levels.now }
+        requires saved { AreSaved (length self.now.levels.now.costs) evidence.old saved.now }
         requires work { (length self.now.graph.now.nodes + 2) * cost_words self.now.levels.now.top ≤ length work.old }
         requires state { length state.now ≡ length self.now.levels.now.costs }
         ensures found { FindsNext self.now.graph.now evidence.old self.now.levels.now (Some (bits_of state.now)) evidence.new result }
@@ -115,9 +113,7 @@ impl Search<'_> {
         from: u32,
         steps: &mut Steps<L>,
     ) -> Option<u32>
-        requires long { length evidence.old ≡ self.now.graph.now.vars }
-        requires evidence { All (λ w. w < 3) evidence.old }
-        requires enough { IsEnough self.now.graph.now self.now.skips.now evidence.old self.now.levels.now.costs self.now.levels.now.top }
+        requires asked { CanAsk self.now.graph.now self.now.skips.now evidence.old self.now.levels.now }
         requires work { (length self.now.graph.now.nodes + 2) * cost_words self.now.levels.now.top ≤ length work.old }
         ensures found { FindsFirst self.now.graph.now evidence.old self.now.levels.now from evidence.new result }
         ensures steps { MatchOption result (steps.new ≤ steps.old + 1)

@@ -6,7 +6,8 @@ ghost use Rattle.level_lister.specs.inner.NodeSets.{BeginWithSets, AreReady};
 ghost use Rattle.level_lister.specs.inner.Pairs.{FaultOf, FaultIn, OkAmong};
 
 use crate::fault_pass::FaultPass;
-use crate::pairs::{Groups, has_bit};
+use crate::groups::Groups;
+use crate::pairs::has_bit;
 use crate::search::Asked;
 use minimiser::Steps;
 use part_sets::has_number;
@@ -34,7 +35,6 @@ impl Asked<'_> {
     // The first of the groups that are said in which an open part is faulty in some state of this cost, or the number of them where
     // there is none. It takes one pass, and leaves what was prepared.
     fn faulty_group(&self, work: &mut [u32], cost: u32, groups: Groups) -> u32
-        requires size { 0 < groups.size }
         requires work { length work.old ≡ (length self.now.graph.now.nodes + 2) * (2 * cost_words self.now.levels.now.top) }
         requires cost { cost ≤ self.now.levels.now.top }
         requires ready { AreReady self.now.graph.now self.now.skips.now self.now.evidence.now self.now.levels.now work.old }
@@ -54,7 +54,6 @@ impl Asked<'_> {
     // The same, where only costs below 32 are listed.
     fn faulty_group_by_pairs(&self, work: &mut [u32], cost: u32, groups: Groups) -> u32
         requires top { self.now.levels.now.top < 32 }
-        requires size { 0 < groups.size }
         requires work { 2 * length self.now.graph.now.nodes ≤ length work.old }
         requires cost { cost ≤ self.now.levels.now.top }
         ensures few { result ≤ group_count self.now.levels.now.top }
@@ -62,8 +61,6 @@ impl Asked<'_> {
             → FaultOf self.now.graph.now self.now.evidence.now self.now.levels.now.costs cost groups result }
         ensures before { (g : ℕ) → g < result → FaultOf self.now.graph.now self.now.evidence.now self.now.levels.now.costs cost groups g → ⊥ }
     {
-        // Its contract says that this is a graph.
-        let _vars = self.graph.vars();
         let pair = self.put_pairs(groups, work);
         let count = self.levels.group_count();
         for group in 0..count {
@@ -77,7 +74,6 @@ impl Asked<'_> {
     // The first group alone: 0 where an open part of it is faulty in some state of this cost, and else 1. The pass goes over the nodes
     // once, for the costs with a fault: the sets of all costs are there.
     fn faulty_group_by_sets(&self, work: &mut [u32], cost: u32, groups: Groups) -> u32
-        requires size { 0 < groups.size }
         requires work { length work.old ≡ (length self.now.graph.now.nodes + 2) * (2 * cost_words self.now.levels.now.top) }
         requires cost { cost ≤ self.now.levels.now.top }
         requires sets { BeginWithSets self.now.graph.now self.now.skips.now self.now.evidence.now self.now.levels.now work.old }
@@ -90,9 +86,7 @@ impl Asked<'_> {
         let all = self.graph.len() as usize * size;
         let (sets, rest) = work.split_at_mut(all);
         let (faults, rest) = rest.split_at_mut(all);
-        let (whole, rest) = rest.split_at_mut(size);
-        let (other, rest) = rest.split_at_mut(size);
-        let (spare, _) = rest.split_at_mut(size);
+        let (whole, scratch) = rest.split_at_mut(size);
         let pass = FaultPass {
             levels: self.levels,
             graph: self.graph,
@@ -101,7 +95,7 @@ impl Asked<'_> {
             sets,
             skips: self.skips,
         };
-        pass.put_all(faults, whole, other, spare);
+        pass.put_all(faults, whole, scratch);
         if has_number(whole, cost as usize) {
             0
         } else {

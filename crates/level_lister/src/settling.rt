@@ -1,27 +1,20 @@
 //! Parts that are fixed one after the other, so that one state of a cost is left.
-ghost use Rattle.std.specs.Prelude.{◌≡◌, ◌≢◌, ◌↔◌, ℕ, ◌+◌, ◌*◌, ◌<◌, ◌≤◌, true, length, All, IsTrue, MatchOption, slice_index};
+ghost use Rattle.std.specs.Prelude.{◌≡◌, ◌↔◌, ℕ, ◌+◌, ◌*◌, ◌<◌, ◌≤◌, true, length, All, IsTrue, MatchOption, slice_index};
 ghost use Rattle.conditioner.specs.Evidence.{bits_of};
 ghost use Rattle.diagnosis_lister.specs.Listing.{fault_count};
 ghost use Rattle.diagnosis_lister.specs.inner.Fixing.{IsFirst, NoneAfter, Leaves, fixed_bits};
 ghost use Rattle.part_sets.specs.Numbers.{has_number};
 ghost use Rattle.level_lister.specs.Listing.{cost_words};
 ghost use Rattle.level_lister.specs.Passes.{AreEnough, fixing_passes};
-ghost use Rattle.level_lister.specs.inner.Searching.{OfCost, HasCost};
-ghost use Rattle.level_lister.specs.inner.Skips.{IsEnough};
+ghost use Rattle.level_lister.specs.inner.Searching.{OfCost, HasCost, CanAsk, AreSaved, IsBegun};
 
-use crate::pairs::Groups;
+use crate::groups::Groups;
 use crate::search::{Asked, Search};
 use crate::states::follow;
 use conditioner::{fix_ok, is_false, is_faulty, is_open};
 use minimiser::Steps;
 use part_sets::has_number;
 use std::sync::ledger::Ledger;
-
-// No part is in any group.
-const NO_GROUPS: Groups = Groups {
-    low: usize::MAX,
-    size: 1,
-};
 
 impl Asked<'_> {
     // Whether there are two words for each node, and they say all that is listed of a node.
@@ -39,10 +32,8 @@ impl Asked<'_> {
         ensures { (c : ℕ) → c ≤ self.now.levels.now.top
             → (IsTrue (has_number set.new c) ↔ HasCost self.now.graph.now self.now.evidence.now self.now.levels.now.costs c) }
     {
-        // Its contract says that this is a graph.
-        let _vars = self.graph.vars();
         if self.has_pairs(work) {
-            let pair = self.put_pairs(NO_GROUPS, work);
+            let pair = self.put_pairs(Groups::NONE, work);
             set[0] = pair.costs;
             return;
         }
@@ -101,14 +92,9 @@ impl Search<'_> {
         from: usize,
         steps: &mut Steps<L>,
     )
-        requires long { length evidence.old ≡ self.now.graph.now.vars }
-        requires evidence { All (λ w. w < 3) evidence.old }
-        requires enough { IsEnough self.now.graph.now self.now.skips.now evidence.old self.now.levels.now.costs self.now.levels.now.top }
+        requires asked { CanAsk self.now.graph.now self.now.skips.now evidence.old self.now.levels.now }
         requires work { (length self.now.graph.now.nodes + 2) * cost_words self.now.levels.now.top ≤ length work.old }
-        requires cost { cost ≤ self.now.levels.now.top }
-        requires from { from ≤ length self.now.levels.now.costs }
-        requires front { (k : ℕ) → k < from → slice_index evidence.old k ≢ 0 }
-        requires some { HasCost self.now.graph.now evidence.old self.now.levels.now.costs cost }
+        requires begun { IsBegun self.now.graph.now evidence.old self.now.levels.now cost from }
         ensures others { (k : ℕ) → length self.now.levels.now.costs ≤ k → slice_index evidence.new k ≡ slice_index evidence.old k }
         ensures evidence { All (λ w. w < 3) evidence.new }
         ensures first { IsFirst (OfCost self.now.graph.now evidence.old self.now.levels.now.costs cost)
@@ -135,14 +121,9 @@ impl Search<'_> {
         from: usize,
         steps: &mut Steps<L>,
     )
-        requires long { length evidence.old ≡ self.now.graph.now.vars }
-        requires evidence { All (λ w. w < 3) evidence.old }
-        requires enough { IsEnough self.now.graph.now self.now.skips.now evidence.old self.now.levels.now.costs self.now.levels.now.top }
+        requires asked { CanAsk self.now.graph.now self.now.skips.now evidence.old self.now.levels.now }
         requires work { length work.old ≡ (length self.now.graph.now.nodes + 2) * (2 * cost_words self.now.levels.now.top) }
-        requires cost { cost ≤ self.now.levels.now.top }
-        requires from { from ≤ length self.now.levels.now.costs }
-        requires front { (k : ℕ) → k < from → slice_index evidence.old k ≢ 0 }
-        requires some { HasCost self.now.graph.now evidence.old self.now.levels.now.costs cost }
+        requires begun { IsBegun self.now.graph.now evidence.old self.now.levels.now cost from }
         ensures others { (k : ℕ) → length self.now.levels.now.costs ≤ k → slice_index evidence.new k ≡ slice_index evidence.old k }
         ensures evidence { All (λ w. w < 3) evidence.new }
         ensures first { IsFirst (OfCost self.now.graph.now evidence.old self.now.levels.now.costs cost)
@@ -175,14 +156,9 @@ impl Search<'_> {
         from: usize,
         steps: &mut Steps<L>,
     )
-        requires long { length evidence.old ≡ self.now.graph.now.vars }
-        requires evidence { All (λ w. w < 3) evidence.old }
-        requires enough { IsEnough self.now.graph.now self.now.skips.now evidence.old self.now.levels.now.costs self.now.levels.now.top }
+        requires asked { CanAsk self.now.graph.now self.now.skips.now evidence.old self.now.levels.now }
         requires work { (length self.now.graph.now.nodes + 2) * cost_words self.now.levels.now.top ≤ length work.old }
-        requires cost { cost ≤ self.now.levels.now.top }
-        requires from { from ≤ length self.now.levels.now.costs }
-        requires front { (k : ℕ) → k < from → slice_index evidence.old k ≢ 0 }
-        requires some { HasCost self.now.graph.now evidence.old self.now.levels.now.costs cost }
+        requires begun { IsBegun self.now.graph.now evidence.old self.now.levels.now cost from }
         ensures others { (k : ℕ) → length self.now.levels.now.costs ≤ k → slice_index evidence.new k ≡ slice_index evidence.old k }
         ensures evidence { All (λ w. w < 3) evidence.new }
         ensures first { IsFirst (OfCost self.now.graph.now evidence.old self.now.levels.now.costs cost)
@@ -215,11 +191,8 @@ impl Search<'_> {
         cost: u32,
         steps: &mut Steps<L>,
     ) -> Option<usize>
-        requires long { length evidence.old ≡ self.now.graph.now.vars }
-        requires evidence { All (λ w. w < 3) evidence.old }
-        requires enough { IsEnough self.now.graph.now self.now.skips.now evidence.old self.now.levels.now.costs self.now.levels.now.top }
-        requires saved { length saved.now ≡ length self.now.levels.now.costs }
-        requires same { (k : ℕ) → k < length self.now.levels.now.costs → slice_index saved.now k ≡ slice_index evidence.old k }
+        requires asked { CanAsk self.now.graph.now self.now.skips.now evidence.old self.now.levels.now }
+        requires saved { AreSaved (length self.now.levels.now.costs) evidence.old saved.now }
         requires work { (length self.now.graph.now.nodes + 2) * cost_words self.now.levels.now.top ≤ length work.old }
         requires state { length state.now ≡ length self.now.levels.now.costs }
         requires cost { cost ≤ self.now.levels.now.top }

@@ -1,7 +1,6 @@
 -- Sets of costs, and what the set of a node says.
 use Rattle.std.specs.Prelude.{◌≡◌, ℕ, zero, suc, ◌+◌, ◌-◌, ◌*◌, ◌<◌, Bool, true, ◌&&◌, List, length, slice_index, nat_le, if◌then◌else◌}
 use Rattle.state_rules.specs.Assignments.{Assignment}
-use Rattle.state_rules.specs.Cases.{agrees_at}
 use Rattle.node_costs.specs.Costs.{Weights, TestCost, Depends, SumOf, IsRow}
 use Rattle.minimiser.specs.Costs.{known_at, part_cost}
 use Rattle.part_sets.specs.Numbers.{has_number}
@@ -24,10 +23,6 @@ pub record AreSums (left right : List ℕ) (limit : ℕ) (set : List ℕ) : Type
 -- what the evidence says of the variables, and what a part costs if it is faulty
 abbrev pub fault_weights : List ℕ → List ℕ → Weights
 fault_weights evidence costs = record { known = known_at evidence; weight = λ v b. if b then 0 else part_cost costs v; parts = length costs }
-
--- an assignment agrees with the evidence
-abbrev pub Follows : List ℕ → Assignment → Type 0
-Follows evidence a = (v : ℕ) → agrees_at (known_at evidence v) (a v) ≡ true
 
 -- The set has just the costs of a test, so far as it has room. The test depends on some variables alone.
 pub record IsCostSet (evidence costs : List ℕ) (test : Assignment → Bool) (some : ℕ → Bool) (set : List ℕ) : Type 0 where

@@ -4,7 +4,7 @@ use Rattle.state_rules.specs.Assignments.{Assignment}
 use Rattle.state_rules.specs.Graphs.{Graph, is_true, mentions}
 use Rattle.node_costs.specs.Costs.{CostOf, IsRow}
 use Rattle.part_sets.specs.Numbers.{has_number, set_at}
-use Rattle.level_lister.specs.declared.pairs.Groups.{Groups}
+use Rattle.level_lister.specs.declared.groups.Groups.{Groups}
 use Rattle.level_lister.specs.inner.CostSets.{fault_weights, IsCostSet}
 use Rattle.level_lister.specs.inner.Skips.{living}
 use Rattle.level_lister.specs.inner.Pairs.{HasFault, group_in}

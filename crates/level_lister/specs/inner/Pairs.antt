@@ -4,7 +4,7 @@ use Rattle.state_rules.specs.Assignments.{Assignment}
 use Rattle.state_rules.specs.Bits.{bit_in, has_bit}
 use Rattle.state_rules.specs.Graphs.{Graph, is_true, mentions}
 use Rattle.level_lister.specs.declared.pairs.Pair.{Pair}
-use Rattle.level_lister.specs.declared.pairs.Groups.{Groups}
+use Rattle.level_lister.specs.declared.groups.Groups.{Groups}
 use Rattle.node_costs.specs.Costs.{CostOf, Depends, IsRow}
 pub use Rattle.level_lister.specs.Passes.{group_count}
 use Rattle.level_lister.specs.inner.CostSets.{fault_weights}

@@ -1,11 +1,12 @@
 -- What holds while one part after the other is fixed, to find a state of one cost.
-use Rattle.std.specs.Prelude.{◌≡◌, ℕ, ◌≤◌, Bool, true, List, length, ◌⊎◌, Option, Some, None, MatchOption, slice_index}
+use Rattle.std.specs.Prelude.{◌≡◌, ◌≢◌, ℕ, ◌<◌, ◌≤◌, Bool, true, List, length, All, ◌⊎◌, Option, Some, None, MatchOption, slice_index}
 use Rattle.state_rules.specs.Ranking.{cost}
 use Rattle.state_rules.specs.Graphs.{Graph}
 use Rattle.state_rules.specs.Levels.{is_level_before}
 use Rattle.conditioner.specs.Models.{has_model, fits_evidence}
 use Rattle.diagnosis_lister.specs.inner.Fixing.{Has, fixed_bits}
 use Rattle.level_lister.specs.Listing.{Kept}
+use Rattle.level_lister.specs.inner.Skips.{IsEnough}
 
 -- a state of the parts that the graph allows under the evidence, of just so much cost
 pub record OfCost (graph : Graph) (evidence costs : List ℕ) (c : ℕ) (h : List Bool) : Type 0 where
@@ -16,6 +17,24 @@ pub record OfCost (graph : Graph) (evidence costs : List ℕ) (c : ℕ) (h : Lis
 -- some state is one
 abbrev pub HasCost : Graph → List ℕ → List ℕ → ℕ → Type 0
 HasCost graph evidence costs c = Has (OfCost graph evidence costs c)
+
+-- What is asked by evidence: it has a word for each variable, and what is left of the graph is enough under it.
+pub record CanAsk (graph : Graph) (skips evidence : List ℕ) (kept : Kept) : Type 0 where
+  pub long : length evidence ≡ graph.vars
+  pub small : All (λ w. w < 3) evidence
+  pub enough : IsEnough graph skips evidence kept.costs kept.top
+
+-- the words of the parts, as the evidence has them
+pub record AreSaved (parts : ℕ) (evidence saved : List ℕ) : Type 0 where
+  pub long : length saved ≡ parts
+  pub same : (k : ℕ) → k < parts → slice_index saved k ≡ slice_index evidence k
+
+-- the parts before one are fixed, and some state of a listed cost is left
+pub record IsBegun (graph : Graph) (evidence : List ℕ) (kept : Kept) (c from : ℕ) : Type 0 where
+  pub listed : c ≤ kept.top
+  pub within : from ≤ length kept.costs
+  pub front : (k : ℕ) → k < from → slice_index evidence k ≢ 0
+  pub some : HasCost graph evidence kept.costs c
 
 -- a state that the graph allows under the evidence, of a cost from one up to another
 pub record IsListed (graph : Graph) (evidence costs : List ℕ) (from top : ℕ) (h : List Bool) : Type 0 where

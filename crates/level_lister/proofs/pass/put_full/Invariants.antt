@@ -3,7 +3,7 @@ use Rattle.std.specs.List.{list_any}
 use Rattle.state_rules.specs.Graphs.{is_true, mentions}
 use Rattle.part_sets.specs.PartSets.{SameBelow}
 use Rattle.level_lister.specs.inner.Skips.{living}
-use Rattle.level_lister.specs.declared.pairs.Groups.{Groups}
+use Rattle.level_lister.specs.declared.groups.Groups.{Groups}
 use Rattle.level_lister.specs.inner.CostSets.{IsCostSet}
 use Rattle.level_lister.specs.inner.NodeSets.{AreNodeSets}
 use Rattle.level_lister.specs.inner.FaultSets.{in_first, IsFaultSet, AreNodeFaults}

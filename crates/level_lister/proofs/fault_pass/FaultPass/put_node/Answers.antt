@@ -6,13 +6,13 @@ use Rattle.level_lister.proofs.Children.{literal_at}
 use Rattle.level_lister.proofs.fault_pass.FaultPass.put_node.Goals as goal
 
 pub put_literal_faults-requires : goal.put_literal_faults-requires
-put_literal_faults-requires c = record { var = (literal-fits c.args.self.now.graph.now c.args.at _ c.vars-vars.ensures.valid c.requires.at refl c.in-Literal.var c.in-Literal.positive c.in-Literal.ensures).0 }
+put_literal_faults-requires c = record { var = (literal-fits c.args.self.now.graph.now c.args.at _ c.args.self.now.valid c.requires.at refl c.in-Literal.var c.in-Literal.positive c.in-Literal.ensures).0 }
 
 pub returns-in-Literal : goal.returns-in-Literal
 returns-in-Literal c =
     let evidence = c.args.self.now.evidence.now in
     let costs = c.args.self.now.levels.now.costs in
-    literal_at c.args.self.now.graph.now c.args.at _ c.vars-vars.ensures.valid c.requires.at refl c.args.self.now.skips.now c.if-self-at-ne0.false (λ t m. IsFaultSet evidence costs (in_first evidence costs c.args.self.now.groups) t m c.put_literal_faults.new.set)
+    literal_at c.args.self.now.graph.now c.args.at _ c.args.self.now.valid c.requires.at refl c.args.self.now.skips.now c.if-self-at-ne0.false (λ t m. IsFaultSet evidence costs (in_first evidence costs c.args.self.now.groups) t m c.put_literal_faults.new.set)
     c.in-Literal.var c.in-Literal.positive c.in-Literal.ensures c.put_literal_faults.ensures
 
 pub returns-then-lacking-at-eq0 : goal.returns-then-lacking-at-eq0
@@ -26,4 +26,4 @@ returns-then-lacking-at-eq0 c =
     (subst (λ n. AreNodeFaults graph c.args.self.now.skips.now evidence costs groups n c.args.earlier.now c.args.at) (sym c.requires.set) c.requires.earlier)
 
 pub returns-then-self-at-ne0 : goal.returns-then-self-at-ne0
-returns-then-self-at-ne0 c = skipped_faults c.args.self.now.graph.now c.args.self.now.skips.now c.args.self.now.evidence.now c.args.self.now.levels.now.costs c.args.self.now.groups c.args.at c.clear.new.set c.vars-vars.ensures.valid c.requires.at c.if-self-at-ne0.true c.clear.ensures
+returns-then-self-at-ne0 c = skipped_faults c.args.self.now.graph.now c.args.self.now.skips.now c.args.self.now.evidence.now c.args.self.now.levels.now.costs c.args.self.now.groups c.args.at c.clear.new.set c.args.self.now.valid c.requires.at c.if-self-at-ne0.true c.clear.ensures

@@ -23,5 +23,7 @@ returns-clause-enough g c e =
     let evidence = c.args.evidence.now in
     let costs = c.args.self.now.costs in
     let least : AreLeastCosts graph evidence costs c.least.new.values = subst (λ (cs : List ℕ). AreLeastCosts graph evidence cs c.least.new.values) c.costs.ensures c.least.ensures.values in
-    enough graph evidence costs c.len.ensures.valid c.least.new.values least c.put_rests.new.rests c.mark_dear.new.rests c.args.self.now.top c.requires.long c.requires.graph.parts c.put_rests.ensures
-    (λ k h. c.mark_dear.ensures k (omega (arith, c.put_rests.auto.rests, c.requires.skips)) ∙ ap (λ top. skip_of top (get_or c.least.new.values k 0) (get_or c.put_rests.new.rests k 0)) c.top.ensures)
+    let outside = c.put_outside_costs.new.outside in
+    enough graph evidence costs c.len.ensures.valid c.least.new.values outside c.mark_dear.new.outside c.args.self.now.top least c.put_outside_costs.ensures
+    (λ k h. c.mark_dear.ensures k (omega (arith, c.put_outside_costs.auto.outside, c.requires.skips)) ∙ ap (λ top. skip_of top (get_or c.least.new.values k 0) (get_or outside k 0)) c.top.ensures)
+    c.requires.long c.requires.graph.parts

@@ -2,7 +2,7 @@ use Rattle.std.proofs.Common.{List, ℕ, map, take, length}
 use Rattle.std.specs.List.{list_any}
 use Rattle.state_rules.specs.Graphs.{is_true, mentions}
 use Rattle.level_lister.specs.inner.Skips.{living}
-use Rattle.level_lister.specs.declared.pairs.Groups.{Groups}
+use Rattle.level_lister.specs.declared.groups.Groups.{Groups}
 use Rattle.level_lister.specs.inner.Pairs.{Tells, TellNodes, group_count, group_in}
 use Rattle.level_lister.proofs.pair_pass.PairPass.full_pair.Given as goal
 

@@ -15,7 +15,7 @@ pub returns-then-has_bit-clause-found : goal.returns-then-has_bit-clause-found
 returns-then-has_bit-clause-found c lt =
     let pair = c.put_pairs-pair.result in
     let same = c.group_count-count.ensures.count in
-    group_sound c.args.self.now.graph.now c.args.self.now.skips.now c.args.self.now.evidence.now c.args.self.now.levels.now.costs c.args.self.now.levels.now.top c.args.groups pair c.vars-vars.ensures.valid c.args.self.now.long c.args.self.now.for_graph.parts c.put_pairs-pair.ensures c.args.self.now.enough c.args.cost c.loop-group.group c.requires.cost lt
+    group_sound c.args.self.now.graph.now c.args.self.now.skips.now c.args.self.now.evidence.now c.args.self.now.levels.now.costs c.args.self.now.levels.now.top c.args.groups pair c.args.self.now.valid c.args.self.now.long c.args.self.now.for_graph.parts c.put_pairs-pair.ensures c.args.self.now.enough c.args.cost c.loop-group.group c.requires.cost lt
     (subst (λ n. has_bit pair.faults (n * c.args.cost + c.loop-group.group) ≡ true) same (sym c.has_bit.ensures ∙ c.if-has_bit.true))
 
 pub loop-group-preserved : goal.loop-group-preserved
@@ -26,7 +26,7 @@ loop-group-preserved c h lt f =
     (λ (p : h < group). c.loop-group.invariant h p f)
     (λ (p : group ≤ h). let here : h ≡ group = omega arith in
     false≢true (sym (sym c.has_bit.ensures ∙ c.if-has_bit.false) ∙ subst (λ n. has_bit pair.faults (n * c.args.cost + group) ≡ true) (sym same)
-    (group_whole c.args.self.now.graph.now c.args.self.now.skips.now c.args.self.now.evidence.now c.args.self.now.levels.now.costs c.args.self.now.levels.now.top c.args.groups pair c.vars-vars.ensures.valid c.args.self.now.long c.args.self.now.for_graph.parts c.put_pairs-pair.ensures c.args.self.now.enough c.args.cost group c.requires.cost (omega (arith, c.loop-group-test.true, same))
+    (group_whole c.args.self.now.graph.now c.args.self.now.skips.now c.args.self.now.evidence.now c.args.self.now.levels.now.costs c.args.self.now.levels.now.top c.args.groups pair c.args.self.now.valid c.args.self.now.long c.args.self.now.for_graph.parts c.put_pairs-pair.ensures c.args.self.now.enough c.args.cost group c.requires.cost (omega (arith, c.loop-group-test.true, same))
     (subst (FaultOf c.args.self.now.graph.now c.args.self.now.evidence.now c.args.self.now.levels.now.costs c.args.cost c.args.groups) here f))))
     (cases_lt h group)
 

@@ -25,7 +25,7 @@ loop-span-preserved g c =
     let same : c.told_groups-count.result ≡ told_groups top = c.told_groups-count.ensures.count in
     let le : group ≤ count = omega (arith, c.faulty_group-group.ensures.few, same) in
     record {
-      range = range_next c.args.self.now.graph.now c.args.self.now.evidence.now c.args.self.now.levels.now.costs c.args.cost c.args.from low span count group le c.loop-span.invariant.some
+      range = range_next c.args.self.now.graph.now c.args.self.now.evidence.now c.args.self.now.levels.now.costs c.args.cost c.args.from low span count group le _
           (λ h. c.faulty_group-group.ensures.found (omega (arith, h, same))) c.faulty_group-group.ensures.before c.loop-span.invariant.range;
       some = size_some span count c.loop-span.invariant.some;
       small = omega (arith, range_small low span count group le c.told_groups-count.ensures.few c.told_groups-count.ensures.some c.loop-span-test.true, c.loop-span.invariant.small);

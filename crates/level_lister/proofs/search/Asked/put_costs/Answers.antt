@@ -21,15 +21,15 @@ returns-then-has_pairs c n le =
     let kept = c.args.self.now.levels.now in
     let few : kept.top < 32 = c.has_pairs.ensures.few c.if-has_pairs.true in
     let word = first_word c.args.set.now c.put_pairs-pair.result.costs n (omega (arith, c.requires.set)) (omega arith) in (
-      λ t. pair_sound graph c.args.self.now.skips.now c.args.self.now.evidence.now kept.costs kept.top (record { low = 18446744073709551615; size = 1 }) c.put_pairs-pair.result c.vars-vars.ensures.valid c.args.self.now.long c.args.self.now.for_graph.parts c.put_pairs-pair.ensures c.args.self.now.enough n le (sym word ∙ t),
-      λ has. word ∙ pair_whole graph c.args.self.now.skips.now c.args.self.now.evidence.now kept.costs kept.top (record { low = 18446744073709551615; size = 1 }) c.put_pairs-pair.result c.vars-vars.ensures.valid c.args.self.now.long c.args.self.now.for_graph.parts c.put_pairs-pair.ensures c.args.self.now.enough n le has,
+      λ t. pair_sound graph c.args.self.now.skips.now c.args.self.now.evidence.now kept.costs kept.top (record { low = 18446744073709551615; size = 1; some = omega arith }) c.put_pairs-pair.result c.args.self.now.valid c.args.self.now.long c.args.self.now.for_graph.parts c.put_pairs-pair.ensures c.args.self.now.enough n le (sym word ∙ t),
+      λ has. word ∙ pair_whole graph c.args.self.now.skips.now c.args.self.now.evidence.now kept.costs kept.top (record { low = 18446744073709551615; size = 1; some = omega arith }) c.put_pairs-pair.result c.args.self.now.valid c.args.self.now.long c.args.self.now.for_graph.parts c.put_pairs-pair.ensures c.args.self.now.enough n le has,
     )
 
 pub returns : goal.returns
 returns c n le =
     let graph = c.args.self.now.graph.now in
     let kept = c.args.self.now.levels.now in (
-      λ t. whole_sound graph c.args.self.now.skips.now c.args.self.now.evidence.now kept.costs c.put_whole.new.whole kept.top c.args.self.now.enough c.vars-vars.ensures.valid c.args.self.now.long c.args.self.now.for_graph.parts c.put_whole.ensures n t,
-      λ has. whole_all graph c.args.self.now.skips.now c.args.self.now.evidence.now kept.costs c.put_whole.new.whole kept.top c.args.self.now.enough c.vars-vars.ensures.valid c.args.self.now.long c.args.self.now.for_graph.parts c.put_whole.ensures n le
+      λ t. whole_sound graph c.args.self.now.skips.now c.args.self.now.evidence.now kept.costs c.put_whole.new.whole kept.top c.args.self.now.enough c.args.self.now.valid c.args.self.now.long c.args.self.now.for_graph.parts c.put_whole.ensures n t,
+      λ has. whole_all graph c.args.self.now.skips.now c.args.self.now.evidence.now kept.costs c.put_whole.new.whole kept.top c.args.self.now.enough c.args.self.now.valid c.args.self.now.long c.args.self.now.for_graph.parts c.put_whole.ensures n le
           (omega (arith, c.put_whole.auto.whole, c.requires.set)) has,
     )

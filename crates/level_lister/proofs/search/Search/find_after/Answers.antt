@@ -4,8 +4,7 @@ use Rattle.state_rules.specs.Ranking.{cost, is_before}
 use Rattle.conditioner.specs.Evidence.{bits_of}
 use Rattle.diagnosis_lister.specs.inner.Fixing.{IsFirst, NoneAfter, fixed_bits}
 use Rattle.diagnosis_lister.proofs.OpenMarks.{length-bits}
-use Rattle.level_lister.specs.inner.Searching.{OfCost, FindsFirst, IsListed}
-use Rattle.level_lister.specs.inner.Skips.{IsEnough}
+use Rattle.level_lister.specs.inner.Searching.{OfCost, CanAsk, FindsFirst, IsListed}
 use Rattle.diagnosis_lister.proofs.Points.{leaves-first}
 use Rattle.level_lister.proofs.Exact.{allows-cost}
 use Rattle.level_lister.proofs.FirstByCost.{Later, first-same, later-dearer, dearer-later, none-too_dear, finds-alike}
@@ -31,7 +30,7 @@ returns-in-Some-clause-found g c =
     let own_is : c.state_cost-own.result ≡ cost costs point = c.state_cost-own.ensures ∙ ap (λ cs. cost cs point) c.costs.ensures in
     let first : IsFirst (λ k. OfCost graph evidence costs (cost costs point) k × (is_before point k ≡ true)) h =
     subst (λ (n : ℕ). IsFirst (λ k. OfCost graph evidence costs n k × (is_before point k ≡ true)) h) own_is
-    (leaves-first (allows-cost graph costs own c.args.self.now.for_graph.parts) evidence point c.requires.long (length-bits c.args.state.now ∙ c.requires.state) c.leave.auto.evidence leaves h c.settle.ensures.first) in record {
+    (leaves-first (allows-cost graph costs own c.args.self.now.for_graph.parts) evidence point c.requires.asked.long (length-bits c.args.state.now ∙ c.requires.state) c.leave.auto.evidence leaves h c.settle.ensures.first) in record {
       others = λ k g. c.settle.ensures.others k g ∙ leaves.follows.behind k (omega (arith, leaves.within, length-bits c.args.state.now, c.requires.state));
       first = first-same graph evidence costs c.args.self.now.levels.now.top point h (omega (arith, own_is, c.if-own-top.false, c.top-top.ensures)) first;
       cost_is = c.settle.ensures.first.meets.cost_is;
@@ -66,8 +65,22 @@ returns-in-Some-clause-steps g c wide search h = omega (arith, c.in-Some.ensures
 pub returns-in-None-clause-steps : goal.returns-in-None-clause-steps
 returns-in-None-clause-steps g c = more c.find_from.result _ _ _ _ (λ s. omega (arith, c.in-None.ensures.steps, s)) (λ n s wide search h. omega (arith, c.in-None.ensures.steps, s (omega (arith, wide)) search h)) c.find_from.ensures.steps
 
-pub settle-requires-clause-enough : goal.settle-requires-clause-enough
-settle-requires-clause-enough g c = enough_more c.args.self.now.graph.now c.args.self.now.skips.now c.args.self.now.levels.now.costs c.args.self.now.levels.now.top c.args.evidence.now c.leave.new.evidence c.in-Some.ensures.left.follows.kept c.requires.enough
+pub settle-requires-clause-asked : goal.settle-requires-clause-asked
+settle-requires-clause-asked g c = record {
+  long = c.leave.auto.evidence ∙ c.requires.asked.long;
+  small = c.in-Some.ensures.evidence;
+  enough = enough_more c.args.self.now.graph.now c.args.self.now.skips.now c.args.self.now.levels.now.costs c.args.self.now.levels.now.top c.args.evidence.now c.leave.new.evidence c.in-Some.ensures.left.follows.kept c.requires.asked.enough;
+}
 
-pub find_from-requires-clause-enough : goal.find_from-requires-clause-enough
-find_from-requires-clause-enough g c = subst (λ (ws : List ℕ). IsEnough c.args.self.now.graph.now c.args.self.now.skips.now ws c.args.self.now.levels.now.costs c.args.self.now.levels.now.top) (sym c.in-None.ensures.left.0) c.requires.enough
+pub settle-requires-clause-begun : goal.settle-requires-clause-begun
+settle-requires-clause-begun g c =
+    let leaves = c.in-Some.ensures.left in
+    record {
+      listed = omega (arith, c.if-own-top.false, c.top-top.ensures);
+      within = omega (arith, leaves.within, length-bits c.args.state.now, c.requires.state);
+      front = λ k h. grind (arith, leaves.follows.front, leaves.ok);
+      some = leaves.some;
+    }
+
+pub find_from-requires-clause-asked : goal.find_from-requires-clause-asked
+find_from-requires-clause-asked g c = subst (λ (ws : List ℕ). CanAsk c.args.self.now.graph.now c.args.self.now.skips.now ws c.args.self.now.levels.now) (sym c.in-None.ensures.left.0) c.requires.asked

@@ -22,14 +22,14 @@ use Rattle.level_lister.proofs.search.Search.leave.Goals.{then-is_faulty+then-no
 pub loop-part-init : goal.loop-part-init
 loop-part-init g c = record {
   small = c.follow-end.ensures.evidence;
-  back = follows-start (allows-cost c.args.self.now.graph.now c.args.self.now.levels.now.costs c.args.cost c.args.self.now.for_graph.parts) c.args.evidence.now (bits_of c.args.state.now) c.requires.long
+  back = follows-start (allows-cost c.args.self.now.graph.now c.args.self.now.levels.now.costs c.args.cost c.args.self.now.for_graph.parts) c.args.evidence.now (bits_of c.args.state.now) c.requires.asked.long
       (length-bits c.args.state.now ∙ c.requires.state) (rw (length-bits c.args.state.now) c.follow-end.ensures.follows);
   steps = omega arith;
   within = c.follow-end.ensures.within;
 }
 
 pub invariant_of-asked-clause-long : goal.invariant_of-asked-clause-long
-invariant_of-asked-clause-long g c = length-set c.loop-part.evidence (c.loop-part.part - 1) 1 ∙ c.loop-part.auto.evidence ∙ c.follow-end.auto.evidence ∙ c.requires.long
+invariant_of-asked-clause-long g c = length-set c.loop-part.evidence (c.loop-part.part - 1) 1 ∙ c.loop-part.auto.evidence ∙ c.follow-end.auto.evidence ∙ c.requires.asked.long
 
 pub invariant_of-asked-clause-small : goal.invariant_of-asked-clause-small
 invariant_of-asked-clause-small g c = All-set (λ w. w < 3) c.loop-part.evidence (c.loop-part.part - 1) 1 (omega arith) c.loop-part.invariant.small
@@ -49,8 +49,8 @@ returns-then-reaches-clause-left g c =
     let lt : j < length state = omega (arith, c.loop-part.invariant.within) in
     let within : j < length costs = omega (arith, c.requires.state) in
     let back : Follows (OfCost graph old costs c.args.cost) old (bits_of state) evidence (j + 1) = subst (λ (n : ℕ). Follows (OfCost graph old costs c.args.cost) old (bits_of state) evidence n) next c.loop-part.invariant.back in
-    leaves-tried (allows-cost graph costs c.args.cost c.args.self.now.for_graph.parts) old (bits_of state) c.requires.long (length-bits state ∙ c.requires.state) within (c.loop-part.auto.evidence ∙ c.follow-end.auto.evidence) back
-    (c.requires.evidence j 0 (omega (arith, c.requires.long, c.args.self.now.for_graph.parts))) (λ e. eqb-false _ 2 (sym c.is_false.ensures ∙ c.if-not-is_false.true) (c.requires.same j within ∙ e))
+    leaves-tried (allows-cost graph costs c.args.cost c.args.self.now.for_graph.parts) old (bits_of state) c.requires.asked.long (length-bits state ∙ c.requires.state) within (c.loop-part.auto.evidence ∙ c.follow-end.auto.evidence) back
+    (c.requires.asked.small j 0 (omega (arith, c.requires.asked.long, c.args.self.now.for_graph.parts))) (λ e. eqb-false _ 2 (sym c.is_false.ensures ∙ c.if-not-is_false.true) (c.requires.saved.same j within ∙ e))
     (is_faulty state j lt (faulty_word (get_or state j 0) c.is_faulty.result c.is_faulty.ensures c.if-is_faulty.true)) (c.reaches.ensures.reached.0 c.if-reaches.true)
 
 pub loop-part-preserved : goal.loop-part-preserved
@@ -68,9 +68,9 @@ loop-part-preserved g c =
     let lt : j < length state = omega (arith, c.loop-part.invariant.within) in
     let within : j < length costs = omega (arith, c.requires.state) in
     let same : length evidence ≡ length old = c.loop-part.auto.evidence ∙ c.follow-end.auto.evidence in
-    let few : get_or old j 0 < 3 = c.requires.evidence j 0 (omega (arith, c.requires.long, c.args.self.now.for_graph.parts)) in
+    let few : get_or old j 0 < 3 = c.requires.asked.small j 0 (omega (arith, c.requires.asked.long, c.args.self.now.for_graph.parts)) in
     let bits : length point ≡ length costs = length-bits state ∙ c.requires.state in
-    let word : own ≡ get_or old j 0 = c.requires.same j within in
+    let word : own ≡ get_or old j 0 = c.requires.saved.same j within in
     let back : Follows (OfCost graph old costs c.args.cost) old point evidence (j + 1) = subst (λ (n : ℕ). Follows (OfCost graph old costs c.args.cost) old point evidence n) next c.loop-part.invariant.back in
     let at : j < length point = omega (arith, bits, within) in
     let steps : c.loop-part.steps ≤ c.args.steps.now + fault_count (drop (j + 1) point) = subst (λ (n : ℕ). c.loop-part.steps ≤ c.args.steps.now + fault_count (drop n point)) next c.loop-part.invariant.steps in
@@ -79,8 +79,8 @@ loop-part-preserved g c =
       | then-is_faulty+then-not-is_false+else-reaches w ↦
           let is : set c.if-is_faulty.evidence j own ≡ set evidence j own = ap (λ ws. set ws j own) w.evidence-is ∙ set-set evidence j 1 own in record {
             small = rw is small;
-            back = rw is (follows-back allows old point c.requires.long bits within same back own word
-                (none-tried allows old point c.requires.long bits within same back few (λ e. eqb-false _ 2 (sym w.is_false.ensures ∙ w.if-not-is_false.true) (word ∙ e))
+            back = rw is (follows-back allows old point c.requires.asked.long bits within same back own word
+                (none-tried allows old point c.requires.asked.long bits within same back few (λ e. eqb-false _ 2 (sym w.is_false.ensures ∙ w.if-not-is_false.true) (word ∙ e))
                 (λ has. false≢true (sym w.if-reaches.false ∙ w.reaches.ensures.reached.1 has))));
             steps = omega (arith, w.steps-is, w.reaches.ensures.steps, steps, faults-at point j at (is_faulty state j lt (faulty_word (get_or state j 0) c.is_faulty.result c.is_faulty.ensures w.if-is_faulty.true)));
             within = omega (arith, c.loop-part.invariant.within);
@@ -92,7 +92,7 @@ loop-part-preserved g c =
             | else-is_faulty-via-else-is_faulty v ↦ inl (is_ok state j lt (ok_word (get_or state j 0) c.is_faulty.result c.is_faulty.ensures v.if-is_faulty.false))
           ] in record {
             small = rw is small;
-            back = rw is (follows-back allows old point c.requires.long bits within same back own word (none-held allows old point c.requires.long bits within same back cases));
+            back = rw is (follows-back allows old point c.requires.asked.long bits within same back own word (none-held allows old point c.requires.asked.long bits within same back cases));
             steps = omega (arith, w.steps-is, steps, faults-back point j at);
             within = omega (arith, c.loop-part.invariant.within);
           }
@@ -130,6 +130,6 @@ invariant_of-asked-clause-enough g c =
     let within : j < length costs = omega (arith, c.loop-part.invariant.within, c.requires.state) in
     let back : Follows (OfCost graph old costs c.args.cost) old (bits_of state) evidence (j + 1) = subst (λ (n : ℕ). Follows (OfCost graph old costs c.args.cost) old (bits_of state) evidence n) next c.loop-part.invariant.back in
     enough_more graph c.args.self.now.skips.now costs c.args.self.now.levels.now.top old (set evidence j 1)
-    (tried-kept (allows-cost graph costs c.args.cost c.args.self.now.for_graph.parts) old (bits_of state) c.requires.long (length-bits state ∙ c.requires.state) within (c.loop-part.auto.evidence ∙ c.follow-end.auto.evidence) back
-    (c.requires.evidence j 0 (omega (arith, c.requires.long, c.args.self.now.for_graph.parts))) (λ e. eqb-false _ 2 (sym c.is_false.ensures ∙ c.if-not-is_false.true) (c.requires.same j within ∙ e)))
-    c.requires.enough
+    (tried-kept (allows-cost graph costs c.args.cost c.args.self.now.for_graph.parts) old (bits_of state) c.requires.asked.long (length-bits state ∙ c.requires.state) within (c.loop-part.auto.evidence ∙ c.follow-end.auto.evidence) back
+    (c.requires.asked.small j 0 (omega (arith, c.requires.asked.long, c.args.self.now.for_graph.parts))) (λ e. eqb-false _ 2 (sym c.is_false.ensures ∙ c.if-not-is_false.true) (c.requires.saved.same j within ∙ e)))
+    c.requires.asked.enough

@@ -12,10 +12,10 @@ use Rattle.level_lister.proofs.search.Search.settle_by_groups.Goals as goal
 
 pub loop-part-init : goal.loop-part-init
 loop-part-init g c = record {
-  small = c.requires.evidence;
-  settles = Settles-start _ _ _ c.args.from c.requires.front c.requires.some;
+  small = c.requires.asked.small;
+  settles = Settles-start _ _ _ c.args.from c.requires.begun.front c.requires.begun.some;
   steps = λ search h. omega arith;
-  within = c.requires.from;
+  within = c.requires.begun.within;
 }
 
 pub loop-part-preserved : goal.loop-part-preserved
@@ -33,13 +33,13 @@ loop-part-preserved g c =
     let within : part < length costs = u.within in
     let long : length mid ≡ length old = c.fix_ok.auto.evidence in
     let fixes : FixesOk old mid from part = record { long = c.fix_ok.auto.evidence; fixed = c.fix_ok.ensures.fixed; kept = c.fix_ok.ensures.kept; before = c.fix_ok.ensures.before; behind = c.fix_ok.ensures.behind } in
-    let room : length costs ≤ length mid = omega (arith, long, c.loop-part.auto.evidence, c.requires.long, c.args.self.now.for_graph.parts) in
+    let room : length costs ≤ length mid = omega (arith, long, c.loop-part.auto.evidence, c.requires.asked.long, c.args.self.now.for_graph.parts) in
     let still : get_or mid part 0 ≡ 0 = c.fix_ok.ensures.behind part (omega arith) ∙ open_ in
     let kept : fault_count (fixed_bits (length costs) old) ≤ fault_count (fixed_bits (length costs) mid) = faults-kept (length costs) old mid long (λ k two. c.fix_ok.ensures.kept k (λ e. absurd (omega arith)) ∙ two) in
     let added = faults-added (length costs) mid part within room still in
     record {
       small = All-set (λ w. w < 3) mid part 2 (lit< tt) c.fix_ok.ensures.evidence;
-      settles = settles-found (allows-cost graph costs c.args.cost c.args.self.now.for_graph.parts) c.args.evidence.now c.requires.long old from c.loop-part.invariant.settles mid part within fixes (λ k l lt free. ok k l lt (omega arith) free) open_ u.state u.is u.faulty;
+      settles = settles-found (allows-cost graph costs c.args.cost c.args.self.now.for_graph.parts) c.args.evidence.now c.requires.asked.long old from c.loop-part.invariant.settles mid part within fixes (λ k l lt free. ok k l lt (omega arith) free) open_ u.state u.is u.faulty;
       steps = λ search h. omega (
         arith,
         c.in-Some.ensures.steps search h,
@@ -59,8 +59,8 @@ returns-clause-first g c =
     let fixes : FixesOk old new c.loop-part.from (length costs) =
     subst (λ n. FixesOk old new c.loop-part.from n) all (record { long = c.fix_ok-2.auto.evidence; fixed = c.fix_ok-2.ensures.fixed; kept = c.fix_ok-2.ensures.kept; before = c.fix_ok-2.ensures.before; behind = c.fix_ok-2.ensures.behind }) in
     let allows = allows-cost graph costs c.args.cost c.args.self.now.for_graph.parts in
-    settles-end allows c.args.evidence.now c.requires.long new (length costs)
-    (settles-ok allows c.args.evidence.now c.requires.long old c.loop-part.from c.loop-part.invariant.settles new (length costs) (omega arith) fixes (λ k l lt free. c.in_default.ensures.found k l lt lt free)) refl (λ k h. c.fix_ok-2.ensures.evidence k 0 h)
+    settles-end allows c.args.evidence.now c.requires.asked.long new (length costs)
+    (settles-ok allows c.args.evidence.now c.requires.asked.long old c.loop-part.from c.loop-part.invariant.settles new (length costs) (omega arith) fixes (λ k l lt free. c.in_default.ensures.found k l lt lt free)) refl (λ k h. c.fix_ok-2.ensures.evidence k 0 h)
 
 pub returns-clause-others : goal.returns-clause-others
 returns-clause-others g c k h = c.fix_ok-2.ensures.behind k (omega (arith, ap length c.costs.ensures, h)) ∙ c.loop-part.invariant.settles.refines.others k h
@@ -79,4 +79,4 @@ returns-clause-steps g c search h =
     )
 
 pub invariant_of-first_faulty-clause-enough : goal.invariant_of-first_faulty-clause-enough
-invariant_of-first_faulty-clause-enough g c = enough_more c.args.self.now.graph.now c.args.self.now.skips.now c.args.self.now.levels.now.costs c.args.self.now.levels.now.top c.args.evidence.now c.loop-part.evidence c.loop-part.invariant.settles.refines.kept c.requires.enough
+invariant_of-first_faulty-clause-enough g c = enough_more c.args.self.now.graph.now c.args.self.now.skips.now c.args.self.now.levels.now.costs c.args.self.now.levels.now.top c.args.evidence.now c.loop-part.evidence c.loop-part.invariant.settles.refines.kept c.requires.asked.enough

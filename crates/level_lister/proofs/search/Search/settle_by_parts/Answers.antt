@@ -12,7 +12,7 @@ use Rattle.level_lister.proofs.search.Search.settle_by_parts.Goals as goal
 use Rattle.level_lister.proofs.search.Search.settle_by_parts.Goals.{then-is_open+then-not-reaches, then-is_open+else-not-reaches, else-is_open}
 
 pub invariant_of-asked-clause-long : goal.invariant_of-asked-clause-long
-invariant_of-asked-clause-long g c = length-set c.loop-part.evidence c.loop-part.part 2 ∙ c.loop-part.auto.evidence ∙ c.requires.long
+invariant_of-asked-clause-long g c = length-set c.loop-part.evidence c.loop-part.part 2 ∙ c.loop-part.auto.evidence ∙ c.requires.asked.long
 
 pub invariant_of-asked-clause-small : goal.invariant_of-asked-clause-small
 invariant_of-asked-clause-small g c = All-set (λ w. w < 3) c.loop-part.evidence c.loop-part.part 2 (lit< tt) c.loop-part.invariant.small
@@ -25,7 +25,7 @@ invariant_of-asked-clause-enough g c =
     let lt : part < length costs = omega (arith, ap length c.costs-part-end.ensures) in
     let free : get_or evidence part 0 ≡ 0 = eqb-true _ 0 (sym c.is_open.ensures ∙ c.if-is_open.true) in
     enough_more c.args.self.now.graph.now c.args.self.now.skips.now costs c.args.self.now.levels.now.top c.args.evidence.now (set evidence part 2)
-    (Refines-more (length costs) c.args.evidence.now evidence (set evidence part 2) c.loop-part.invariant.settles.refines (Refines-set (length costs) evidence part 2 lt free)).kept c.requires.enough
+    (Refines-more (length costs) c.args.evidence.now evidence (set evidence part 2) c.loop-part.invariant.settles.refines (Refines-set (length costs) evidence part 2 lt free)).kept c.requires.asked.enough
 
 pub loop-part-preserved : goal.loop-part-preserved
 loop-part-preserved g c =
@@ -36,7 +36,7 @@ loop-part-preserved g c =
     let part = c.loop-part.part in
     let small = c.loop-part.invariant.small in
     let lt : part < length costs = omega (arith, ap length c.costs-part-end.ensures) in
-    let long = c.requires.long in
+    let long = c.requires.asked.long in
     let so = c.loop-part.invariant.settles in
     elim c.if-is_open.branch [
       | then-is_open+then-not-reaches w ↦
@@ -60,4 +60,4 @@ pub returns-clause-first : goal.returns-clause-first
 returns-clause-first g c =
     let costs = c.args.self.now.levels.now.costs in
     let all : c.loop-part.part ≡ length costs = omega (arith, ap length c.costs-part-end.ensures) in
-    settles-end (allows-cost c.args.self.now.graph.now costs c.args.cost c.args.self.now.for_graph.parts) c.args.evidence.now c.requires.long c.loop-part.evidence c.loop-part.part c.loop-part.invariant.settles all (λ k h. c.loop-part.invariant.small k 0 h)
+    settles-end (allows-cost c.args.self.now.graph.now costs c.args.cost c.args.self.now.for_graph.parts) c.args.evidence.now c.requires.asked.long c.loop-part.evidence c.loop-part.part c.loop-part.invariant.settles all (λ k h. c.loop-part.invariant.small k 0 h)

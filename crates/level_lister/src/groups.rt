@@ -1,0 +1,18 @@
+//! Groups of parts.
+ghost use Rattle.std.specs.Prelude.{◌<◌};
+
+/// The open parts from one on, in groups of so many.
+#[derive(Clone, Copy, Debug)]
+pub(crate) struct Groups {
+    pub(crate) low: usize,
+    pub(crate) size: usize,
+    ghost some: { 0 < size },
+}
+
+impl Groups {
+    // No part is in any group.
+    pub(crate) const NONE: Groups = Groups {
+        low: usize::MAX,
+        size: 1,
+    };
+}

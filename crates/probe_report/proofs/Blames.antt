@@ -1,6 +1,7 @@
 -- In which diagnoses a part is faulty.
-use Rattle.std.proofs.Common.{◌≡◌, ℕ, ◌<◌, ◌≤◌, Bool, true, false, not, cond, ◌&&◌, ◌||◌, List, [], ◌∷◌, map, length, Some, None, refl, ap, sym, ◌∙◌, inl, inr}
+use Rattle.std.proofs.Common.{◌≡◌, ℕ, eqb, ◌<◌, ◌≤◌, Bool, true, false, not, cond, ◌&&◌, ◌||◌, List, [], ◌∷◌, map, length, Option, Some, None, refl, ap, sym, ◌∙◌, inl, inr, arith}
 use Rattle.std.specs.List.{list_all, list_any}
+use Rattle.std.specs.Option.{option_eq}
 use Rattle.std.proofs.Math.Bool.{and-false}
 use Rattle.std.proofs.lemmas.Bool.{and_from}
 use Rattle.state_rules.specs.Bits.{bit_in, same_bit}
@@ -14,6 +15,14 @@ use Rattle.minimiser.proofs.Models.{LeastIs, least-some, least-none, diagnosis-i
 use Rattle.probe_report.specs.declared.verdicts.Blame.TheVariants.{Always, Sometimes, Never, Inconsistent}
 use Rattle.probe_report.specs.Verdicts.{verdict, blame_of}
 use Rattle.probe_report.proofs.With.{bit-out, bit-in}
+
+-- ---- tests of a cost
+
+pub is-cost : (cost : Option ℕ) (n : ℕ) → option_eq eqb cost (Some n) ≡ true → cost ≡ Some n
+is-cost cost n e = grind arith
+
+pub is-no-cost : (cost : Option ℕ) (n : ℕ) → option_eq eqb cost (Some n) ≡ false → cost ≡ Some n → ⊥
+is-no-cost cost n e q = grind arith
 
 -- ---- verdicts
 

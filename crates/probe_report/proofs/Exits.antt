@@ -32,7 +32,7 @@ use Rattle.probe_report.specs.inner.Outside.{IsLowered, Without, With}
 
 -- ---- what derivations cost outside of a node
 
-module _ (graph : Graph) (evidence costs : List ℕ) (ok : IsGraph graph) (vs os : List ℕ) (least : AreLeastCosts graph evidence costs vs) (outer : AreOutsideCosts graph.nodes vs os 0) (total : total_cost costs < 2147483647) where
+module _ (graph : Graph) (evidence costs : List ℕ) (ok : IsGraph graph) (vs os : List ℕ) (least : AreLeastCosts graph evidence costs vs) (outside : AreOutsideCosts graph.nodes vs os 0) (total : total_cost costs < 2147483647) where
   abbrev n : ℕ
   n = length graph.nodes
 
@@ -70,7 +70,7 @@ module _ (graph : Graph) (evidence costs : List ℕ) (ok : IsGraph graph) (vs os
     descends zero k f h m t g = absurd (omega arith)
     descends (suc fuel) k f h m t g = by_kind (descends fuel) (node_at graph.nodes k).what (node_at graph.nodes k).kids (slice_get-get_or graph.nodes k true_node h) refl refl where
       fits : (kids : List ℕ) (j : ℕ) → (node_at graph.nodes k).kids ≡ kids → In j kids → is_true graph.nodes j b ≡ true → O j + faults j b ≤ O k + faults k b
-      fits kids j ks i u = child-fits graph evidence costs ok vs os least outer b agree k j h (subst (λ z. is_child z j ≡ true) (sym ks) (child-in kids j i)) t u
+      fits kids j ks i u = child-fits graph evidence costs ok vs os least outside b agree k j h (subst (λ z. is_child z j ≡ true) (sym ks) (child-in kids j i)) t u
 
       by_kind : ((j : ℕ) → j < fuel → j < n → M j ≡ true → is_true graph.nodes j b ≡ true → O j + faults j b ≤ c → Found var bit c)
           → (what : NodeKind) (kids : List ℕ) → slice_get graph.nodes k ≡ Some (record { what = what; kids = kids }) → (node_at graph.nodes k).what ≡ what → (node_at graph.nodes k).kids ≡ kids → Found var bit c
@@ -92,7 +92,7 @@ module _ (graph : Graph) (evidence costs : List ℕ) (ok : IsGraph graph) (vs os
           let mine : is_child (node_at graph.nodes k).kids j.item ≡ true = subst (λ z. is_child z j.item ≡ true) (sym ks) (child-in kids j.item j.is_in) in
           let value = (has_least graph evidence costs vs least ok b agree j.item (omega (arith, low)) j.passes).low in
           let within = faults_in-le (known_at evidence) (part_cost costs) (length costs) (λ v. mentions graph.nodes v j.item) (λ v. mentions graph.nodes v k) b (λ v q. mention-at graph evidence costs ok k _ x v ∙ any-child (mentions graph.nodes v) kids j.item j.is_in q) in
-          record { cost = O k + W j.item; le = omega (arith, value, within, g); exit = inl (inl (k, record { within = h; or_ = w; child = j.item; is_child_of = mine; has = m; lacks = r; outer = omega (arith, g, q); value = omega (arith, value, within, g, q); is = refl })) })
+          record { cost = O k + W j.item; le = omega (arith, value, within, g); exit = inl (inl (k, record { within = h; or_ = w; child = j.item; is_child_of = mine; has = m; lacks = r; small = omega (arith, g, q); value = omega (arith, value, within, g, q); is = refl })) })
           (cases_Bool (M j.item))
 
   -- ---- a variable that is open and costs nothing, fixed to a bit
@@ -184,7 +184,7 @@ module _ (graph : Graph) (evidence costs : List ℕ) (ok : IsGraph graph) (vs os
         let e : slice_get graph.nodes k ≡ Some (record { what = Literal bit var; kids = (node_at graph.nodes k).kids }) = slice_get-get_or graph.nodes k true_node l.within ∙ (λ i. Some (record { what = l.literal i; kids = (node_at graph.nodes k).kids })) in
         let is : C k ≡ Some 0 = costs-at graph evidence costs ok k _ e ∙ (λ i. literal_cost (leaf_of bit (open-here var refl i)) (free i) bit) ∙ own bit in
         let r = (is_cost graph evidence costs ok k).reached 0 is in
-        let y = outside-is graph evidence costs ok vs os least outer total n k (omega arith) l.within (omega (arith, l.is)) 0 r.by (record { agrees = r.agrees; holds = r.holds; cheap = r.cheap }) in
+        let y = outside-is graph evidence costs ok vs os least outside total n k (omega arith) l.within (omega (arith, l.is)) 0 r.by (record { agrees = r.agrees; holds = r.holds; cheap = r.cheap }) in
         AtMost-le (D root) (O k + 0) c (with-bit (O k + 0) y.by y.achieves
         (y.same var (mention-at graph evidence costs ok k _ e var ∙ eq-eqb var var refl) ∙ sym (same_bit-equal bit (r.by var) (sym (true-at graph evidence costs ok k _ e r.by) ∙ r.holds)))) (omega (arith, l.is)) where
           own : (b : Bool) → literal_cost (leaf_of b None) 0 b ≡ Some 0
@@ -198,7 +198,7 @@ module _ (graph : Graph) (evidence costs : List ℕ) (ok : IsGraph graph) (vs os
         let is : C l.child ≡ Some (W l.child) = sym (value-is graph evidence costs vs least l.child (let b = child-below k _ e l.child i in omega (arith, b, l.within))) ∙ cost_in-some (W l.child) (λ z. absurd (omega (arith, l.value))) in
         let r = (is_cost graph evidence costs ok l.child).reached (W l.child) is in
         let t = turns l.child (W l.child) r.by l.lacks (record { agrees = r.agrees; holds = r.holds; cheap = r.cheap }) in
-        let y = outside-is graph evidence costs ok vs os least outer total n k (omega arith) l.within l.outer (W l.child) (turned r.by)
+        let y = outside-is graph evidence costs ok vs os least outside total n k (omega arith) l.within l.small (W l.child) (turned r.by)
         (record { agrees = t.agrees; holds = true-at graph evidence costs ok k _ e (turned r.by) ∙ any-child (λ j. is_true graph.nodes j (turned r.by)) (node_at graph.nodes k).kids l.child i t.holds; cheap = t.cheap }) in
         AtMost-le (D root) (O k + W l.child) c (with-bit (O k + W l.child) y.by y.achieves (y.same var l.has ∙ turned-here r.by)) (omega (arith, l.is))
     sound c q (inl (inr l)) =
@@ -219,7 +219,7 @@ module _ (graph : Graph) (evidence costs : List ℕ) (ok : IsGraph graph) (vs os
         let equal = quiet (known_at fixed) (known_at evidence) r.by r.by (λ v l ne. (fixed-other v (other_place v l ne), refl)) in
         let here : root < n = omega (arith, ok.some) in
         ⊎_elim
-        (λ (m : mentions graph.nodes var root ≡ true). descends var bit r.by agree at c q n root here here m r.holds (omega (arith, less, equal, r.cheap, outer.root)))
+        (λ (m : mentions graph.nodes var root ≡ true). descends var bit r.by agree at c q n root here here m r.holds (omega (arith, less, equal, r.cheap, outside.root)))
         (λ (m : mentions graph.nodes var root ≡ false).
         let value = (has_least graph evidence costs vs least ok r.by agree root here r.holds).low in
         record { cost = W root; le = omega (arith, value, less, equal, r.cheap); exit = inl (inr (record { lacks = m; is = refl })) })

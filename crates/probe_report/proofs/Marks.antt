@@ -22,12 +22,12 @@ use Rattle.probe_report.proofs.Bits.{has_bit-all}
 
 -- ---- one more child
 
-module _ (values marks kids : List ℕ) (mark outer start i : ℕ) (lt : i < length kids) where
+module _ (values marks kids : List ℕ) (mark outside start i : ℕ) (lt : i < length kids) where
   abbrev child : ℕ
   child = get_or kids i 0
 
   abbrev Left : ℕ → ℕ → ℕ → Type 0
-  Left n place cost = LeftChild values marks (take n kids) mark outer start place cost
+  Left n place cost = LeftChild values marks (take n kids) mark outside start place cost
 
   wider : (place cost : ℕ) → Left i place cost → Left (i + 1) place cost
   wider place cost l = record { child = l.child; is_child_of = is_child-more kids i l.child lt ∙ or_left _ _ l.is_child_of; has = l.has; lacks = l.lacks; value = l.value; is = l.is }
@@ -45,12 +45,12 @@ module _ (values marks kids : List ℕ) (mark outer start i : ℕ) (lt : i < len
       let p = and_parts (has_bit mark (place - start)) (not (has_bit (mark_at marks child) (place - start))) (sym (is_left-in start mark (mark_at marks child) place h g) ∙ e) in
       (p.0, not-true _ p.1)
 
-  pub left-more : (a b c : List ℕ) → length b ≡ length a → LowersBlock start (λ p. LeftChild values marks (take i kids) mark outer start p) a b → get_or values (get_or kids i 0) 0 < 2147483647
-      → ((p : ℕ) → p < length b → get_or c p 0 ≡ lowered (is_left start mark (mark_at marks (get_or kids i 0)) p) (outer + get_or values (get_or kids i 0) 0) (get_or b p 0))
-      → LowersBlock start (λ p. LeftChild values marks (take (i + 1) kids) mark outer start p) a c
+  pub left-more : (a b c : List ℕ) → length b ≡ length a → LowersBlock start (λ p. LeftChild values marks (take i kids) mark outside start p) a b → get_or values (get_or kids i 0) 0 < 2147483647
+      → ((p : ℕ) → p < length b → get_or c p 0 ≡ lowered (is_left start mark (mark_at marks (get_or kids i 0)) p) (outside + get_or values (get_or kids i 0) 0) (get_or b p 0))
+      → LowersBlock start (λ p. LeftChild values marks (take (i + 1) kids) mark outside start p) a c
   left-more a b c long before small each =
-      block-then {P = Left i} {Q = λ p x. (is_left start mark (mark_at marks child) p ≡ true) × (x ≡ outer + get_or values child 0)} {R = Left (i + 1)} start a b c long before
-      (block-lowered start (λ p. is_left start mark (mark_at marks child) p) (outer + get_or values child 0) b c each
+      block-then {P = Left i} {Q = λ p x. (is_left start mark (mark_at marks child) p ≡ true) × (x ≡ outside + get_or values child 0)} {R = Left (i + 1)} start a b c long before
+      (block-lowered start (λ p. is_left start mark (mark_at marks child) p) (outside + get_or values child 0) b c each
       (λ p out. ⊎_elim (λ h. is_left-before start mark (mark_at marks child) p h) (λ h. is_left-behind start mark (mark_at marks child) p h) out))
       wider
       (λ p x h g q. let bits = left-bits p h g q.0 in
@@ -58,13 +58,13 @@ module _ (values marks kids : List ℕ) (mark outer start i : ℕ) (lt : i < len
       (λ p x h g l. ⊎_elim (λ w. inl w)
       (λ (e : child ≡ l.child). inr (
         is_left-in start mark (mark_at marks child) p h g ∙ and_from _ _ l.has (ap not (ap (λ k. has_bit (mark_at marks k) (p - start)) e ∙ l.lacks)),
-        l.is ∙ ap (λ k. outer + get_or values k 0) (sym e),
+        l.is ∙ ap (λ k. outside + get_or values k 0) (sym e),
       ))
       (narrower p x l))
 
   -- a child that mentions all that its parent does, or that has no value, changes nothing
-  pub left-same : (a b : List ℕ) → LowersBlock start (λ p. LeftChild values marks (take i kids) mark outer start p) a b → (mark_at marks (get_or kids i 0) ≡ mark) ⊎ (2147483647 ≤ get_or values (get_or kids i 0) 0)
-      → LowersBlock start (λ p. LeftChild values marks (take (i + 1) kids) mark outer start p) a b
+  pub left-same : (a b : List ℕ) → LowersBlock start (λ p. LeftChild values marks (take i kids) mark outside start p) a b → (mark_at marks (get_or kids i 0) ≡ mark) ⊎ (2147483647 ≤ get_or values (get_or kids i 0) 0)
+      → LowersBlock start (λ p. LeftChild values marks (take (i + 1) kids) mark outside start p) a b
   left-same a b before why = block-as {P = Left i} {R = Left (i + 1)} start a b before (λ p x h g. wider p x)
       (λ p x h g l. ⊎_elim (λ w. w)
       (λ (e : child ≡ l.child). absurd (⊎_elim
@@ -126,15 +126,15 @@ module _ (graph : Graph) (ok : IsGraph graph) (first at : ℕ) (lt : at < length
 pub marked-none : (nodes : List Node) (first at : ℕ) (marks : List ℕ) → NoneMarked nodes first at → ((node : ℕ) → node < at → mark_at marks node ≡ 0) → IsMarked nodes first at marks
 marked-none nodes first at marks none clear node b h small = ap (λ m. has_bit m b) (clear node h) ∙ has_bit-zero b ∙ sym (none node b h small)
 
-pub none-left : (nodes : List Node) (values outers : List ℕ) (parts start at : ℕ) (list : List ℕ) → NoneMarked nodes (parts + start + 1) at → LowersBlock start (λ p x. (node : ℕ) × (node < at) × AtChild nodes values outers (parts + p + 1) node x) list list
-none-left nodes values outers parts start at list none = block-none {P = λ p x. (node : ℕ) × (node < at) × AtChild nodes values outers (parts + p + 1) node x} start list
+pub none-left : (nodes : List Node) (values outside : List ℕ) (parts start at : ℕ) (list : List ℕ) → NoneMarked nodes (parts + start + 1) at → LowersBlock start (λ p x. (node : ℕ) × (node < at) × AtChild nodes values outside (parts + p + 1) node x) list list
+none-left nodes values outside parts start at list none = block-none {P = λ p x. (node : ℕ) × (node < at) × AtChild nodes values outside (parts + p + 1) node x} start list
     (λ p x h g m.
     let same : parts + start + 1 + (p - start) ≡ parts + p + 1 = omega arith in
     false≢true (sym (sym (ap (λ v. mentions nodes v m.0) same) ∙ none m.0 (p - start) m.1 (omega arith)) ∙ m.2.has))
 
-module _ (graph : Graph) (ok : IsGraph graph) (values outers marks : List ℕ) (parts start at : ℕ) (lt : at < length graph.nodes) (marked : IsMarked graph.nodes (parts + start + 1) (at + 1) marks) where
+module _ (graph : Graph) (ok : IsGraph graph) (values outside marks : List ℕ) (parts start at : ℕ) (lt : at < length graph.nodes) (marked : IsMarked graph.nodes (parts + start + 1) (at + 1) marks) where
   abbrev Met : ℕ → ℕ → ℕ → Type 0
-  Met n place cost = (node : ℕ) × (node < n) × AtChild graph.nodes values outers (parts + place + 1) node cost
+  Met n place cost = (node : ℕ) × (node < n) × AtChild graph.nodes values outside (parts + place + 1) node cost
 
   -- the mark of a node says whether it mentions the variable of a place
   says : (node place : ℕ) → node < at + 1 → start ≤ place → place < start + 64 → has_bit (mark_at marks node) (place - start) ≡ mentions graph.nodes (parts + place + 1) node
@@ -142,10 +142,10 @@ module _ (graph : Graph) (ok : IsGraph graph) (values outers marks : List ℕ) (
       let same : parts + start + 1 + (place - start) ≡ parts + place + 1 = omega arith in
       marked node (place - start) h (omega arith) ∙ ap (λ v. mentions graph.nodes v node) same
 
-  pub node-more : (a b c : List ℕ) → length b ≡ length a → LowersBlock start (λ p x. (node : ℕ) × (node < at) × AtChild graph.nodes values outers (parts + p + 1) node x) a b
-      → LowersBlock start (λ p. LeftNode graph.nodes values outers marks at start p) b c
-      → LowersBlock start (λ p x. (node : ℕ) × (node < at + 1) × AtChild graph.nodes values outers (parts + p + 1) node x) a c
-  node-more a b c long before here = block-then {P = Met at} {Q = λ p. LeftNode graph.nodes values outers marks at start p} {R = Met (at + 1)} start a b c long before here
+  pub node-more : (a b c : List ℕ) → length b ≡ length a → LowersBlock start (λ p x. (node : ℕ) × (node < at) × AtChild graph.nodes values outside (parts + p + 1) node x) a b
+      → LowersBlock start (λ p. LeftNode graph.nodes values outside marks at start p) b c
+      → LowersBlock start (λ p x. (node : ℕ) × (node < at + 1) × AtChild graph.nodes values outside (parts + p + 1) node x) a c
+  node-more a b c long before here = block-then {P = Met at} {Q = λ p. LeftNode graph.nodes values outside marks at start p} {R = Met (at + 1)} start a b c long before here
       (λ p x m. (m.0, omega (arith, m.1), m.2))
       (λ p x h g l. let inside : l.left.child < at = child_before graph at l.left.child ok lt l.left.is_child_of in (
         at,
@@ -157,19 +157,19 @@ module _ (graph : Graph) (ok : IsGraph graph) (values outers marks : List ℕ) (
           is_child_of = l.left.is_child_of;
           has = sym (says at p (omega arith) h g) ∙ l.left.has;
           lacks = sym (says l.left.child p (omega arith) h g) ∙ l.left.lacks;
-          outer = l.outer;
+          small = l.small;
           value = l.left.value;
           is = l.left.is;
         },
       ))
       (λ p x h g m. ⊎_elim
-      (λ (e : m.0 ≡ at). inr (of_node p x h g (subst (λ k. AtChild graph.nodes values outers (parts + p + 1) k x) e m.2)))
+      (λ (e : m.0 ≡ at). inr (of_node p x h g (subst (λ k. AtChild graph.nodes values outside (parts + p + 1) k x) e m.2)))
       (λ (ne : m.0 ≢ at). inl (m.0, omega (arith, m.1), m.2))
       (cases_eq m.0 at)) where
-        of_node : (p x : ℕ) → start ≤ p → p < start + 64 → AtChild graph.nodes values outers (parts + p + 1) at x → LeftNode graph.nodes values outers marks at start p x
+        of_node : (p x : ℕ) → start ≤ p → p < start + 64 → AtChild graph.nodes values outside (parts + p + 1) at x → LeftNode graph.nodes values outside marks at start p x
         of_node p x h g k = record {
           or_ = k.or_;
-          outer = k.outer;
+          small = k.small;
           left = record {
             child = k.child;
             is_child_of = k.is_child_of;
@@ -182,7 +182,7 @@ module _ (graph : Graph) (ok : IsGraph graph) (values outers marks : List ℕ) (
 
 -- ---- the root
 
-module _ (graph : Graph) (ok : IsGraph graph) (values outers marks : List ℕ) (parts start count : ℕ) (all : count ≡ length graph.nodes) (marked : IsMarked graph.nodes (parts + start + 1) count marks) where
+module _ (graph : Graph) (ok : IsGraph graph) (values outside marks : List ℕ) (parts start count : ℕ) (all : count ≡ length graph.nodes) (marked : IsMarked graph.nodes (parts + start + 1) count marks) where
   abbrev root : ℕ
   root = length graph.nodes - 1
 
@@ -195,13 +195,13 @@ module _ (graph : Graph) (ok : IsGraph graph) (values outers marks : List ℕ) (
   root-left place h g = is_left-in start 18446744073709551615 (mark_at marks root) place h g
       ∙ (λ i. has_bit-all (place - start) (omega arith) i && not (root-says place h g i))
 
-  pub root-more : (a b c : List ℕ) → length b ≡ length a → LowersBlock start (λ p x. (node : ℕ) × (node < count) × AtChild graph.nodes values outers (parts + p + 1) node x) a b
+  pub root-more : (a b c : List ℕ) → length b ≡ length a → LowersBlock start (λ p x. (node : ℕ) × (node < count) × AtChild graph.nodes values outside (parts + p + 1) node x) a b
       → ((p : ℕ) → p < length b → get_or c p 0 ≡ lowered (is_left start 18446744073709551615 (mark_at marks (length graph.nodes - 1)) p) (get_or values (length graph.nodes - 1) 0) (get_or b p 0))
-      → LowersBlock start (λ p. Without graph.nodes values outers (parts + p + 1)) a c
+      → LowersBlock start (λ p. Without graph.nodes values outside (parts + p + 1)) a c
   root-more a b c long before each = block-then
-      {P = λ p x. (node : ℕ) × (node < count) × AtChild graph.nodes values outers (parts + p + 1) node x}
+      {P = λ p x. (node : ℕ) × (node < count) × AtChild graph.nodes values outside (parts + p + 1) node x}
       {Q = λ p x. (is_left start 18446744073709551615 (mark_at marks root) p ≡ true) × (x ≡ get_or values root 0)}
-      {R = λ p. Without graph.nodes values outers (parts + p + 1)} start a b c long before
+      {R = λ p. Without graph.nodes values outside (parts + p + 1)} start a b c long before
       (block-lowered start (λ p. is_left start 18446744073709551615 (mark_at marks root) p) (get_or values root 0) b c each
       (λ p out. ⊎_elim (λ h. is_left-before start 18446744073709551615 (mark_at marks root) p h) (λ h. is_left-behind start 18446744073709551615 (mark_at marks root) p h) out))
       (λ p x m. inl (m.0, m.2))
@@ -211,43 +211,43 @@ module _ (graph : Graph) (ok : IsGraph graph) (values outers marks : List ℕ) (
       (λ r. inr (root-left p h g ∙ ap not r.lacks, r.is)) w)
 
 -- what an or lowers
-pub node-left : (nodes : List Node) (values outers marks : List ℕ) (at start : ℕ) (a b kids : List ℕ) → (node_at nodes at).what ≡ Or → get_or outers at 0 < 2147483647 → kids ≡ (node_at nodes at).kids
-    → LowersBlock start (λ p. LeftChild values marks kids (mark_at marks at) (get_or outers at 0) start p) a b → LowersBlock start (λ p. LeftNode nodes values outers marks at start p) a b
-node-left nodes values outers marks at start a b kids or_is small same before = block-as
-    {P = λ p. LeftChild values marks (node_at nodes at).kids (mark_at marks at) (get_or outers at 0) start p} {R = λ p. LeftNode nodes values outers marks at start p} start a b
-    (subst (λ (ks : List ℕ). LowersBlock start (λ p. LeftChild values marks ks (mark_at marks at) (get_or outers at 0) start p) a b) same before)
-    (λ p x h g l. record { or_ = or_is; outer = small; left = l })
+pub node-left : (nodes : List Node) (values outside marks : List ℕ) (at start : ℕ) (a b kids : List ℕ) → (node_at nodes at).what ≡ Or → get_or outside at 0 < 2147483647 → kids ≡ (node_at nodes at).kids
+    → LowersBlock start (λ p. LeftChild values marks kids (mark_at marks at) (get_or outside at 0) start p) a b → LowersBlock start (λ p. LeftNode nodes values outside marks at start p) a b
+node-left nodes values outside marks at start a b kids or_is small same before = block-as
+    {P = λ p. LeftChild values marks (node_at nodes at).kids (mark_at marks at) (get_or outside at 0) start p} {R = λ p. LeftNode nodes values outside marks at start p} start a b
+    (subst (λ (ks : List ℕ). LowersBlock start (λ p. LeftChild values marks ks (mark_at marks at) (get_or outside at 0) start p) a b) same before)
+    (λ p x h g l. record { or_ = or_is; small = small; left = l })
     (λ p x h g l. l.left)
 
 -- ---- literals
 
-module _ (nodes : List Node) (outers : List ℕ) (var : ℕ) (bit : Bool) (at : ℕ) where
+module _ (nodes : List Node) (outside : List ℕ) (var : ℕ) (bit : Bool) (at : ℕ) where
   abbrev Said : ℕ → ℕ → Type 0
-  Said n x = (node : ℕ) × (node < n) × AtLiteral nodes outers var bit node x
+  Said n x = (node : ℕ) × (node < n) × AtLiteral nodes outside var bit node x
 
-  not-here : (x : ℕ) → (m : Said (at + 1) x) → Said at x ⊎ AtLiteral nodes outers var bit at x
+  not-here : (x : ℕ) → (m : Said (at + 1) x) → Said at x ⊎ AtLiteral nodes outside var bit at x
   not-here x m = ⊎_elim
-      (λ (e : m.0 ≡ at). inr (subst (λ k. AtLiteral nodes outers var bit k x) e m.2))
+      (λ (e : m.0 ≡ at). inr (subst (λ k. AtLiteral nodes outside var bit k x) e m.2))
       (λ (ne : m.0 ≢ at). inl (m.0, omega (arith, m.1), m.2))
       (cases_eq m.0 at)
 
-  pub literal-more : (a b c v : ℕ) (positive : Bool) → at < length nodes → IsLowered (λ x. (node : ℕ) × (node < at) × AtLiteral nodes outers var bit node x) a b → Literal positive v ≡ (node_at nodes at).what → positive ≡ bit
-      → c ≡ lowered (v == var) (get_or outers at 0) b → IsLowered (λ x. (node : ℕ) × (node < at + 1) × AtLiteral nodes outers var bit node x) a c
-  literal-more a b c v positive h before is sign e = lowered-then {P = Said at} {Q = λ x. ((v == var) ≡ true) × (x ≡ get_or outers at 0)} {R = Said (at + 1)} a b c before
-      (subst (IsLowered (λ x. ((v == var) ≡ true) × (x ≡ get_or outers at 0)) b) (sym e) (lowered-is (v == var) (get_or outers at 0) b))
+  pub literal-more : (a b c v : ℕ) (positive : Bool) → at < length nodes → IsLowered (λ x. (node : ℕ) × (node < at) × AtLiteral nodes outside var bit node x) a b → Literal positive v ≡ (node_at nodes at).what → positive ≡ bit
+      → c ≡ lowered (v == var) (get_or outside at 0) b → IsLowered (λ x. (node : ℕ) × (node < at + 1) × AtLiteral nodes outside var bit node x) a c
+  literal-more a b c v positive h before is sign e = lowered-then {P = Said at} {Q = λ x. ((v == var) ≡ true) × (x ≡ get_or outside at 0)} {R = Said (at + 1)} a b c before
+      (subst (IsLowered (λ x. ((v == var) ≡ true) × (x ≡ get_or outside at 0)) b) (sym e) (lowered-is (v == var) (get_or outside at 0) b))
       (λ x m. (m.0, omega (arith, m.1), m.2))
       (λ x q. (at, omega arith, record { within = h; literal = sym is ∙ (λ i. Literal (sign i) (eqb-true v var q.0 i)); is = q.1 }))
       (λ x m. ⊎_elim (λ w. inl w) (λ w. inr (eq-eqb v var (same_var (is ∙ w.literal)), w.is)) (not-here x m)) where
         same_var : {p q : Bool} → Literal p v ≡ Literal q var → v ≡ var
         same_var e = cc
 
-  pub literal-same : (a b : ℕ) → IsLowered (λ x. (node : ℕ) × (node < at) × AtLiteral nodes outers var bit node x) a b → ((node_at nodes at).what ≡ Literal bit var → ⊥)
-      → IsLowered (λ x. (node : ℕ) × (node < at + 1) × AtLiteral nodes outers var bit node x) a b
+  pub literal-same : (a b : ℕ) → IsLowered (λ x. (node : ℕ) × (node < at) × AtLiteral nodes outside var bit node x) a b → ((node_at nodes at).what ≡ Literal bit var → ⊥)
+      → IsLowered (λ x. (node : ℕ) × (node < at + 1) × AtLiteral nodes outside var bit node x) a b
   literal-same a b before other = lowered-as {P = Said at} {R = Said (at + 1)} a b before (λ x m. (m.0, omega (arith, m.1), m.2))
       (λ x m. ⊎_elim (λ w. w) (λ w. absurd (other w.literal)) (not-here x m))
 
-  pub literal-all : (a b : ℕ) → length nodes ≤ at → IsLowered (λ x. (node : ℕ) × (node < at) × AtLiteral nodes outers var bit node x) a b → IsLowered (With nodes outers var bit) a b
-  literal-all a b past before = lowered-as {P = Said at} {R = With nodes outers var bit} a b before (λ x m. (m.0, m.2)) (λ x m. (m.0, omega (arith, past, m.1.within), m.1))
+  pub literal-all : (a b : ℕ) → length nodes ≤ at → IsLowered (λ x. (node : ℕ) × (node < at) × AtLiteral nodes outside var bit node x) a b → IsLowered (With nodes outside var bit) a b
+  literal-all a b past before = lowered-as {P = Said at} {R = With nodes outside var bit} a b before (λ x m. (m.0, m.2)) (λ x m. (m.0, omega (arith, past, m.1.within), m.1))
 
 -- ---- signs
 

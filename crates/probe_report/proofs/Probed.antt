@@ -83,7 +83,7 @@ with-none graph evidence costs var bit e = sym (least-in costs (length costs) (w
 
 -- ---- one wire
 
-module _ (graph : Graph) (evidence costs : List ℕ) (ok : IsGraph graph) (long : length evidence ≡ graph.vars) (total : total_cost costs < 2147483647) (vs os : List ℕ) (least_costs : AreLeastCosts graph evidence costs vs) (outer : AreOutsideCosts graph.nodes vs os 0)
+module _ (graph : Graph) (evidence costs : List ℕ) (ok : IsGraph graph) (long : length evidence ≡ graph.vars) (total : total_cost costs < 2147483647) (vs os : List ℕ) (least_costs : AreLeastCosts graph evidence costs vs) (outside : AreOutsideCosts graph.nodes vs os 0)
     (wire : ℕ) (room : length costs + wire < graph.vars) (bit : Bool) where
   abbrev var : ℕ
   var = length costs + wire + 1
@@ -103,7 +103,7 @@ module _ (graph : Graph) (evidence costs : List ℕ) (ok : IsGraph graph) (long 
       by_size (nat_lt best 2147483647) refl
       ∙ sym (ap (least costs) (sym (with-open graph evidence costs var bit long (omega arith) (omega arith) (omega arith) (ap (λ w. leaf_of bit (known_of w)) (sym (ap (λ i. get_or evidence i 0) place ∙ open_)))))
       ∙ least_is graph (set evidence (var - 1) (word_of bit)) costs ok (length-set evidence (var - 1) (word_of bit) ∙ long) (omega arith)
-      ∙ (λ i. AddHeld (held-same costs evidence (var - 1) (word_of bit) (omega arith) i) (root-is graph evidence costs ok vs os least_costs outer total var bit (omega arith) (omega (arith, long)) (ap (λ j. get_or evidence j 0) place ∙ open_) free best lowest i))) where
+      ∙ (λ i. AddHeld (held-same costs evidence (var - 1) (word_of bit) (omega arith) i) (root-is graph evidence costs ok vs os least_costs outside total var bit (omega arith) (omega (arith, long)) (ap (λ j. get_or evidence j 0) place ∙ open_) free best lowest i))) where
         by_size : (b : Bool) → nat_lt best 2147483647 ≡ b → cost_in (cond b (best + held) 4294967295) ≡ AddHeld (held_cost costs evidence) (cond b (Some best) None)
         by_size true t = cost_in-some (best + held) (λ q. absurd (omega (arith, ltb-true best 2147483647 t))) ∙ ap Some (omega (arith, e))
         by_size false t = refl

@@ -34,7 +34,7 @@ pub fn blame<L: Ledger>(
         return Blame::Inconsistent;
     };
     let graph = &graph.view();
-    if some_has(graph, evidence, costs, part, false, fewest, values, steps) {
+    if least_where(graph, evidence, costs, part, false, values, steps) == Some(fewest) {
         blame_faulty(graph, evidence, costs, part, fewest, values, steps)
     } else {
         Blame::Never
@@ -64,33 +64,9 @@ pub fn blame_faulty<L: Ledger>(
     ensures evidence { evidence.new ≡ evidence.old }
     ensures steps { steps.new ≤ steps.old + 1 }
 {
-    if some_has(graph, evidence, costs, part, true, fewest, values, steps) {
+    if least_where(graph, evidence, costs, part, true, values, steps) == Some(fewest) {
         Blame::Sometimes
     } else {
         Blame::Always
     }
-}
-
-// Whether some diagnosis has a bit for a part, the least cost being given.
-fn some_has<L: Ledger>(
-    graph: &GraphView<'_>,
-    evidence: &mut [u32],
-    costs: &[u32],
-    part: u32,
-    bit: bool,
-    fewest: u32,
-    values: &mut [u32],
-    steps: &mut Steps<L>,
-) -> bool
-    requires long { length evidence.old ≡ graph.now.vars }
-    requires evidence { All (λ w. w < 3) evidence.old }
-    requires parts { length costs.now ≤ graph.now.vars }
-    requires total { total_cost costs.now < TOTAL_LIMIT }
-    requires part { (1 ≤ part) × (part ≤ length costs.now) }
-    requires room { length values.old ≡ length graph.now.nodes }
-    ensures has { IsTrue result ↔ (least_with graph.now evidence.old costs.now part bit ≡ Some fewest) }
-    ensures evidence { evidence.new ≡ evidence.old }
-    ensures steps { steps.new ≤ steps.old + 1 }
-{
-    least_where(graph, evidence, costs, part, bit, values, steps) == Some(fewest)
 }

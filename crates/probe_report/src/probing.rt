@@ -5,7 +5,7 @@ ghost use Rattle.probe_report.specs.Probed.{probed};
 ghost use Rattle.probe_report.specs.inner.Outside.{IsLowered, With};
 ghost use Rattle.probe_report.specs.inner.Settled.{settled};
 
-use crate::leaving::lower_without;
+use crate::leaving::NodeCosts;
 use minimiser::{Steps, TOTAL_LIMIT, least, put_outside_costs};
 use node_store::Graph;
 use state_rules::NodeKind;
@@ -39,9 +39,9 @@ pub fn probe_all<L: Ledger>(
 {
     let (zeros, ones) = numbers.split_at_mut(numbers.len() / 2);
     let (values, room) = room.split_at_mut(graph.len() as usize);
-    let (outers, marks) = room.split_at_mut(graph.len() as usize);
+    let (outside, marks) = room.split_at_mut(graph.len() as usize);
     probe_wires(
-        graph, evidence, costs, values, outers, marks, zeros, ones, steps,
+        graph, evidence, costs, values, outside, marks, zeros, ones, steps,
     )
 }
 
@@ -63,13 +63,30 @@ pub fn cost_of(numbers: &[u32], wire: usize, bit: bool) -> Option<u32>
     }
 }
 
+impl NodeCosts<'_> {
+    // Lowers the number of each wire to the least cost of a derivation with a literal that says a bit of it.
+    fn lower_with(&self, parts: u32, bit: bool, list: &mut [u32])
+        requires wires { parts + length list.old ≤ self.now.graph.now.vars }
+        ensures { (i : ℕ) → i < length list.old
+            → IsLowered (With self.now.graph.now.nodes self.now.outside.now (parts + i + 1) bit) (slice_index list.old i) (slice_index list.new i) }
+    {
+        for at in 0..self.graph.len() {
+            if let NodeKind::Literal { var, positive } = self.graph.what(at) {
+                if positive == bit {
+                    lower_wire(var, parts, self.outside[at as usize], list);
+                }
+            }
+        }
+    }
+}
+
 // The numbers of the wires where they are 0, and those where they are 1.
 fn probe_wires<L: Ledger>(
     graph: &Graph,
     evidence: &[u32],
     costs: &[u32],
     values: &mut [u32],
-    outers: &mut [u32],
+    outside: &mut [u32],
     marks: &mut [u32],
     zeros: &mut [u32],
     ones: &mut [u32],
@@ -80,7 +97,7 @@ fn probe_wires<L: Ledger>(
     requires wires { length costs.now + length zeros.old ≤ graph.now.vars }
     requires total { total_cost costs.now < TOTAL_LIMIT }
     requires values { length values.old ≡ length graph.now.nodes }
-    requires outers { length outers.old ≡ length graph.now.nodes }
+    requires outside { length outside.old ≡ length graph.now.nodes }
     requires marks { length marks.old ≡ 2 * length graph.now.nodes }
     requires ones { length ones.old ≡ length zeros.old }
 
@@ -97,36 +114,23 @@ fn probe_wires<L: Ledger>(
     ones.fill(u32::MAX);
     let fewest = least(graph, evidence, costs, values, steps)?;
     let parts = costs.len() as u32;
-    put_outside_costs(graph, values, outers);
+    put_outside_costs(graph, values, outside);
     steps.tick();
-    lower_without(graph, values, outers, evidence, parts, marks, zeros, steps);
+    let nodes = NodeCosts {
+        graph,
+        values,
+        outside,
+    };
+    nodes.lower_without(evidence, parts, marks, zeros, steps);
     ones.copy_from_slice(zeros);
-    lower_with(graph, outers, parts, false, zeros);
+    nodes.lower_with(parts, false, zeros);
     steps.tick();
-    lower_with(graph, outers, parts, true, ones);
+    nodes.lower_with(parts, true, ones);
     steps.tick();
     let held = fewest - values[graph.len() as usize - 1];
     settle(evidence, parts, fewest, held, false, zeros);
     settle(evidence, parts, fewest, held, true, ones);
     Some(fewest)
-}
-
-// Lowers the number of each wire to the least cost of a derivation with a literal that says a bit of it.
-fn lower_with(graph: &Graph, outers: &[u32], parts: u32, bit: bool, list: &mut [u32])
-    requires outers { length outers.now ≡ length graph.now.nodes }
-    requires wires { parts + length list.old ≤ graph.now.vars }
-    ensures { (i : ℕ) → i < length list.old
-        → IsLowered (With graph.now.nodes outers.now (parts + i + 1) bit) (slice_index list.old i) (slice_index list.new i) }
-{
-    // Its contract says that this is a graph.
-    let _vars = graph.vars();
-    for at in 0..graph.len() {
-        if let NodeKind::Literal { var, positive } = graph.what(at) {
-            if positive == bit {
-                lower_wire(var, parts, outers[at as usize], list);
-            }
-        }
-    }
 }
 
 // Lowers the number of a variable's wire, if it is one's.

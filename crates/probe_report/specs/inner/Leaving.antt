@@ -12,19 +12,19 @@ IsMarked nodes first at marks =
     (node b : ℕ) → node < at → b < 64 → has_bit (mark_at marks node) b ≡ mentions nodes (first + b) node
 
 -- by the marks of an or and of its child
-pub record LeftChild (values marks kids : List ℕ) (mark outer start place cost : ℕ) : Type 0 where
+pub record LeftChild (values marks kids : List ℕ) (mark outside start place cost : ℕ) : Type 0 where
   pub child : ℕ
   pub is_child_of : is_child kids child ≡ true
   pub has : has_bit mark (place - start) ≡ true
   pub lacks : has_bit (mark_at marks child) (place - start) ≡ false
   pub value : slice_index values child < 2147483647
-  pub is : cost ≡ outer + slice_index values child
+  pub is : cost ≡ outside + slice_index values child
 
 -- at a node
-pub record LeftNode (nodes : List Node) (values outers marks : List ℕ) (node start place cost : ℕ) : Type 0 where
+pub record LeftNode (nodes : List Node) (values outside marks : List ℕ) (node start place cost : ℕ) : Type 0 where
   pub or_ : (node_at nodes node).what ≡ Or
-  pub outer : slice_index outers node < 2147483647
-  pub left : LeftChild values marks (node_at nodes node).kids (mark_at marks node) (slice_index outers node) start place cost
+  pub small : slice_index outside node < 2147483647
+  pub left : LeftChild values marks (node_at nodes node).kids (mark_at marks node) (slice_index outside node) start place cost
 
 -- the numbers of 64 wires from a start on are lowered, and the others stay
 pub record LowersBlock (start : ℕ) (Cost : ℕ → ℕ → Type 0) (old new : List ℕ) : Type 0 where

@@ -14,22 +14,22 @@ pub record IsLowered (Cost : ℕ → Type 0) (old new : ℕ) : Type 0 where
 -- ---- where a variable is left
 
 -- at a literal of the variable with the bit
-pub record AtLiteral (nodes : List Node) (outers : List ℕ) (var : ℕ) (bit : Bool) (node cost : ℕ) : Type 0 where
+pub record AtLiteral (nodes : List Node) (outside : List ℕ) (var : ℕ) (bit : Bool) (node cost : ℕ) : Type 0 where
   pub within : node < length nodes
   pub literal : (node_at nodes node).what ≡ Literal bit var
-  pub is : cost ≡ slice_index outers node
+  pub is : cost ≡ slice_index outside node
 
 -- at a child that does not mention the variable, of an or that does
-pub record AtChild (nodes : List Node) (values outers : List ℕ) (var node cost : ℕ) : Type 0 where
+pub record AtChild (nodes : List Node) (values outside : List ℕ) (var node cost : ℕ) : Type 0 where
   pub within : node < length nodes
   pub or_ : (node_at nodes node).what ≡ Or
   pub child : ℕ
   pub is_child_of : is_child (node_at nodes node).kids child ≡ true
   pub has : mentions nodes var node ≡ true
   pub lacks : mentions nodes var child ≡ false
-  pub outer : slice_index outers node < 2147483647
+  pub small : slice_index outside node < 2147483647
   pub value : slice_index values child < 2147483647
-  pub is : cost ≡ slice_index outers node + slice_index values child
+  pub is : cost ≡ slice_index outside node + slice_index values child
 
 -- at a root that does not mention it
 pub record AtRoot (nodes : List Node) (values : List ℕ) (var cost : ℕ) : Type 0 where
@@ -38,11 +38,11 @@ pub record AtRoot (nodes : List Node) (values : List ℕ) (var cost : ℕ) : Typ
 
 -- what a derivation costs that has no literal of the variable
 abbrev pub Without : List Node → List ℕ → List ℕ → ℕ → ℕ → Type 0
-Without nodes values outers var cost = ((node : ℕ) × AtChild nodes values outers var node cost) ⊎ AtRoot nodes values var cost
+Without nodes values outside var cost = ((node : ℕ) × AtChild nodes values outside var node cost) ⊎ AtRoot nodes values var cost
 
 -- and one that has the literal that says a bit
 abbrev pub With : List Node → List ℕ → ℕ → Bool → ℕ → Type 0
-With nodes outers var bit cost = (node : ℕ) × AtLiteral nodes outers var bit node cost
+With nodes outside var bit cost = (node : ℕ) × AtLiteral nodes outside var bit node cost
 
 -- ---- marks of 64 variables
 

@@ -1,12 +1,12 @@
 use Rattle.std.proofs.Common.{ℕ, ◌+◌, ◌*◌, get_or, ap, sym, ◌∙◌, subst, arith, inl, inr}
 use Rattle.std.proofs.lemmas.Bool.{cases_lt}
 use Rattle.probe_report.specs.inner.Outside.{IsLowered, Without}
-use Rattle.probe_report.proofs.leaving.lower_without.Goals as goal
-use Rattle.probe_report.proofs.leaving.lower_without.Goals.{then-is_some_open, else-is_some_open}
+use Rattle.probe_report.proofs.leaving.NodeCosts.lower_without.Goals as goal
+use Rattle.probe_report.proofs.leaving.NodeCosts.lower_without.Goals.{then-is_some_open, else-is_some_open}
 
 pub loop-block-preserved : goal.loop-block-preserved
 loop-block-preserved g c =
-    let Low : ℕ → ℕ → ℕ → _ = λ i a b. IsLowered (Without c.args.graph.now.nodes c.args.values.now c.args.outers.now (c.args.parts + i + 1)) a b in
+    let Low : ℕ → ℕ → ℕ → _ = λ i a b. IsLowered (Without c.args.self.now.graph.now.nodes c.args.self.now.values.now c.args.self.now.outside.now (c.args.parts + i + 1)) a b in
     let old = c.args.list.now in
     let xs = c.loop-block.list in
     let start = c.loop-block.block * 64 in

@@ -2,18 +2,18 @@ use Rattle.std.proofs.Common.{◌+◌, ◌<◌, ℕ, length, get_or, refl, sym, 
 use Rattle.minimiser.proofs.OnePass.{the_node, literal_at}
 use Rattle.probe_report.specs.inner.Outside.{IsLowered, AtLiteral}
 use Rattle.probe_report.proofs.Marks.{literal-more, literal-same, literal-all, beq-true, beq-false, same_sign}
-use Rattle.probe_report.proofs.probing.lower_with.Goals as goal
-use Rattle.probe_report.proofs.probing.lower_with.Goals.{in-Literal+then-positive-bit, in-Literal+else-positive-bit, in_default}
+use Rattle.probe_report.proofs.leaving.NodeCosts.lower_with.Goals as goal
+use Rattle.probe_report.proofs.leaving.NodeCosts.lower_with.Goals.{in-Literal+then-positive-bit, in-Literal+else-positive-bit, in_default}
 
 pub lower_wire-requires : goal.lower_wire-requires
 lower_wire-requires c =
-    let below : c.loop-at.at < length c.args.graph.now.nodes = omega (arith, c.len-at-end.ensures.len, c.loop-at-test.true) in
-    (literal_at _ _ _ _ _ c.vars-vars.ensures.valid (the_node _ _ _ _ below c.in-Literal.ensures refl)).0
+    let below : c.loop-at.at < length c.args.self.now.graph.now.nodes = omega (arith, c.len-at-end.ensures.len, c.loop-at-test.true) in
+    (literal_at _ _ _ _ _ c.args.self.now.valid (the_node _ _ _ _ below c.in-Literal.ensures refl)).0
 
 pub loop-at-preserved : goal.loop-at-preserved
 loop-at-preserved c i h =
-    let nodes = c.args.graph.now.nodes in
-    let os = c.args.outers.now in
+    let nodes = c.args.self.now.graph.now.nodes in
+    let os = c.args.self.now.outside.now in
     let var = c.args.parts + i + 1 in
     let at = c.loop-at.at in
     let below : at < length nodes = omega (arith, c.len-at-end.ensures.len, c.loop-at-test.true) in
@@ -31,4 +31,4 @@ loop-at-preserved c i h =
     ]
 
 pub returns : goal.returns
-returns c i h = literal-all c.args.graph.now.nodes c.args.outers.now (c.args.parts + i + 1) c.args.bit c.loop-at.at _ _ (omega (arith, c.len-at-end.ensures.len, c.loop-at-test.false)) (c.loop-at.invariant i (omega (arith, c.loop-at.auto.list)))
+returns c i h = literal-all c.args.self.now.graph.now.nodes c.args.self.now.outside.now (c.args.parts + i + 1) c.args.bit c.loop-at.at _ _ (omega (arith, c.len-at-end.ensures.len, c.loop-at-test.false)) (c.loop-at.invariant i (omega (arith, c.loop-at.auto.list)))

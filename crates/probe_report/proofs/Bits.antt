@@ -1,9 +1,9 @@
 -- The word of all bits, and the bit of a variable among those from a first one on.
-use Rattle.std.proofs.Common.{◌≡◌, ℕ, ◌+◌, ◌-◌, ◌*◌, ◌%◌, ◌^◌, ◌<◌, ◌≤◌, true, ◌==◌, sym, ap, ◌∙◌, arith, inl, inr}
+use Rattle.std.proofs.Common.{◌≡◌, ℕ, ◌+◌, ◌-◌, ◌*◌, ◌%◌, ◌^◌, ◌<◌, ◌≤◌, true, ◌==◌, ap, ◌∙◌, arith}
 use Rattle.std.specs.Prelude.{◌⊎◌}
-use Rattle.std.proofs.lemmas.Bool.{cases_eq, eq-eqb, ne_eqb}
+use Rattle.std.proofs.lemmas.Bool.{cases_eq}
 use Rattle.std.proofs.lemmas.Nat.Bits.{bit_at_ones}
-use Rattle.state_rules.proofs.WordBits.{has_bit-zero, one_bit}
+use Rattle.state_rules.proofs.WordBits.{one_bit}
 use Rattle.state_rules.specs.Bits.{has_bit}
 
 -- the greatest word has all bits
@@ -15,11 +15,7 @@ has_bit-all b h = ap (λ n. n == 1) (bit_at_ones 64 b h)
 pub found-bit : (var first b : ℕ) → first ≤ var → var - first < 64 → has_bit (1 * 2 ^ (var - first) % 18446744073709551616) b ≡ (var == first + b)
 found-bit var first b low high = one_bit 64 (var - first) b high ∙ by (cases_eq b (var - first)) where
   by : (b ≡ var - first) ⊎ (b ≡ var - first → ⊥) → (b == (var - first)) ≡ (var == first + b)
-  by (inl same) = eq-eqb b (var - first) same ∙ sym (eq-eqb var (first + b) (omega arith))
-  by (inr other) = ne_eqb b (var - first) other ∙ sym (ne_eqb var (first + b) (λ e. other (omega arith)))
+  by x = grind arith
 
 pub no-bit : (var first b : ℕ) → b < 64 → (var < first) ⊎ (64 ≤ var - first) → has_bit 0 b ≡ (var == first + b)
-no-bit var first b small out = has_bit-zero b ∙ sym (ne_eqb var (first + b) (λ e. by out e)) where
-  by : (var < first) ⊎ (64 ≤ var - first) → var ≡ first + b → ⊥
-  by (inl h) e = omega arith
-  by (inr h) e = omega arith
+no-bit var first b small out = grind arith

@@ -72,27 +72,22 @@ module _ (graph : Graph) (evidence costs : List ℕ) (i most : ℕ) (lt : i < le
   pub all-ok : ((h : List Bool) → ModelWithin graph evidence costs most h → bit_in h i ≡ true) → Never ≡ blame_of graph evidence costs i
   all-ok all =
       let some = least-some graph costs within evidence most e in
-      verdict-never faulty ds some.state (diagnosis-in graph evidence costs most e some.state some.passes) (λ x m. ap not (all x (diagnosis-out graph evidence costs most e x m)))
+      grind (arith, verdict-never, diagnosis-in, diagnosis-out)
 
   pub all-faulty : ((h : List Bool) → ModelWithin graph evidence costs most h → bit_in h i ≡ false) → Always ≡ blame_of graph evidence costs i
   all-faulty all =
       let some = least-some graph costs within evidence most e in
-      verdict-always faulty ds some.state (diagnosis-in graph evidence costs most e some.state some.passes) (λ x m. ap not (all x (diagnosis-out graph evidence costs most e x m)))
+      grind (arith, verdict-always, diagnosis-in, diagnosis-out)
 
   pub some-differ : (h k : List Bool) → ModelWithin graph evidence costs most h → ModelWithin graph evidence costs most k → bit_in h i ≡ false → bit_in k i ≡ true → Sometimes ≡ blame_of graph evidence costs i
-  some-differ h k p q a b = verdict-sometimes faulty ds h k (diagnosis-in graph evidence costs most e h p) (diagnosis-in graph evidence costs most e k q) (ap not a) (ap not b)
+  some-differ h k p q a b = grind (arith, verdict-sometimes, diagnosis-in)
 
   abbrev HasLeast : Bool → Type 0
   HasLeast bit = least costs (passing (length costs) (has_model graph (λ bits. fits_evidence evidence bits && same_bit bit (bit_in bits i)) (length costs))) ≡ Some most
 
   -- a diagnosis that has not the one bit has the other
   only : (bit : Bool) → (HasLeast (not bit) → ⊥) → (h : List Bool) → ModelWithin graph evidence costs most h → bit_in h i ≡ bit
-  only bit none h p = by_bit (bit_in h i) refl bit none where
-    by_bit : (b : Bool) → bit_in h i ≡ b → (c : Bool) → (HasLeast (not c) → ⊥) → b ≡ c
-    by_bit true q true no_other = refl
-    by_bit false q false no_other = refl
-    by_bit true q false no_other = absurd (no_other (bit-in graph evidence costs i true lt most within e h p q))
-    by_bit false q true no_other = absurd (no_other (bit-in graph evidence costs i false lt most within e h p q))
+  only bit none h p = grind (arith, bit-in)
 
   pub is-never : (HasLeast false → ⊥) → Never ≡ blame_of graph evidence costs i
   is-never none = all-ok (only true none)

@@ -1,12 +1,12 @@
 -- The least cost at the root where a variable has a bit, from what derivations cost outside of the nodes.
 use Rattle.std.proofs.Common.{◌≡◌, ◌≢◌, ℕ, zero, suc, ◌+◌, ◌-◌, ◌<◌, ◌≤◌, Bool, true, false, cond, eqb, List, length, get_or, set, Option, Some, None, refl, ap, sym, ◌∙◌, subst, arith, inl, inr, ⊎_elim}
 use Rattle.std.specs.Prelude.{◌⊎◌, slice_get, nat_lt}
-use Rattle.std.proofs.lemmas.Bool.{cases_Bool, cases_eq, eqb-true, eq-eqb, ltb-true, ltb-false, false≢true, ne_eqb}
+use Rattle.std.proofs.lemmas.Bool.{cases_Bool, eqb-true, eq-eqb, ltb-true, ltb-false, false≢true, ne_eqb}
 use Rattle.std.proofs.lemmas.List.{get_or-set_same, get_or-set_other}
 use Rattle.std.proofs.lemmas.Option.{slice_get-get_or}
 use Rattle.state_rules.specs.Assignments.{Assignment}
 use Rattle.state_rules.specs.Cases.{agrees_at}
-use Rattle.state_rules.proofs.Bits.{same_bit-equal, same_bit-refl}
+use Rattle.state_rules.proofs.Bits.{same_bit-equal}
 use Rattle.state_rules.proofs.Mentions.{mentioned-range}
 use Rattle.state_rules.proofs.Members.{In, AtMost, AtMost-le}
 use Rattle.state_rules.specs.declared.nodes.NodeKind.{NodeKind}
@@ -14,7 +14,6 @@ use Rattle.state_rules.specs.declared.nodes.NodeKind.TheVariants.{Literal, And, 
 use Rattle.state_rules.specs.Graphs.{Node, Graph, true_node, node_at, is_true, mentions, IsGraph}
 use Rattle.conditioner.specs.Evidence.{known_of, word_of, leaf_of}
 use Rattle.conditioner.specs.Models.{total_cost}
-use Rattle.conditioner.proofs.FittingEvidence.{known_of-word_of}
 use Rattle.node_costs.proofs.Totals.{total-same}
 use Rattle.minimiser.specs.Costs.{part_cost, known_at, literal_cost, least_at}
 use Rattle.minimiser.specs.Stored.{AreLeastCosts}
@@ -70,7 +69,7 @@ module _ (graph : Graph) (evidence costs : List ℕ) (ok : IsGraph graph) (vs os
     descends zero k f h m t g = absurd (omega arith)
     descends (suc fuel) k f h m t g = by_kind (descends fuel) (node_at graph.nodes k).what (node_at graph.nodes k).kids (slice_get-get_or graph.nodes k true_node h) refl refl where
       fits : (kids : List ℕ) (j : ℕ) → (node_at graph.nodes k).kids ≡ kids → In j kids → is_true graph.nodes j b ≡ true → O j + faults j b ≤ O k + faults k b
-      fits kids j ks i u = child-fits graph evidence costs ok vs os least outside b agree k j h (subst (λ z. is_child z j ≡ true) (sym ks) (child-in kids j i)) t u
+      fits kids j ks i u = grind (arith, child-fits, child-in)
 
       by_kind : ((j : ℕ) → j < fuel → j < n → M j ≡ true → is_true graph.nodes j b ≡ true → O j + faults j b ≤ c → Found var bit c)
           → (what : NodeKind) (kids : List ℕ) → slice_get graph.nodes k ≡ Some (record { what = what; kids = kids }) → (node_at graph.nodes k).what ≡ what → (node_at graph.nodes k).kids ≡ kids → Found var bit c
@@ -92,7 +91,7 @@ module _ (graph : Graph) (evidence costs : List ℕ) (ok : IsGraph graph) (vs os
           let mine : is_child (node_at graph.nodes k).kids j.item ≡ true = subst (λ z. is_child z j.item ≡ true) (sym ks) (child-in kids j.item j.is_in) in
           let value = (has_least graph evidence costs vs least ok b agree j.item (omega (arith, low)) j.passes).low in
           let within = faults_in-le (known_at evidence) (part_cost costs) (length costs) (λ v. mentions graph.nodes v j.item) (λ v. mentions graph.nodes v k) b (λ v q. mention-at graph evidence costs ok k _ x v ∙ any-child (mentions graph.nodes v) kids j.item j.is_in q) in
-          record { cost = O k + W j.item; le = omega (arith, value, within, g); exit = inl (inl (k, record { within = h; or_ = w; child = j.item; is_child_of = mine; has = m; lacks = r; small = omega (arith, g, q); value = omega (arith, value, within, g, q); is = refl })) })
+          record { cost = O k + W j.item; le = omega (arith, value, within, g); exit = grind arith })
           (cases_Bool (M j.item))
 
   -- ---- a variable that is open and costs nothing, fixed to a bit
@@ -105,7 +104,7 @@ module _ (graph : Graph) (evidence costs : List ℕ) (ok : IsGraph graph) (vs os
     D k = least_at graph (set evidence (var - 1) (word_of bit)) costs k
 
     fixed-here : (v : ℕ) → v - 1 ≡ var - 1 → known_at fixed v ≡ Some bit
-    fixed-here v e = ap (λ i. known_of (get_or fixed i 0)) e ∙ ap known_of (get_or-set_same evidence (var - 1) (word_of bit) 0 (omega (arith, low, there))) ∙ known_of-word_of bit
+    fixed-here v e = grind (arith, get_or-set_same)
 
     fixed-other : (v : ℕ) → (v - 1 ≡ var - 1 → ⊥) → known_at fixed v ≡ known_at evidence v
     fixed-other v ne = ap known_of (get_or-set_other evidence (var - 1) (v - 1) (word_of bit) 0 ne)
@@ -114,17 +113,11 @@ module _ (graph : Graph) (evidence costs : List ℕ) (ok : IsGraph graph) (vs os
     open-here v e = ap (λ i. known_of (get_or evidence i 0)) e ∙ ap known_of open_
 
     no_fault : (k : Option Bool) (x : Bool) → fault k 0 x ≡ 0
-    no_fault None true = refl
-    no_fault None false = refl
-    no_fault (Some y) x = refl
+    no_fault k x = grind arith
 
     -- faults are the same where all is the same but the variable
     quiet : (ks ls : ℕ → Option Bool) (a b : Assignment) → ((v : ℕ) → 1 ≤ v → v ≢ var → (ks v ≡ ls v) × (a v ≡ b v)) → all_faults ks (part_cost costs) (length costs) a ≡ all_faults ls (part_cost costs) (length costs) b
-    quiet ks ls a b same = total-same (λ v. fault (ks v) (part_cost costs v) (a v)) (λ v. fault (ls v) (part_cost costs v) (b v)) 1 (length costs) (λ v l h. ⊎_elim
-        (λ (e : v ≡ var). let z : part_cost costs v ≡ 0 = ap (part_cost costs) e ∙ free in
-        (λ i. fault (ks v) (z i) (a v)) ∙ no_fault (ks v) (a v) ∙ sym ((λ i. fault (ls v) (z i) (b v)) ∙ no_fault (ls v) (b v)))
-        (λ (ne : v ≢ var). let s = same v l ne in λ i. fault (s.0 i) (part_cost costs v) (s.1 i))
-        (cases_eq v var))
+    quiet ks ls a b same = grind (arith, total-same)
 
     other_place : (v : ℕ) → 1 ≤ v → v ≢ var → v - 1 ≡ var - 1 → ⊥
     other_place v l ne e = ne (omega (arith, low))
@@ -135,14 +128,7 @@ module _ (graph : Graph) (evidence costs : List ℕ) (ok : IsGraph graph) (vs os
 
     rounded-agrees : (a : Assignment) → Agrees (known_at evidence) (part_cost costs) (length costs) a → a var ≡ bit → Agrees (known_at fixed) (part_cost costs) (length costs) (rounded a)
     unfolding rounded
-    rounded-agrees a ag at v = ⊎_elim
-        (λ (e : v - 1 ≡ var - 1).
-        let place : v - 1 + 1 ≡ var = omega (arith, low) in
-        (λ i. agrees_at (fixed-here v e i) ((ap a place ∙ at) i)) ∙ same_bit-refl bit)
-        (λ ne.
-        let place : v - 1 + 1 - 1 ≡ v - 1 = omega arith in
-        ap (λ k. agrees_at k (a (v - 1 + 1))) (fixed-other v ne ∙ sym (ap (λ i. known_of (get_or evidence i 0)) place)) ∙ ag (v - 1 + 1))
-        (cases_eq (v - 1) (var - 1))
+    rounded-agrees a ag at v = grind (arith, fixed-here, fixed-other)
 
     -- what makes the root true with the bit costs no less than the root does
     with-bit : (c : ℕ) (a : Assignment) → Achieves graph evidence costs ok root c a → a var ≡ bit → AtMost (D root) c
@@ -168,10 +154,7 @@ module _ (graph : Graph) (evidence costs : List ℕ) (ok : IsGraph graph) (vs os
 
     turns : (k c : ℕ) (a : Assignment) → mentions graph.nodes var k ≡ false → Achieves graph evidence costs ok k c a → Achieves graph evidence costs ok k c (turned a)
     turns k c a lacks ach = record {
-      agrees = λ v. ⊎_elim
-          (λ (e : var ≡ v). ap (λ o. agrees_at o (turned a v)) (open-here v (ap (λ u. u - 1) (sym e))))
-          (λ ne. ap (agrees_at (known_at evidence v)) (turned-other a v ne) ∙ ach.agrees v)
-          (cases_eq var v);
+      agrees = grind (arith, turned-other);
       holds = (is_cost graph evidence costs ok k).local (turned a) a (λ v m. turned-other a v (λ e. false≢true (sym lacks ∙ ap (λ u. mentions graph.nodes u k) e ∙ m))) ∙ ach.holds;
       cheap = omega (arith, ach.cheap, quiet (known_at evidence) (known_at evidence) (turned a) a (λ v l ne. (refl, turned-other a v (λ e. ne (sym e)))));
     }
@@ -181,26 +164,25 @@ module _ (graph : Graph) (evidence costs : List ℕ) (ok : IsGraph graph) (vs os
     sound c q (inr w) =
         let k : ℕ = w.0 in
         let l = w.1 in
-        let e : slice_get graph.nodes k ≡ Some (record { what = Literal bit var; kids = (node_at graph.nodes k).kids }) = slice_get-get_or graph.nodes k true_node l.within ∙ (λ i. Some (record { what = l.literal i; kids = (node_at graph.nodes k).kids })) in
+        let e : slice_get graph.nodes k ≡ Some (record { what = Literal bit var; kids = (node_at graph.nodes k).kids }) = grind (arith, slice_get-get_or) in
         let is : C k ≡ Some 0 = costs-at graph evidence costs ok k _ e ∙ (λ i. literal_cost (leaf_of bit (open-here var refl i)) (free i) bit) ∙ own bit in
         let r = (is_cost graph evidence costs ok k).reached 0 is in
         let y = outside-is graph evidence costs ok vs os least outside total n k (omega arith) l.within (omega (arith, l.is)) 0 r.by (record { agrees = r.agrees; holds = r.holds; cheap = r.cheap }) in
         AtMost-le (D root) (O k + 0) c (with-bit (O k + 0) y.by y.achieves
         (y.same var (mention-at graph evidence costs ok k _ e var ∙ eq-eqb var var refl) ∙ sym (same_bit-equal bit (r.by var) (sym (true-at graph evidence costs ok k _ e r.by) ∙ r.holds)))) (omega (arith, l.is)) where
           own : (b : Bool) → literal_cost (leaf_of b None) 0 b ≡ Some 0
-          own true = refl
-          own false = refl
+          own b = grind arith
     sound c q (inl (inl w)) =
         let k : ℕ = w.0 in
         let l = w.1 in
-        let e : slice_get graph.nodes k ≡ Some (record { what = Or; kids = (node_at graph.nodes k).kids }) = slice_get-get_or graph.nodes k true_node l.within ∙ (λ i. Some (record { what = l.or_ i; kids = (node_at graph.nodes k).kids })) in
+        let e : slice_get graph.nodes k ≡ Some (record { what = Or; kids = (node_at graph.nodes k).kids }) = grind (arith, slice_get-get_or) in
         let i = child-out (node_at graph.nodes k).kids l.child l.is_child_of in
         let is : C l.child ≡ Some (W l.child) = sym (value-is graph evidence costs vs least l.child (let b = child-below k _ e l.child i in omega (arith, b, l.within))) ∙ cost_in-some (W l.child) (λ z. absurd (omega (arith, l.value))) in
         let r = (is_cost graph evidence costs ok l.child).reached (W l.child) is in
         let t = turns l.child (W l.child) r.by l.lacks (record { agrees = r.agrees; holds = r.holds; cheap = r.cheap }) in
         let y = outside-is graph evidence costs ok vs os least outside total n k (omega arith) l.within l.small (W l.child) (turned r.by)
         (record { agrees = t.agrees; holds = true-at graph evidence costs ok k _ e (turned r.by) ∙ any-child (λ j. is_true graph.nodes j (turned r.by)) (node_at graph.nodes k).kids l.child i t.holds; cheap = t.cheap }) in
-        AtMost-le (D root) (O k + W l.child) c (with-bit (O k + W l.child) y.by y.achieves (y.same var l.has ∙ turned-here r.by)) (omega (arith, l.is))
+        grind (arith, with-bit, turned-here)
     sound c q (inl (inr l)) =
         let is : C root ≡ Some (W root) = sym (value-is graph evidence costs vs least root (omega (arith, ok.some))) ∙ cost_in-some (W root) (λ z. absurd (omega (arith, l.is))) in
         let r = (is_cost graph evidence costs ok root).reached (W root) is in
@@ -210,10 +192,7 @@ module _ (graph : Graph) (evidence costs : List ℕ) (ok : IsGraph graph) (vs os
     reached : (c : ℕ) → D root ≡ Some c → c < 2147483647 → Found var bit c
     reached c e q =
         let r = (is_cost graph fixed costs ok root).reached c e in
-        let agree : Agrees (known_at evidence) (part_cost costs) (length costs) r.by = λ v. ⊎_elim
-        (λ (s : v - 1 ≡ var - 1). ap (λ o. agrees_at o (r.by v)) (open-here v s))
-        (λ ne. ap (λ o. agrees_at o (r.by v)) (sym (fixed-other v ne)) ∙ r.agrees v)
-        (cases_eq (v - 1) (var - 1)) in
+        let agree : Agrees (known_at evidence) (part_cost costs) (length costs) r.by = grind (arith, fixed-other) in
         let at : r.by var ≡ bit = sym (same_bit-equal bit (r.by var) (sym (ap (λ o. agrees_at o (r.by var)) (fixed-here var refl)) ∙ r.agrees var)) in
         let less = faults_in-le (known_at evidence) (part_cost costs) (length costs) (λ v. mentions graph.nodes v root) (λ v. true) r.by (λ v m. refl) in
         let equal = quiet (known_at fixed) (known_at evidence) r.by r.by (λ v l ne. (fixed-other v (other_place v l ne), refl)) in
@@ -233,8 +212,7 @@ module _ (graph : Graph) (evidence costs : List ℕ) (ok : IsGraph graph) (vs os
       low-exit c e = let f = reached c e (omega (arith, total, cost_small graph fixed costs root ok c e)) in omega (arith, f.le, lowest.low f.cost f.exit)
 
       none : (o : Option ℕ) → ((c : ℕ) → o ≡ Some c → ⊥) → o ≡ None
-      none None h = refl
-      none (Some c) h = absurd (h c refl)
+      none o h = grind arith
 
       by_size : (b : Bool) → nat_lt best 2147483647 ≡ b → D root ≡ cond b (Some best) None
       by_size true t =

@@ -1,13 +1,12 @@
 -- What the numbers of the wires say at the end.
 use Rattle.std.proofs.Common.{◌≡◌, ℕ, zero, suc, ◌+◌, ◌-◌, ◌<◌, ◌≤◌, Bool, true, false, cond, List, [], ◌∷◌, length, get_or, set, Option, Some, None, refl, ap, sym, ◌∙◌, subst, arith, inl, inr}
-use Rattle.std.specs.Prelude.{◌⊎◌, ◌==◌, nat_lt}
+use Rattle.std.specs.Prelude.{◌⊎◌, nat_lt}
 use Rattle.std.proofs.Math.ListN.{length-set}
 use Rattle.std.proofs.lemmas.Bool.{ltb-true, eqb-false}
 use Rattle.std.proofs.lemmas.List.{get_or_past}
 use Rattle.std.proofs.lemmas.List.Sums.{sum_by-cons}
 use Rattle.state_rules.specs.Ranking.{least}
 use Rattle.state_rules.specs.Graphs.{Node, Graph, IsGraph}
-use Rattle.conditioner.specs.declared.leaves.Leaf.TheVariants.{True, False}
 use Rattle.conditioner.specs.Evidence.{known_of, word_of, leaf_of}
 use Rattle.conditioner.specs.Models.{has_model, fits_evidence, least_under, least_with, total_cost}
 use Rattle.node_costs.proofs.States.{least-out, least-in}
@@ -31,9 +30,7 @@ held-le [] evidence = omega arith
 held-le (c ∷ costs) [] = omega arith
 held-le (c ∷ costs) (w ∷ evidence) = omega (arith, sum_by-cons (λ (x : ℕ). x) c costs, held-le costs evidence, one (known_of w)) where
   one : (k : Option Bool) → held_one c k ≤ c
-  one None = omega arith
-  one (Some true) = omega arith
-  one (Some false) = omega arith
+  one k = grind arith
 
 -- a variable that is no part's changes nothing of it
 held-same : (costs evidence : List ℕ) (i w : ℕ) → length costs ≤ i → held_cost costs (set evidence i w) ≡ held_cost costs evidence
@@ -56,30 +53,17 @@ held-is graph evidence costs xs fewest root ok long within total v e at = by_cos
   same = ap (λ k. get_or xs k 0) at
 
   value : (w c : ℕ) → cost_in w ≡ Some c → (w ≡ c) × (w ≡ 4294967295 → ⊥)
-  value w c q = by_test (w == 4294967295) refl q where
-    by_test : (b : Bool) → (w == 4294967295) ≡ b → cond b None (Some w) ≡ Some c → (w ≡ c) × (w ≡ 4294967295 → ⊥)
-    by_test true t r = absurd (cc)
-    by_test false t r = (cc, eqb-false w 4294967295 t)
+  value w c q = grind (arith, eqb-false)
 
   by_cost : (o : Option ℕ) → cost_in (get_or xs (length graph.nodes - 1) 0) ≡ o → Some fewest ≡ AddHeld (held_cost costs evidence) o → Held (get_or xs root 0) fewest (held_cost costs evidence)
-  by_cost None q r = absurd (cc)
-  by_cost (Some c) q r =
-      let w = value (get_or xs (length graph.nodes - 1) 0) c q in
-      let sum : fewest ≡ held_cost costs evidence + c = cc in
-      let low = value_small graph evidence costs (length graph.nodes - 1) xs ok v (omega (arith, ok.some, length-least_costs graph evidence costs xs v)) w.1 in
-      record {
-        low = omega (arith, same, w.0, sum);
-        is = omega (arith, same, w.0, sum);
-        small = omega (arith, same, w.0, sum, held-le costs evidence);
-        fits = omega (arith, w.0, sum, held-le costs evidence, low);
-      }
+  by_cost o q r = grind (arith, value_small, length-least_costs, held-le)
 
 -- ---- where nothing agrees, nothing does with a bit too
 
 pub with-none : (graph : Graph) (evidence costs : List ℕ) (var : ℕ) (bit : Bool) → least_under graph evidence costs ≡ None → None ≡ least_with graph evidence costs var bit
 with-none graph evidence costs var bit e = sym (least-in costs (length costs) (with_bit graph evidence costs (var - 1) bit) None
     (λ n s. least-out costs (length costs) (has_model graph (fits_evidence evidence) (length costs)) None e n
-    (record { state = s.state; long = s.long; passes = with-model graph evidence costs (var - 1) bit s.state s.passes; cost_is = s.cost_is })))
+    (grind (arith, with-model))))
 
 -- ---- one wire
 
@@ -92,9 +76,7 @@ module _ (graph : Graph) (evidence costs : List ℕ) (ok : IsGraph graph) (long 
   place = omega arith
 
   free : part_cost costs (length costs + wire + 1) ≡ 0
-  free = ap (part_cost costs) next ∙ get_or_past costs (length costs + wire) 0 (omega arith) where
-    next : length costs + wire + 1 ≡ suc (length costs + wire)
-    next = omega arith
+  free = grind (arith, get_or_past)
 
   open-is : (fewest held best : ℕ) → get_or evidence (length costs + wire) 0 ≡ 0 → held ≡ held_cost costs evidence → held < 2147483647
       → IsLowered (λ c. Without graph.nodes vs os (length costs + wire + 1) c ⊎ With graph.nodes os (length costs + wire + 1) bit c) 4294967295 best
@@ -110,21 +92,7 @@ module _ (graph : Graph) (evidence costs : List ℕ) (ok : IsGraph graph) (long 
 
   known-is : (fewest held best : ℕ) → Some fewest ≡ least_under graph evidence costs → fewest < 4294967295 → (b : Bool) → get_or evidence (length costs + wire) 0 ≡ word_of b
       → cost_in (settled (word_of b) fewest held bit best) ≡ least_with graph evidence costs (length costs + wire + 1) bit
-  known-is fewest held best e fits b says = by_bits b bit refl refl where
-    word : get_or evidence (length costs + wire + 1 - 1) 0 ≡ word_of b
-    word = ap (λ i. get_or evidence i 0) place ∙ says
-
-    all : True ≡ leaf_of bit (known_of (get_or evidence (length costs + wire + 1 - 1) 0)) → cost_in fewest ≡ least_with graph evidence costs (length costs + wire + 1) bit
-    all is = cost_in-some fewest (λ q. absurd (omega arith)) ∙ e ∙ ap (least costs) (with-true graph evidence costs var bit long (omega arith) (omega arith) (omega arith) is)
-
-    none : False ≡ leaf_of bit (known_of (get_or evidence (length costs + wire + 1 - 1) 0)) → cost_in 4294967295 ≡ least_with graph evidence costs (length costs + wire + 1) bit
-    none is = sym (ap (least costs) (with-false graph evidence costs var bit long (omega arith) (omega arith) (omega arith) is))
-
-    by_bits : (x y : Bool) → b ≡ x → bit ≡ y → cost_in (settled (word_of b) fewest held bit best) ≡ least_with graph evidence costs (length costs + wire + 1) bit
-    by_bits true true p q = (λ i. cost_in (settled (word_of (p i)) fewest held (q i) best)) ∙ all (sym ((λ i. leaf_of (q i) (known_of ((word ∙ ap word_of p) i)))))
-    by_bits true false p q = (λ i. cost_in (settled (word_of (p i)) fewest held (q i) best)) ∙ none (sym ((λ i. leaf_of (q i) (known_of ((word ∙ ap word_of p) i)))))
-    by_bits false true p q = (λ i. cost_in (settled (word_of (p i)) fewest held (q i) best)) ∙ none (sym ((λ i. leaf_of (q i) (known_of ((word ∙ ap word_of p) i)))))
-    by_bits false false p q = (λ i. cost_in (settled (word_of (p i)) fewest held (q i) best)) ∙ all (sym ((λ i. leaf_of (q i) (known_of ((word ∙ ap word_of p) i)))))
+  known-is fewest held best e fits b says = grind (arith, with-true, with-false)
 
   -- what is answered for a wire
   pub settled-is : (fewest held best : ℕ) → get_or evidence (length costs + wire) 0 < 3 → Some fewest ≡ least_under graph evidence costs → fewest < 4294967295 → held ≡ held_cost costs evidence → held < 2147483647

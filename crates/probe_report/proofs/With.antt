@@ -1,12 +1,11 @@
 -- One more bit is asked of the states.
-use Rattle.std.proofs.Common.{◌≡◌, ℕ, zero, suc, ◌-◌, ◌<◌, ◌≤◌, Bool, true, false, not, ◌&&◌, List, [], ◌++◌, length, get_or, set, Option, Some, None, refl, ap, sym, ◌∙◌, subst, arith, ⊎_elim}
+use Rattle.std.proofs.Common.{◌≡◌, ℕ, ◌-◌, ◌<◌, ◌≤◌, Bool, true, not, ◌&&◌, List, [], ◌++◌, length, get_or, set, Option, Some, ap, sym, ◌∙◌, arith}
 use Rattle.std.proofs.Math.ListN.{length-set}
-use Rattle.std.proofs.lemmas.Bool.{and_from, cases_eq}
 use Rattle.std.proofs.lemmas.Grind.{same_number_lists}
 use Rattle.std.proofs.lemmas.List.{get_or-set_same, get_or-set_other}
 use Rattle.state_rules.specs.Bits.{bit_in, same_bit, lists_of_bits}
 use Rattle.state_rules.specs.Ranking.{Test, least, passing}
-use Rattle.state_rules.proofs.Bits.{same_bit-refl, same_bit-equal, bit_in-front}
+use Rattle.state_rules.proofs.Bits.{bit_in-front}
 use Rattle.state_rules.proofs.Members.{any_from, any_in}
 use Rattle.state_rules.specs.Graphs.{Graph, holds}
 use Rattle.conditioner.specs.declared.leaves.Leaf.TheVariants.{True, False, Open}
@@ -16,31 +15,18 @@ use Rattle.conditioner.proofs.FittingEvidence.{known_of-word_of, known-at}
 use Rattle.conditioner.proofs.ModelsWith.{with_bit-open, with_bit-known, with_bit-other}
 use Rattle.minimiser.specs.LeastStates.{ModelWithin}
 use Rattle.node_costs.proofs.States.{least-out, least-in}
-use Rattle.minimiser.proofs.Costs.{and_left, and_right}
 use Rattle.minimiser.proofs.Models.{LeastIs, least-low}
 
 -- ---- a literal under the evidence
 
 leaf-true : (b : Bool) (k : Option Bool) → True ≡ leaf_of b k → k ≡ Some b
-leaf-true b None e = absurd (cc)
-leaf-true true (Some true) e = refl
-leaf-true true (Some false) e = absurd (cc)
-leaf-true false (Some true) e = absurd (cc)
-leaf-true false (Some false) e = refl
+leaf-true b k e = grind arith
 
 leaf-false : (b : Bool) (k : Option Bool) → False ≡ leaf_of b k → k ≡ Some (not b)
-leaf-false b None e = absurd (cc)
-leaf-false true (Some true) e = absurd (cc)
-leaf-false true (Some false) e = refl
-leaf-false false (Some true) e = refl
-leaf-false false (Some false) e = absurd (cc)
+leaf-false b k e = grind arith
 
 pub leaf-open : (b : Bool) (word : ℕ) → Open ≡ leaf_of b (known_of word) → word ≡ 0
-leaf-open b zero e = refl
-leaf-open true (suc zero) e = absurd (cc)
-leaf-open false (suc zero) e = absurd (cc)
-leaf-open true (suc (suc n)) e = absurd (cc)
-leaf-open false (suc (suc n)) e = absurd (cc)
+leaf-open b word e = grind arith
 
 module _ (graph : Graph) (evidence costs : List ℕ) (var : ℕ) (bit : Bool) (long : length evidence ≡ graph.vars) (within : length costs ≤ graph.vars) (low : 1 ≤ var) (high : var ≤ graph.vars) where
   abbrev i : ℕ
@@ -60,10 +46,7 @@ module _ (graph : Graph) (evidence costs : List ℕ) (var : ℕ) (bit : Bool) (l
 
 -- an open variable that was fixed is open again
 pub loose-again : (evidence : List ℕ) (i word : ℕ) → i < length evidence → get_or evidence i 0 ≡ 0 → set (set evidence i word) i 0 ≡ evidence
-loose-again evidence i word h e = same_number_lists (set (set evidence i word) i 0) evidence (length-set (set evidence i word) i 0 ∙ length-set evidence i word) (λ k g. ⊎_elim
-    (λ q. ap (λ j. get_or (set (set evidence i word) i 0) j 0) q ∙ get_or-set_same (set evidence i word) i 0 0 (omega (arith, length-set evidence i word)) ∙ sym e ∙ ap (λ j. get_or evidence j 0) (sym q))
-    (λ ne. get_or-set_other (set evidence i word) i k 0 0 ne ∙ get_or-set_other evidence i k word 0 ne)
-    (cases_eq k i))
+loose-again evidence i word h e = grind (arith, same_number_lists, length-set, get_or-set_same, get_or-set_other)
 
 -- ---- the states that have a bit
 
@@ -75,21 +58,16 @@ module _ (graph : Graph) (evidence costs : List ℕ) (i : ℕ) (bit : Bool) wher
   pub with-model : (h : List Bool) → with_bit h ≡ true → has_model graph (fits_evidence evidence) (length costs) h ≡ true
   with-model h e =
       let s = any_from (λ others. (fits_evidence evidence (h ++ others) && same_bit bit (bit_in (h ++ others) i)) && holds graph (h ++ others)) (lists_of_bits (graph.vars - length costs)) e in
-      any_in (λ others. fits_evidence evidence (h ++ others) && holds graph (h ++ others)) s.item (lists_of_bits (graph.vars - length costs)) s.is_in
-      (and_from _ _ (and_left _ _ (and_left _ _ s.passes)) (and_right (fits_evidence evidence (h ++ s.item) && same_bit bit (bit_in (h ++ s.item) i)) _ s.passes))
+      grind (arith, any_in)
 
   module _ (lt : i < length costs) where
     with-is : (h : List Bool) → length h ≡ length costs → with_bit h ≡ true → bit_in h i ≡ bit
     with-is h l e =
         let s = any_from (λ others. (fits_evidence evidence (h ++ others) && same_bit bit (bit_in (h ++ others) i)) && holds graph (h ++ others)) (lists_of_bits (graph.vars - length costs)) e in
-        sym (bit_in-front h s.item i (omega arith)) ∙ sym (same_bit-equal bit (bit_in (h ++ s.item) i) (and_right (fits_evidence evidence (h ++ s.item)) _ (and_left _ _ s.passes)))
+        grind (arith, bit_in-front)
 
     with-in : (h : List Bool) → length h ≡ length costs → has_model graph (fits_evidence evidence) (length costs) h ≡ true → bit_in h i ≡ bit → with_bit h ≡ true
-    with-in h l e f =
-        let s = any_from (λ others. fits_evidence evidence (h ++ others) && holds graph (h ++ others)) (lists_of_bits (graph.vars - length costs)) e in
-        any_in (λ others. (fits_evidence evidence (h ++ others) && same_bit bit (bit_in (h ++ others) i)) && holds graph (h ++ others)) s.item (lists_of_bits (graph.vars - length costs)) s.is_in
-        (and_from _ _ (and_from _ _ (and_left _ _ s.passes) (subst (λ x. same_bit bit x ≡ true) (sym (bit_in-front h s.item i (omega arith) ∙ f)) (same_bit-refl bit)))
-        (and_right (fits_evidence evidence (h ++ s.item)) _ s.passes))
+    with-in h l e f = grind (arith, bit_in-front)
 
     -- some diagnosis has the bit
     pub record HasBit (most : ℕ) : Type 0 where
@@ -100,10 +78,10 @@ module _ (graph : Graph) (evidence costs : List ℕ) (i : ℕ) (bit : Bool) wher
     pub bit-out : (most : ℕ) → least costs (passing (length costs) with_bit) ≡ Some most → HasBit most
     bit-out most f =
         let s = (least-out costs (length costs) with_bit (Some most) f).0 in
-        record { state = s.state; passes = record { long = s.long; model = with-model s.state s.passes; cheap = omega (arith, s.cost_is) }; has = with-is s.state s.long s.passes }
+        grind (arith, with-model, with-is)
 
     pub bit-in : (most : ℕ) → length costs ≤ graph.vars → LeastIs graph costs evidence most → (h : List Bool) → ModelWithin graph evidence costs most h → bit_in h i ≡ bit → least costs (passing (length costs) with_bit) ≡ Some most
     bit-in most within e h p f = least-in costs (length costs) with_bit (Some most) (
-      record { state = h; long = p.long; passes = with-in h p.long p.model f; cost_is = omega (arith, p.cheap, least-low graph costs within evidence most h e p.long p.model) },
+      grind (arith, with-in, least-low),
       λ n s. omega (arith, least-low graph costs within evidence most s.state e s.long (with-model s.state s.passes), s.cost_is),
     )

@@ -28,26 +28,23 @@ add_and-requires g c =
     let is = here _ d.graph c.args.node c.what.result c.args.kids.now c.graph-graph.ensures.graph c.len-nodes.ensures.valid c.what.ensures c.requires.kids in
     kids-inside d c.parts-parts.ensures.whole is.0 c.args.node c.requires.node c.what.result c.args.kids.now is.1
 
-pub add_or-requires-clause-kids : goal.add_or-requires-clause-kids
-add_or-requires-clause-kids g c =
+pub invariant_of-or_node : goal.invariant_of-or_node
+invariant_of-or_node g c =
     let d = c.args.drawing.now in
+    let whole = c.parts-parts.ensures.whole in
     let is = here _ d.graph c.args.node c.what.result c.args.kids.now c.graph-graph.ensures.graph c.len-nodes.ensures.valid c.what.ensures c.requires.kids in
-    kids-inside d c.parts-parts.ensures.whole is.0 c.args.node c.requires.node c.what.result c.args.kids.now is.1
+    record {
+      low = whole.few;
+      costs = whole.costs;
+      inside = c.requires.node;
+      kids_inside = kids-inside d whole is.0 c.args.node c.requires.node c.what.result c.args.kids.now is.1;
+      few = few-kids-of d whole is.0 c.args.node c.requires.node c.what.result c.args.kids.now is.1 c.in-Or.is;
+      some = c.requires.cost;
+      is = is.1 ∙ (λ i. record { what = c.in-Or.is i; kids = c.args.kids.now });
+    }
 
-pub add_or-requires-clause-few : goal.add_or-requires-clause-few
-add_or-requires-clause-few g c =
-    let d = c.args.drawing.now in
-    let is = here _ d.graph c.args.node c.what.result c.args.kids.now c.graph-graph.ensures.graph c.len-nodes.ensures.valid c.what.ensures c.requires.kids in
-    few-kids-of d c.parts-parts.ensures.whole is.0 c.args.node c.requires.node c.what.result c.args.kids.now is.1 c.in-Or.is
-
-pub add_or-requires-clause-is : goal.add_or-requires-clause-is
-add_or-requires-clause-is g c =
-    let d = c.args.drawing.now in
-    (here _ d.graph c.args.node c.what.result c.args.kids.now c.graph-graph.ensures.graph c.len-nodes.ensures.valid c.what.ensures c.requires.kids).1
-    ∙ (λ i. record { what = c.in-Or.is i; kids = c.args.kids.now })
-
-pub add_or-requires-clause-room : goal.add_or-requires-clause-room
-add_or-requires-clause-room g c =
+pub add_lines-requires : goal.add_lines-requires
+add_lines-requires g c =
     let d = c.args.drawing.now in
     let is = here _ d.graph c.args.node c.what.result c.args.kids.now c.graph-graph.ensures.graph c.len-nodes.ensures.valid c.what.ensures c.requires.kids in
     line-room d c.parts-parts.ensures.whole is.0 c.args.node c.requires.node c.what.result c.args.kids.now is.1 c.in-Or.is c.args.cost c.requires.known
@@ -62,4 +59,4 @@ pub returns-in-Or : goal.returns-in-Or
 returns-in-Or g c =
     let d = c.args.drawing.now in
     let what = what-of _ d.graph c.args.node c.what.result c.what.ensures c.graph-graph.ensures.graph in
-    extends_same _ _ _ _ _ _ c.add_or.ensures (or-lines-text d c.args.node c.args.cost c.args.kids.now ∙ ap (λ w. lines_text (lines_by (shown d) c.args.node c.args.cost w c.args.kids.now)) (sym c.in-Or.is ∙ what))
+    extends_same _ _ _ _ _ _ c.add_lines.ensures (or-lines-text d c.args.node c.args.cost c.args.kids.now ∙ ap (λ w. lines_text (lines_by (shown d) c.args.node c.args.cost w c.args.kids.now)) (sym c.in-Or.is ∙ what))

@@ -26,8 +26,6 @@ pub(crate) fn edge_count(drawing: &Drawing<'_>) -> u64
 fn last_edges(drawing: &Drawing<'_>) -> u64
     ensures { result ≡ length (last_line (shown drawing.now)).kids }
 {
-    // Its contract says that this is a drawing.
-    let _parts = drawing.parts();
     let root = drawing.graph().len() - 1;
     if drawing.value(root) == NONE {
         return 0;
@@ -41,8 +39,6 @@ fn node_edges(drawing: &Drawing<'_>, node: u32) -> u64
     ensures { result ≡ edges (node_lines (shown drawing.now) (node, node_at drawing.now.graph.nodes node)) }
 {
     let graph = drawing.graph();
-    // Its contract says that this is a graph.
-    let _nodes = graph.len();
     let cost = drawing.value(node);
     if cost == NONE {
         return 0;

@@ -104,8 +104,6 @@ fn add_lines_by<O: Sink>(
         (lines_text (lines_by (shown drawing.now) node cost (node_at drawing.now.graph.nodes node).what kids.now)) }
 {
     let graph = drawing.graph();
-    // Its contract says that this is a graph.
-    let _nodes = graph.len();
     let parts = drawing.parts();
     match graph.what(node) {
         NodeKind::Literal { var, positive } => add_literal(text, out, parts, var, positive),

@@ -1,5 +1,5 @@
 //! Ors that can be true.
-ghost use Rattle.std.specs.Prelude.{◌≡◌, ◌≢◌, ◌+◌, ◌*◌, ◌^◌, ◌<◌, length, All};
+ghost use Rattle.std.specs.Prelude.{◌≡◌, ◌≢◌, ◌^◌, ◌<◌, length, All};
 ghost use Rattle.state_rules.specs.Graphs.{node_at};
 ghost use Rattle.state_rules.specs.declared.nodes.NodeKind.TheVariants.{Or};
 ghost use Rattle.minimiser.specs.declared.pass.TheConstants.{NONE};
@@ -13,7 +13,6 @@ pub(crate) struct OrNode<'a> {
     pub(crate) node: u32,
     pub(crate) kids: &'a [u32],
     pub(crate) cost: u32,
-    ghost low: { 2 * drawing.now.parts + 1 < 2 ^ 32 },
     ghost costs: { length drawing.now.values ≡ length drawing.now.graph.nodes },
     ghost inside: { node < length drawing.now.graph.nodes },
     ghost kids_inside: { All (λ child. child < length drawing.now.graph.nodes) kids.now },

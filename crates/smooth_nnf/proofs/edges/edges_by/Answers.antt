@@ -11,7 +11,6 @@ invariant_of-or_node c =
     let d = c.args.drawing.now in
     let whole = c.parts-parts.ensures.whole in
     record {
-      low = whole.few;
       costs = whole.costs;
       inside = c.requires.node;
       kids_inside = kids-inside d whole c.requires.valid c.args.node c.requires.node c.args.what c.args.kids.now c.requires.is;

@@ -19,22 +19,21 @@ here found graph node what kids same valid is over = (subst IsGraph same valid, 
 pub add_literal-requires-clause-var : goal.add_literal-requires-clause-var
 add_literal-requires-clause-var g c =
     let d = c.args.drawing.now in
-    let is = here _ d.graph c.args.node c.what.result c.args.kids.now c.graph-graph.ensures.graph c.len-nodes.ensures.valid c.what.ensures c.requires.kids in
+    let is = here _ d.graph c.args.node c.what.result c.args.kids.now c.graph-graph.ensures.graph c.graph-graph.ensures.valid c.what.ensures c.requires.kids in
     literal-low d c.parts-parts.ensures.whole is.0 c.args.node c.requires.node c.what.result c.args.kids.now is.1 c.in-Literal.var c.in-Literal.positive c.in-Literal.is
 
 pub add_and-requires : goal.add_and-requires
 add_and-requires g c =
     let d = c.args.drawing.now in
-    let is = here _ d.graph c.args.node c.what.result c.args.kids.now c.graph-graph.ensures.graph c.len-nodes.ensures.valid c.what.ensures c.requires.kids in
+    let is = here _ d.graph c.args.node c.what.result c.args.kids.now c.graph-graph.ensures.graph c.graph-graph.ensures.valid c.what.ensures c.requires.kids in
     kids-inside d c.parts-parts.ensures.whole is.0 c.args.node c.requires.node c.what.result c.args.kids.now is.1
 
 pub invariant_of-or_node : goal.invariant_of-or_node
 invariant_of-or_node g c =
     let d = c.args.drawing.now in
     let whole = c.parts-parts.ensures.whole in
-    let is = here _ d.graph c.args.node c.what.result c.args.kids.now c.graph-graph.ensures.graph c.len-nodes.ensures.valid c.what.ensures c.requires.kids in
+    let is = here _ d.graph c.args.node c.what.result c.args.kids.now c.graph-graph.ensures.graph c.graph-graph.ensures.valid c.what.ensures c.requires.kids in
     record {
-      low = whole.few;
       costs = whole.costs;
       inside = c.requires.node;
       kids_inside = kids-inside d whole is.0 c.args.node c.requires.node c.what.result c.args.kids.now is.1;
@@ -46,7 +45,7 @@ invariant_of-or_node g c =
 pub add_lines-requires : goal.add_lines-requires
 add_lines-requires g c =
     let d = c.args.drawing.now in
-    let is = here _ d.graph c.args.node c.what.result c.args.kids.now c.graph-graph.ensures.graph c.len-nodes.ensures.valid c.what.ensures c.requires.kids in
+    let is = here _ d.graph c.args.node c.what.result c.args.kids.now c.graph-graph.ensures.graph c.graph-graph.ensures.valid c.what.ensures c.requires.kids in
     line-room d c.parts-parts.ensures.whole is.0 c.args.node c.requires.node c.what.result c.args.kids.now is.1 c.in-Or.is c.args.cost c.requires.known
 
 pub returns-in-And : goal.returns-in-And

@@ -1,8 +1,8 @@
 //! What a text is drawn from.
-ghost use Rattle.std.specs.Prelude.{◌≡◌, ℕ, ◌*◌, ◌^◌, ◌<◌, ◌≤◌, ◌&&◌, true, false, not, nat_le, map, length, slice_index, MatchOption};
+ghost use Rattle.std.specs.Prelude.{◌≡◌, ℕ, ◌+◌, ◌*◌, ◌^◌, ◌<◌, ◌≤◌, ◌&&◌, true, false, not, nat_le, map, length, slice_index, MatchOption};
 ghost use Rattle.std.specs.List.{filter, range_with_len};
 ghost use Rattle.state_rules.specs.Bits.{has_bit};
-ghost use Rattle.state_rules.specs.Graphs.{mentions};
+ghost use Rattle.state_rules.specs.Graphs.{mentions, IsGraph};
 ghost use Rattle.minimiser.specs.Costs.{cost_at};
 ghost use Rattle.minimiser.specs.Stored.{cost_in};
 ghost use Rattle.part_sets.specs.Numbers.{part_words};
@@ -43,8 +43,11 @@ impl<'a> Drawing<'a> {
     // The graph.
     pub(crate) fn graph(&self) -> &Graph
         ensures graph { result.now ≡ self.now.graph }
+        ensures valid { IsGraph result.now }
         ensures whole { IsDrawing self.now }
     {
+        // Its contract says that this is a graph.
+        let _nodes = self.graph.len();
         self.graph
     }
 
@@ -147,7 +150,7 @@ impl<'a> Drawing<'a> {
         requires over { IsNodeOf self.now over }
         requires under { IsUnder self.now over node }
         ensures count { result ≡ length (fillers self.now.evidence self.now.parts (missing_in self.now over node)) }
-        ensures most { result ≤ self.now.parts }
+        ensures most { 2 * result + 1 < 2 ^ 32 }
     {
         if self.lacks_none(over) {
             return 0;
@@ -191,12 +194,14 @@ impl<'a> Drawing<'a> {
         without(self.over_word(over, word), self.node_word(node, word))
     }
 
-    // The line that fills in a part.
-    pub(crate) fn filler(&self, part: u32) -> u32
-        requires { (1 ≤ part) × (part ≤ self.now.parts) }
-        ensures { result ≡ filler self.now.evidence part }
+    // The line that fills in the part of a bit.
+    pub(crate) fn filler(&self, word: usize, b: u32) -> u32
+        requires { part_at word b ≤ self.now.parts }
+        ensures { result ≡ filler self.now.evidence (part_at word b) }
     {
-        literal_line(part, !is_false(self.evidence[part as usize - 1]))
+        let evidence = self.evidence;
+        let part = 32 * word as u32 + b + 1;
+        literal_line(part, !is_false(evidence[part as usize - 1]))
     }
 }
 

@@ -6,6 +6,7 @@ ghost use Rattle.smooth_nnf.specs.inner.Drawings.{IsUnder, shown};
 ghost use Rattle.smooth_nnf.specs.inner.Texts.{child_edges};
 
 use crate::drawing::Drawing;
+use crate::or_node::OrNode;
 use minimiser::NONE;
 use state_rules::NodeKind;
 
@@ -25,8 +26,6 @@ pub(crate) fn edge_count(drawing: &Drawing<'_>) -> u64
 fn last_edges(drawing: &Drawing<'_>) -> u64
     ensures { result ≡ length (last_line (shown drawing.now)).kids }
 {
-    // Its contract says that this is a drawing.
-    let _parts = drawing.parts();
     let root = drawing.graph().len() - 1;
     if drawing.value(root) == NONE {
         return 0;
@@ -40,8 +39,6 @@ fn node_edges(drawing: &Drawing<'_>, node: u32) -> u64
     ensures { result ≡ edges (node_lines (shown drawing.now) (node, node_at drawing.now.graph.nodes node)) }
 {
     let graph = drawing.graph();
-    // Its contract says that this is a graph.
-    let _nodes = graph.len();
     let cost = drawing.value(node);
     if cost == NONE {
         return 0;
@@ -61,39 +58,42 @@ fn edges_by(drawing: &Drawing<'_>, node: u32, what: NodeKind, kids: &[u32], cost
     match what {
         NodeKind::Literal { var, .. } => { if var <= parts { 1 } else { 0 } }
         NodeKind::And => kids.len() as u64,
-        NodeKind::Or => or_edges(drawing, node, kids, cost),
+        NodeKind::Or => {
+            let or_node = OrNode {
+                drawing,
+                node,
+                kids,
+                cost,
+            };
+            or_node.edges()
+        }
     }
 }
 
-// That of the lines of an or: each of its cheapest children has one, and is one of its own.
-fn or_edges(drawing: &Drawing<'_>, node: u32, kids: &[u32], cost: u32) -> u64
-    requires node { node < length drawing.now.graph.nodes }
-    requires kids { All (λ child. child < length drawing.now.graph.nodes) kids.now }
-    requires few { length kids.now < 2 ^ 32 }
-    requires cost { cost ≢ NONE }
-    requires is { node_at drawing.now.graph.nodes node ≡ record { what = NodeKind.Or; kids = kids.now } }
-    ensures { result ≡ sum_by (child_edges drawing.now node cost) kids.now }
-{
-    let mut total = 0;
-    for child in kids {
-        total += child_edges(drawing, node, *child, cost);
+impl OrNode<'_> {
+    // That of the lines of an or: each of its cheapest children has one, and is one of its own.
+    fn edges(&self) -> u64
+        ensures { result ≡ sum_by (child_edges self.now.drawing.now self.now.node self.now.cost) self.now.kids.now }
+    {
+        let mut total = 0;
+        let kids = self.kids;
+        for child in kids {
+            total += self.child_edges(*child);
+        }
+        total
     }
-    total
-}
 
-// That of a child's line, and one more, if it has the cost.
-fn child_edges(drawing: &Drawing<'_>, node: u32, child: u32, cost: u32) -> u64
-    requires node { node < length drawing.now.graph.nodes }
-    requires child { child < length drawing.now.graph.nodes }
-    requires cost { cost ≢ NONE }
-    requires under { IsUnder drawing.now (Some node) child }
-    ensures count { result ≡ child_edges drawing.now node cost child }
-    ensures most { result ≤ 2 ^ 31 + 2 }
-{
-    // Its contract says that this is a drawing.
-    let _parts = drawing.parts();
-    if drawing.value(child) != cost {
-        return 0;
+    // That of a child's line, and one more, if it has the cost.
+    fn child_edges(&self, child: u32) -> u64
+        requires child { child < length self.now.drawing.now.graph.nodes }
+        requires under { IsUnder self.now.drawing.now (Some self.now.node) child }
+        ensures count { result ≡ child_edges self.now.drawing.now self.now.node self.now.cost child }
+        ensures most { result ≤ 2 ^ 31 + 2 }
+    {
+        let drawing = self.drawing;
+        if drawing.value(child) != self.cost {
+            return 0;
+        }
+        u64::from(drawing.missing_count(Some(self.node), child) + 2)
     }
-    u64::from(drawing.missing_count(Some(node), child) + 2)
 }

@@ -35,8 +35,6 @@ pub(crate) fn add_filled<O: Sink>(
         add_node(text, out, NodeKind::And, &[line]);
         return;
     }
-    // Its contract says that this is a drawing.
-    let _parts = drawing.parts();
     let count = drawing.missing_count(over, node) + 1;
     text.add(out, b"A");
     text.add_count(out, count);
@@ -121,7 +119,5 @@ fn add_bit<O: Sink>(
     if (bits >> b) & 1 != 1 {
         return;
     }
-    // Its contract says that this is a drawing.
-    let _parts = drawing.parts();
-    text.add_count(out, drawing.filler(32 * word as u32 + b + 1));
+    text.add_count(out, drawing.filler(word, b));
 }

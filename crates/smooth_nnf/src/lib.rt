@@ -5,6 +5,7 @@ mod drawing;
 mod edges;
 mod filling;
 mod lines;
+mod or_node;
 mod places;
 mod writing;
 

@@ -13,6 +13,7 @@ ghost use Rattle.smooth_nnf.specs.inner.Texts.{lines_text, child_text};
 
 use crate::drawing::{Drawing, literal_line};
 use crate::filling::add_filled;
+use crate::or_node::OrNode;
 use crate::places::cheapest_count;
 use diag_edge::Sink;
 use minimiser::NONE;
@@ -103,13 +104,19 @@ fn add_lines_by<O: Sink>(
         (lines_text (lines_by (shown drawing.now) node cost (node_at drawing.now.graph.nodes node).what kids.now)) }
 {
     let graph = drawing.graph();
-    // Its contract says that this is a graph.
-    let _nodes = graph.len();
     let parts = drawing.parts();
     match graph.what(node) {
         NodeKind::Literal { var, positive } => add_literal(text, out, parts, var, positive),
         NodeKind::And => add_and(text, out, drawing, kids),
-        NodeKind::Or => add_or(text, out, drawing, node, kids, cost),
+        NodeKind::Or => {
+            let or_node = OrNode {
+                drawing,
+                node,
+                kids,
+                cost,
+            };
+            or_node.add_lines(text, out);
+        }
     }
 }
 
@@ -143,76 +150,48 @@ fn add_and<O: Sink>(text: &mut GraphText, out: &mut O, drawing: &Drawing<'_>, ki
     text.add(out, b"\n");
 }
 
-// Adds the lines of an or: one for each of its cheapest children, and its own over these.
-#[tactic(auto, using(nnf_text::proofs::Extended::extending))]
-fn add_or<O: Sink>(
-    text: &mut GraphText,
-    out: &mut O,
-    drawing: &Drawing<'_>,
-    node: u32,
-    kids: &[u32],
-    cost: u32,
-)
-    requires node { node < length drawing.now.graph.nodes }
-    requires kids { All (λ child. child < length drawing.now.graph.nodes) kids.now }
-    requires few { length kids.now < 2 ^ 32 }
-    requires cost { cost ≢ NONE }
-    requires is { node_at drawing.now.graph.nodes node ≡ record { what = NodeKind.Or; kids = kids.now } }
-    requires room { length (cheapest_children (map cost_in drawing.now.values) cost kids.now) ≤ slice_index drawing.now.lines node }
-    ensures { Extends (O.shown out.old) (O.shown out.new) text.old text.new
-        (flat_map (child_text drawing.now node cost) kids.now ++ spaced (node_words
-        (or_behind (slice_index drawing.now.lines node) (length (cheapest_children (map cost_in drawing.now.values) cost kids.now))))) }
-{
-    // Its contract says that this is a drawing.
-    let _parts = drawing.parts();
-    let count = cheapest_count(kids, drawing.values(), cost);
-    let first = drawing.line(node) - count;
-    add_child_lines(text, out, drawing, node, kids, cost);
-    text.add(out, b"O 0");
-    add_counted_range(text, out, first, count);
-}
-
-// Adds the lines of the cheapest children of an or.
-#[tactic(auto, using(nnf_text::proofs::Extended::extending))]
-fn add_child_lines<O: Sink>(
-    text: &mut GraphText,
-    out: &mut O,
-    drawing: &Drawing<'_>,
-    node: u32,
-    kids: &[u32],
-    cost: u32,
-)
-    requires node { node < length drawing.now.graph.nodes }
-    requires kids { All (λ child. child < length drawing.now.graph.nodes) kids.now }
-    requires cost { cost ≢ NONE }
-    requires is { node_at drawing.now.graph.nodes node ≡ record { what = NodeKind.Or; kids = kids.now } }
-    ensures { Extends (O.shown out.old) (O.shown out.new) text.old text.new
-        (flat_map (child_text drawing.now node cost) kids.now) }
-{
-    for child in kids {
-        add_child_line(text, out, drawing, node, *child, cost);
+impl OrNode<'_> {
+    // Adds the lines of an or: one for each of its cheapest children, and its own over these.
+    fn add_lines<O: Sink>(&self, text: &mut GraphText, out: &mut O)
+        requires { length (cheapest_children (map cost_in self.now.drawing.now.values) self.now.cost self.now.kids.now)
+            ≤ slice_index self.now.drawing.now.lines self.now.node }
+        ensures { Extends (O.shown out.old) (O.shown out.new) text.old text.new
+            (flat_map (child_text self.now.drawing.now self.now.node self.now.cost) self.now.kids.now ++ spaced (node_words
+            (or_behind (slice_index self.now.drawing.now.lines self.now.node)
+            (length (cheapest_children (map cost_in self.now.drawing.now.values) self.now.cost self.now.kids.now))))) }
+    {
+        let drawing = self.drawing;
+        let count = cheapest_count(self.kids, drawing.values(), self.cost);
+        let first = drawing.line(self.node) - count;
+        self.add_child_lines(text, out);
+        text.add(out, b"O 0");
+        add_counted_range(text, out, first, count);
     }
-}
 
-// Adds the line of a child, if it has the cost.
-#[tactic(auto, using(nnf_text::proofs::Extended::extending))]
-fn add_child_line<O: Sink>(
-    text: &mut GraphText,
-    out: &mut O,
-    drawing: &Drawing<'_>,
-    node: u32,
-    child: u32,
-    cost: u32,
-)
-    requires node { node < length drawing.now.graph.nodes }
-    requires child { child < length drawing.now.graph.nodes }
-    requires cost { cost ≢ NONE }
-    requires under { IsUnder drawing.now (Some node) child }
-    ensures { Extends (O.shown out.old) (O.shown out.new) text.old text.new
-        (child_text drawing.now node cost child) }
-{
-    if drawing.value(child) != cost {
-        return;
+    // Adds the lines of its cheapest children.
+    #[tactic(auto, using(nnf_text::proofs::Extended::extending))]
+    fn add_child_lines<O: Sink>(&self, text: &mut GraphText, out: &mut O)
+        ensures { Extends (O.shown out.old) (O.shown out.new) text.old text.new
+            (flat_map (child_text self.now.drawing.now self.now.node self.now.cost) self.now.kids.now) }
+    {
+        let kids = self.kids;
+        for child in kids {
+            self.add_child_line(text, out, *child);
+        }
     }
-    add_filled(text, out, drawing, Some(node), child);
+
+    // Adds the line of a child, if it has the cost.
+    #[tactic(auto, using(nnf_text::proofs::Extended::extending))]
+    fn add_child_line<O: Sink>(&self, text: &mut GraphText, out: &mut O, child: u32)
+        requires child { child < length self.now.drawing.now.graph.nodes }
+        requires under { IsUnder self.now.drawing.now (Some self.now.node) child }
+        ensures { Extends (O.shown out.old) (O.shown out.new) text.old text.new
+            (child_text self.now.drawing.now self.now.node self.now.cost child) }
+    {
+        let drawing = self.drawing;
+        if drawing.value(child) != self.cost {
+            return;
+        }
+        add_filled(text, out, drawing, Some(self.node), child);
+    }
 }

@@ -6,16 +6,20 @@ use Rattle.smooth_nnf.proofs.LineLemmas.{kids-inside, few-kids-of}
 use Rattle.smooth_nnf.proofs.EdgeLemmas.{or-edges}
 use Rattle.smooth_nnf.proofs.edges.edges_by.Goals as goal
 
-pub or_edges-requires-clause-kids : goal.or_edges-requires-clause-kids
-or_edges-requires-clause-kids c = kids-inside c.args.drawing.now c.parts-parts.ensures.whole c.requires.valid c.args.node c.requires.node c.args.what c.args.kids.now c.requires.is
-
-pub or_edges-requires-clause-few : goal.or_edges-requires-clause-few
-or_edges-requires-clause-few c = few-kids-of c.args.drawing.now c.parts-parts.ensures.whole c.requires.valid c.args.node c.requires.node c.args.what c.args.kids.now c.requires.is c.in-Or.is
-
-pub or_edges-requires-clause-is : goal.or_edges-requires-clause-is
-or_edges-requires-clause-is c = c.requires.is ∙ (λ i. record { what = c.in-Or.is i; kids = c.args.kids.now })
+pub invariant_of-or_node : goal.invariant_of-or_node
+invariant_of-or_node c =
+    let d = c.args.drawing.now in
+    let whole = c.parts-parts.ensures.whole in
+    record {
+      costs = whole.costs;
+      inside = c.requires.node;
+      kids_inside = kids-inside d whole c.requires.valid c.args.node c.requires.node c.args.what c.args.kids.now c.requires.is;
+      few = few-kids-of d whole c.requires.valid c.args.node c.requires.node c.args.what c.args.kids.now c.requires.is c.in-Or.is;
+      some = c.requires.cost;
+      is = c.requires.is ∙ (λ i. record { what = c.in-Or.is i; kids = c.args.kids.now });
+    }
 
 pub returns-in-Or : goal.returns-in-Or
 returns-in-Or c =
     let d = c.args.drawing.now in
-    c.or_edges.ensures ∙ or-edges d c.args.node c.args.cost c.args.kids.now ∙ ap (λ w. edges (lines_by (shown d) c.args.node c.args.cost w c.args.kids.now)) (sym c.in-Or.is)
+    c.edges.ensures ∙ or-edges d c.args.node c.args.cost c.args.kids.now ∙ ap (λ w. edges (lines_by (shown d) c.args.node c.args.cost w c.args.kids.now)) (sym c.in-Or.is)

@@ -17,7 +17,7 @@ returns-then-lacks_none g c =
     extends_same _ _ _ _ _ _ c.add_node.ensures (λ i. spaced (kind_words And (c.line-line.ensures i ∷ sym none i)))
 
 pub overflow_add-count : goal.overflow_add-count
-overflow_add-count g c = omega (arith, c.missing_count-count.ensures.most, c.parts-parts.ensures.whole.few)
+overflow_add-count g c = omega (arith, c.missing_count-count.ensures.most)
 
 pub returns : goal.returns
 returns g c =

@@ -19,37 +19,33 @@ here found graph node what kids same valid is over = (subst IsGraph same valid, 
 pub add_literal-requires-clause-var : goal.add_literal-requires-clause-var
 add_literal-requires-clause-var g c =
     let d = c.args.drawing.now in
-    let is = here _ d.graph c.args.node c.what.result c.args.kids.now c.graph-graph.ensures.graph c.len-nodes.ensures.valid c.what.ensures c.requires.kids in
+    let is = here _ d.graph c.args.node c.what.result c.args.kids.now c.graph-graph.ensures.graph c.graph-graph.ensures.valid c.what.ensures c.requires.kids in
     literal-low d c.parts-parts.ensures.whole is.0 c.args.node c.requires.node c.what.result c.args.kids.now is.1 c.in-Literal.var c.in-Literal.positive c.in-Literal.is
 
 pub add_and-requires : goal.add_and-requires
 add_and-requires g c =
     let d = c.args.drawing.now in
-    let is = here _ d.graph c.args.node c.what.result c.args.kids.now c.graph-graph.ensures.graph c.len-nodes.ensures.valid c.what.ensures c.requires.kids in
+    let is = here _ d.graph c.args.node c.what.result c.args.kids.now c.graph-graph.ensures.graph c.graph-graph.ensures.valid c.what.ensures c.requires.kids in
     kids-inside d c.parts-parts.ensures.whole is.0 c.args.node c.requires.node c.what.result c.args.kids.now is.1
 
-pub add_or-requires-clause-kids : goal.add_or-requires-clause-kids
-add_or-requires-clause-kids g c =
+pub invariant_of-or_node : goal.invariant_of-or_node
+invariant_of-or_node g c =
     let d = c.args.drawing.now in
-    let is = here _ d.graph c.args.node c.what.result c.args.kids.now c.graph-graph.ensures.graph c.len-nodes.ensures.valid c.what.ensures c.requires.kids in
-    kids-inside d c.parts-parts.ensures.whole is.0 c.args.node c.requires.node c.what.result c.args.kids.now is.1
+    let whole = c.parts-parts.ensures.whole in
+    let is = here _ d.graph c.args.node c.what.result c.args.kids.now c.graph-graph.ensures.graph c.graph-graph.ensures.valid c.what.ensures c.requires.kids in
+    record {
+      costs = whole.costs;
+      inside = c.requires.node;
+      kids_inside = kids-inside d whole is.0 c.args.node c.requires.node c.what.result c.args.kids.now is.1;
+      few = few-kids-of d whole is.0 c.args.node c.requires.node c.what.result c.args.kids.now is.1 c.in-Or.is;
+      some = c.requires.cost;
+      is = is.1 ∙ (λ i. record { what = c.in-Or.is i; kids = c.args.kids.now });
+    }
 
-pub add_or-requires-clause-few : goal.add_or-requires-clause-few
-add_or-requires-clause-few g c =
+pub add_lines-requires : goal.add_lines-requires
+add_lines-requires g c =
     let d = c.args.drawing.now in
-    let is = here _ d.graph c.args.node c.what.result c.args.kids.now c.graph-graph.ensures.graph c.len-nodes.ensures.valid c.what.ensures c.requires.kids in
-    few-kids-of d c.parts-parts.ensures.whole is.0 c.args.node c.requires.node c.what.result c.args.kids.now is.1 c.in-Or.is
-
-pub add_or-requires-clause-is : goal.add_or-requires-clause-is
-add_or-requires-clause-is g c =
-    let d = c.args.drawing.now in
-    (here _ d.graph c.args.node c.what.result c.args.kids.now c.graph-graph.ensures.graph c.len-nodes.ensures.valid c.what.ensures c.requires.kids).1
-    ∙ (λ i. record { what = c.in-Or.is i; kids = c.args.kids.now })
-
-pub add_or-requires-clause-room : goal.add_or-requires-clause-room
-add_or-requires-clause-room g c =
-    let d = c.args.drawing.now in
-    let is = here _ d.graph c.args.node c.what.result c.args.kids.now c.graph-graph.ensures.graph c.len-nodes.ensures.valid c.what.ensures c.requires.kids in
+    let is = here _ d.graph c.args.node c.what.result c.args.kids.now c.graph-graph.ensures.graph c.graph-graph.ensures.valid c.what.ensures c.requires.kids in
     line-room d c.parts-parts.ensures.whole is.0 c.args.node c.requires.node c.what.result c.args.kids.now is.1 c.in-Or.is c.args.cost c.requires.known
 
 pub returns-in-And : goal.returns-in-And
@@ -62,4 +58,4 @@ pub returns-in-Or : goal.returns-in-Or
 returns-in-Or g c =
     let d = c.args.drawing.now in
     let what = what-of _ d.graph c.args.node c.what.result c.what.ensures c.graph-graph.ensures.graph in
-    extends_same _ _ _ _ _ _ c.add_or.ensures (or-lines-text d c.args.node c.args.cost c.args.kids.now ∙ ap (λ w. lines_text (lines_by (shown d) c.args.node c.args.cost w c.args.kids.now)) (sym c.in-Or.is ∙ what))
+    extends_same _ _ _ _ _ _ c.add_lines.ensures (or-lines-text d c.args.node c.args.cost c.args.kids.now ∙ ap (λ w. lines_text (lines_by (shown d) c.args.node c.args.cost w c.args.kids.now)) (sym c.in-Or.is ∙ what))

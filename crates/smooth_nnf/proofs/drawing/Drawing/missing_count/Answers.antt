@@ -30,3 +30,8 @@ overflow_sub-result c = omega (arith, counted c)
 
 pub returns-clause-count : goal.returns-clause-count
 returns-clause-count c = omega (arith, counted c, length-map (filter (missing_in c.args.self.now c.args.over c.args.node) (range_with_len 1 c.args.self.now.parts)) (filler c.args.self.now.evidence))
+
+pub returns-clause-most : goal.returns-clause-most
+returns-clause-most c =
+    let is : IsDrawing c.args.self.now = subst IsDrawing c.self.view_is c.self.invariant in
+    omega (arith, c.over_count.ensures.most, is.few)

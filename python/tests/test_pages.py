@@ -50,7 +50,7 @@ class Written(unittest.TestCase):
 
     def test_further_rows(self):
         """A form, an option and a command of the script are in all that is made of them, and only then is nothing to be done."""
-        files = ("docs/write-help", "docs/SCRIPT.md", "docs/diag.1", "README.md")
+        files = ("docs/write-help", "docs/SCRIPT.md", "docs/diag.1", "README.md", "examples/c17.script", "examples/c17_commands.script")
         rows = {
             "| `check FILE`": "| `tell FILE [--narrow]` | `.nnf` | tells [what](SIZE.md) | `1,000` |\n",
             "| `--sessions N`": "| `--wide N` | 2 to 3,000 | 2,500 | is wide |\n",
@@ -60,6 +60,7 @@ class Written(unittest.TestCase):
             top = pathlib.Path(folder)
             shutil.copytree(TOP / "python/diag_client", top / "python/diag_client")
             (top / "docs").mkdir()
+            (top / "examples").mkdir()
             for file in files:
                 shutil.copy(TOP / file, top / file)
             page = (top / "docs/SCRIPT.md").read_text()
@@ -68,13 +69,15 @@ class Written(unittest.TestCase):
             (top / "docs/SCRIPT.md").write_text(page)
             run = [subprocess.run([top / "docs/write-help", *words], capture_output=True, text=True) for words in ([], ["--write"], [])]
             self.assertEqual([done.returncode for done in run], [1, 0, 0], run)
-            self.assertIn("python/diag_client/help.txt, docs/diag.1, README.md: not as SCRIPT.md has it", run[0].stderr)
+            made = "python/diag_client/help.txt, docs/diag.1, README.md, examples/c17_commands.script"
+            self.assertIn(f"{made}: not as SCRIPT.md has it", run[0].stderr)
             found = manual.sections((top / "python/diag_client/help.txt").read_text())
             entries = {entry.head: entry for section in found for entry in section.entries}
             self.assertEqual(entries["diag tell FILE"].text, "tells what; prints 1000; --narrow may follow")
             options = {option.head: option.text for option in entries["diag serve FILE"].options}
             self.assertEqual(options["--wide N"], "is wide; from 2 to 3000; 2500 if none is given")
             self.assertEqual(entries["dance S w"].text, "dances; w is a wire")
+            self.assertIn("\ndance S 10\nmin S\n", (top / "examples/c17_commands.script").read_text())
             self.assertIn("| `diag tell FILE` | tells what |\n| `diag check FILE`", (top / "README.md").read_text())
             self.assertIn("diag tell FILE [\\-\\-narrow]", (top / "docs/diag.1").read_text())
 

@@ -1,16 +1,17 @@
 -- The case of an adder has a place for each wire and each part of its device.
 use Rattle.std.proofs.Common.{◌≡◌, ℕ, Bool, List, [], ◌∷◌, length, replicate, set, refl, ◌∙◌, Option, Some, None}
+use Rattle.std.specs.Prelude.{fold}
 use Rattle.std.specs.Option.{option_map_or}
 use Rattle.std.proofs.lemmas.List.{length-set, length-replicate}
 use Rattle.text_rules.specs.Names.{Name}
 use Rattle.device_model.specs.Devices.{Device, place_of}
-use Rattle.adder_load.specs.Readings.{Reading, readings, with_reading, with_readings, adder_case}
+use Rattle.adder_load.specs.Readings.{Reading, readings, with_reading, adder_case}
 
 one_long : (place : Option ℕ) (seen : List (Option Bool)) (bit : Bool) → length (option_map_or (λ wire. set seen wire (Some bit)) place seen) ≡ length seen
 one_long None seen bit = refl
 one_long (Some wire) seen bit = length-set seen wire (Some bit)
 
-all_long : (wires : List Name) (seen : List (Option Bool)) (more : List Reading) → length (with_readings wires seen more) ≡ length seen
+all_long : (wires : List Name) (seen : List (Option Bool)) (more : List Reading) → length (fold (with_reading wires) seen more) ≡ length seen
 all_long wires seen [] = refl
 all_long wires seen (reading ∷ more) = all_long wires (with_reading wires seen reading) more ∙ one_long (place_of reading.0 wires) seen reading.1
 

@@ -1,8 +1,9 @@
 -- What readings say, one after the other.
-use Rattle.std.proofs.Common.{◌≡◌, ℕ, ◌+◌, ◌-◌, ◌<◌, ◌≤◌, Bool, List, [], ◌∷◌, ◌++◌, length, replicate, set, refl, ap, sym, ◌∙◌, subst, Option, Some, arith}
-use Rattle.std.specs.Prelude.{◌↔◌, ◌==◌, true, false, slice_set, IsTrue}
+use Rattle.std.proofs.Common.{◌≡◌, ℕ, ◌+◌, ◌-◌, ◌<◌, ◌≤◌, Bool, List, [], ◌∷◌, ◌++◌, length, replicate, set, refl, ap, sym, ◌∙◌, subst, Some, arith}
+use Rattle.std.specs.Prelude.{◌↔◌, ◌==◌, true, false, slice_set, IsTrue, fold}
 use Rattle.std.specs.Option.{option_map_or}
 use Rattle.std.proofs.lemmas.Bool.{ne_eqb, eq-eqb}
+use Rattle.std.proofs.lemmas.List.Sums.{fold-append}
 use Rattle.std.proofs.lemmas.List.Quantifiers.{position-Some}
 use Rattle.text_rules.specs.Names.{Name, same_name}
 use Rattle.device_model.specs.Devices.{Device, place_of}
@@ -10,7 +11,7 @@ use Rattle.conditioner.specs.Evidence.{word_of}
 use Rattle.session_rules.specs.CaseEvidence.{IsEvidence}
 use Rattle.session_rules.specs.GraphSystems.{case_evidence}
 use Rattle.session_rules.proofs.CaseEvidence.{wire-says, wire-are, zeros-say, zeros-are, words-of_case}
-use Rattle.adder_load.specs.Readings.{Reading, readings, with_reading, with_readings, adder_case}
+use Rattle.adder_load.specs.Readings.{Reading, readings, with_reading, adder_case}
 use Rattle.adder_load.specs.inner.Noting.{case_in, Notes}
 
 -- a test for 0
@@ -18,15 +19,11 @@ pub is_zero : (test : Bool) (n : ℕ) → (IsTrue test ↔ (n ≡ 0)) → test �
 is_zero true n decides = sym (eq-eqb n 0 (decides.0 refl))
 is_zero false n decides = sym (ne_eqb n 0 (λ zero. let never = decides.1 zero in cc))
 
-append : (wires : List Name) (seen : List (Option Bool)) (xs ys : List Reading) → with_readings wires (with_readings wires seen xs) ys ≡ with_readings wires seen (xs ++ ys)
-append wires seen [] ys = refl
-append wires seen (x ∷ xs) ys = append wires (with_reading wires seen x) xs ys
-
 -- one after the other
 pub notes-append : (device : Device) (old between new : List ℕ) (xs ys : List Reading) → Notes device old between xs → Notes device between new ys → Notes device old new (xs ++ ys)
 notes-append device old between new xs ys first then = record {
   evidence = subst (λ n. IsEvidence (length device.parts) (length device.wires) n new) first.evidence.long then.evidence;
-  seen = then.seen ∙ ap (λ seen. with_readings device.wires seen ys) first.seen ∙ append device.wires (case_in device old).seen xs ys;
+  seen = then.seen ∙ ap (λ seen. fold (with_reading device.wires) seen ys) first.seen ∙ sym (fold-append (with_reading device.wires) (case_in device old).seen xs ys);
   held = then.held ∙ first.held;
 }
 
@@ -57,7 +54,7 @@ module _ (device : Device) (evidence : List ℕ) (none : evidence ≡ replicate 
   pub all_noted : (places : ℕ) (new : List ℕ) (what : List Reading) → what ≡ readings places → Notes device evidence new what → new ≡ case_evidence (length evidence) (adder_case device places)
   all_noted places new what all notes =
       let nothing = ap (case_in device) none ∙ zeros-say (length device.parts) (length device.wires) (length evidence) room in
-      let seen = notes.seen ∙ (λ i. with_readings device.wires (nothing i).seen (all i)) in
+      let seen = notes.seen ∙ (λ i. fold (with_reading device.wires) (nothing i).seen (all i)) in
       let held = notes.held ∙ ap (λ known. known.held) nothing in
       sym (words-of_case (length device.parts) (length device.wires) (length evidence) new notes.evidence)
       ∙ (λ i. case_evidence (length evidence) (record { seen = seen i; held = held i }))

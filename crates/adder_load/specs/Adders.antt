@@ -1,15 +1,11 @@
 -- The ripple adder that a load is made of, as a netlist.
-use Rattle.std.specs.Prelude.{ℕ, ◌+◌, ◌/◌, ◌%◌, List, [], ◌∷◌, ◌++◌, codes}
+use Rattle.std.specs.Prelude.{ℕ, ◌+◌, ◌/◌, ◌%◌, List, ◌∷◌, ◌++◌, codes}
 use Rattle.std.specs.List.{flat_map, range_with_len}
 use Rattle.text_rules.specs.Names.{Name}
 
--- a place below 10,000 in four digits
-abbrev pub four_digits : ℕ → List ℕ
-four_digits place = (48 + place / 1000) ∷ (48 + place / 100 % 10) ∷ (48 + place / 10 % 10) ∷ (48 + place % 10) ∷ []
-
--- the signal of a letter at a place
+-- the signal of a letter at a place, which is below 10,000: four digits and the letter
 abbrev pub signal : ℕ → List ℕ → Name
-signal place letter = four_digits place ++ letter
+signal place letter = (48 + place / 1000) ∷ (48 + place / 100 % 10) ∷ (48 + place / 10 % 10) ∷ (48 + place % 10) ∷ letter
 
 abbrev pub input_line : Name → List ℕ
 input_line input = codes "INPUT(" ++ (input ++ codes ")\n")

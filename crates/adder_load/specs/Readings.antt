@@ -1,5 +1,5 @@
 -- What was seen of the adder of a load.
-use Rattle.std.specs.Prelude.{ℕ, ◌%◌, ◌==◌, Bool, false, List, [], ◌∷◌, length, replicate, set, Option, Some, None, codes}
+use Rattle.std.specs.Prelude.{ℕ, ◌%◌, ◌==◌, Bool, false, List, [], ◌∷◌, length, replicate, set, fold, Option, Some, None, codes}
 use Rattle.std.specs.List.{flat_map, range_with_len}
 use Rattle.std.specs.Option.{option_map_or}
 use Rattle.text_rules.specs.Names.{Name}
@@ -25,14 +25,9 @@ readings places =
 abbrev pub with_reading : List Name → List (Option Bool) → Reading → List (Option Bool)
 with_reading wires seen reading = option_map_or (λ wire. set seen wire (Some reading.1)) (place_of reading.0 wires) seen
 
--- one after the other
-abbrev pub with_readings : List Name → List (Option Bool) → List Reading → List (Option Bool)
-with_readings wires seen [] = seen
-with_readings wires seen (reading ∷ more) = with_readings wires (with_reading wires seen reading) more
-
 -- the case of a device of which this was seen, and nothing is held
 abbrev pub adder_case : Device → ℕ → Case
 adder_case device places = record {
-  seen = with_readings device.wires (replicate (length device.wires) None) (readings places);
+  seen = fold (with_reading device.wires) (replicate (length device.wires) None) (readings places);
   held = replicate (length device.parts) None;
 }

@@ -31,7 +31,7 @@ use Rattle.bench_reader.specs.declared.statement.NumberedStatement.{NumberedStat
 use Rattle.bench_reader.specs.Faults.{Fault, fault_at, told, unless_fault}
 use Rattle.bench_reader.specs.Statements.{Statement, Input, Output, Gate}
 use Rattle.bench_reader.specs.Signals.{driven, driven_by_gate, used, driven_twice, undriven}
-use Rattle.bench_reader.specs.Netlists.{part_of, device_of, fault_in, statement_in, too_many, readings, netlist_with}
+use Rattle.bench_reader.specs.Netlists.{part_of, device_of, fault_in, statement_in, readings, netlist_with}
 use Rattle.bench_reader.specs.inner.Lines.{unnumbered, with_number}
 use Rattle.bench_reader.specs.inner.Steps.{statements_or_fault, device_or_fault, Signals, signals_from, first_undriven, is_too_large, is_faultless, AreFaultless}
 use Rattle.bench_reader.proofs.Drivers.{among_keys, Drives-none}
@@ -143,8 +143,11 @@ module _ (statements : List (ℕ × Statement)) where
     members : (m : Name) → is_among (keys_of signals) m ≡ is_among (flat_map driven (map said statements)) m
     members m = among_keys m signals ∙ sym (split.1.all m)
 
-    without_twice : device_or_fault statements ≡ unless_together statements [] (map (fault_at Undriven) (undriven there statements)) (too_many (map said statements))
-    without_twice = ap (λ ls. unless_together statements (map (fault_at DrivenTwice) ls) (map (fault_at Undriven) (undriven there statements)) (too_many (map said statements))) split.0
+    without_twice : device_or_fault statements ≡ unless_together statements [] (map (fault_at Undriven) (undriven there statements))
+        (if is_too_large (map said statements) (device_of (map said statements)).wires then fault_at TooMany 0 ∷ [] else [])
+    without_twice =
+        let large = is_too_large (map said statements) (device_of (map said statements)).wires in
+        ap (λ ls. unless_together statements (map (fault_at DrivenTwice) ls) (map (fault_at Undriven) (undriven there statements)) (if large then fault_at TooMany 0 ∷ [] else [])) split.0
 
     first : IsFirst (first_undriven (keys_of signals) statements) (undriven there statements)
     first = first_without there (keys_of signals) (λ m. ap (λ ns. is_among ns m) (there-said statements) ∙ sym (members m)) statements

@@ -32,19 +32,14 @@ abbrev pub statement_in : ℕ × Result (Option Statement) BenchFault → Option
 statement_in (line, Ok (Some statement)) = Some (line, statement)
 statement_in (line, other) = None
 
--- too many parts or wires, of no line
-abbrev pub too_many : List Statement → List Fault
-too_many statements =
-    if nat_lt PART_LIMIT (length (flat_map driven_by_gate statements)) || nat_lt WIRE_LIMIT (length (device_of statements).wires)
-    then fault_at TooMany 0 ∷ []
-    else []
-
--- the faults that statements have together, in the order in which the first one counts
+-- The faults that statements have together, in the order in which the first one counts. Too many parts or wires are a fault of no line.
 abbrev pub faults_together : List (ℕ × Statement) → List Fault
 faults_together statements =
+    let all = map (λ (s : ℕ × Statement). s.1) statements in
     map (fault_at DrivenTwice) (driven_twice [] statements)
     ++ map (fault_at Undriven) (undriven (flat_map (λ (s : ℕ × Statement). driven s.1) statements) statements)
-    ++ too_many (map (λ (s : ℕ × Statement). s.1) statements)
+    ++ (if nat_lt PART_LIMIT (length (flat_map driven_by_gate all)) || nat_lt WIRE_LIMIT (length (device_of all).wires)
+    then fault_at TooMany 0 ∷ [] else [])
 
 -- what the lines of a text say, numbered from 1
 abbrev pub readings : FlipFlops → List ℕ → List (ℕ × Result (Option Statement) BenchFault)
@@ -53,9 +48,9 @@ readings flip_flops text = enumerate_from 1 (map (reading flip_flops) (all_lines
 -- The device of a text or its first fault, if flip-flops are refused or taken. A fault that a line has alone counts first.
 abbrev pub netlist_with : FlipFlops → List ℕ → Result Device Fault
 netlist_with flip_flops text =
-    let lines = readings flip_flops text in
-    let statements = filter_map statement_in lines in
-    unless_fault (filter_map fault_in lines ++ faults_together statements) (device_of (map (λ (s : ℕ × Statement). s.1) statements))
+    let statements = filter_map statement_in (readings flip_flops text) in
+    unless_fault (filter_map fault_in (readings flip_flops text) ++ faults_together statements)
+    (device_of (map (λ (s : ℕ × Statement). s.1) statements))
 
 -- The netlist of a text has gates alone.
 abbrev pub netlist : List ℕ → Result Device Fault

@@ -1,7 +1,8 @@
 -- What the lines of types and blocks do, by the tests that the code makes.
-use Rattle.std.proofs.Common.{◌≡◌, ℕ, Bool, true, false, List, [], ◌∷◌, length, codes, Option, None, Result, Ok, Err, Bor, is_some, refl, ap, ◌∙◌, arith}
+use Rattle.std.proofs.Common.{◌≡◌, ℕ, Bool, true, false, List, [], ◌∷◌, ◌++◌, length, codes, Option, None, Result, Ok, Err, Bor, is_some, refl, ap, ◌∙◌, arith}
 use Rattle.std.specs.Prelude.{if◌then◌else◌}
 use Rattle.std.specs.List.{list_all}
+use Rattle.std.specs.Result.{result_map_both}
 use Rattle.std.specs.Iterator.{YieldsFirstBy}
 use Rattle.text_rules.specs.Names.{Name, same_name, is_among}
 use Rattle.text_rules.specs.Tokens.{Uncut, tokens_left}
@@ -14,7 +15,7 @@ use Rattle.component_lang.specs.declared.fault.LangFault.{LangFault}
 use Rattle.component_lang.specs.declared.fault.LangFault.TheVariants.{Twice, Ports}
 use Rattle.component_lang.specs.Designs.{is_plain_name, used_names}
 use Rattle.component_lang.specs.Kinds.{OpenType, Reader, InType, InBlock, kind_named}
-use Rattle.component_lang.specs.DesignLines.{at, is_new, type_line, block_line, ok_line, bad_line, cost_line, wire_line, part_of, with_part, part_line, outside, in_type, in_block}
+use Rattle.component_lang.specs.DesignLines.{at, is_new, type_line, block_line, ok_line, bad_line, cost_line, wire_line, part_of, part_line, outside, in_type, in_block}
 use Rattle.component_lang.specs.inner.Words.{new_ports, places_among}
 use Rattle.component_lang.proofs.NameLists.{if_plain, if_new, more_names}
 
@@ -80,7 +81,7 @@ wire_line-wires reader block names wires h = wire_line-more reader block names �
 
 module _ (reader : Reader) (block : Block) (name kind : Name) (args : List Name) where
   abbrev part_after_names : Bool → Option (List ℕ) → Result Reader LangFault
-  part_after_names taken places = if taken then Err Twice else with_part reader block (part_of reader name (kind_named reader kind) places)
+  part_after_names taken places = if taken then Err Twice else result_map_both (λ part. at reader (InBlock (record block { parts = block.parts ++ part ∷ [] }))) (λ what. what) (part_of reader name (kind_named reader kind) places)
 
   abbrev part_words : List Name
   part_words = name ∷ kind ∷ args

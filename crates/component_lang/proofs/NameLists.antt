@@ -14,7 +14,6 @@ use Rattle.device_model.proofs.SortedDevices.{none_given}
 use Rattle.component_lang.specs.declared.fault.LangFault.{LangFault}
 use Rattle.component_lang.specs.declared.fault.LangFault.TheVariants.{Name as NoName, Twice}
 use Rattle.component_lang.specs.Designs.{is_plain_name, are_distinct}
-use Rattle.component_lang.specs.DesignLines.{are_new}
 use Rattle.component_lang.specs.inner.Words.{with_name}
 
 abbrev pub bytes : Bor Name → Name
@@ -53,7 +52,7 @@ with_name-plain above n h = grind arith
 
 -- names of which a first one may not be new
 abbrev pub more_names : Bool → List Name → List Name → Result (List Name) LangFault
-more_names new above names = if list_all is_plain_name names then (if new && are_new above names then Ok (above ++ names) else Err Twice) else Err NoName
+more_names new above names = if list_all is_plain_name names then (if new && (are_distinct names && not (list_any (is_among above) names)) then Ok (above ++ names) else Err Twice) else Err NoName
 
 -- the first of more names is added
 pub more_names-first : (new : Bool) (above : List Name) (n : Name) (names added : List Name) (is_new : Bool) → with_name above n ≡ Ok (added, is_new)

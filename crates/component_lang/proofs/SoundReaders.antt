@@ -1,7 +1,8 @@
 -- Each line keeps a reader sound, and adds no more to it than it has words.
-use Rattle.std.proofs.Common.{◌≡◌, ℕ, ◌+◌, ◌-◌, ◌^◌, ◌<◌, ◌≤◌, Bool, true, false, not, List, [], ◌∷◌, map, length, codes, Option, Some, None, Result, Ok, Err, is_some, unwrap_or, refl, length-append, length-take, arith}
+use Rattle.std.proofs.Common.{◌≡◌, ℕ, ◌+◌, ◌-◌, ◌^◌, ◌<◌, ◌≤◌, Bool, true, false, not, List, [], ◌∷◌, ◌++◌, map, length, codes, Option, Some, None, Result, Ok, Err, is_some, unwrap_or, refl, length-append, length-take, arith}
 use Rattle.std.specs.Prelude.{◌==◌, nat_lt, ◌&&◌, if◌then◌else◌}
 use Rattle.std.specs.List.{list_all, prefix_len}
+use Rattle.std.specs.Result.{result_map_both}
 use Rattle.std.proofs.lemmas.Bool.{and_parts, and_from, ltb-true, lt-ltb}
 use Rattle.std.proofs.lemmas.Nat.{pow_pos}
 use Rattle.text_rules.specs.Names.{Name, same_name, is_among}
@@ -19,7 +20,7 @@ use Rattle.component_lang.specs.declared.fault.LangFault.TheVariants.{Line as No
 use Rattle.component_lang.specs.Designs.{is_plain_name, used_names, takes_args, is_block, are_blocks}
 use Rattle.component_lang.specs.Kinds.{OpenType, Section, Outside, InType, InBlock, AfterTop, Reader, kind_named}
 use Rattle.component_lang.specs.TypeRows.{is_row, row_in, with_row}
-use Rattle.component_lang.specs.DesignLines.{at, type_line, block_line, wire_line, part_of, with_part, part_line, outside, in_type, in_block, at_section, after_line, top_line}
+use Rattle.component_lang.specs.DesignLines.{at, type_line, block_line, wire_line, part_of, part_line, outside, in_type, in_block, at_section, after_line, top_line}
 use Rattle.component_lang.specs.inner.Sound.{is_free, is_sound_type, is_sound_block, is_sound_section, is_sound, open_wires, reader_size}
 use Rattle.component_lang.proofs.RowSets.{row_in-fits, with_row-fits}
 use Rattle.component_lang.proofs.NameLists.{among_position}
@@ -135,7 +136,7 @@ module _ (reader : Reader) (n : ℕ) (blocks_sound : are_blocks reader.types [] 
 
         fitting : is_plain_name name ≡ true → is_among (used_names block.parts) name ≡ false → list_all (is_among block.wires) args ≡ true
             → (is : UsedKind) (b : Bool) → takes_args reader.types reader.blocks is (length places) ≡ b
-            → Keeps n (with_part reader block (if b then Ok (record { name = name; kind = is; args = places }) else Err Ports))
+            → Keeps n (result_map_both (λ part. at reader (InBlock (record block { parts = block.parts ++ part ∷ [] }))) (λ what. what) (if b then Ok (record { name = name; kind = is; args = places }) else Err Ports))
         fitting plain new wired is true fits = (
           and_from _ _ blocks_sound (and_from _ _ block_free (block-part reader.types reader.blocks block (record { name = name; kind = is; args = places }) block_sound
               (and_from _ _ plain (and_from _ _ fits (places_below args wired))) new)),
@@ -144,7 +145,7 @@ module _ (reader : Reader) (n : ℕ) (blocks_sound : are_blocks reader.types [] 
         fitting plain new wired is false fits = tt
 
         of_kind : is_plain_name name ≡ true → is_among (used_names block.parts) name ≡ false → (o : Option UsedKind) (b : Bool) → list_all (is_among block.wires) args ≡ b
-            → Keeps n (with_part reader block (part_of reader name o (if b then Some places else None)))
+            → Keeps n (result_map_both (λ part. at reader (InBlock (record block { parts = block.parts ++ part ∷ [] }))) (λ what. what) (part_of reader name o (if b then Some places else None)))
         of_kind plain new None b wired = tt
         of_kind plain new (Some is) false wired = tt
         of_kind plain new (Some is) true wired = fitting plain new wired is (takes_args reader.types reader.blocks is (length places)) refl

@@ -1,6 +1,7 @@
 -- What each line of a design adds to what was read above it, or what its fault is.
 use Rattle.std.specs.Prelude.{ℕ, Bool, not, ◌&&◌, List, [], ◌∷◌, ◌++◌, map, length, ◌==◌, Option, Some, None, Result, Ok, Err, codes, is_some, unwrap_or, if◌then◌else◌}
 use Rattle.std.specs.List.{list_any, list_all}
+use Rattle.std.specs.Result.{result_map_both}
 use Rattle.text_rules.specs.Names.{Name, same_name, is_among}
 use Rattle.text_rules.specs.Numbers.{plain_number_in}
 use Rattle.text_rules.specs.TextLines.{uncommented}
@@ -9,7 +10,7 @@ use Rattle.device_model.specs.declared.limits.TheConstants.{COST_LIMIT}
 use Rattle.device_model.specs.TruthTable.{has_few_ports}
 use Rattle.device_model.specs.Building.{place_in}
 use Rattle.component_lang.specs.declared.design.UsedKind.{UsedKind}
-use Rattle.component_lang.specs.declared.design.UsedKind.TheVariants.{Gate, Shape as OfShape, Block as OfBlock}
+use Rattle.component_lang.specs.declared.design.UsedKind.TheVariants.{Block as OfBlock}
 use Rattle.component_lang.specs.declared.design.Used.{Used}
 use Rattle.component_lang.specs.declared.design.Block.{Block}
 use Rattle.component_lang.specs.declared.fault.LangFault.{LangFault}
@@ -97,14 +98,10 @@ in_type reader open_type line = Err NotHere
 
 -- ---- in a block
 
--- none of these names is among those above, or twice
-abbrev pub are_new : List Name → List Name → Bool
-are_new above names = are_distinct names && not (list_any (is_among above) names)
-
 -- `wire NAME ..`
 abbrev pub wire_line : Reader → Block → List Name → Result Reader LangFault
 wire_line reader block names =
-    tested ((list_all is_plain_name names, NoName) ∷ (are_new block.wires names, Twice) ∷ [])
+    tested ((list_all is_plain_name names, NoName) ∷ (are_distinct names && not (list_any (is_among block.wires) names), Twice) ∷ [])
     (at reader (InBlock (record block { wires = block.wires ++ names })))
 
 -- the places of names among the wires of a block, if all are there
@@ -118,17 +115,13 @@ part_of reader name (Some kind) None = Err Unknown
 part_of reader name (Some kind) (Some places) =
     if takes_args reader.types reader.blocks kind (length places) then Ok (record { name = name; kind = kind; args = places }) else Err Ports
 
--- a block with one part more
-abbrev pub with_part : Reader → Block → Result Used LangFault → Result Reader LangFault
-with_part reader block (Ok part) = Ok (at reader (InBlock (record block { parts = block.parts ++ part ∷ [] })))
-with_part reader block (Err what) = Err what
-
 -- `part NAME KIND WIRE ..`
 abbrev pub part_line : Reader → Block → Name → Name → List Name → Result Reader LangFault
 part_line reader block name kind args =
     if list_all is_plain_name (name ∷ kind ∷ args) then
     (if is_among (used_names block.parts) name then Err Twice
-    else with_part reader block (part_of reader name (kind_named reader kind) (places_in block.wires args)))
+    else result_map_both (λ part. at reader (InBlock (record block { parts = block.parts ++ part ∷ [] }))) (λ what. what)
+    (part_of reader name (kind_named reader kind) (places_in block.wires args)))
     else Err NoName
 
 -- a line by its words, of which `end` closes the block

@@ -31,7 +31,7 @@ use Rattle.bench_reader.specs.inner.Steps.{is_faultless}
 use Rattle.bench_reader.proofs.Lines.{said, read_are_faultless}
 use Rattle.bench_reader.proofs.Parts.{faultless_gate}
 use Rattle.adder_load.specs.Adders.{adder_text}
-use Rattle.adder_load.specs.Readings.{readings as adder_readings, with_readings, adder_case}
+use Rattle.adder_load.specs.Readings.{readings as adder_readings, with_reading, adder_case}
 use Rattle.adder_load.proofs.Cases.{case_seen}
 
 -- ---- each part of a netlist is a gate
@@ -148,4 +148,4 @@ netlists_agree text device seen is long = gates_agree device seen (netlist_of_ga
 
 pub loads_agree : (places : ℕ) (device : Device) → netlist (adder_text places) ≡ Ok device → IsSome (least_cost (device_system device) (adder_case device places))
 loads_agree places device is =
-    netlists_agree (adder_text places) device (with_readings device.wires (replicate (length device.wires) None) (adder_readings places)) is (case_seen device places)
+    netlists_agree (adder_text places) device (fold (with_reading device.wires) (replicate (length device.wires) None) (adder_readings places)) is (case_seen device places)

@@ -1,6 +1,6 @@
 -- What is asked has names that are names, and a count in its range.
-use Rattle.std.proofs.Common.{◌≡◌, ℕ, Bool, true, false, cond, ◌&&◌, List, [], ◌∷◌, length, Option, Some, None, refl, inl, inr}
-use Rattle.std.specs.Prelude.{nat_le, nat_lt, if◌then◌else◌}
+use Rattle.std.proofs.Common.{◌≡◌, ℕ, Bool, true, false, cond, ◌&&◌, List, [], ◌∷◌, length, get_or, Option, Some, None, refl, inl, inr}
+use Rattle.std.specs.Prelude.{◌==◌, nat_le, nat_lt, if◌then◌else◌}
 use Rattle.std.specs.List.{list_all}
 use Rattle.std.proofs.lemmas.Bool.{and_parts, and_from, cases_Bool}
 use Rattle.std.specs.Map.{lookup}
@@ -11,7 +11,7 @@ use Rattle.text_rules.specs.Numbers.{number_in, value_behind, are_digits, has_le
 use Rattle.script_lang.specs.declared.limits.TheConstants.{COUNT_LIMIT, LINE_LIMIT}
 use Rattle.script_lang.proofs.Asked.{is_well_named, is_well_asked}
 use Rattle.script_lang.specs.declared.refusal.LineRefusal.TheVariants.{UnknownCommand, BadValue, TooLong}
-use Rattle.script_lang.specs.Script.{Request, After, Line, Blank, Refused, Ask, is_script_name, on_session, on_name, on_value, on_pair, on_count, on_names, at_equals, value_in, read_as, commands, begins_comment, line_of_words, line_of}
+use Rattle.script_lang.specs.Script.{Request, After, Line, Blank, Refused, Ask, is_script_name, on_session, on_name, on_value, on_pair, on_count, on_names, at_equals, read_as, commands, line_of_words, line_of}
 
 choice : (test : Bool) (one other : Line) → (test ≡ true → is_well_asked one ≡ true) → is_well_asked other ≡ true → is_well_asked (if test then one else other) ≡ true
 choice true one other first second = first refl
@@ -40,7 +40,7 @@ well-on_pair one other request well s None = refl
 well-on_pair one other request well s (Some pair) =
     choice (is_short_name s && is_script_name pair.0) _ _
     (λ named. let parts = and_parts (is_short_name s) (is_script_name pair.0) named in
-    well-value s (request pair.0) parts.0 (λ value. well pair.0 value parts.1) (value_in one other pair.1))
+    well-value s (request pair.0) parts.0 (λ value. well pair.0 value parts.1) (lookup (same_name pair.1) ((one, true) ∷ (other, false) ∷ [])))
     refl
 
 well-on_value : (one other : List ℕ) (request : Name → Bool → Request) → ((name : Name) (value : Bool) → is_script_name name ≡ true → is_well_named (request name value) ≡ true) → (ws : List (List ℕ)) → is_well_asked (on_value one other request ws) ≡ true
@@ -97,7 +97,7 @@ each_command ws = search (well-on_session, well-on_name, well-on_value, well-on_
 
 well-line_of_words : (ws : List (List ℕ)) → is_well_asked (line_of_words ws) ≡ true
 well-line_of_words [] = refl
-well-line_of_words (word ∷ ws) = choice (begins_comment word) Blank (read_as commands word ws) (λ _. refl) (well-read_as word ws commands (each_command ws))
+well-line_of_words (word ∷ ws) = choice (get_or word 0 0 == 35) Blank (read_as commands word ws) (λ _. refl) (well-read_as word ws commands (each_command ws))
 
 -- what a line asks has names that are names, and a count from 1 to a million
 pub well_asked : (line : List ℕ) → is_well_asked (line_of line) ≡ true

@@ -1,5 +1,5 @@
 -- The lines of a script, and what each asks.
-use Rattle.std.specs.Prelude.{ℕ, Bool, true, false, ◌&&◌, List, [], ◌∷◌, length, Option, Some, None, codes, ◌==◌, nat_lt, if◌then◌else◌, ◌≤◌}
+use Rattle.std.specs.Prelude.{ℕ, Bool, true, false, ◌&&◌, List, [], ◌∷◌, length, Option, Some, None, codes, ◌==◌, nat_lt, slice_index_or, if◌then◌else◌, ◌≤◌}
 use Rattle.std.specs.List.{list_all}
 use Rattle.std.specs.Map.{lookup}
 use Rattle.std.specs.Option.{option_map, option_map_or}
@@ -68,17 +68,14 @@ abbrev pub at_equals : List ℕ → Option (List ℕ × List ℕ)
 at_equals [] = None
 at_equals (b ∷ bytes) = if b == 61 then Some ([], bytes) else option_map (λ (pair : List ℕ × List ℕ). (b ∷ pair.0, pair.1)) (at_equals bytes)
 
--- one of two words, for 1 and for 0
-abbrev pub value_in : List ℕ → List ℕ → List ℕ → Option Bool
-value_in one other word = if same_name word one then Some true else if same_name word other then Some false else None
-
 abbrev pub on_pair : List ℕ → List ℕ → (Name → Bool → Request) → Name → Option (List ℕ × List ℕ) → Line
 on_pair one other request s None = Refused BadWords
 on_pair one other request s (Some pair) =
     if is_short_name s && is_script_name pair.0
-    then option_map_or (λ value. Ask s (request pair.0 value)) (value_in one other pair.1) (Refused BadValue) else Refused BadName
+    then option_map_or (λ value. Ask s (request pair.0 value)) (lookup (same_name pair.1) ((one, true) ∷ (other, false) ∷ []))
+    (Refused BadValue) else Refused BadName
 
--- a session, and a name with one of two values
+-- a session, and a name with one of two words, for 1 and for 0
 abbrev pub on_value : List ℕ → List ℕ → (Name → Bool → Request) → List (List ℕ) → Line
 on_value one other request (s ∷ pair ∷ []) = on_pair one other request s (at_equals pair)
 on_value one other request ws = Refused BadWords
@@ -121,13 +118,9 @@ abbrev pub read_as : List (List ℕ × (List (List ℕ) → Line)) → List ℕ 
 read_as table word ws = option_map_or (λ reading. reading ws) (lookup (same_name word) table) (Refused UnknownCommand)
 
 -- a word that begins with a number sign begins a comment
-abbrev pub begins_comment : List ℕ → Bool
-begins_comment [] = false
-begins_comment (b ∷ bytes) = b == 35
-
 abbrev pub line_of_words : List (List ℕ) → Line
 line_of_words [] = Blank
-line_of_words (word ∷ ws) = if begins_comment word then Blank else read_as commands word ws
+line_of_words (word ∷ ws) = if slice_index_or word 0 0 == 35 then Blank else read_as commands word ws
 
 -- A line that is too long is refused, a comment too.
 abbrev pub line_of : List ℕ → Line

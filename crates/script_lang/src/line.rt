@@ -1,7 +1,7 @@
-ghost use Rattle.std.specs.Prelude.{◌≡◌, drop};
+ghost use Rattle.std.specs.Prelude.{◌≡◌, ◌==◌, drop, slice_index_or};
 ghost use Rattle.text_rules.specs.Names.{same_name};
 ghost use Rattle.text_rules.specs.Tokens.{words};
-ghost use Rattle.script_lang.specs.Script.{Note, asked, asked_line, begins_comment, commands, line_of, meaning, read_as, IsNumbered};
+ghost use Rattle.script_lang.specs.Script.{Note, asked, asked_line, commands, line_of, meaning, read_as, IsNumbered};
 ghost use Rattle.script_lang.specs.inner.Found.{asked_by};
 ghost use Rattle.script_lang.specs.Script as script;
 
@@ -298,7 +298,7 @@ fn read_other<'a>(command: &[u8], text: &'a [u8]) -> Result<Line<'a>, LineRefusa
 
 // Whether a word begins with a number sign.
 fn begins_comment(word: &[u8]) -> bool
-    ensures { result ≡ begins_comment word.now }
+    ensures { result ≡ (slice_index_or word.now 0 0 == 35) }
 {
     word.first() == Some(&b'#')
 }

@@ -1,13 +1,13 @@
 -- Words of a line that have to be names.
-use Rattle.std.specs.Prelude.{ℕ, Bool, not, List, ◌∷◌, ◌++◌, Option, Result, Ok, Err, if◌then◌else◌}
-use Rattle.std.specs.List.{list_all}
+use Rattle.std.specs.Prelude.{ℕ, Bool, not, ◌&&◌, List, ◌∷◌, ◌++◌, Option, Result, Ok, Err, if◌then◌else◌}
+use Rattle.std.specs.List.{list_any, list_all}
 use Rattle.text_rules.specs.Names.{Name, same_name, is_among}
 use Rattle.indexmap.specs.IndexSet.{insert_key}
 use Rattle.component_lang.specs.declared.fault.LangFault.{LangFault}
 use Rattle.component_lang.specs.declared.fault.LangFault.TheVariants.{Name as NoName, Twice}
-use Rattle.component_lang.specs.Designs.{is_plain_name}
+use Rattle.component_lang.specs.Designs.{is_plain_name, are_distinct}
 use Rattle.component_lang.specs.Kinds.{Reader}
-use Rattle.component_lang.specs.DesignLines.{is_new, are_new, places_in}
+use Rattle.component_lang.specs.DesignLines.{is_new, places_in}
 
 -- a list with one name more, unless the name is there, and whether it is new
 abbrev pub with_name : List Name → Name → Result (List Name × Bool) LangFault
@@ -15,7 +15,7 @@ with_name names name = if is_plain_name name then Ok (insert_key same_name names
 
 -- a list and more names after it
 abbrev pub with_names : List Name → List Name → Result (List Name) LangFault
-with_names above names = if list_all is_plain_name names then (if are_new above names then Ok (above ++ names) else Err Twice) else Err NoName
+with_names above names = if list_all is_plain_name names then (if are_distinct names && not (list_any (is_among above) names) then Ok (above ++ names) else Err Twice) else Err NoName
 
 -- the places of some of the words of a line, all of which have to be names
 abbrev pub places_among : List Name → List Name → List Name → Result (Option (List ℕ)) LangFault

@@ -1,11 +1,12 @@
-use Rattle.std.proofs.Common.{ℕ, ◌∷◌, true, false, sym, ap, ◌∙◌, Ok, Vec, Global}
+use Rattle.std.proofs.Common.{ℕ, [], ◌∷◌, ◌++◌, true, false, sym, ap, ◌∙◌, Ok, Vec, Global}
 use Rattle.std.specs.Option.{option_map}
+use Rattle.std.specs.Result.{result_map_both}
 use Rattle.std.proofs.lemmas.Result.{err_from_is_err_and}
 use Rattle.text_rules.specs.Tokens.{tokens_left}
 use Rattle.component_lang.specs.declared.design.Used.{Used}
 use Rattle.component_lang.specs.Designs.{used_names}
 use Rattle.component_lang.specs.Kinds.{InBlock, kind_named}
-use Rattle.component_lang.specs.DesignLines.{at, with_part, part_line}
+use Rattle.component_lang.specs.DesignLines.{at, part_line}
 use Rattle.component_lang.specs.inner.NameSets.{names_in}
 use Rattle.component_lang.specs.inner.Views.{library_in, block_in}
 use Rattle.component_lang.specs.inner.Words.{places_among}
@@ -33,7 +34,7 @@ returns-in_err-part c =
     let new = inserted-among c.args.self.part_names.keys c.args.name (used_names c.args.self.parts.items) {old = false} c.args.self.parts_named c.in_ok-insert.ensures.added c.if-not-branch.false in
     rw (p.1, p.2) (fault-passed _ _ (part_line reader (block_in c.args.self) c.args.name.now c.args.kind.now (tokens_left c.args.args)) c.in_err-part.ensures
     (λ what h. part-named reader (block_in c.args.self) c.args.name.now c.args.kind.now (tokens_left c.args.args) false _ c.in_ok-places.ensures new
-    ∙ ap (with_part reader (block_in c.args.self)) h))
+    ∙ ap (result_map_both (λ (part : Used). at reader (InBlock (record (block_in c.args.self) { parts = c.args.self.parts.items ++ part ∷ [] }))) (λ what. what)) h))
 
 pub invariant_of-self-clause-parts_named : goal.invariant_of-self-clause-parts_named
 invariant_of-self-clause-parts_named c =
@@ -49,5 +50,5 @@ returns c =
     let reader = library_in c.args.library.now in
     let new = inserted-among c.args.self.part_names.keys c.args.name (used_names c.args.self.parts.items) {old = false} c.args.self.parts_named c.in_ok-insert.ensures.added c.if-not-branch.false in
     part-named reader (block_in c.args.self) c.args.name.now c.args.kind.now (tokens_left c.args.args) false _ c.in_ok-places.ensures new
-    ∙ ap (with_part reader (block_in c.args.self)) c.in_ok-part.ensures
+    ∙ ap (result_map_both (λ (part : Used). at reader (InBlock (record (block_in c.args.self) { parts = c.args.self.parts.items ++ part ∷ [] }))) (λ what. what)) c.in_ok-part.ensures
     ∙ ap (λ ps. Ok (at reader (InBlock (record (block_in c.args.self) { parts = ps })))) (sym c.in_ok-push.ensures.items)

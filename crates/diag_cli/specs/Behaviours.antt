@@ -78,7 +78,7 @@ graph_by device weighed = record { items = Whole device weighed.list.vars (most_
 
 pub data Behaviour : Type 0 where
   Prints : (output : Output) → Behaviour
-  Replies : (answers : List (List ℕ) → List Item) → Behaviour
+  Answers : (answers : List (List ℕ) → List Item) → Behaviour
 
 -- the sum of a device is within the budget, and what is printed besides takes few bits
 abbrev pub if_within : ServeOptions → (Device → Result Weighed EncodeError) → Result Device Output → Result Device Output
@@ -94,7 +94,7 @@ served_frames frames options seq = with_extras options.extras (frame_system seq 
 
 -- the script is answered over the system of what was found, with at most so many sessions open
 abbrev pub served_or_refused : {A : Type 0} → (A → System) → ℕ → Result A Output → Behaviour
-served_or_refused system sessions (Ok found) = Replies (answers_of (system found) sessions)
+served_or_refused system sessions (Ok found) = Answers (answers_of (system found) sessions)
 served_or_refused system sessions (Err output) = Prints output
 
 -- by the command, over a file, and by the choice of forests, if one is asked for

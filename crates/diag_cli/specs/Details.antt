@@ -51,7 +51,7 @@ pub record HasDetails (choose : ClauseList → Option Forest) (form : Option For
   pub usage : status ≢ WriteFailed → (status ≡ Usage) ↔ (form ≡ None)
   -- If the file is not read, the script is not begun, and one line is written.
   pub no_file : shelf.faults < new_shelf.faults → IsIdle input new_input × FulfilsOutput (says read_error ReadFailed) status out.got new_out.got
-  -- If the words ask for no script, none is read, and if the file is refused neither.
+  -- If the words ask for no script, none is read; nor is one if the file is refused.
   pub not_asked : asks_script form ≡ false → IsIdle input new_input
   pub no_script : IfSome (told_file held (named_file form)) (λ file. (output : Output) → behaviour_of choose form file ≡ Prints output → IsIdle input new_input)
   -- If no read failed, what is written is the output for the words, the file and the script, or memory ran out for words
@@ -78,5 +78,5 @@ pub record HasDetails (choose : ClauseList → Option Forest) (form : Option For
   pub all_read : IfSome (told_file held (named_file form)) (λ file. (answers : List (List ℕ) → List Item) → behaviour_of choose form file ≡ Answers answers → status ≡ Done → IsAtEnd new_input.left)
   -- At most the limit is taken of the script.
   pub script_taken : new_input.taken ≤ input.taken + SCRIPT_LIMIT
-  -- With status `CutShort` exactly the limit was taken of the script, and with no other one, unless a write failed.
+  -- With status `CutShort` exactly the limit was taken of the script. With any other status less was taken, unless a write failed.
   pub cut : status ≢ WriteFailed → (status ≡ CutShort) ↔ (new_input.taken ≡ input.taken + SCRIPT_LIMIT)

@@ -36,8 +36,8 @@ fn note_place(evidence: &mut [u32], device: &Device, place: u32)
     );
 }
 
-/// Notes what was seen of the adder of so many places, in evidence that is all 0: those of the parts of its device, of its wires, and
-/// of inner variables.
+/// Notes what was seen of the adder of so many places, in evidence that is all 0: on the parts of its device, on its wires, and on
+/// inner variables.
 pub fn note_readings(evidence: &mut [u32], device: &Device, places: u32)
     requires none { evidence.old ≡ replicate (length evidence.old) 0 }
     requires room { length device.now.parts + length device.now.wires ≤ length evidence.old }

@@ -2,3 +2,4 @@ pub mod OneStep
 pub mod FoundOrder
 pub mod ChainSteps
 pub mod Sums
+pub mod Examples

@@ -9,3 +9,4 @@ pub mod OtherVariables
 pub mod WrittenClauses
 pub mod ClauseCounts
 pub mod Sizes
+mod Examples

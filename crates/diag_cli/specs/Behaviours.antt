@@ -40,7 +40,7 @@ use Rattle.diag_cli.specs.Loads.{loaded}
 abbrev pub read_error : List ℕ
 read_error = codes "error: read\n"
 
--- the output by why the file was not read
+-- what is printed if the file was not read, by the reason
 abbrev pub not_loaded : LoadError → Output
 not_loaded LoadFailed = says read_error ReadFailed
 not_loaded (Long limit) = says (too_long_line (codes "file") TEXT_LIMIT) Refused
@@ -48,7 +48,7 @@ not_loaded Memory = no_memory
 
 -- ---- a script is answered
 
--- How a script ends: with its end, by a read that failed, or at the limit
+-- how the reading of a script stops: at its end, at a failed read, or at the limit
 pub data End : Type 0 where
   Ended : End
   Failed : End
@@ -57,7 +57,7 @@ pub data End : Type 0 where
 abbrev pub ready_line : System → Item
 ready_line system = line (codes "ready" ∷ decimal (length system.parts) ∷ decimal (length system.wires) ∷ [])
 
--- What the lines of a script are answered over a system, with at most so many sessions open: the line `ready`, and then
+-- What is answered to the lines of a script over a system, with at most so many sessions open: the line `ready`, and then
 -- the replies.
 abbrev pub answers_of : System → ℕ → List (List ℕ) → List Item
 answers_of system sessions lines = ready_line system ∷ replies system sessions [] lines
@@ -78,9 +78,9 @@ graph_by device weighed = record { items = Whole device weighed.list.vars (most_
 
 pub data Behaviour : Type 0 where
   Prints : (output : Output) → Behaviour
-  Replies : (answers : List (List ℕ) → List Item) → Behaviour
+  Answers : (answers : List (List ℕ) → List Item) → Behaviour
 
--- the sum of a device is within the budget, and what is printed besides takes few bits
+-- the device, if its sum is within the budget and its extras take few bits; else the output that says why not
 abbrev pub if_within : ServeOptions → (Device → Result Weighed EncodeError) → Result Device Output → Result Device Output
 if_within options clauses found = result_and_then (λ device.
     result_and (in_few_bits options.extras (length device.parts) (within options.budget (clauses device))) (Ok device)) found
@@ -94,10 +94,10 @@ served_frames frames options seq = with_extras options.extras (frame_system seq 
 
 -- the script is answered over the system of what was found, with at most so many sessions open
 abbrev pub served_or_refused : {A : Type 0} → (A → System) → ℕ → Result A Output → Behaviour
-served_or_refused system sessions (Ok found) = Replies (answers_of (system found) sessions)
+served_or_refused system sessions (Ok found) = Answers (answers_of (system found) sessions)
 served_or_refused system sessions (Err output) = Prints output
 
--- by the command, over a file, and by the choice of forests, if one is asked for
+-- what a command does over a file; `choose` gives the forest, if one is asked for
 abbrev pub behaviour_by : (ClauseList → Option Forest) → List ℕ → Command → List ℕ → Behaviour
 behaviour_by choose path (Serve options) file =
     served_or_refused (served_device options) options.sessions (if_within options (clauses_by options.narrow choose) (described path file))
@@ -107,7 +107,7 @@ behaviour_by choose path (Ask health sessions) file = served_or_refused system_o
 behaviour_by choose path (Inspect inspection) file = Prints (inspected choose path inspection file)
 behaviour_by choose path (Compile budget narrow) file = Prints (told_within budget (clauses_by narrow choose) graph_by (described path file))
 
--- by the form; a file that is too long is refused first
+-- what a run does, by its form; a file above the limit is refused before all else
 abbrev pub behaviour_of : (ClauseList → Option Forest) → Option Form → List ℕ → Behaviour
 behaviour_of choose None file = Prints (says (codes "error: usage\n") Usage)
 behaviour_of choose (Some (Load places)) file = Prints (loaded places)

@@ -10,9 +10,9 @@ use Rattle.diag_cli.specs.declared.serving.TheConstants.{SCRIPT_LIMIT}
 use Rattle.device_files.specs.declared.status.Status.{Status}
 use Rattle.device_files.specs.declared.status.Status.TheVariants.{WriteFailed}
 use Rattle.device_files.specs.Output.{FulfilsOutput}
-use Rattle.diag_cli.specs.Behaviours.{End, Ended, Failed, Cut, Behaviour, Prints, Replies, served}
+use Rattle.diag_cli.specs.Behaviours.{End, Ended, Failed, Cut, Behaviour, Prints, Answers, served}
 
--- nothing was taken, no call failed, and what was to come still is
+-- nothing was taken, no call failed, and what was still to come is unchanged
 pub record IsIdle (before after : Reading) : Type 0 where
   pub left : after.left ≡ before.left
   pub taken : after.taken ≡ before.taken
@@ -31,15 +31,16 @@ EndsAs Ended bytes input new_input = IsAtEnd new_input.left × (length bytes < S
 EndsAs Failed bytes input new_input = (length bytes < SCRIPT_LIMIT) × (input.faults < new_input.faults)
 EndsAs Cut bytes input new_input = (length bytes ≡ SCRIPT_LIMIT) × (new_input.faults ≡ input.faults)
 
--- The lines that a line feed ended were answered. If a write failed, it was after these, with a last line, or with the line that says
--- why the script ended.
+-- All lines that had ended were answered. A write can only have failed later: in the answer to a last line without line feed, or in the
+-- line that says why the script ended.
 pub record IsAnswered (answers : List (List ℕ) → List Item) (bytes : List ℕ) (input new_input : Reading) (out new_out : Writing) (status : Status) : Type 0 where
   pub end : End
   pub ends : EndsAs end bytes input new_input
   pub answered : WritesFirst out.got new_out.got (answers (whole_lines bytes))
   pub gives : FulfilsOutput (served answers bytes end) status out.got new_out.got
 
--- A write failed while the bytes of one read were answered: of those that were taken all but these had been answered before.
+-- A write failed after these bytes of the script were taken. Apart from a last piece of at most one read, every line that had ended was
+-- answered, and its answer written.
 pub record IsStopped (answers : List (List ℕ) → List Item) (bytes : List ℕ) (before after : Option (List ℕ)) : Type 0 where
   pub fed : List ℕ
   pub piece : List ℕ
@@ -47,8 +48,8 @@ pub record IsStopped (answers : List (List ℕ) → List Item) (bytes : List ℕ
   pub one_read : length piece ≤ READ_LIMIT
   pub answered : WritesFirst before after (answers (whole_lines fed))
 
--- A write failed before that. What was written begins the answers to lines that were taken, whatever lines come after them: to the whole
--- lines of the bytes, at most the limit; or to all lines, if the end was met before it.
+-- A write failed before all lines that had ended were answered. What was written begins the answers to the lines that were taken, whatever
+-- lines come after them: the ended ones, or, if the end was met, all.
 pub record IsBroken (answers : List (List ℕ) → List Item) (bytes : List ℕ) (input new_input : Reading) (out new_out : Writing) : Type 0 where
   pub reads : new_input.faults ≡ input.faults
   pub lines : List (List ℕ)
@@ -66,4 +67,4 @@ pub record IsServed (answers : List (List ℕ) → List Item) (input new_input :
 -- what was done, by the behaviour
 abbrev pub FulfilsBehaviour : Behaviour → Reading → Reading → Writing → Writing → Status → Type 0
 FulfilsBehaviour (Prints output) input new_input out new_out status = IsIdle input new_input × FulfilsOutput output status out.got new_out.got
-FulfilsBehaviour (Replies answers) input new_input out new_out status = IsServed answers input new_input out new_out status
+FulfilsBehaviour (Answers answers) input new_input out new_out status = IsServed answers input new_input out new_out status

@@ -12,3 +12,4 @@ pub mod Chains
 pub mod Lasts
 pub mod Weights
 pub mod LastWays
+pub mod Examples

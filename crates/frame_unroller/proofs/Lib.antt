@@ -9,3 +9,4 @@ pub mod CopyClauses
 pub mod TimeCopies
 pub mod ClauseCounts
 pub mod UnrollRefusals
+mod Examples

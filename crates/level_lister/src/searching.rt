@@ -15,7 +15,7 @@ use std::sync::ledger::Ledger;
 
 impl Asked<'_> {
     // Puts the sets of the costs of all nodes at the front of the work, where costs of 32 and more are listed, by one pass. While the
-    // evidence is the same, each pass that looks for a fault goes by them.
+    // evidence is the same, each pass that looks for a fault goes by these.
     fn prepare<L: Ledger>(&self, work: &mut [u32], steps: &mut Steps<L>)
         requires work { length work.old ≡ (length self.now.graph.now.nodes + 2) * (2 * cost_words self.now.levels.now.top) }
         ensures ready { AreReady self.now.graph.now self.now.skips.now self.now.evidence.now self.now.levels.now work.new }

@@ -1,4 +1,4 @@
-//! States, and the words that say them.
+//! States, and the evidence that says them.
 ghost use Rattle.std.specs.Prelude.{◌≡◌, ◌+◌, ◌<◌, ◌≤◌, ◌++◌, drop, length, All};
 ghost use Rattle.state_rules.specs.Ranking.{cost};
 ghost use Rattle.conditioner.specs.Models.{total_cost};

@@ -98,7 +98,7 @@ impl Desk {
         &self.memory.verdicts
     }
 
-    /// From here on the case of these words is asked.
+    /// From here on the case of this evidence is asked.
     pub(crate) fn take_up(&mut self, evidence: &[u32])
         requires { AreKnown self.old.subject evidence.now }
         ensures { self.new ≡ record self.old { known = evidence.now } }

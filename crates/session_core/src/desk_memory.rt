@@ -22,7 +22,7 @@ pub(crate) struct DeskMemory {
     pub(crate) numbers: Vec<u32>,
     // room that an answer takes whole for its while: the probes of all wires, or a step by rising cost
     pub(crate) room: Region,
-    // a smaller graph that has the diagnoses of the words that were asked last
+    // a smaller graph that has the diagnoses under the evidence that was asked last
     pub(crate) minimised_graph: MinimisedGraph,
 }
 

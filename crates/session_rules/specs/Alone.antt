@@ -51,7 +51,7 @@ AreAnsweredAlone system limit table lines =
     → dialogue system limit table lines ≡ before ++ opening ∷ later → Opens session opening
     → let own = own_answers session (opening ∷ later) in own ≡ dialogue system 1 [] (lines_of own)
 
--- A line sees of a table the entry of the session that it names, and if it opens one whether there is room.
+-- Two tables look alike to a line if the session that it names has the same entry in both and, if it opens one, both have room or neither.
 pub record LooksSame (limit : ℕ) (line : Line) (one other : Table) : Type 0 where
   pub entries : (session : Name) → names_session session line ≡ true → entry_of session one ≡ entry_of session other
   pub room : (session : Name) → line ≡ Ask session Start → nat_le limit (length one) ≡ nat_le limit (length other)

@@ -1,4 +1,4 @@
--- The moves of lines, of which nothing but the text is known.
+-- The moves of lines that are given as bytes.
 use Rattle.std.specs.Prelude.{ℕ, List, [], ◌∷◌, ◌++◌}
 use Rattle.state_rules.specs.Systems.{System}
 use Rattle.script_lang.specs.Script.{line_of}

@@ -1,4 +1,4 @@
--- The lines of replies: the diagnoses one after the other, and what is answered of a case.
+-- The lines of replies, each given as its words.
 use Rattle.std.specs.Prelude.{ℕ, zero, suc, ◌+◌, Bool, true, false, not, List, [], ◌∷◌, ◌++◌, map, length, Option, Some, None, set, slice_index_or, codes, is_some, if◌then◌else◌}
 use Rattle.std.specs.Fmt.{decimal}
 use Rattle.std.specs.List.{list_any, list_all}
@@ -21,7 +21,6 @@ faulty_names (name ∷ names) (true ∷ state) = faulty_names names state
 faulty_names (name ∷ names) (false ∷ state) = name ∷ faulty_names names state
 faulty_names names state = []
 
--- a line is its words
 abbrev pub inconsistent : Name → List (List ℕ)
 inconsistent session = session ∷ codes "inconsistent" ∷ []
 
@@ -31,13 +30,13 @@ end_line session = session ∷ codes "end" ∷ []
 abbrev pub count_text : Option ℕ → List ℕ
 count_text count = option_map_or decimal count (codes "-")
 
--- the state that comes next, the point after it, and whether there was one
+-- what is written next, the point after it, and whether it was a state
 pub record Found : Type 0 where
   pub item : Item
   pub point : Option (List Bool)
   pub more : Bool
 
--- the first of the states that come later, of all that there are
+-- the first of the later states; if none is later, `end`; if there is none at all, `inconsistent`
 abbrev pub found : Name → (List Bool → Item) → Option (List Bool) → List (List Bool) → List (List Bool) → Found
 found session shown point [] later = record { item = line (inconsistent session); point = point; more = false }
 found session shown point (d ∷ ds) [] = record { item = line (end_line session); point = point; more = false }
@@ -56,17 +55,17 @@ level_of system session top known point =
     found session (λ state. line (session ∷ codes "level" ∷ decimal (cost system.costs state) ∷ faulty_names system.parts state))
     point states (levels_rest system.costs (levels system.costs top states) point)
 
--- what at most so many steps find, up to the first that finds nothing
+-- what at most so many steps find; a step that finds no state is the last, and counts
 abbrev pub listing : (Option (List Bool) → Found) → ℕ → Option (List Bool) → List Found
 listing next zero point = []
 listing next (suc n) point = let f = next point in f ∷ (if f.more then listing next n f.point else [])
 
--- the least cost, and one of the diagnoses
+-- the least cost, and the faulty parts of the first diagnosis
 abbrev pub min_line : System → Name → Option ℕ → List (List Bool) → List (List ℕ)
 min_line system session fewest [] = inconsistent session
 min_line system session fewest (state ∷ states) = session ∷ codes "min" ∷ count_text fewest ∷ faulty_names system.parts state
 
--- the least cost if a wire is seen so too, if that is not against what was seen
+-- the least cost if the wire is seen with this bit too; none if it was seen with the other
 abbrev pub least_at : System → Case → ℕ → Bool → Option Bool → Option ℕ
 least_at system known wire bit None = least_cost system (record known { seen = set known.seen wire (Some bit) })
 least_at system known wire bit (Some seen) = if same_bit bit seen then least_cost system known else None
@@ -98,12 +97,12 @@ blame_lines session ds part (name ∷ names) =
     (session ∷ codes "blame" ∷ name ∷ blame_word (map (λ state. not (bit_in state part)) ds) ∷ [])
     ∷ blame_lines session ds (part + 1) names
 
--- these lines, or the one that says so where no state agrees
+-- these lines; if no state agrees, the one line that says so
 abbrev pub if_any : Name → List (List Bool) → List (List (List ℕ)) → List (List (List ℕ))
 if_any session [] lines = inconsistent session ∷ []
 if_any session (state ∷ states) lines = lines
 
--- the lines that a question is answered
+-- the lines that answer a question
 abbrev pub told : System → Name → Case → Question → List (List (List ℕ))
 told system session known Min = min_line system session (least_cost system known) (all_diagnoses system known) ∷ []
 told system session known (Probe name) =

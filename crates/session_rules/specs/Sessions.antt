@@ -18,7 +18,7 @@ use Rattle.session_rules.specs.Refusals.{refusal_row, error_words}
 use Rattle.session_rules.specs.Items.{Item, line}
 use Rattle.session_rules.specs.Replies.{Found, next_of, level_of, listing, told, dnnf_item, least_item}
 
--- what a session knows, and the state after which it goes on
+-- what a session knows, and the state after which its listings go on; none: from the first
 pub record Entry : Type 0 where
   pub known : Case
   pub point : Option (List Bool)
@@ -64,7 +64,7 @@ abbrev pub becomes : Name → Case → Option (List Bool) → List ℕ → List 
 becomes session known point word =
     record { change = Becomes (record { known = known; point = point }); items = line (session ∷ word ∷ []) ∷ [] } ∷ []
 
--- At most so many moves: each writes what comes next, and takes the session to its point.
+-- At most so many moves. Each writes what comes next, and moves the session's point there.
 abbrev pub lists : Entry → (Option (List Bool) → Found) → ℕ → List Move
 lists entry next count =
     map (λ f. record { change = Becomes (record entry { point = f.point }); items = f.item ∷ [] }) (listing next count entry.point)
@@ -94,7 +94,7 @@ when_open system s entry (Levels count) =
 when_open system s entry LeastNnf =
     if system.extras.least then tells (line (s ∷ codes "leastnnf" ∷ []) ∷ least_item system entry.known ∷ []) else declined s NoLeast
 
--- The moves of a request depend on the session's own entry alone, and if it is not open on whether there is room.
+-- The moves of a request. They depend on the entry of its session alone, or, if that is not open, on whether there is room.
 abbrev pub outcome : System → Name → Bool → Option Entry → Request → List Move
 outcome system s full (Some entry) request = when_open system s entry request
 outcome system s full None Start =

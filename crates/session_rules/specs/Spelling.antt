@@ -42,7 +42,7 @@ pub record Writes (before after : Option (List ℕ)) (items : List Item) : Type 
   pub spelled : Spells items text
   pub grown : Appends before after text
 
--- they grew by the beginning of one, which goes on with a rest
+-- known bytes grew by the beginning of such a text; `rest` completes it
 pub record WritesPart (before after : Option (List ℕ)) (items : List Item) : Type 0 where
   pub text : List ℕ
   pub rest : List ℕ

@@ -10,3 +10,4 @@ mod FilledTexts
 mod LineLemmas
 mod EdgeLemmas
 pub mod PartBits
+mod Examples

@@ -34,9 +34,9 @@ impl<'a> Model for Drawing<'a> {
 
     ghost Value = { Kept };
 
-    ghost view = { λ d. record { graph = d.graph.now; evidence = d.evidence.now; parts = d.parts; values = d.values.now; lines = d.lines.now; sets = d.below.now; lacking = option_map (λ evidence. evidence.now) d.lacking } };
+    ghost view = { λ d. record { graph = d.graph.now; evidence = d.evidence.now; parts = d.parts; values = d.values.now; lines = d.lines.now; sets = d.below.now; lacking = option_map (λ words. words.now) d.lacking } };
 
-    ghost invariant = { λ d. IsDrawing (record { graph = d.graph.now; evidence = d.evidence.now; parts = d.parts; values = d.values.now; lines = d.lines.now; sets = d.below.now; lacking = option_map (λ evidence. evidence.now) d.lacking }) };
+    ghost invariant = { λ d. IsDrawing (record { graph = d.graph.now; evidence = d.evidence.now; parts = d.parts; values = d.values.now; lines = d.lines.now; sets = d.below.now; lacking = option_map (λ words. words.now) d.lacking }) };
 }
 
 impl<'a> Drawing<'a> {

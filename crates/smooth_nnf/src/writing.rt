@@ -172,7 +172,7 @@ fn write_in<O: Sink, L: Ledger>(
     requires some { 0 < blank.parts }
     requires wide { length asked.now.graph.now.nodes * part_words (length asked.now.costs.now) ≤ length below.now }
     requires below { ArePartsBelow asked.now.graph.now (length asked.now.costs.now) below.now (length asked.now.graph.now.nodes) }
-    requires lacking { IfSome lacking (λ evidence. AreLacking asked.now.graph.now (length asked.now.costs.now) evidence.now) }
+    requires lacking { IfSome lacking (λ words. AreLacking asked.now.graph.now (length asked.now.costs.now) words.now) }
     requires room { length scratch.old ≡ drawing_words (length asked.now.graph.now.nodes) }
     ensures bytes { Puts (O.got out.old) (O.got out.new) result
         (least_text asked.now.graph.now asked.now.evidence.now asked.now.costs.now) }

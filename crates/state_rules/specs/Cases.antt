@@ -1,4 +1,4 @@
--- What a session has seen and holds.
+-- What a session knows: the bits seen on wires, and the parts held to be ok or faulty.
 use Rattle.std.specs.Prelude.{ℕ, Bool, true, ◌&&◌, List, [], ◌∷◌, replicate, Option, Some, None}
 use Rattle.state_rules.specs.Bits.{same_bit}
 
@@ -11,12 +11,12 @@ pub record Case : Type 0 where
 abbrev pub empty_case : ℕ → ℕ → Case
 empty_case wires parts = record { seen = replicate wires None; held = replicate parts None }
 
--- whether a bit is what is known of it
+-- whether a bit does not contradict what is known of it
 abbrev pub agrees_at : Option Bool → Bool → Bool
 agrees_at None bit = true
 agrees_at (Some known) bit = same_bit known bit
 
--- each bit is what is known of it
+-- no bit contradicts what is known of it
 abbrev pub agrees : List (Option Bool) → List Bool → Bool
 agrees [] bits = true
 agrees (known ∷ rest) [] = true

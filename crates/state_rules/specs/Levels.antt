@@ -16,7 +16,7 @@ abbrev pub is_level_before : List ℕ → List Bool → List Bool → Bool
 is_level_before costs h k =
     nat_lt (cost costs h) (cost costs k) || ((cost costs h == cost costs k) && is_before h k)
 
--- what comes after a point, which need be none of them, or everything after none
+-- what comes after a point, which need not be one of them; all of them if there is no point
 abbrev pub levels_rest : List ℕ → List (List Bool) → Option (List Bool) → List (List Bool)
 levels_rest costs hs None = hs
 levels_rest costs hs (Some point) = filter (is_level_before costs point) hs

@@ -3,7 +3,7 @@ use Rattle.std.specs.Prelude.{ℕ, ◌+◌, Bool, true, false, List, [], ◌∷�
 use Rattle.std.specs.List.{filter}
 use Rattle.state_rules.specs.Bits.{lists_of_bits}
 
--- each faulty part counts its cost
+-- the costs of the faulty parts, added up
 abbrev pub cost : List ℕ → List Bool → ℕ
 cost [] state = 0
 cost (c ∷ costs) [] = 0
@@ -14,7 +14,7 @@ cost (c ∷ costs) (false ∷ state) = c + cost costs state
 abbrev pub plain_costs : ℕ → List ℕ
 plain_costs parts = replicate parts 1
 
--- whether the first is faulty where they first differ
+-- whether, at the first part at which they differ, the left one is faulty
 abbrev pub is_before : List Bool → List Bool → Bool
 is_before [] ks = false
 is_before (h ∷ hs) [] = false
@@ -56,7 +56,7 @@ is_at_most n (Some m) = nat_le n m
 abbrev pub diagnoses : List ℕ → List (List Bool) → List (List Bool)
 diagnoses costs hs = let fewest = least costs hs in filter (λ h. is_at_most (cost costs h) fewest) hs
 
--- what comes after a point, or everything after none
+-- what comes after a point, which need not be one of them; all of them if there is no point
 abbrev pub rest : List (List Bool) → Option (List Bool) → List (List Bool)
 rest hs None = hs
 rest hs (Some point) = filter (is_before point) hs

@@ -1,4 +1,4 @@
--- What sessions are asked over. Everything that a session is answered follows from a system.
+-- What sessions are asked over. What a session is answered follows from a system, and from how many sessions may be open.
 use Rattle.std.specs.Prelude.{ℕ, Bool, false, List, Option, None}
 use Rattle.state_rules.specs.declared.extras.Extras.{Extras}
 use Rattle.state_rules.specs.Cases.{Case}
@@ -15,8 +15,8 @@ pub record Texts : Type 0 where
 abbrev pub open_texts : Texts
 open_texts = record { dnnf = None; least = None }
 
--- the names of parts and wires, what the failure of each part costs, the health states that agree with a case, what is answered besides,
--- and the texts of the graphs
+-- the names of parts and wires, what the failure of each part costs, the health states that agree with a case, which extras are offered
+-- (`levels`, `leastnnf`), and the texts of the graphs, if they are fixed
 pub record System : Type 0 where
   pub parts : List (List ℕ)
   pub wires : List (List ℕ)

@@ -4,3 +4,4 @@ pub mod TokenLemmas
 pub mod NameLemmas
 pub mod NumberLemmas
 pub mod SpacedLines
+mod Examples

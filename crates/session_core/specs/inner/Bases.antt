@@ -70,6 +70,6 @@ pub record AreEnough (subject : Subject) (words : ℕ) : Type 0 where
 abbrev pub AreKnown : Subject → List ℕ → Type 0
 AreKnown subject evidence = IsEvidence (length subject.parts) (length subject.wires) subject.graph.vars evidence
 
--- the case that they say
+-- the case that evidence says
 abbrev pub case_in : Subject → List ℕ → Case
 case_in subject evidence = case_of_evidence (length subject.parts) (length subject.wires) evidence

@@ -23,7 +23,7 @@ use Rattle.session_core.specs.declared.listed.NextState.{NextState}
 use Rattle.session_core.specs.declared.listed.NextState.TheVariants.{Found, End, Inconsistent}
 use Rattle.session_core.specs.inner.Bases.{AreEnough, AreKnown, case_in}
 
--- what is asked over, the words of the case that is asked, and what was found last: a state, a verdict for each part, and two
+-- what is asked over, the evidence of the case that is asked, and what was found last: a state, a verdict for each part, and two
 -- numbers for each wire
 pub record OnDesk : Type 0 where
   pub subject : Subject
@@ -33,7 +33,7 @@ pub record OnDesk : Type 0 where
   pub numbers : List ℕ
 
 -- All of it fits together, with a value for each node, with room of which none is in use, and with a smaller graph that has the
--- diagnoses of some words.
+-- diagnoses under some evidence.
 pub record FitsTogether (desk : OnDesk) (values : List ℕ) (room : Carved) (kept : Kept) : Type 0 where
   pub known : AreKnown desk.subject desk.known
   pub one_a_part : length desk.state ≡ length desk.subject.parts

@@ -9,7 +9,6 @@ use Rattle.clause_encoder.specs.declared.limits.TheConstants.{CLAUSE_LIMIT}
 use Rattle.branch_states.specs.declared.measuring.TheConstants.{BUDGET_LIMIT}
 use Rattle.frame_unroller.specs.declared.unrolling.TheConstants.{FRAME_LIMIT}
 use Rattle.level_lister.specs.declared.levels.TheConstants.{TOP_LIMIT}
-use Rattle.script_lang.specs.declared.limits.TheConstants.{LINE_LIMIT, COUNT_LIMIT}
 use Rattle.session_core.specs.declared.limits.TheConstants.{SESSION_LIMIT}
 use Rattle.adder_load.specs.declared.adders.TheConstants.{PLACE_LIMIT}
 use Rattle.diag_cli.specs.declared.words.TheConstants.{DEFAULT_BUDGET, DEFAULT_SESSIONS}
@@ -23,9 +22,6 @@ a_file = refl
 
 a_script : SCRIPT_LIMIT ≡ 2 ^ 40
 a_script = refl
-
-a_line_of_a_script : LINE_LIMIT ≡ 1048576
-a_line_of_a_script = refl
 
 a_short_name : SHORT_NAME_LIMIT ≡ 64
 a_short_name = refl
@@ -69,9 +65,6 @@ sessions = refl
 
 the_sessions_if_none_are_given : DEFAULT_SESSIONS ≡ 16
 the_sessions_if_none_are_given = refl
-
-states_of_a_listing : COUNT_LIMIT ≡ 1000000
-states_of_a_listing = refl
 
 the_greatest_cost_that_is_listed : TOP_LIMIT ≡ 4096000
 the_greatest_cost_that_is_listed = refl

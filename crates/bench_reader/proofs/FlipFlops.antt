@@ -34,7 +34,7 @@ use Rattle.bench_reader.specs.inner.Lines.{meaning}
 use Rattle.bench_reader.specs.inner.Steps.{statements_or_fault, device_or_fault, is_faultless}
 use Rattle.bench_reader.proofs.Lines.{said, read_are_faultless}
 use Rattle.bench_reader.proofs.Parts.{names-parts, names-joined}
-use Rattle.bench_reader.proofs.Whole.{all_driven_named, is_read, both}
+use Rattle.bench_reader.proofs.FirstFaults.{all_driven_named, is_read, both}
 
 -- ---- a set of names
 

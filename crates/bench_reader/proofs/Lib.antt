@@ -6,6 +6,6 @@ pub mod Drivers
 pub mod DrivenSignals
 pub mod Twice
 pub mod Parts
-pub mod Whole
+pub mod FirstFaults
 pub mod FlipFlops
 mod Examples

@@ -12,7 +12,7 @@ use Rattle.clause_encoder.specs.Clauses.{Clause, ClauseList, var_of, vars_rise, 
 use Rattle.elimination_forests.specs.Branches.{first_met, same_variable, order, place}
 use Rattle.elimination_forests.proofs.FirstPlaces.{found-at}
 use Rattle.elimination_forests.proofs.MetOrder.{among, among-first_met, first_met-push, clauses-valid}
-use Rattle.elimination_forests.proofs.Places.{AllOnce, first_met-once}
+use Rattle.elimination_forests.proofs.VariableOrder.{AllOnce, first_met-once}
 
 place-absent : (vs : List ℕ) (v : ℕ) → among vs v ≡ false → place vs v ≡ length vs
 place-absent [] v e = refl

@@ -14,7 +14,7 @@ use Rattle.device_files.specs.declared.status.Status.{Status}
 use Rattle.device_files.specs.declared.status.Status.TheVariants.{WriteFailed}
 use Rattle.device_files.specs.Output.{Output, FulfilsOutput, says}
 use Rattle.device_files.specs.Inspecting.{count_line}
-use Rattle.device_files.specs.Refusals.{refusal_line, refusal_status, told_by, or_memory}
+use Rattle.device_files.specs.Refusals.{refusal_line, refusal_status, refusal_output, or_memory}
 
 -- the items were written
 pub gives_all : (output : Output) (s : Status) (a b : Option (List ℕ)) → output.status ≢ WriteFailed → s ≡ output.status → Writes a b output.items → FulfilsOutput output s a b
@@ -45,7 +45,7 @@ gives_after items text status s a b c first said = record {
 
 -- ---- a refusal
 
-tells_line : (refusal : Refusal) → or_memory (told_by refusal) ≡ says (refusal_line refusal) (refusal_status refusal)
+tells_line : (refusal : Refusal) → or_memory (refusal_output refusal) ≡ says (refusal_line refusal) (refusal_status refusal)
 tells_line (Fault line number name) = refl
 tells_line Header = refl
 tells_line (Counts said found) = refl
@@ -55,12 +55,12 @@ tells_line (Above what count limit) = refl
 tells_line (Sum budget) = refl
 tells_line Memory = refl
 
-pub refusal_given : (refusal : Refusal) (s : Status) (a b : Option (List ℕ)) → s ≡ refusal_status refusal → s ≢ WriteFailed → Appends a b (refusal_line refusal) → FulfilsOutput (or_memory (told_by refusal)) s a b
+pub refusal_given : (refusal : Refusal) (s : Status) (a b : Option (List ℕ)) → s ≡ refusal_status refusal → s ≢ WriteFailed → Appends a b (refusal_line refusal) → FulfilsOutput (or_memory (refusal_output refusal)) s a b
 refusal_given refusal s a b is other grown =
     subst (λ (output : Output). FulfilsOutput output s a b) (sym (tells_line refusal))
     (line_given (refusal_line refusal) (refusal_status refusal) s a b (λ five. absurd (other (is ∙ five))) is grown)
 
-pub refusal_begun : (refusal : Refusal) (s : Status) (a b : Option (List ℕ)) → s ≡ WriteFailed → AppendsPrefix a b (refusal_line refusal) → FulfilsOutput (or_memory (told_by refusal)) s a b
+pub refusal_begun : (refusal : Refusal) (s : Status) (a b : Option (List ℕ)) → s ≡ WriteFailed → AppendsPrefix a b (refusal_line refusal) → FulfilsOutput (or_memory (refusal_output refusal)) s a b
 refusal_begun refusal s a b five part =
     subst (λ (output : Output). FulfilsOutput output s a b) (sym (tells_line refusal)) (line_begun (refusal_line refusal) (refusal_status refusal) s a b five part)
 

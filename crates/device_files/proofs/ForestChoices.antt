@@ -17,7 +17,7 @@ use Rattle.device_files.specs.declared.status.Status.TheVariants.{AboveBudget}
 use Rattle.device_files.specs.declared.refusal.Refusal.{Refusal}
 use Rattle.device_files.specs.declared.refusal.Refusal.TheVariants.{Sum}
 use Rattle.device_files.specs.Output.{says}
-use Rattle.device_files.specs.Refusals.{told_by}
+use Rattle.device_files.specs.Refusals.{refusal_output}
 use Rattle.device_files.specs.Choices.{Weighed, weighed_by, ByForest, ByClauses, IsChosen, HasSum, IsListOf}
 use Rattle.device_files.specs.Weighing.{within, sum_line}
 
@@ -75,8 +75,8 @@ refused_above budget weighed many = rw above
 module _ (list : ClauseList) (found : Narrowed) (is : IsFound list found) (budget sum : ℕ) (is_along : sum ≡ forest_sum Lists is.forest list.clauses) where
   pub found_or_above : (result : Result ℕ Refusal) → IfOk result (λ n. n ≡ found.sum) → IfOk result (λ n. n ≤ budget) → IfErr result (λ refusal. refusal ≡ Sum budget)
       → IfErr result (λ (_ : Refusal). budget < found.sum)
-      → Fulfils (λ (_ : ℕ). record { list = list; sum = sum }) told_by (within budget (Ok (record { list = list; sum = sum }))) result
+      → Fulfils (λ (_ : ℕ). record { list = list; sum = sum }) refusal_output (within budget (Ok (record { list = list; sum = sum }))) result
   found_or_above (Ok n) same few fault above = kept_within budget (record { list = list; sum = sum }) (omega (arith, same, few, is.sum, is_along))
   found_or_above (Err refusal) same few fault above =
-      subst (λ r. IsExpectedFault (told_by r) (within budget (Ok (record { list = list; sum = sum })))) (sym fault)
+      subst (λ r. IsExpectedFault (refusal_output r) (within budget (Ok (record { list = list; sum = sum })))) (sym fault)
       (refused_above budget (record { list = list; sum = sum }) (omega (arith, above, is.sum, is_along)))

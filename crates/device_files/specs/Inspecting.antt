@@ -13,12 +13,12 @@ use Rattle.session_rules.specs.Items.{Item, line}
 use Rattle.device_files.specs.declared.inspecting.Inspection.{Inspection}
 use Rattle.device_files.specs.declared.inspecting.Inspection.TheVariants.{Plan, Check}
 use Rattle.device_files.specs.declared.status.Status.TheVariants.{Done}
-use Rattle.device_files.specs.Output.{Output, says, told_or_refused}
+use Rattle.device_files.specs.Output.{Output, says, output_or_refusal}
 use Rattle.device_files.specs.Paths.{ends_in, is_device_path}
 use Rattle.device_files.specs.Describing.{described}
 use Rattle.device_files.specs.Checking.{graph_in}
 use Rattle.device_files.specs.Choices.{Weighed, clauses_by}
-use Rattle.device_files.specs.Weighing.{told_within}
+use Rattle.device_files.specs.Weighing.{output_within}
 
 -- ---- words
 
@@ -46,12 +46,12 @@ planned device weighed = record {
 -- ---- a graph is checked
 
 -- how many nodes, children and variables a decomposable graph has
-abbrev pub told_decomposable : Graph → Output
-told_decomposable graph = says (spaced (codes "decomposable" ∷ decimal (length graph.nodes) ∷ decimal (edges graph.nodes) ∷ decimal graph.vars ∷ [])) Done
+abbrev pub decomposable_output : Graph → Output
+decomposable_output graph = says (spaced (codes "decomposable" ∷ decimal (length graph.nodes) ∷ decimal (edges graph.nodes) ∷ decimal graph.vars ∷ [])) Done
 
 -- ---- all inspections
 
 -- what each prints of a file, by the choice of forests, if one is asked for
 abbrev pub inspected : (ClauseList → Option Forest) → List ℕ → Inspection → List ℕ → Output
-inspected choose path (Plan narrow) file = told_within BUDGET_LIMIT (clauses_by narrow choose) planned (described path file)
-inspected choose path Check file = told_or_refused told_decomposable (graph_in file)
+inspected choose path (Plan narrow) file = output_within BUDGET_LIMIT (clauses_by narrow choose) planned (described path file)
+inspected choose path Check file = output_or_refusal decomposable_output (graph_in file)

@@ -34,9 +34,9 @@ result_and_then next (Ok found) = next found
 result_and_then next (Err error) = Err error
 
 -- the output of what was found, or the one that refuses it
-abbrev pub told_or_refused : {A : Type 0} → (A → Output) → Result A Output → Output
-told_or_refused told (Ok found) = told found
-told_or_refused told (Err output) = output
+abbrev pub output_or_refusal : {A : Type 0} → (A → Output) → Result A Output → Output
+output_or_refusal told (Ok found) = told found
+output_or_refusal told (Err output) = output
 
 -- ---- what a run gives
 

@@ -29,13 +29,13 @@ refusal_status Memory = NoMemory
 refusal_status refusal = Refused
 
 -- the output of a refusal; lack of memory is no refusal of the file
-abbrev pub told_by : Refusal → Option Output
-told_by Memory = None
-told_by refusal = Some (says (refusal_line refusal) (refusal_status refusal))
+abbrev pub refusal_output : Refusal → Option Output
+refusal_output Memory = None
+refusal_output refusal = Some (says (refusal_line refusal) (refusal_status refusal))
 
 abbrev pub or_memory : Option Output → Output
 or_memory told = unwrap_or told no_memory
 
 -- An `Ok` is what is expected, or a refusal has the output that is.
 abbrev pub FulfilsOrRefuses : {A : Type 0} → Result A Output → Result A Refusal → Type 0
-FulfilsOrRefuses expected result = Fulfils (λ found. found) told_by expected result
+FulfilsOrRefuses expected result = Fulfils (λ found. found) refusal_output expected result

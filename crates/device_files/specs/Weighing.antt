@@ -8,7 +8,7 @@ use Rattle.clause_encoder.specs.declared.encoding.EncodeError.{EncodeError}
 use Rattle.clause_encoder.specs.declared.encoding.EncodeError.TheVariants.{TooManyClauses, Memory}
 use Rattle.device_files.specs.Choices.{Weighed}
 use Rattle.device_files.specs.declared.status.Status.TheVariants.{Refused, AboveBudget}
-use Rattle.device_files.specs.Output.{Output, says, no_memory, told_or_refused}
+use Rattle.device_files.specs.Output.{Output, says, no_memory, output_or_refusal}
 use Rattle.diag_edge.specs.ErrorLines.{above_line}
 
 -- the line of a sum above the budget
@@ -22,5 +22,5 @@ within budget (Err (TooManyClauses count)) = Err (says (above_line (codes "claus
 within budget (Err Memory) = Err no_memory
 
 -- what is printed of a device and its clauses, if their sum is within a budget
-abbrev pub told_within : ℕ → (Device → Result Weighed EncodeError) → (Device → Weighed → Output) → Result Device Output → Output
-told_within budget clauses told found = told_or_refused (λ device. told_or_refused (told device) (within budget (clauses device))) found
+abbrev pub output_within : ℕ → (Device → Result Weighed EncodeError) → (Device → Weighed → Output) → Result Device Output → Output
+output_within budget clauses told found = output_or_refusal (λ device. output_or_refusal (told device) (within budget (clauses device))) found

@@ -4,7 +4,7 @@ ghost use Rattle.diag_edge.specs.ErrorLines.{fault_line};
 ghost use Rattle.nnf_text.specs.Refusals.{told};
 ghost use Rattle.device_files.specs.Output.{says};
 ghost use Rattle.device_files.specs.Checking.{graph_fault_line, graph_in};
-ghost use Rattle.device_files.specs.Refusals.{FulfilsOrRefuses, told_by};
+ghost use Rattle.device_files.specs.Refusals.{FulfilsOrRefuses, refusal_output};
 
 use crate::refusal::Refusal;
 use crate::status::Status;
@@ -15,14 +15,14 @@ use text_rules::TEXT_LIMIT;
 
 // The refusal of a fault of a line.
 fn at_line(line: u32, number: u32, name: &'static str) -> Refusal
-    ensures { told_by result ≡ Some (says (fault_line line number name.now) Status.Refused) }
+    ensures { refusal_output result ≡ Some (says (fault_line line number name.now) Status.Refused) }
 {
     Refusal::Fault { line, number, name }
 }
 
 // The refusal that says why a text gives no decomposable graph.
 fn refused(error: NnfError) -> Refusal
-    ensures { told_by result ≡ option_map (λ refusal. says (graph_fault_line refusal) Status.Refused) (told error) }
+    ensures { refusal_output result ≡ option_map (λ refusal. says (graph_fault_line refusal) Status.Refused) (told error) }
 {
     match error {
         NnfError::Header => Refusal::Header,

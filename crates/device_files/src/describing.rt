@@ -6,7 +6,7 @@ ghost use Rattle.component_lang.specs.Reading.{design};
 ghost use Rattle.flattener.specs.Flat.{flattened};
 ghost use Rattle.device_files.specs.Describing.{netlist_line, design_line, flatten_line, or_line, described};
 ghost use Rattle.device_files.specs.Output.{says, result_and_then};
-ghost use Rattle.device_files.specs.Refusals.{FulfilsOrRefuses, told_by};
+ghost use Rattle.device_files.specs.Refusals.{FulfilsOrRefuses, refusal_output};
 
 use crate::paths::is_design_path;
 use crate::refusal::{Refusal, above};
@@ -20,7 +20,7 @@ use text_rules::TEXT_LIMIT;
 
 /// The refusal of a netlist that has a fault, or for which there was no memory.
 pub fn netlist_refusal(error: BenchError) -> Refusal
-    ensures { told_by result ≡ option_map (λ fault. says (netlist_line fault) Status.Refused) (told error) }
+    ensures { refusal_output result ≡ option_map (λ fault. says (netlist_line fault) Status.Refused) (told error) }
 {
     match error {
         BenchError::Bad { line, what } => Refusal::Fault {

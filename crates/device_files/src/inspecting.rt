@@ -2,7 +2,7 @@
 ghost use Rattle.std.specs.Prelude.{◌≡◌, ◌≢◌, ◌⊎◌, ◌-◌, ◌^◌, ◌<◌, ◌≤◌, [], ◌∷◌, map, length};
 ghost use Rattle.diag_edge.specs.Edge.{HasCause, RoseExactly};
 ghost use Rattle.session_rules.specs.Spelling.{Replies};
-ghost use Rattle.device_files.specs.Inspecting.{inspection_named, count_line, planned, told_decomposable, inspected};
+ghost use Rattle.device_files.specs.Inspecting.{inspection_named, count_line, planned, decomposable_output, inspected};
 ghost use Rattle.device_files.specs.Choices.{ByForest};
 ghost use Rattle.device_files.specs.Output.{FulfilsOutput, FulfilsOutputUnlessMemory};
 
@@ -112,7 +112,7 @@ fn tell_graph<O: Sink>(out: &mut O, graph: &Graph) -> Status
     requires faults { O.faults out.old < 2 ^ 64 - 1 }
     ensures write_fault { RoseExactly (O.faults out.old) (O.faults out.new) (result ≡ Status.WriteFailed) }
     ensures either { (result ≡ Status.Done) ⊎ (result ≡ Status.WriteFailed) }
-    ensures said { FulfilsOutput (told_decomposable graph.now) result (O.got out.old) (O.got out.new) }
+    ensures said { FulfilsOutput (decomposable_output graph.now) result (O.got out.old) (O.got out.new) }
 {
     match put_line(
         out,

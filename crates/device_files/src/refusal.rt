@@ -6,7 +6,7 @@ ghost use Rattle.device_files.specs.declared.refusal.Refusal.TheVariants.{Memory
 ghost use Rattle.device_files.specs.Checking.{graph_fault_line};
 ghost use Rattle.device_files.specs.Weighing.{sum_line};
 ghost use Rattle.device_files.specs.Output.{FulfilsOutput, says};
-ghost use Rattle.device_files.specs.Refusals.{refusal_line, refusal_status, told_by, or_memory};
+ghost use Rattle.device_files.specs.Refusals.{refusal_line, refusal_status, refusal_output, or_memory};
 
 use crate::status::Status;
 use diag_edge::{Sink, WriteFailed, put_above, put_fault, put_line};
@@ -76,7 +76,7 @@ impl Refusal {
 
 /// The refusal of a count above its limit.
 pub fn above(what: &'static str, count: u64, limit: usize) -> Refusal
-    ensures { told_by result ≡ Some (says (above_line what.now count limit) Status.Refused) }
+    ensures { refusal_output result ≡ Some (says (above_line what.now count limit) Status.Refused) }
 {
     Refusal::Above {
         what,
@@ -168,7 +168,7 @@ pub fn tell<O: Sink>(out: &mut O, refusal: Refusal) -> Status
     ensures not_usage { result ≢ Status.Usage }
     ensures not_read { result ≢ Status.ReadFailed }
     ensures not_cut { result ≢ Status.CutShort }
-    ensures said { FulfilsOutput (or_memory (told_by refusal)) result (O.got out.old) (O.got out.new) }
+    ensures said { FulfilsOutput (or_memory (refusal_output refusal)) result (O.got out.old) (O.got out.new) }
 {
     match put_refusal(out, refusal) {
         Ok(()) => refusal.status(),

@@ -5,7 +5,7 @@ ghost use Rattle.branch_states.specs.Branches.{sum_of};
 ghost use Rattle.elimination_forests.specs.Forests.{Forest};
 ghost use Rattle.device_files.specs.Choices.{clauses_by, ByClauses, IsChosen, HasSum, IsListOf};
 ghost use Rattle.device_files.specs.Weighing.{within};
-ghost use Rattle.device_files.specs.Refusals.{told_by};
+ghost use Rattle.device_files.specs.Refusals.{refusal_output};
 
 use crate::Memory;
 use crate::refusal::{Refusal, above};
@@ -19,7 +19,7 @@ use tree_finder::{Narrowed, narrow};
 pub fn clauses_of(alloc: Global, device: &Device) -> Result<Cnf, Refusal>
     ensures list { IfOk result (IsListOf device.now) }
     ensures fault { IfErr result (λ refusal. (is_narrow : Bool) (choose : ClauseList → Option Forest) (budget : ℕ)
-        → IsExpectedFault (told_by refusal) (within budget (clauses_by is_narrow choose device.now))) }
+        → IsExpectedFault (refusal_output refusal) (within budget (clauses_by is_narrow choose device.now))) }
 {
     match encode(alloc, device) {
         Ok(cnf) => Ok(cnf),
@@ -50,7 +50,7 @@ pub fn clauses_along(
     ensures list { IfOk result (λ found. IsListOf device.now found.0) }
     ensures forest { IfOk result (λ found. IsChosen is_narrow found.0 found.1) }
     ensures fault { IfErr result (λ refusal. (choose : ClauseList → Option Forest) (budget : ℕ)
-        → IsExpectedFault (told_by refusal) (within budget (clauses_by is_narrow choose device.now))) }
+        → IsExpectedFault (refusal_output refusal) (within budget (clauses_by is_narrow choose device.now))) }
 {
     let cnf = clauses_of(alloc, device)?;
     let forest = forest_of(alloc, &cnf, is_narrow)?;
@@ -66,7 +66,7 @@ pub(crate) fn clauses_within(
 ) -> Result<(Cnf, u32), Refusal>
     requires { budget ≤ BUDGET_LIMIT }
     ensures { ByClauses is_narrow (λ clauses.
-        Fulfils (λ found. record { list = found.0; sum = found.1 }) told_by (within budget (clauses device.now)) result) }
+        Fulfils (λ found. record { list = found.0; sum = found.1 }) refusal_output (within budget (clauses device.now)) result) }
 {
     let (cnf, forest) = clauses_along(alloc, device, is_narrow)?;
     let sum = sum_within(alloc, &cnf, &forest, budget)?;
@@ -82,7 +82,7 @@ pub fn sum_within(
 ) -> Result<u32, Refusal>
     requires { budget ≤ BUDGET_LIMIT }
     ensures list { (sum : ℕ) → HasSum cnf.now forest.now sum
-        → Fulfils (λ _. record { list = cnf.now; sum = sum }) told_by (within budget (Ok (record { list = cnf.now; sum = sum }))) result }
+        → Fulfils (λ _. record { list = cnf.now; sum = sum }) refusal_output (within budget (Ok (record { list = cnf.now; sum = sum }))) result }
     ensures sum { (sum : ℕ) → HasSum cnf.now forest.now sum → IfOk result (λ found. found ≡ sum) }
     ensures few { IfOk result (λ sum. sum ≤ budget) }
 {
@@ -110,7 +110,7 @@ fn named_within(alloc: Global, cnf: &Cnf, budget: u32) -> Result<u32, Refusal>
     requires { budget ≤ BUDGET_LIMIT }
     ensures sum { IfOk result (λ sum. sum ≡ sum_of cnf.now.clauses) }
     ensures few { IfOk result (λ sum. sum ≤ budget) }
-    ensures fault { IfErr result (λ refusal. IsExpectedFault (told_by refusal)
+    ensures fault { IfErr result (λ refusal. IsExpectedFault (refusal_output refusal)
         (within budget (Ok (record { list = cnf.now; sum = sum_of cnf.now.clauses })))) }
 {
     match measure(alloc, cnf, budget) {

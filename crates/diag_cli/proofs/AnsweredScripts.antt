@@ -22,7 +22,7 @@ use Rattle.session_core.proofs.ReplyTexts.{replies-have, broken_begins_more}
 use Rattle.session_core.specs.Services.{Shown, moves_of, IsSound}
 use Rattle.session_core.specs.declared.serving.TheConstants.{READ_LIMIT}
 use Rattle.session_core.specs.Serving.{FailsBehind, FailsAtOnce}
-use Rattle.session_core.proofs.Exact.{makes_over, breaks_over, parted}
+use Rattle.session_core.proofs.WrittenReplies.{makes_over, breaks_over, parted}
 use Rattle.device_files.specs.declared.status.Status.{Status}
 use Rattle.device_files.specs.Output.{Output, FulfilsOutput}
 use Rattle.diag_cli.specs.Behaviours.{ready_line, answers_of}

@@ -16,7 +16,7 @@ use Rattle.device_files.proofs.FailedWrites.{gives_part}
 use Rattle.diag_cli.specs.declared.serving.TheConstants.{SCRIPT_LIMIT}
 use Rattle.diag_cli.specs.declared.words.Command.{Command}
 use Rattle.diag_cli.specs.declared.words.Command.TheVariants.{Serve, ServeFrames, Ask, Inspect, Compile}
-use Rattle.diag_cli.specs.Words.{Form, Load, Over, named_file, told_file}
+use Rattle.diag_cli.specs.Words.{Form, Load, Over, named_file, known_file}
 use Rattle.diag_cli.specs.Behaviours.{End, Ended, Failed, Cut, Behaviour, Prints, Answers, read_error, served, behaviour_by, behaviour_of}
 use Rattle.diag_cli.specs.Fulfilled.{IsIdle, EndsAs, IsAnswered, IsBroken, IsServed, WritesFirst, IsStopped, FulfilsBehaviour}
 use Rattle.diag_cli.specs.Runs.{IsDone, IsRun}
@@ -200,7 +200,7 @@ idle_by choose (Some (Over path command)) file input new_input out new_out statu
 module _ (choose : ClauseList → Option Forest) (form : Option Form) (held : List ℕ → Holding) (shelf new_shelf input new_input : Reading) (out new_out : Writing) (status : Status)
     (run : IsRun choose form held shelf new_shelf input new_input out new_out status) where
   abbrev told : Option (List ℕ)
-  told = told_file held (named_file form)
+  told = known_file held (named_file form)
 
   abbrev ByFile : Type 0
   ByFile = IsDone choose form told shelf new_shelf input new_input out new_out status

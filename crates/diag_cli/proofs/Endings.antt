@@ -29,13 +29,13 @@ use Rattle.session_core.specs.declared.limits.TheConstants.{SERVED_BITS}
 use Rattle.device_files.specs.declared.inspecting.Inspection.TheVariants.{Plan, Check}
 use Rattle.device_files.specs.declared.status.Status.{Status}
 use Rattle.device_files.specs.declared.status.Status.TheVariants.{Done, Refused, Usage, AboveBudget, NoMemory}
-use Rattle.device_files.specs.Output.{Output, says, too_long_line, result_and_then, told_or_refused}
+use Rattle.device_files.specs.Output.{Output, says, too_long_line, result_and_then, output_or_refusal}
 use Rattle.device_files.specs.Describing.{netlist_line, design_line, flatten_line, or_line, described}
 use Rattle.device_files.specs.Paths.{ends_in}
 use Rattle.device_files.specs.Choices.{Weighed, weighed_by, clauses_by}
-use Rattle.device_files.specs.Weighing.{sum_line, within, told_within}
+use Rattle.device_files.specs.Weighing.{sum_line, within, output_within}
 use Rattle.device_files.specs.Checking.{graph_fault_line, graph_in}
-use Rattle.device_files.specs.Inspecting.{planned, told_decomposable}
+use Rattle.device_files.specs.Inspecting.{planned, decomposable_output}
 use Rattle.diag_cli.specs.declared.words.TheConstants.{DEFAULT_BUDGET}
 use Rattle.diag_cli.specs.declared.words.ServeOptions.{ServeOptions}
 use Rattle.diag_cli.specs.declared.words.Command.{Command}
@@ -82,7 +82,7 @@ and_plain : {A B : Type 0} (found : Result A Output) (b : B) → Plain found →
 and_plain (Ok a) b is = tt
 and_plain (Err o) b is = is
 
-told_plain : {A : Type 0} (told : A → Output) (found : Result A Output) → Plain found → ((a : A) → is_plain true (told a).status ≡ true) → is_plain true (told_or_refused told found).status ≡ true
+told_plain : {A : Type 0} (told : A → Output) (found : Result A Output) → Plain found → ((a : A) → is_plain true (told a).status ≡ true) → is_plain true (output_or_refusal told found).status ≡ true
 told_plain told (Ok a) is each = each a
 told_plain told (Err o) is each = is
 
@@ -91,10 +91,10 @@ within_plain budget (Ok weighed) = either_plain (nat_lt budget weighed.sum) (Err
 within_plain budget (Err (TooManyClauses count)) = refl
 within_plain budget (Err Memory) = refl
 
-told_within_plain : (budget : ℕ) (clauses : Device → Result Weighed EncodeError) (told : Device → Weighed → Output) (found : Result Device Output) → Plain found
-    → ((device : Device) (weighed : Weighed) → is_plain true (told device weighed).status ≡ true) → is_plain true (told_within budget clauses told found).status ≡ true
-told_within_plain budget clauses told (Ok device) is each = told_plain (told device) (within budget (clauses device)) (within_plain budget (clauses device)) (each device)
-told_within_plain budget clauses told (Err output) is each = is
+output_within_plain : (budget : ℕ) (clauses : Device → Result Weighed EncodeError) (told : Device → Weighed → Output) (found : Result Device Output) → Plain found
+    → ((device : Device) (weighed : Weighed) → is_plain true (told device weighed).status ≡ true) → is_plain true (output_within budget clauses told found).status ≡ true
+output_within_plain budget clauses told (Ok device) is each = told_plain (told device) (within budget (clauses device)) (within_plain budget (clauses device)) (each device)
+output_within_plain budget clauses told (Err output) is each = is
 
 if_few_plain : (bits : ℕ) (other : Result Weighed Output) → Plain other → Plain (if_few bits other)
 if_few_plain bits other is = either_plain (nat_lt SERVED_BITS bits) (Err (says (bits_line bits) Refused)) other refl is
@@ -149,9 +149,9 @@ command_plain choose path (ServeFrames frames options) file =
     served_plain (served_frames frames options) options.sessions (if_unrolled frames options weigh (sequential_in file))
     (if_unrolled_plain frames options weigh (sequential_in file) (line_plain netlist_line (sequential_netlist file)))
 command_plain choose path (Ask health sessions) file = served_plain system_of sessions (asked health (graph_in file)) (asked_plain health (graph_in file) (line_plain graph_fault_line (read_graph file)))
-command_plain choose path (Inspect (Plan narrow)) file = told_within_plain BUDGET_LIMIT (clauses_by narrow choose) planned (described path file) (described_plain path file) (λ device weighed. refl)
-command_plain choose path (Inspect Check) file = told_plain told_decomposable (graph_in file) (line_plain graph_fault_line (read_graph file)) (λ graph. refl)
-command_plain choose path (Compile budget narrow) file = told_within_plain budget (clauses_by narrow choose) graph_by (described path file) (described_plain path file) (λ device weighed. refl)
+command_plain choose path (Inspect (Plan narrow)) file = output_within_plain BUDGET_LIMIT (clauses_by narrow choose) planned (described path file) (described_plain path file) (λ device weighed. refl)
+command_plain choose path (Inspect Check) file = told_plain decomposable_output (graph_in file) (line_plain graph_fault_line (read_graph file)) (λ graph. refl)
+command_plain choose path (Compile budget narrow) file = output_within_plain budget (clauses_by narrow choose) graph_by (described path file) (described_plain path file) (λ device weighed. refl)
 
 either_behaviour : (test : Bool) (one other : Behaviour) → IsPlainBehaviour true one → IsPlainBehaviour true other → IsPlainBehaviour true (if test then one else other)
 either_behaviour true one other is are = is
@@ -159,7 +159,7 @@ either_behaviour false one other is are = are
 
 form_plain : (choose : ClauseList → Option Forest) (form : Form) (file : List ℕ) → IsPlainBehaviour true (behaviour_of choose (Some form) file)
 form_plain choose (Load places) file =
-    told_within_plain DEFAULT_BUDGET (clauses_by false (λ list. None)) (summary_by places) (or_line netlist_line (netlist (adder_text places))) (line_plain netlist_line (netlist (adder_text places))) (λ device weighed. refl)
+    output_within_plain DEFAULT_BUDGET (clauses_by false (λ list. None)) (summary_by places) (or_line netlist_line (netlist (adder_text places))) (line_plain netlist_line (netlist (adder_text places))) (λ device weighed. refl)
 form_plain choose (Over path command) file =
     either_behaviour (nat_le (length file) TEXT_LIMIT) (behaviour_by choose path command file) (Prints (says (too_long_line (codes "file") TEXT_LIMIT) Refused)) (command_plain choose path command file) refl
 

@@ -14,7 +14,7 @@ use Rattle.device_files.specs.declared.status.Status.TheVariants.{Refused}
 use Rattle.device_files.specs.declared.refusal.Refusal.{Refusal}
 use Rattle.device_files.specs.Choices.{Weighed}
 use Rattle.device_files.specs.Output.{Output, says}
-use Rattle.device_files.specs.Refusals.{told_by}
+use Rattle.device_files.specs.Refusals.{refusal_output}
 use Rattle.diag_cli.specs.Besides.{if_few, in_few_bits}
 use Rattle.diag_cli.specs.inner.Bits.{levels_bits, least_bits, bits_line}
 use Rattle.diag_cli.specs.inner.Compiling.{IsGraphBy}
@@ -91,6 +91,6 @@ fault_through f kept (Some output) expected is = ap f is ∙ kept output
 
 -- and so does all that was found, through what shows something else in its place.
 pub fulfils_through : {A X Y : Type 0} (f : Result X Output → Result Y Output) (x : X) (y : Y) → f (Ok x) ≡ Ok y → ((output : Output) → f (Err output) ≡ Err output)
-    → (expected : Result X Output) (result : Result A Refusal) → Fulfils (λ (_ : A). x) told_by expected result → Fulfils (λ (_ : A). y) told_by (f expected) result
+    → (expected : Result X Output) (result : Result A Refusal) → Fulfils (λ (_ : A). x) refusal_output expected result → Fulfils (λ (_ : A). y) refusal_output (f expected) result
 fulfils_through f x y shows kept expected (Ok found) is = ap f is ∙ shows
-fulfils_through f x y shows kept expected (Err refusal) is = fault_through f kept (told_by refusal) expected is
+fulfils_through f x y shows kept expected (Err refusal) is = fault_through f kept (refusal_output refusal) expected is

@@ -13,7 +13,7 @@ use Rattle.dnnf_compiler.specs.Compiled.{IsCompiled}
 use Rattle.dnnf_compiler.specs.Along.{IsCompiledAlong}
 use Rattle.device_files.specs.declared.refusal.Refusal.{Refusal}
 use Rattle.device_files.specs.Choices.{Weighed, HasSum}
-use Rattle.device_files.specs.Refusals.{told_by}
+use Rattle.device_files.specs.Refusals.{refusal_output}
 use Rattle.device_files.specs.Weighing.{within}
 use Rattle.device_files.proofs.ForestChoices.{kept_within}
 use Rattle.diag_cli.specs.inner.Compiling.{IsGraphBy}
@@ -49,6 +49,6 @@ is_found list forest found e some =
 
 -- what is within the budget is found, and what is not is refused
 pub fulfils_within : {A : Type 0} (weighed : Weighed) (budget : ℕ) (result : Result A Refusal) → IfOk result (λ (_ : A). weighed.sum ≤ budget)
-    → IfErr result (λ refusal. IsExpectedFault (told_by refusal) (within budget (Ok weighed))) → Fulfils (λ (_ : A). weighed) told_by (within budget (Ok weighed)) result
+    → IfErr result (λ refusal. IsExpectedFault (refusal_output refusal) (within budget (Ok weighed))) → Fulfils (λ (_ : A). weighed) refusal_output (within budget (Ok weighed)) result
 fulfils_within weighed budget (Ok found) few fault = kept_within budget weighed few
 fulfils_within weighed budget (Err refusal) few fault = fault

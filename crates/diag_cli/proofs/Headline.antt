@@ -3,7 +3,7 @@ use Rattle.std.proofs.Common.{◌≡◌, ◌≢◌, ◌⊎◌, ◌<◌, ◌≤�
 use Rattle.std.specs.Option.{IsSome}
 use Rattle.std.proofs.lemmas.List.{length-replicate}
 use Rattle.text_rules.specs.declared.text_lines.TheConstants.{TEXT_LIMIT}
-use Rattle.diag_edge.specs.Edge.{Reading, Writing, RoseExactly, Holding, absent, told_bytes}
+use Rattle.diag_edge.specs.Edge.{Reading, Writing, RoseExactly, Holding, absent, known_bytes}
 use Rattle.diag_edge.specs.declared.loading.LoadError.{LoadError}
 use Rattle.diag_edge.specs.declared.loading.LoadError.TheVariants.{Failed as LoadFailed, Long, Memory}
 use Rattle.clause_encoder.specs.Clauses.{ClauseList}
@@ -14,7 +14,7 @@ use Rattle.device_files.specs.declared.status.Status.TheVariants.{Refused, Usage
 use Rattle.device_files.specs.Output.{Output, FulfilsOutput, says, no_memory, too_long_line, FulfilsOutputUnlessMemory}
 use Rattle.device_files.specs.Refusals.{or_memory}
 use Rattle.diag_cli.specs.declared.words.Command.{Command}
-use Rattle.diag_cli.specs.Words.{Form, Load, Over, named_file, told_file}
+use Rattle.diag_cli.specs.Words.{Form, Load, Over, named_file, known_file}
 use Rattle.diag_cli.specs.Behaviours.{Behaviour, Prints, Answers, not_loaded, behaviour_by, behaviour_of}
 use Rattle.diag_cli.specs.Loads.{loaded}
 use Rattle.diag_cli.specs.Runs.{IsDone, IsRun}
@@ -70,11 +70,11 @@ module _ (choose : ClauseList → Option Forest) (held : List ℕ → Holding) (
   unnamed : (form : Option Form) → IsDone choose form (Some []) shelf shelf input input out new_out status ⊎ (IsSome form × FulfilsBehaviour (Prints no_memory) input input out new_out status) → named_file form ≡ None
       → IsRun choose form held shelf shelf input input out new_out status
   unnamed form done none = record {
-    done = inl (refl, subst (λ name. IsDone choose form (told_file held name) shelf shelf input input out new_out status ⊎ (IsSome form × FulfilsBehaviour (Prints no_memory) input input out new_out status)) (sym none) done);
+    done = inl (refl, subst (λ name. IsDone choose form (known_file held name) shelf shelf input input out new_out status ⊎ (IsSome form × FulfilsBehaviour (Prints no_memory) input input out new_out status)) (sym none) done);
     write_fault = writes;
     no_name = λ _. idle shelf;
     absent_file = subst (λ name. IfSome name (λ n. held n ≡ absent → shelf.faults < shelf.faults)) (sym none) tt;
-    file_once = subst (λ name. IfSome (told_file held name) (λ file. shelf.taken ≤ shelf.taken + length file)) (sym none) (omega arith);
+    file_once = subst (λ name. IfSome (known_file held name) (λ file. shelf.taken ≤ shelf.taken + length file)) (sym none) (omega arith);
     file_taken = omega arith;
   }
 
@@ -90,7 +90,7 @@ module _ (choose : ClauseList → Option Forest) (held : List ℕ → Holding) (
   module _ (path : List ℕ) (command : Command) where
     module _ (new_input : Reading) where
       -- The file was read.
-      pub run_loaded : (file : List ℕ) → IfSome (told_bytes (held path)) (λ bytes. file ≡ bytes) → held path ≢ absent → new_shelf.faults ≡ shelf.faults
+      pub run_loaded : (file : List ℕ) → IfSome (known_bytes (held path)) (λ bytes. file ≡ bytes) → held path ≢ absent → new_shelf.faults ≡ shelf.faults
           → new_shelf.taken ≡ shelf.taken + length file → length file ≤ TEXT_LIMIT
           → FulfilsBehaviourUnlessMemory (behaviour_by choose path command file) input new_input out new_out status
           → IsRun choose (Some (Over path command)) held shelf new_shelf input new_input out new_out status
@@ -99,20 +99,20 @@ module _ (choose : ClauseList → Option Forest) (held : List ℕ → Holding) (
         write_fault = writes;
         no_name = λ none. absurd (let never : ⊥ = cc in never);
         absent_file = λ gone. absurd (there gone);
-        file_once = some_map (told_bytes (held path)) (λ bytes same. omega (arith, taken, ap length same)) is;
+        file_once = some_map (known_bytes (held path)) (λ bytes same. omega (arith, taken, ap length same)) is;
         file_taken = omega (arith, taken, small);
       }
         where
           by : FulfilsBehaviourUnlessMemory (behaviour_by choose path command file) input new_input out new_out status
-              → IsDone choose (Some (Over path command)) (told_bytes (held path)) shelf new_shelf input new_input out new_out status
+              → IsDone choose (Some (Over path command)) (known_bytes (held path)) shelf new_shelf input new_input out new_out status
               ⊎ (IsSome (Some (Over path command)) × FulfilsBehaviour (Prints no_memory) input new_input out new_out status)
           by (inl said) = inr (refl, said)
           by (inr done) = inl (record { file = file; is_told = is; taken = omega (arith, taken, small); follows = subst (λ c. FulfilsBehaviour c input new_input out new_out status) (sym (short_behaviour choose path command file small)) done })
 
     -- The file was not read.
-    module _ (bounded : new_shelf.taken ≤ shelf.taken + TEXT_LIMIT + 1) (once : IfSome (told_bytes (held path)) (λ file. new_shelf.taken ≤ shelf.taken + length file)) where
+    module _ (bounded : new_shelf.taken ≤ shelf.taken + TEXT_LIMIT + 1) (once : IfSome (known_bytes (held path)) (λ file. new_shelf.taken ≤ shelf.taken + length file)) where
       abbrev DoneOrShort : Type 0
-      DoneOrShort = IsDone choose (Some (Over path command)) (told_bytes (held path)) shelf new_shelf input input out new_out status
+      DoneOrShort = IsDone choose (Some (Over path command)) (known_bytes (held path)) shelf new_shelf input input out new_out status
           ⊎ (IsSome (Some (Over path command)) × FulfilsBehaviour (Prints no_memory) input input out new_out status)
 
       -- It could be.
@@ -127,7 +127,7 @@ module _ (choose : ClauseList → Option Forest) (held : List ℕ → Holding) (
       }
 
       -- a file that is too long, which is the one that is shown, if one is
-      long_done : (file : List ℕ) → IfSome (told_bytes (held path)) (λ bytes. file ≡ bytes) → TEXT_LIMIT < length file → new_shelf.taken ≡ shelf.taken + TEXT_LIMIT + 1
+      long_done : (file : List ℕ) → IfSome (known_bytes (held path)) (λ bytes. file ≡ bytes) → TEXT_LIMIT < length file → new_shelf.taken ≡ shelf.taken + TEXT_LIMIT + 1
           → FulfilsOutput (says long_file_line Refused) status out.got new_out.got → DoneOrShort
       long_done file is long taken said = inl (record {
         file = file;
@@ -147,5 +147,5 @@ module _ (choose : ClauseList → Option Forest) (held : List ℕ → Holding) (
         file_once = once;
         file_taken = bounded;
       }
-      run_unread (Long limit) is taken said = let some = long_file TEXT_LIMIT (told_bytes (held path)) is.0 in there is.1 is.2 (long_done some.0 some.1 some.2 (taken limit refl) said)
+      run_unread (Long limit) is taken said = let some = long_file TEXT_LIMIT (known_bytes (held path)) is.0 in there is.1 is.2 (long_done some.0 some.1 some.2 (taken limit refl) said)
       run_unread Memory is taken said = there is.0 is.1 (inr (refl, (idle input, said)))

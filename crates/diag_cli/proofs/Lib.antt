@@ -4,7 +4,7 @@ pub mod WordLemmas
 pub mod GraphsBy
 pub mod FewBits
 pub mod AnsweredScripts
-pub mod Shown
+pub mod ShownEnds
 pub mod ServedDevices
 pub mod Services
 pub mod ServedFrames

@@ -23,7 +23,7 @@ use Rattle.adder_load.specs.declared.sampling.Found.{Found}
 use Rattle.adder_load.specs.Readings.{adder_case}
 use Rattle.adder_load.proofs.Cases.{case_seen, case_held}
 use Rattle.device_files.specs.declared.status.Status.{Status}
-use Rattle.device_files.specs.Output.{Output, FulfilsOutput, FulfilsOutputUnlessMemory, told_or_refused}
+use Rattle.device_files.specs.Output.{Output, FulfilsOutput, FulfilsOutputUnlessMemory, output_or_refusal}
 use Rattle.device_files.specs.Inspecting.{count_line}
 use Rattle.device_files.specs.Refusals.{or_memory}
 use Rattle.diag_cli.specs.declared.loading.TheConstants.{LISTED_LIMIT}
@@ -90,9 +90,9 @@ have_found parts (Some f) first last = ((_, refl), ((_, refl), ((_, refl), ((_, 
 -- ---- what is printed of a device, or of none
 
 -- what refuses a device is printed of it
-pub refusal_told : {A : Type 0} (told : A → Output) (fault : Option Output) (found : Result A Output) → IsExpectedFault fault found → IfSome fault (λ said. told_or_refused told found ≡ said)
+pub refusal_told : {A : Type 0} (told : A → Output) (fault : Option Output) (found : Result A Output) → IsExpectedFault fault found → IfSome fault (λ said. output_or_refusal told found ≡ said)
 refusal_told told None found is = tt
-refusal_told told (Some output) found is = ap (told_or_refused told) is
+refusal_told told (Some output) found is = ap (output_or_refusal told) is
 
 -- a refusal of an output that is printed
 pub gives_told : (fault : Option Output) (output : Output) (status : Status) (a b : Option (List ℕ)) → IfSome fault (λ said. output ≡ said) → FulfilsOutput (or_memory fault) status a b → FulfilsOutputUnlessMemory output status a b

@@ -11,14 +11,14 @@ use Rattle.clause_encoder.specs.Clauses.{ClauseList}
 use Rattle.clause_encoder.specs.Encoding.{most_variables, encoded, Describes}
 use Rattle.clause_encoder.proofs.Sizes.{encoded-few_vars}
 use Rattle.branch_states.specs.declared.measuring.TheConstants.{BUDGET_LIMIT}
-use Rattle.dnnf_compiler.proofs.Laws.{graph_of_device}
+use Rattle.dnnf_compiler.proofs.CompiledMeaning.{graph_of_device}
 use Rattle.session_rules.specs.Spelling.{IsGraphOf}
 use Rattle.session_rules.specs.GraphSystems.{compiled_system, system_of}
 use Rattle.session_rules.proofs.GraphReplies.{graph_replies}
 use Rattle.session_rules.proofs.KeptCases.{HasCases-empty}
 use Rattle.session_core.specs.Services.{Shown}
 use Rattle.device_files.specs.declared.refusal.Refusal.{Refusal}
-use Rattle.device_files.specs.Refusals.{told_by}
+use Rattle.device_files.specs.Refusals.{refusal_output}
 use Rattle.device_files.specs.Choices.{IsListOf}
 use Rattle.device_files.specs.Weighing.{within}
 use Rattle.diag_cli.specs.declared.words.ServeOptions.{ServeOptions}
@@ -47,7 +47,7 @@ all_servable device list of valid budget sum small (Err refusal) few by = tt
 
 -- what a call answers that compiles it, if its clauses have this sum
 pub found_or_refused : (device : Device) (list : ClauseList) → IsListOf device list → IsDevice device → (budget sum : ℕ) → budget ≤ BUDGET_LIMIT → (result : Result Graph Refusal)
-    → Fulfils (λ (_ : Graph). record { list = list; sum = sum }) told_by (within budget (Ok (record { list = list; sum = sum }))) result → IfOk result (λ (_ : Graph). sum ≤ budget)
+    → Fulfils (λ (_ : Graph). record { list = list; sum = sum }) refusal_output (within budget (Ok (record { list = list; sum = sum }))) result → IfOk result (λ (_ : Graph). sum ≤ budget)
     → IfOk result (IsGraphBy (record { list = list; sum = sum })) → FulfilsGraph device (within budget (Ok (record { list = list; sum = sum }))) result
 found_or_refused device list of valid budget sum small (Ok graph) is few by =
     (servable device list of.encoded graph sum valid of.describes (omega (arith, few, small)) by, (record { list = list; sum = sum }, is, by))

@@ -19,7 +19,7 @@ use Rattle.frame_unroller.specs.Unrolling.{unrolled, reason, IsUnrolled}
 use Rattle.frame_unroller.proofs.UnrollRefusals.{unrolled-names}
 use Rattle.frame_unroller.specs.Diagnosis.{frame_wires, fits_over, frame_system}
 use Rattle.tree_finder.specs.declared.narrowing.Narrowed.{Narrowed}
-use Rattle.dnnf_compiler.proofs.Laws.{graph_over}
+use Rattle.dnnf_compiler.proofs.CompiledMeaning.{graph_over}
 use Rattle.session_rules.specs.GraphSystems.{system_of}
 use Rattle.session_rules.proofs.GraphReplies.{fitting_replies}
 use Rattle.session_rules.proofs.KeptCases.{HasCases-empty}
@@ -33,16 +33,16 @@ use Rattle.diag_cli.specs.Besides.{in_few_bits}
 use Rattle.diag_cli.specs.Behaviours.{ready_line, answers_of, served_frames}
 use Rattle.diag_cli.specs.Frames.{unrolled_within, if_unrolled}
 use Rattle.diag_cli.specs.inner.Compiling.{IsGraphBy}
-use Rattle.diag_cli.specs.inner.Serving.{Answers, frames_told}
+use Rattle.diag_cli.specs.inner.Serving.{Answers, frames_refusal}
 
 -- ---- a netlist that is not unrolled, or not served
 
 module _ (seq : Sequential) (frames : ℕ) (options : ServeOptions) where
-  pub not_unrolled_told : (weigh : ClauseList → Weighed) (error : UnrollError) (told : Option Output) → told ≡ frames_told error → IsExpectedFault (reason error) (unrolled seq frames)
+  pub not_unrolled_told : (weigh : ClauseList → Weighed) (error : UnrollError) (told : Option Output) → told ≡ frames_refusal error → IsExpectedFault (reason error) (unrolled seq frames)
       → IsExpectedFault told (if_unrolled frames options weigh (Ok seq))
   not_unrolled_told weigh error told is h = subst (λ o. IsExpectedFault o (if_unrolled frames options weigh (Ok seq))) (sym is) (by error h)
     where
-      by : (e : UnrollError) → IsExpectedFault (reason e) (unrolled seq frames) → IsExpectedFault (frames_told e) (if_unrolled frames options weigh (Ok seq))
+      by : (e : UnrollError) → IsExpectedFault (reason e) (unrolled seq frames) → IsExpectedFault (frames_refusal e) (if_unrolled frames options weigh (Ok seq))
       by (TooManyParts count) h = ap (λ r. result_and (in_few_bits options.extras (length seq.device.parts) (unrolled_within options.budget weigh r)) (Ok seq)) h
       by (TooManyWires count) h = ap (λ r. result_and (in_few_bits options.extras (length seq.device.parts) (unrolled_within options.budget weigh r)) (Ok seq)) h
       by (TooManyClauses count) h = ap (λ r. result_and (in_few_bits options.extras (length seq.device.parts) (unrolled_within options.budget weigh r)) (Ok seq)) h

@@ -2,14 +2,14 @@
 use Rattle.std.proofs.Common.{◌≡◌, ◌≢◌, ◌<◌, ◌-◌, ◌^◌, ℕ, length, IfSome, ap, arith, refl}
 use Rattle.std.specs.Prelude.{Err, IsErrOf}
 use Rattle.text_rules.specs.declared.text_lines.TheConstants.{TEXT_LIMIT}
-use Rattle.diag_edge.specs.Edge.{Holding, absent, told_bytes, RisesAt}
+use Rattle.diag_edge.specs.Edge.{Holding, absent, known_bytes, RisesAt}
 use Rattle.diag_edge.specs.declared.loading.LoadError.{LoadError}
 use Rattle.diag_edge.specs.declared.loading.LoadError.TheVariants.{Failed, Long, Memory}
 
 -- A read failed; or the file is there, and is too long or there was no memory.
 abbrev pub IsUnread : LoadError → Holding → ℕ → ℕ → Type 0
 IsUnread Failed held reads new_reads = reads < new_reads
-IsUnread (Long limit) held reads new_reads = IfSome (told_bytes held) (λ file. TEXT_LIMIT < length file) × (held ≢ absent) × (new_reads ≡ reads)
+IsUnread (Long limit) held reads new_reads = IfSome (known_bytes held) (λ file. TEXT_LIMIT < length file) × (held ≢ absent) × (new_reads ≡ reads)
 IsUnread Memory held reads new_reads = (held ≢ absent) × (new_reads ≡ reads)
 
 long_did_not_fail : {T : Type 0} (limit : ℕ) → IsErrOf {T = T} (Err (Long limit)) Failed → ⊥
@@ -20,7 +20,7 @@ memory_did_not_fail is = let never : ⊥ = cc in never
 
 pub unread : {T : Type 0} (error : LoadError) (held : Holding) (reads new_reads : ℕ) → reads < 2 ^ 64 - 1 → RisesAt {T = T} Failed reads new_reads (Err error)
     → (held ≡ absent → IsErrOf {T = T} (Err error) Failed) → ((other : ℕ) → IsErrOf {T = T} (Err error) (Long other) → other ≡ TEXT_LIMIT)
-    → (IsErrOf {T = T} (Err error) (Long TEXT_LIMIT) → IfSome (told_bytes held) (λ file. TEXT_LIMIT < length file)) → IsUnread error held reads new_reads
+    → (IsErrOf {T = T} (Err error) (Long TEXT_LIMIT) → IfSome (known_bytes held) (λ file. TEXT_LIMIT < length file)) → IsUnread error held reads new_reads
 unread Failed held reads new_reads few failed gone that long = omega (arith, few, failed.rose refl)
 unread (Long limit) held reads new_reads few failed gone that long =
     (long (ap Err (ap Long (that limit refl))), (λ is. long_did_not_fail limit (gone is)), failed.stayed (long_did_not_fail limit))

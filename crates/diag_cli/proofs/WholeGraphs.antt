@@ -17,7 +17,7 @@ use Rattle.device_files.specs.declared.status.Status.TheVariants.{Done, WriteFai
 use Rattle.device_files.specs.Output.{Output, FulfilsOutputUnlessMemory}
 use Rattle.device_files.specs.Describing.{described}
 use Rattle.device_files.specs.Choices.{Weighed}
-use Rattle.device_files.specs.Weighing.{within, told_within}
+use Rattle.device_files.specs.Weighing.{within, output_within}
 use Rattle.device_files.proofs.FailedWrites.{replies_give}
 use Rattle.device_files.proofs.KeptRefusals.{within_told}
 use Rattle.diag_cli.specs.Behaviours.{graph_by}
@@ -39,7 +39,7 @@ module _ (path file : List ℕ) (budget : ℕ) (clauses : Device → Result Weig
       → IsServable device graph → graph.vars ≡ weighed.list.vars → length graph.nodes ≤ most
       → is_neat (graph_text (record graph { vars = vars })) ≡ true → parsed (graph_text (record graph { vars = vars })) ≡ Ok (record graph { vars = vars })
       → Puts a b result (graph_text (record graph { vars = vars })) → MatchResult result (λ _. status ≡ Done) (λ _. status ≡ WriteFailed)
-      → FulfilsOutputUnlessMemory (told_within budget clauses graph_by (described path file)) status a b
+      → FulfilsOutputUnlessMemory (output_within budget clauses graph_by (described path file)) status a b
   graph_gives result vars same is list servable of_cnf few_nodes neat reads puts ends =
       within_told budget clauses graph_by (described path file) device weighed status a b is list
       (replies_give output status a b result (λ five. let never : ⊥ = cc in never) (replies_one a b result (Whole device weighed.list.vars most) _ ((neat, (record graph { vars = vars }, refl)), spelled) puts) ends)

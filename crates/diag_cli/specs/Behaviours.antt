@@ -22,7 +22,7 @@ use Rattle.device_files.specs.declared.status.Status.TheVariants.{Done, Refused,
 use Rattle.device_files.specs.Output.{Output, says, too_long_line, no_memory, result_and_then}
 use Rattle.device_files.specs.Describing.{described}
 use Rattle.device_files.specs.Choices.{Weighed, weighed_by, clauses_by}
-use Rattle.device_files.specs.Weighing.{within, told_within}
+use Rattle.device_files.specs.Weighing.{within, output_within}
 use Rattle.device_files.specs.Inspecting.{inspected}
 use Rattle.device_files.specs.Checking.{graph_in}
 use Rattle.diag_cli.specs.declared.serving.TheConstants.{SCRIPT_LIMIT}
@@ -105,7 +105,7 @@ behaviour_by choose path (ServeFrames frames options) file =
     served_or_refused (served_frames frames options) options.sessions (if_unrolled frames options (weighed_by options.narrow choose) (sequential_in file))
 behaviour_by choose path (Ask health sessions) file = served_or_refused system_of sessions (asked health (graph_in file))
 behaviour_by choose path (Inspect inspection) file = Prints (inspected choose path inspection file)
-behaviour_by choose path (Compile budget narrow) file = Prints (told_within budget (clauses_by narrow choose) graph_by (described path file))
+behaviour_by choose path (Compile budget narrow) file = Prints (output_within budget (clauses_by narrow choose) graph_by (described path file))
 
 -- what a run does, by its form; a file above the limit is refused before all else
 abbrev pub behaviour_of : (ClauseList → Option Forest) → Option Form → List ℕ → Behaviour

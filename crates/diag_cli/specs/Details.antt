@@ -10,7 +10,7 @@ use Rattle.session_rules.specs.Items.{Item}
 use Rattle.session_rules.specs.Spelling.{Writes}
 use Rattle.diag_cli.specs.declared.serving.TheConstants.{SCRIPT_LIMIT}
 use Rattle.diag_cli.specs.declared.words.Command.TheVariants.{Serve, ServeFrames, Ask}
-use Rattle.diag_cli.specs.Words.{Form, Over, named_file, told_file}
+use Rattle.diag_cli.specs.Words.{Form, Over, named_file, known_file}
 use Rattle.device_files.specs.declared.status.Status.{Status}
 use Rattle.device_files.specs.declared.status.Status.TheVariants.{Done, Usage, ReadFailed, WriteFailed, NoMemory, CutShort}
 use Rattle.device_files.specs.Output.{Output, FulfilsOutput, no_memory, says}
@@ -53,29 +53,29 @@ pub record HasDetails (choose : ClauseList → Option Forest) (form : Option For
   pub no_file : shelf.faults < new_shelf.faults → IsIdle input new_input × FulfilsOutput (says read_error ReadFailed) status out.got new_out.got
   -- If the words ask for no script, none is read; nor is one if the file is refused.
   pub not_asked : asks_script form ≡ false → IsIdle input new_input
-  pub no_script : IfSome (told_file held (named_file form)) (λ file. (output : Output) → behaviour_of choose form file ≡ Prints output → IsIdle input new_input)
+  pub no_script : IfSome (known_file held (named_file form)) (λ file. (output : Output) → behaviour_of choose form file ≡ Prints output → IsIdle input new_input)
   -- If no read failed, what is written is the output for the words, the file and the script, or memory ran out for words
   -- with a form.
-  pub output : IfSome (told_file held (named_file form)) (λ file. IfSome (whole_output (behaviour_of choose form file) input.left) (λ output.
+  pub output : IfSome (known_file held (named_file form)) (λ file. IfSome (whole_output (behaviour_of choose form file) input.left) (λ output.
       new_shelf.faults ≡ shelf.faults → new_input.faults ≡ input.faults → FulfilsOutputUnlessShort form output status out.got new_out.got))
   -- If that output has status `Done` and no write failed either, that is the status and all of it was written; or it is
   -- `NoMemory`, with the one line of lack of memory.
-  pub complete : IfSome (told_file held (named_file form)) (λ file. IfSome (whole_output (behaviour_of choose form file) input.left) (λ output.
+  pub complete : IfSome (known_file held (named_file form)) (λ file. IfSome (whole_output (behaviour_of choose form file) input.left) (λ output.
       output.status ≡ Done → new_shelf.faults ≡ shelf.faults → new_input.faults ≡ input.faults → new_out.faults ≡ out.faults →
       ((status ≡ Done) × Writes out.got new_out.got output.items) ⊎ ((status ≡ NoMemory) × Writes out.got new_out.got no_memory.items)))
   -- If a read of the script failed, the lines that a line feed had ended were answered before.
-  pub script_fault : IfSome (told_file held (named_file form)) (λ file. (answers : List (List ℕ) → List Item) → behaviour_of choose form file ≡ Answers answers →
+  pub script_fault : IfSome (known_file held (named_file form)) (λ file. (answers : List (List ℕ) → List Item) → behaviour_of choose form file ≡ Answers answers →
       input.faults < new_input.faults →
       (bytes : List ℕ) × (new_input.taken ≡ input.taken + length bytes) × Consumes input.left new_input.left bytes
       × WritesFirst out.got new_out.got (answers (whole_lines bytes)) × FulfilsOutput (served answers bytes Failed) status out.got new_out.got)
   -- If a write failed, of the bytes of the script that were taken all but those of one read had been answered.
-  pub stopped : IfSome (told_file held (named_file form)) (λ file. (answers : List (List ℕ) → List Item) → behaviour_of choose form file ≡ Answers answers →
+  pub stopped : IfSome (known_file held (named_file form)) (λ file. (answers : List (List ℕ) → List Item) → behaviour_of choose form file ≡ Answers answers →
       status ≡ WriteFailed → input.taken < new_input.taken →
       (bytes : List ℕ) × (new_input.taken ≡ input.taken + length bytes) × Consumes input.left new_input.left bytes × IsStopped answers bytes out.got new_out.got)
   -- If memory ran out, the script was not begun.
   pub memory : status ≡ NoMemory → IsIdle input new_input
   -- With status `Done` a script that is answered was read to its end.
-  pub all_read : IfSome (told_file held (named_file form)) (λ file. (answers : List (List ℕ) → List Item) → behaviour_of choose form file ≡ Answers answers → status ≡ Done → IsAtEnd new_input.left)
+  pub all_read : IfSome (known_file held (named_file form)) (λ file. (answers : List (List ℕ) → List Item) → behaviour_of choose form file ≡ Answers answers → status ≡ Done → IsAtEnd new_input.left)
   -- At most the limit is taken of the script.
   pub script_taken : new_input.taken ≤ input.taken + SCRIPT_LIMIT
   -- With status `CutShort` exactly the limit was taken of the script. With any other status less was taken, unless a write failed.

@@ -14,7 +14,7 @@ use Rattle.device_files.specs.declared.status.Status.TheVariants.{Done}
 use Rattle.device_files.specs.Output.{Output}
 use Rattle.device_files.specs.Describing.{or_line, netlist_line}
 use Rattle.device_files.specs.Choices.{Weighed, clauses_by}
-use Rattle.device_files.specs.Weighing.{told_within}
+use Rattle.device_files.specs.Weighing.{output_within}
 use Rattle.device_files.specs.Inspecting.{count_line}
 use Rattle.diag_cli.specs.declared.words.TheConstants.{DEFAULT_BUDGET}
 use Rattle.diag_cli.specs.declared.loading.TheConstants.{LISTED_LIMIT}
@@ -42,7 +42,7 @@ summary_by places device weighed = record { items = summary_lines (device_system
 
 -- if their sum, by the order of their names, is within the budget
 abbrev pub summary_of : ℕ → Result Device Output → Output
-summary_of places found = told_within DEFAULT_BUDGET (clauses_by false (λ list. None)) (summary_by places) found
+summary_of places found = output_within DEFAULT_BUDGET (clauses_by false (λ list. None)) (summary_by places) found
 
 -- the adder of so many places, and what was seen of it
 abbrev pub loaded : ℕ → Output

@@ -5,7 +5,7 @@ use Rattle.text_rules.specs.declared.text_lines.TheConstants.{TEXT_LIMIT}
 use Rattle.diag_edge.specs.Edge.{RoseExactly, Holding, absent, Reading, Writing}
 use Rattle.clause_encoder.specs.Clauses.{ClauseList}
 use Rattle.elimination_forests.specs.Forests.{Forest}
-use Rattle.diag_cli.specs.Words.{Form, named_file, told_file}
+use Rattle.diag_cli.specs.Words.{Form, named_file, known_file}
 use Rattle.device_files.specs.declared.status.Status.{Status}
 use Rattle.device_files.specs.declared.status.Status.TheVariants.{ReadFailed, WriteFailed}
 use Rattle.device_files.specs.Output.{no_memory, says}
@@ -24,7 +24,7 @@ pub record IsDone (choose : ClauseList → Option Forest) (form : Option Form) (
 pub record IsRun (choose : ClauseList → Option Forest) (form : Option Form) (held : List ℕ → Holding) (shelf new_shelf input new_input : Reading) (out new_out : Writing) (status : Status) : Type 0 where
   -- The file's bytes decided all that was done; or memory ran out before the script was begun, which happens only to words with a form;
   -- or a read of the file failed, and the output says so.
-  pub done : ((new_shelf.faults ≡ shelf.faults) × (IsDone choose form (told_file held (named_file form)) shelf new_shelf input new_input out new_out status
+  pub done : ((new_shelf.faults ≡ shelf.faults) × (IsDone choose form (known_file held (named_file form)) shelf new_shelf input new_input out new_out status
       ⊎ (IsSome form × FulfilsBehaviour (Prints no_memory) input new_input out new_out status)))
       ⊎ ((shelf.faults < new_shelf.faults) × FulfilsBehaviour (Prints (says read_error ReadFailed)) input new_input out new_out status)
   -- The status is `WriteFailed` exactly if a write failed.
@@ -33,5 +33,5 @@ pub record IsRun (choose : ClauseList → Option Forest) (form : Option Form) (h
   pub no_name : named_file form ≡ None → IsIdle shelf new_shelf
   pub absent_file : IfSome (named_file form) (λ name. held name ≡ absent → shelf.faults < new_shelf.faults)
   -- From the shelf no more bytes are taken than the file has, and at most one more than the limit of a file.
-  pub file_once : IfSome (told_file held (named_file form)) (λ file. new_shelf.taken ≤ shelf.taken + length file)
+  pub file_once : IfSome (known_file held (named_file form)) (λ file. new_shelf.taken ≤ shelf.taken + length file)
   pub file_taken : new_shelf.taken ≤ shelf.taken + TEXT_LIMIT + 1

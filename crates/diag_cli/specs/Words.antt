@@ -8,7 +8,7 @@ use Rattle.adder_load.specs.declared.adders.TheConstants.{PLACE_LIMIT}
 use Rattle.device_model.specs.declared.limits.TheConstants.{PART_LIMIT}
 use Rattle.branch_states.specs.declared.measuring.TheConstants.{BUDGET_LIMIT}
 use Rattle.frame_unroller.specs.declared.unrolling.TheConstants.{FRAME_LIMIT}
-use Rattle.diag_edge.specs.Edge.{Holding, told_bytes}
+use Rattle.diag_edge.specs.Edge.{Holding, known_bytes}
 use Rattle.device_files.specs.Paths.{ends_in, is_device_path}
 use Rattle.device_files.specs.Inspecting.{inspection_named}
 use Rattle.diag_cli.specs.declared.words.Command.{Command}
@@ -33,8 +33,8 @@ named_file (Some (Over path command)) = Some path
 named_file form = None
 
 -- what the shelf shows of a file by its name; if none is named it is as good as empty
-abbrev pub told_file : (List ℕ → Holding) → Option (List ℕ) → Option (List ℕ)
-told_file held name = option_map_or (λ path. told_bytes (held path)) name (Some [])
+abbrev pub known_file : (List ℕ → Holding) → Option (List ℕ) → Option (List ℕ)
+known_file held name = option_map_or (λ path. known_bytes (held path)) name (Some [])
 
 -- ---- options
 

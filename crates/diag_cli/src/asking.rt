@@ -8,7 +8,7 @@ ghost use Rattle.diag_cli.specs.Asking.{asked, asking_line};
 ghost use Rattle.device_files.specs.Checking.{graph_in};
 ghost use Rattle.diag_cli.specs.Behaviours.{served_or_refused};
 ghost use Rattle.device_files.specs.Output.{says};
-ghost use Rattle.device_files.specs.Refusals.{told_by};
+ghost use Rattle.device_files.specs.Refusals.{refusal_output};
 ghost use Rattle.diag_cli.specs.inner.Serving.{Answers, IsFor};
 
 use device_files::{Refusal, Status, above, graph_in};
@@ -21,7 +21,7 @@ use text_rules::TEXT_LIMIT;
 
 // The refusal that says why the variables of a graph have no names.
 fn unnamed(error: AskError) -> Refusal
-    ensures { told_by result ≡ option_map (λ fault. says (asking_line fault) Status.Refused) (told error) }
+    ensures { refusal_output result ≡ option_map (λ fault. says (asking_line fault) Status.Refused) (told error) }
 {
     match error {
         AskError::Health { health, vars } => above("health", health, vars as usize),
@@ -36,7 +36,7 @@ fn service_over(alloc: Global, graph: Graph, health: u32, sessions: u32) -> Resu
     requires some { 1 ≤ sessions }
     requires sessions { sessions ≤ SESSION_LIMIT }
     requires few { length graph.nodes ≤ TEXT_LIMIT }
-    ensures asked { Fulfils (λ service. service.subject) told_by (asked health (Ok graph)) result }
+    ensures asked { Fulfils (λ service. service.subject) refusal_output (asked health (Ok graph)) result }
     ensures ready { IfOk result (λ service. Answers (system_of service.subject) sessions service) }
 {
     let (parts, wires) = match ask_names(alloc, health, graph.vars()) {

@@ -5,7 +5,7 @@ ghost use Rattle.state_rules.specs.Graphs.{edges};
 ghost use Rattle.device_files.specs.Choices.{ByClauses, HasSum};
 ghost use Rattle.device_files.specs.Output.{says};
 ghost use Rattle.device_files.specs.Weighing.{within};
-ghost use Rattle.device_files.specs.Refusals.{told_by};
+ghost use Rattle.device_files.specs.Refusals.{refusal_output};
 ghost use Rattle.diag_cli.specs.Besides.{in_few_bits};
 ghost use Rattle.diag_cli.specs.inner.Bits.{levels_bits, least_bits, bits_line};
 ghost use Rattle.diag_cli.specs.Behaviours.{if_within};
@@ -37,7 +37,7 @@ pub(crate) fn graph_in_few_bits(
 ) -> Result<Graph, Refusal>
     requires { AreWithinLimits options }
     ensures within { ByClauses options.narrow (λ clauses.
-        Fulfils (λ _. device.now) told_by (if_within options clauses (Ok device.now)) result) }
+        Fulfils (λ _. device.now) refusal_output (if_within options clauses (Ok device.now)) result) }
     ensures servable { IfOk result (IsServable device.now) }
     ensures told { IfOk result (λ graph. CanTell options.extras graph (length device.now.parts)) }
 {
@@ -60,7 +60,7 @@ pub(crate) fn compile_in_few_bits(
     requires vars { cnf.now.vars < 2 ^ 20 }
     requires parts { parts ≤ PART_LIMIT }
     ensures list { (sum : ℕ) → HasSum cnf.now forest.now sum
-        → Fulfils (λ _. record { list = cnf.now; sum = sum }) told_by
+        → Fulfils (λ _. record { list = cnf.now; sum = sum }) refusal_output
         (in_few_bits options.extras parts (within options.budget (Ok (record { list = cnf.now; sum = sum })))) result }
     ensures within { (sum : ℕ) → HasSum cnf.now forest.now sum → IfOk result (λ graph. sum ≤ options.budget) }
     ensures graph { (sum : ℕ) → HasSum cnf.now forest.now sum → IfOk result (IsGraphBy (record { list = cnf.now; sum = sum })) }
@@ -85,7 +85,7 @@ fn check_bits(
     requires parts { parts ≤ PART_LIMIT }
     ensures few { (sum : ℕ) → HasSum cnf.now forest.now sum → IfOk result (λ _.
         in_few_bits options.extras parts (Ok (record { list = cnf.now; sum = sum })) ≡ Ok (record { list = cnf.now; sum = sum })) }
-    ensures fault { (sum : ℕ) → HasSum cnf.now forest.now sum → IfErr result (λ refusal. IsExpectedFault (told_by refusal)
+    ensures fault { (sum : ℕ) → HasSum cnf.now forest.now sum → IfErr result (λ refusal. IsExpectedFault (refusal_output refusal)
         (in_few_bits options.extras parts (within options.budget (Ok (record { list = cnf.now; sum = sum }))))) }
 {
     let extras = options.extras;
@@ -147,7 +147,7 @@ fn least_bits(sum: u32, vars: u32, parts: u32, least: bool) -> u64
 // Refuses too many bits.
 fn few_bits(bits: u64) -> Result<(), Refusal>
     ensures few { IfOk result (λ _. bits ≤ SERVED_BITS) }
-    ensures many { IfErr result (λ refusal. (told_by refusal ≡ Some (says (bits_line bits) Status.Refused)) × (SERVED_BITS < bits)) }
+    ensures many { IfErr result (λ refusal. (refusal_output refusal ≡ Some (says (bits_line bits) Status.Refused)) × (SERVED_BITS < bits)) }
 {
     if bits > SERVED_BITS {
         return Err(above("bits", bits, SERVED_BITS as usize));

@@ -3,7 +3,7 @@ ghost use Rattle.diag_edge.specs.Edge.{RoseExactly};
 ghost use Rattle.device_files.specs.Describing.{described};
 ghost use Rattle.device_files.specs.Choices.{ByClauses};
 ghost use Rattle.diag_cli.specs.Behaviours.{graph_by};
-ghost use Rattle.device_files.specs.Weighing.{told_within};
+ghost use Rattle.device_files.specs.Weighing.{output_within};
 ghost use Rattle.device_files.specs.Output.{FulfilsOutputUnlessMemory};
 
 use crate::graphs::graph_within;
@@ -28,7 +28,7 @@ pub(crate) fn compile_file<O: Sink>(
     requires faults { O.faults out.old < 2 ^ 64 - 1 }
     ensures write_fault { RoseExactly (O.faults out.old) (O.faults out.new) (result ≡ Status.WriteFailed) }
     ensures said { ByClauses is_narrow (λ clauses.
-        FulfilsOutputUnlessMemory (told_within budget clauses graph_by (described path.now file.now)) result (O.got out.old) (O.got out.new)) }
+        FulfilsOutputUnlessMemory (output_within budget clauses graph_by (described path.now file.now)) result (O.got out.old) (O.got out.new)) }
 {
     let device = match described(alloc, path, file) {
         Ok(device) => device,

@@ -3,7 +3,7 @@ ghost use Rattle.std.specs.Prelude.{◌≡◌, ◌≤◌, [], Ok, length, IfOk, 
 ghost use Rattle.text_rules.specs.Expected.{Fulfils};
 ghost use Rattle.device_files.specs.Choices.{ByClauses};
 ghost use Rattle.device_files.specs.Describing.{described};
-ghost use Rattle.device_files.specs.Refusals.{told_by};
+ghost use Rattle.device_files.specs.Refusals.{refusal_output};
 ghost use Rattle.diag_cli.specs.Behaviours.{if_within, served_device, served_or_refused};
 ghost use Rattle.diag_cli.specs.inner.Forms.{AreWithinLimits};
 ghost use Rattle.diag_cli.specs.inner.Serving.{IsServable, Answers, IsFor, CanTell};
@@ -53,7 +53,7 @@ fn service_within(alloc: Global, device: Device, options: ServeOptions) -> Resul
     requires { AreWithinLimits options }
     ensures service { IfOk result (Answers (served_device options device) options.sessions) }
     ensures within { ByClauses options.narrow (λ clauses.
-        Fulfils (λ _. device) told_by (if_within options clauses (Ok device)) result) }
+        Fulfils (λ _. device) refusal_output (if_within options clauses (Ok device)) result) }
 {
     let graph = graph_in_few_bits(alloc, &device, options)?;
     service_over(alloc, device, graph, options)

@@ -6,7 +6,7 @@ ghost use Rattle.state_rules.specs.Ranking.{plain_costs};
 ghost use Rattle.bench_reader.specs.SequentialNetlists.{sequential_netlist, HasShortNames};
 ghost use Rattle.device_files.specs.Choices.{weighed_by, ByForest};
 ghost use Rattle.device_files.specs.Describing.{netlist_line, or_line};
-ghost use Rattle.device_files.specs.Refusals.{FulfilsOrRefuses, told_by};
+ghost use Rattle.device_files.specs.Refusals.{FulfilsOrRefuses, refusal_output};
 ghost use Rattle.diag_cli.specs.Behaviours.{served_frames, served_or_refused};
 ghost use Rattle.diag_cli.specs.Frames.{sequential_in, if_unrolled};
 ghost use Rattle.diag_cli.specs.inner.Forms.{AreWithinLimits};
@@ -59,7 +59,7 @@ fn service_within(
     requires options { AreWithinLimits options }
     ensures service { IfOk result (Answers (served_frames frames options seq.now) options.sessions) }
     ensures within { ByForest (λ choose.
-        Fulfils (λ _. seq.now) told_by (if_unrolled frames options (weighed_by options.narrow choose) (Ok seq.now)) result) }
+        Fulfils (λ _. seq.now) refusal_output (if_unrolled frames options (weighed_by options.narrow choose) (Ok seq.now)) result) }
 {
     let made = match unroll(alloc, seq, frames) {
         Ok(made) => made,

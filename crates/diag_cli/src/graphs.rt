@@ -7,7 +7,7 @@ ghost use Rattle.elimination_forests.specs.Forests.{forest_sum};
 ghost use Rattle.tree_finder.specs.Narrowing.{IsFound};
 ghost use Rattle.device_files.specs.Choices.{ByClauses, HasSum};
 ghost use Rattle.device_files.specs.Weighing.{within};
-ghost use Rattle.device_files.specs.Refusals.{told_by};
+ghost use Rattle.device_files.specs.Refusals.{refusal_output};
 ghost use Rattle.diag_cli.specs.inner.Compiling.{IsGraphBy, FulfilsGraph};
 
 use branch_states::{BUDGET_LIMIT, MeasureError};
@@ -45,7 +45,7 @@ pub(crate) fn compiled_within(
     requires budget { budget ≤ BUDGET_LIMIT }
     requires sum { (sum : ℕ) × HasSum cnf.now forest.now sum }
     ensures list { (sum : ℕ) → HasSum cnf.now forest.now sum
-        → Fulfils (λ _. record { list = cnf.now; sum = sum }) told_by (within budget (Ok (record { list = cnf.now; sum = sum }))) result }
+        → Fulfils (λ _. record { list = cnf.now; sum = sum }) refusal_output (within budget (Ok (record { list = cnf.now; sum = sum }))) result }
     ensures within { (sum : ℕ) → HasSum cnf.now forest.now sum → IfOk result (λ graph. sum ≤ budget) }
     ensures graph { (sum : ℕ) → HasSum cnf.now forest.now sum → IfOk result (IsGraphBy (record { list = cnf.now; sum = sum })) }
 {
@@ -63,7 +63,7 @@ fn compiled_along(alloc: Global, cnf: &Cnf, found: &Narrowed, budget: u32) -> Re
     ensures graph { (is : IsFound cnf.now found.now)
         → IfOk result (IsGraphBy (record { list = cnf.now; sum = forest_sum Lists is.forest cnf.now.clauses })) }
     ensures fault { (is : IsFound cnf.now found.now) → IfErr result (λ refusal.
-        IsExpectedFault (told_by refusal) (within budget (Ok (record { list = cnf.now; sum = forest_sum Lists is.forest cnf.now.clauses })))) }
+        IsExpectedFault (refusal_output refusal) (within budget (Ok (record { list = cnf.now; sum = forest_sum Lists is.forest cnf.now.clauses })))) }
 {
     found_within(found, budget)?;
     match compile_forest(alloc, cnf, found.steps.as_slice(), budget) {
@@ -79,7 +79,7 @@ pub(crate) fn compiled_by_names(alloc: Global, cnf: &Cnf, budget: u32) -> Result
     ensures within { IfOk result (λ graph. sum_of cnf.now.clauses ≤ budget) }
     ensures graph { IfOk result (IsGraphBy (record { list = cnf.now; sum = sum_of cnf.now.clauses })) }
     ensures fault { IfErr result (λ refusal.
-        IsExpectedFault (told_by refusal) (within budget (Ok (record { list = cnf.now; sum = sum_of cnf.now.clauses })))) }
+        IsExpectedFault (refusal_output refusal) (within budget (Ok (record { list = cnf.now; sum = sum_of cnf.now.clauses })))) }
 {
     match compile_within(alloc, cnf, budget) {
         Ok(compiled) => Ok(compiled.graph),

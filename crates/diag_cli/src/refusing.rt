@@ -1,7 +1,7 @@
 //! The refusal of a netlist that is not unrolled. It has a file of its own, since the prover is slow with it among many imports.
 ghost use Rattle.std.specs.Prelude.{◌≡◌};
-ghost use Rattle.device_files.specs.Refusals.{told_by};
-ghost use Rattle.diag_cli.specs.inner.Serving.{frames_told};
+ghost use Rattle.device_files.specs.Refusals.{refusal_output};
+ghost use Rattle.diag_cli.specs.inner.Serving.{frames_refusal};
 
 use clause_encoder::CLAUSE_LIMIT;
 use device_files::{Refusal, above};
@@ -10,7 +10,7 @@ use frame_unroller::UnrollError;
 
 /// The refusal of a netlist that is not unrolled.
 pub(crate) fn not_unrolled(error: UnrollError) -> Refusal
-    ensures { told_by result ≡ frames_told error }
+    ensures { refusal_output result ≡ frames_refusal error }
 {
     match error {
         UnrollError::TooManyParts { count } => above("parts", count, PART_LIMIT),

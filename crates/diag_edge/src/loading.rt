@@ -1,7 +1,7 @@
 //! A whole file, read from a shelf.
 ghost use Rattle.std.specs.Prelude.{◌≡◌, ◌↔◌, ◌+◌, ◌^◌, ◌<◌, ◌≤◌, ℕ, length, OnOk, IfOk, IfSome, IsErrOf};
 ghost use Rattle.std.specs.Io.KnownBytes.{IsAtEnd};
-ghost use Rattle.diag_edge.specs.Edge.{RisesAt, absent, told_bytes};
+ghost use Rattle.diag_edge.specs.Edge.{RisesAt, absent, known_bytes};
 ghost use Rattle.diag_edge.specs.declared.loading.LoadError.TheVariants.{Failed, Memory};
 
 use crate::{ReadFailed, Shelf};
@@ -54,7 +54,7 @@ pub fn load<H: Shelf>(
 
     // The answer is the whole file.
     ensures bytes { IfOk result (λ file.
-        IfSome (told_bytes (H.held shelf.old name.now)) (λ bytes. file.items ≡ bytes)) }
+        IfSome (known_bytes (H.held shelf.old name.now)) (λ bytes. file.items ≡ bytes)) }
     ensures end { OnOk result (IsAtEnd (H.left shelf.new)) }
     ensures short { IfOk result (λ file. length file.items ≤ limit) }
     ensures taken { IfOk result (λ file.
@@ -66,11 +66,11 @@ pub fn load<H: Shelf>(
     ensures long { IsErrOf result (LoadError.Long limit) ↔
         (H.taken shelf.new ≡ H.taken shelf.old + limit + 1) }
     ensures long_file { IsErrOf result (LoadError.Long limit) →
-        IfSome (told_bytes (H.held shelf.old name.now)) (λ bytes. limit < length bytes) }
+        IfSome (known_bytes (H.held shelf.old name.now)) (λ bytes. limit < length bytes) }
     ensures that_limit { (other : ℕ) → IsErrOf result (LoadError.Long other) → other ≡ limit }
 
     // Whatever the answer is, no more bytes are taken than the file has, and at most one more than the limit.
-    ensures once { IfSome (told_bytes (H.held shelf.old name.now)) (λ bytes.
+    ensures once { IfSome (known_bytes (H.held shelf.old name.now)) (λ bytes.
         H.taken shelf.new ≤ H.taken shelf.old + length bytes) }
     ensures at_most { H.taken shelf.new ≤ H.taken shelf.old + limit + 1 }
     ensures fixed { H.fixed shelf.new ≡ H.fixed shelf.old }

@@ -2,7 +2,7 @@
 ghost use Rattle.std.specs.Prelude.{◌≡◌, ◌≢◌, ◌↔◌, ◌+◌, ◌^◌, ◌<◌, ◌≤◌, ◌⊎◌, min, Some, [], List, length, drop, IsErr, OnOk, OnErr, IfOk, IfSome, IfNone, MatchResult, refl};
 ghost use Rattle.std.specs.Io.{ReadsAtMost};
 ghost use Rattle.std.specs.Io.KnownBytes.{ReadConsumes};
-ghost use Rattle.diag_edge.specs.Edge.{HasCause, absent, holds, told_bytes};
+ghost use Rattle.diag_edge.specs.Edge.{HasCause, absent, holds, known_bytes};
 ghost use Rattle.diag_edge.specs.InMemory.{ShelfInMemory, NamedFile, IsNextFailing, after_call, no_calls, one_more, named_files, held_in};
 ghost use Rattle.diag_edge.specs.inner.Places.{bytes_at};
 
@@ -146,7 +146,7 @@ impl Shelf for MemShelf {
 
     fn pick(&mut self, name: &str) -> Result<(), ReadFailed>
         // What every shelf does.
-        ensures file { OnOk result (IfSome (told_bytes (held_in self.old.files name.now))
+        ensures file { OnOk result (IfSome (known_bytes (held_in self.old.files name.now))
             (λ bytes. self.new.left ≡ bytes)) }
         ensures absent { OnOk result (held_in self.old.files name.now ≢ absent) }
         ensures taken { self.new.taken ≡ self.old.taken }

@@ -2,7 +2,7 @@
 ghost use Rattle.std.specs.Prelude.{◌≡◌, ◌≢◌, ◌↔◌, ◌+◌, ◌^◌, ◌<◌, ℕ, List, Option, Some, OnOk, IfSome, MatchResult};
 ghost use Rattle.std.specs.Io.{ReadsAtMost};
 ghost use Rattle.std.specs.Io.KnownBytes.{ReadConsumes};
-ghost use Rattle.diag_edge.specs.Edge.{HasCause, Holding, absent, told_bytes, Puts, Reading, Writing};
+ghost use Rattle.diag_edge.specs.Edge.{HasCause, Holding, absent, known_bytes, Puts, Reading, Writing};
 
 /// A read, or the pick of a file, failed.
 #[derive(Clone, Copy, Debug, PartialEq, Eq)]
@@ -65,7 +65,7 @@ pub trait Shelf: Source {
     fn pick(&mut self, name: &str) -> Result<(), ReadFailed>
         requires { may self.old name.now }
 
-        ensures file { OnOk result (IfSome (told_bytes (held self.old name.now))
+        ensures file { OnOk result (IfSome (known_bytes (held self.old name.now))
             (λ bytes. Self.left self.new ≡ Some bytes)) }
         ensures absent { OnOk result (held self.old name.now ≢ absent) }
         ensures taken { Self.taken self.new ≡ Self.taken self.old }

@@ -2,7 +2,7 @@
 ghost use Rattle.std.specs.Prelude.{◌≡◌, ◌≢◌, ◌+◌, ◌-◌, ◌%◌, ◌^◌, ◌<◌, ◌≤◌, min, Some, None, [], List, ℕ, length, drop, IsOk, IfOk, IfSome, OnOk, MatchResult, vec_len, refl};
 ghost use Rattle.std.specs.Io.{ReadsAtMost};
 ghost use Rattle.std.specs.Io.KnownBytes.{ReadConsumes};
-ghost use Rattle.diag_edge.specs.Edge.{HasCause, Puts, absent, holds, told_bytes};
+ghost use Rattle.diag_edge.specs.Edge.{HasCause, Puts, absent, holds, known_bytes};
 ghost use Rattle.diag_edge.specs.Sure.{SureBytes, SureFile};
 
 use crate::copying::copy_from;
@@ -164,7 +164,7 @@ impl Shelf for SureShelf {
 
     fn pick(&mut self, _name: &str) -> Result<(), ReadFailed>
         // What every shelf does.
-        ensures file { OnOk result (IfSome (told_bytes (holds self.old.file)) (λ bytes. self.new.left ≡ bytes)) }
+        ensures file { OnOk result (IfSome (known_bytes (holds self.old.file)) (λ bytes. self.new.left ≡ bytes)) }
         ensures absent { OnOk result (holds self.old.file ≢ absent) }
         ensures taken { self.new.taken ≡ self.old.taken }
         ensures cause { HasCause 0 0 result }

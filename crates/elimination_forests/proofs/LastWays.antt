@@ -13,7 +13,7 @@ use Rattle.elimination_forests.proofs.ListCounts.{first-living}
 use Rattle.elimination_forests.proofs.FirstPlaces.{place-low}
 use Rattle.elimination_forests.proofs.Lists.{any-met}
 use Rattle.elimination_forests.proofs.Chains.{at, next-at, forks-level, chain-sum, chain-forks}
-use Rattle.elimination_forests.proofs.Lasts.{last-size, last-one}
+use Rattle.elimination_forests.proofs.LastLevels.{last-size, last-one}
 
 -- the last of several places
 leads-last : (f : ℕ → Forks) (a n : ℕ) → leads_on (map f (range_with_len a (suc n))) ≡ has_way (f (a + n))

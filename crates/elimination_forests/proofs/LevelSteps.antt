@@ -10,7 +10,7 @@ use Rattle.state_rules.proofs.Members.{In, In-map, In-filter, In-filtered, from_
 use Rattle.clause_encoder.specs.Clauses.{Clause}
 use Rattle.elimination_forests.specs.Branches.{order, has_true, is_left, left, is_touched, is_covered, is_open, some_passes, is_dead, different, living, bits_of, words_of, state_of, without, branch, IsLiving}
 use Rattle.elimination_forests.proofs.Lists.{longer, lists_of_bits-more, flat_map_same, filter-flat_map, flat_map-filter, none-in, In-met, met-In, different-flat_map}
-use Rattle.elimination_forests.proofs.Places.{AllOnce, first_met-once, untouched-left, covered-without, covered-more}
+use Rattle.elimination_forests.proofs.VariableOrder.{AllOnce, first_met-once, untouched-left, covered-without, covered-more}
 use Rattle.elimination_forests.proofs.PassedClauses.{passes_by, passes_without}
 
 -- the living lists that a list leaves, for the bit 0 and then for 1

@@ -1,10 +1,10 @@
 pub mod LeastNodes
 pub mod MarkSpread
 pub mod AddedNodes
-pub mod Kin
+pub mod Replacements
 pub mod PlaceCosts
-pub mod Law
-pub mod Places
+pub mod SameDiagnoses
+pub mod SmallPlaces
 pub mod Smallness
 pub mod Roots
 pub mod SmallGraphs

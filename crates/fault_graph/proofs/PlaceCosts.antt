@@ -6,7 +6,7 @@ use Rattle.state_rules.specs.Graphs.{Graph, is_true, mentions, IsGraph}
 use Rattle.minimiser.specs.Costs.{part_cost, known_at, least_at}
 use Rattle.node_costs.proofs.Totals.{total-le}
 use Rattle.minimiser.proofs.Costs.{fault, Agrees, faults_in, faults_in-le, all_faults}
-use Rattle.minimiser.proofs.Whole.{from_bounds}
+use Rattle.minimiser.proofs.LeastOfModels.{from_bounds}
 use Rattle.minimiser.proofs.Derivations.{is_cost}
 use Rattle.fault_graph.proofs.LeastNodes.{StandsFor}
 

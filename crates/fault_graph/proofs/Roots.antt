@@ -7,14 +7,14 @@ use Rattle.conditioner.specs.Models.{total_cost}
 use Rattle.minimiser.specs.Costs.{part_cost, known_at, least_at}
 use Rattle.minimiser.specs.Stored.{cost_in, AreLeastCosts}
 use Rattle.minimiser.proofs.Costs.{IsCost}
-use Rattle.minimiser.proofs.Whole.{part_cost-none}
+use Rattle.minimiser.proofs.LeastOfModels.{part_cost-none}
 use Rattle.minimiser.proofs.Models.{LeastIs}
 use Rattle.minimiser.proofs.Derivations.{is_cost}
 use Rattle.minimiser.proofs.Valued.{value-is}
 use Rattle.fault_graph.specs.Minimised.{IsMinimised}
 use Rattle.fault_graph.specs.Small.{IsSmall}
 use Rattle.fault_graph.proofs.LeastNodes.{StandsFor, StandsFor-same, stands-free}
-use Rattle.fault_graph.proofs.Law.{graph-least, small-least, same-diagnoses}
+use Rattle.fault_graph.proofs.SameDiagnoses.{graph-least, small-least, same-diagnoses}
 use Rattle.fault_graph.proofs.Smallness.{small-true}
 
 module _ (graph : Graph) (evidence costs : List ℕ) (ok : IsGraph graph) (long : length evidence ≡ graph.vars) (within : length costs ≤ graph.vars) where

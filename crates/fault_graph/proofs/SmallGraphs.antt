@@ -31,9 +31,9 @@ use Rattle.fault_graph.specs.Small.{HasParent, Joins}
 use Rattle.fault_graph.specs.inner.Marks.{HasMarkedParent, AreMarks}
 use Rattle.fault_graph.specs.inner.Rows.{keeps, kept_children, Adds, root_node}
 use Rattle.fault_graph.proofs.LeastNodes.{StandsFor, StandsFor-same}
-use Rattle.fault_graph.proofs.Kin.{ChildrenStand, node-stands, narrower-any, narrower-apart}
+use Rattle.fault_graph.proofs.Replacements.{ChildrenStand, node-stands, narrower-any, narrower-apart}
 use Rattle.fault_graph.proofs.PlaceCosts.{faults_in-all}
-use Rattle.fault_graph.proofs.Places.{IsPlace, place-more, IsFrom, AreFrom, from-push, AllJoin, joins-before, joins-push, parent-more, parent-last, Waits, IsNeeded}
+use Rattle.fault_graph.proofs.SmallPlaces.{IsPlace, place-more, IsFrom, AreFrom, from-push, AllJoin, joins-before, joins-push, parent-more, parent-last, Waits, IsNeeded}
 use Rattle.fault_graph.proofs.Smallness.{small-from}
 use Rattle.fault_graph.proofs.Roots.{IsWhole, whole}
 

@@ -12,7 +12,7 @@ use Rattle.minimiser.specs.Costs.{part_cost, known_at, literal_cost, cost_by, le
 use Rattle.minimiser.proofs.Derivations.{costs-at}
 use Rattle.fault_graph.specs.Small.{HasParent, SaysFaulty, Joins, IsSmall}
 use Rattle.fault_graph.proofs.PlaceCosts.{place-cost}
-use Rattle.fault_graph.proofs.Places.{IsFrom, AreFrom}
+use Rattle.fault_graph.proofs.SmallPlaces.{IsFrom, AreFrom}
 
 -- what costs something is a part
 paid : (costs : List ℕ) (var c : ℕ) → part_cost costs var ≡ c → 0 < c → var ≤ length costs

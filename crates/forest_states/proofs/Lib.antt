@@ -7,12 +7,12 @@ pub mod Masking
 pub mod MarkedVariables
 pub mod MetClauses
 pub mod Numbers
-pub mod Picking
+pub mod BitRuns
 pub mod Sets
 pub mod Spread
 pub mod ShownPlaces
 pub mod Turned
 pub mod Walks
-pub mod Whole
+pub mod OneTreeBases
 pub mod WordBits
 pub mod Words

@@ -4,7 +4,7 @@ pub mod Wires
 pub mod Copies
 pub mod Built
 pub mod SharedVariables
-pub mod Kept
+pub mod NoClauseLost
 pub mod CopyClauses
 pub mod TimeCopies
 pub mod ClauseCounts

@@ -4,14 +4,14 @@ use Rattle.state_rules.specs.Graphs.{Graph, IsGraph, is_true}
 use Rattle.node_costs.specs.Costs.{CostOf}
 use Rattle.part_sets.proofs.SetBits.{has-within}
 use Rattle.level_lister.specs.inner.CostSets.{fault_weights}
-use Rattle.minimiser.proofs.Whole.{state_of, assignment_of}
+use Rattle.minimiser.proofs.LeastOfModels.{state_of, assignment_of}
 use Rattle.part_sets.specs.Numbers.{has_number}
 use Rattle.level_lister.specs.declared.groups.Groups.{Groups}
 use Rattle.level_lister.specs.inner.Pairs.{HasFault, FaultOf, group_in}
 use Rattle.level_lister.specs.inner.FaultSets.{IsWholeFaults}
 use Rattle.level_lister.specs.inner.Skips.{IsEnough}
 use Rattle.level_lister.proofs.LivingNodes.{living-true}
-use Rattle.level_lister.proofs.Whole.{cost_among-all}
+use Rattle.level_lister.proofs.RootCosts.{cost_among-all}
 use Rattle.level_lister.proofs.PairNodes.{IsGrouped, grouped, in_group}
 
 module _ (graph : Graph) (evidence costs : List ℕ) (groups : Groups) (ok : IsGraph graph) (long : length evidence ≡ graph.vars) (within : length costs ≤ graph.vars) where

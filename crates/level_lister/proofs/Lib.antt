@@ -6,11 +6,11 @@ pub mod ConditionCosts
 pub mod LivingNodes
 pub mod Children
 pub mod Stacks
-pub mod Whole
+pub mod RootCosts
 pub mod StateCosts
-pub mod Exact
+pub mod StatesOfOneCost
 pub mod FirstByCost
-pub mod Listed
+pub mod RisingCosts
 pub mod MovedBits
 pub mod Faults
 pub mod TwoWords

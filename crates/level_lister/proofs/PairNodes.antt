@@ -45,8 +45,8 @@ abbrev pub Told : List ℕ → List ℕ → ℕ → Groups → Pair → (Assignm
 Told evidence costs top groups pair test some = Tells evidence costs top (group_count top) (group_in evidence (length costs) groups) test some pair
 
 -- of more variables, of which no others are parts'
-pub told_wider : (evidence costs : List ℕ) (top : ℕ) (groups : Groups) (pair : Pair) (t : Assignment → Bool) (some more : ℕ → Bool) → Wider (length costs) some more → Told evidence costs top groups pair t some → Told evidence costs top groups pair t more
-told_wider evidence costs top groups pair t some more wider is = tells_same evidence costs top (group_count top) (group_in evidence (length costs) groups) t t some more pair (on_parts evidence (length costs) groups) (λ a. refl) wider is
+pub wider_groups : (evidence costs : List ℕ) (top : ℕ) (groups : Groups) (pair : Pair) (t : Assignment → Bool) (some more : ℕ → Bool) → Wider (length costs) some more → Told evidence costs top groups pair t some → Told evidence costs top groups pair t more
+wider_groups evidence costs top groups pair t some more wider is = tells_same evidence costs top (group_count top) (group_in evidence (length costs) groups) t t some more pair (on_parts evidence (length costs) groups) (λ a. refl) wider is
 
 -- a node that is skipped
 pub skipped_told : (graph : Graph) (skips evidence costs : List ℕ) (top : ℕ) (groups : Groups) (at : ℕ) → IsGraph graph → at < length graph.nodes → get_or skips at 0 ≢ 0

@@ -4,7 +4,7 @@ use Rattle.state_rules.specs.Assignments.{Assignment}
 use Rattle.state_rules.specs.Graphs.{Graph, IsGraph, is_true}
 use Rattle.state_rules.specs.Bits.{has_bit}
 use Rattle.node_costs.specs.Costs.{cost_among}
-use Rattle.minimiser.proofs.Whole.{state_of, assignment_of}
+use Rattle.minimiser.proofs.LeastOfModels.{state_of, assignment_of}
 use Rattle.level_lister.specs.declared.pairs.Pair.{Pair}
 use Rattle.level_lister.specs.declared.groups.Groups.{Groups}
 use Rattle.level_lister.specs.inner.CostSets.{fault_weights}
@@ -12,7 +12,7 @@ use Rattle.level_lister.specs.inner.Pairs.{TellsWhole, FaultOf, group_count}
 use Rattle.level_lister.specs.inner.Searching.{HasCost}
 use Rattle.level_lister.specs.inner.Skips.{living, IsEnough}
 use Rattle.level_lister.proofs.LivingNodes.{living-true}
-use Rattle.level_lister.proofs.Whole.{cost_among-all}
+use Rattle.level_lister.proofs.RootCosts.{cost_among-all}
 use Rattle.level_lister.proofs.FaultStates.{fault_state, state_fault}
 
 module _ (graph : Graph) (skips evidence costs : List ℕ) (top : ℕ) (groups : Groups) (pair : Pair) (ok : IsGraph graph) (long : length evidence ≡ graph.vars) (within : length costs ≤ graph.vars) (tells : TellsWhole graph skips evidence costs top groups pair)

@@ -12,12 +12,12 @@ use Rattle.minimiser.proofs.Costs.{faults_in, faults_in-le}
 use Rattle.minimiser.proofs.OutsideCosts.{child-fits}
 use Rattle.minimiser.proofs.SpreadMarks.{child-in}
 use Rattle.minimiser.proofs.Valued.{has_least}
-use Rattle.minimiser.proofs.Whole.{state_of}
+use Rattle.minimiser.proofs.LeastOfModels.{state_of}
 use Rattle.part_sets.proofs.Children.{child-below}
 use Rattle.level_lister.specs.inner.CostSets.{fault_weights}
 use Rattle.level_lister.specs.inner.Skips.{living, IsEnough, skip_of}
 use Rattle.level_lister.proofs.LivingNodes.{truth_more, graph-is, living-is}
-use Rattle.level_lister.proofs.Whole.{cost_among-all}
+use Rattle.level_lister.proofs.RootCosts.{cost_among-all}
 
 skipped-dear : (top least outside : ℕ) → skip_of top least outside ≢ 0 → top < outside + least
 skipped-dear top least outside ne = ⊎_elim (λ (p : top < outside + least). p) (λ (p : outside + least ≤ top). absurd (ne (λ i. cond (le-ltb top (outside + least) p i) 1 0))) (cases_lt top (outside + least))

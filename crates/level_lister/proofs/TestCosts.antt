@@ -12,7 +12,7 @@ use Rattle.node_costs.proofs.Conditions.{OnlyParts, cost_among-none, cost-none, 
 use Rattle.node_costs.proofs.Sets.{row-none, row-one}
 use Rattle.node_costs.proofs.Tests.{row-cost, row-literal}
 use Rattle.minimiser.specs.Costs.{known_at, part_cost}
-use Rattle.minimiser.proofs.Whole.{part_cost-none}
+use Rattle.minimiser.proofs.LeastOfModels.{part_cost-none}
 use Rattle.part_sets.specs.Numbers.{has_number}
 use Rattle.level_lister.specs.inner.CostSets.{fault_weights, IsCostSet}
 use Rattle.level_lister.proofs.PartVariables.{Wider}

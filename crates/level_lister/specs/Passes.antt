@@ -8,8 +8,8 @@ group_count top = 32 / (top + 1)
 
 -- a pass says in which of so many groups of parts the first fault is, or that none of them has one: as many as a word has room for, and
 -- at least one
-abbrev pub told_groups : ℕ → ℕ
-told_groups top = max 1 (group_count top)
+abbrev pub groups_per_pass : ℕ → ℕ
+groups_per_pass top = max 1 (group_count top)
 
 -- where costs of 32 and more are listed a search begins with a pass that brings the costs of all nodes
 abbrev pub first_passes : ℕ → ℕ
@@ -17,7 +17,7 @@ first_passes top = if nat_le 32 top then 1 else 0
 
 -- so many passes find the first fault among the parts, or that there is none: those that come first, and those that divide the parts
 abbrev pub AreEnough : ℕ → ℕ → ℕ → Type 0
-AreEnough parts top search = (divisions : ℕ) × (parts < (told_groups top + 1) ^ divisions) × (first_passes top + divisions ≤ search)
+AreEnough parts top search = (divisions : ℕ) × (parts < (groups_per_pass top + 1) ^ divisions) × (first_passes top + divisions ≤ search)
 
 -- what it takes to fix the parts as a state has them: each fault is searched, and at last that there is no other
 abbrev pub fixing_passes : ℕ → List Bool → ℕ

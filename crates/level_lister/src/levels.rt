@@ -3,7 +3,7 @@ ghost use Rattle.conditioner.specs.Models.{models, total_cost};
 ghost use Rattle.conditioner.specs.Evidence.{bits_of};
 ghost use Rattle.scratch_pool.specs.Regions.{free_words};
 ghost use Rattle.level_lister.specs.Listing.{IsFor, cost_words, step_words, fast_words, point_if, later_levels, level_step};
-ghost use Rattle.level_lister.specs.Passes.{AreEnough, most_passes, told_groups};
+ghost use Rattle.level_lister.specs.Passes.{AreEnough, most_passes, groups_per_pass};
 
 use crate::Memory;
 use crate::search::Search;
@@ -84,9 +84,9 @@ impl Levels {
     }
 
     // In how many groups of parts a pass says the first fault.
-    pub(crate) fn told_groups(&self) -> u32
+    pub(crate) fn groups_per_pass(&self) -> u32
         requires { self.now.top < 2 ^ 31 }
-        ensures count { result ≡ told_groups self.now.top }
+        ensures count { result ≡ groups_per_pass self.now.top }
         ensures some { 0 < result }
         ensures few { result ≤ 32 }
     {

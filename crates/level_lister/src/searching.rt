@@ -1,7 +1,7 @@
 //! The first part that is faulty in some state of a cost.
 ghost use Rattle.std.specs.Prelude.{◌≡◌, ℕ, ◌+◌, ◌*◌, ◌<◌, ◌≤◌, length, MatchOption};
 ghost use Rattle.level_lister.specs.Listing.{cost_words};
-ghost use Rattle.level_lister.specs.Passes.{AreEnough, first_passes, group_count, told_groups};
+ghost use Rattle.level_lister.specs.Passes.{AreEnough, first_passes, group_count, groups_per_pass};
 ghost use Rattle.level_lister.specs.inner.NodeSets.{BeginWithSets, AreReady};
 ghost use Rattle.level_lister.specs.inner.Pairs.{FaultOf, FaultIn, OkAmong};
 
@@ -38,8 +38,8 @@ impl Asked<'_> {
         requires work { length work.old ≡ (length self.now.graph.now.nodes + 2) * (2 * cost_words self.now.levels.now.top) }
         requires cost { cost ≤ self.now.levels.now.top }
         requires ready { AreReady self.now.graph.now self.now.skips.now self.now.evidence.now self.now.levels.now work.old }
-        ensures few { result ≤ told_groups self.now.levels.now.top }
-        ensures found { result < told_groups self.now.levels.now.top
+        ensures few { result ≤ groups_per_pass self.now.levels.now.top }
+        ensures found { result < groups_per_pass self.now.levels.now.top
             → FaultOf self.now.graph.now self.now.evidence.now self.now.levels.now.costs cost groups result }
         ensures before { (g : ℕ) → g < result → FaultOf self.now.graph.now self.now.evidence.now self.now.levels.now.costs cost groups g → ⊥ }
         ensures ready { AreReady self.now.graph.now self.now.skips.now self.now.evidence.now self.now.levels.now work.new }
@@ -125,7 +125,7 @@ impl Asked<'_> {
             return None;
         }
         self.prepare(work, steps);
-        let count = self.levels.told_groups() as usize;
+        let count = self.levels.groups_per_pass() as usize;
         let mut low = from;
         let mut span = parts - from + 1;
         while span > 1 {

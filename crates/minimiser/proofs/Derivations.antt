@@ -23,7 +23,7 @@ use Rattle.node_costs.proofs.Conditions.{one_apart, cost_among-apart, cost_among
 use Rattle.minimiser.proofs.Costs.{fault, open_weights, only_parts, as_cost, IsCost, Agrees, faults_in, faults_in-le, all_faults, and_left, and_right, from_add, AtMost-min_left, AtMost-min_right}
 pub use Rattle.node_costs.proofs.Nodes.{all-below}
 use Rattle.minimiser.proofs.Nodes as nodes
-use Rattle.minimiser.proofs.Whole.{part_cost-none}
+use Rattle.minimiser.proofs.LeastOfModels.{part_cost-none}
 
 -- ---- members of the children
 

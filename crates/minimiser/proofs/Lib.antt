@@ -2,7 +2,7 @@ pub mod Costs
 pub mod Nodes
 pub mod Held
 pub mod Sums
-pub mod Whole
+pub mod LeastOfModels
 pub mod OnePass
 pub mod Models
 pub mod Derivations

@@ -24,7 +24,7 @@ use Rattle.minimiser.proofs.Costs.{fault}
 use Rattle.minimiser.proofs.Nodes.{is_cost, cost_at-get}
 use Rattle.minimiser.proofs.Held.{full_cost-is}
 use Rattle.minimiser.proofs.Sums.{cost_in-some, cost_at-map}
-use Rattle.minimiser.proofs.Whole.{AddHeld, least_is, part_cost-none}
+use Rattle.minimiser.proofs.LeastOfModels.{AddHeld, least_is, part_cost-none}
 
 -- the cost of a node under evidence
 abbrev pub cost_under : List ℕ → List ℕ → Node → List (Option ℕ) → Option ℕ

@@ -20,7 +20,7 @@ use Rattle.minimiser.specs.LeastStates.{Suspect, LeastState, OkBelow}
 use Rattle.minimiser.specs.inner.Swept.{IsValue, has_mark, unmarked, IsMarked, is_child, spread_value, HasMarkedParent, IsSwept, suspect_of, suspect_at}
 use Rattle.minimiser.proofs.Costs.{fault, and_left, and_right}
 use Rattle.minimiser.proofs.Sums.{cost_in-some}
-use Rattle.minimiser.proofs.Whole.{least_is, state_of, assignment_of}
+use Rattle.minimiser.proofs.LeastOfModels.{least_is, state_of, assignment_of}
 use Rattle.minimiser.proofs.OnePass.{value_small, length-least_costs, children_below, literal_at}
 use Rattle.minimiser.proofs.Valued.{cost_in-is, value-is}
 use Rattle.minimiser.proofs.Derivations.{sum-child, cheapest-child, Useful, useful-root, useful-and, useful-or, useful-literal, on-root, descend, costs-at, below, all-below}

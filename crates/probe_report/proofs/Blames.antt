@@ -14,7 +14,7 @@ use Rattle.minimiser.specs.LeastStates.{ModelWithin}
 use Rattle.minimiser.proofs.Models.{LeastIs, least-some, least-none, diagnosis-in, diagnosis-out}
 use Rattle.probe_report.specs.declared.verdicts.Blame.TheVariants.{Always, Sometimes, Never, Inconsistent}
 use Rattle.probe_report.specs.Verdicts.{verdict, blame_of}
-use Rattle.probe_report.proofs.With.{bit-out, bit-in}
+use Rattle.probe_report.proofs.ModelsWithBit.{bit-out, bit-in}
 
 -- ---- tests of a cost
 

@@ -23,7 +23,7 @@ use Rattle.minimiser.proofs.Sums.{cost_in-some}
 use Rattle.minimiser.proofs.OnePass.{cost_small}
 use Rattle.minimiser.proofs.Derivations.{any-child, all-child, child-with, is_cost, true-at, mention-at, costs-at, below, all-below, Achieves}
 use Rattle.minimiser.proofs.Valued.{value-is, has_least}
-use Rattle.minimiser.proofs.Whole.{from_bounds}
+use Rattle.minimiser.proofs.LeastOfModels.{from_bounds}
 use Rattle.minimiser.proofs.SpreadMarks.{child-in, child-out}
 use Rattle.minimiser.specs.inner.Outside.{AreOutsideCosts}
 use Rattle.minimiser.proofs.OutsideCosts.{outside-is, child-fits}

@@ -1,4 +1,4 @@
-pub mod With
+pub mod ModelsWithBit
 pub mod Blames
 pub mod LoweredNumbers
 pub mod Bits

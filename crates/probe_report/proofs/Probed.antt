@@ -15,13 +15,13 @@ use Rattle.minimiser.specs.Stored.{cost_in, AreLeastCosts}
 use Rattle.minimiser.specs.inner.Held.{held_one, held_cost}
 use Rattle.minimiser.proofs.Sums.{cost_in-some}
 use Rattle.minimiser.proofs.OnePass.{is_least, value_small, length-least_costs}
-use Rattle.minimiser.proofs.Whole.{AddHeld, least_is}
+use Rattle.minimiser.proofs.LeastOfModels.{AddHeld, least_is}
 use Rattle.minimiser.specs.inner.Outside.{AreOutsideCosts}
 use Rattle.probe_report.specs.inner.Outside.{IsLowered, Without, With}
 use Rattle.probe_report.specs.inner.Settled.{settled}
 use Rattle.probe_report.proofs.LoweredNumbers.{lowered-then}
 use Rattle.probe_report.proofs.Exits.{root-is}
-use Rattle.probe_report.proofs.With.{with-true, with-false, with-open, with_bit, with-model}
+use Rattle.probe_report.proofs.ModelsWithBit.{with-true, with-false, with-open, with_bit, with-model}
 
 -- ---- what is held
 

@@ -14,6 +14,6 @@ pub mod NamedParts
 pub mod SessionMoves
 mod GraphSpellings
 pub mod ReplyTexts
-pub mod Exact
+pub mod WrittenReplies
 pub mod OneText
 pub mod RefusedLines

@@ -12,7 +12,7 @@ use Rattle.session_rules.proofs.Begun.{HaveSpellings}
 use Rattle.session_rules.proofs.Broken.{breaks_before, script_moves-append, broken_replies, said-replies}
 use Rattle.session_core.specs.Services.{Shown, moves_of}
 use Rattle.session_core.proofs.OneText.{ArePlain, script-plain}
-use Rattle.session_core.proofs.Exact.{same_said, script_exact}
+use Rattle.session_core.proofs.WrittenReplies.{same_said, script_exact}
 
 -- some text spells items that are texts
 plain_spelled : (items : List Item) → ArePlain items → (text : List ℕ) × Spells items text

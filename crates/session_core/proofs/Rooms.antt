@@ -5,7 +5,7 @@ use Rattle.std.proofs.lemmas.List.{nil_from_length, length-replicate}
 use Rattle.scratch_pool.specs.declared.region.Span.{Span}
 use Rattle.scratch_pool.specs.Words.{written}
 use Rattle.scratch_pool.specs.Regions.{Carved, carved, words_used, run_words}
-use Rattle.scratch_pool.proofs.Laws.{carved-held}
+use Rattle.scratch_pool.proofs.LentWords.{carved-held}
 use Rattle.scratch_pool.proofs.Written.{length-written}
 
 -- what is known of a run that was found

@@ -20,7 +20,7 @@ pub fn one_text()
 /// What a service answers a session, byte for byte, is what it answers it alone: wherever it opens among some lines, its own lines
 /// from there to its end have the answers that they have alone, with room for one session and no other line before, between or after
 /// them.
-pub fn told_alone()
+pub fn written_alone()
     ensures { (shown : Shown) (table : Table) (lines : List (List ℕ))
         → AreAnsweredAlone (served_system shown.subject) shown.limit table lines }
 {}

@@ -17,7 +17,7 @@ mod serving;
 mod sessions;
 mod telling;
 
-pub use laws::{one_text, spells_replies, told_alone};
+pub use laws::{one_text, spells_replies, written_alone};
 pub use limits::{SERVED_BITS, SERVED_NODES, SERVED_VARIABLES, SESSION_LIMIT};
 pub use replies::put_faulty;
 pub use service::Service;

@@ -12,7 +12,7 @@ use Rattle.std.proofs.lemmas.Option.{slice_get-map, slice_get_within, slice_get_
 use Rattle.text_rules.specs.Names.{Name, same_name}
 use Rattle.state_rules.specs.Cases.{empty_case}
 use Rattle.scratch_pool.specs.Pools.{Blocks, IsOut, IsFree, IsSound, block_words, with_block, taken, given}
-use Rattle.scratch_pool.proofs.Laws.{taken-zeroed, taken-out, taken-free, given-free, length-block}
+use Rattle.scratch_pool.proofs.LentWords.{taken-zeroed, taken-out, taken-free, given-free, length-block}
 use Rattle.session_rules.specs.Sessions.{Entry, Table, entry_of, with_entry, without}
 use Rattle.session_table.specs.Tables.{Opened, StandsAt, fresh_entry}
 use Rattle.session_table.specs.inner.Blocks.{entry_in, block_size, IsLaidOut}

@@ -5,7 +5,7 @@ use Rattle.std.specs.List.{insert, remove}
 use Rattle.std.proofs.lemmas.List.{get_or_default}
 use Rattle.std.proofs.lemmas.Option.{same_Some, none-some}
 use Rattle.scratch_pool.specs.Pools.{Blocks, IsOut, IsFree, IsSound, block_words, with_block, taken, given}
-use Rattle.scratch_pool.proofs.Laws.{written-block, written-others, taken-others, taken-stays_out, given-stays_out}
+use Rattle.scratch_pool.proofs.LentWords.{written-block, written-others, taken-others, taken-stays_out, given-stays_out}
 use Rattle.session_table.specs.inner.Blocks.{entry_in, IsLaidOut}
 use Rattle.session_table.specs.inner.Ordered.{table_of, HasNone, HaveBlocks}
 use Rattle.session_table.specs.declared.block.Layout.{Layout}

@@ -26,7 +26,7 @@ use Rattle.nnf_text.specs.StateGraphs.{IsSmoothGraphOfStates}
 use Rattle.conditioner.specs.Models.{models, least_under, diagnoses_under}
 use Rattle.minimiser.specs.Costs.{part_cost, known_at, node_cost, least_at}
 use Rattle.minimiser.specs.inner.Held.{held_cost}
-use Rattle.minimiser.proofs.Whole.{AddHeld, least_is, state_of, assignment_of}
+use Rattle.minimiser.proofs.LeastOfModels.{AddHeld, least_is, state_of, assignment_of}
 use Rattle.minimiser.proofs.Models.{diagnosis-in, diagnosis-out}
 use Rattle.minimiser.specs.Stored.{cost_in, costs_to, AreLeastCosts}
 use Rattle.smooth_nnf.specs.Layouts.{Layout, own_lines, layout_of, literal_pairs, lines_to, node_lines, last_at, last_line, all_lines, least_graph, least_text}

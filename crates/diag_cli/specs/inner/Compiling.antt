@@ -7,7 +7,7 @@ use Rattle.dnnf_compiler.specs.Compiled.{SaysAll, most_nodes}
 use Rattle.device_files.specs.declared.refusal.Refusal.{Refusal}
 use Rattle.device_files.specs.Choices.{Weighed}
 use Rattle.device_files.specs.Output.{Output}
-use Rattle.device_files.specs.Refusals.{told_by}
+use Rattle.device_files.specs.Refusals.{refusal_output}
 use Rattle.diag_cli.specs.inner.Serving.{IsServable}
 
 -- It is true exactly if all clauses are, and their sum bounds its size.
@@ -20,4 +20,4 @@ pub record IsGraphBy (weighed : Weighed) (graph : Graph) : Type 0 where
 -- the graph of a device, if its clauses are found within a budget, or the refusal that is expected
 abbrev pub FulfilsGraph : Device → Result Weighed Output → Result Graph Refusal → Type 0
 FulfilsGraph device expected (Ok graph) = IsServable device graph × ((weighed : Weighed) × (expected ≡ Ok weighed) × IsGraphBy weighed graph)
-FulfilsGraph device expected (Err refusal) = IsExpectedFault (told_by refusal) expected
+FulfilsGraph device expected (Err refusal) = IsExpectedFault (refusal_output refusal) expected

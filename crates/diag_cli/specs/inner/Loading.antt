@@ -13,7 +13,7 @@ use Rattle.device_files.specs.declared.refusal.Refusal.{Refusal}
 use Rattle.device_files.specs.Output.{Output}
 use Rattle.device_files.specs.Inspecting.{count_line}
 use Rattle.diag_cli.specs.Loads.{names_line, summary_lines}
-use Rattle.device_files.specs.Refusals.{told_by}
+use Rattle.device_files.specs.Refusals.{refusal_output}
 
 abbrev pub listed_items : List Name → Found → List ℕ → List ℕ → List Item
 listed_items parts found first last =
@@ -51,4 +51,4 @@ IsSummaryOf device clauses places summary =
 -- a summary gives an output, and so does a refusal, if it is not lack of memory
 abbrev pub Loads : Output → Result Summary Refusal → Type 0
 Loads output (Ok summary) = output ≡ summary_output summary
-Loads output (Err refusal) = IfSome (told_by refusal) (λ said. output ≡ said)
+Loads output (Err refusal) = IfSome (refusal_output refusal) (λ said. output ≡ said)

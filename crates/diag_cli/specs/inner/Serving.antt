@@ -14,7 +14,7 @@ use Rattle.session_core.specs.Services.{Shown, CanList, CanDraw}
 use Rattle.device_files.specs.declared.refusal.Refusal.{Refusal}
 use Rattle.device_files.specs.declared.status.Status.{Status}
 use Rattle.device_files.specs.Output.{Output, no_memory}
-use Rattle.device_files.specs.Refusals.{told_by}
+use Rattle.device_files.specs.Refusals.{refusal_output}
 use Rattle.diag_cli.specs.Behaviours.{Behaviour, Prints, Answers, answers_of}
 use Rattle.diag_cli.specs.Fulfilled.{FulfilsBehaviour}
 use Rattle.diag_cli.specs.Frames.{not_unrolled}
@@ -39,13 +39,13 @@ pub record Answers (system : System) (sessions : ℕ) (service : Shown) : Type 0
 -- A service answers what a behaviour serves, or the refusal of one is what the behaviour prints.
 abbrev pub IsFor : Behaviour → Result Shown Refusal → Type 0
 IsFor behaviour (Ok service) = behaviour ≡ Answers (answers_of (system_of service.subject) service.limit)
-IsFor behaviour (Err refusal) = IfSome (told_by refusal) (λ output. behaviour ≡ Prints output)
+IsFor behaviour (Err refusal) = IfSome (refusal_output refusal) (λ output. behaviour ≡ Prints output)
 
 -- Memory ran out before the script was begun, or a behaviour was followed.
 abbrev pub FulfilsBehaviourUnlessMemory : Behaviour → Reading → Reading → Writing → Writing → Status → Type 0
 FulfilsBehaviourUnlessMemory behaviour input new_input out new_out status = FulfilsBehaviour (Prints no_memory) input new_input out new_out status ⊎ FulfilsBehaviour behaviour input new_input out new_out status
 
 -- the output if a netlist is not unrolled; lack of memory is no refusal of it
-abbrev pub frames_told : UnrollError → Option Output
-frames_told NoMemory = None
-frames_told error = Some (not_unrolled error)
+abbrev pub frames_refusal : UnrollError → Option Output
+frames_refusal NoMemory = None
+frames_refusal error = Some (not_unrolled error)

@@ -2,7 +2,7 @@ use Rattle.std.proofs.Common.{map, ap, Ok}
 use Rattle.std.specs.Map.{keys_of}
 use Rattle.bench_reader.specs.inner.Lines.{unnumbered}
 use Rattle.bench_reader.specs.inner.Steps.{signals_in}
-use Rattle.bench_reader.proofs.Whole.{signals-named, the_device, only_memory}
+use Rattle.bench_reader.proofs.FirstFaults.{signals-named, the_device, only_memory}
 use Rattle.bench_reader.proofs.assembly.assemble.Goals as goal
 
 pub wires_of-requires : goal.wires_of-requires

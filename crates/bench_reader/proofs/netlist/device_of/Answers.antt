@@ -7,7 +7,7 @@ use Rattle.bench_reader.specs.Faults.{told}
 use Rattle.bench_reader.specs.Netlists.{device_of}
 use Rattle.bench_reader.specs.inner.Lines.{with_number}
 use Rattle.bench_reader.specs.inner.Steps.{AreFaultless, is_faultless, is_too_large, signals_in}
-use Rattle.bench_reader.proofs.Whole.{handed_driven, said-with_number, fault_used, fault_many, all_faultless, is_made}
+use Rattle.bench_reader.proofs.FirstFaults.{handed_driven, said-with_number, fault_used, fault_many, all_faultless, is_made}
 use Rattle.bench_reader.proofs.netlist.device_of.Goals as goal
 
 pub returns-in_err-signals : goal.returns-in_err-signals

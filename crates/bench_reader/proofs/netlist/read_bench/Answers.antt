@@ -6,7 +6,7 @@ use Rattle.bench_reader.specs.declared.kinds.FlipFlops.TheVariants.{Refused}
 use Rattle.bench_reader.specs.Faults.{told}
 use Rattle.bench_reader.specs.inner.Lines.{unnumbered, with_number}
 use Rattle.bench_reader.specs.inner.Steps.{device_or_fault, is_faultless}
-use Rattle.bench_reader.proofs.Whole.{handed_read, said-with_number, are_faultless, is_read}
+use Rattle.bench_reader.proofs.FirstFaults.{handed_read, said-with_number, are_faultless, is_read}
 use Rattle.bench_reader.proofs.netlist.read_bench.Goals as goal
 
 pub returns-in_err-statements : goal.returns-in_err-statements

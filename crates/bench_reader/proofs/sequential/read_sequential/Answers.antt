@@ -6,7 +6,7 @@ use Rattle.bench_reader.specs.declared.kinds.FlipFlops.TheVariants.{Taken}
 use Rattle.bench_reader.specs.SequentialNetlists.{flip_flops, places_where}
 use Rattle.bench_reader.specs.inner.Lines.{unnumbered, with_number}
 use Rattle.bench_reader.specs.inner.Steps.{device_or_fault, is_faultless}
-use Rattle.bench_reader.proofs.Whole.{said-with_number, are_faultless}
+use Rattle.bench_reader.proofs.FirstFaults.{said-with_number, are_faultless}
 use Rattle.bench_reader.proofs.FlipFlops.{netlist-short, device_read, is_sequential}
 use Rattle.bench_reader.proofs.sequential.read_sequential.Goals as goal
 

@@ -2,7 +2,7 @@ use Rattle.std.proofs.Common.{◌≡◌, Ok, ap, sym, ◌∙◌}
 use Rattle.std.proofs.lemmas.Result.{err_from_is_err_and}
 use Rattle.text_rules.specs.Expected.{IsExpectedFault}
 use Rattle.device_files.specs.Weighing.{within}
-use Rattle.device_files.specs.Refusals.{told_by}
+use Rattle.device_files.specs.Refusals.{refusal_output}
 use Rattle.device_files.proofs.ForestChoices.{by_any, list_gives}
 use Rattle.device_files.proofs.weighing.clauses_within.Goals as goal
 
@@ -15,7 +15,7 @@ pub returns-in_err-sum : goal.returns-in_err-sum
 returns-in_err-sum c =
     let p = err_from_is_err_and c.from_residual-in_err-sum.result c.from_residual-in_err-sum.ensures.1 in
     rw (p.1, p.2) (list_gives c.args.is_narrow c.args.device.now c.in_ok-cnf.cnf c.in_ok-cnf.forest c.in_ok-cnf.ensures.list c.in_ok-cnf.ensures.forest
-    (λ clauses. IsExpectedFault (told_by c.in_err-sum.field-0.0) (within c.args.budget clauses)) c.in_err-sum.ensures.list)
+    (λ clauses. IsExpectedFault (refusal_output c.in_err-sum.field-0.0) (within c.args.budget clauses)) c.in_err-sum.ensures.list)
 
 pub returns : goal.returns
 returns c =

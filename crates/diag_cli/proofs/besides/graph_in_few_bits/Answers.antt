@@ -6,7 +6,7 @@ use Rattle.clause_encoder.proofs.Sizes.{encoded-few_vars}
 use Rattle.diag_cli.specs.Besides.{in_few_bits}
 use Rattle.device_files.specs.Choices.{Weighed, clauses_by}
 use Rattle.device_files.specs.Weighing.{within}
-use Rattle.device_files.specs.Refusals.{told_by}
+use Rattle.device_files.specs.Refusals.{refusal_output}
 use Rattle.diag_cli.proofs.FewBits.{fault_through, fulfils_through}
 use Rattle.device_files.proofs.ForestChoices.{by_any, has_sum, list_gives}
 use Rattle.diag_cli.proofs.ServedDevices.{all_servable}
@@ -18,7 +18,7 @@ returns-in_err-cnf-clause-within c =
     let options = c.args.options in
     let device = c.args.device.now in
     rw (p.1, p.2) (by_any (λ choose.
-    fault_through (λ clauses. result_and (in_few_bits options.extras (length device.parts) clauses) (Ok device)) (λ output. refl) (told_by c.in_err-cnf.field-0.0)
+    fault_through (λ clauses. result_and (in_few_bits options.extras (length device.parts) clauses) (Ok device)) (λ output. refl) (refusal_output c.in_err-cnf.field-0.0)
     (within options.budget (clauses_by options.narrow choose device)) (c.in_err-cnf.ensures.fault choose options.budget)))
 
 pub compile_in_few_bits-requires-clause-sum : goal.compile_in_few_bits-requires-clause-sum
@@ -34,11 +34,11 @@ returns-clause-within c =
     let cnf = c.in_ok-cnf.cnf in
     let result = c.compile_in_few_bits.result in
     list_gives options.narrow device cnf c.in_ok-cnf.forest c.in_ok-cnf.ensures.list c.in_ok-cnf.ensures.forest
-    (λ clauses. Fulfils (λ _. device) told_by (result_and (in_few_bits options.extras (length device.parts) (within options.budget clauses)) (Ok device)) result)
+    (λ clauses. Fulfils (λ _. device) refusal_output (result_and (in_few_bits options.extras (length device.parts) (within options.budget clauses)) (Ok device)) result)
     (λ sum has.
     let weighed : Weighed = record { list = cnf; sum = sum } in
     fulfils_through (λ few. result_and few (Ok device)) weighed device refl (λ output. refl) (in_few_bits options.extras (length device.parts) (within options.budget (Ok weighed))) result
-    (subst (λ (parts : ℕ). Fulfils (λ _. weighed) told_by (in_few_bits options.extras parts (within options.budget (Ok weighed))) result) (ap length c.parts.ensures.parts) (c.compile_in_few_bits.ensures.list sum has)))
+    (subst (λ (parts : ℕ). Fulfils (λ _. weighed) refusal_output (in_few_bits options.extras parts (within options.budget (Ok weighed))) result) (ap length c.parts.ensures.parts) (c.compile_in_few_bits.ensures.list sum has)))
 
 pub returns-clause-servable : goal.returns-clause-servable
 returns-clause-servable c =

@@ -1,5 +1,5 @@
 use Rattle.std.proofs.Common.{refl, Result, Ok, Err}
-use Rattle.device_files.specs.Refusals.{told_by}
+use Rattle.device_files.specs.Refusals.{refusal_output}
 use Rattle.diag_cli.proofs.WholeGraphs.{graph_gives}
 use Rattle.device_files.specs.Choices.{clauses_by}
 use Rattle.device_files.proofs.ForestChoices.{by_any, by_same}
@@ -27,9 +27,9 @@ returns-clause-said g c =
 pub returns-in-Err-graph_within-clause-said : goal.returns-in-Err-graph_within-clause-said
 returns-in-Err-graph_within-clause-said g c =
     by_same c.in-Err-graph_within.ensures (λ choose fault.
-    within_refused c.args.budget (clauses_by c.args.is_narrow choose) _ _ _ (told_by c.in-Err-graph_within.refusal) _ _ _ c.in-Ok.ensures fault c.tell-in-Err-graph_within.ensures.said)
+    within_refused c.args.budget (clauses_by c.args.is_narrow choose) _ _ _ (refusal_output c.in-Err-graph_within.refusal) _ _ _ c.in-Ok.ensures fault c.tell-in-Err-graph_within.ensures.said)
 
 pub returns-in-Err-clause-said : goal.returns-in-Err-clause-said
 returns-in-Err-clause-said g c =
     by_any (λ choose.
-    refused_told _ _ (told_by c.in-Err.refusal) _ _ _ c.in-Err.ensures c.tell.ensures.said)
+    refused_told _ _ (refusal_output c.in-Err.refusal) _ _ _ c.in-Err.ensures c.tell.ensures.said)

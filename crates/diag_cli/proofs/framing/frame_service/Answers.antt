@@ -1,7 +1,7 @@
 use Rattle.std.proofs.Common.{sym, subst}
 use Rattle.std.proofs.lemmas.Result.{err_from_is_err_and}
 use Rattle.device_files.specs.Choices.{weighed_by}
-use Rattle.device_files.specs.Refusals.{told_by}
+use Rattle.device_files.specs.Refusals.{refusal_output}
 use Rattle.device_files.proofs.ForestChoices.{by_any, by_same}
 use Rattle.device_files.proofs.KeptRefusals.{refused_then}
 use Rattle.diag_cli.specs.Behaviours.{served_frames, served_or_refused}
@@ -13,7 +13,7 @@ use Rattle.diag_cli.proofs.framing.frame_service.Goals as goal
 pub returns-in_err-seq-clause-behaviour : goal.returns-in_err-seq-clause-behaviour
 returns-in_err-seq-clause-behaviour c =
     let p = err_from_is_err_and c.from_residual.result c.from_residual.ensures.1 in
-    let fault = told_by c.in_err-seq.field-0.0 in
+    let fault = refusal_output c.in_err-seq.field-0.0 in
     let options = c.args.options in
     let frames = c.args.frames in
     rw (p.1, p.2) (by_any (λ choose.

@@ -6,7 +6,7 @@ use Rattle.state_rules.specs.Ranking.{plain_costs}
 use Rattle.session_core.specs.Services.{CanList, CanDraw}
 use Rattle.device_files.specs.Choices.{weighed_by}
 use Rattle.device_files.specs.Weighing.{within}
-use Rattle.device_files.specs.Refusals.{told_by}
+use Rattle.device_files.specs.Refusals.{refusal_output}
 use Rattle.device_files.proofs.ForestChoices.{by_any, has_sum}
 use Rattle.diag_cli.specs.Besides.{in_few_bits}
 use Rattle.diag_cli.proofs.FewBits.{fault_through}
@@ -42,7 +42,7 @@ returns-in_err-graph-clause-within c =
     let seq = c.args.seq.now in
     let options = c.args.options in
     let cnf = c.in-Ok.made.cnf in
-    let fault = told_by c.in_err-graph.field-0.0 in
+    let fault = refusal_output c.in_err-graph.field-0.0 in
     rw (p.1, p.2) (unrolled_gives seq c.args.frames options c.in-Ok.made c.in-Ok.ensures.unrolled c.in_ok-forest.forest c.in_ok-forest.ensures (λ expected. IsExpectedFault fault expected)
     (λ sum has. fault_through (λ few. result_and few (Ok seq)) (λ output. refl) fault (in_few_bits options.extras (length seq.device.parts) (within options.budget (Ok (record { list = cnf; sum = sum }))))
     (subst (λ (parts : ℕ). IsExpectedFault fault (in_few_bits options.extras parts (within options.budget (Ok (record { list = cnf; sum = sum }))))) (ap length c.parts-count.ensures.parts) (c.in_err-graph.ensures.list sum has))))

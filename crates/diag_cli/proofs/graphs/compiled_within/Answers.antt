@@ -4,7 +4,7 @@ use Rattle.text_rules.specs.Expected.{Fulfils}
 use Rattle.branch_states.specs.Branches.{sum_of}
 use Rattle.elimination_forests.specs.declared.steps.Weight.TheVariants.{Lists}
 use Rattle.elimination_forests.specs.Forests.{forest_sum}
-use Rattle.device_files.specs.Refusals.{told_by}
+use Rattle.device_files.specs.Refusals.{refusal_output}
 use Rattle.device_files.specs.Weighing.{within}
 use Rattle.diag_cli.specs.inner.Compiling.{IsGraphBy}
 use Rattle.diag_cli.proofs.GraphsBy.{found_each, named_each, is_found, fulfils_within}
@@ -17,7 +17,7 @@ pub returns-in-Some-clause-list : goal.returns-in-Some-clause-list
 returns-in-Some-clause-list c =
     let list = c.args.cnf.now in
     let result = c.compiled_along.result in
-    found_each list c.args.forest.now c.in-Some.found c.in-Some.is (λ sum. Fulfils (λ _. record { list = list; sum = sum }) told_by (within c.args.budget (Ok (record { list = list; sum = sum }))) result)
+    found_each list c.args.forest.now c.in-Some.found c.in-Some.is (λ sum. Fulfils (λ _. record { list = list; sum = sum }) refusal_output (within c.args.budget (Ok (record { list = list; sum = sum }))) result)
     (λ is. fulfils_within (record { list = list; sum = forest_sum Lists is.forest list.clauses }) c.args.budget result (c.compiled_along.ensures.within is) (c.compiled_along.ensures.fault is))
 
 pub returns-in-Some-clause-within : goal.returns-in-Some-clause-within
@@ -32,7 +32,7 @@ pub returns-in-None-clause-list : goal.returns-in-None-clause-list
 returns-in-None-clause-list c =
     let list = c.args.cnf.now in
     let result = c.compiled_by_names.result in
-    named_each list c.args.forest.now c.in-None.is (λ sum. Fulfils (λ _. record { list = list; sum = sum }) told_by (within c.args.budget (Ok (record { list = list; sum = sum }))) result)
+    named_each list c.args.forest.now c.in-None.is (λ sum. Fulfils (λ _. record { list = list; sum = sum }) refusal_output (within c.args.budget (Ok (record { list = list; sum = sum }))) result)
     (fulfils_within (record { list = list; sum = sum_of list.clauses }) c.args.budget result c.compiled_by_names.ensures.within c.compiled_by_names.ensures.fault)
 
 pub returns-in-None-clause-within : goal.returns-in-None-clause-within

@@ -1,5 +1,5 @@
 use Rattle.diag_cli.specs.Loads.{loaded}
-use Rattle.device_files.specs.Refusals.{told_by}
+use Rattle.device_files.specs.Refusals.{refusal_output}
 use Rattle.diag_cli.specs.inner.Loading.{summary_output}
 use Rattle.diag_cli.proofs.LoadedAdders.{gives_told, gives_summary}
 use Rattle.diag_cli.proofs.loading.load_adder.Goals as goal
@@ -10,4 +10,4 @@ returns-in-Ok-clause-said g c =
 
 pub returns-in-Err-clause-said : goal.returns-in-Err-clause-said
 returns-in-Err-clause-said g c =
-    gives_told (told_by c.in-Err.refusal) (loaded c.args.places) _ _ _ c.in-Err.ensures.summary c.tell.ensures.said
+    gives_told (refusal_output c.in-Err.refusal) (loaded c.args.places) _ _ _ c.in-Err.ensures.summary c.tell.ensures.said

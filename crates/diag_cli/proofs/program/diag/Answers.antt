@@ -1,7 +1,7 @@
 use Rattle.std.proofs.Common.{◌≡◌, ◌∙◌, Some, ap, map, string_bytes, sym}
 use Rattle.diag_cli.specs.Words.{Load, Over, form_of}
 use Rattle.diag_cli.specs.inner.Forms.{meant}
-use Rattle.diag_cli.proofs.Shown.{run_shown}
+use Rattle.diag_cli.proofs.ShownEnds.{run_shown}
 use Rattle.diag_cli.proofs.Headline.{run_usage, run_load}
 use Rattle.device_files.proofs.ForestChoices.{by_any, by_same}
 use Rattle.diag_cli.proofs.program.diag.Goals as goal

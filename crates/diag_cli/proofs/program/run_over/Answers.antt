@@ -3,7 +3,7 @@ use Rattle.text_rules.specs.declared.text_lines.TheConstants.{TEXT_LIMIT}
 use Rattle.diag_edge.specs.declared.loading.LoadError.TheVariants.{Long}
 use Rattle.diag_cli.specs.Behaviours.{behaviour_by}
 use Rattle.diag_cli.specs.inner.Serving.{FulfilsBehaviourUnlessMemory}
-use Rattle.diag_cli.proofs.Shown.{at_ends, run_shown}
+use Rattle.diag_cli.proofs.ShownEnds.{at_ends, run_shown}
 use Rattle.diag_cli.proofs.Headline.{same_file, run_loaded, run_unread}
 use Rattle.device_files.proofs.ForestChoices.{by_any, by_same}
 use Rattle.diag_cli.proofs.Unread.{unread}

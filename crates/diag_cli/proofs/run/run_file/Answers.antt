@@ -1,5 +1,5 @@
 use Rattle.device_files.proofs.ForestChoices.{by_any, by_same}
-use Rattle.diag_cli.proofs.Shown.{told_shown}
+use Rattle.diag_cli.proofs.ShownEnds.{told_shown}
 use Rattle.diag_cli.proofs.run.run_file.Goals as goal
 
 pub returns-in-Inspect-clause-follows : goal.returns-in-Inspect-clause-follows

@@ -8,7 +8,7 @@ use Rattle.device_files.specs.Output.{too_long_line}
 use Rattle.diag_cli.specs.declared.serving.TheConstants.{SCRIPT_LIMIT}
 use Rattle.device_files.proofs.FailedWrites.{gives_all, gives_after}
 use Rattle.diag_cli.proofs.AnsweredScripts.{breaks_behind, breaks_at_once, ready_then, ready_begun, lines_begun, first_given, answered_first, stopped_at_once, stopped_at_end}
-use Rattle.diag_cli.proofs.Shown.{served_shown}
+use Rattle.diag_cli.proofs.ShownEnds.{served_shown}
 use Rattle.diag_cli.proofs.serving.answer.Goals as goal
 
 pub returns-in-Err-clause-served : goal.returns-in-Err-clause-served

@@ -1,8 +1,8 @@
 use Rattle.std.proofs.Common.{[], ◌≡◌, refl, subst}
 use Rattle.std.specs.Prelude.{IfOk}
-use Rattle.device_files.specs.Refusals.{told_by}
+use Rattle.device_files.specs.Refusals.{refusal_output}
 use Rattle.diag_cli.specs.inner.Serving.{IsFor}
-use Rattle.diag_cli.proofs.Shown.{gives_shown}
+use Rattle.diag_cli.proofs.ShownEnds.{gives_shown}
 use Rattle.diag_cli.proofs.Headline.{follows_refusal, follows_serves}
 use Rattle.diag_cli.proofs.serving.answer_by.Goals as goal
 
@@ -15,5 +15,5 @@ returns-in-Ok-clause-follows g c = λ behaviour is.
 
 pub returns-in-Err-clause-follows : goal.returns-in-Err-clause-follows
 returns-in-Err-clause-follows g c = λ behaviour is.
-    follows_refusal _ _ _ _ _ behaviour (told_by c.in-Err.refusal) (subst (IsFor behaviour) c.in-Err.is is) (record { left = refl; taken = refl; faults = refl })
+    follows_refusal _ _ _ _ _ behaviour (refusal_output c.in-Err.refusal) (subst (IsFor behaviour) c.in-Err.is is) (record { left = refl; taken = refl; faults = refl })
     (gives_shown (g.O.Sink.shown_is _) (g.O.Sink.shown_is _) c.tell.ensures.said)

@@ -1,5 +1,5 @@
 use Rattle.elimination_forests.proofs.Chains.{chain-forest, chain-sum, chain-forks}
-use Rattle.elimination_forests.proofs.Lasts.{last-few, chain-whole}
+use Rattle.elimination_forests.proofs.LastLevels.{last-few, chain-whole}
 use Rattle.elimination_forests.proofs.LastWays.{chain-last}
 use Rattle.elimination_forests.proofs.laws.chain_is_order.Goals as goal
 

@@ -8,7 +8,7 @@ use Rattle.conditioner.specs.Models.{least_with}
 use Rattle.conditioner.proofs.StateBits.{is_ok, is_faulty, faulty_word, ok_word}
 use Rattle.diagnosis_lister.proofs.OpenMarks.{length-bits}
 use Rattle.probe_report.specs.Verdicts.{blame_of}
-use Rattle.probe_report.proofs.With.{bit-in}
+use Rattle.probe_report.proofs.ModelsWithBit.{bit-in}
 use Rattle.fault_graph.proofs.PresumedParts.{presumed-stays}
 use Rattle.fault_graph.proofs.Written.{slice_get-set_same, slice_get-set_other, not_open}
 use Rattle.fault_graph.proofs.blaming.confirm.Goals as goal

@@ -4,7 +4,7 @@ use Rattle.forest_states.specs.inner.BitLists.{copied}
 use Rattle.forest_states.specs.inner.Tables.{flags_in}
 use Rattle.forest_states.specs.inner.Walked.{picked}
 use Rattle.forest_states.proofs.Words.{length-copied}
-use Rattle.forest_states.proofs.Picking.{none, flags-on, picked-on, picked-last}
+use Rattle.forest_states.proofs.BitRuns.{none, flags-on, picked-on, picked-last}
 use Rattle.forest_states.proofs.picks.add_picked.Goals as goal
 
 pub loop-run-preserved : goal.loop-run-preserved

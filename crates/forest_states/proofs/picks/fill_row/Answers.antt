@@ -4,7 +4,7 @@ use Rattle.state_rules.specs.Bits.{row_number}
 use Rattle.forest_states.specs.inner.BitLists.{copied}
 use Rattle.forest_states.specs.inner.Tables.{flags_in, filled}
 use Rattle.forest_states.proofs.Words.{length-copied}
-use Rattle.forest_states.proofs.Picking.{none, flags-on, flags-rest}
+use Rattle.forest_states.proofs.BitRuns.{none, flags-on, flags-rest}
 use Rattle.forest_states.proofs.Masking.{filled-on, filled-last}
 use Rattle.forest_states.proofs.picks.fill_row.Goals as goal
 

@@ -5,7 +5,7 @@ use Rattle.forest_states.specs.inner.BitLists.{copied}
 use Rattle.forest_states.specs.inner.Tables.{flags_in}
 use Rattle.forest_states.specs.inner.Walked.{picked}
 use Rattle.forest_states.proofs.Words.{length-copied}
-use Rattle.forest_states.proofs.Picking.{none, flags-on, flags-rest, picked-next, picked-end}
+use Rattle.forest_states.proofs.BitRuns.{none, flags-on, flags-rest, picked-next, picked-end}
 use Rattle.forest_states.proofs.picks.pick_row.Goals as goal
 
 pub loop-run-init : goal.loop-run-init

@@ -11,7 +11,7 @@ use Rattle.clause_encoder.proofs.Sizes.{encoded-is, few_inner, encoded-few_vars}
 use Rattle.clause_encoder.proofs.OtherVariables.{list_from}
 use Rattle.frame_unroller.specs.Diagnosis.{frame_wires}
 use Rattle.frame_unroller.specs.Unrolling.{Copy, copies, named_copy, owners, shared_variables, shared, unrolled_by}
-use Rattle.frame_unroller.proofs.Kept.{OneEach, one_health-tidy, all_kept, encoded-list}
+use Rattle.frame_unroller.proofs.NoClauseLost.{OneEach, one_health-tidy, all_kept, encoded-list}
 use Rattle.frame_unroller.proofs.CopyClauses.{owner-at, frames-described}
 use Rattle.frame_unroller.proofs.unrolling.unroll_by.Goals as goal
 

@@ -2,7 +2,7 @@ use Rattle.std.proofs.Common.{◌-◌, set, ap, sym, ◌∙◌, arith}
 use Rattle.state_rules.specs.Ranking.{least}
 use Rattle.conditioner.specs.Evidence.{word_of}
 use Rattle.conditioner.specs.Models.{least_under}
-use Rattle.probe_report.proofs.With.{with-true, with-false, with-open, leaf-open, loose-again}
+use Rattle.probe_report.proofs.ModelsWithBit.{with-true, with-false, with-open, leaf-open, loose-again}
 use Rattle.probe_report.proofs.asking.least_where.Goals as goal
 
 pub returns-in-True-clause-least : goal.returns-in-True-clause-least

@@ -1,4 +1,4 @@
-use Rattle.session_core.proofs.Exact.{spell_replies}
+use Rattle.session_core.proofs.WrittenReplies.{spell_replies}
 use Rattle.session_core.proofs.laws.spells_replies.Goals as goal
 
 pub returns : goal.returns

@@ -38,11 +38,11 @@ told_lines desk s verdicts long some each =
     each i h ∙ ap (λ n. Some (verdict (map (λ (state : List Bool). not (bit_in state n)) ds))) z)
 
 -- and those that a desk has answered are those lines
-told_by : (old middle new : OnDesk) (s : Name) → middle ≡ old → new ≡ record middle { state = new.state; verdicts = new.verdicts }
+refusal_output : (old middle new : OnDesk) (s : Name) → middle ≡ old → new ≡ record middle { state = new.state; verdicts = new.verdicts }
     → length new.verdicts ≡ length new.subject.parts → true ≡ is_some (least_asked old)
     → ((part : ℕ) → part < length middle.subject.parts → slice_get new.verdicts part ≡ Some (blame_asked middle part))
     → verdict_lines s new.subject.parts new.verdicts ≡ blame_lines s (diagnoses_asked old) 0 old.subject.parts
-told_by old middle new s same stays long some each =
+refusal_output old middle new s same stays long some each =
     let parts : new.subject.parts ≡ old.subject.parts = ap (λ (d : OnDesk). d.subject.parts) (stays ∙ ap (λ (d : OnDesk). record d { state = new.state; verdicts = new.verdicts }) same) in
     ap (λ (ns : List Name). verdict_lines s ns new.verdicts) parts
     ∙ told_lines old s new.verdicts (long ∙ ap length parts) some
@@ -55,7 +55,7 @@ returns-in_err-put_blames-clause-reply g c =
     let s = c.args.session.now in
     let ds = diagnoses_asked old in
     let some = c.if-not-is_consistent.ensures.some in
-    let lines = told_by old c.is_consistent.new.self c.blame.new.self s c.is_consistent.ensures.same c.blame.ensures.stays c.blame.ensures.long some c.blame.ensures.blame in
+    let lines = refusal_output old c.is_consistent.new.self c.blame.new.self s c.is_consistent.ensures.same c.blame.ensures.stays c.blame.ensures.long some c.blame.ensures.blame in
     subst (λ (lines : List (List (List ℕ))). Replies (g.O.Sink.got c.args.out.now) (g.O.Sink.got c.put_blames.new.out) c.from_residual.result (map line lines))
     (sym (if_diagnosis-some system.costs s (agreeing old) (blame_lines s ds 0 system.parts ++ end_line s ∷ []) some))
     (lines_broken _ _ _ (blame_lines s ds 0 system.parts) (end_line s) c.from_residual.ensures.0
@@ -68,7 +68,7 @@ returns-clause-reply g c =
     let s = c.args.session.now in
     let ds = diagnoses_asked old in
     let some = c.if-not-is_consistent.ensures.some in
-    let lines = told_by old c.is_consistent.new.self c.blame.new.self s c.is_consistent.ensures.same c.blame.ensures.stays c.blame.ensures.long some c.blame.ensures.blame in
+    let lines = refusal_output old c.is_consistent.new.self c.blame.new.self s c.is_consistent.ensures.same c.blame.ensures.stays c.blame.ensures.long some c.blame.ensures.blame in
     subst (λ (lines : List (List (List ℕ))). Replies (g.O.Sink.got c.args.out.now) (g.O.Sink.got c.put_line-2.new.out) c.put_line-2.result (map line lines))
     (sym (if_diagnosis-some system.costs s (agreeing old) (blame_lines s ds 0 system.parts ++ end_line s ∷ []) some))
     (lines_then _ _ _ _ (blame_lines s ds 0 system.parts) (end_line s)

@@ -6,7 +6,7 @@ use Rattle.diagnosis_lister.specs.inner.Fixing.{fixed_bits}
 use Rattle.level_lister.specs.Listing.{point_if}
 use Rattle.level_lister.specs.Passes.{fixing_passes}
 use Rattle.level_lister.specs.declared.levels.LevelStep.TheVariants.{Found}
-use Rattle.level_lister.proofs.Listed.{next-first, next-none, none-none, step-end, step-found}
+use Rattle.level_lister.proofs.RisingCosts.{next-first, next-none, none-none, step-end, step-found}
 use Rattle.level_lister.proofs.levels.Levels.next_in.Goals as goal
 
 -- words after a place that are the same

@@ -4,7 +4,7 @@ use Rattle.level_lister.specs.inner.Pairs.{TellsNode, group_count, group_in}
 use Rattle.part_sets.proofs.Children.{child-below}
 use Rattle.level_lister.proofs.TwoWords.{tells_none}
 use Rattle.level_lister.proofs.Children.{child_full, or_next, or_end}
-use Rattle.level_lister.proofs.PairNodes.{Told, told_wider}
+use Rattle.level_lister.proofs.PairNodes.{Told, wider_groups}
 use Rattle.level_lister.proofs.pair_pass.PairPass.full_pair.Goals as goal
 
 pub loop-child-init : goal.loop-child-init
@@ -29,7 +29,7 @@ loop-child-preserved c evidence groups told =
     let child = subst (TellsNode graph c.args.self.now.skips.now evidence costs top groups (get_or kids j 0)) (sym c.pair_at.ensures) (told (get_or kids j 0) below) in
     or_next graph at kids ok c.requires.node.within c.kids-child-items.ensures c.args.self.now.skips.now c.requires.node.lives (Told evidence costs top groups c.either-pair.result) j lt
     (c.either-pair.ensures evidence costs top (group_count top) (group_in evidence (length costs) groups) _ _ _ (c.loop-child.invariant evidence groups told)
-    (told_wider evidence costs top groups c.pair_at.result _ _ _ (child_full graph at kids ok c.requires.node.within c.kids-child-items.ensures (length costs) j c.requires.node.what_is lt c.requires.same) child))
+    (wider_groups evidence costs top groups c.pair_at.result _ _ _ (child_full graph at kids ok c.requires.node.within c.kids-child-items.ensures (length costs) j c.requires.node.what_is lt c.requires.same) child))
 
 pub returns : goal.returns
 returns c evidence groups told =

@@ -6,7 +6,7 @@ use Rattle.part_sets.specs.PartSets.{ArePartsOf}
 use Rattle.level_lister.specs.inner.Skips.{living}
 use Rattle.level_lister.specs.inner.Pairs.{TellsNode, pair_at}
 use Rattle.level_lister.proofs.Children.{root_full}
-use Rattle.level_lister.proofs.PairNodes.{nodes_more, told_wider}
+use Rattle.level_lister.proofs.PairNodes.{nodes_more, wider_groups}
 use Rattle.level_lister.proofs.pair_pass.PairPass.put_all.Goals as goal
 
 pub loop-at-preserved : goal.loop-at-preserved
@@ -25,7 +25,7 @@ returns-then-lacking-root-eq0 c =
     let all : c.loop-at.at ≡ length graph.nodes = omega (arith, c.loop-at-test.false, c.loop-at.invariant.end, c.loop-at.auto.at-end) in
     let pair : c.pair_at-pair.result ≡ pair_at c.loop-at.values (length graph.nodes - 1) = c.pair_at-pair.ensures ∙ ap (pair_at c.loop-at.values) root in
     let full : get_or c.args.self.now.levels.now.lacking (length graph.nodes) 0 ≡ 0 = sym (λ i. get_or (c.lacking.ensures i) (next i) 0) ∙ c.if-lacking-root-eq0.true in
-    told_wider c.args.self.now.evidence.now costs c.args.self.now.levels.now.top c.args.self.now.groups c.pair_at-pair.result _ _ _ (root_full graph (length costs) (c.args.self.now.for_graph.lacking.all.0 full))
+    wider_groups c.args.self.now.evidence.now costs c.args.self.now.levels.now.top c.args.self.now.groups c.pair_at-pair.result _ _ _ (root_full graph (length costs) (c.args.self.now.for_graph.lacking.all.0 full))
     (subst (TellsNode graph c.args.self.now.skips.now c.args.self.now.evidence.now costs c.args.self.now.levels.now.top c.args.self.now.groups (length graph.nodes - 1)) (sym pair) (c.loop-at.invariant.told (length graph.nodes - 1) (omega (arith, inside, all))))
 
 pub returns : goal.returns

@@ -6,12 +6,12 @@ use Rattle.part_sets.specs.PartSets.{ArePartsOf}
 use Rattle.level_lister.specs.inner.Pairs.{group_count, group_in}
 use Rattle.level_lister.proofs.PartVariables.{grown, begun, further, ended, not_yet}
 use Rattle.level_lister.proofs.TwoWords.{tells_same}
-use Rattle.level_lister.proofs.PairNodes.{on_parts, told_wider}
+use Rattle.level_lister.proofs.PairNodes.{on_parts, wider_groups}
 use Rattle.level_lister.proofs.pair_pass.PairPass.widened.Goals as goal
 
 pub loop-part-init : goal.loop-part-init
 loop-part-init c = record {
-  told = λ test some more on_inner on_outer within is. told_wider c.args.self.now.evidence.now c.args.self.now.levels.now.costs c.args.self.now.levels.now.top c.args.self.now.groups c.args.pair test _ _
+  told = λ test some more on_inner on_outer within is. wider_groups c.args.self.now.evidence.now c.args.self.now.levels.now.costs c.args.self.now.levels.now.top c.args.self.now.groups c.args.pair test _ _
       (begun (length c.args.self.now.levels.now.costs) some more within c.set_at-below.result.now c.set_at-own.result.now on_inner on_outer c.next_missing-part.result c.next_missing-part.ensures.before) is;
   found = c.next_missing-part.ensures.found;
 }
@@ -47,5 +47,5 @@ returns c test some more on_inner on_outer within is =
     c.set_at-below.ensures.set ∙ (λ i. set_at (c.below.ensures i) c.args.outer ((c.part_words.ensures ∙ ap part_words parts) i)) in
     let inner : c.set_at-own.result.now ≡ set_at below c.args.inner (part_words (length costs)) =
     c.set_at-own.ensures.set ∙ (λ i. set_at (c.below-2.ensures i) c.args.inner ((c.part_words-2.ensures ∙ ap part_words parts) i)) in
-    told_wider evidence costs top c.args.self.now.groups c.loop-part.pair test _ _ (ended (length costs) some more within c.loop-part.part (omega (arith, c.loop-part-test.false, parts)))
+    wider_groups evidence costs top c.args.self.now.groups c.loop-part.pair test _ _ (ended (length costs) some more within c.loop-part.part (omega (arith, c.loop-part-test.false, parts)))
     (c.loop-part.invariant.told test some more (subst (ArePartsOf (length costs) some) (sym inner) on_inner) (subst (ArePartsOf (length costs) more) (sym outer) on_outer) within is)

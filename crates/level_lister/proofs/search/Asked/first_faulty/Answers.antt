@@ -1,5 +1,5 @@
 use Rattle.std.proofs.Common.{◌≡◌, ℕ, ◌+◌, ◌-◌, ◌/◌, ◌≤◌, length, ap, subst, sym, arith}
-use Rattle.level_lister.specs.Passes.{first_passes, told_groups}
+use Rattle.level_lister.specs.Passes.{first_passes, groups_per_pass}
 use Rattle.level_lister.proofs.FaultRanges.{range_start, range_next, IsRange, PassesLeft, left_next, range_small, size_some}
 use Rattle.level_lister.proofs.search.Asked.first_faulty.Goals as goal
 
@@ -18,18 +18,18 @@ loop-span-init g c =
 pub loop-span-preserved : goal.loop-span-preserved
 loop-span-preserved g c =
     let top = c.args.self.now.levels.now.top in
-    let count = c.told_groups-count.result in
+    let count = c.groups_per_pass-count.result in
     let low = c.loop-span.low in
     let span = c.loop-span.span in
     let group = c.faulty_group-group.result in
-    let same : c.told_groups-count.result ≡ told_groups top = c.told_groups-count.ensures.count in
+    let same : c.groups_per_pass-count.result ≡ groups_per_pass top = c.groups_per_pass-count.ensures.count in
     let le : group ≤ count = omega (arith, c.faulty_group-group.ensures.few, same) in
     record {
       range = range_next c.args.self.now.graph.now c.args.self.now.evidence.now c.args.self.now.levels.now.costs c.args.cost c.args.from low span count group le _
           (λ h. c.faulty_group-group.ensures.found (omega (arith, h, same))) c.faulty_group-group.ensures.before c.loop-span.invariant.range;
       some = size_some span count c.loop-span.invariant.some;
-      small = omega (arith, range_small low span count group le c.told_groups-count.ensures.few c.told_groups-count.ensures.some c.loop-span-test.true, c.loop-span.invariant.small);
-      passes = λ k h. subst (λ n. PassesLeft (told_groups top) ((span + n) / (n + 1)) c.tick.new.self (c.args.steps.now + first_passes top + k)) (sym same)
-          (subst (λ n. PassesLeft (told_groups top) ((span + told_groups top) / (told_groups top + 1)) n (c.args.steps.now + first_passes top + k)) (sym c.tick.ensures) (left_next (told_groups top) span c.loop-span.steps (c.args.steps.now + first_passes top + k) c.loop-span-test.true (c.loop-span.invariant.passes k h)));
+      small = omega (arith, range_small low span count group le c.groups_per_pass-count.ensures.few c.groups_per_pass-count.ensures.some c.loop-span-test.true, c.loop-span.invariant.small);
+      passes = λ k h. subst (λ n. PassesLeft (groups_per_pass top) ((span + n) / (n + 1)) c.tick.new.self (c.args.steps.now + first_passes top + k)) (sym same)
+          (subst (λ n. PassesLeft (groups_per_pass top) ((span + groups_per_pass top) / (groups_per_pass top + 1)) n (c.args.steps.now + first_passes top + k)) (sym c.tick.ensures) (left_next (groups_per_pass top) span c.loop-span.steps (c.args.steps.now + first_passes top + k) c.loop-span-test.true (c.loop-span.invariant.passes k h)));
       ready = c.faulty_group-group.ensures.ready;
     }

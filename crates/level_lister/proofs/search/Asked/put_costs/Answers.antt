@@ -5,7 +5,7 @@ use Rattle.std.proofs.lemmas.List.{get_or-set_same}
 use Rattle.state_rules.specs.Bits.{has_bit}
 use Rattle.part_sets.specs.Numbers.{has_number}
 use Rattle.level_lister.proofs.PairWhole.{pair_sound, pair_whole}
-use Rattle.level_lister.proofs.Whole.{whole_sound, whole_all}
+use Rattle.level_lister.proofs.RootCosts.{whole_sound, whole_all}
 use Rattle.level_lister.proofs.search.Asked.put_costs.Goals as goal
 
 -- a set whose first word is put

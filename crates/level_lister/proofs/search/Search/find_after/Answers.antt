@@ -6,7 +6,7 @@ use Rattle.diagnosis_lister.specs.inner.Fixing.{IsFirst, NoneAfter, fixed_bits}
 use Rattle.diagnosis_lister.proofs.OpenMarks.{length-bits}
 use Rattle.level_lister.specs.inner.Searching.{OfCost, CanAsk, FindsFirst, IsListed}
 use Rattle.diagnosis_lister.proofs.Points.{leaves-first}
-use Rattle.level_lister.proofs.Exact.{allows-cost}
+use Rattle.level_lister.proofs.StatesOfOneCost.{allows-cost}
 use Rattle.level_lister.proofs.FirstByCost.{Later, first-same, later-dearer, dearer-later, none-too_dear, finds-alike}
 use Rattle.level_lister.proofs.Skips.{enough_more}
 use Rattle.level_lister.proofs.search.Search.find_after.Goals as goal

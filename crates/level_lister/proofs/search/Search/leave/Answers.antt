@@ -14,7 +14,7 @@ use Rattle.diagnosis_lister.proofs.Faults.{faults-at, faults-back, faults-all}
 use Rattle.diagnosis_lister.proofs.OpenMarks.{length-bits}
 use Rattle.diagnosis_lister.proofs.Points.{follows-start, follows-back, none-held, tried-kept, none-tried, leaves-tried}
 use Rattle.level_lister.specs.inner.Searching.{OfCost}
-use Rattle.level_lister.proofs.Exact.{allows-cost}
+use Rattle.level_lister.proofs.StatesOfOneCost.{allows-cost}
 use Rattle.level_lister.proofs.Skips.{enough_more}
 use Rattle.level_lister.proofs.search.Search.leave.Goals as goal
 use Rattle.level_lister.proofs.search.Search.leave.Goals.{then-is_faulty+then-not-is_false+else-reaches, else-is_faulty, else-is_faulty-via-then-is_faulty+else-not-is_false, else-is_faulty-via-else-is_faulty}

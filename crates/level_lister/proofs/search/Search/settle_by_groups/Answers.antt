@@ -6,7 +6,7 @@ use Rattle.diagnosis_lister.proofs.Faults.{faults-kept, faults-added}
 use Rattle.diagnosis_lister.proofs.FixedParts.{FixesOk, Settles-start, settles-ok, settles-found, settles-end}
 use Rattle.scratch_pool.proofs.Counted.{block-below}
 use Rattle.level_lister.specs.inner.Pairs.{FaultIn, OkAmong}
-use Rattle.level_lister.proofs.Exact.{allows-cost}
+use Rattle.level_lister.proofs.StatesOfOneCost.{allows-cost}
 use Rattle.level_lister.proofs.Skips.{enough_more}
 use Rattle.level_lister.proofs.search.Search.settle_by_groups.Goals as goal
 

@@ -5,7 +5,7 @@ use Rattle.std.proofs.lemmas.List.{set-set}
 use Rattle.std.proofs.lemmas.List.Elements.{All-set}
 use Rattle.diagnosis_lister.proofs.Allowing.{Refines-more, Refines-set}
 use Rattle.diagnosis_lister.proofs.FixedParts.{settles-faulty, settles-end}
-use Rattle.level_lister.proofs.Exact.{allows-cost}
+use Rattle.level_lister.proofs.StatesOfOneCost.{allows-cost}
 use Rattle.level_lister.proofs.ByParts.{settles-held, settles-one_ok}
 use Rattle.level_lister.proofs.Skips.{enough_more}
 use Rattle.level_lister.proofs.search.Search.settle_by_parts.Goals as goal

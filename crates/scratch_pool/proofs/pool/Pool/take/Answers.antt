@@ -1,6 +1,6 @@
 use Rattle.std.proofs.Common.{rules, ℕ, sym, subst}
 use Rattle.scratch_pool.specs.Pools.{Blocks, IsOut, IsFree, IsSound}
-use Rattle.scratch_pool.proofs.Laws.{taken-zeroed, taken-others}
+use Rattle.scratch_pool.proofs.LentWords.{taken-zeroed, taken-others}
 use Rattle.scratch_pool.proofs.pool.Pool.take.Goals as goal
 
 pub returns-clause-zeros : goal.returns-clause-zeros

@@ -3,7 +3,7 @@ use Rattle.std.specs.Prelude.{is_ok, if◌then◌else◌}
 use Rattle.scratch_pool.specs.declared.region.Span.{Span}
 use Rattle.scratch_pool.specs.Regions.{Carved, IsSound, words_used, AreStacked}
 use Rattle.scratch_pool.proofs.Stacked.{used-append, stacked-append}
-use Rattle.scratch_pool.proofs.Laws.{carved-others}
+use Rattle.scratch_pool.proofs.LentWords.{carved-others}
 use Rattle.scratch_pool.proofs.region.Region.carve.Goals as goal
 
 pub invariant_of-self : goal.invariant_of-self

@@ -14,7 +14,7 @@ use Rattle.state_rules.proofs.Children.{at_most_one-tail, not_both}
 use Rattle.conditioner.specs.Evidence.{leaf_of}
 use Rattle.minimiser.specs.Costs.{part_cost, known_at, sum_costs, literal_cost, least_at}
 use Rattle.minimiser.proofs.Costs.{IsCost, as_cost, from_add, true_is}
-use Rattle.minimiser.proofs.Whole.{part_cost-none}
+use Rattle.minimiser.proofs.LeastOfModels.{part_cost-none}
 use Rattle.minimiser.proofs.Derivations.{is_cost, true-at, mention-at, costs-at, apart-kids, kids-cost, Apart, apart-tail, apart-both, cheapest-child, sum-child}
 use Rattle.fault_graph.proofs.LeastNodes.{StandsFor, StandsFor-same, stands-free, stands-literal, stands-never, stands-or, stands-other, stands-and}
 

@@ -4,7 +4,7 @@ use Rattle.state_rules.specs.Assignments.{Assignment}
 use Rattle.state_rules.specs.Bits.{bit_in}
 use Rattle.state_rules.specs.Ranking.{cost}
 use Rattle.state_rules.specs.Graphs.{Graph, IsGraph}
-use Rattle.minimiser.proofs.Whole.{state_of, assignment_of}
+use Rattle.minimiser.proofs.LeastOfModels.{state_of, assignment_of}
 use Rattle.node_costs.specs.Costs.{cost_among}
 use Rattle.node_costs.proofs.States.{cost-total}
 use Rattle.minimiser.specs.Costs.{part_cost}

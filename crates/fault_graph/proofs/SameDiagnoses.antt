@@ -16,7 +16,7 @@ use Rattle.minimiser.specs.inner.Held.{held_cost}
 use Rattle.node_costs.specs.Costs.{total}
 use Rattle.node_costs.proofs.Totals.{total-le}
 use Rattle.minimiser.proofs.Costs.{fault, all_faults, and_left, and_right}
-use Rattle.minimiser.proofs.Whole.{AddHeld, least_is, state_of, assignment_of}
+use Rattle.minimiser.proofs.LeastOfModels.{AddHeld, least_is, state_of, assignment_of}
 use Rattle.fault_graph.proofs.LeastNodes.{StandsFor}
 use Rattle.fault_graph.proofs.PlaceCosts.{high, over, place-cost}
 

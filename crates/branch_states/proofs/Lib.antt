@@ -2,4 +2,3 @@ pub mod OneStep
 pub mod FoundOrder
 pub mod ChainSteps
 pub mod Sums
-pub mod Examples

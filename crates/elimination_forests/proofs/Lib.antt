@@ -12,4 +12,3 @@ pub mod Chains
 pub mod LastLevels
 pub mod Weights
 pub mod LastWays
-pub mod Examples

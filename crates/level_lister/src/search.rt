@@ -1,5 +1,5 @@
 //! The search for the next state.
-ghost use Rattle.std.specs.Prelude.{◌≡◌, ℕ, ◌+◌, ◌*◌, ◌<◌, ◌≤◌, length, All, Some, MatchOption, slice_index};
+ghost use Rattle.std.specs.Prelude.{◌≡◌, ℕ, ◌+◌, ◌*◌, ◌<◌, ◌≤◌, length, All, Some, MatchOption};
 ghost use Rattle.std.proofs.Props.{props};
 ghost use Rattle.state_rules.specs.Graphs.{IsGraph};
 ghost use Rattle.conditioner.specs.Evidence.{bits_of};

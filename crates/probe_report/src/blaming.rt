@@ -1,4 +1,4 @@
-ghost use Rattle.std.specs.Prelude.{◌≡◌, ◌↔◌, ◌+◌, ◌-◌, ◌<◌, ◌≤◌, length, All, false, true, Some, IsTrue};
+ghost use Rattle.std.specs.Prelude.{◌≡◌, ◌+◌, ◌-◌, ◌<◌, ◌≤◌, length, All, false, true, Some};
 ghost use Rattle.conditioner.specs.Models.{least_under, least_with, total_cost};
 ghost use Rattle.probe_report.specs.Verdicts.{blame_of};
 

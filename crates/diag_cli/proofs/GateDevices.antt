@@ -1,6 +1,6 @@
 -- A device of gates of which no part is held is never at odds with what was seen: if all gates are faulty, they allow anything.
 use Rattle.std.proofs.Common.{◌≡◌, ℕ, zero, suc, Bool, true, false, List, [], ◌∷◌, ◌++◌, map, length, replicate, Option, Some, None, refl, sym, ◌∙◌, subst, ap}
-use Rattle.std.specs.Prelude.{Ok, ◌&&◌, IsSome, option_map, unwrap_or}
+use Rattle.std.specs.Prelude.{Ok, ◌&&◌, IsSome, fold, option_map, unwrap_or}
 use Rattle.std.specs.List.{filter_map, flat_map, list_all}
 use Rattle.std.specs.Option.{option_to_list}
 use Rattle.std.proofs.lemmas.Bool.{and_parts, and_from}
@@ -14,6 +14,7 @@ use Rattle.state_rules.specs.Ranking.{cost}
 use Rattle.state_rules.specs.Systems.{least_cost}
 use Rattle.state_rules.proofs.Bits.{same_bit-refl}
 use Rattle.state_rules.proofs.Members.{In, bits_in, any_in, AtMost, least-below}
+use Rattle.device_model.specs.declared.gates.Kind.{Kind}
 use Rattle.device_model.specs.declared.gates.Rule.{Rule}
 use Rattle.device_model.specs.declared.gates.Rule.TheVariants.{Gate as OfGate, Table as OfTable}
 use Rattle.device_model.specs.declared.component.Component.{Component}
@@ -26,7 +27,7 @@ use Rattle.device_model.proofs.SortedDevices.{component_name, list_all-sorted_di
 use Rattle.bench_reader.specs.declared.kinds.FlipFlops.TheVariants.{Refused}
 use Rattle.bench_reader.specs.Faults.{Fault, unless_fault}
 use Rattle.bench_reader.specs.Statements.{Statement, Input, Output, Gate}
-use Rattle.bench_reader.specs.Netlists.{part_over, part_of, device_of, fault_in, statement_in, faults_together, readings, netlist}
+use Rattle.bench_reader.specs.Netlists.{part_of, device_of, fault_in, statement_in, faults_together, readings, netlist}
 use Rattle.bench_reader.specs.inner.Steps.{is_faultless}
 use Rattle.bench_reader.proofs.Lines.{said, read_are_faultless}
 use Rattle.bench_reader.proofs.Parts.{faultless_gate}
@@ -55,7 +56,7 @@ of_statement (Input signal) h = refl
 of_statement (Output signal) h = refl
 of_statement (Gate output kind inputs) h =
     let gate = faultless_gate output kind inputs h in
-    ap (λ k. list_all named_gate (option_to_list (option_map (part_over output inputs) k))) gate.meant
+    ap (λ k. list_all named_gate (option_to_list (option_map (λ (g : Kind). record { name = output; kind = g; wires = inputs ++ output ∷ [] }) k))) gate.meant
     ∙ and_from _ _ (taken_gate (rule gate.gate) (length inputs) gate.taken) refl
 
 of_statements : (statements : List Statement) → list_all is_faultless statements ≡ true → list_all named_gate (flat_map part_of statements) ≡ true

@@ -1,7 +1,7 @@
 -- The copies as they are given build the device of the copies.
 use Rattle.std.proofs.Common.{◌≡◌, ℕ, ◌-◌, ◌≤◌, inl, inr, true, List, [], ◌∷◌, ◌++◌, map, length, Ok, refl, sym, ap, ◌∙◌, arith}
 use Rattle.std.specs.Prelude.{nat_lt}
-use Rattle.std.specs.List.{list_all}
+use Rattle.std.specs.List.{flat_map, list_all}
 use Rattle.std.proofs.lemmas.List.{length-append, length-map, map-append, take-append-drop}
 use Rattle.std.proofs.lemmas.List.Folds.{list_all-append, list_all-map}
 use Rattle.std.proofs.lemmas.Bool.{and_from}
@@ -25,8 +25,9 @@ use Rattle.device_model.proofs.SortedDevices.{component_name, list_all-among, li
 use Rattle.device_model.proofs.BuiltDevices.{wire_at as name_at, named, CanBeBuilt, built-over}
 use Rattle.device_model.proofs.CallerLemmas.{only_memory as only_memory_of}
 use Rattle.bench_reader.specs.declared.sequential.Sequential.{Sequential}
+use Rattle.frame_unroller.specs.Times.{times, wire_at}
 use Rattle.frame_unroller.specs.Frames.{inputs, output}
-use Rattle.frame_unroller.specs.Diagnosis.{wires_by_time, frame_wires}
+use Rattle.frame_unroller.specs.Diagnosis.{frame_wires}
 use Rattle.frame_unroller.specs.Unrolling.{Copy, copies, named_copy, frame_device}
 use Rattle.frame_unroller.specs.inner.Copying.{position_at, given_copy, AreCopies}
 use Rattle.frame_unroller.proofs.Members.{both_pass}
@@ -43,7 +44,7 @@ module _ (seq : Sequential) (frames : ℕ) (valid : IsDevice seq.device) where
   names = seq.device.wires
 
   abbrev given : List Name
-  given = wires_by_time seq frames
+  given = flat_map (λ t. map (wire_at t) seq.device.wires) (times frames)
 
   abbrev cs : List Copy
   cs = copies seq frames

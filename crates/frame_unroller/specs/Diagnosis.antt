@@ -13,13 +13,9 @@ use Rattle.bench_reader.specs.declared.sequential.Sequential.{Sequential}
 use Rattle.frame_unroller.specs.Times.{times, wire_at}
 use Rattle.frame_unroller.specs.Frames.{frame_fits}
 
--- all wires at all times, by time
-abbrev pub wires_by_time : Sequential → ℕ → List Name
-wires_by_time seq frames = flat_map (λ t. map (wire_at t) seq.device.wires) (times frames)
-
--- and in the order of their names
+-- all wires at all times, in the order of their names
 abbrev pub frame_wires : Sequential → ℕ → List Name
-frame_wires seq frames = sorted_distinct (λ n. n) (wires_by_time seq frames)
+frame_wires seq frames = sorted_distinct (λ n. n) (flat_map (λ t. map (wire_at t) seq.device.wires) (times frames))
 
 -- whether bits of all wires at all times fit
 abbrev pub fits_over : Sequential → ℕ → List Bool → List Bool → Bool

@@ -1,11 +1,11 @@
 -- Copies as they are given to the device: a port is a position among the wires by time.
 use Rattle.std.specs.Prelude.{◌≡◌, ℕ, ◌+◌, ◌-◌, ◌*◌, List, ◌++◌, map, length}
+use Rattle.std.specs.List.{flat_map}
 use Rattle.device_model.specs.declared.component.Component.{Component}
-use Rattle.frame_unroller.specs.Times.{copy_at}
+use Rattle.frame_unroller.specs.Times.{times, wire_at, copy_at}
 use Rattle.frame_unroller.specs.Frames.{inputs, output}
 use Rattle.text_rules.specs.Names.{Name}
 use Rattle.bench_reader.specs.declared.sequential.Sequential.{Sequential}
-use Rattle.frame_unroller.specs.Diagnosis.{wires_by_time}
 use Rattle.frame_unroller.specs.Unrolling.{Copy, copies, owners}
 
 -- where a wire stands at a time, of so many wires
@@ -23,4 +23,4 @@ given_copy wires copy = record {
 pub record AreCopies (seq : Sequential) (frames : ℕ) (parts : List Component) (places : List ℕ) (wires : List Name) : Type 0 where
   pub parts_are : parts ≡ map (given_copy (length seq.device.wires)) (copies seq frames)
   pub places_are : places ≡ owners seq frames
-  pub wires_are : wires ≡ wires_by_time seq frames
+  pub wires_are : wires ≡ flat_map (λ t. map (wire_at t) seq.device.wires) (times frames)

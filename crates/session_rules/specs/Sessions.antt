@@ -106,7 +106,7 @@ pub record Step : Type 0 where
   pub table : Table
   pub items : List Item
 
--- the moves of a line, where at most so many sessions may be open
+-- the moves of a line, where at most so many sessions may be open; each changes the table that the line found
 abbrev pub moves : System → ℕ → Table → Line → List Step
 moves system limit table Blank = []
 moves system limit table (Refused refusal) =

@@ -1,18 +1,12 @@
 -- What comes next of a listing, by what the listers answer.
-use Rattle.std.proofs.Common.{◌≡◌, ◌≢◌, ℕ, Bool, List, [], ◌∷◌, get_or, Option, None, refl, sym, arith}
-use Rattle.text_rules.specs.Names.{Name}
+use Rattle.std.proofs.Common.{◌≡◌, ◌≢◌, ℕ, Bool, List, [], ◌∷◌, get_or, None, refl, sym, arith}
 use Rattle.state_rules.specs.Ranking.{diagnoses}
 use Rattle.diagnosis_lister.specs.Listing.{step_of}
 use Rattle.level_lister.specs.Listing.{level_step}
 use Rattle.session_rules.specs.GraphSystems.{Subject}
-use Rattle.session_rules.specs.Sessions.{Entry}
-use Rattle.session_core.specs.declared.listed.Listed.{Listed}
 use Rattle.session_core.specs.declared.listed.Listed.TheVariants.{Diagnoses, Levels}
-use Rattle.session_core.specs.declared.listed.NextState.{NextState}
 use Rattle.session_core.specs.declared.listed.NextState.TheVariants.{Found}
-use Rattle.session_core.specs.inner.Bases.{case_in}
-use Rattle.session_core.specs.inner.Desks.{OnDesk, asked_case, later_states, next_of, next_after, of_step, of_level_step, IsFirst}
-use Rattle.session_core.specs.inner.Obeying.{the_found, found_as}
+use Rattle.session_core.specs.inner.Desks.{next_of, of_step, of_level_step, IsFirst}
 use Rattle.session_core.proofs.Questions.{least-some, has_diagnosis}
 
 pub is_first : (state other : List Bool) (later : List (List Bool)) → state ≡ get_or later 0 other → IsFirst state later
@@ -35,10 +29,3 @@ diagnosis_next subject costs (h ∷ hs) later =
     some_next subject h hs (diagnoses costs (h ∷ hs)) later (has_diagnosis costs (h ∷ hs) (sym (least-some costs h hs)))
 
 -- ---- what is found
-
--- what a desk finds after a point, if it has taken up the words of a session
-pub found_there : (desk taken : OnDesk) (words : List ℕ) (listed : Listed) (session : Name) (entry : Entry) (point : Option (List Bool)) (next : NextState) (state : List Bool)
-    → taken ≡ record desk { known = words } → case_in desk.subject words ≡ entry.known → point ≡ entry.point
-    → next ≡ next_after taken.subject listed (asked_case taken) point → IsFirst state (later_states taken.subject listed (asked_case taken) point)
-    → the_found desk.subject listed session entry ≡ found_as session desk.subject.parts entry.point next state
-found_there desk taken words listed session entry point next state is case at e first = grind arith

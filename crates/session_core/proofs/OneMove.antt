@@ -1,11 +1,10 @@
 -- Requests that are one move.
-use Rattle.std.proofs.Common.{◌≡◌, ◌∙◌, ◌∷◌, [], ℕ, Bool, List, Option, Some, None, Result, map, refl, ap, sym, subst}
-use Rattle.std.specs.Prelude.{nat_le, length}
+use Rattle.std.proofs.Common.{◌≡◌, ◌∷◌, [], ℕ, Bool, List, Option, Some, None, Result, refl, arith}
 use Rattle.text_rules.specs.Names.{Name}
 use Rattle.text_rules.specs.Tokens.{spaced}
 use Rattle.state_rules.specs.Systems.{System}
 use Rattle.diag_edge.specs.Edge.{Puts}
-use Rattle.script_lang.specs.Script.{asked, Request, Line, Ask, line_of}
+use Rattle.script_lang.specs.Script.{asked, Request}
 use Rattle.script_lang.specs.declared.line.Request.{Request as Read}
 use Rattle.script_lang.specs.declared.line.Request.TheVariants as read
 use Rattle.session_rules.specs.declared.refusal.Refusal.{Refusal}
@@ -14,11 +13,9 @@ use Rattle.session_rules.specs.Refusals.{refusal_row, error_words}
 use Rattle.session_rules.specs.Items.{line}
 use Rattle.session_rules.specs.Sessions.{Table, Entry, Move, changed, declined, outcome, when_open, entry_of}
 use Rattle.session_rules.specs.Spelling.{Replies}
-use Rattle.session_rules.specs.Carrying.{CarriesOut}
 use Rattle.session_rules.proofs.Broken.{carries_one}
-use Rattle.session_rules.proofs.KeptCases.{step_from}
 use Rattle.session_rules.proofs.Spellings.{replies_one}
-use Rattle.session_core.specs.Services.{Shown, exact_moves, moves_of, outcome_of, served_system}
+use Rattle.session_core.specs.Services.{Shown, outcome_of, served_system}
 use Rattle.session_core.specs.inner.Obeying.{Obeys}
 
 -- the table of a service is another
@@ -27,16 +24,12 @@ with_table shown table = record shown { table = table }
 
 -- what an open session is asked is answered by its entry
 pub asked_open : (old : Shown) (session : Name) (request : Request) (entry : Entry) → entry_of session old.table ≡ Some entry → outcome_of old session request ≡ when_open (served_system old.subject) session entry request
-asked_open old session request entry found = ap (λ (e : Option Entry). outcome (served_system old.subject) session (nat_le old.limit (length old.table)) e request) found
+asked_open old session request entry found = grind arith
 
 -- a request that comes to one move was carried out
 pub obeys_one : {T E : Type 0} (old new : Shown) (session : Name) (request : Request) (move : Move) (before after : Option (List ℕ)) (result : Result T E) → outcome_of old session request ≡ move ∷ []
     → new ≡ with_table old (changed session move.change old.table) → Replies before after result move.items → Obeys old new session request before after result
-obeys_one old new session request move before after result is becomes reply = record {
-  carried = subst (λ (ms : List Move). CarriesOut old.table new.table (map (step_from old.table session) ms) before after result) (sym is)
-      (carries_one old.table new.table (step_from old.table session move) before after result reply (ap (λ (s : Shown). s.table) becomes));
-  stays = becomes ∙ sym (ap (λ (s : Shown). with_table old s.table) becomes);
-}
+obeys_one old new session request move before after result is becomes reply = grind (arith, carries_one)
 
 -- a refusal
 pub obeys_refusal : {T E : Type 0} (old : Shown) (session : Name) (request : Request) (before after : Option (List ℕ)) (result : Result T E) (refusal : Refusal)
@@ -50,12 +43,4 @@ unopened_by system session full request other = refl
 
 -- a session that is not open can only be opened
 pub unopened : (old : Shown) (session : Name) (request : Read) → (request ≡ read.Start → ⊥) → entry_of session old.table ≡ None → outcome_of old session (asked request) ≡ declined session NoSession
-unopened old session request other none =
-    let full = nat_le old.limit (length old.table) in
-    ap (λ (e : Option Entry). outcome (served_system old.subject) session full e (asked request)) none ∙ unopened_by (served_system old.subject) session full request other
-
--- a line that asks this was carried out
-pub line_carried : {T E : Type 0} (old new : Shown) (session : Name) (request : Request) (bytes : List ℕ) (before after : Option (List ℕ)) (result : Result T E) → Ask session request ≡ line_of bytes
-    → Obeys old new session request before after result → CarriesOut old.table new.table (moves_of old old.table bytes) before after result
-line_carried old new session request bytes before after result is obeys =
-    subst (λ (l : Line). CarriesOut old.table new.table (exact_moves old old.table l) before after result) is obeys.carried
+unopened old session request other none = grind (arith, unopened_by)

@@ -4,7 +4,7 @@ use Rattle.std.specs.Prelude.{length, nat_le}
 use Rattle.std.specs.List.{flat_map}
 use Rattle.text_rules.specs.Names.{Name}
 use Rattle.state_rules.specs.Systems.{System}
-use Rattle.script_lang.specs.Script.{Line, Blank, Refused, Ask, Request, line_of}
+use Rattle.script_lang.specs.Script.{Line, Blank, Refused, Ask, Request}
 use Rattle.session_rules.specs.Items.{Item, Plain, Projected, LeastText, Whole, line}
 use Rattle.session_rules.specs.Replies.{Found, listing}
 use Rattle.session_rules.specs.Sessions.{Table, Entry, Becomes, Move, entry_of, outcome, moves, said, left_by}
@@ -75,7 +75,7 @@ script-plain shown table [] = tt
 script-plain shown table (l ∷ lines) =
     let first = moves_of shown table l in
     let rest = script_moves (moves_of shown) (left_by table first) lines in
-    subst ArePlain (sym (said-append first rest)) (plain_both (said first) (said rest) (moves-plain shown.subject shown.limit table (line_of l)) (script-plain shown (left_by table first) lines))
+    grind (arith, said-append, plain_both, moves-plain, script-plain shown (left_by table first) lines)
 
 -- so the bytes are the same, and the table, whenever the script is answered
 pub one_text : (shown : Shown) (old new other : Table) (lines : List (List ℕ)) (bytes : List ℕ) (a b : Option (List ℕ))

@@ -16,10 +16,6 @@ use Rattle.session_core.proofs.Minimum.{no_diagnosis, some_diagnosis}
 
 -- ---- a wire that is seen or not
 
--- a wire that is seen has no line, and another one its own
-pub unseen-none : (system : System) (s : Name) (known : Case) (name : Name) (wire : ℕ) → true ≡ is_some (seen_at known wire) → unseen_line system s known name wire ≡ []
-unseen-none system s known name wire e = grind arith
-
 pub unseen-one : (system : System) (s : Name) (known : Case) (name : Name) (wire : ℕ) → false ≡ is_some (seen_at known wire) → unseen_line system s known name wire ≡ probe_line system s known name wire ∷ []
 unseen-one system s known name wire e = grind arith
 

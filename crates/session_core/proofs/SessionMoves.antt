@@ -5,26 +5,23 @@ use Rattle.std.proofs.lemmas.List.{map-append}
 use Rattle.std.specs.Ordering.{nat_cmp}
 use Rattle.std.specs.Cmp.Lexicographic.{slice_cmp}
 use Rattle.std.specs.FinMap.Entries.{by_order, put}
-use Rattle.std.proofs.lemmas.Cmp.{nat_list_cmp_total, tied_itself}
+use Rattle.std.proofs.lemmas.Cmp.{nat_list_cmp_total}
 use Rattle.text_rules.specs.Names.{Name}
-use Rattle.session_rules.specs.GraphSystems.{Subject}
-use Rattle.session_rules.specs.declared.refusal.Refusal.TheVariants.{NoLevels}
 use Rattle.session_rules.specs.Items.{Item, line}
 use Rattle.session_rules.specs.Replies.{Found as Reply, listing}
-use Rattle.session_rules.specs.Sessions.{Table, Entry, Becomes, Step, declined, lists, with_entry, when_open}
+use Rattle.session_rules.specs.Sessions.{Table, Entry, Becomes, Step, lists, with_entry}
 use Rattle.session_rules.specs.Spelling.{WritesPart, Replies}
 use Rattle.session_rules.specs.Carrying.{Makes, BreaksOff, CarriesOut}
 use Rattle.session_rules.proofs.Spellings.{writes_none}
 use Rattle.session_rules.proofs.Broken.{makes_none, makes_more, breaks_after}
 use Rattle.session_table.specs.Tables.{StandsAt}
-use Rattle.session_core.specs.Services.{Shown, ChangesTable, served_system}
+use Rattle.session_core.specs.Services.{Shown, ChangesTable}
 use Rattle.session_core.specs.declared.listed.Listed.{Listed}
 use Rattle.session_core.specs.declared.listed.NextState.{NextState}
 use Rattle.session_core.specs.inner.Desks.{is_listed, is_found}
 use Rattle.session_core.specs.inner.Texts.{next_text}
 use Rattle.session_core.specs.inner.Obeying.{Obeys, goes_on, list_request, the_found, found_by, found_moves, PointMoves, MovesOn}
 use Rattle.session_rules.proofs.KeptCases.{step_from}
-use Rattle.session_core.proofs.OneMove.{asked_open}
 
 -- ---- a reply that failed
 
@@ -42,7 +39,7 @@ twice_by : {X : Type 0} (name : Name) (v w : X) (e : Name × X) (es : List (Name
 twice_by name v w e es o is later = grind (arith, nat_list_cmp_total)
 
 put_twice : {X : Type 0} (name : Name) (v w : X) (es : List (Name × X)) → put (slice_cmp nat_cmp) name w (put (slice_cmp nat_cmp) name v es) ≡ put (slice_cmp nat_cmp) name w es
-put_twice name v w [] = ap (λ o. by_order o ((name, w) ∷ (name, v) ∷ []) ((name, w) ∷ []) ((name, v) ∷ put (slice_cmp nat_cmp) name w [])) (tied_itself nat_list_cmp_total name)
+put_twice name v w [] = grind (arith, nat_list_cmp_total)
 put_twice name v w (e ∷ es) = twice_by name v w e es (slice_cmp nat_cmp name e.0) refl (put_twice name v w es)
 
 -- ---- once
@@ -52,10 +49,6 @@ pub moves_on : {E : Type 0} (old new : Shown) (listed : Listed) (place : ℕ) (s
     → Replies before after result (line (next_text session old.subject.parts next state) ∷ []) → IfOk result (λ more. more ≡ is_found next)
     → MovesOn old new listed place session entry before after result
 moves_on old new listed place session entry next state before after result m stays reply more = grind arith
-
--- what is not listed is declined
-pub list_declined : (subject : Subject) (listed : Listed) (session : Name) (entry : Entry) (count : ℕ) → is_listed subject listed ≡ false → when_open (served_system subject) session entry (list_request listed count) ≡ declined session NoLevels
-list_declined subject listed session entry count off = grind arith
 
 -- ---- so many times
 
@@ -73,7 +66,7 @@ pub lists_none : (old : Shown) (listed : Listed) (place : ℕ) (session : Name) 
 lists_none old listed place session entry count before stands = record {
   point = entry.point;
   done = [];
-  both = ap (λ (n : ℕ). listing (found_by old.subject listed session entry) n entry.point) (let e : count - 0 ≡ count = omega arith in e);
+  both = grind arith;
   made = makes_none old.table before;
   moved = ap (λ (t : Table). record old { table = t }) (sym stands.kept);
   stands = stands;
@@ -163,18 +156,8 @@ stepped : (table : Table) (session : Name) (entry : Entry) (found : List Reply)
 stepped table session entry [] = refl
 stepped table session entry (f ∷ found) = ap (λ (ms : List Step). goes_on table session entry f ∷ ms) (stepped table session entry found)
 
-open_lists : (subject : Subject) (listed : Listed) (session : Name) (entry : Entry) (count : ℕ) → is_listed subject listed ≡ true
-    → lists entry (found_by subject listed session entry) count ≡ when_open (served_system subject) session entry (list_request listed count)
-open_lists subject listed session entry count is = grind arith
-
 -- the request was obeyed
 pub obeys_list : {T E : Type 0} (old new : Shown) (listed : Listed) (place : ℕ) (session : Name) (entry : Entry) (count : ℕ) (before after : Option (List ℕ)) (result : Result T E)
     → is_listed old.subject listed ≡ true → StandsAt old.table place session entry
     → CarriesOut old.table new.table (found_moves old listed session entry count) before after result → ChangesTable old new → Obeys old new session (list_request listed count) before after result
-obeys_list old new listed place session entry count before after result is stands given stays = record {
-  carried = subst (λ (ms : List Step). CarriesOut old.table new.table ms before after result)
-      (stepped old.table session entry (listing (found_by old.subject listed session entry) count entry.point)
-      ∙ ap (map (step_from old.table session)) (open_lists old.subject listed session entry count is ∙ sym (asked_open old session (list_request listed count) entry stands.found)))
-      given;
-  stays = stays;
-}
+obeys_list old new listed place session entry count before after result is stands given stays = grind (arith, stepped)

@@ -8,7 +8,6 @@ use Rattle.state_rules.specs.Cases.{Case}
 use Rattle.diag_edge.specs.Edge.{Puts}
 use Rattle.device_model.specs.Devices.{place_of}
 use Rattle.script_lang.specs.Script.{Request}
-use Rattle.script_lang.specs.declared.line.Noted.{Noted}
 use Rattle.session_rules.specs.CaseEvidence.{case_of_evidence, IsEvidence}
 use Rattle.session_rules.specs.GraphSystems.{Subject}
 use Rattle.session_rules.specs.Items.{line}
@@ -17,10 +16,10 @@ use Rattle.session_rules.specs.Refusals.{refusal_row, error_words}
 use Rattle.session_rules.specs.Sessions.{Table, Change, Move, changed, declined, when_open}
 use Rattle.session_rules.specs.Spelling.{Replies}
 use Rattle.session_rules.proofs.Spellings.{replies_one}
-use Rattle.session_table.specs.Tables.{Opened, count_of}
+use Rattle.session_table.specs.Tables.{Opened}
 use Rattle.session_core.specs.Services.{Shown, served_system}
 use Rattle.session_core.specs.declared.sessions.OpenSession.{OpenSession}
-use Rattle.session_core.specs.inner.Bases.{AreKnown, case_in, names_of}
+use Rattle.session_core.specs.inner.Bases.{AreKnown, case_in}
 use Rattle.session_core.specs.inner.Holding.{HoldsTogether, shown_of}
 use Rattle.session_core.specs.inner.Obeying.{Obeys, IsOpen}
 use Rattle.session_core.proofs.OneMove.{obeys_one, asked_open}
@@ -35,10 +34,6 @@ place-within name names place e = (position-Some (same_name name) names place []
 -- parts of a service fit together also where the table is another
 pub holds_more : (subject : Subject) (old new : Opened) (table : Table) → HoldsTogether subject old → new ≡ opened_with old table → HoldsTogether subject new
 holds_more subject old new table h e = grind arith
-
--- there are as many places for notes as wires, or parts
-pub count-there : (subject : Subject) (opened : Opened) → HoldsTogether subject opened → (what : Noted) → length (names_of subject what) ≡ count_of opened.parts opened.wires what
-count-there subject opened h what = grind arith
 
 -- ---- what an open session is asked
 

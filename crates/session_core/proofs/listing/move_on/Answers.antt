@@ -1,4 +1,4 @@
-use Rattle.std.proofs.Common.{◌≡◌, ◌∙◌, ◌∷◌, [], Ok, ℕ, List, ap, ap₂, sym, refl, subst}
+use Rattle.std.proofs.Common.{◌≡◌, ◌∷◌, [], Ok, ℕ, List, ap₂, sym, refl, subst, arith}
 use Rattle.text_rules.specs.Names.{Name}
 use Rattle.conditioner.specs.Evidence.{bits_of}
 use Rattle.session_rules.specs.GraphSystems.{Subject}
@@ -22,7 +22,7 @@ returns-in_err-put_next-clause-moves g c = λ entry stands.
     let s = c.args.session.name.now in
     let next = c.find-next.result in
     let state = bits_of c.find-next.new.desk.state in
-    let words = ap₂ (λ (parts : List Name) (st : List ℕ). next_text s parts next (bits_of st)) (c.parts.ensures.names ∙ ap (λ (u : Subject). u.parts) (c.basis.ensures ∙ c.find-next.ensures.subject)) c.state.ensures.state in
+    let words = ap₂ (λ (parts : List Name) (st : List ℕ). next_text s parts next (bits_of st)) (grind arith) c.state.ensures.state in
     moves_on (shown_of old c.args.opened.now) (shown_of c.find-next.new.desk.subject c.find-next.new.opened) c.args.listed c.args.session.place s entry next state _ _ c.from_residual.result
     (c.find-next.ensures.moves s entry stands) (ap₂ shown_of c.find-next.ensures.subject c.find-next.ensures.stays)
     (replies_part _ _ _ (line (next_text s old.parts next state) ∷ []) c.from_residual.ensures.0
@@ -36,7 +36,7 @@ returns-clause-moves g c = λ entry stands.
     let s = c.args.session.name.now in
     let next = c.find-next.result in
     let state = bits_of c.find-next.new.desk.state in
-    let words = ap₂ (λ (parts : List Name) (st : List ℕ). next_text s parts next (bits_of st)) (c.parts.ensures.names ∙ ap (λ (u : Subject). u.parts) (c.basis.ensures ∙ c.find-next.ensures.subject)) c.state.ensures.state in
+    let words = ap₂ (λ (parts : List Name) (st : List ℕ). next_text s parts next (bits_of st)) (grind arith) c.state.ensures.state in
     moves_on (shown_of old c.args.opened.now) (shown_of c.find-next.new.desk.subject c.find-next.new.opened) c.args.listed c.args.session.place s entry next state _ _ (Ok c.is_found.result)
     (c.find-next.ensures.moves s entry stands) (ap₂ shown_of c.find-next.ensures.subject c.find-next.ensures.stays)
     (subst (λ (ws : List (List ℕ)). Writes (g.O.Sink.got c.args.out.now) (g.O.Sink.got c.put_next.new.out) (line ws ∷ [])) words
@@ -44,13 +44,13 @@ returns-clause-moves g c = λ entry stands.
     c.is_found.ensures
 
 pub returns-in_err-put_next-clause-together : goal.returns-in_err-put_next-clause-together
-returns-in_err-put_next-clause-together g c = together c.args.desk.now.subject c.find-next.new.desk c.args.opened.now c.find-next.new.opened c.requires.together c.find-next.ensures.subject c.find-next.ensures.stays
+returns-in_err-put_next-clause-together g c = grind arith
 
 pub returns-in_err-put_next-clause-stays : goal.returns-in_err-put_next-clause-stays
 returns-in_err-put_next-clause-stays g c = ap₂ shown_of c.find-next.ensures.subject c.find-next.ensures.stays
 
 pub returns-clause-together : goal.returns-clause-together
-returns-clause-together g c = together c.args.desk.now.subject c.find-next.new.desk c.args.opened.now c.find-next.new.opened c.requires.together c.find-next.ensures.subject c.find-next.ensures.stays
+returns-clause-together g c = grind arith
 
 pub returns-clause-stays : goal.returns-clause-stays
 returns-clause-stays g c = ap₂ shown_of c.find-next.ensures.subject c.find-next.ensures.stays

@@ -21,16 +21,4 @@ returns-in_err-put_unseen-clause-reply g c =
     c.loop-wire.invariant.said c.in_err-put_unseen.ensures.reply
 
 pub loop-wire-preserved : goal.loop-wire-preserved
-loop-wire-preserved g c =
-    let desk = c.args.desk.now in
-    let system = served_system desk.subject in
-    let s = c.args.session.now in
-    let known = asked_case desk in
-    let i = c.loop-wire.wire in
-    let wires = ap length c.wires.ensures.names ∙ ap (λ (u : Subject). length u.wires) c.basis.ensures in
-    record {
-      said = said_more _ _ _ (unseen_line system s known (get_or system.wires i []) i) (probe_lines system s known (i + 1) (drop (i + 1) system.wires)) _ _
-          (lines-next system s known system.wires i (omega (arith, c.loop-wire-test.true, wires)))
-          c.loop-wire.invariant.said c.in_ok-put_unseen.ensures.reply;
-      faults = c.in_ok-put_unseen.ensures.cause.stayed ∙ c.loop-wire.invariant.faults;
-    }
+loop-wire-preserved g c = grind (arith, said_more, lines-next)

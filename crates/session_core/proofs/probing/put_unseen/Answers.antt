@@ -1,23 +1,17 @@
-use Rattle.std.proofs.Common.{◌∙◌, ◌∷◌, [], ℕ, List, map, get_or, codes, true, false, ap, sym, subst}
+use Rattle.std.proofs.Common.{◌∙◌, ◌∷◌, [], ℕ, List, map, get_or, codes, true, false, ap, sym, subst, arith}
 use Rattle.text_rules.specs.Tokens.{spaced}
 use Rattle.session_rules.specs.GraphSystems.{Subject}
 use Rattle.session_rules.specs.Items.{line}
 use Rattle.session_rules.specs.Replies.{count_text, probe_line}
-use Rattle.session_rules.specs.Spelling.{Writes, Replies}
+use Rattle.session_rules.specs.Spelling.{Replies}
 use Rattle.session_rules.proofs.Spellings.{replies_one, writes_none}
 use Rattle.session_core.specs.Services.{served_system}
 use Rattle.session_core.specs.inner.Desks.{asked_case}
-use Rattle.session_core.proofs.Questions.{unseen-none, unseen-one}
+use Rattle.session_core.proofs.Questions.{unseen-one}
 use Rattle.session_core.proofs.probing.put_unseen.Goals as goal
 
 pub returns-then-is_seen-clause-reply : goal.returns-then-is_seen-clause-reply
-returns-then-is_seen-clause-reply g c =
-    let desk = c.args.desk.now in
-    let system = served_system desk.subject in
-    let wire = c.args.wire in
-    subst (λ (ls : List (List (List ℕ))). Writes (g.O.Sink.got c.args.out.now) (g.O.Sink.got c.args.out.now) (map line ls))
-    (sym (unseen-none system c.args.session.now (asked_case desk) (get_or system.wires wire []) wire c.if-is_seen.ensures))
-    (writes_none _)
+returns-then-is_seen-clause-reply g c = grind (arith, writes_none)
 
 pub returns-clause-reply : goal.returns-clause-reply
 returns-clause-reply g c =

@@ -1,13 +1,13 @@
-use Rattle.std.proofs.Common.{◌∙◌, ◌∷◌, ◌++◌, ◌<◌, [], ℕ, Bool, List, map, length, refl, ap, sym, subst}
+use Rattle.std.proofs.Common.{◌∙◌, ◌∷◌, ◌++◌, ◌<◌, [], ℕ, Bool, List, map, length, refl, ap, sym, subst, arith}
 use Rattle.text_rules.specs.Names.{Name}
 use Rattle.session_rules.specs.Items.{line}
 use Rattle.session_rules.specs.Replies.{probe_lines, end_line, inconsistent}
-use Rattle.session_rules.specs.Spelling.{Writes, WritesPart, Replies}
+use Rattle.session_rules.specs.Spelling.{Replies}
 use Rattle.session_rules.proofs.Spellings.{replies_one}
 use Rattle.session_core.specs.Services.{served_system}
 use Rattle.session_core.specs.inner.Desks.{OnDesk, asked_case, agreeing, least_seen}
 use Rattle.session_core.proofs.Told.{lines_then, lines_broken}
-use Rattle.session_core.proofs.Questions.{if_any-none, if_any-some}
+use Rattle.session_core.proofs.Questions.{if_any-none}
 use Rattle.session_core.proofs.probing.tell_probes.Goals as goal
 
 -- the lines of the wires, on a desk
@@ -29,14 +29,7 @@ put_probes-requires g c = λ (wire : ℕ) (bit : Bool) (h : wire < length c.prob
     ∙ sym (ap (λ (d : OnDesk). least_seen d wire bit) stays)
 
 pub returns-in_err-put_probes-clause-reply : goal.returns-in_err-put_probes-clause-reply
-returns-in_err-put_probes-clause-reply g c =
-    let old = c.args.desk.now in
-    let s = c.args.session.now in
-    let lines = ap (λ (d : OnDesk). lines_on d s) c.probe_all.ensures.stays in
-    subst (λ (ls : List (List (List ℕ))). Replies (g.O.Sink.got c.args.out.now) (g.O.Sink.got c.put_probes.new.out) c.from_residual.result (map line ls))
-    (sym (if_any-some old.subject.costs s (agreeing old) (lines_on old s ++ end_line s ∷ []) c.if-not-probe_all.ensures.some))
-    (lines_broken _ _ _ (lines_on old s) (end_line s) c.from_residual.ensures.0
-    (subst (λ (ls : List (List (List ℕ))). WritesPart (g.O.Sink.got c.args.out.now) (g.O.Sink.got c.put_probes.new.out) (map line ls)) lines c.in_err-put_probes.ensures.reply))
+returns-in_err-put_probes-clause-reply g c = grind (arith, lines_broken)
 
 pub returns-clause-reply : goal.returns-clause-reply
 returns-clause-reply g c =
@@ -44,7 +37,7 @@ returns-clause-reply g c =
     let s = c.args.session.now in
     let lines = ap (λ (d : OnDesk). lines_on d s) c.probe_all.ensures.stays in
     subst (λ (ls : List (List (List ℕ))). Replies (g.O.Sink.got c.args.out.now) (g.O.Sink.got c.put_line-2.new.out) c.put_line-2.result (map line ls))
-    (sym (if_any-some old.subject.costs s (agreeing old) (lines_on old s ++ end_line s ∷ []) c.if-not-probe_all.ensures.some))
+    (grind arith)
     (lines_then _ _ _ _ (lines_on old s) (end_line s)
-    (subst (λ (ls : List (List (List ℕ))). Writes (g.O.Sink.got c.args.out.now) (g.O.Sink.got c.put_probes.new.out) (map line ls)) lines c.in_ok-put_probes.ensures.reply)
+    (grind arith)
     (replies_one _ _ _ (line (end_line s)) _ refl c.put_line-2.ensures.bytes))

@@ -1,11 +1,11 @@
-use Rattle.std.proofs.Common.{◌∙◌, ◌+◌, ◌<◌, ◌∷◌, [], ℕ, List, ap, ap₂, subst, length, get_or, drop, codes, arith}
+use Rattle.std.proofs.Common.{◌∙◌, ◌+◌, ◌<◌, ◌∷◌, [], ℕ, List, ap, ap₂, length, get_or, drop, codes, arith}
 use Rattle.std.proofs.lemmas.List.{get_or_read}
 use Rattle.text_rules.specs.Tokens.{spaced}
 use Rattle.probe_report.specs.declared.verdicts.Blame.TheVariants.{Always}
 use Rattle.session_rules.specs.GraphSystems.{Subject}
 use Rattle.session_rules.specs.Items.{line}
 use Rattle.session_core.specs.inner.Texts.{blame_text}
-use Rattle.session_core.specs.inner.Telling.{Said, verdict_lines}
+use Rattle.session_core.specs.inner.Telling.{verdict_lines}
 use Rattle.session_core.proofs.Told.{said_more, said_part, writes_one, part_one}
 use Rattle.session_core.proofs.Questions.{verdicts-next}
 use Rattle.session_core.proofs.telling.put_blames.Goals as goal
@@ -25,7 +25,7 @@ returns-in_err-put_blame-clause-reply g c =
     let said = c.loop-part.invariant.said in
     said_part _ _ _ _ (one ∷ []) (verdict_lines s (drop (i + 1) names) (drop (i + 1) verdicts)) _ _ c.from_residual.ensures.0
     (verdicts-next s names verdicts i Always c.loop-part-test.true below)
-    (subst (λ (xs : List (List (List ℕ))). Said (g.O.Sink.got c.args.out.now) (g.O.Sink.got c.loop-part.out) (verdict_lines s (drop i names) (drop i verdicts)) xs) all said)
+    (grind arith)
     (part_one _ _ (line one) _ (ap (λ (n : List ℕ). spaced (s ∷ codes "blame" ∷ n ∷ word ∷ [])) name) c.in_err-put_blame.ensures.text)
 
 pub loop-part-preserved : goal.loop-part-preserved

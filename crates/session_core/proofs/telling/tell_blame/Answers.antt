@@ -6,7 +6,7 @@ use Rattle.probe_report.specs.declared.verdicts.Blame.{Blame}
 use Rattle.probe_report.specs.Verdicts.{verdict}
 use Rattle.session_rules.specs.Items.{line}
 use Rattle.session_rules.specs.Replies.{blame_lines, end_line, inconsistent}
-use Rattle.session_rules.specs.Spelling.{Writes, WritesPart, Replies}
+use Rattle.session_rules.specs.Spelling.{Replies}
 use Rattle.session_rules.proofs.Spellings.{replies_one}
 use Rattle.session_core.specs.Services.{served_system}
 use Rattle.session_core.specs.inner.Desks.{OnDesk, agreeing, diagnoses_asked, least_asked, blame_asked}
@@ -38,15 +38,15 @@ told_lines desk s verdicts long some each =
     each i h ∙ ap (λ n. Some (verdict (map (λ (state : List Bool). not (bit_in state n)) ds))) z)
 
 -- and those that a desk has answered are those lines
-refusal_output : (old middle new : OnDesk) (s : Name) → middle ≡ old → new ≡ record middle { state = new.state; verdicts = new.verdicts }
+blame_said : (old middle new : OnDesk) (s : Name) → middle ≡ old → new ≡ record middle { state = new.state; verdicts = new.verdicts }
     → length new.verdicts ≡ length new.subject.parts → true ≡ is_some (least_asked old)
     → ((part : ℕ) → part < length middle.subject.parts → slice_get new.verdicts part ≡ Some (blame_asked middle part))
     → verdict_lines s new.subject.parts new.verdicts ≡ blame_lines s (diagnoses_asked old) 0 old.subject.parts
-refusal_output old middle new s same stays long some each =
-    let parts : new.subject.parts ≡ old.subject.parts = ap (λ (d : OnDesk). d.subject.parts) (stays ∙ ap (λ (d : OnDesk). record d { state = new.state; verdicts = new.verdicts }) same) in
+blame_said old middle new s same stays long some each =
+    let parts : new.subject.parts ≡ old.subject.parts = grind arith in
     ap (λ (ns : List Name). verdict_lines s ns new.verdicts) parts
     ∙ told_lines old s new.verdicts (long ∙ ap length parts) some
-    (subst (λ (d : OnDesk). (part : ℕ) → part < length d.subject.parts → slice_get new.verdicts part ≡ Some (blame_asked d part)) same each)
+    (grind arith)
 
 pub returns-in_err-put_blames-clause-reply : goal.returns-in_err-put_blames-clause-reply
 returns-in_err-put_blames-clause-reply g c =
@@ -55,11 +55,10 @@ returns-in_err-put_blames-clause-reply g c =
     let s = c.args.session.now in
     let ds = diagnoses_asked old in
     let some = c.if-not-is_consistent.ensures.some in
-    let lines = refusal_output old c.is_consistent.new.self c.blame.new.self s c.is_consistent.ensures.same c.blame.ensures.stays c.blame.ensures.long some c.blame.ensures.blame in
+    let lines = blame_said old c.is_consistent.new.self c.blame.new.self s c.is_consistent.ensures.same c.blame.ensures.stays c.blame.ensures.long some c.blame.ensures.blame in
     subst (λ (lines : List (List (List ℕ))). Replies (g.O.Sink.got c.args.out.now) (g.O.Sink.got c.put_blames.new.out) c.from_residual.result (map line lines))
     (sym (if_diagnosis-some system.costs s (agreeing old) (blame_lines s ds 0 system.parts ++ end_line s ∷ []) some))
-    (lines_broken _ _ _ (blame_lines s ds 0 system.parts) (end_line s) c.from_residual.ensures.0
-    (subst (λ (ls : List (List (List ℕ))). WritesPart (g.O.Sink.got c.args.out.now) (g.O.Sink.got c.put_blames.new.out) (map line ls)) lines c.in_err-put_blames.ensures.reply))
+    (grind (arith, lines_broken))
 
 pub returns-clause-reply : goal.returns-clause-reply
 returns-clause-reply g c =
@@ -68,9 +67,9 @@ returns-clause-reply g c =
     let s = c.args.session.now in
     let ds = diagnoses_asked old in
     let some = c.if-not-is_consistent.ensures.some in
-    let lines = refusal_output old c.is_consistent.new.self c.blame.new.self s c.is_consistent.ensures.same c.blame.ensures.stays c.blame.ensures.long some c.blame.ensures.blame in
+    let lines = blame_said old c.is_consistent.new.self c.blame.new.self s c.is_consistent.ensures.same c.blame.ensures.stays c.blame.ensures.long some c.blame.ensures.blame in
     subst (λ (lines : List (List (List ℕ))). Replies (g.O.Sink.got c.args.out.now) (g.O.Sink.got c.put_line-2.new.out) c.put_line-2.result (map line lines))
     (sym (if_diagnosis-some system.costs s (agreeing old) (blame_lines s ds 0 system.parts ++ end_line s ∷ []) some))
     (lines_then _ _ _ _ (blame_lines s ds 0 system.parts) (end_line s)
-    (subst (λ (ls : List (List (List ℕ))). Writes (g.O.Sink.got c.args.out.now) (g.O.Sink.got c.put_blames.new.out) (map line ls)) lines c.in_ok-put_blames.ensures.reply)
+    (grind arith)
     (replies_one _ _ _ (line (end_line s)) _ refl c.put_line-2.ensures.bytes))

@@ -1,6 +1,4 @@
-use Rattle.std.proofs.Common.{◌∙◌, ◌∷◌, [], ℕ, List, ap, ap₂, subst}
-use Rattle.text_rules.specs.Names.{Name}
-use Rattle.text_rules.specs.Tokens.{spaced}
+use Rattle.std.proofs.Common.{◌∙◌, ◌∷◌, [], ℕ, List, ap, subst, arith}
 use Rattle.conditioner.specs.Evidence.{bits_of}
 use Rattle.session_rules.specs.GraphSystems.{Subject}
 use Rattle.session_rules.specs.Items.{line}
@@ -23,4 +21,4 @@ returns-clause-reply g c =
     subst (λ (words : List (List ℕ)). Replies (g.O.Sink.got c.args.out.now) (g.O.Sink.got c.put_min.new.out) c.put_min.result (line words ∷ []))
     (min_line-is system s (agreeing old) state fewest c.first-fewest.ensures.least c.first-fewest.ensures.first)
     (replies_one _ _ _ (line (min_text s system.parts fewest state)) _
-    (ap₂ (λ (parts : List Name) (st : List ℕ). spaced (min_text s parts fewest (bits_of st))) names c.state.ensures.state) c.put_min.ensures.text)
+    (grind arith) c.put_min.ensures.text)

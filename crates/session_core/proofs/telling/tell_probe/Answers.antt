@@ -1,4 +1,4 @@
-use Rattle.std.proofs.Common.{◌≡◌, ◌∙◌, ◌∷◌, ◌<◌, [], ℕ, List, Option, Some, Result, map, length, codes, true, false, refl, ap, sym, subst}
+use Rattle.std.proofs.Common.{◌≡◌, ◌∙◌, ◌∷◌, [], ℕ, List, Option, Some, Result, map, codes, true, false, refl, ap, sym, subst, arith}
 use Rattle.text_rules.specs.Names.{Name}
 use Rattle.text_rules.specs.Tokens.{spaced}
 use Rattle.std.specs.Option.{option_map_or}
@@ -22,9 +22,7 @@ told_at : {T E : Type 0} (desk : OnDesk) (s name : Name) (place : Option ℕ) (b
     → (let system = served_system desk.subject in Replies before after result (map line
     (option_map_or (λ wire. if_any s (agreeing desk) (probe_line system s (asked_case desk) name wire ∷ [])) place ((s ∷ error_words (refusal_row NoWire)) ∷ []))))
     → Replies before after result (map line (told (served_system desk.subject) s (asked_case desk) (Probe name)))
-told_at desk s name place before after result same reply =
-    subst (λ (p : Option ℕ). Replies before after result (map line
-    (option_map_or (λ wire. if_any s (agreeing desk) (probe_line (served_system desk.subject) s (asked_case desk) name wire ∷ [])) p ((s ∷ error_words (refusal_row NoWire)) ∷ [])))) same reply
+told_at desk s name place before after result same reply = grind arith
 
 pub returns-in_default-clause-reply : goal.returns-in_default-clause-reply
 returns-in_default-clause-reply g c =
@@ -45,11 +43,7 @@ returns-then-not-is_consistent-clause-reply g c =
     (replies_one _ _ _ (line (inconsistent s)) _ refl c.put_line.ensures.bytes))
 
 pub probe-zero-requires : goal.probe-zero-requires
-probe-zero-requires g c =
-    let old = c.args.desk.now in
-    let name = c.args.name.now in
-    let found = c.in-Some.ensures ∙ ap (λ (u : Subject). place_of name u.wires) c.basis.ensures in
-    record { wire = subst (λ (d : OnDesk). c.in-Some.wire < length d.subject.wires) (sym c.is_consistent.ensures.same) (place-within name old.subject.wires c.in-Some.wire found) }
+probe-zero-requires g c = grind (arith, place-within)
 
 pub returns-clause-reply : goal.returns-clause-reply
 returns-clause-reply g c =

@@ -1,21 +1,13 @@
-use Rattle.std.proofs.Common.{◌≡◌, ◌<◌, None, length, subst}
+use Rattle.std.proofs.Common.{◌≡◌, None, subst, arith}
 use Rattle.script_lang.specs.Script.{asked}
 use Rattle.session_rules.specs.declared.refusal.Refusal.TheVariants.{NoSession}
 use Rattle.session_rules.specs.Sessions.{entry_of}
-use Rattle.session_table.specs.Tables.{StandsAt}
 use Rattle.session_core.specs.Services.{Shown}
 use Rattle.session_core.proofs.OneMove.{obeys_refusal, unopened}
 use Rattle.session_core.proofs.sessions.Sessions.ask.Goals as goal
 
 pub ask_open-requires : goal.ask_open-requires
-ask_open-requires g c =
-    let place = c.in-Some.place in
-    let there = c.in-Some.ensures.some in
-    record {
-      within = subst (λ (v : Shown). place < length v.table) c.self.view_is c.in-Some.ensures.within;
-      entry = there.0;
-      stands = subst (λ (v : Shown). StandsAt v.table place c.args.name.now there.0) c.self.view_is there.1;
-    }
+ask_open-requires g c = grind arith
 
 pub start-requires-clause-closed : goal.start-requires-clause-closed
 start-requires-clause-closed g c = subst (λ (v : Shown). entry_of c.args.name.now v.table ≡ None) c.self.view_is c.in-None.ensures.none

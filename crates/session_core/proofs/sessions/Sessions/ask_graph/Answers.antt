@@ -1,11 +1,10 @@
-use Rattle.std.proofs.Common.{◌∷◌, [], ℕ, List, codes, refl, sym, subst}
+use Rattle.std.proofs.Common.{◌∷◌, [], ℕ, List, codes, refl, subst, arith}
 use Rattle.state_rules.specs.Cases.{Case}
 use Rattle.script_lang.specs.Script.{Dnnf}
 use Rattle.session_rules.specs.GraphSystems.{Subject}
 use Rattle.session_rules.specs.Items.{Item, Plain, line}
 use Rattle.session_rules.specs.Spelling.{Replies}
 use Rattle.session_core.specs.Services.{Shown, case_text}
-use Rattle.session_core.specs.inner.Bases.{AreKnown, case_in}
 use Rattle.session_core.specs.inner.Obeying.{Obeys}
 use Rattle.session_core.specs.inner.Holding.{shown_of}
 use Rattle.session_core.proofs.ShownService.{known-there, case-there, there}
@@ -17,9 +16,7 @@ abbrev items : Subject → List ℕ → Case → List Item
 items subject session known = line (session ∷ codes "dnnf" ∷ []) ∷ Plain (case_text subject known) ∷ []
 
 pub tell_graph-requires : goal.tell_graph-requires
-tell_graph-requires g c =
-    subst (λ (u : Subject). AreKnown u c.evidence-known.result.now) (sym c.basis.ensures)
-    (known-there c.self.inside.desk.subject c.self.inside.open c.self.invariant c.evidence-known.result.now c.evidence-known.ensures.evidence)
+tell_graph-requires g c = grind (arith, known-there)
 
 pub returns-clause-obeys : goal.returns-clause-obeys
 returns-clause-obeys g c =
@@ -31,4 +28,4 @@ returns-clause-obeys g c =
     subst (λ (v : Shown). Obeys v v s Dnnf (g.O.Sink.got c.args.out.now) (g.O.Sink.got c.tell_graph.new.out) c.tell_graph.result) c.self.view_is
     (obeys_one shown shown s Dnnf _ _ _ _ (asked_open shown s Dnnf here.entry here.stands.found) refl
     (subst (λ (k : Case). Replies (g.O.Sink.got c.args.out.now) (g.O.Sink.got c.tell_graph.new.out) c.tell_graph.result (items basis s k)) known
-    (subst (λ (u : Subject). Replies (g.O.Sink.got c.args.out.now) (g.O.Sink.got c.tell_graph.new.out) c.tell_graph.result (items u s (case_in u c.evidence-known.result.now))) c.basis.ensures c.tell_graph.ensures.reply)))
+    (grind arith)))

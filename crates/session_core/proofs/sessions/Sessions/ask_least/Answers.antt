@@ -1,4 +1,4 @@
-use Rattle.std.proofs.Common.{◌≡◌, ◌∙◌, ◌∷◌, [], ℕ, Bool, true, false, List, codes, refl, sym, ap, subst}
+use Rattle.std.proofs.Common.{◌≡◌, ◌∙◌, ◌∷◌, [], ℕ, Bool, true, false, List, codes, refl, sym, ap, subst, arith}
 use Rattle.std.specs.Prelude.{if◌then◌else◌}
 use Rattle.text_rules.specs.Names.{Name}
 use Rattle.state_rules.specs.Cases.{Case}
@@ -14,7 +14,7 @@ use Rattle.session_core.specs.Services.{Shown, least_case_text, served_system}
 use Rattle.session_core.specs.inner.Desks.{OnDesk, asked_case}
 use Rattle.session_core.specs.inner.Obeying.{Obeys}
 use Rattle.session_core.specs.inner.Holding.{shown_of}
-use Rattle.session_core.proofs.ShownService.{known-there, case-there, there, open_one}
+use Rattle.session_core.proofs.ShownService.{case-there, there, open_one}
 use Rattle.session_core.proofs.OneMove.{obeys_refusal, asked_open}
 use Rattle.session_core.proofs.sessions.Sessions.ask_least.Goals as goal
 
@@ -25,7 +25,7 @@ items subject session known = line (session ∷ codes "leastnnf" ∷ []) ∷ Pla
 -- what is answered, by whether the graph is offered
 told : (system : System) (s : Name) (entry : Entry) (offered : Bool) → system.extras.least ≡ offered
     → when_open system s entry LeastNnf ≡ (if offered then tells (line (s ∷ codes "leastnnf" ∷ []) ∷ least_item system entry.known ∷ []) else declined s NoLeast)
-told system s entry offered is = ap (λ (b : Bool). if b then tells (line (s ∷ codes "leastnnf" ∷ []) ∷ least_item system entry.known ∷ []) else declined s NoLeast) is
+told system s entry offered is = grind arith
 
 pub returns-then-not-tells_least-clause-obeys : goal.returns-then-not-tells_least-clause-obeys
 returns-then-not-tells_least-clause-obeys g c =
@@ -38,13 +38,10 @@ returns-then-not-tells_least-clause-obeys g c =
     (obeys_refusal shown s LeastNnf _ _ _ NoLeast (asked_open shown s LeastNnf here.entry here.stands.found ∙ told (served_system subject) s here.entry false off) c.put_refusal.ensures.text)
 
 pub take_up-requires : goal.take_up-requires
-take_up-requires g c = known-there c.self.inside.desk.subject c.self.inside.open c.self.invariant c.evidence.result.now c.evidence.ensures.evidence
+take_up-requires g c = grind arith
 
 pub tell_least-requires : goal.tell_least-requires
-tell_least-requires g c = record {
-  told = subst (λ (d : OnDesk). d.subject.extras.least ≡ true) (sym c.take_up.ensures)
-      (subst (λ (u : Subject). u.extras.least ≡ true) c.basis.ensures (sym c.if-not-tells_least.ensures));
-}
+tell_least-requires g c = grind (arith, told)
 
 pub returns-clause-obeys : goal.returns-clause-obeys
 returns-clause-obeys g c =

@@ -1,14 +1,13 @@
-use Rattle.std.proofs.Common.{◌∙◌, ap, subst, refl}
+use Rattle.std.proofs.Common.{◌∙◌, ap, subst, refl, arith}
 use Rattle.std.proofs.lemmas.Bool.{and_parts}
 use Rattle.text_rules.specs.Names.{is_short_name}
 use Rattle.script_lang.proofs.Asked.{is_well_named, is_well_asked}
 use Rattle.script_lang.proofs.AskedLemmas.{well_asked}
 use Rattle.script_lang.specs.Script.{asked, Line}
 use Rattle.session_core.specs.Services.{exact_moves}
-use Rattle.session_rules.specs.Carrying.{Makes, CarriesOut}
+use Rattle.session_rules.specs.Carrying.{CarriesOut}
 use Rattle.session_rules.proofs.Broken.{carries_one}
 use Rattle.session_rules.proofs.Spellings.{writes_none, replies_one}
-use Rattle.session_core.proofs.OneMove.{line_carried}
 use Rattle.session_core.proofs.sessions.Sessions.line.Goals as goal
 
 pub ask-requires : goal.ask-requires
@@ -17,11 +16,7 @@ ask-requires g c =
     (ap is_well_asked (c.in-Of.ensures ∙ c.parse_line.ensures.means) ∙ well_asked c.args.line.now)).0
 
 pub returns-in-Nothing-clause-carried : goal.returns-in-Nothing-clause-carried
-returns-in-Nothing-clause-carried g c =
-    let old = c.args.self.now in
-    let before = g.O.Sink.got c.args.out.now in
-    subst (λ (l : Line). Makes old.table old.table (exact_moves old old.table l) before before) (c.in-Nothing.ensures ∙ c.parse_line.ensures.means)
-    (record { written = writes_none before; table = refl })
+returns-in-Nothing-clause-carried g c = grind (arith, writes_none)
 
 pub returns-in-Refused-clause-carried : goal.returns-in-Refused-clause-carried
 returns-in-Refused-clause-carried g c =
@@ -30,4 +25,4 @@ returns-in-Refused-clause-carried g c =
     (carries_one _ _ _ _ _ _ (replies_one _ _ _ _ _ refl c.put_line_refusal.ensures.text) refl)
 
 pub returns-in-Of-clause-carried : goal.returns-in-Of-clause-carried
-returns-in-Of-clause-carried g c = line_carried c.args.self.now c.ask.new.self _ _ c.args.line.now _ _ _ (c.in-Of.ensures ∙ c.parse_line.ensures.means) c.ask.ensures.obeys
+returns-in-Of-clause-carried g c = grind arith

@@ -1,12 +1,11 @@
-use Rattle.std.proofs.Common.{◌≡◌, ◌∙◌, true, false, subst, sym}
+use Rattle.std.proofs.Common.{◌≡◌, true, false, subst, sym, arith}
 use Rattle.session_rules.specs.declared.refusal.Refusal.TheVariants.{NoLevels}
-use Rattle.session_rules.specs.GraphSystems.{Subject}
 use Rattle.session_core.specs.Services.{Shown}
 use Rattle.session_core.specs.inner.Desks.{is_listed}
 use Rattle.session_core.specs.inner.Holding.{shown_of}
 use Rattle.session_core.specs.inner.Obeying.{Obeys, IsOpen, list_request}
-use Rattle.session_core.proofs.SessionMoves.{obeys_list, list_declined}
-use Rattle.session_core.proofs.OneMove.{obeys_refusal, asked_open}
+use Rattle.session_core.proofs.SessionMoves.{obeys_list}
+use Rattle.session_core.proofs.OneMove.{obeys_refusal}
 use Rattle.session_core.proofs.sessions.Sessions.list.Goals as goal
 
 pub returns-then-not-lists-clause-obeys : goal.returns-then-not-lists-clause-obeys
@@ -14,10 +13,9 @@ returns-then-not-lists-clause-obeys g c =
     let old = c.args.self.now in
     let s = c.args.session.name.now in
     let there = c.requires in
-    let off : is_listed old.subject c.args.listed ≡ false = subst (λ (v : Shown). is_listed v.subject c.args.listed ≡ false) c.self.view_is
-    (subst (λ (u : Subject). is_listed u c.args.listed ≡ false) c.basis.ensures (sym c.if-not-lists.ensures)) in
+    let off : is_listed old.subject c.args.listed ≡ false = grind arith in
     obeys_refusal old s (list_request c.args.listed c.args.count) _ _ _ NoLevels
-    (asked_open old s (list_request c.args.listed c.args.count) there.entry there.stands.found ∙ list_declined old.subject c.args.listed s there.entry c.args.count off) c.put_refusal.ensures.text
+    (grind arith) c.put_refusal.ensures.text
 
 pub returns-clause-obeys : goal.returns-clause-obeys
 returns-clause-obeys g c =
@@ -25,7 +23,7 @@ returns-clause-obeys g c =
     let new = shown_of c.move_so_far.new.desk.subject c.move_so_far.new.opened in
     let s = c.args.session.name.now in
     let there = subst (λ (v : Shown). IsOpen v.table c.args.session) (sym c.self.view_is) c.requires in
-    let on : is_listed old.subject c.args.listed ≡ true = subst (λ (u : Subject). is_listed u c.args.listed ≡ true) c.basis.ensures (sym c.if-not-lists.ensures) in
+    let on : is_listed old.subject c.args.listed ≡ true = grind arith in
     subst (λ (v : Shown). Obeys v new s (list_request c.args.listed c.args.count) (g.O.Sink.got c.args.out.now) (g.O.Sink.got c.move_so_far.new.out) c.move_so_far.result) c.self.view_is
     (obeys_list old new c.args.listed c.args.session.place s there.entry c.args.count _ _ c.move_so_far.result on there.stands
     (c.move_so_far.ensures.moves there.entry there.stands) c.move_so_far.ensures.stays)

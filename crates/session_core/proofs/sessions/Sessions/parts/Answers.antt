@@ -10,11 +10,7 @@ returns-clause-sound c =
       valid = basis.valid;
       room = basis.vars;
       few = omega (arith, basis.few_nodes, basis.few_parts);
-      least = λ told. record {
-        costs = basis.costs;
-        dear = basis.dear;
-        few = let drawn = basis.least told in omega (arith, drawn.lines, basis.costs);
-      };
+      least = grind arith;
       cases = λ session entry found.
           let fit = c.is_full-full.ensures.cases session entry found in (fit.0 ∙ c.self.invariant.wires, fit.1 ∙ c.self.invariant.parts);
     })

@@ -44,7 +44,7 @@ pub start-requires-clause-room : goal.start-requires-clause-room
 start-requires-clause-room g c = grind (arith, nat_tests, c.if-is_full.ensures.full)
 
 pub start-requires-clause-closed : goal.start-requires-clause-closed
-start-requires-clause-closed g c = subst (λ (v : Shown). entry_of c.args.name.now v.table ≡ None) (sym c.self.view_is) c.requires.closed
+start-requires-clause-closed g c = grind arith
 
 pub invariant_of-self : goal.invariant_of-self
 invariant_of-self g c = holds_more c.self.inside.desk.subject c.self.inside.open c.start.new.self _ c.self.invariant c.start.ensures

@@ -1,7 +1,7 @@
-use Rattle.std.proofs.Common.{refl, codes}
+use Rattle.std.proofs.Common.{refl, codes, arith}
 use Rattle.script_lang.specs.Script.{Stop}
-use Rattle.session_rules.specs.Sessions.{Ends, without}
-use Rattle.session_core.proofs.ShownService.{holds_more, there, open_word}
+use Rattle.session_rules.specs.Sessions.{Ends}
+use Rattle.session_core.proofs.ShownService.{there, open_word}
 use Rattle.session_core.proofs.sessions.Sessions.stop.Goals as goal
 
 pub returns-clause-obeys : goal.returns-clause-obeys
@@ -11,7 +11,4 @@ returns-clause-obeys g c =
     (c.stop.ensures c.args.session.name.now here.entry here.stands) c.put_line.ensures.bytes
 
 pub invariant_of-self : goal.invariant_of-self
-invariant_of-self g c =
-    let s = c.args.session.name.now in
-    let here = there c.self.inside.desk.subject c.self.inside.open c.args.self.now c.self.view_is c.args.session c.requires in
-    holds_more c.self.inside.desk.subject c.self.inside.open c.stop.new.self (without s c.self.inside.open.table) c.self.invariant (c.stop.ensures s here.entry here.stands)
+invariant_of-self g c = grind arith

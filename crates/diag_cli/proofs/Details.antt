@@ -17,7 +17,7 @@ use Rattle.diag_cli.specs.declared.serving.TheConstants.{SCRIPT_LIMIT}
 use Rattle.diag_cli.specs.declared.words.Command.{Command}
 use Rattle.diag_cli.specs.declared.words.Command.TheVariants.{Serve, ServeFrames, Ask, Inspect, Compile}
 use Rattle.diag_cli.specs.Words.{Form, Load, Over, named_file, known_file}
-use Rattle.diag_cli.specs.Behaviours.{End, Ended, Failed, Cut, Behaviour, Prints, Answers, read_error, served, behaviour_by, behaviour_of}
+use Rattle.diag_cli.specs.Behaviours.{End, Ended, Failed, Cut, Behaviour, Prints, AnswersScript, read_error, served, behaviour_by, behaviour_of}
 use Rattle.diag_cli.specs.Fulfilled.{IsIdle, EndsAs, IsAnswered, IsBroken, IsServed, WritesFirst, IsStopped, FulfilsBehaviour}
 use Rattle.diag_cli.specs.Runs.{IsDone, IsRun}
 use Rattle.diag_cli.specs.Details.{asks_script, wholly_served, whole_output, FulfilsOutputUnlessShort, HasDetails}
@@ -45,7 +45,7 @@ module _ (input new_input : Reading) (out new_out : Writing) (status : Status) w
 
   ending : (form : Bool) (behaviour : Behaviour) → IsPlainBehaviour form behaviour → FulfilsBehaviour behaviour input new_input out new_out status → status ≢ WriteFailed → Ending form
   ending form (Prints output) plain done whole = idle_ending form output plain done whole
-  ending form (Answers answers) plain done whole = rw plain (by done.wrote)
+  ending form (AnswersScript answers) plain done whole = rw plain (by done.wrote)
     where
       by : IsAnswered answers done.bytes input new_input out new_out status ⊎ ((status ≡ WriteFailed) × IsBroken answers done.bytes input new_input out new_out) → Ending true
       by (inl answered) = script_ending answers done.bytes answered.end done.counted answered.ends answered.gives whole
@@ -56,7 +56,7 @@ module _ (input new_input : Reading) (out new_out : Writing) (status : Status) w
   told_idle : (behaviour : Behaviour) (output : Output) → behaviour ≡ Prints output → FulfilsBehaviour behaviour input new_input out new_out status → IsIdle input new_input
   told_idle behaviour output is done = let both : IsIdle input new_input × FulfilsOutput output status out.got new_out.got = subst (λ c. FulfilsBehaviour c input new_input out new_out status) is done in both.0
 
-  serves : (behaviour : Behaviour) (answers : List (List ℕ) → List Item) → behaviour ≡ Answers answers → FulfilsBehaviour behaviour input new_input out new_out status → IsServed answers input new_input out new_out status
+  serves : (behaviour : Behaviour) (answers : List (List ℕ) → List Item) → behaviour ≡ AnswersScript answers → FulfilsBehaviour behaviour input new_input out new_out status → IsServed answers input new_input out new_out status
   serves behaviour answers is done = subst (λ c. FulfilsBehaviour c input new_input out new_out status) is done
 
   -- from the bytes that were taken to the whole script
@@ -79,8 +79,8 @@ module _ (input new_input : Reading) (out new_out : Writing) (status : Status) w
   output_of : (behaviour : Behaviour) (left : Option (List ℕ)) → input.left ≡ left → FulfilsBehaviour behaviour input new_input out new_out status
       → IfSome (whole_output behaviour left) (λ output. new_input.faults ≡ input.faults → FulfilsOutput output status out.got new_out.got)
   output_of (Prints output) left told done = λ kept. done.1
-  output_of (Answers answers) None told done = tt
-  output_of (Answers answers) (Some script) told done = λ kept. whole_answer answers script told done kept
+  output_of (AnswersScript answers) None told done = tt
+  output_of (AnswersScript answers) (Some script) told done = λ kept. whole_answer answers script told done kept
 
   -- a read failed
   abbrev FaultAnswered : (List (List ℕ) → List Item) → Type 0
@@ -128,7 +128,7 @@ module _ (input new_input : Reading) (out new_out : Writing) (status : Status) w
   -- no more than the limit was taken
   few_taken : (behaviour : Behaviour) → FulfilsBehaviour behaviour input new_input out new_out status → new_input.taken ≤ input.taken + SCRIPT_LIMIT
   few_taken (Prints output) done = omega (arith, done.0.taken)
-  few_taken (Answers answers) done = by done.wrote
+  few_taken (AnswersScript answers) done = by done.wrote
     where
       few : (end : End) → EndsAs end done.bytes input new_input → new_input.taken ≤ input.taken + SCRIPT_LIMIT
       few Ended ends = omega (arith, done.counted, ends.1)
@@ -142,7 +142,7 @@ module _ (input new_input : Reading) (out new_out : Writing) (status : Status) w
   -- memory ran out before the script was begun
   idle_without_memory : status ≡ NoMemory → (behaviour : Behaviour) → FulfilsBehaviour behaviour input new_input out new_out status → IsIdle input new_input
   idle_without_memory six (Prints output) done = done.0
-  idle_without_memory six (Answers answers) done = by done.wrote
+  idle_without_memory six (AnswersScript answers) done = by done.wrote
     where
       at : (end : End) → status ≡ (served answers done.bytes end).status → IsIdle input new_input
       at Ended is = absurd (let never : ⊥ = cc in never)
@@ -261,7 +261,7 @@ module _ (choose : ClauseList → Option Forest) (form : Option Form) (held : Li
 
   -- what holds of a script that the behaviour of the shown file answers
   abbrev IfServed : ((List (List ℕ) → List Item) → Type 0) → Type 0
-  IfServed Holds = IfSome told (λ file. (answers : List (List ℕ) → List Item) → behaviour_of choose form file ≡ Answers answers → Holds answers)
+  IfServed Holds = IfSome told (λ file. (answers : List (List ℕ) → List Item) → behaviour_of choose form file ≡ AnswersScript answers → Holds answers)
 
   if_served : (Holds : (List (List ℕ) → List Item) → Type 0) → (IsIdle input new_input → status ≢ Done → (answers : List (List ℕ) → List Item) → Holds answers)
       → ((answers : List (List ℕ) → List Item) → IsServed answers input new_input out new_out status → Holds answers) → IfServed Holds

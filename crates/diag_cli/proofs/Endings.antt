@@ -46,7 +46,7 @@ use Rattle.diag_cli.specs.inner.Bits.{bits_line, levels_bits, least_bits}
 use Rattle.diag_cli.specs.Frames.{sequential_in, unrolled_within, if_unrolled}
 use Rattle.diag_cli.specs.Asking.{asking_line, asked}
 use Rattle.diag_cli.specs.Loads.{summary_by}
-use Rattle.diag_cli.specs.Behaviours.{Behaviour, Prints, Answers, graph_by, if_within, served_device, served_frames, served_or_refused, behaviour_by, behaviour_of}
+use Rattle.diag_cli.specs.Behaviours.{Behaviour, Prints, AnswersScript, graph_by, if_within, served_device, served_frames, served_or_refused, behaviour_by, behaviour_of}
 
 -- No call failed and no script was cut, and it is `Usage` exactly if the words have no form.
 abbrev pub is_plain : Bool → Status → Bool
@@ -59,7 +59,7 @@ is_plain form status = false
 
 abbrev pub IsPlainBehaviour : Bool → Behaviour → Type 0
 IsPlainBehaviour form (Prints output) = is_plain form output.status ≡ true
-IsPlainBehaviour form (Answers answers) = form ≡ true
+IsPlainBehaviour form (AnswersScript answers) = form ≡ true
 
 abbrev Plain : {A : Type 0} → Result A Output → Type 0
 Plain found = IfErr found (λ output. is_plain true output.status ≡ true)

@@ -15,7 +15,7 @@ use Rattle.device_files.specs.Output.{Output, FulfilsOutput, says, no_memory, to
 use Rattle.device_files.specs.Refusals.{or_memory}
 use Rattle.diag_cli.specs.declared.words.Command.{Command}
 use Rattle.diag_cli.specs.Words.{Form, Load, Over, named_file, known_file}
-use Rattle.diag_cli.specs.Behaviours.{Behaviour, Prints, Answers, not_loaded, behaviour_by, behaviour_of}
+use Rattle.diag_cli.specs.Behaviours.{Behaviour, Prints, AnswersScript, not_loaded, behaviour_by, behaviour_of}
 use Rattle.diag_cli.specs.Loads.{loaded}
 use Rattle.diag_cli.specs.Runs.{IsDone, IsRun}
 use Rattle.diag_cli.specs.Fulfilled.{IsIdle, IsServed, FulfilsBehaviour}
@@ -57,7 +57,7 @@ module _ (input new_input : Reading) (out new_out : Writing) (status : Status) w
   follows_refusal behaviour None is idle said = inl (idle, said)
   follows_refusal behaviour (Some output) is idle said = inr (subst (λ c. FulfilsBehaviour c input new_input out new_out status) (sym is) (idle, said))
 
-  pub follows_serves : (behaviour : Behaviour) (answers : List (List ℕ) → List Item) → behaviour ≡ Answers answers → IsServed answers input new_input out new_out status → FulfilsBehaviourUnlessMemory behaviour input new_input out new_out status
+  pub follows_serves : (behaviour : Behaviour) (answers : List (List ℕ) → List Item) → behaviour ≡ AnswersScript answers → IsServed answers input new_input out new_out status → FulfilsBehaviourUnlessMemory behaviour input new_input out new_out status
   follows_serves behaviour answers is done = inr (subst (λ c. FulfilsBehaviour c input new_input out new_out status) (sym is) done)
 
 -- ---- runs

@@ -7,7 +7,7 @@ use Rattle.session_core.specs.Services.{Shown}
 use Rattle.device_files.specs.declared.refusal.Refusal.{Refusal}
 use Rattle.device_files.specs.Output.{Output}
 use Rattle.device_files.specs.Refusals.{refusal_output}
-use Rattle.diag_cli.specs.Behaviours.{Prints, Answers, served_or_refused}
+use Rattle.diag_cli.specs.Behaviours.{Prints, AnswersScript, served_or_refused}
 use Rattle.diag_cli.specs.inner.Serving.{Answers, IsFor}
 
 module _ {A : Type 0} (system : A → System) (sessions : ℕ) (expected : Result A Output) where
@@ -17,7 +17,7 @@ module _ {A : Type 0} (system : A → System) (sessions : ℕ) (expected : Resul
 
   pub service_for : (view : Shown → A) (result : Result Shown Refusal) → Fulfils view refusal_output expected result → IfOk result (λ service. Answers (system (view service)) sessions service)
       → IsFor (served_or_refused system sessions expected) result
-  service_for view (Ok service) is of = ap (served_or_refused system sessions) is ∙ ap Answers (sym of.same)
+  service_for view (Ok service) is of = ap (served_or_refused system sessions) is ∙ ap AnswersScript (sym of.same)
   service_for view (Err refusal) is of = refused_for (refusal_output refusal) is
 
 pub none_open : (system : Shown → System) (sessions : ℕ) (result : Result Shown Refusal) → IfOk result (λ service. Answers (system service) sessions service) → IfOk result (λ service. service.table ≡ [])

@@ -78,7 +78,7 @@ graph_by device weighed = record { items = Whole device weighed.list.vars (most_
 
 pub data Behaviour : Type 0 where
   Prints : (output : Output) → Behaviour
-  Answers : (answers : List (List ℕ) → List Item) → Behaviour
+  AnswersScript : (answers : List (List ℕ) → List Item) → Behaviour
 
 -- the device, if its sum is within the budget and its extras take few bits; else the output that says why not
 abbrev pub if_within : ServeOptions → (Device → Result Weighed EncodeError) → Result Device Output → Result Device Output
@@ -94,7 +94,7 @@ served_frames frames options seq = with_extras options.extras (frame_system seq 
 
 -- the script is answered over the system of what was found, with at most so many sessions open
 abbrev pub served_or_refused : {A : Type 0} → (A → System) → ℕ → Result A Output → Behaviour
-served_or_refused system sessions (Ok found) = Answers (answers_of (system found) sessions)
+served_or_refused system sessions (Ok found) = AnswersScript (answers_of (system found) sessions)
 served_or_refused system sessions (Err output) = Prints output
 
 -- what a command does over a file; `choose` gives the forest, if one is asked for

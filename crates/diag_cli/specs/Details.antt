@@ -15,7 +15,7 @@ use Rattle.device_files.specs.declared.status.Status.{Status}
 use Rattle.device_files.specs.declared.status.Status.TheVariants.{Done, Usage, ReadFailed, WriteFailed, NoMemory, CutShort}
 use Rattle.device_files.specs.Output.{Output, FulfilsOutput, no_memory, says}
 use Rattle.diag_cli.specs.Fulfilled.{IsIdle, WritesFirst, IsStopped}
-use Rattle.diag_cli.specs.Behaviours.{End, Ended, Failed, Cut, Behaviour, Prints, Answers, read_error, served, behaviour_of}
+use Rattle.diag_cli.specs.Behaviours.{End, Ended, Failed, Cut, Behaviour, Prints, AnswersScript, read_error, served, behaviour_of}
 
 -- only `serve` and `ask` ask for a script
 abbrev pub asks_script : Option Form → Bool
@@ -35,7 +35,7 @@ wholly_served answers script = served answers (take SCRIPT_LIMIT script) (end_of
 -- the output of a behaviour, if the script that it may need is shown
 abbrev pub whole_output : Behaviour → Option (List ℕ) → Option Output
 whole_output (Prints output) left = Some output
-whole_output (Answers answers) left = option_map (wholly_served answers) left
+whole_output (AnswersScript answers) left = option_map (wholly_served answers) left
 
 -- the output was given, or memory ran out, which it cannot if the words have no form
 abbrev pub FulfilsOutputUnlessShort : Option Form → Output → Status → Option (List ℕ) → Option (List ℕ) → Type 0
@@ -64,18 +64,18 @@ pub record HasDetails (choose : ClauseList → Option Forest) (form : Option For
       output.status ≡ Done → new_shelf.faults ≡ shelf.faults → new_input.faults ≡ input.faults → new_out.faults ≡ out.faults →
       ((status ≡ Done) × Writes out.got new_out.got output.items) ⊎ ((status ≡ NoMemory) × Writes out.got new_out.got no_memory.items)))
   -- If a read of the script failed, the lines that a line feed had ended were answered before.
-  pub script_fault : IfSome (known_file held (named_file form)) (λ file. (answers : List (List ℕ) → List Item) → behaviour_of choose form file ≡ Answers answers →
+  pub script_fault : IfSome (known_file held (named_file form)) (λ file. (answers : List (List ℕ) → List Item) → behaviour_of choose form file ≡ AnswersScript answers →
       input.faults < new_input.faults →
       (bytes : List ℕ) × (new_input.taken ≡ input.taken + length bytes) × Consumes input.left new_input.left bytes
       × WritesFirst out.got new_out.got (answers (whole_lines bytes)) × FulfilsOutput (served answers bytes Failed) status out.got new_out.got)
   -- If a write failed, of the bytes of the script that were taken all but those of one read had been answered.
-  pub stopped : IfSome (known_file held (named_file form)) (λ file. (answers : List (List ℕ) → List Item) → behaviour_of choose form file ≡ Answers answers →
+  pub stopped : IfSome (known_file held (named_file form)) (λ file. (answers : List (List ℕ) → List Item) → behaviour_of choose form file ≡ AnswersScript answers →
       status ≡ WriteFailed → input.taken < new_input.taken →
       (bytes : List ℕ) × (new_input.taken ≡ input.taken + length bytes) × Consumes input.left new_input.left bytes × IsStopped answers bytes out.got new_out.got)
   -- If memory ran out, the script was not begun.
   pub memory : status ≡ NoMemory → IsIdle input new_input
   -- With status `Done` a script that is answered was read to its end.
-  pub all_read : IfSome (known_file held (named_file form)) (λ file. (answers : List (List ℕ) → List Item) → behaviour_of choose form file ≡ Answers answers → status ≡ Done → IsAtEnd new_input.left)
+  pub all_read : IfSome (known_file held (named_file form)) (λ file. (answers : List (List ℕ) → List Item) → behaviour_of choose form file ≡ AnswersScript answers → status ≡ Done → IsAtEnd new_input.left)
   -- At most the limit is taken of the script.
   pub script_taken : new_input.taken ≤ input.taken + SCRIPT_LIMIT
   -- With status `CutShort` exactly the limit was taken of the script. With any other status less was taken, unless a write failed.

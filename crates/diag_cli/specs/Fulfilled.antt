@@ -10,7 +10,7 @@ use Rattle.diag_cli.specs.declared.serving.TheConstants.{SCRIPT_LIMIT}
 use Rattle.device_files.specs.declared.status.Status.{Status}
 use Rattle.device_files.specs.declared.status.Status.TheVariants.{WriteFailed}
 use Rattle.device_files.specs.Output.{FulfilsOutput}
-use Rattle.diag_cli.specs.Behaviours.{End, Ended, Failed, Cut, Behaviour, Prints, Answers, served}
+use Rattle.diag_cli.specs.Behaviours.{End, Ended, Failed, Cut, Behaviour, Prints, AnswersScript, served}
 
 -- nothing was taken, no call failed, and what was still to come is unchanged
 pub record IsIdle (before after : Reading) : Type 0 where
@@ -67,4 +67,4 @@ pub record IsServed (answers : List (List ℕ) → List Item) (input new_input :
 -- what was done, by the behaviour
 abbrev pub FulfilsBehaviour : Behaviour → Reading → Reading → Writing → Writing → Status → Type 0
 FulfilsBehaviour (Prints output) input new_input out new_out status = IsIdle input new_input × FulfilsOutput output status out.got new_out.got
-FulfilsBehaviour (Answers answers) input new_input out new_out status = IsServed answers input new_input out new_out status
+FulfilsBehaviour (AnswersScript answers) input new_input out new_out status = IsServed answers input new_input out new_out status

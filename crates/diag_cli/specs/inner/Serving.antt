@@ -15,7 +15,7 @@ use Rattle.device_files.specs.declared.refusal.Refusal.{Refusal}
 use Rattle.device_files.specs.declared.status.Status.{Status}
 use Rattle.device_files.specs.Output.{Output, no_memory}
 use Rattle.device_files.specs.Refusals.{refusal_output}
-use Rattle.diag_cli.specs.Behaviours.{Behaviour, Prints, Answers, answers_of}
+use Rattle.diag_cli.specs.Behaviours.{Behaviour, Prints, AnswersScript, answers_of}
 use Rattle.diag_cli.specs.Fulfilled.{FulfilsBehaviour}
 use Rattle.diag_cli.specs.Frames.{not_unrolled}
 
@@ -38,7 +38,7 @@ pub record Answers (system : System) (sessions : ℕ) (service : Shown) : Type 0
 
 -- A service answers what a behaviour serves, or the refusal of one is what the behaviour prints.
 abbrev pub IsFor : Behaviour → Result Shown Refusal → Type 0
-IsFor behaviour (Ok service) = behaviour ≡ Answers (answers_of (system_of service.subject) service.limit)
+IsFor behaviour (Ok service) = behaviour ≡ AnswersScript (answers_of (system_of service.subject) service.limit)
 IsFor behaviour (Err refusal) = IfSome (refusal_output refusal) (λ output. behaviour ≡ Prints output)
 
 -- Memory ran out before the script was begun, or a behaviour was followed.

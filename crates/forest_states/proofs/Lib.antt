@@ -11,8 +11,8 @@ pub mod BitRuns
 pub mod Sets
 pub mod Spread
 pub mod ShownPlaces
-pub mod Turned
-pub mod Walks
+pub mod OneClause
+pub mod Successors
 pub mod OneTreeBases
 pub mod WordBits
 pub mod Words

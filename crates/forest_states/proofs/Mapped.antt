@@ -8,7 +8,7 @@ use Rattle.state_rules.proofs.Bits.{pointwise-refl, pointwise-equal}
 use Rattle.elimination_forests.specs.Branches.{same_list, different}
 use Rattle.elimination_forests.proofs.Lists.{is_among, each-different}
 use Rattle.forest_states.specs.inner.BitLists.{is_same}
-use Rattle.forest_states.specs.inner.Walked.{any_leads, ways_found}
+use Rattle.forest_states.specs.inner.Descents.{any_leads, ways_found}
 use Rattle.forest_states.specs.declared.places.Fork.{Fork}
 use Rattle.elimination_forests.specs.declared.forks.Forks.{Forks}
 use Rattle.elimination_forests.specs.Forests.{has_way, leads_on}

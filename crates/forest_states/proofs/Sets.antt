@@ -12,7 +12,7 @@ use Rattle.elimination_forests.proofs.ListCounts.{among-different}
 use Rattle.elimination_forests.proofs.Lists.{is_among, different-append}
 use Rattle.elimination_forests.proofs.FirstPlaces.{place-front}
 use Rattle.forest_states.specs.inner.BitLists.{is_same}
-use Rattle.forest_states.specs.inner.Walked.{joined, lead}
+use Rattle.forest_states.specs.inner.Descents.{joined, lead}
 
 -- bits after others, if there are any
 abbrev pub behind : List Bool → Option (List Bool) → Option (List Bool)

@@ -1,4 +1,4 @@
 pub mod BitLists
-pub mod Tables
-pub mod Walked
+pub mod TransitionTables
+pub mod Descents
 pub mod Masked

@@ -1,6 +1,6 @@
 ghost use Rattle.std.specs.Prelude.{◌≡◌, ◌<◌, ◌≤◌, ◌+◌, ◌^◌, ◌++◌, ℕ, List, [], ◌∷◌, true, false, length, map, drop, reverse, replicate, slice_set, Some, None, IfOk, OnOk, IfSome};
 ghost use Rattle.elimination_forests.specs.Forests.{Forest, steps_of, is_forest_of, root, weigh, forest_sum, forks_on, has_way, leads_on};
-ghost use Rattle.forest_states.specs.inner.Walked.{Stand, step_at, forks_of, row_in, forks_below, stands_below, or_first, stand_of, weight_of};
+ghost use Rattle.forest_states.specs.inner.Descents.{Stand, step_at, forks_of, row_in, forks_below, stands_below, or_first, stand_of, weight_of};
 
 use crate::Memory;
 use crate::marks::find_clauses;
@@ -100,11 +100,11 @@ fn go_along(
         return Ok(None);
     }
     let of = find_clauses(alloc, cnf)?;
-    let mut front = Front::new(alloc, of.len())?;
+    let mut frontier = Frontier::new(alloc, of.len())?;
     let mut forks = Vec::new(alloc);
     let mut leads_on = true;
     for at in 0..steps.len() {
-        let Some(found) = front.next_place(alloc, cnf, of.as_slice(), steps, at, weight, top)?
+        let Some(found) = frontier.next_place(alloc, cnf, of.as_slice(), steps, at, weight, top)?
         else {
             return Ok(None);
         };
@@ -114,7 +114,7 @@ fn go_along(
         }
     }
     let measured = Measured {
-        sum: front.sum,
+        sum: frontier.sum,
         leads_on,
     };
     Ok(Some(Descended { forks, measured }))
@@ -128,24 +128,24 @@ fn add_forks(alloc: Global, found: &Leads, forks: &mut Vec<Forks>) -> Result<(),
     Ok(())
 }
 
-// How far a way down has come: which variables have bits, in which trees the others are, the places that are begun, and the sum.
+// The frontier of a way down: which variables have bits, in which trees the others are, the places that are begun, and the sum.
 #[derive(Drop)]
-struct Front {
+struct Frontier {
     seen: Vec<bool>,
     numbers: Vec<u32>,
     pending: Vec<Spot>,
     sum: u32,
 }
 
-impl Front {
+impl Frontier {
     // Nothing has a bit, for so many variables.
-    fn new(alloc: Global, size: usize) -> Result<Front, Memory>
-        ensures seen { IfOk result (λ front. front.seen.items ≡ replicate size false) }
-        ensures numbers { IfOk result (λ front. length front.numbers.items ≡ size) }
-        ensures pending { IfOk result (λ front. front.pending.items ≡ []) }
-        ensures sum { IfOk result (λ front. front.sum ≡ 1) }
+    fn new(alloc: Global, size: usize) -> Result<Frontier, Memory>
+        ensures seen { IfOk result (λ frontier. frontier.seen.items ≡ replicate size false) }
+        ensures numbers { IfOk result (λ frontier. length frontier.numbers.items ≡ size) }
+        ensures pending { IfOk result (λ frontier. frontier.pending.items ≡ []) }
+        ensures sum { IfOk result (λ frontier. frontier.sum ≡ 1) }
     {
-        Ok(Front {
+        Ok(Frontier {
             seen: vec![in alloc; false; size]?,
             numbers: vec![in alloc; 0; size]?,
             pending: Vec::new(alloc),
@@ -210,7 +210,7 @@ fn sum_with(spot: &Spot, weight: Weight, sum: u32, top: u32) -> Option<u32>
     ensures few { IfSome result (λ _. length spot.now.states.keys < 2 ^ 31) }
     ensures above { result ≡ None → top < sum + weight_of weight (stand_of spot.now) }
 {
-    let weight = weight_of_list(weight, spot.opened.len());
+    let weight = weight_of_list(weight, spot.active.len());
     let most = (top - sum) as usize / weight;
     let count = spot.states.len();
     if count > most {
@@ -219,12 +219,12 @@ fn sum_with(spot: &Spot, weight: Weight, sum: u32, top: u32) -> Option<u32>
     Some(sum + (count * weight) as u32)
 }
 
-fn weight_of_list(weight: Weight, opened: usize) -> usize
-    ensures weight { result ≡ weigh weight opened }
+fn weight_of_list(weight: Weight, active: usize) -> usize
+    ensures weight { result ≡ weigh weight active }
     ensures some { 1 ≤ result }
 {
     match weight {
-        Weight::Words => opened / 64 + 1,
+        Weight::Words => active / 64 + 1,
         Weight::Lists => 1,
     }
 }

@@ -3,13 +3,13 @@
 
 mod bit_list;
 mod descent;
-mod entries;
 mod marks;
 mod masks;
 mod picks;
 mod places;
 mod rows;
-mod tables;
+mod table_finder;
+mod transition_tables;
 
 pub use descent::{Descended, Measured, descend, measure_along};
 pub use std::alloc::AllocError as Memory;

@@ -2,7 +2,7 @@ ghost use Rattle.std.specs.Prelude.{◌≡◌, ℕ, ◌<◌, ◌≤◌, ◌+◌,
 ghost use Rattle.std.specs.List.{filter, list_any, range_with_len};
 ghost use Rattle.clause_encoder.specs.Clauses.{vars_rise, is_clause_list, var_of};
 ghost use Rattle.state_rules.specs.Bits.{bit_in};
-ghost use Rattle.forest_states.specs.inner.Walked.{numbered, numbers_at, begun_at, goes_to, is_in_tree, has_var, clause_at};
+ghost use Rattle.forest_states.specs.inner.Descents.{numbered, numbers_at, begun_at, goes_to, is_in_tree, has_var, clause_at};
 
 use clause_encoder::Cnf;
 use elimination_forests::Step;
@@ -85,7 +85,7 @@ pub(crate) fn clause_of(cnf: &Cnf, number: u32) -> &[i32]
     }
 }
 
-/// Whether an open clause goes to a tree out of so many: to one alone, or it has a variable there that is not marked.
+/// Whether an active clause goes to a tree out of so many: to one alone, or it has a variable there that is not marked.
 pub(crate) fn goes_to(
     cnf: &Cnf,
     trees: u32,

@@ -1,8 +1,8 @@
 ghost use Rattle.std.specs.Prelude.{◌≡◌, ◌<◌, ◌+◌, ◌^◌, ◌++◌, List, Bool, true, [], length, drop, replicate, IfOk, OnOk};
 ghost use Rattle.state_rules.specs.Bits.{row_number};
 ghost use Rattle.forest_states.specs.inner.BitLists.{copied};
-ghost use Rattle.forest_states.specs.inner.Tables.{flags_in, filled};
-ghost use Rattle.forest_states.specs.inner.Walked.{picked};
+ghost use Rattle.forest_states.specs.inner.TransitionTables.{flags_in, filled};
+ghost use Rattle.forest_states.specs.inner.Descents.{picked};
 
 use crate::bit_list::BitList;
 use crate::rows::{first_bits, later_bits, ones, with_bits};
@@ -25,7 +25,7 @@ pub(crate) struct Picks {
 
 impl Model for Picks {
     ghost use Rattle.std.specs.Prelude.{List, Bool};
-    ghost use Rattle.forest_states.specs.inner.Tables.{flags_in};
+    ghost use Rattle.forest_states.specs.inner.TransitionTables.{flags_in};
 
     ghost Value = { List Bool };
 

@@ -3,23 +3,23 @@ ghost use Rattle.std.specs.List.{list_all, range_with_len, position_or_len};
 ghost use Rattle.elimination_forests.specs.Branches.{different};
 ghost use Rattle.forest_states.specs.inner.BitLists.{is_same};
 ghost use Rattle.forest_states.specs.inner.Masked.{IsShort};
-ghost use Rattle.forest_states.specs.inner.Walked.{any_leads, picked, joined, lead, decided_states, decided_forks, parts_by, column_by, table_at, forks_of, row_at, row_of, row_in, stand_decided, stand_part, column_at, stands_below, forks_below, first_stand, or_first, stand_of};
+ghost use Rattle.forest_states.specs.inner.Descents.{any_leads, picked, joined, lead, decided_states, decided_forks, parts_by, column_by, table_at, forks_of, row_at, row_of, row_in, stand_decided, stand_part, column_at, stands_below, forks_below, first_stand, or_first, stand_of};
 
 use crate::bit_list::BitList;
-use crate::entries::Table;
 use crate::marks::{clauses_with, mark, number_trees};
 use crate::masks::Masks;
 use crate::picks::Picks;
-use crate::tables::{find_picks, find_table};
+use crate::table_finder::{find_picks, find_table};
+use crate::transition_tables::TransitionTable;
 use clause_encoder::Cnf;
 use elimination_forests::{Forks, Step, Ways};
 use indexmap::IndexSet;
 use std::alloc::{AllocError, Global};
 
-/// A place that is begun: its open clauses, by rising numbers, and its states, which have a bit for each of these.
+/// A place that is begun: its active clauses, by rising numbers, and its states, which have a bit for each of these.
 #[derive(Drop)]
 pub(crate) struct Spot {
-    pub(crate) opened: Vec<u32>,
+    pub(crate) active: Vec<u32>,
     pub(crate) states: IndexSet<BitList>,
 }
 
@@ -92,16 +92,16 @@ fn go_by_bit(
 ) -> Result<(Vec<Fork>, Spot), AllocError>
     requires { length spot.now.states.keys < 2 ^ 31 }
     ensures leads { IfOk result (λ r. r.0.items ≡ decided_forks
-        (table_at cnf.now.clauses (map (λ v. v.items) of.now) seen.now var spot.now.opened.items) spot.now.states.keys) }
+        (table_at cnf.now.clauses (map (λ v. v.items) of.now) seen.now var spot.now.active.items) spot.now.states.keys) }
     ensures few { IfOk result (λ r. length r.1.states.keys < 2 ^ 32) }
     ensures base { IfOk result (λ r. stand_of r.1
         ≡ stand_decided cnf.now.clauses (map (λ v. v.items) of.now) seen.now var (stand_of spot.now)) }
 {
     let touched = clauses_with(of, var);
-    let (table, opened) = find_table(alloc, cnf, seen, var, touched, &spot.opened)?;
+    let (table, active) = find_table(alloc, cnf, seen, var, touched, &spot.active)?;
     let masks = table.masks(alloc)?;
     let (leads, states) = decide(alloc, &table, &masks, &spot.states)?;
-    Ok((leads, Spot { opened, states }))
+    Ok((leads, Spot { active, states }))
 }
 
 // Where the states of a base lead to in each tree on it. A base of which all goes to one tree is the place of that tree.
@@ -130,11 +130,11 @@ fn go_below(
     Ok(Some(columns))
 }
 
-// Whether there is one tree on a base, so that each open clause goes to it, and so each bit of a state.
+// Whether there is one tree on a base, so that each active clause goes to it, and so each bit of a state.
 fn is_whole(trees: u32, base: &Spot) -> bool
-    ensures { result ≡ ((trees == 1) && list_all (λ s. length s == length base.now.opened.items) base.now.states.keys) }
+    ensures { result ≡ ((trees == 1) && list_all (λ s. length s == length base.now.active.items) base.now.states.keys) }
 {
-    trees == 1 && have_len(base.opened.len(), &base.states)
+    trees == 1 && have_len(base.active.len(), &base.states)
 }
 
 fn have_len(size: usize, states: &IndexSet<BitList>) -> bool
@@ -184,17 +184,17 @@ fn go_to(
     ensures column { IfOk result (λ r. r.0.items ≡ column_at cnf.now.clauses trees seen.now numbers.now tree (stand_of base.now)) }
     ensures spot { IfOk result (λ r. stand_of r.1 ≡ stand_part cnf.now.clauses trees seen.now numbers.now tree (stand_of base.now)) }
 {
-    let (picks, opened) = find_picks(
+    let (picks, active) = find_picks(
         alloc,
         cnf,
         trees,
         seen,
         numbers,
         tree,
-        base.opened.as_slice(),
+        base.active.as_slice(),
     )?;
-    let (column, states) = part(alloc, &picks, opened.len(), &base.states)?;
-    Ok((column, Spot { opened, states }))
+    let (column, states) = part(alloc, &picks, active.len(), &base.states)?;
+    Ok((column, Spot { active, states }))
 }
 
 // The part of each state that is picked: its place among the parts, and the parts, with room for so many bits.
@@ -228,10 +228,10 @@ fn put(state: BitList, states: &mut IndexSet<BitList>) -> Result<u32, AllocError
     Ok(place as u32)
 }
 
-// Where the states of a place lead to by a bit, and the states there. `masks` are the table in words, if it is short.
+// Where the states of a place lead to by a bit, and their successors. `masks` are the table in words, if it is short.
 fn decide(
     alloc: Global,
-    table: &Table,
+    table: &TransitionTable,
     masks: &Option<Masks>,
     states: &IndexSet<BitList>,
 ) -> Result<(Vec<Fork>, IndexSet<BitList>), AllocError>
@@ -245,7 +245,7 @@ fn decide(
     let mut next = IndexSet::with_capacity(alloc, states.len())?;
     let mut leads = Vec::with_capacity(alloc, states.len())?;
     for state in states.as_slice() {
-        let (left_by_0, left_by_1) = table.walk(alloc, masks, state)?;
+        let (left_by_0, left_by_1) = table.successors(alloc, masks, state)?;
         let zero = add(left_by_0, &mut next)?;
         let one = add(left_by_1, &mut next)?;
         leads.push(Fork { zero, one })?;
@@ -363,7 +363,7 @@ fn begin(alloc: Global) -> Result<Spot, AllocError>
     let mut states = IndexSet::new(alloc);
     states.insert(BitList::new(alloc, 0)?)?;
     Ok(Spot {
-        opened: Vec::new(alloc),
+        active: Vec::new(alloc),
         states,
     })
 }

@@ -1,7 +1,7 @@
 ghost use Rattle.std.specs.Prelude.{◌≡◌, ◌<◌, ◌≤◌, ◌+◌, ◌++◌, ◌==◌, Bool, List, true, not, length, drop, replicate};
 ghost use Rattle.state_rules.specs.Bits.{bit_in, row_number};
 ghost use Rattle.forest_states.specs.inner.BitLists.{copied};
-ghost use Rattle.forest_states.specs.inner.Tables.{in_both, in_one};
+ghost use Rattle.forest_states.specs.inner.TransitionTables.{in_both, in_one};
 
 /// Writes bits after so many others of a word.
 pub(crate) fn with_bits(word: u64, len: usize, row: u64) -> u64

@@ -3,7 +3,7 @@ use Rattle.std.specs.Prelude.{if◌then◌else◌}
 use Rattle.state_rules.proofs.Lists.{list_all-at}
 use Rattle.clause_encoder.specs.Clauses.{is_clause, vars_rise}
 use Rattle.elimination_forests.proofs.MetOrder.{clauses-valid}
-use Rattle.forest_states.specs.inner.Walked.{has_var, clause_at}
+use Rattle.forest_states.specs.inner.Descents.{has_var, clause_at}
 use Rattle.forest_states.proofs.ClausesByVariable.{rises, numbers-more}
 use Rattle.forest_states.proofs.marks.find_clauses.Goals as goal
 

@@ -1,7 +1,7 @@
 use Rattle.std.proofs.Common.{◌-◌, ◌+◌, length, drop, get_or, set, ap, sym, ◌∙◌, arith}
 use Rattle.std.proofs.lemmas.List.{length-set}
 use Rattle.elimination_forests.specs.declared.steps.Step.{Step}
-use Rattle.forest_states.specs.inner.Walked.{numbered}
+use Rattle.forest_states.specs.inner.Descents.{numbered}
 use Rattle.forest_states.proofs.MarkedVariables.{numbered-none, numbered-more}
 use Rattle.forest_states.proofs.marks.write_trees.Goals as goal
 

@@ -1,8 +1,8 @@
 use Rattle.std.proofs.Common.{◌+◌, ◌++◌, length, drop, get_or, ap, sym, ◌∙◌, arith}
 use Rattle.std.proofs.lemmas.List.{length-append, drop_all}
 use Rattle.forest_states.specs.inner.BitLists.{copied}
-use Rattle.forest_states.specs.inner.Tables.{flags_in}
-use Rattle.forest_states.specs.inner.Walked.{picked}
+use Rattle.forest_states.specs.inner.TransitionTables.{flags_in}
+use Rattle.forest_states.specs.inner.Descents.{picked}
 use Rattle.forest_states.proofs.Words.{length-copied}
 use Rattle.forest_states.proofs.BitRuns.{none, flags-on, picked-on, picked-last}
 use Rattle.forest_states.proofs.picks.add_picked.Goals as goal

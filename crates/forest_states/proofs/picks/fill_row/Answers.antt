@@ -2,7 +2,7 @@ use Rattle.std.proofs.Common.{◌++◌, [], true, drop, get_or, replicate, refl,
 use Rattle.std.proofs.lemmas.List.{length-append, length-replicate, drop_all}
 use Rattle.state_rules.specs.Bits.{row_number}
 use Rattle.forest_states.specs.inner.BitLists.{copied}
-use Rattle.forest_states.specs.inner.Tables.{flags_in, filled}
+use Rattle.forest_states.specs.inner.TransitionTables.{flags_in, filled}
 use Rattle.forest_states.proofs.Words.{length-copied}
 use Rattle.forest_states.proofs.BitRuns.{none, flags-on, flags-rest}
 use Rattle.forest_states.proofs.Masking.{filled-on, filled-last}

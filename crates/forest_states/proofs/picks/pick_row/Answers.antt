@@ -2,8 +2,8 @@ use Rattle.std.proofs.Common.{◌+◌, ◌++◌, [], length, drop, get_or, refl,
 use Rattle.std.proofs.lemmas.List.{length-append, drop_all}
 use Rattle.state_rules.specs.Bits.{row_number}
 use Rattle.forest_states.specs.inner.BitLists.{copied}
-use Rattle.forest_states.specs.inner.Tables.{flags_in}
-use Rattle.forest_states.specs.inner.Walked.{picked}
+use Rattle.forest_states.specs.inner.TransitionTables.{flags_in}
+use Rattle.forest_states.specs.inner.Descents.{picked}
 use Rattle.forest_states.proofs.Words.{length-copied}
 use Rattle.forest_states.proofs.BitRuns.{none, flags-on, flags-rest, picked-next, picked-end}
 use Rattle.forest_states.proofs.picks.pick_row.Goals as goal

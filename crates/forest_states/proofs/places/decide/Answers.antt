@@ -1,14 +1,14 @@
 use Rattle.std.proofs.Common.{◌++◌, [], ◌∷◌, List, Bool, true, false, ◌∙◌, arith}
 use Rattle.forest_states.specs.declared.places.Fork.{Fork}
-use Rattle.forest_states.specs.inner.Walked.{joined, lead, walked, decided_states}
+use Rattle.forest_states.specs.inner.Descents.{joined, lead, successor, decided_states}
 use Rattle.forest_states.proofs.Sets.{first-lead, second-lead, both-joined, mapped-more, item-at}
 use Rattle.forest_states.proofs.places.decide.Goals as goal
 
 pub loop-state-preserved : goal.loop-state-preserved
 loop-state-preserved c =
     let states = c.args.states.now.keys in
-    let f = walked false c.args.table.now in
-    let g = walked true c.args.table.now in
+    let f = successor false c.args.table.now in
+    let g = successor true c.args.table.now in
     let k = c.loop-state.state-index in
     let s = c.state-item.result in
     let at = item-at c.as_slice-state-items.result.now states k s c.as_slice-state-items.ensures.keys c.loop-state-test.true c.state-item.is in

@@ -1,6 +1,6 @@
 use Rattle.std.proofs.Common.{◌++◌, [], ◌∷◌, map, reverse, ap, sym, ◌∙◌}
 use Rattle.std.proofs.lemmas.List.{map-append, reverse-append}
-use Rattle.forest_states.specs.inner.Walked.{row_at, stand_of}
+use Rattle.forest_states.specs.inner.Descents.{row_at, stand_of}
 use Rattle.forest_states.proofs.OneTreeBases.{whole-stands, whole-row}
 use Rattle.forest_states.proofs.places.go_below.Goals as goal
 

@@ -2,7 +2,7 @@ use Rattle.std.proofs.Common.{◌++◌, map, length, reverse, get_or, ap, sym, �
 use Rattle.std.specs.List.{range_with_len}
 use Rattle.std.proofs.lemmas.List.{length-map}
 use Rattle.std.proofs.lemmas.List.FromFn.{length-range_with_len}
-use Rattle.forest_states.specs.inner.Walked.{decided_forks, table_at, row_at, forks_found, column_at, stand_decided, stand_part, stand_of}
+use Rattle.forest_states.specs.inner.Descents.{decided_forks, table_at, row_at, forks_found, column_at, stand_decided, stand_part, stand_of}
 use Rattle.elimination_forests.specs.Branches.{different}
 use Rattle.elimination_forests.proofs.Chains.{different-different}
 use Rattle.forest_states.proofs.places.go_down.Goals as goal
@@ -28,7 +28,7 @@ returns-clause-forks c =
     let numbers = c.as_slice-3.ensures.value ∙ c.number_trees.ensures.numbers in
     let base = c.in_ok-leads.ensures.base ∙ (λ j. stand_decided clauses of (seen j) v s) in
     let columns = c.in_ok-columns.ensures.columns ∙ (λ j. row_at (map (λ i. column_at clauses c.args.step.trees (marked j) (numbers j) i (base j)) (range_with_len 0 c.args.step.trees))) in
-    let leads = c.in_ok-leads.ensures.leads ∙ (λ j. decided_forks (table_at clauses of (seen j) v s.opened) s.states) in
+    let leads = c.in_ok-leads.ensures.leads ∙ (λ j. decided_forks (table_at clauses of (seen j) v s.active) s.states) in
     λ j. forks_found c.args.step.trees (columns j) (leads j)
 
 pub returns-clause-pending : goal.returns-clause-pending

@@ -1,7 +1,7 @@
 use Rattle.std.proofs.Common.{◌++◌, [], ◌∷◌, List, Bool, Some, ap, ◌∙◌, arith}
 use Rattle.std.specs.List.{position_or_len}
 use Rattle.forest_states.specs.inner.BitLists.{is_same}
-use Rattle.forest_states.specs.inner.Walked.{joined, picked, parts_by}
+use Rattle.forest_states.specs.inner.Descents.{joined, picked, parts_by}
 use Rattle.forest_states.proofs.Sets.{part-place, part-joined, mapped-more, item-at}
 use Rattle.forest_states.proofs.places.part.Goals as goal
 

@@ -1,6 +1,6 @@
 use Rattle.std.proofs.Common.{◌≡◌, ◌≤◌, length, take, map}
 use Rattle.elimination_forests.specs.Branches.{different}
-use Rattle.forest_states.specs.inner.Walked.{picked, column_by}
+use Rattle.forest_states.specs.inner.Descents.{picked, column_by}
 use Rattle.forest_states.proofs.places.part.Given as goal
 
 abbrev pub invariant-loop-state : goal.invariant-loop-state

@@ -1,6 +1,6 @@
 use Rattle.std.proofs.Common.{◌≡◌, bit_and, ◌∙◌, arith}
 use Rattle.state_rules.specs.Bits.{row_number}
-use Rattle.forest_states.specs.inner.Tables.{in_both}
+use Rattle.forest_states.specs.inner.TransitionTables.{in_both}
 use Rattle.forest_states.proofs.Masking.{row-both, row-one}
 use Rattle.forest_states.proofs.rows.without.Goals as goal
 

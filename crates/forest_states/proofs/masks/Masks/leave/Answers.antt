@@ -1,6 +1,6 @@
 use Rattle.std.proofs.Common.{Some, ap, sym, ◌∙◌, arith}
-use Rattle.forest_states.specs.inner.Tables.{in_one}
-use Rattle.forest_states.specs.inner.Walked.{picked}
+use Rattle.forest_states.specs.inner.TransitionTables.{in_one}
+use Rattle.forest_states.specs.inner.Descents.{picked}
 use Rattle.forest_states.proofs.BitRuns.{length-picked}
 use Rattle.forest_states.proofs.Masking.{left-dead, left-alive}
 use Rattle.forest_states.proofs.masks.Masks.leave.Goals as goal

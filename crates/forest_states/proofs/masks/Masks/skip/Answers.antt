@@ -1,7 +1,7 @@
 use Rattle.std.proofs.Common.{◌++◌, true, false, not, map, replicate, ap, sym, ◌∙◌, arith}
 use Rattle.std.proofs.lemmas.List.{length-append, length-replicate}
 use Rattle.state_rules.specs.Bits.{row_number}
-use Rattle.forest_states.specs.inner.Tables.{plain}
+use Rattle.forest_states.specs.inner.TransitionTables.{plain}
 use Rattle.forest_states.proofs.Masking.{row-padded, map-plain}
 use Rattle.forest_states.proofs.masks.Masks.skip.Goals as goal
 

@@ -1,5 +1,5 @@
 use Rattle.std.proofs.Common.{◌++◌, length, replicate, ap, sym, ◌∙◌, arith}
-use Rattle.forest_states.specs.inner.Tables.{flags_in}
+use Rattle.forest_states.specs.inner.TransitionTables.{flags_in}
 use Rattle.forest_states.proofs.BitRuns.{flags-picked, flags-other, flags-next, length-last}
 use Rattle.forest_states.proofs.picks.Picks.push.Goals as goal
 

@@ -1,7 +1,7 @@
 use Rattle.std.proofs.Common.{map, length, ap, sym, ◌∙◌, arith}
 use Rattle.std.proofs.lemmas.List.{take_all}
 use Rattle.elimination_forests.specs.Ways.{WayList}
-use Rattle.forest_states.specs.inner.Walked.{ways_found, row_in}
+use Rattle.forest_states.specs.inner.Descents.{ways_found, row_in}
 use Rattle.forest_states.proofs.places.Leads.forks.Goals as goal
 
 pub returns : goal.returns

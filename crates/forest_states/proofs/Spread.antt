@@ -66,9 +66,6 @@ told-next (x ∷ es) (suc k) e low = grind (arith, length-append, told-next es k
 pub told-more : (es : List Change) (k : ℕ) (e : Change) → k < length es → told es (k + 1) ≡ told es k + (get_or es k e).run + 1
 told-more es k e low = let next : k + 1 ≡ suc k = omega arith in ap (told es) next ∙ told-next es k e low
 
-pub told-room : (es : List Change) (rest k n : ℕ) (e : Change) → k < length es → length (spread es rest) < 64 → n ≤ told es k → n + (get_or es k e).run + 1 < 64
-told-room es rest k n e low few short = omega (arith, few, told-within es rest (k + 1), told-more es k e low, short)
-
 pub told-all : (es : List Change) (rest k : ℕ) → length es ≤ k → told es k + rest ≡ length (spread es rest)
 told-all es rest k all = omega (arith, ap (λ xs. length (spread xs 0)) (take_all k es all), length-spread es rest)
 

@@ -196,7 +196,7 @@ way-ready weight all clauses forest i seen found sum [] low way = way-begin weig
 way-ready weight all clauses forest i seen found sum (s ∷ stands) low way = way
 
 -- what is next
-next-is : (before : List Stand) → (s : Stand) × (stands : List Stand) × (s ∷ stands ≡ or_first before)
+pub next-is : (before : List Stand) → (s : Stand) × (stands : List Stand) × (s ∷ stands ≡ or_first before)
 next-is [] = (first_stand, [], refl)
 next-is (s ∷ stands) = (s, stands, refl)
 
@@ -208,14 +208,13 @@ module _ (weight : Weight) (all : List Step) (clauses : List Clause) (of : List 
   now : Way weight all clauses forest i seen found sum ((next-is before).0 ∷ (next-is before).1)
   now = subst (λ ss. Way weight all clauses forest i seen found sum ss) (sym (next-is before).2) (way-ready weight all clauses forest i seen found sum before low way)
 
-  pub way-next : (seen_more : List Bool) (f : Forks) (sum_more : ℕ) (after : List Stand) → seen_more ≡ set seen (step_at all i).var true
-      → ((s : Stand) (stands : List Stand) → s ∷ stands ≡ or_first before → f ≡ forks_below clauses of seen numbers (step_at all i) (drop (i + 1) all) s)
+  pub way-next : (seen_more : List Bool) (sum_more : ℕ) (after : List Stand) → seen_more ≡ set seen (step_at all i).var true
       → ((s : Stand) (stands : List Stand) → s ∷ stands ≡ or_first before → sum_more ≡ sum + weight_of weight s)
       → ((s : Stand) (stands : List Stand) → s ∷ stands ≡ or_first before → after ≡ stands_below clauses of seen numbers (step_at all i) (drop (i + 1) all) s ++ stands)
-      → Way weight all clauses forest (i + 1) seen_more (found ++ f ∷ []) sum_more after
-  way-next seen_more f sum_more after n g m a =
+      → Way weight all clauses forest (i + 1) seen_more (found ++ forks_below clauses of seen numbers (step_at all i) (drop (i + 1) all) (next-is before).0 ∷ []) sum_more after
+  way-next seen_more sum_more after n m a =
       let p = next-is before in
-      transport (λ j. Way weight all clauses forest (i + 1) (sym n j) (found ++ sym (g p.0 p.1 p.2) j ∷ []) (sym (m p.0 p.1 p.2) j) (sym (a p.0 p.1 p.2) j))
+      transport (λ j. Way weight all clauses forest (i + 1) (sym n j) (found ++ forks_below clauses of seen numbers (step_at all i) (drop (i + 1) all) p.0 ∷ []) (sym (m p.0 p.1 p.2) j) (sym (a p.0 p.1 p.2) j))
       (way-more weight all clauses of seen known numbers size forest i none_step found sum p.0 p.1 now)
 
   pub way-past : (top : ℕ) → ((s : Stand) (stands : List Stand) → s ∷ stands ≡ or_first before → top < sum + weight_of weight s) → top < forest_sum weight forest clauses

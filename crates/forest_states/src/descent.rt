@@ -104,11 +104,20 @@ fn go_along(
     let mut forks = Vec::new(alloc);
     let mut leads_on = true;
     for at in 0..steps.len() {
-        let Some(found) = frontier.next_place(alloc, cnf, of.as_slice(), steps, at, weight, top)?
+        let Some(found) = frontier.next_place(
+            alloc,
+            cnf,
+            of.as_slice(),
+            steps,
+            at,
+            weight,
+            top,
+            keep,
+        )?
         else {
             return Ok(None);
         };
-        leads_on = found.has_way();
+        leads_on = found.has_way;
         if keep {
             add_forks(alloc, &found, &mut forks)?;
         }
@@ -153,7 +162,7 @@ impl Frontier {
         })
     }
 
-    // Where the next place leads to, unless the sum with it is above the limit.
+    // Where the next place leads to, unless the sum with it is above the limit. Forks are found only if they are kept.
     fn next_place(
         &mut self,
         alloc: Global,
@@ -163,6 +172,7 @@ impl Frontier {
         at: usize,
         weight: Weight,
         top: u32,
+        keep: bool,
     ) -> Result<Option<Leads>, Memory>
         requires low { at < length steps.now }
         requires within { self.old.sum ≤ top }
@@ -172,7 +182,9 @@ impl Frontier {
         ensures numbers { IfOk result (λ found. IfSome found (λ _. length self.new.numbers.items ≡ length self.old.numbers.items)) }
         ensures whole { IfOk result (λ found. IfSome found (λ leads. (n : ℕ) → length (row_in leads n) ≡ leads.trees)) }
         ensures forks { IfOk result (λ found. IfSome found (λ leads. (s : Stand) (stands : List Stand) → s ∷ stands ≡ or_first (reverse (map stand_of self.old.pending.items))
-            → forks_of leads ≡ forks_below cnf.now.clauses (map (λ v. v.items) of.now) self.old.seen.items self.old.numbers.items (step_at steps.now at) (drop (at + 1) steps.now) s)) }
+            → keep ≡ true → forks_of leads ≡ forks_below cnf.now.clauses (map (λ v. v.items) of.now) self.old.seen.items self.old.numbers.items (step_at steps.now at) (drop (at + 1) steps.now) s)) }
+        ensures way { IfOk result (λ found. IfSome found (λ leads. (s : Stand) (stands : List Stand) → s ∷ stands ≡ or_first (reverse (map stand_of self.old.pending.items))
+            → leads.has_way ≡ has_way (forks_below cnf.now.clauses (map (λ v. v.items) of.now) self.old.seen.items self.old.numbers.items (step_at steps.now at) (drop (at + 1) steps.now) s))) }
         ensures sum { IfOk result (λ found. IfSome found (λ _. (s : Stand) (stands : List Stand) → s ∷ stands ≡ or_first (reverse (map stand_of self.old.pending.items))
             → self.new.sum ≡ self.old.sum + weight_of weight s)) }
         ensures pending { IfOk result (λ found. IfSome found (λ _. (s : Stand) (stands : List Stand) → s ∷ stands ≡ or_first (reverse (map stand_of self.old.pending.items))
@@ -196,6 +208,7 @@ impl Frontier {
             &steps[at + 1..],
             &spot,
             &mut self.pending,
+            keep,
         )?;
         Ok(Some(leads))
     }
@@ -207,7 +220,7 @@ fn sum_with(spot: &Spot, weight: Weight, sum: u32, top: u32) -> Option<u32>
     requires top { top < 2 ^ 31 }
     ensures sum { IfSome result (λ more. more ≡ sum + weight_of weight (stand_of spot.now)) }
     ensures within { IfSome result (λ more. more ≤ top) }
-    ensures few { IfSome result (λ _. length spot.now.states.keys < 2 ^ 31) }
+    ensures few { IfSome result (λ _. length spot.now.states.lists < 2 ^ 31) }
     ensures above { result ≡ None → top < sum + weight_of weight (stand_of spot.now) }
 {
     let weight = weight_of_list(weight, spot.active.len());

@@ -2,12 +2,14 @@
 #![tactic(auto)]
 
 mod bit_list;
+mod bits;
 mod descent;
 mod marks;
 mod masks;
 mod picks;
 mod places;
 mod rows;
+mod states;
 mod table_finder;
 mod transition_tables;
 

@@ -27,6 +27,7 @@ pub(crate) fn number_trees(numbers: &mut Vec<u32>, trees: u32, steps: &[Step])
     }
 }
 
+#[tactic(auto, using(crate::proofs::Rules::write_trees_steps))]
 fn write_trees(numbers: &mut Vec<u32>, trees: u32, steps: &[Step])
     ensures numbers { numbers.new.items ≡ numbered trees 0 trees steps.now numbers.old.items }
     ensures long { length numbers.new.items ≡ length numbers.old.items }
@@ -140,6 +141,7 @@ pub(crate) fn clauses_with(of: &[Vec<u32>], var: u32) -> &[u32]
 }
 
 /// For each variable the numbers of the clauses that have it.
+#[tactic(auto, using(crate::proofs::Rules::find_clauses_steps))]
 pub(crate) fn find_clauses(alloc: Global, cnf: &Cnf) -> Result<Vec<Vec<u32>>, AllocError>
     ensures valid { is_clause_list cnf.now ≡ true }
     ensures long { IfOk result (λ of. length of.items ≡ cnf.now.vars + 1) }

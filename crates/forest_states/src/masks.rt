@@ -6,6 +6,7 @@ ghost use Rattle.forest_states.specs.inner.Descents.{successor, left_by};
 ghost use Rattle.forest_states.specs.inner.Masked.{IsMasked, IsShort};
 
 use crate::bit_list::BitList;
+use crate::bits::Bits;
 use crate::picks::Picks;
 use crate::rows::{meets, with_bits, without};
 use crate::transition_tables::ClauseTransition;
@@ -41,6 +42,7 @@ impl Masks {
     }
 
     /// Adds so many clauses that stay as they are.
+    #[tactic(auto, using(crate::proofs::Rules::masks_skip_steps))]
     pub(crate) fn skip(&mut self, count: usize) -> Result<(), AllocError>
         requires table { (table : List ClauseTransition) × IsMasked self.old table }
         requires few { self.old.len + count < 64 }
@@ -72,10 +74,11 @@ impl Masks {
     }
 
     /// The successors of a state by the bits 0 and 1, unless they are dead.
+    #[tactic(auto, using(crate::proofs::Rules::masks_successors_steps))]
     pub(crate) fn successors(
         &self,
         alloc: Global,
-        state: &BitList,
+        state: &Bits<'_>,
     ) -> Result<(Option<BitList>, Option<BitList>), AllocError>
         requires table { (table : List ClauseTransition) × IsShort self.now table }
         requires short { length state.now ≤ 64 }
@@ -89,6 +92,7 @@ impl Masks {
     }
 
     // What is left of the clauses of a word if some of them are true, unless it is dead.
+    #[tactic(auto, using(crate::proofs::Rules::masks_leave_steps))]
     fn leave(&self, alloc: Global, met: u64, are_true: u64) -> Result<Option<BitList>, AllocError>
         requires few { length self.now.kept < 64 }
         requires met { (bits : List Bool) × (met ≡ row_number bits) }

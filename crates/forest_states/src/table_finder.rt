@@ -14,6 +14,7 @@ use std::alloc::{AllocError, Global};
 /// The transition table of a variable for the active clauses of a place and those that begin with it, and the numbers of those that do not end.
 ///
 /// `touched` are the clauses that have the variable. The others stay as they are, and are not read.
+#[tactic(auto, using(crate::proofs::Rules::find_table_steps))]
 pub(crate) fn find_table(
     alloc: Global,
     cnf: &Cnf,

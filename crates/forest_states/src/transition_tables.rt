@@ -4,6 +4,7 @@ ghost use Rattle.forest_states.specs.inner.Descents.{successor};
 ghost use Rattle.forest_states.specs.inner.Masked.{IsShort};
 
 use crate::bit_list::BitList;
+use crate::bits::Bits;
 use crate::masks::Masks;
 use std::alloc::{AllocError, Global};
 use std::marker::Model;
@@ -72,6 +73,7 @@ impl TransitionTable {
     }
 
     /// Adds what happens to one clause more.
+    #[tactic(auto, using(crate::proofs::Rules::table_steps))]
     pub(crate) fn push(&mut self, transition: ClauseTransition) -> Result<(), AllocError>
         requires { length self.old < 2 ^ 63 }
         ensures { OnOk result (self.new ≡ self.old ++ transition ∷ []) }
@@ -89,6 +91,7 @@ impl TransitionTable {
     }
 
     /// Adds so many clauses that stay as they are.
+    #[tactic(auto, using(crate::proofs::Rules::table_steps))]
     pub(crate) fn skip(&mut self, count: usize)
         requires { length self.old + count < 2 ^ 64 }
         ensures { self.new ≡ self.old ++ replicate count plain }
@@ -108,7 +111,7 @@ impl TransitionTable {
         &self,
         alloc: Global,
         masks: &Option<Masks>,
-        state: &BitList,
+        state: &Bits<'_>,
     ) -> Result<(Option<BitList>, Option<BitList>), AllocError>
         requires fits { length self.now < 2 ^ 63 }
         requires short { IfSome masks.now (λ masks. IsShort masks self.now) }
@@ -127,6 +130,7 @@ impl TransitionTable {
 }
 
 // The table of changes, and of so many clauses after the last one, in words if there are few clauses.
+#[tactic(auto, using(crate::proofs::Rules::find_masks_steps))]
 fn find_masks(alloc: Global, changes: &[Change], rest: usize) -> Result<Option<Masks>, AllocError>
     ensures { IfOk result (λ found. IfSome found (λ masks. IsShort masks (spread changes.now rest))) }
 {
@@ -146,12 +150,13 @@ fn find_masks(alloc: Global, changes: &[Change], rest: usize) -> Result<Option<M
 }
 
 // The successor of a state by a bit, unless it is dead: by changes, and so many clauses after the last one.
+#[tactic(auto, using(crate::proofs::Rules::successor_steps))]
 fn successor(
     alloc: Global,
     changes: &[Change],
     rest: usize,
     bit: bool,
-    state: &BitList,
+    state: &Bits<'_>,
 ) -> Result<Option<BitList>, AllocError>
     requires { length (spread changes.now rest) < 2 ^ 63 }
     ensures { IfOk result (λ left. left ≡ successor bit (spread changes.now rest) state.now) }

@@ -198,7 +198,7 @@ pub record Stand : Type 0 where
   pub states : List (List Bool)
 
 abbrev pub stand_of : Spot → Stand
-stand_of spot = record { active = spot.active.items; states = spot.states.keys }
+stand_of spot = record { active = spot.active.items; states = spot.states.lists }
 
 -- what a bit of a variable does to the active clauses of a place and to those that begin with it, and the transition table
 abbrev pub met_at : List Clause → List (List ℕ) → List Bool → ℕ → List ℕ → List Met

@@ -1,12 +1,12 @@
 use Rattle.std.proofs.Common.{◌≡◌, ◌+◌, ◌++◌, [], ◌∷◌, true, false, map, length, drop, reverse, replicate, refl, Ok, ap, sym, ◌∙◌, arith}
 use Rattle.std.proofs.lemmas.Bool.{false≢true}
 use Rattle.std.proofs.lemmas.List.{length-map, length-set, length-replicate}
-use Rattle.forest_states.specs.inner.Descents.{stand_of, step_at, row_in, forks_of, forks_below, stands_below}
+use Rattle.forest_states.specs.inner.Descents.{stand_of, step_at, forks_below, stands_below}
 use Rattle.forest_states.proofs.Numbers.{IsIndex}
 use Rattle.forest_states.proofs.ClausesByVariable.{index-is}
-use Rattle.elimination_forests.specs.Forests.{leads_on}
-use Rattle.forest_states.proofs.Mapped.{ways-some, leads-push, if-some}
-use Rattle.forest_states.proofs.WayDown.{way-next, way-past, way-last, way-begun}
+use Rattle.elimination_forests.specs.Forests.{has_way, leads_on}
+use Rattle.forest_states.proofs.Mapped.{leads-push, if-some}
+use Rattle.forest_states.proofs.WayDown.{next-is, way-next, way-past, way-last, way-begun}
 use Rattle.forest_states.proofs.descent.go_along.Goals as goal
 use Rattle.forest_states.proofs.descent.go_along.Goals.{then-keep+in_ok-add_forks, else-keep}
 
@@ -42,15 +42,17 @@ loop-at-preserved c =
       size = ap length (if-some _ _ _ c.in-Some.is c.in_ok-found.ensures.seen) ∙ length-set seen (step_at steps c.loop-at.at).var true ∙ c.loop-at.invariant.size;
       same = if-some _ _ _ c.in-Some.is c.in_ok-found.ensures.numbers ∙ c.loop-at.invariant.same;
       way = λ forest e is.
-          let before = c.loop-at.invariant.way forest e is in (
-            before.0 ++ forks_of c.in-Some.found ∷ [],
+          let before = c.loop-at.invariant.way forest e is in
+          let p = next-is (reverse (map stand_of c.loop-at.frontier.pending.items)) in
+          let f = forks_below clauses of seen numbers (step_at steps c.loop-at.at) (drop (c.loop-at.at + 1) steps) p.0 in
+          let f_is = ap (λ o. forks_below clauses o seen numbers (step_at steps c.loop-at.at) (drop (c.loop-at.at + 1) steps) p.0) of_is in (
+            before.0 ++ f ∷ [],
             (λ keep. elim c.if-keep.branch [
-              | then-keep+in_ok-add_forks w ↦ ap (λ fs. fs.items) w.forks-is ∙ w.in_ok-add_forks.ensures ∙ ap (λ fs. fs ++ forks_of c.in-Some.found ∷ []) (before.1 keep)
+              | then-keep+in_ok-add_forks w ↦ ap (λ fs. fs.items) w.forks-is ∙ w.in_ok-add_forks.ensures ∙ (λ j. before.1 keep j ++ (if-some _ _ _ c.in-Some.is c.in_ok-found.ensures.forks p.0 p.1 p.2 keep ∙ f_is) j ∷ [])
               | else-keep w ↦ absurd (false≢true (sym w.if-keep.false ∙ keep))
             ]),
-            (c.has_way-leads_on.ensures ∙ ways-some (row_in c.in-Some.found) c.in-Some.found.leads.items ∙ sym (leads-push before.0 (forks_of c.in-Some.found))),
-            (way-next c.args.weight steps clauses of seen known numbers sizes forest c.loop-at.at before.0 c.loop-at.frontier.sum _ c.loop-at-test.true before.3 _ (forks_of c.in-Some.found) _ _ (if-some _ _ _ c.in-Some.is c.in_ok-found.ensures.seen)
-                (λ s stands h. if-some _ _ _ c.in-Some.is c.in_ok-found.ensures.forks s stands h ∙ (λ j. forks_below clauses (of_is j) seen numbers (step_at steps c.loop-at.at) (drop (c.loop-at.at + 1) steps) s))
+            (if-some _ _ _ c.in-Some.is c.in_ok-found.ensures.way p.0 p.1 p.2 ∙ ap has_way f_is ∙ sym (leads-push before.0 f)),
+            (way-next c.args.weight steps clauses of seen known numbers sizes forest c.loop-at.at before.0 c.loop-at.frontier.sum _ c.loop-at-test.true before.3 _ _ _ (if-some _ _ _ c.in-Some.is c.in_ok-found.ensures.seen)
                 (if-some _ _ _ c.in-Some.is c.in_ok-found.ensures.sum)
                 (λ s stands h. if-some _ _ _ c.in-Some.is c.in_ok-found.ensures.pending s stands h ∙ (λ j. stands_below clauses (of_is j) seen numbers (step_at steps c.loop-at.at) (drop (c.loop-at.at + 1) steps) s ++ stands))),
           );

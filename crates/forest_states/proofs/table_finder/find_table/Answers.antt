@@ -1,10 +1,10 @@
-use Rattle.std.proofs.Common.{◌≡◌, ◌+◌, ◌-◌, ◌++◌, [], ◌∷◌, not, length, take, drop, replicate, get_or, ap, sym, ◌∙◌, arith}
+use Rattle.std.proofs.Common.{◌≡◌, ◌+◌, ◌-◌, ◌++◌, [], ◌∷◌, not, length, take, drop, replicate, get_or, ap, ◌∙◌, arith}
 use Rattle.std.specs.Prelude.{if◌then◌else◌, nat_lt}
-use Rattle.std.proofs.lemmas.List.{take_all, drop_all, length-append, length-replicate, length-drop}
+use Rattle.std.proofs.lemmas.List.{take_all, length-append, length-replicate, length-drop}
 use Rattle.std.proofs.lemmas.List.Sums.{prefix_len-le-length}
 use Rattle.forest_states.specs.inner.TransitionTables.{plain}
 use Rattle.forest_states.specs.inner.Descents.{transition_of, transition_at, after, met, transitions_of, kept_of}
-use Rattle.forest_states.proofs.MetClauses.{last-transitions, last-kept, transitions-next, kept-next, length-after}
+use Rattle.forest_states.proofs.MetClauses.{transitions-next, kept-next, length-after}
 use Rattle.forest_states.proofs.table_finder.find_table.Goals as goal
 
 pub loop-number-preserved : goal.loop-number-preserved
@@ -41,15 +41,3 @@ loop-number-preserved c =
       kept = (λ j. (c.in_ok-add.ensures ∙ (λ k. c.in_ok-extend_from_slice.ensures.items k ++ (if not (is k).ends then n ∷ [] else [])) ∙ (λ k. (c.loop-number.kept.items ++ take (below k) rest) ++ (if not (transition n).ends then n ∷ [] else []))) j
           ++ kept_of (met transition later (next j))) ∙ kept-next transition c.args.touched.now i rest c.loop-number-test.true c.loop-number.kept.items ∙ c.loop-number.invariant.kept;
     }
-
-pub returns-clause-table : goal.returns-clause-table
-returns-clause-table c =
-    let transition = transition_at c.args.cnf.now.clauses c.args.seen.now c.args.var in
-    c.skip-2.ensures ∙ ap (λ es. c.loop-number.table ++ es) (last-transitions c.loop-number.rest.now)
-    ∙ ap (λ ns. c.loop-number.table ++ transitions_of (met transition ns c.loop-number.rest.now)) (sym (drop_all c.loop-number.number-index c.args.touched.now c.loop-number-test.false)) ∙ c.loop-number.invariant.table
-
-pub returns-clause-kept : goal.returns-clause-kept
-returns-clause-kept c =
-    let transition = transition_at c.args.cnf.now.clauses c.args.seen.now c.args.var in
-    c.in_ok-extend_from_slice-2.ensures.items ∙ ap (λ ns. c.loop-number.kept.items ++ ns) (last-kept c.loop-number.rest.now)
-    ∙ ap (λ ns. c.loop-number.kept.items ++ kept_of (met transition ns c.loop-number.rest.now)) (sym (drop_all c.loop-number.number-index c.args.touched.now c.loop-number-test.false)) ∙ c.loop-number.invariant.kept

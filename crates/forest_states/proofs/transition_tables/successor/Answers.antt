@@ -1,33 +1,15 @@
-use Rattle.std.proofs.Common.{◌≡◌, ◌≤◌, ◌+◌, ◌++◌, [], ◌∷◌, not, Some, length, drop, get_or, ap, sym, ◌∙◌, ◌&&◌, ◌||◌, arith}
+use Rattle.std.proofs.Common.{◌≡◌, ◌≤◌, ◌+◌, ◌++◌, [], ◌∷◌, not, length, drop, get_or, ap, sym, ◌∙◌, ◌&&◌, ◌||◌, arith}
 use mir.Val.{bool_byte}
-use Rattle.std.proofs.lemmas.List.{length-append, drop_all}
+use Rattle.std.proofs.lemmas.List.{length-append}
 use Rattle.forest_states.specs.inner.BitLists.{copied}
 use Rattle.forest_states.specs.inner.TransitionTables.{true_at, spread}
 use Rattle.forest_states.specs.inner.Descents.{successor}
 use Rattle.forest_states.proofs.Sets.{behind}
 use Rattle.forest_states.proofs.Words.{length-copied}
 use Rattle.forest_states.proofs.Successors.{behind-kept, ended-passed, ended-dead}
-use Rattle.forest_states.proofs.Spread.{none, byte-low, told, told-more, told-within, told-all, successor-on, successor-rest}
+use Rattle.forest_states.proofs.Spread.{none, byte-low, told, told-more, successor-on}
 use Rattle.forest_states.proofs.transition_tables.successor.Goals as goal
 use Rattle.forest_states.proofs.transition_tables.successor.Goals.{then-not-change+in_ok-push, else-not-change+else-is_left}
-
-pub append-requires-clause-few : goal.append-requires-clause-few
-append-requires-clause-few c = omega (arith, c.requires, told-within c.args.changes.now c.args.rest (c.loop-change.change-index + 1), told-more c.args.changes.now c.loop-change.change-index none c.loop-change-test.true, c.loop-change.invariant.short)
-
-pub append-requires-clause-at : goal.append-requires-clause-at
-append-requires-clause-at c = omega (arith, c.requires, told-within c.args.changes.now c.args.rest (c.loop-change.change-index + 1), told-more c.args.changes.now c.loop-change.change-index none c.loop-change-test.true, c.loop-change.invariant.low)
-
-pub overflow_add-next : goal.overflow_add-next
-overflow_add-next c = omega (arith, c.requires, told-within c.args.changes.now c.args.rest (c.loop-change.change-index + 1), told-more c.args.changes.now c.loop-change.change-index none c.loop-change-test.true, c.loop-change.invariant.low)
-
-pub overflow_add-next-in-loop-change : goal.overflow_add-next-in-loop-change
-overflow_add-next-in-loop-change c = omega (arith, c.requires, told-within c.args.changes.now c.args.rest (c.loop-change.change-index + 1), told-more c.args.changes.now c.loop-change.change-index none c.loop-change-test.true, c.loop-change.invariant.low, c.from-next.ensures, byte-low (not (get_or c.args.changes.now c.loop-change.change-index none).transition.fresh))
-
-pub push-requires : goal.push-requires
-push-requires c =
-    let e = get_or c.args.changes.now c.loop-change.change-index none in
-    let from = drop c.loop-change.next c.args.state.now in
-    omega (arith, c.requires, told-within c.args.changes.now c.args.rest (c.loop-change.change-index + 1), told-more c.args.changes.now c.loop-change.change-index none c.loop-change-test.true, c.loop-change.invariant.short, ap length c.in_ok-append.ensures, length-append c.loop-change.left (copied e.run from), length-copied e.run from)
 
 pub returns-then-is_left : goal.returns-then-is_left
 returns-then-is_left c =
@@ -69,17 +51,3 @@ loop-change-preserved c =
             ∙ sym from ∙ c.loop-change.invariant.left;
       }
     ]
-
-pub append-requires-2-clause-few : goal.append-requires-2-clause-few
-append-requires-2-clause-few c = omega (arith, c.requires, told-all c.args.changes.now c.args.rest c.loop-change.change-index c.loop-change-test.false, c.loop-change.invariant.short)
-
-pub append-requires-2-clause-at : goal.append-requires-2-clause-at
-append-requires-2-clause-at c = omega (arith, c.requires, told-all c.args.changes.now c.args.rest c.loop-change.change-index c.loop-change-test.false, c.loop-change.invariant.low)
-
-pub returns : goal.returns
-returns c =
-    let es = c.args.changes.now in
-    let k = c.loop-change.change-index in
-    ap (λ bits. Some bits) c.in_ok-append-2.ensures
-    ∙ ap (behind c.loop-change.left) (sym (ap (λ xs. successor c.args.bit (spread xs c.args.rest) (drop c.loop-change.next c.args.state.now)) (drop_all k es c.loop-change-test.false) ∙ successor-rest c.args.bit c.args.rest (drop c.loop-change.next c.args.state.now)))
-    ∙ c.loop-change.invariant.left

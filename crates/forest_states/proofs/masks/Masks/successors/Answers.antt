@@ -1,14 +1,11 @@
-use Rattle.std.proofs.Common.{true, false, map, length, ap, sym, ◌∙◌, arith}
-use Rattle.std.proofs.lemmas.List.{length-map, take_all}
+use Rattle.std.proofs.Common.{true, false, map, ap, sym, ◌∙◌}
+use Rattle.std.proofs.lemmas.List.{take_all}
 use Rattle.state_rules.specs.Bits.{row_number}
 use Rattle.forest_states.specs.inner.TransitionTables.{filled, in_one}
 use Rattle.forest_states.specs.inner.Descents.{left_by}
 use Rattle.forest_states.proofs.Words.{copied-number}
 use Rattle.forest_states.proofs.Masking.{successor-by}
 use Rattle.forest_states.proofs.masks.Masks.successors.Goals as goal
-
-pub fill_row-met-requires : goal.fill_row-met-requires
-fill_row-met-requires c = omega (arith, ap length c.requires.table.1.1.fresh, length-map c.requires.table.0 (λ e. e.fresh), c.requires.table.1.0)
 
 pub leave-requires-clause-met : goal.leave-requires-clause-met
 leave-requires-clause-met c = (filled c.args.self.now.fresh c.args.state.now, c.fill_row-met.ensures c.args.state.now (c.read.ensures ∙ copied-number 64 c.args.state.now ∙ ap row_number (take_all 64 c.args.state.now c.requires.short)))

@@ -8,7 +8,7 @@ use Rattle.std.proofs.lemmas.List.{append-nil, length-take-le, take_all}
 use Rattle.std.proofs.lemmas.List.Filters.{length-filter_more}
 use Rattle.state_rules.specs.Bits.{bit_in}
 use Rattle.clause_encoder.specs.Clauses.{Clause}
-use Rattle.elimination_forests.specs.Branches.{order, has_true, is_touched, is_covered, is_open, some_passes, is_dead, size, bits_of, words_of, state_of, without, branch, IsLiving}
+use Rattle.elimination_forests.specs.Branches.{order, has_true, is_touched, is_covered, is_active, some_passes, is_dead, size, bits_of, words_of, state_of, without, branch, IsLiving}
 use Rattle.elimination_forests.proofs.LevelSteps.{Known, known, length-known, length-bits_of}
 
 -- ---- one clause more
@@ -48,7 +48,7 @@ without-at test (c ∷ cs) (b ∷ list) (suc k) h e = without-at test cs list k 
 
 -- Whether a clause is in the list of a state: what has no bit is, what has all bits is not, and the others' bits are one after the other.
 in-list : (vs : List ℕ) (i : ℕ) (cs : List Clause) (list : List Bool) (k : ℕ) → Known vs i cs list → k < length cs
-    → (not (is_covered vs i (get_or cs k [])) && (not (is_touched vs i (get_or cs k [])) || bit_in (bits_of (is_open vs i) cs list) (length (filter (is_open vs i) (take k cs))))) ≡ get_or list k false
+    → (not (is_covered vs i (get_or cs k [])) && (not (is_touched vs i (get_or cs k [])) || bit_in (bits_of (is_active vs i) cs list) (length (filter (is_active vs i) (take k cs))))) ≡ get_or list k false
 in-list vs i [] list k h low = absurd (omega arith)
 in-list vs i (c ∷ cs) [] k h low = absurd h
 in-list vs i (c ∷ cs) (b ∷ list) zero h low = grind arith
@@ -72,11 +72,11 @@ count-more test cs k count r b low e is t = grind (arith, byte-one, length-filte
 
 pub record Told (cs : List Clause) (i : ℕ) (bit : Bool) (next : List ℕ) (k : ℕ) (list : List Bool) : Type 0 where
   pub alive : some_passes (is_covered (order cs) (i + 1)) (take k cs) (branch cs i list bit) ≡ false
-  pub words : next ≡ words_of (length next) (bits_of (is_open (order cs) (i + 1)) (take k cs) (branch cs i list bit))
+  pub words : next ≡ words_of (length next) (bits_of (is_active (order cs) (i + 1)) (take k cs) (branch cs i list bit))
 
 pub record IsStepped (cs : List Clause) (i : ℕ) (bit : Bool) (state next : List ℕ) (k read written : ℕ) : Type 0 where
-  pub reads : read ≡ length (filter (is_open (order cs) i) (take k cs))
-  pub writes : written ≡ length (filter (is_open (order cs) (i + 1)) (take k cs))
+  pub reads : read ≡ length (filter (is_active (order cs) i) (take k cs))
+  pub writes : written ≡ length (filter (is_active (order cs) (i + 1)) (take k cs))
   pub told : (list : List Bool) → IsLiving cs i list → state ≡ state_of cs i list → Told cs i bit next k list
 
 -- whether the next clause is left is known
@@ -90,7 +90,7 @@ long-branch : (cs : List Clause) (i : ℕ) (list : List Bool) (bit : Bool) → I
 long-branch cs i list bit lives = length-without (has_true (get_or (order cs) i 0) bit) cs list (long cs i list lives)
 
 pub left-at : (cs : List Clause) (vs : List ℕ) (i v : ℕ) (bit : Bool) (state : List ℕ) (k read : ℕ) (d : Clause) (was_in left : Bool)
-    → k < length cs → vs ≡ order cs → d ≡ get_or cs k [] → v ≡ get_or (order cs) i 0 → length state ≡ size cs i → read ≡ length (filter (is_open (order cs) i) (take k cs))
+    → k < length cs → vs ≡ order cs → d ≡ get_or cs k [] → v ≡ get_or (order cs) i 0 → length state ≡ size cs i → read ≡ length (filter (is_active (order cs) i) (take k cs))
     → ((bits : List Bool) → state ≡ words_of (length state) bits → was_in ≡ (not (is_covered vs i d) && (not (is_touched vs i d) || bit_in bits read)))
     → left ≡ (was_in && not (has_true v bit d)) → IsLeft cs i bit state k left
 left-at cs vs i v bit state k read d was_in left low ordered e is many reads was rest list lives s = grind (arith, in-list, known, without-at, long)
@@ -104,7 +104,7 @@ pub stepped-dead : (cs : List Clause) (i : ℕ) (bit : Bool) (state : List ℕ) 
 stepped-dead cs i bit state k left low is e c list lives s = grind (arith, some-whole)
 
 module _ (cs : List Clause) (i : ℕ) (bit : Bool) (state next : List ℕ) (k read written more : ℕ) (left : Bool) (low : k < length cs) (is : IsLeft cs i bit state k left) (h : IsStepped cs i bit state next k read written)
-    (reads : more ≡ length (filter (is_open (order cs) i) (take (k + 1) cs))) where
+    (reads : more ≡ length (filter (is_active (order cs) i) (take (k + 1) cs))) where
   abbrev here : Clause
   here = get_or cs k []
 
@@ -115,15 +115,15 @@ module _ (cs : List Clause) (i : ℕ) (bit : Bool) (state next : List ℕ) (k re
       → some_passes (is_covered (order cs) (i + 1)) (take (k + 1) cs) (branch cs i list bit) ≡ false
   alive-more list lives s e = grind (arith, some-more, long-branch)
 
-  bits-next : (list : List Bool) → IsLiving cs i list → (t : Bool) → is_open (order cs) (i + 1) here ≡ t
-      → bits_of (is_open (order cs) (i + 1)) (take (k + 1) cs) (branch cs i list bit) ≡ bits_of (is_open (order cs) (i + 1)) (take k cs) (branch cs i list bit) ++ cond t (get_or (branch cs i list bit) k false ∷ []) []
+  bits-next : (list : List Bool) → IsLiving cs i list → (t : Bool) → is_active (order cs) (i + 1) here ≡ t
+      → bits_of (is_active (order cs) (i + 1)) (take (k + 1) cs) (branch cs i list bit) ≡ bits_of (is_active (order cs) (i + 1)) (take k cs) (branch cs i list bit) ++ cond t (get_or (branch cs i list bit) k false ∷ []) []
   bits-next list lives t e = grind (arith, bits-more, long-branch)
 
-  writes-more : (t : Bool) → is_open (order cs) (i + 1) here ≡ t → written + cond {A = ℕ} t 1 0 ≡ length (filter (is_open (order cs) (i + 1)) (take (k + 1) cs))
-  writes-more t e = (λ j. h.writes j + cond {A = ℕ} (sym e j) 1 0) ∙ sym (length-filter_more (is_open (order cs) (i + 1)) cs k [] low)
+  writes-more : (t : Bool) → is_active (order cs) (i + 1) here ≡ t → written + cond {A = ℕ} t 1 0 ≡ length (filter (is_active (order cs) (i + 1)) (take (k + 1) cs))
+  writes-more t e = (λ j. h.writes j + cond {A = ℕ} (sym e j) 1 0) ∙ sym (length-filter_more (is_active (order cs) (i + 1)) cs k [] low)
 
   -- a clause that goes on
-  pub stepped-on : (after : List ℕ) → is_open (order cs) (i + 1) here ≡ true → length after ≡ length next
+  pub stepped-on : (after : List ℕ) → is_active (order cs) (i + 1) here ≡ true → length after ≡ length next
       → ((bits : List Bool) → length bits ≡ written → next ≡ words_of (length next) bits → after ≡ words_of (length next) (bits ++ left ∷ []))
       → IsStepped cs i bit state after (k + 1) more (written + 1)
   stepped-on after e same put = record {
@@ -132,16 +132,16 @@ module _ (cs : List Clause) (i : ℕ) (bit : Bool) (state next : List ℕ) (k re
     told = λ list lives s. record {
       alive = grind (arith, alive-more);
       words =
-          put (bits_of (is_open (order cs) (i + 1)) (take k cs) (branch cs i list bit))
+          put (bits_of (is_active (order cs) (i + 1)) (take k cs) (branch cs i list bit))
           (grind (arith, length-bits_of, long-branch, length-take-le))
           (h.told list lives s).words
-          ∙ (λ j. words_of (sym same j) (bits_of (is_open (order cs) (i + 1)) (take k cs) (branch cs i list bit) ++ is list lives s j ∷ []))
+          ∙ (λ j. words_of (sym same j) (bits_of (is_active (order cs) (i + 1)) (take k cs) (branch cs i list bit) ++ is list lives s j ∷ []))
           ∙ ap (words_of (length after)) (sym (bits-next list lives true e));
     };
   }
 
   -- one that does not, and leaves the list alive
-  pub stepped-off : is_open (order cs) (i + 1) here ≡ false → (left && is_covered (order cs) (i + 1) here) ≡ false → IsStepped cs i bit state next (k + 1) more written
+  pub stepped-off : is_active (order cs) (i + 1) here ≡ false → (left && is_covered (order cs) (i + 1) here) ≡ false → IsStepped cs i bit state next (k + 1) more written
   stepped-off e rest = record {
     reads = reads;
     writes = omega (arith, writes-more false e);
@@ -153,5 +153,5 @@ module _ (cs : List Clause) (i : ℕ) (bit : Bool) (state next : List ℕ) (k re
 
 -- all clauses
 pub stepped-all : (cs : List Clause) (i : ℕ) (bit : Bool) (state next : List ℕ) (k read written : ℕ) → length cs ≤ k → IsStepped cs i bit state next k read written
-    → (list : List Bool) → IsLiving cs i list → state ≡ state_of cs i list → (is_dead cs (i + 1) (branch cs i list bit) ≡ false) × (next ≡ words_of (length next) (bits_of (is_open (order cs) (i + 1)) cs (branch cs i list bit)))
+    → (list : List Bool) → IsLiving cs i list → state ≡ state_of cs i list → (is_dead cs (i + 1) (branch cs i list bit) ≡ false) × (next ≡ words_of (length next) (bits_of (is_active (order cs) (i + 1)) cs (branch cs i list bit)))
 stepped-all cs i bit state next k read written all h list lives s = grind (arith, take_all)

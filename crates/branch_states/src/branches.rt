@@ -6,7 +6,7 @@ ghost use Rattle.clause_encoder.specs.declared.limits.TheConstants.{CLAUSE_LIMIT
 
 use crate::Memory;
 use crate::order::find_order;
-use crate::stepping::{count_open, step_over};
+use crate::stepping::{count_active, step_over};
 use clause_encoder::{Clause, Cnf};
 use indexmap::IndexSet;
 use std::alloc::Global;
@@ -75,7 +75,7 @@ impl Branches {
         ensures words { result ≡ size self.now.cnf.clauses self.now.level }
         ensures few { result ≤ CLAUSE_LIMIT / 64 + 1 }
     {
-        words_for(count_open(&self.cnf, &self.variables, self.level))
+        words_for(count_active(&self.cnf, &self.variables, self.level))
     }
 
     /// How many a state of the next level has.
@@ -84,7 +84,7 @@ impl Branches {
         ensures words { result ≡ size self.now.cnf.clauses (self.now.level + 1) }
         ensures few { result ≤ CLAUSE_LIMIT / 64 + 1 }
     {
-        words_for(count_open(&self.cnf, &self.variables, self.level + 1))
+        words_for(count_active(&self.cnf, &self.variables, self.level + 1))
     }
 
     /// Goes to the next level.

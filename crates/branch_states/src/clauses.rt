@@ -1,7 +1,7 @@
 ghost use Rattle.std.specs.Prelude.{◌≡◌, ◌<◌, ◌*◌, ◌&&◌, ◌||◌, not, true, List, Bool, length, nat_lt};
 ghost use Rattle.state_rules.specs.Bits.{bit_in};
 ghost use Rattle.clause_encoder.specs.Clauses.{var_of};
-ghost use Rattle.elimination_forests.specs.Branches.{place, words_of, is_true_by, has_true, is_touched, is_covered, is_open};
+ghost use Rattle.elimination_forests.specs.Branches.{place, words_of, is_true_by, has_true, is_touched, is_covered, is_active};
 
 use crate::bits::bit_at;
 use indexmap::IndexSet;
@@ -44,8 +44,8 @@ pub(crate) fn is_covered(variables: &IndexSet<u32>, level: u32, clause: &[i32]) 
 }
 
 // Whether some of them have bits, and some have none.
-pub(crate) fn is_open(variables: &IndexSet<u32>, level: u32, clause: &[i32]) -> bool
-    ensures { result ≡ is_open variables.now.keys level clause.now }
+pub(crate) fn is_active(variables: &IndexSet<u32>, level: u32, clause: &[i32]) -> bool
+    ensures { result ≡ is_active variables.now.keys level clause.now }
 {
     is_touched(variables, level, clause) && !is_covered(variables, level, clause)
 }
@@ -65,7 +65,7 @@ pub(crate) fn has_true(clause: &[i32], variable: u32, bit: bool) -> bool
         .any(|literal| is_true_by(*literal, variable, bit))
 }
 
-// Whether the clause is in the list of a state of a level. If it is open, its own bit is at this place.
+// Whether the clause is in the list of a state of a level. If it is active, its own bit is at this place.
 pub(crate) fn is_in(
     variables: &IndexSet<u32>,
     level: u32,
@@ -73,7 +73,7 @@ pub(crate) fn is_in(
     state: &[u64],
     at: usize,
 ) -> bool
-    requires { is_open variables.now.keys level clause.now ≡ true → at < 64 * length state.now }
+    requires { is_active variables.now.keys level clause.now ≡ true → at < 64 * length state.now }
     ensures { (bits : List Bool) → state.now ≡ words_of (length state.now) bits
         → result ≡ (not (is_covered variables.now.keys level clause.now) && (not (is_touched variables.now.keys level clause.now) || bit_in bits at)) }
 {

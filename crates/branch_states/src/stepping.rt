@@ -2,23 +2,23 @@ ghost use Rattle.std.specs.Prelude.{◌≡◌, ◌<◌, ◌≤◌, ◌+◌, ◌^
 ghost use Rattle.std.specs.Bool.{OnTrue};
 ghost use Rattle.std.specs.List.{filter};
 ghost use Rattle.clause_encoder.specs.declared.limits.TheConstants.{CLAUSE_LIMIT};
-ghost use Rattle.elimination_forests.specs.Branches.{order, is_open, size, is_dead, has_true, branch, state_of, IsLiving};
+ghost use Rattle.elimination_forests.specs.Branches.{order, is_active, size, is_dead, has_true, branch, state_of, IsLiving};
 
 use crate::bits::{clear, put_bit};
-use crate::clauses::{has_true, is_covered, is_in, is_open};
+use crate::clauses::{has_true, is_active, is_covered, is_in};
 use clause_encoder::Cnf;
 use indexmap::IndexSet;
 
-// How many clauses are open at a level.
-pub(crate) fn count_open(cnf: &Cnf, variables: &IndexSet<u32>, level: u32) -> u32
+// How many clauses are active at a level.
+pub(crate) fn count_active(cnf: &Cnf, variables: &IndexSet<u32>, level: u32) -> u32
     requires order { variables.now.keys ≡ order cnf.now.clauses }
     requires most { length cnf.now.clauses ≤ CLAUSE_LIMIT }
-    ensures open { result ≡ length (filter (is_open (order cnf.now.clauses) level) cnf.now.clauses) }
+    ensures active { result ≡ length (filter (is_active (order cnf.now.clauses) level) cnf.now.clauses) }
     ensures few { result ≤ length cnf.now.clauses }
 {
     let mut count = 0;
     for at in 0..cnf.len() {
-        count += u32::from(is_open(variables, level, cnf.clause(at)));
+        count += u32::from(is_active(variables, level, cnf.clause(at)));
     }
     count
 }
@@ -53,8 +53,8 @@ pub(crate) fn step_over(
         let clause = cnf.clause(at);
         let was_in = is_in(variables, level, clause, state, read);
         let left = is_left(was_in, clause, variable, bit);
-        read += usize::from(is_open(variables, level, clause));
-        if is_open(variables, level + 1, clause) {
+        read += usize::from(is_active(variables, level, clause));
+        if is_active(variables, level + 1, clause) {
             put_bit(next, written, left);
             written += 1;
         } else if left && is_covered(variables, level + 1, clause) {

@@ -85,7 +85,7 @@ pub static LONG_NETLISTS: [LongRow; 25] = [
         out: b"ready 40 41\n",
         status: 0,
     },
-    // Of gates that have one input the clauses that it is in are open from its level on, up to the level of each gate's output. With
+    // Of gates that have one input the clauses that it is in are active from its level on, up to the level of each gate's output. With
     // m gates still to come, what the input gave leaves 2 lists of 2m clauses. The health of the next gate makes them 4, or 3 for the
     // last one. With s(m) = 2m / 64 + 1 words the sum is 1 + 2 + 4 s(n), and 6 s(m) for each m from n - 1 down to 2, and 5 + 1.
     LongRow {

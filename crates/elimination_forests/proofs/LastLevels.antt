@@ -10,7 +10,7 @@ use Rattle.state_rules.proofs.Bits.{pointwise-refl, pointwise-equal}
 use Rattle.state_rules.proofs.Lists.{filter-never}
 use Rattle.state_rules.proofs.Members.{In, In-filter, any_from, any_in, empty-none}
 use Rattle.clause_encoder.specs.Clauses.{Clause, ClauseList, var_of, is_positive, is_true_clause, all_hold, is_clause_list}
-use Rattle.elimination_forests.specs.Branches.{order, has_true, is_left, left, is_covered, is_open, some_passes, same_list, different, living, size, weight, sum_of}
+use Rattle.elimination_forests.specs.Branches.{order, has_true, is_left, left, is_covered, is_active, some_passes, same_list, different, living, size, weight, sum_of}
 use Rattle.elimination_forests.proofs.LevelSteps.{is_alive, living_are_living, living-in}
 use Rattle.elimination_forests.proofs.Lists.{all-at, In-met, met-In}
 use Rattle.elimination_forests.specs.declared.steps.Weight.TheVariants.{Words}
@@ -40,7 +40,7 @@ module _ (clauses : List Clause) where
   its_order = order clauses
 
   pub last-size : size clauses (length its_order) ≡ 1
-  last-size = grind (arith, filter-within clauses (is_open its_order (length its_order)), covered-last its_order, filter-never clauses)
+  last-size = grind (arith, filter-within clauses (is_active its_order (length its_order)), covered-last its_order, filter-never clauses)
 
   -- all living lists of the last level are one, which has no clause
   pub last-one : length (living clauses (length its_order)) ≤ 1

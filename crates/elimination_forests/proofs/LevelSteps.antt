@@ -8,7 +8,7 @@ use Rattle.state_rules.proofs.Bits.{pointwise-equal}
 use Rattle.state_rules.proofs.Lists.{map-flat_map}
 use Rattle.state_rules.proofs.Members.{In, In-map, In-filter, In-filtered, from_map, bits_in, bits_length}
 use Rattle.clause_encoder.specs.Clauses.{Clause}
-use Rattle.elimination_forests.specs.Branches.{order, has_true, is_left, left, is_touched, is_covered, is_open, some_passes, is_dead, different, living, bits_of, words_of, state_of, without, branch, IsLiving}
+use Rattle.elimination_forests.specs.Branches.{order, has_true, is_left, left, is_touched, is_covered, is_active, some_passes, is_dead, different, living, bits_of, words_of, state_of, without, branch, IsLiving}
 use Rattle.elimination_forests.proofs.Lists.{longer, lists_of_bits-more, flat_map_same, filter-flat_map, flat_map-filter, none-in, In-met, met-In, different-flat_map}
 use Rattle.elimination_forests.proofs.VariableOrder.{AllOnce, first_met-once, untouched-left, covered-without, covered-more}
 use Rattle.elimination_forests.proofs.PassedClauses.{passes_by, passes_without}
@@ -95,7 +95,7 @@ pub known : (clauses : List Clause) (i : ℕ) (list : List Bool) → IsLiving cl
 known clauses i list h = grind (arith, known-left)
 
 pub same-known : (vs : List ℕ) (i : ℕ) (cs : List Clause) (ks ls : List Bool) → Known vs i cs ks → Known vs i cs ls
-    → bits_of (is_open vs i) cs ks ≡ bits_of (is_open vs i) cs ls → ks ≡ ls
+    → bits_of (is_active vs i) cs ks ≡ bits_of (is_active vs i) cs ls → ks ≡ ls
 same-known vs i [] ks ls h k e = grind arith
 same-known vs i (c ∷ cs) [] ls h k e = absurd h
 same-known vs i (c ∷ cs) (x ∷ ks) [] h k e = absurd k
@@ -122,8 +122,8 @@ length-known vs i (c ∷ cs) [] h = absurd h
 length-known vs i (c ∷ cs) (b ∷ list) h = ap suc (length-known vs i cs list h.2)
 
 pub length-state_bits : (clauses : List Clause) (i : ℕ) (list : List Bool) → IsLiving clauses i list
-    → length (bits_of (is_open (order clauses) i) clauses list) ≡ length (filter (is_open (order clauses) i) clauses)
-length-state_bits clauses i list h = length-bits_of (is_open (order clauses) i) clauses list (omega (arith, length-known (order clauses) i clauses list (known clauses i list h)))
+    → length (bits_of (is_active (order clauses) i) clauses list) ≡ length (filter (is_active (order clauses) i) clauses)
+length-state_bits clauses i list h = length-bits_of (is_active (order clauses) i) clauses list (omega (arith, length-known (order clauses) i clauses list (known clauses i list h)))
 
 -- Two living lists of a level with the same state are equal.
 pub equal_states-equal_lists : (clauses : List Clause) (i : ℕ) (ks ls : List Bool) → IsLiving clauses i ks → IsLiving clauses i ls → state_of clauses i ks ≡ state_of clauses i ls → ks ≡ ls

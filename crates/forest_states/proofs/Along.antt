@@ -13,9 +13,9 @@ use Rattle.elimination_forests.proofs.ListCounts.{among-different}
 use Rattle.elimination_forests.proofs.Lists.{is_among as is_listed, each-different}
 use Rattle.elimination_forests.specs.Forests.{Forest, none, tree, trees, variables, is_among, meets, Place, is_dead_by, decided, part_of, part, number_in, begins, way_by, forks_at}
 use Rattle.forest_states.specs.inner.BitLists.{is_same}
-use Rattle.forest_states.specs.inner.Walked.{lead, walked, picked, decided_states, decided_forks, part_states, column, row_at, forks_found}
-use Rattle.forest_states.proofs.Turned.{is_open}
-use Rattle.forest_states.proofs.BitsLeft.{IsKnown, Ends, table_of, unless, walked-same, known-next, bits-lists, picked-same, known-part}
+use Rattle.forest_states.specs.inner.Descents.{lead, successor, picked, decided_states, decided_forks, part_states, column, row_at, forks_found}
+use Rattle.forest_states.proofs.OneClause.{is_active}
+use Rattle.forest_states.proofs.BitsLeft.{IsKnown, Ends, table_of, unless, successor-same, known-next, bits-lists, picked-same, known-part}
 use Rattle.forest_states.proofs.Mapped.{each-among, among-given, mapped-agree, mapped-twice, different-mapped, place-mapped}
 
 abbrev pub at : List ℕ → List Clause → List (List Bool) → Place
@@ -23,7 +23,7 @@ at bound cs lists = record { bound = bound; clauses = cs; lists = lists }
 
 -- the state of a list
 abbrev pub state_of : List ℕ → List ℕ → List Clause → List Bool → List Bool
-state_of vs bound cs list = bits_of (is_open vs bound) cs list
+state_of vs bound cs list = bits_of (is_active vs bound) cs list
 
 -- ---- the tree on a base with these variables
 
@@ -32,7 +32,7 @@ module _ (ws bound : List ℕ) (cs : List Clause) (lists : List (List Bool)) (kn
   states = map (state_of ws bound cs) lists
 
   abbrev pub flags_of : List ℕ → List Bool
-  flags_of own = map (meets own) (filter (is_open ws bound) cs)
+  flags_of own = map (meets own) (filter (is_active ws bound) cs)
 
   module _ (own : List ℕ) (inside : (c : Clause) → meets own c ≡ true → meets ws c ≡ true) where
     abbrev own_part : List Bool → List Bool
@@ -116,8 +116,8 @@ module _ (v : ℕ) (below : Forest) (bound : List ℕ) (cs : List Clause) (ends 
   abbrev own_state : List Bool → List Bool
   own_state list = state_of (v ∷ ws) bound cs list
 
-  walked-mapped : (bit : Bool) (list : List Bool) → IsKnown (v ∷ ws) bound cs list → option_to_list (walked bit (table_of v ws bound cs) (own_state list)) ≡ map base_state (alive_by bit list)
-  walked-mapped bit list known = grind (arith, walked-same v ws bound bit cs list ends known)
+  successor-mapped : (bit : Bool) (list : List Bool) → IsKnown (v ∷ ws) bound cs list → option_to_list (successor bit (table_of v ws bound cs) (own_state list)) ≡ map base_state (alive_by bit list)
+  successor-mapped bit list known = grind (arith, successor-same v ws bound bit cs list ends known)
 
   known-alive_by : (bit : Bool) (list : List Bool) → IsKnown (v ∷ ws) bound cs list → AllByRecursion (IsKnown ws (v ∷ bound) cs) (alive_by bit list)
   known-alive_by bit list known = by (is_dead (left_by bit list)) refl where
@@ -126,9 +126,9 @@ module _ (v : ℕ) (below : Forest) (bound : List ℕ) (cs : List Clause) (ends 
     by false d = (known-next v ws bound bit cs list ends known d, tt)
 
   all-mapped : (lists : List (List Bool)) → AllByRecursion (IsKnown (v ∷ ws) bound cs) lists
-      → flat_map (λ s. option_to_list (walked false (table_of v ws bound cs) s) ++ option_to_list (walked true (table_of v ws bound cs) s)) (map own_state lists) ≡ map base_state (flat_map either lists)
+      → flat_map (λ s. option_to_list (successor false (table_of v ws bound cs) s) ++ option_to_list (successor true (table_of v ws bound cs) s)) (map own_state lists) ≡ map base_state (flat_map either lists)
   all-mapped [] known = refl
-  all-mapped (l ∷ lists) known = grind (arith, walked-mapped false l known.0, walked-mapped true l known.0, map-append, all-mapped lists known.1)
+  all-mapped (l ∷ lists) known = grind (arith, successor-mapped false l known.0, successor-mapped true l known.0, map-append, all-mapped lists known.1)
 
   known-all : (lists : List (List Bool)) → AllByRecursion (IsKnown (v ∷ ws) bound cs) lists → AllByRecursion (IsKnown ws (v ∷ bound) cs) (flat_map either lists)
   known-all [] known = tt
@@ -148,8 +148,8 @@ module _ (v : ℕ) (below : Forest) (bound : List ℕ) (cs : List Clause) (ends 
 
     module _ (row : ℕ → List ℕ) (rows : (x : List Bool) → is_listed ds x ≡ true → IsKnown ws (v ∷ bound) cs x → row (number_in ds x) ≡ begins below (decided v (at bound cs lists)) x) where
       way-mapped : (bit : Bool) (list : List Bool) → is_listed lists list ≡ true → IsKnown (v ∷ ws) bound cs list
-          → option_map row (lead (decided_states (table_of v ws bound cs) (map own_state lists)) (walked bit (table_of v ws bound cs) (own_state list))) ≡ way_by v below (at bound cs lists) bit list
-      way-mapped bit list there it = (λ i. option_map row (lead (decided-mapped i) (walked-same v ws bound bit cs list ends it i))) ∙ by (is_dead next) refl where
+          → option_map row (lead (decided_states (table_of v ws bound cs) (map own_state lists)) (successor bit (table_of v ws bound cs) (own_state list))) ≡ way_by v below (at bound cs lists) bit list
+      way-mapped bit list there it = (λ i. option_map row (lead (decided-mapped i) (successor-same v ws bound bit cs list ends it i))) ∙ by (is_dead next) refl where
         next : List Bool
         next = left_by bit list
 
@@ -164,7 +164,7 @@ module _ (v : ℕ) (below : Forest) (bound : List ℕ) (cs : List Clause) (ends 
             ap (λ n. Some (row n)) (place-mapped (IsKnown ws (v ∷ bound) cs) base_state (λ x y p q e. bits-lists ws (v ∷ bound) cs x y p q e) next known_next ds known-decided)
             ∙ ap Some (rows next (among-different (flat_map either lists) next ∙ among-given either lists list next there (given bit d refl)) known_next)
 
-      ways-mapped : (bit : Bool) → map (λ s. option_map row (lead (decided_states (table_of v ws bound cs) (map own_state lists)) (walked bit (table_of v ws bound cs) s))) (map own_state lists)
+      ways-mapped : (bit : Bool) → map (λ s. option_map row (lead (decided_states (table_of v ws bound cs) (map own_state lists)) (successor bit (table_of v ws bound cs) s))) (map own_state lists)
           ≡ map (way_by v below (at bound cs lists) bit) lists
       ways-mapped bit =
           mapped-twice _ own_state lists

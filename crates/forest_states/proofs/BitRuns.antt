@@ -5,8 +5,8 @@ use Rattle.std.proofs.lemmas.List.{length-append, length-replicate, replicate-ap
 use Rattle.std.proofs.Math.Seq.{drop-nil}
 use Rattle.forest_states.specs.declared.picks.Run.{Run}
 use Rattle.forest_states.specs.inner.BitLists.{other_bits, copied}
-use Rattle.forest_states.specs.inner.Tables.{flag_run, flags_in}
-use Rattle.forest_states.specs.inner.Walked.{picked}
+use Rattle.forest_states.specs.inner.TransitionTables.{flag_run, flags_in}
+use Rattle.forest_states.specs.inner.Descents.{picked}
 
 abbrev pub none : Run
 none = record { others = 0; count = 0 }

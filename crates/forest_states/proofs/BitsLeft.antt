@@ -1,14 +1,14 @@
--- What a bit of a variable leaves of a list, and the parts of a list, by the bits of the open clauses.
+-- What a bit of a variable leaves of a list, and the parts of a list, by the bits of the active clauses.
 use Rattle.std.proofs.Common.{arith, ◌≡◌, ℕ, Bool, true, false, not, ◌&&◌, ◌||◌, List, [], ◌∷◌, map, Some, None, refl}
 use Rattle.std.specs.Prelude.{Option, if◌then◌else◌}
 use Rattle.std.specs.List.{filter, AllByRecursion}
 use Rattle.clause_encoder.specs.Clauses.{Clause}
 use Rattle.elimination_forests.specs.Branches.{has_true, without, some_passes, bits_of}
 use Rattle.elimination_forests.specs.Forests.{meets, is_within}
-use Rattle.forest_states.specs.declared.entries.Entry.{Entry}
-use Rattle.forest_states.specs.inner.Tables.{true_at}
-use Rattle.forest_states.specs.inner.Walked.{ended, walked, picked}
-use Rattle.forest_states.proofs.Turned.{is_open, is_walked, meets-more, true-apart}
+use Rattle.forest_states.specs.declared.transition_tables.ClauseTransition.{ClauseTransition}
+use Rattle.forest_states.specs.inner.TransitionTables.{true_at}
+use Rattle.forest_states.specs.inner.Descents.{ended, successor, picked}
+use Rattle.forest_states.proofs.OneClause.{is_active, is_met, meets-more, true-apart}
 
 -- what is known of the lists of a tree with these variables: a clause that does not meet them is in none, and an untouched one in each
 abbrev pub IsKnown : List ℕ → List ℕ → List Clause → List Bool → Type 0
@@ -23,13 +23,13 @@ abbrev pub Ends : ℕ → List ℕ → List ℕ → Clause → Type 0
 Ends v ws bound c = meets (v ∷ ws) c ≡ true → is_within (v ∷ bound) c ≡ not (meets ws c)
 
 -- what a bit of a variable does to a clause
-abbrev pub entry_of : ℕ → List ℕ → Clause → Entry
-entry_of v bound c =
+abbrev pub transition_of : ℕ → List ℕ → Clause → ClauseTransition
+transition_of v bound c =
     record { fresh = not (meets bound c); true_at_0 = has_true v false c; true_at_1 = has_true v true c; ends = is_within (v ∷ bound) c }
 
--- the same of those that are walked
-abbrev pub table_of : ℕ → List ℕ → List ℕ → List Clause → List Entry
-table_of v ws bound cs = map (entry_of v bound) (filter (is_walked v ws bound) cs)
+-- the same of those that are met
+abbrev pub table_of : ℕ → List ℕ → List ℕ → List Clause → List ClauseTransition
+table_of v ws bound cs = map (transition_of v bound) (filter (is_met v ws bound) cs)
 
 -- a list, if it is not dead
 abbrev pub unless : Bool → List Bool → Option (List Bool)
@@ -38,10 +38,10 @@ unless false list = Some list
 
 -- ---- one clause
 
-true-entry : (v : ℕ) (bound : List ℕ) (c : Clause) (bit : Bool) → true_at (entry_of v bound c) bit ≡ has_true v bit c
-true-entry v bound c bit = grind arith
+true-transition : (v : ℕ) (bound : List ℕ) (c : Clause) (bit : Bool) → true_at (transition_of v bound c) bit ≡ has_true v bit c
+true-transition v bound c bit = grind arith
 
--- one that is walked
+-- one that is met
 ended-unless : (ends left dead : Bool) (rest : List Bool) → ended ends left (unless dead rest) ≡ unless ((left && ends) || dead) (if not ends then left ∷ rest else rest)
 ended-unless ends left dead rest = grind arith
 
@@ -49,13 +49,13 @@ module _ (v : ℕ) (ws bound : List ℕ) (bit : Bool) where
   -- ---- all clauses
 
   -- What the table leaves of a state is the state of what the bit leaves of the list, if that is not dead.
-  pub walked-same : (cs : List Clause) (list : List Bool) → AllByRecursion (Ends v ws bound) cs → IsKnown (v ∷ ws) bound cs list
-      → walked bit (table_of v ws bound cs) (bits_of (is_open (v ∷ ws) bound) cs list)
-      ≡ unless (some_passes (is_within (v ∷ bound)) cs (without (has_true v bit) cs list)) (bits_of (is_open ws (v ∷ bound)) cs (without (has_true v bit) cs list))
-  walked-same [] [] ends known = refl
-  walked-same [] (b ∷ list) ends known = absurd known
-  walked-same (c ∷ cs) [] ends known = absurd known
-  walked-same (c ∷ cs) (b ∷ list) ends known = grind (arith, walked-same cs list ends.1 known.2, known.0, known.1, ends.0, meets-more v ws c, meets-more v bound c, true-entry v bound c bit, ended-unless, true-apart v bit c)
+  pub successor-same : (cs : List Clause) (list : List Bool) → AllByRecursion (Ends v ws bound) cs → IsKnown (v ∷ ws) bound cs list
+      → successor bit (table_of v ws bound cs) (bits_of (is_active (v ∷ ws) bound) cs list)
+      ≡ unless (some_passes (is_within (v ∷ bound)) cs (without (has_true v bit) cs list)) (bits_of (is_active ws (v ∷ bound)) cs (without (has_true v bit) cs list))
+  successor-same [] [] ends known = refl
+  successor-same [] (b ∷ list) ends known = absurd known
+  successor-same (c ∷ cs) [] ends known = absurd known
+  successor-same (c ∷ cs) (b ∷ list) ends known = grind (arith, successor-same cs list ends.1 known.2, known.0, known.1, ends.0, meets-more v ws c, meets-more v bound c, true-transition v bound c bit, ended-unless, true-apart v bit c)
 
   -- what is left is known, if it is not dead
   pub known-next : (cs : List Clause) (list : List Bool) → AllByRecursion (Ends v ws bound) cs → IsKnown (v ∷ ws) bound cs list
@@ -69,11 +69,11 @@ module _ (v : ℕ) (ws bound : List ℕ) (bit : Bool) where
     known-next cs list ends.1 known.2 (grind (arith, alive)),
   )
 
--- ---- lists and their bits at open clauses
+-- ---- lists and their bits at active clauses
 
 module _ (vs bound : List ℕ) where
   -- Known lists with the same bits are the same.
-  pub bits-lists : (cs : List Clause) (x y : List Bool) → IsKnown vs bound cs x → IsKnown vs bound cs y → bits_of (is_open vs bound) cs x ≡ bits_of (is_open vs bound) cs y → x ≡ y
+  pub bits-lists : (cs : List Clause) (x y : List Bool) → IsKnown vs bound cs x → IsKnown vs bound cs y → bits_of (is_active vs bound) cs x ≡ bits_of (is_active vs bound) cs y → x ≡ y
   bits-lists [] [] [] known others same = refl
   bits-lists [] (b ∷ x) y known others same = absurd known
   bits-lists [] [] (d ∷ y) known others same = absurd others
@@ -89,7 +89,7 @@ module _ (vs bound : List ℕ) where
 
     -- What is picked of a state is the state of the part.
     pub picked-same : (cs : List Clause) (list : List Bool) → IsKnown vs bound cs list
-        → picked (map (meets own) (filter (is_open vs bound) cs)) (bits_of (is_open vs bound) cs list) ≡ bits_of (is_open own bound) cs (part_at cs list)
+        → picked (map (meets own) (filter (is_active vs bound) cs)) (bits_of (is_active vs bound) cs list) ≡ bits_of (is_active own bound) cs (part_at cs list)
     picked-same [] list known = refl
     picked-same (c ∷ cs) [] known = absurd known
     picked-same (c ∷ cs) (b ∷ list) known = grind (arith, picked-same cs list known.2, inside c)

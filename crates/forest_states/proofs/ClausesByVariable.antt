@@ -10,7 +10,7 @@ use Rattle.std.proofs.lemmas.List.Elements.{filter-append}
 use Rattle.state_rules.proofs.Lists.{any-push, range_more, filter-never, list_all-at}
 use Rattle.clause_encoder.specs.Clauses.{Clause, ClauseList, var_of, vars_rise, is_clause, is_clause_list}
 use Rattle.elimination_forests.proofs.MetOrder.{clauses-valid}
-use Rattle.forest_states.specs.inner.Walked.{has_var}
+use Rattle.forest_states.specs.inner.Descents.{has_var}
 use Rattle.forest_states.proofs.MarkedVariables.{all-wider}
 use Rattle.forest_states.proofs.Numbers.{IsIndex, filter-within}
 

@@ -10,9 +10,12 @@ pub mod Numbers
 pub mod BitRuns
 pub mod Sets
 pub mod Spread
+pub mod Sizes
 pub mod ShownPlaces
-pub mod Turned
-pub mod Walks
+pub mod OneClause
+pub mod Successors
 pub mod OneTreeBases
 pub mod WordBits
+pub mod KeptStates
 pub mod Words
+pub mod Rules

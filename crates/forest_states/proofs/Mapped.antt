@@ -1,6 +1,6 @@
 -- Lists and their states, if different known lists have different ones.
-use Rattle.std.proofs.Common.{arith, ◌≡◌, ℕ, ◌+◌, Option, Some, Bool, true, not, ◌||◌, cond, List, [], ◌∷◌, ◌++◌, map, refl, ap, sym, ◌∙◌, subst}
-use Rattle.std.specs.Prelude.{is_some, IfSome}
+use Rattle.std.proofs.Common.{arith, ◌≡◌, ℕ, ◌+◌, Option, Some, Bool, true, not, ◌||◌, cond, List, [], ◌∷◌, ◌++◌, map, length, false, refl, ap, sym, ◌∙◌, subst}
+use Rattle.std.specs.Prelude.{is_some, None, IfSome, nat_lt, option_to_list}
 use Rattle.std.specs.List.{filter, flat_map, list_any, position_or_len, AllByRecursion}
 use Rattle.std.proofs.lemmas.Bool.{false≢true, or_left, or_right}
 use Rattle.std.proofs.lemmas.List.Folds.{list_any-append}
@@ -8,7 +8,11 @@ use Rattle.state_rules.proofs.Bits.{pointwise-refl, pointwise-equal}
 use Rattle.elimination_forests.specs.Branches.{same_list, different}
 use Rattle.elimination_forests.proofs.Lists.{is_among, each-different}
 use Rattle.forest_states.specs.inner.BitLists.{is_same}
-use Rattle.forest_states.specs.inner.Walked.{any_leads, ways_found}
+use Rattle.forest_states.specs.inner.Descents.{any_leads, ways_found, lead, successor, decided_states, decided_forks, Stand, row_at, table_at, stand_decided, columns_below, forks_below}
+use Rattle.clause_encoder.specs.Clauses.{Clause}
+use Rattle.elimination_forests.specs.declared.steps.Step.{Step}
+use Rattle.forest_states.specs.declared.transition_tables.ClauseTransition.{ClauseTransition}
+use Rattle.std.proofs.lemmas.Bool.Decides.{nat_tests}
 use Rattle.forest_states.specs.declared.places.Fork.{Fork}
 use Rattle.elimination_forests.specs.declared.forks.Forks.{Forks}
 use Rattle.elimination_forests.specs.Forests.{has_way, leads_on}
@@ -57,10 +61,33 @@ module _ (P : List Bool → Type 0) (e : List Bool → List Bool) (same : (x y :
 
 -- ---- whether a state leads on
 
-pub ways-some : (row : ℕ → List ℕ) (leads : List Fork) → any_leads leads
+ways-some : (row : ℕ → List ℕ) (leads : List Fork) → any_leads leads
     ≡ (list_any is_some (ways_found row (map (λ f. f.zero) leads)) || list_any is_some (ways_found row (map (λ f. f.one) leads)))
 ways-some row [] = refl
 ways-some row (f ∷ leads) = grind (arith, ways-some row leads)
+
+fork-some : (states : List (List Bool)) (a b : Option (List Bool)) (more : List (List Bool))
+    → ((is_some (lead states a) || is_some (lead states b)) || nat_lt 0 (length more)) ≡ nat_lt 0 (length ((option_to_list a ++ option_to_list b) ++ more))
+fork-some states None None more = refl
+fork-some states None (Some s) more = grind (arith, nat_tests)
+fork-some states (Some s) b more = grind (arith, nat_tests)
+
+some-decided : (table : List ClauseTransition) (all states : List (List Bool))
+    → any_leads (map (λ s. record { zero = lead all (successor false table s); one = lead all (successor true table s) }) states)
+    ≡ nat_lt 0 (length (flat_map (λ s. option_to_list (successor false table s) ++ option_to_list (successor true table s)) states))
+some-decided table all [] = refl
+some-decided table all (s ∷ states) = ap (λ b. (is_some (lead all (successor false table s)) || is_some (lead all (successor true table s))) || b) (some-decided table all states)
+    ∙ fork-some all (successor false table s) (successor true table s) _
+
+some-different : (ls : List (List Bool)) → nat_lt 0 (length ls) ≡ nat_lt 0 (length (different ls))
+some-different [] = refl
+some-different (l ∷ ls) = grind (arith, nat_tests)
+
+pub way-below : (clauses : List Clause) (of : List (List ℕ)) (seen : List Bool) (numbers : List ℕ) (step : Step) (rest : List Step) (s : Stand)
+    → nat_lt 0 (length (stand_decided clauses of seen step.var s).states) ≡ has_way (forks_below clauses of seen numbers step rest s)
+way-below clauses of seen numbers step rest s =
+    let table = table_at clauses of seen step.var s.active in
+    sym (sym (ways-some (row_at (columns_below clauses of seen numbers step rest s)) (decided_forks table s.states)) ∙ some-decided table (decided_states table s.states) s.states ∙ some-different _)
 
 -- one place more
 pub leads-push : (places : List Forks) (forks : Forks) → leads_on (places ++ forks ∷ []) ≡ has_way forks

@@ -11,7 +11,7 @@ use Rattle.clause_encoder.specs.Clauses.{Clause, var_of}
 use Rattle.elimination_forests.specs.declared.steps.Step.{Step}
 use Rattle.elimination_forests.specs.Forests.{Forest, none, tree, trees, steps_of, variables, is_among, meets, is_within, is_once, is_along}
 use Rattle.elimination_forests.proofs.PassedClauses.{once_back, once_apart}
-use Rattle.forest_states.specs.inner.Walked.{numbered, numbers_at, begun_at, within_marked}
+use Rattle.forest_states.specs.inner.Descents.{numbered, numbers_at, begun_at, within_marked}
 
 pub all-wider : {X : Type 0} (p q : X → Bool) → ((x : X) → p x ≡ true → q x ≡ true) → (xs : List X) → list_all p xs ≡ true → list_all q xs ≡ true
 all-wider p q h [] e = refl

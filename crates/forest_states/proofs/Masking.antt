@@ -8,11 +8,11 @@ use Rattle.std.proofs.lemmas.List.{append_assoc, append-nil, drop_more}
 use Rattle.std.proofs.Math.Seq.{drop-nil}
 use Rattle.state_rules.specs.Bits.{row_number, number_of_bit, bit_in}
 use Rattle.state_rules.proofs.WordBits.{has_bit-and}
-use Rattle.forest_states.specs.declared.entries.Entry.{Entry}
+use Rattle.forest_states.specs.declared.transition_tables.ClauseTransition.{ClauseTransition}
 use Rattle.forest_states.specs.declared.picks.Run.{Run}
 use Rattle.forest_states.specs.inner.BitLists.{first_bit, other_bits, copied}
-use Rattle.forest_states.specs.inner.Tables.{true_at, plain, flag_run, flags_in, filled, in_both, in_one}
-use Rattle.forest_states.specs.inner.Walked.{ended, walked, picked, left_by}
+use Rattle.forest_states.specs.inner.TransitionTables.{true_at, plain, flag_run, flags_in, filled, in_both, in_one}
+use Rattle.forest_states.specs.inner.Descents.{ended, successor, picked, left_by}
 use Rattle.forest_states.proofs.WordBits.{number-bit}
 
 -- ---- what runs fill
@@ -72,12 +72,12 @@ pub row-padded : (bits : List Bool) (n : ℕ) → row_number (bits ++ replicate 
 row-padded [] n = row-none n
 row-padded (b ∷ bits) n = omega (arith, row-padded bits n)
 
-pub map-plain : (f : Entry → Bool) (table : List Entry) (n : ℕ) → map f (table ++ replicate n plain) ≡ map f table ++ replicate n (f plain)
+pub map-plain : (f : ClauseTransition → Bool) (table : List ClauseTransition) (n : ℕ) → map f (table ++ replicate n plain) ≡ map f table ++ replicate n (f plain)
 map-plain f [] zero = refl
 map-plain f [] (suc n) = ap (λ bits. f plain ∷ bits) (map-plain f [] n)
 map-plain f (e ∷ table) n = ap (λ bits. f e ∷ bits) (map-plain f table n)
 
--- ---- a walk
+-- ---- the successors of a state
 
 left-first : (ends b : Bool) (kept others left : List Bool) → ended ends b (left_by kept others left) ≡ left_by (not ends ∷ kept) (ends ∷ others) (b ∷ left)
 left-first ends b kept others left = grind (arith, nat_tests)
@@ -87,13 +87,13 @@ one-first : (f t : Bool) (flags state others : List Bool)
 one-first true t flags state others = refl
 one-first false t flags state others = refl
 
-pub walked-by : (bit : Bool) (table : List Entry) (state : List Bool)
-    → walked bit table state ≡ left_by (map (λ e. not e.ends) table) (map (λ e. e.ends) table) (in_one (filled (map (λ e. e.fresh) table) state) (map (λ e. true_at e bit) table))
-walked-by bit [] state = refl
-walked-by bit (e ∷ table) state =
+pub successor-by : (bit : Bool) (table : List ClauseTransition) (state : List Bool)
+    → successor bit table state ≡ left_by (map (λ e. not e.ends) table) (map (λ e. e.ends) table) (in_one (filled (map (λ e. e.fresh) table) state) (map (λ e. true_at e bit) table))
+successor-by bit [] state = refl
+successor-by bit (e ∷ table) state =
     let next : List Bool = if e.fresh then state else other_bits state in
     let left : Bool = (e.fresh || first_bit state) && not (true_at e bit) in
-    ap (ended e.ends left) (walked-by bit table next)
+    ap (ended e.ends left) (successor-by bit table next)
     ∙ left-first e.ends left (map (λ x. not x.ends) table) (map (λ x. x.ends) table) _
     ∙ ap (left_by (map (λ x. not x.ends) (e ∷ table)) (map (λ x. x.ends) (e ∷ table))) (sym (one-first e.fresh (true_at e bit) (map (λ x. x.fresh) table) state (map (λ x. true_at x bit) table)))
 

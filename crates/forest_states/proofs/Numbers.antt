@@ -6,7 +6,7 @@ use Rattle.std.proofs.lemmas.List.{reverse-append}
 use Rattle.std.proofs.lemmas.List.{ext_get_or}
 use Rattle.std.proofs.lemmas.List.FromFn.{get_or-map-range_with_len, length-map-range_with_len, map-range_with_len_more}
 use Rattle.clause_encoder.specs.Clauses.{Clause, var_of}
-use Rattle.forest_states.specs.inner.Walked.{has_var}
+use Rattle.forest_states.specs.inner.Descents.{has_var}
 
 -- ---- what is kept
 

@@ -10,7 +10,7 @@ use Rattle.clause_encoder.specs.Clauses.{Clause, var_of}
 use Rattle.elimination_forests.specs.Branches.{same_list, different}
 use Rattle.elimination_forests.proofs.Lists.{each-filter}
 use Rattle.forest_states.specs.inner.BitLists.{is_same}
-use Rattle.forest_states.specs.inner.Walked.{picked, part_states, is_in_tree, goes_to, clause_at, Stand, row_at, column_at, stand_part}
+use Rattle.forest_states.specs.inner.Descents.{picked, part_states, is_in_tree, goes_to, clause_at, Stand, row_at, column_at, stand_part}
 use Rattle.forest_states.proofs.Mapped.{mapped-agree, mapped-twice}
 
 -- ---- different lists
@@ -67,12 +67,12 @@ all-picked ns (s ∷ states) long = grind (arith, nat_tests, picked-whole, all-p
 -- ---- the place of the tree
 
 module _ (clauses : List Clause) (trees : ℕ) (seen : List Bool) (numbers : List ℕ) (s : Stand) (once : different s.states ≡ s.states)
-    (whole : ((trees == 1) && list_all (λ x. length x == length s.opened) s.states) ≡ true) where
+    (whole : ((trees == 1) && list_all (λ x. length x == length s.active) s.states) ≡ true) where
   abbrev goes : ℕ → Bool
   goes = goes_to clauses trees seen numbers 0
 
-  parts : ((trees == 1) ≡ true) × (list_all (λ x. length x == length s.opened) s.states ≡ true)
-  parts = and_parts (trees == 1) (list_all (λ x. length x == length s.opened) s.states) whole
+  parts : ((trees == 1) ≡ true) × (list_all (λ x. length x == length s.active) s.states ≡ true)
+  parts = and_parts (trees == 1) (list_all (λ x. length x == length s.active) s.states) whole
 
   one : trees ≡ 1
   one = eqb-true trees 1 parts.0
@@ -80,10 +80,10 @@ module _ (clauses : List Clause) (trees : ℕ) (seen : List Bool) (numbers : Lis
   all : goes_to clauses trees seen numbers 0 ≡ (λ n. true)
   all = λ j n. parts.0 j || list_any (λ l. is_in_tree seen numbers 0 (var_of l)) (clause_at clauses n)
 
-  picks : map (picked (map goes s.opened)) s.states ≡ s.states
-  picks = ap (λ g. map (picked (map g s.opened)) s.states) all ∙ all-picked s.opened s.states parts.1
+  picks : map (picked (map goes s.active)) s.states ≡ s.states
+  picks = ap (λ g. map (picked (map g s.active)) s.states) all ∙ all-picked s.active s.states parts.1
 
-  states-same : part_states (map goes s.opened) s.states ≡ s.states
+  states-same : part_states (map goes s.active) s.states ≡ s.states
   states-same = ap different picks ∙ once
 
   pub whole-stands : map (λ j. stand_part clauses trees seen numbers j s) (range_with_len 0 trees) ≡ s ∷ []
@@ -92,8 +92,8 @@ module _ (clauses : List Clause) (trees : ℕ) (seen : List Bool) (numbers : Lis
   whole-columns : map (λ j. column_at clauses trees seen numbers j s) (range_with_len 0 trees) ≡ range_with_len 0 (length s.states) ∷ []
   whole-columns =
       ap (λ n. map (λ j. column_at clauses trees seen numbers j s) (range_with_len 0 n)) one
-      ∙ ap (λ ns. ns ∷ []) ((λ i. map (λ x. position_or_len (is_same (picked (map goes s.opened) x)) (states-same i)) s.states)
-      ∙ sym (mapped-twice (λ x. position_or_len (is_same x) s.states) (picked (map goes s.opened)) s.states)
+      ∙ ap (λ ns. ns ∷ []) ((λ i. map (λ x. position_or_len (is_same (picked (map goes s.active) x)) (states-same i)) s.states)
+      ∙ sym (mapped-twice (λ x. position_or_len (is_same x) s.states) (picked (map goes s.active)) s.states)
       ∙ ap (map (λ x. position_or_len (is_same x) s.states)) picks
       ∙ own-places s.states (subst AreDistinct once (distinct-different s.states)))
 

@@ -1,18 +1,18 @@
 -- Different lists one after the other.
-use Rattle.std.proofs.Common.{◌≡◌, ℕ, ◌+◌, ◌<◌, Bool, true, false, not, cond, List, [], ◌∷◌, ◌++◌, map, length, take, drop, get_or, Some, None, refl, ap, sym, ◌∙◌, arith}
+use Rattle.std.proofs.Common.{◌≡◌, ℕ, ◌+◌, ◌<◌, Bool, true, false, not, cond, List, [], ◌∷◌, ◌++◌, map, length, take, drop, Some, None, refl, ap, sym, ◌∙◌, arith}
 use Rattle.std.specs.Prelude.{Option, option_to_list, slice_get}
 use Rattle.std.specs.List.{flat_map, position_or_len}
 use Rattle.std.proofs.lemmas.List.{append_assoc, append-nil, take-append-drop, get_or-map, length-map, take_more, map-append}
 use Rattle.std.proofs.lemmas.List.Concat.{flat_map-append}
 use Rattle.std.proofs.lemmas.List.Folds.{list_any-append}
-use Rattle.std.proofs.lemmas.Option.{slice_get_within, slice_get_read, get_or_from_slice_get}
+use Rattle.std.proofs.lemmas.Option.{slice_get_within, get_or_from_slice_get}
 use Rattle.state_rules.proofs.Bits.{pointwise-refl}
 use Rattle.elimination_forests.specs.Branches.{different}
 use Rattle.elimination_forests.proofs.ListCounts.{among-different}
 use Rattle.elimination_forests.proofs.Lists.{is_among, different-append}
 use Rattle.elimination_forests.proofs.FirstPlaces.{place-front}
 use Rattle.forest_states.specs.inner.BitLists.{is_same}
-use Rattle.forest_states.specs.inner.Walked.{joined, lead}
+use Rattle.forest_states.specs.inner.Descents.{joined, lead}
 
 -- bits after others, if there are any
 abbrev pub behind : List Bool → Option (List Bool) → Option (List Bool)
@@ -108,7 +108,3 @@ module _ (m : List Bool → List Bool) (states : List (List Bool)) where
       ap (λ ls. ls ++ map m (drop (k + 1) states)) (parts-more k s at)
       ∙ sym (map-append m (take (k + 1) states) (drop (k + 1) states))
       ∙ ap (map m) (take-append-drop (k + 1) states))
-
--- what is read of items
-pub item-at : {X : Type 0} (xs ys : List X) (k : ℕ) (x : X) → xs ≡ ys → k < length xs → x ≡ get_or xs k x → slice_get ys k ≡ Some x
-item-at xs ys k x e low is = ap (λ zs. slice_get zs k) (sym e) ∙ slice_get_read xs (length xs) k x refl low is

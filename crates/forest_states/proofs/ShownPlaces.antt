@@ -1,4 +1,4 @@
--- A place of a forest as its open clauses and its states show it, and what becomes of these at the places right below.
+-- A place of a forest as its active clauses and its states show it, and what becomes of these at the places right below.
 use Rattle.std.proofs.Common.{◌≡◌, ℕ, ◌+◌, ◌*◌, ◌<◌, Bool, true, false, not, ◌||◌, List, [], ◌∷◌, ◌++◌, map, length, set, get_or, refl, ap, sym, ◌∙◌, arith}
 use Rattle.std.specs.Prelude.{◌==◌}
 use Rattle.std.specs.List.{filter, list_any, range_with_len, AllByRecursion}
@@ -11,10 +11,10 @@ use Rattle.state_rules.proofs.Lists.{filter-filter}
 use Rattle.clause_encoder.specs.Clauses.{Clause, var_of}
 use Rattle.elimination_forests.specs.declared.steps.Weight.{Weight}
 use Rattle.elimination_forests.specs.Forests.{Forest, none, tree, trees, variables, is_among, meets, is_within, is_once, is_along, Place, decided, part, weigh, weight_at, forks_at}
-use Rattle.forest_states.specs.inner.Walked.{has_var, meets_marked, within_marked, is_in_tree, goes_to, entry_at, met, entries_of, kept_of, Stand, met_at, table_at, decided_states, decided_forks, part_states, column, row_at, forks_found, stand_decided, stand_part, column_at, weight_of}
-use Rattle.forest_states.specs.declared.entries.Entry.{Entry}
-use Rattle.forest_states.proofs.Turned.{is_open, is_walked, meets-more, true-apart}
-use Rattle.forest_states.proofs.BitsLeft.{IsKnown, Ends, entry_of, table_of}
+use Rattle.forest_states.specs.inner.Descents.{has_var, meets_marked, within_marked, is_in_tree, goes_to, transition_at, met, transitions_of, kept_of, Stand, met_at, table_at, decided_states, decided_forks, part_states, column, row_at, forks_found, stand_decided, stand_part, column_at, weight_of}
+use Rattle.forest_states.specs.declared.transition_tables.ClauseTransition.{ClauseTransition}
+use Rattle.forest_states.proofs.OneClause.{is_active, is_met, meets-more, true-apart}
+use Rattle.forest_states.proofs.BitsLeft.{IsKnown, Ends, transition_of, table_of}
 use Rattle.forest_states.proofs.Mapped.{mapped-twice}
 use Rattle.forest_states.proofs.Along.{at, state_of, flags_of, columns_of, known-apart, part-mapped, rows-mapped, meets_wider, known-decided, decided-mapped, forks-mapped}
 use Rattle.forest_states.proofs.MarkedVariables.{along-closed, ends-there, any-same, within-same, mark-bit, AreSides}
@@ -34,12 +34,12 @@ own_of it = it.v ∷ variables it.below
 abbrev pub place : List Clause → Item → Place
 place clauses it = at it.bound clauses it.lists
 
--- its open clauses and its states
+-- its active clauses and its states
 pub record IsItem (clauses : List Clause) (it : Item) (s : Stand) : Type 0 where
   pub along : (n : ℕ) → n < length clauses → meets (own_of it) (get_or clauses n []) ≡ true → is_along it.below (it.v ∷ it.bound) (get_or clauses n []) ≡ true
   pub free : (u : ℕ) → is_among (own_of it) u ≡ true → is_among it.bound u ≡ false
   pub known : AllByRecursion (IsKnown (own_of it) it.bound clauses) it.lists
-  pub opened : s.opened ≡ filter (λ n. is_open (own_of it) it.bound (get_or clauses n [])) (range_with_len 0 (length clauses))
+  pub active : s.active ≡ filter (λ n. is_active (own_of it) it.bound (get_or clauses n [])) (range_with_len 0 (length clauses))
   pub states : s.states ≡ map (state_of (own_of it) it.bound clauses) it.lists
 
 -- a base on which these trees stand, beside others: those of all trees on it
@@ -48,7 +48,7 @@ pub record IsBase (clauses : List Clause) (ws : List ℕ) (f : Forest) (bound : 
   pub free : (u : ℕ) → is_among (variables f) u ≡ true → is_among bound u ≡ false
   pub inside : (u : ℕ) → is_among (variables f) u ≡ true → is_among ws u ≡ true
   pub known : AllByRecursion (IsKnown ws bound clauses) lists
-  pub opened : s.opened ≡ filter (λ n. is_open ws bound (get_or clauses n [])) (range_with_len 0 (length clauses))
+  pub active : s.active ≡ filter (λ n. is_active ws bound (get_or clauses n [])) (range_with_len 0 (length clauses))
   pub states : s.states ≡ map (state_of ws bound clauses) lists
 
 abbrev pub IsBefore : List Bool → List ℕ → Type 0
@@ -88,31 +88,31 @@ module _ (clauses : List Clause) (ws bound : List ℕ) (lists : List (List Bool)
       free = λ u e. h.free u (later u e);
       inside = λ u e. h.inside u (later u e);
       known = h.known;
-      opened = h.opened;
+      active = h.active;
       states = h.states;
     }
 
-    module _ (g : ℕ → Bool) (goes : (n : ℕ) → n < length clauses → is_open ws bound (cl n) ≡ true → g n ≡ meets (v ∷ variables below) (cl n)) where
-      flags-are : map g s.opened ≡ flags_of ws bound clauses lists h.known (v ∷ variables below)
+    module _ (g : ℕ → Bool) (goes : (n : ℕ) → n < length clauses → is_active ws bound (cl n) ≡ true → g n ≡ meets (v ∷ variables below) (cl n)) where
+      flags-are : map g s.active ≡ flags_of ws bound clauses lists h.known (v ∷ variables below)
       flags-are =
-          ap (map g) h.opened
-          ∙ map-within g (λ n. meets (v ∷ variables below) (cl n)) (λ n. is_open ws bound (cl n)) 0 (length clauses) (λ n k e. goes n (omega arith) e)
-          ∙ sym (mapped-twice (meets (v ∷ variables below)) cl (filter (λ n. is_open ws bound (cl n)) range))
-          ∙ ap (map (meets (v ∷ variables below))) (sym (passing clauses (is_open ws bound)))
+          ap (map g) h.active
+          ∙ map-within g (λ n. meets (v ∷ variables below) (cl n)) (λ n. is_active ws bound (cl n)) 0 (length clauses) (λ n k e. goes n (omega arith) e)
+          ∙ sym (mapped-twice (meets (v ∷ variables below)) cl (filter (λ n. is_active ws bound (cl n)) range))
+          ∙ ap (map (meets (v ∷ variables below))) (sym (passing clauses (is_active ws bound)))
 
-      pub column-is : column (map g s.opened) s.states ≡ column (flags_of ws bound clauses lists h.known (v ∷ variables below)) (map (state_of ws bound clauses) lists)
+      pub column-is : column (map g s.active) s.states ≡ column (flags_of ws bound clauses lists h.known (v ∷ variables below)) (map (state_of ws bound clauses) lists)
       column-is = λ j. column (flags-are j) (h.states j)
 
       abbrev pub item_of : Item
       item_of = record { v = v; below = below; bound = bound; lists = (part (v ∷ variables below) (at bound clauses lists)).lists }
 
-      pub item-of : IsItem clauses item_of (record { opened = filter g s.opened; states = part_states (map g s.opened) s.states })
+      pub item-of : IsItem clauses item_of (record { active = filter g s.active; states = part_states (map g s.active) s.states })
       item-of = record {
         along = λ n low e. grind (arith, h.along n low, wider (v ∷ variables below) first (cl n));
         free = λ u e. h.free u (first u e);
         known = known-apart ws bound clauses lists h.known (v ∷ variables below) inside;
-        opened = ap (filter g) h.opened ∙ filter-filter g (λ n. is_open ws bound (cl n)) range
-            ∙ filter-within _ (λ n. is_open (v ∷ variables below) bound (cl n)) 0 (length clauses) (λ n k. grind (arith, goes n (omega arith), inside (cl n)));
+        active = ap (filter g) h.active ∙ filter-filter g (λ n. is_active ws bound (cl n)) range
+            ∙ filter-within _ (λ n. is_active (v ∷ variables below) bound (cl n)) 0 (length clauses) (λ n k. grind (arith, goes n (omega arith), inside (cl n)));
         states = (λ j. part_states (flags-are j) (h.states j)) ∙ part-mapped ws bound clauses lists h.known (v ∷ variables below) inside;
       }
 
@@ -130,7 +130,7 @@ module _ (clauses : List Clause) (of : List (List ℕ)) (seen : List Bool) (foun
   pub weight-is : (weight : Weight) → weight_of weight s ≡ weight_at weight (v ∷ variables below) (at bound clauses lists)
   weight-is weight =
       let many = ap length h.states ∙ length-map lists (state_of (v ∷ variables below) bound clauses) in
-      let long = ap length h.opened ∙ sym (length-map (filter (λ n. is_open (v ∷ variables below) bound (clause n)) numbers_of) clause) ∙ ap length (sym (passing clauses (is_open (v ∷ variables below) bound))) in
+      let long = ap length h.active ∙ sym (length-map (filter (λ n. is_active (v ∷ variables below) bound (clause n)) numbers_of) clause) ∙ ap length (sym (passing clauses (is_active (v ∷ variables below) bound))) in
       λ j. many j * weigh weight (long j)
 
   closed : (n : ℕ) → n < length clauses → meets (v ∷ variables below) (clause n) ≡ true → is_within (variables below ++ (v ∷ bound)) (clause n) ≡ true
@@ -157,26 +157,26 @@ module _ (clauses : List Clause) (of : List (List ℕ)) (seen : List Bool) (foun
   abbrev has : ℕ → Bool
   has n = has_var v (clause n)
 
-  abbrev entry : ℕ → Entry
-  entry n = (met_if (entry_at clauses seen v) has n).entry
+  abbrev transition : ℕ → ClauseTransition
+  transition n = (met_if (transition_at clauses seen v) has n).transition
 
   own-has : (n : ℕ) → has_var v (clause n) ≡ true → meets (v ∷ variables below) (clause n) ≡ true
   own-has n e = grind (arith, meets-more v (variables below) (clause n))
 
-  met-is : met_at clauses of seen v s.opened ≡ map (met_if (entry_at clauses seen v) has) (filter (λ n. is_walked v (variables below) bound (clause n)) numbers_of)
+  met-is : met_at clauses of seen v s.active ≡ map (met_if (transition_at clauses seen v) has) (filter (λ n. is_met v (variables below) bound (clause n)) numbers_of)
   met-is =
-      (λ j. met (entry_at clauses seen v) (found.each v j) (h.opened j))
-      ∙ met-either (entry_at clauses seen v) (λ n. is_open (v ∷ variables below) bound (clause n)) has 0 (length clauses) (λ n k e. grind (arith, meets-is n (omega arith), own-has n))
-      ∙ ap (map (met_if (entry_at clauses seen v) has)) (filter-within _ (λ n. is_walked v (variables below) bound (clause n)) 0 (length clauses)
+      (λ j. met (transition_at clauses seen v) (found.each v j) (h.active j))
+      ∙ met-either (transition_at clauses seen v) (λ n. is_active (v ∷ variables below) bound (clause n)) has 0 (length clauses) (λ n k e. grind (arith, meets-is n (omega arith), own-has n))
+      ∙ ap (map (met_if (transition_at clauses seen v) has)) (filter-within _ (λ n. is_met v (variables below) bound (clause n)) 0 (length clauses)
       (λ n k. grind (arith, meets-more v (variables below) (clause n))))
 
-  table-is : table_at clauses of seen v s.opened ≡ table_of v (variables below) bound clauses
+  table-is : table_at clauses of seen v s.active ≡ table_of v (variables below) bound clauses
   table-is =
-      ap entries_of met-is
-      ∙ mapped-twice (λ m. m.entry) (met_if (entry_at clauses seen v) has) (filter (λ n. is_walked v (variables below) bound (clause n)) numbers_of)
-      ∙ map-within entry (λ n. entry_of v bound (clause n)) (λ n. is_walked v (variables below) bound (clause n)) 0 (length clauses) (λ n k e. grind (arith, meets-is n (omega arith), ends-is n (omega arith), ends n (omega arith), meets-more v (variables below) (clause n), true-apart v false (clause n), true-apart v true (clause n)))
-      ∙ sym (mapped-twice (entry_of v bound) clause (filter (λ n. is_walked v (variables below) bound (clause n)) numbers_of))
-      ∙ ap (map (entry_of v bound)) (sym (passing clauses (is_walked v (variables below) bound)))
+      ap transitions_of met-is
+      ∙ mapped-twice (λ m. m.transition) (met_if (transition_at clauses seen v) has) (filter (λ n. is_met v (variables below) bound (clause n)) numbers_of)
+      ∙ map-within transition (λ n. transition_of v bound (clause n)) (λ n. is_met v (variables below) bound (clause n)) 0 (length clauses) (λ n k e. grind (arith, meets-is n (omega arith), ends-is n (omega arith), ends n (omega arith), meets-more v (variables below) (clause n), true-apart v false (clause n), true-apart v true (clause n)))
+      ∙ sym (mapped-twice (transition_of v bound) clause (filter (λ n. is_met v (variables below) bound (clause n)) numbers_of))
+      ∙ ap (map (transition_of v bound)) (sym (passing clauses (is_met v (variables below) bound)))
 
   pub base-is : IsBase clauses (variables below) below (v ∷ bound) (decided v (at bound clauses lists)).lists (stand_decided clauses of seen v s)
   base-is = record {
@@ -184,10 +184,10 @@ module _ (clauses : List Clause) (of : List (List ℕ)) (seen : List Bool) (foun
     free = apart;
     inside = λ u e. e;
     known = known-decided v below bound clauses ends-all lists h.known;
-    opened = ap kept_of met-is
-        ∙ kept-met (entry_at clauses seen v) has (filter (λ n. is_walked v (variables below) bound (clause n)) numbers_of)
-        ∙ filter-filter (λ n. not (entry n).ends) (λ n. is_walked v (variables below) bound (clause n)) numbers_of
-        ∙ filter-within _ (λ n. is_open (variables below) (v ∷ bound) (clause n)) 0 (length clauses) (λ n k. grind (arith, meets-more v bound (clause n), ends-is n (omega arith), ends n (omega arith), own-has n));
+    active = ap kept_of met-is
+        ∙ kept-met (transition_at clauses seen v) has (filter (λ n. is_met v (variables below) bound (clause n)) numbers_of)
+        ∙ filter-filter (λ n. not (transition n).ends) (λ n. is_met v (variables below) bound (clause n)) numbers_of
+        ∙ filter-within _ (λ n. is_active (variables below) (v ∷ bound) (clause n)) 0 (length clauses) (λ n k. grind (arith, meets-more v bound (clause n), ends-is n (omega arith), ends n (omega arith), own-has n));
     states = (λ j. decided_states (table-is j) (h.states j)) ∙ decided-mapped v below bound clauses ends-all lists h.known;
   }
 
@@ -196,13 +196,13 @@ module _ (clauses : List Clause) (of : List (List ℕ)) (seen : List Bool) (foun
   module _ (nums : List ℕ) where
     goes-is : (j : ℕ) (own : List ℕ) → ((u : ℕ) → is_among own u ≡ true → is_among (variables below) u ≡ true)
         → ((u : ℕ) → u < length seen → is_among (variables below) u ≡ true → ((trees below == 1) || (get_or nums u 0 == j)) ≡ is_among own u)
-        → (n : ℕ) → n < length clauses → is_open (variables below) (v ∷ bound) (clause n) ≡ true → goes_to clauses (trees below) (set seen v true) nums j n ≡ meets own (clause n)
-    goes-is j own inside sides n low open_there = by (trees below == 1) refl where
+        → (n : ℕ) → n < length clauses → is_active (variables below) (v ∷ bound) (clause n) ≡ true → goes_to clauses (trees below) (set seen v true) nums j n ≡ meets own (clause n)
+    goes-is j own inside sides n low active_there = by (trees below == 1) refl where
       within : is_within (variables below ++ (v ∷ bound)) (clause n) ≡ true
       within = closed n low (grind (arith, meets-more v (variables below) (clause n)))
 
       by : (b : Bool) → (trees below == 1) ≡ b → (b || list_any (λ l. is_in_tree (set seen v true) nums j (var_of l)) (clause n)) ≡ meets own (clause n)
-      by true e = sym (any-same (variables below ++ (v ∷ bound)) (length seen) (is_among own) (is_among (variables below)) (λ u k _. grind (arith, sides u k, inside u)) (clause n) (found.small n low) within ∙ (and_parts (meets (v ∷ bound) (clause n)) (meets (variables below) (clause n)) open_there).1)
+      by true e = sym (any-same (variables below ++ (v ∷ bound)) (length seen) (is_among own) (is_among (variables below)) (λ u k _. grind (arith, sides u k, inside u)) (clause n) (found.small n low) within ∙ (and_parts (meets (v ∷ bound) (clause n)) (meets (variables below) (clause n)) active_there).1)
       by false e = any-same (variables below ++ (v ∷ bound)) (length seen) (is_in_tree (set seen v true) nums j) (is_among own)
           (λ u k there. grind (arith, e, list_any-append, mark-bit seen v u k, apart u, new u, sides u k, inside u, before u k)) (clause n) (found.small n low) within
 
@@ -234,7 +234,7 @@ module _ (clauses : List Clause) (of : List (List ℕ)) (seen : List Bool) (foun
         ∷ columns-are beside (j + 1) (base-beside clauses (variables below) (v ∷ bound) (decided v (at bound clauses lists)).lists (stand_decided clauses of seen v s) x down beside h) sides.1 i
 
     pub forks-are : AreSides (trees below == 1) (variables below) nums (length seen) 0 below
-        → forks_found (trees below) (row_at (map (λ i. column_at clauses (trees below) (set seen v true) nums i (stand_decided clauses of seen v s)) (range_with_len 0 (trees below)))) (decided_forks (table_at clauses of seen v s.opened) s.states)
+        → forks_found (trees below) (row_at (map (λ i. column_at clauses (trees below) (set seen v true) nums i (stand_decided clauses of seen v s)) (range_with_len 0 (trees below)))) (decided_forks (table_at clauses of seen v s.active) s.states)
         ≡ forks_at v below (at bound clauses lists)
     forks-are sides =
         (λ j. forks_found (trees below) (row_at (columns-are below 0 base-is sides j)) (decided_forks (table-is j) (h.states j)))

@@ -17,8 +17,8 @@ use Rattle.elimination_forests.specs.declared.steps.Weight.{Weight}
 use Rattle.elimination_forests.specs.declared.forks.Forks.{Forks}
 use Rattle.elimination_forests.specs.Forests.{Forest, none, tree, trees, steps_of, variables, is_among, meets, is_once, fits, is_along, is_forest_of, root, decided, part, weight_at, sum_on, forest_sum, forks_at, forks_on}
 use Rattle.elimination_forests.proofs.PassedClauses.{once_front}
-use Rattle.forest_states.specs.inner.Walked.{Stand, first_stand, or_first, step_at, numbers_at, stands_below, forks_below, weight_of}
-use Rattle.forest_states.proofs.Turned.{is_open}
+use Rattle.forest_states.specs.inner.Descents.{Stand, first_stand, or_first, step_at, numbers_at, stands_below, forks_below, weight_of}
+use Rattle.forest_states.proofs.OneClause.{is_active}
 use Rattle.forest_states.proofs.BitsLeft.{IsKnown}
 use Rattle.forest_states.proofs.Along.{at, state_of}
 use Rattle.forest_states.proofs.MarkedVariables.{along-closed, AreSides, sides-are, mark-bit, no-mark}
@@ -164,8 +164,8 @@ module _ (weight : Weight) (all : List Step) (clauses : List Clause) (of : List 
 
 -- ---- a tree on the base of all
 
-none-open : (vs : List ℕ) (c : Clause) → is_open vs [] c ≡ false
-none-open vs c = ap (λ m. m && meets vs c) (any-never c)
+none-active : (vs : List ℕ) (c : Clause) → is_active vs [] c ≡ false
+none-active vs c = ap (λ m. m && meets vs c) (any-never c)
 
 pub way-begin : (weight : Weight) (all : List Step) (clauses : List Clause) (forest : Forest) (i : ℕ) (seen : List Bool) (found : List Forks) (sum : ℕ) → i < length all
     → Way weight all clauses forest i seen found sum [] → Way weight all clauses forest i seen found sum (first_stand ∷ [])
@@ -178,7 +178,7 @@ way-begin weight all clauses forest i seen found sum low ([], tree v below besid
       record {
         steps = way.steps ∙ ap (λ ss. ss ++ steps_of beside) (sym (append-nil ((record { var = v; trees = trees below }) ∷ steps_of below)));
         are = (
-          item-of clauses (variables forest) [] (root clauses).lists first_stand v below beside way.base (λ n. false) (λ n low e. absurd (false≢true (sym (none-open (variables forest) (get_or clauses n [])) ∙ e))),
+          item-of clauses (variables forest) [] (root clauses).lists first_stand v below beside way.base (λ n. false) (λ n low e. absurd (false≢true (sym (none-active (variables forest) (get_or clauses n [])) ∙ e))),
           (λ u low e. absurd (false≢true e)),
           tt,
         );
@@ -196,7 +196,7 @@ way-ready weight all clauses forest i seen found sum [] low way = way-begin weig
 way-ready weight all clauses forest i seen found sum (s ∷ stands) low way = way
 
 -- what is next
-next-is : (before : List Stand) → (s : Stand) × (stands : List Stand) × (s ∷ stands ≡ or_first before)
+pub next-is : (before : List Stand) → (s : Stand) × (stands : List Stand) × (s ∷ stands ≡ or_first before)
 next-is [] = (first_stand, [], refl)
 next-is (s ∷ stands) = (s, stands, refl)
 
@@ -208,14 +208,13 @@ module _ (weight : Weight) (all : List Step) (clauses : List Clause) (of : List 
   now : Way weight all clauses forest i seen found sum ((next-is before).0 ∷ (next-is before).1)
   now = subst (λ ss. Way weight all clauses forest i seen found sum ss) (sym (next-is before).2) (way-ready weight all clauses forest i seen found sum before low way)
 
-  pub way-next : (seen_more : List Bool) (f : Forks) (sum_more : ℕ) (after : List Stand) → seen_more ≡ set seen (step_at all i).var true
-      → ((s : Stand) (stands : List Stand) → s ∷ stands ≡ or_first before → f ≡ forks_below clauses of seen numbers (step_at all i) (drop (i + 1) all) s)
+  pub way-next : (seen_more : List Bool) (sum_more : ℕ) (after : List Stand) → seen_more ≡ set seen (step_at all i).var true
       → ((s : Stand) (stands : List Stand) → s ∷ stands ≡ or_first before → sum_more ≡ sum + weight_of weight s)
       → ((s : Stand) (stands : List Stand) → s ∷ stands ≡ or_first before → after ≡ stands_below clauses of seen numbers (step_at all i) (drop (i + 1) all) s ++ stands)
-      → Way weight all clauses forest (i + 1) seen_more (found ++ f ∷ []) sum_more after
-  way-next seen_more f sum_more after n g m a =
+      → Way weight all clauses forest (i + 1) seen_more (found ++ forks_below clauses of seen numbers (step_at all i) (drop (i + 1) all) (next-is before).0 ∷ []) sum_more after
+  way-next seen_more sum_more after n m a =
       let p = next-is before in
-      transport (λ j. Way weight all clauses forest (i + 1) (sym n j) (found ++ sym (g p.0 p.1 p.2) j ∷ []) (sym (m p.0 p.1 p.2) j) (sym (a p.0 p.1 p.2) j))
+      transport (λ j. Way weight all clauses forest (i + 1) (sym n j) (found ++ forks_below clauses of seen numbers (step_at all i) (drop (i + 1) all) p.0 ∷ []) (sym (m p.0 p.1 p.2) j) (sym (a p.0 p.1 p.2) j))
       (way-more weight all clauses of seen known numbers size forest i none_step found sum p.0 p.1 now)
 
   pub way-past : (top : ℕ) → ((s : Stand) (stands : List Stand) → s ∷ stands ≡ or_first before → top < sum + weight_of weight s) → top < forest_sum weight forest clauses
@@ -257,7 +256,7 @@ module _ (weight : Weight) (list : ClauseList) (valid : is_clause_list list ≡ 
         free = λ u e. refl;
         inside = λ u e. e;
         known = (known-root list.clauses (clauses-valid list valid).2 parts.1, tt);
-        opened = sym (filter-never (range_with_len 0 (length list.clauses))) ∙ filter-within (λ n. false) (λ n. is_open (variables forest) [] (get_or list.clauses n [])) 0 (length list.clauses) (λ n k. sym (none-open (variables forest) (get_or list.clauses n [])));
+        active = sym (filter-never (range_with_len 0 (length list.clauses))) ∙ filter-within (λ n. false) (λ n. is_active (variables forest) [] (get_or list.clauses n [])) 0 (length list.clauses) (λ n k. sym (none-active (variables forest) (get_or list.clauses n [])));
         states = ap (λ x. x ∷ []) (no-bits list.clauses (map (λ c. true) list.clauses));
       };
       once = (and_parts (is_once (variables forest)) (list_all (fits list.vars) (variables forest)) parts.0).0;
@@ -276,7 +275,7 @@ module _ (weight : Weight) (list : ClauseList) (valid : is_clause_list list ≡ 
     no-bits : (cs : List Clause) (list : List Bool) → [] ≡ state_of (variables forest) [] cs list
     no-bits [] list = refl
     no-bits (c ∷ cs) [] = refl
-    no-bits (c ∷ cs) (b ∷ list) = no-bits cs list ∙ ap (λ o. if o then b ∷ state_of (variables forest) [] cs list else state_of (variables forest) [] cs list) (sym (none-open (variables forest) c))
+    no-bits (c ∷ cs) (b ∷ list) = no-bits cs list ∙ ap (λ o. if o then b ∷ state_of (variables forest) [] cs list else state_of (variables forest) [] cs list) (sym (none-active (variables forest) c))
 
   pub way-begun : (all : List Step) (seen : List Bool) (sum : ℕ) (stands : List Stand) → all ≡ steps_of forest → seen ≡ replicate size false → sum ≡ 1 → stands ≡ []
       → Way weight all list.clauses forest 0 seen [] sum stands

@@ -1,18 +1,18 @@
 -- Lists of bits in words.
 use Rattle.std.proofs.Common.{◌≡◌, ℕ, zero, suc, ◌+◌, ◌*◌, ◌/◌, ◌%◌, ◌<◌, ◌≤◌, Bool, true, false, List, [], ◌∷◌, ◌++◌, length, take, drop, refl, ap, sym, ◌∙◌, subst, arith}
 use Rattle.std.proofs.lemmas.Bool.Decides.{nat_tests}
-use Rattle.std.specs.Prelude.{nat_eq}
 use Rattle.std.specs.List.{refill}
 use Rattle.std.specs.Str.{bytes_eq}
-use Rattle.std.proofs.lemmas.Bool.{false≢true, false_from_ne_true, ne_eqb}
+use Rattle.std.proofs.lemmas.Bool.{false≢true, false_from_ne_true}
 use Rattle.std.proofs.lemmas.Slice.Eq.{bytes_eq-Decides}
 use Rattle.std.proofs.lemmas.List.{ext_get_or, length-drop, length-append, drop_all, take_all, append-nil}
 use Rattle.std.proofs.lemmas.List.FromFn.{get_or-map-range_with_len, length-map-range_with_len}
 use Rattle.std.proofs.Math.Seq.{drop-nil}
 use Rattle.state_rules.specs.Bits.{row_number, number_of_bit}
+use Rattle.state_rules.proofs.Bits.{pointwise-refl}
 use Rattle.elimination_forests.specs.Branches.{words_of}
 use Rattle.forest_states.proofs.WordBits.{word-bit}
-use Rattle.forest_states.specs.inner.BitLists.{word_bit, bits_in, AreBits, is_same, same-equal, same-laws, other_bits, copied}
+use Rattle.forest_states.specs.inner.BitLists.{word_bit, bits_in, AreBits, is_same, same-equal, other_bits, copied}
 
 pub length-words : (n : ℕ) (bits : List Bool) → length (words_of n bits) ≡ n
 length-words zero bits = refl
@@ -66,16 +66,12 @@ module _ (n word : ℕ) (words : List ℕ) (bits : List Bool) (few : n < 64) (is
 
 -- ---- the same words
 
-pub same-words : (n m : ℕ) (xs ys : List ℕ) → AreBits n xs → AreBits m ys → n ≡ m → bytes_eq xs ys ≡ is_same (bits_in n xs) (bits_in m ys)
-same-words n m xs ys ax ay e = by (bytes_eq xs ys) refl where
-  by : (b : Bool) → bytes_eq xs ys ≡ b → b ≡ is_same (bits_in n xs) (bits_in m ys)
-  by true b = sym (ap (λ bits. is_same bits (bits_in m ys)) (λ i. bits_in (e i) ((bytes_eq-Decides xs ys).0 b i)) ∙ same-laws.refl (bits_in m ys))
-  by false b = sym (false_from_ne_true (is_same (bits_in n xs) (bits_in m ys)) (λ s. false≢true (sym b ∙ (bytes_eq-Decides xs ys).1
-      (ax ∙ (λ i. words_of (e i / 64 + 1) (same-equal (bits_in n xs) (bits_in m ys) s i)) ∙ sym ay))))
-
-pub other-words : (n m : ℕ) (xs ys : List ℕ) → (n ≡ m → ⊥) → nat_eq n m ≡ is_same (bits_in n xs) (bits_in m ys)
-other-words n m xs ys h = ne_eqb n m h ∙ sym (false_from_ne_true (is_same (bits_in n xs) (bits_in m ys)) (λ s.
-    h (sym (length-bits n xs) ∙ ap length (same-equal (bits_in n xs) (bits_in m ys) s) ∙ length-bits m ys)))
+pub same-words : (n : ℕ) (xs ys : List ℕ) → AreBits n xs → AreBits n ys → bytes_eq xs ys ≡ is_same (bits_in n xs) (bits_in n ys)
+same-words n xs ys ax ay = by (bytes_eq xs ys) refl where
+  by : (b : Bool) → bytes_eq xs ys ≡ b → b ≡ is_same (bits_in n xs) (bits_in n ys)
+  by true b = sym (ap (λ ws. is_same (bits_in n ws) (bits_in n ys)) ((bytes_eq-Decides xs ys).0 b) ∙ pointwise-refl (bits_in n ys))
+  by false b = sym (false_from_ne_true (is_same (bits_in n xs) (bits_in n ys)) (λ s. false≢true (sym b ∙ (bytes_eq-Decides xs ys).1
+      (ax ∙ ap (words_of (n / 64 + 1)) (same-equal (bits_in n xs) (bits_in n ys) s) ∙ sym ay))))
 
 -- ---- some bits more
 

@@ -1,4 +1,5 @@
 pub mod BitLists
-pub mod Tables
-pub mod Walked
+pub mod KeptStates
+pub mod TransitionTables
+pub mod Descents
 pub mod Masked

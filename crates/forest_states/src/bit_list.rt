@@ -1,14 +1,11 @@
 ghost use Rattle.std.specs.Prelude.{◌≡◌, ◌<◌, ◌≤◌, ◌+◌, ◌*◌, ◌/◌, ◌%◌, Bool, List, ◌^◌, [], ◌∷◌, ◌++◌, length, drop, IfOk, OnOk};
-ghost use Rattle.std.proofs.Common.{ap};
-ghost use Rattle.std.specs.Hash as fed;
-ghost use Rattle.std.specs.Cmp.{partial_equiv_from_equiv};
-ghost use Rattle.state_rules.specs.Bits.{bit_in, row_number};
+ghost use Rattle.state_rules.specs.Bits.{row_number};
 ghost use Rattle.elimination_forests.specs.Branches.{words_of};
-ghost use Rattle.forest_states.specs.inner.BitLists.{is_same, same-equal, same-laws, copied};
+ghost use Rattle.forest_states.specs.inner.BitLists.{copied};
 
+use crate::bits::Bits;
 use smallvec::SmallVec;
 use std::alloc::{AllocError, Global};
-use std::hash::{Hash, Hasher};
 use std::marker::Model;
 
 /// A list of bits.
@@ -42,6 +39,7 @@ impl BitList {
     }
 
     /// So many bits, which are those of one word.
+    #[tactic(auto, using(crate::proofs::Rules::bit_list_of_word_steps))]
     pub(crate) fn of_word(alloc: Global, word: u64, len: usize) -> Result<BitList, AllocError>
         requires few { len < 64 }
         requires word { (bits : List Bool) × ((length bits ≡ len) × (word ≡ row_number bits)) }
@@ -51,21 +49,20 @@ impl BitList {
         Ok(BitList { words, len })
     }
 
-    /// How many bits there are.
-    pub(crate) fn len(&self) -> usize
-        ensures { result ≡ length self.now }
+    /// The word of bits that are in one.
+    pub(crate) fn into_word(self) -> u64
+        requires { length self < 64 }
+        ensures { result ∷ [] ≡ words_of (length self / 64 + 1) self }
     {
-        self.len
+        self.words[0]
     }
 
-    /// The bit at a place, and 0 past the end.
-    pub(crate) fn at(&self, place: usize) -> bool
-        ensures { result ≡ bit_in self.now place }
+    /// The words of the bits.
+    #[tactic(auto, using(crate::proofs::Rules::bit_list_into_words_steps))]
+    pub(crate) fn into_words(self) -> SmallVec<u64, 2>
+        ensures { result.items ≡ words_of (length self / 64 + 1) self }
     {
-        if place >= self.len {
-            return false;
-        }
-        (self.words[place / 64] >> (place % 64)) & 1 == 1
+        self.words
     }
 
     /// Adds a bit at the end.
@@ -77,9 +74,10 @@ impl BitList {
     }
 
     /// Adds so many bits of another list from a place on, and 0 for those past its end.
+    #[tactic(auto, using(crate::proofs::Rules::bit_list_append_steps))]
     pub(crate) fn append(
         &mut self,
-        from: &BitList,
+        from: &Bits<'_>,
         at: usize,
         count: usize,
     ) -> Result<(), AllocError>
@@ -89,26 +87,15 @@ impl BitList {
     {
         let mut done = 0;
         'pieces: while done < count {
-            let many = piece(at + done, self.len(), count - done);
+            let many = piece(at + done, self.len, count - done);
             self.put(from.read(at + done, many), many)?;
             done += many;
         }
         Ok(())
     }
 
-    /// So many bits from a place on, which are in one word.
-    pub(crate) fn read(&self, at: usize, count: usize) -> u64
-        requires some { 0 < count }
-        requires within { at % 64 + count ≤ 64 }
-        ensures { result ≡ row_number (copied count (drop at self.now)) }
-    {
-        if at / 64 >= self.words.len() {
-            return 0;
-        }
-        (self.words[at / 64] << (64 - at % 64 - count)) >> (64 - count)
-    }
-
     /// Adds so many bits, which stay in one word.
+    #[tactic(auto, using(crate::proofs::Rules::bit_list_into_words_steps))]
     pub(crate) fn put(&mut self, row: u64, count: usize) -> Result<(), AllocError>
         requires some { 0 < count }
         requires few { length self.old < 2 ^ 63 }
@@ -137,6 +124,7 @@ fn piece(at: usize, len: usize, left: usize) -> usize
 }
 
 // Writes bits, which stay in one word, after those that the words have.
+#[tactic(auto, using(crate::proofs::Rules::put_row_steps))]
 fn put_row(words: &mut [u64], at: usize, row: u64)
     requires { at < 64 * length words.old }
     ensures long { length words.new ≡ length words.old }
@@ -144,28 +132,4 @@ fn put_row(words: &mut [u64], at: usize, row: u64)
         → words.old ≡ words_of (length words.old) bits → words.new ≡ words_of (length words.old) (bits ++ more) }
 {
     words[at / 64] |= row << (at % 64);
-}
-
-impl PartialEq for BitList {
-    ghost eq = { is_same };
-
-    ghost laws = { partial_equiv_from_equiv same-laws };
-
-    fn eq(&self, other: &BitList) -> bool {
-        self.len == other.len && self.words == other.words
-    }
-}
-
-impl Eq for BitList {
-    ghost laws = { same-laws };
-}
-
-impl Hash for BitList {
-    ghost hash_input = { λ a. fed.slice fed.u64 (words_of (length a / 64 + 1) a) };
-
-    ghost respects_eq = { λ a b e. ap (λ x. fed.slice fed.u64 (words_of (length x / 64 + 1) x)) (same-equal a b e) };
-
-    fn hash<H: Hasher>(&self, state: &mut H) {
-        self.words.as_slice().hash(state);
-    }
 }

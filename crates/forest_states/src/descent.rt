@@ -1,6 +1,6 @@
 ghost use Rattle.std.specs.Prelude.{◌≡◌, ◌<◌, ◌≤◌, ◌+◌, ◌^◌, ◌++◌, ℕ, List, [], ◌∷◌, true, false, length, map, drop, reverse, replicate, slice_set, Some, None, IfOk, OnOk, IfSome};
 ghost use Rattle.elimination_forests.specs.Forests.{Forest, steps_of, is_forest_of, root, weigh, forest_sum, forks_on, has_way, leads_on};
-ghost use Rattle.forest_states.specs.inner.Walked.{Stand, step_at, forks_of, row_in, forks_below, stands_below, or_first, stand_of, weight_of};
+ghost use Rattle.forest_states.specs.inner.Descents.{Stand, step_at, forks_of, row_in, forks_below, stands_below, or_first, stand_of, weight_of};
 
 use crate::Memory;
 use crate::marks::find_clauses;
@@ -100,21 +100,30 @@ fn go_along(
         return Ok(None);
     }
     let of = find_clauses(alloc, cnf)?;
-    let mut front = Front::new(alloc, of.len())?;
+    let mut frontier = Frontier::new(alloc, of.len())?;
     let mut forks = Vec::new(alloc);
     let mut leads_on = true;
     for at in 0..steps.len() {
-        let Some(found) = front.next_place(alloc, cnf, of.as_slice(), steps, at, weight, top)?
+        let Some(found) = frontier.next_place(
+            alloc,
+            cnf,
+            of.as_slice(),
+            steps,
+            at,
+            weight,
+            top,
+            keep,
+        )?
         else {
             return Ok(None);
         };
-        leads_on = found.has_way();
+        leads_on = found.has_way;
         if keep {
             add_forks(alloc, &found, &mut forks)?;
         }
     }
     let measured = Measured {
-        sum: front.sum,
+        sum: frontier.sum,
         leads_on,
     };
     Ok(Some(Descended { forks, measured }))
@@ -128,24 +137,24 @@ fn add_forks(alloc: Global, found: &Leads, forks: &mut Vec<Forks>) -> Result<(),
     Ok(())
 }
 
-// How far a way down has come: which variables have bits, in which trees the others are, the places that are begun, and the sum.
+// The frontier of a way down: which variables have bits, in which trees the others are, the places that are begun, and the sum.
 #[derive(Drop)]
-struct Front {
+struct Frontier {
     seen: Vec<bool>,
     numbers: Vec<u32>,
     pending: Vec<Spot>,
     sum: u32,
 }
 
-impl Front {
+impl Frontier {
     // Nothing has a bit, for so many variables.
-    fn new(alloc: Global, size: usize) -> Result<Front, Memory>
-        ensures seen { IfOk result (λ front. front.seen.items ≡ replicate size false) }
-        ensures numbers { IfOk result (λ front. length front.numbers.items ≡ size) }
-        ensures pending { IfOk result (λ front. front.pending.items ≡ []) }
-        ensures sum { IfOk result (λ front. front.sum ≡ 1) }
+    fn new(alloc: Global, size: usize) -> Result<Frontier, Memory>
+        ensures seen { IfOk result (λ frontier. frontier.seen.items ≡ replicate size false) }
+        ensures numbers { IfOk result (λ frontier. length frontier.numbers.items ≡ size) }
+        ensures pending { IfOk result (λ frontier. frontier.pending.items ≡ []) }
+        ensures sum { IfOk result (λ frontier. frontier.sum ≡ 1) }
     {
-        Ok(Front {
+        Ok(Frontier {
             seen: vec![in alloc; false; size]?,
             numbers: vec![in alloc; 0; size]?,
             pending: Vec::new(alloc),
@@ -153,7 +162,7 @@ impl Front {
         })
     }
 
-    // Where the next place leads to, unless the sum with it is above the limit.
+    // Where the next place leads to, unless the sum with it is above the limit. Forks are found only if they are kept.
     fn next_place(
         &mut self,
         alloc: Global,
@@ -163,6 +172,7 @@ impl Front {
         at: usize,
         weight: Weight,
         top: u32,
+        keep: bool,
     ) -> Result<Option<Leads>, Memory>
         requires low { at < length steps.now }
         requires within { self.old.sum ≤ top }
@@ -172,7 +182,9 @@ impl Front {
         ensures numbers { IfOk result (λ found. IfSome found (λ _. length self.new.numbers.items ≡ length self.old.numbers.items)) }
         ensures whole { IfOk result (λ found. IfSome found (λ leads. (n : ℕ) → length (row_in leads n) ≡ leads.trees)) }
         ensures forks { IfOk result (λ found. IfSome found (λ leads. (s : Stand) (stands : List Stand) → s ∷ stands ≡ or_first (reverse (map stand_of self.old.pending.items))
-            → forks_of leads ≡ forks_below cnf.now.clauses (map (λ v. v.items) of.now) self.old.seen.items self.old.numbers.items (step_at steps.now at) (drop (at + 1) steps.now) s)) }
+            → keep ≡ true → forks_of leads ≡ forks_below cnf.now.clauses (map (λ v. v.items) of.now) self.old.seen.items self.old.numbers.items (step_at steps.now at) (drop (at + 1) steps.now) s)) }
+        ensures way { IfOk result (λ found. IfSome found (λ leads. (s : Stand) (stands : List Stand) → s ∷ stands ≡ or_first (reverse (map stand_of self.old.pending.items))
+            → leads.has_way ≡ has_way (forks_below cnf.now.clauses (map (λ v. v.items) of.now) self.old.seen.items self.old.numbers.items (step_at steps.now at) (drop (at + 1) steps.now) s))) }
         ensures sum { IfOk result (λ found. IfSome found (λ _. (s : Stand) (stands : List Stand) → s ∷ stands ≡ or_first (reverse (map stand_of self.old.pending.items))
             → self.new.sum ≡ self.old.sum + weight_of weight s)) }
         ensures pending { IfOk result (λ found. IfSome found (λ _. (s : Stand) (stands : List Stand) → s ∷ stands ≡ or_first (reverse (map stand_of self.old.pending.items))
@@ -196,6 +208,7 @@ impl Front {
             &steps[at + 1..],
             &spot,
             &mut self.pending,
+            keep,
         )?;
         Ok(Some(leads))
     }
@@ -207,10 +220,10 @@ fn sum_with(spot: &Spot, weight: Weight, sum: u32, top: u32) -> Option<u32>
     requires top { top < 2 ^ 31 }
     ensures sum { IfSome result (λ more. more ≡ sum + weight_of weight (stand_of spot.now)) }
     ensures within { IfSome result (λ more. more ≤ top) }
-    ensures few { IfSome result (λ _. length spot.now.states.keys < 2 ^ 31) }
+    ensures few { IfSome result (λ _. length spot.now.states.lists < 2 ^ 31) }
     ensures above { result ≡ None → top < sum + weight_of weight (stand_of spot.now) }
 {
-    let weight = weight_of_list(weight, spot.opened.len());
+    let weight = weight_of_list(weight, spot.active.len());
     let most = (top - sum) as usize / weight;
     let count = spot.states.len();
     if count > most {
@@ -219,12 +232,12 @@ fn sum_with(spot: &Spot, weight: Weight, sum: u32, top: u32) -> Option<u32>
     Some(sum + (count * weight) as u32)
 }
 
-fn weight_of_list(weight: Weight, opened: usize) -> usize
-    ensures weight { result ≡ weigh weight opened }
+fn weight_of_list(weight: Weight, active: usize) -> usize
+    ensures weight { result ≡ weigh weight active }
     ensures some { 1 ≤ result }
 {
     match weight {
-        Weight::Words => opened / 64 + 1,
+        Weight::Words => active / 64 + 1,
         Weight::Lists => 1,
     }
 }

@@ -2,14 +2,16 @@
 #![tactic(auto)]
 
 mod bit_list;
+mod bits;
 mod descent;
-mod entries;
 mod marks;
 mod masks;
 mod picks;
 mod places;
 mod rows;
-mod tables;
+mod states;
+mod table_finder;
+mod transition_tables;
 
 pub use descent::{Descended, Measured, descend, measure_along};
 pub use std::alloc::AllocError as Memory;

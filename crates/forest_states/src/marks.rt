@@ -2,7 +2,7 @@ ghost use Rattle.std.specs.Prelude.{◌≡◌, ℕ, ◌<◌, ◌≤◌, ◌+◌,
 ghost use Rattle.std.specs.List.{filter, list_any, range_with_len};
 ghost use Rattle.clause_encoder.specs.Clauses.{vars_rise, is_clause_list, var_of};
 ghost use Rattle.state_rules.specs.Bits.{bit_in};
-ghost use Rattle.forest_states.specs.inner.Walked.{numbered, numbers_at, begun_at, goes_to, is_in_tree, has_var, clause_at};
+ghost use Rattle.forest_states.specs.inner.Descents.{numbered, numbers_at, begun_at, goes_to, is_in_tree, has_var, clause_at};
 
 use clause_encoder::Cnf;
 use elimination_forests::Step;
@@ -27,6 +27,7 @@ pub(crate) fn number_trees(numbers: &mut Vec<u32>, trees: u32, steps: &[Step])
     }
 }
 
+#[tactic(auto, using(crate::proofs::Rules::write_trees_steps))]
 fn write_trees(numbers: &mut Vec<u32>, trees: u32, steps: &[Step])
     ensures numbers { numbers.new.items ≡ numbered trees 0 trees steps.now numbers.old.items }
     ensures long { length numbers.new.items ≡ length numbers.old.items }
@@ -85,7 +86,7 @@ pub(crate) fn clause_of(cnf: &Cnf, number: u32) -> &[i32]
     }
 }
 
-/// Whether an open clause goes to a tree out of so many: to one alone, or it has a variable there that is not marked.
+/// Whether an active clause goes to a tree out of so many: to one alone, or it has a variable there that is not marked.
 pub(crate) fn goes_to(
     cnf: &Cnf,
     trees: u32,
@@ -140,6 +141,7 @@ pub(crate) fn clauses_with(of: &[Vec<u32>], var: u32) -> &[u32]
 }
 
 /// For each variable the numbers of the clauses that have it.
+#[tactic(auto, using(crate::proofs::Rules::find_clauses_steps))]
 pub(crate) fn find_clauses(alloc: Global, cnf: &Cnf) -> Result<Vec<Vec<u32>>, AllocError>
     ensures valid { is_clause_list cnf.now ≡ true }
     ensures long { IfOk result (λ of. length of.items ≡ cnf.now.vars + 1) }

@@ -1,17 +1,18 @@
 ghost use Rattle.std.specs.Prelude.{◌≡◌, ◌<◌, ◌≤◌, ◌+◌, ◌++◌, List, Bool, true, false, [], ◌∷◌, length, replicate, IfOk, OnOk};
 ghost use Rattle.state_rules.specs.Bits.{row_number};
-ghost use Rattle.forest_states.specs.declared.entries.Entry.{Entry};
-ghost use Rattle.forest_states.specs.inner.Tables.{plain, in_one};
-ghost use Rattle.forest_states.specs.inner.Walked.{walked, left_by};
+ghost use Rattle.forest_states.specs.declared.transition_tables.ClauseTransition.{ClauseTransition};
+ghost use Rattle.forest_states.specs.inner.TransitionTables.{plain, in_one};
+ghost use Rattle.forest_states.specs.inner.Descents.{successor, left_by};
 ghost use Rattle.forest_states.specs.inner.Masked.{IsMasked, IsShort};
 
 use crate::bit_list::BitList;
-use crate::entries::Entry;
+use crate::bits::Bits;
 use crate::picks::Picks;
 use crate::rows::{meets, with_bits, without};
+use crate::transition_tables::ClauseTransition;
 use std::alloc::{AllocError, Global};
 
-/// A table of few clauses in words, by which a bit does what it does to all clauses at once.
+/// A transition table of few clauses in words, by which a bit does what it does to all clauses at once.
 #[derive(Drop)]
 pub(crate) struct Masks {
     // those that begin
@@ -41,10 +42,11 @@ impl Masks {
     }
 
     /// Adds so many clauses that stay as they are.
+    #[tactic(auto, using(crate::proofs::Rules::masks_skip_steps))]
     pub(crate) fn skip(&mut self, count: usize) -> Result<(), AllocError>
-        requires table { (table : List Entry) × IsMasked self.old table }
+        requires table { (table : List ClauseTransition) × IsMasked self.old table }
         requires few { self.old.len + count < 64 }
-        ensures masked { OnOk result ((table : List Entry) → IsMasked self.old table → IsMasked self.new (table ++ replicate count plain)) }
+        ensures masked { OnOk result ((table : List ClauseTransition) → IsMasked self.old table → IsMasked self.new (table ++ replicate count plain)) }
         ensures len { OnOk result (self.new.len ≡ self.old.len + count) }
     {
         if count > 0 {
@@ -56,31 +58,32 @@ impl Masks {
     }
 
     /// Adds what happens to one clause more.
-    pub(crate) fn push(&mut self, entry: Entry) -> Result<(), AllocError>
-        requires table { (table : List Entry) × IsMasked self.old table }
+    pub(crate) fn push(&mut self, transition: ClauseTransition) -> Result<(), AllocError>
+        requires table { (table : List ClauseTransition) × IsMasked self.old table }
         requires few { self.old.len + 1 < 64 }
-        ensures masked { OnOk result ((table : List Entry) → IsMasked self.old table → IsMasked self.new (table ++ entry ∷ [])) }
+        ensures masked { OnOk result ((table : List ClauseTransition) → IsMasked self.old table → IsMasked self.new (table ++ transition ∷ [])) }
         ensures len { OnOk result (self.new.len ≡ self.old.len + 1) }
     {
-        self.fresh.push(entry.fresh, 1)?;
-        self.kept.push(!entry.ends, 1)?;
-        self.true_at_0 = with_bits(self.true_at_0, self.len, u64::from(entry.true_at_0));
-        self.true_at_1 = with_bits(self.true_at_1, self.len, u64::from(entry.true_at_1));
-        self.ends = with_bits(self.ends, self.len, u64::from(entry.ends));
+        self.fresh.push(transition.fresh, 1)?;
+        self.kept.push(!transition.ends, 1)?;
+        self.true_at_0 = with_bits(self.true_at_0, self.len, u64::from(transition.true_at_0));
+        self.true_at_1 = with_bits(self.true_at_1, self.len, u64::from(transition.true_at_1));
+        self.ends = with_bits(self.ends, self.len, u64::from(transition.ends));
         self.len += 1;
         Ok(())
     }
 
-    /// What the bits 0 and 1 leave of a state, unless that is dead.
-    pub(crate) fn walk(
+    /// The successors of a state by the bits 0 and 1, unless they are dead.
+    #[tactic(auto, using(crate::proofs::Rules::masks_successors_steps))]
+    pub(crate) fn successors(
         &self,
         alloc: Global,
-        state: &BitList,
+        state: &Bits<'_>,
     ) -> Result<(Option<BitList>, Option<BitList>), AllocError>
-        requires table { (table : List Entry) × IsShort self.now table }
+        requires table { (table : List ClauseTransition) × IsShort self.now table }
         requires short { length state.now ≤ 64 }
-        ensures zero { IfOk result (λ r. (table : List Entry) → IsMasked self.now table → r.0 ≡ walked false table state.now) }
-        ensures one { IfOk result (λ r. (table : List Entry) → IsMasked self.now table → r.1 ≡ walked true table state.now) }
+        ensures zero { IfOk result (λ r. (table : List ClauseTransition) → IsMasked self.now table → r.0 ≡ successor false table state.now) }
+        ensures one { IfOk result (λ r. (table : List ClauseTransition) → IsMasked self.now table → r.1 ≡ successor true table state.now) }
     {
         let met = self.fresh.fill_row(state.read(0, 64));
         let zero = self.leave(alloc, met, self.true_at_0)?;
@@ -89,6 +92,7 @@ impl Masks {
     }
 
     // What is left of the clauses of a word if some of them are true, unless it is dead.
+    #[tactic(auto, using(crate::proofs::Rules::masks_leave_steps))]
     fn leave(&self, alloc: Global, met: u64, are_true: u64) -> Result<Option<BitList>, AllocError>
         requires few { length self.now.kept < 64 }
         requires met { (bits : List Bool) × (met ≡ row_number bits) }

@@ -1,10 +1,11 @@
 ghost use Rattle.std.specs.Prelude.{◌≡◌, ◌<◌, ◌+◌, ◌^◌, ◌++◌, List, Bool, true, [], length, drop, replicate, IfOk, OnOk};
 ghost use Rattle.state_rules.specs.Bits.{row_number};
 ghost use Rattle.forest_states.specs.inner.BitLists.{copied};
-ghost use Rattle.forest_states.specs.inner.Tables.{flags_in, filled};
-ghost use Rattle.forest_states.specs.inner.Walked.{picked};
+ghost use Rattle.forest_states.specs.inner.TransitionTables.{flags_in, filled};
+ghost use Rattle.forest_states.specs.inner.Descents.{picked};
 
 use crate::bit_list::BitList;
+use crate::bits::Bits;
 use crate::rows::{first_bits, later_bits, ones, with_bits};
 use std::alloc::{AllocError, Global};
 use std::marker::Model;
@@ -25,7 +26,7 @@ pub(crate) struct Picks {
 
 impl Model for Picks {
     ghost use Rattle.std.specs.Prelude.{List, Bool};
-    ghost use Rattle.forest_states.specs.inner.Tables.{flags_in};
+    ghost use Rattle.forest_states.specs.inner.TransitionTables.{flags_in};
 
     ghost Value = { List Bool };
 
@@ -47,6 +48,7 @@ impl Picks {
     }
 
     /// Adds whether the next so many bits are picked.
+    #[tactic(auto, using(crate::proofs::Rules::picks_push_steps))]
     pub(crate) fn push(&mut self, is_picked: bool, count: usize) -> Result<(), AllocError>
         requires { length self.old + count < 2 ^ 63 }
         ensures { OnOk result (self.new ≡ self.old ++ replicate count is_picked) }
@@ -72,7 +74,7 @@ impl Picks {
         &self,
         alloc: Global,
         room: usize,
-        state: &BitList,
+        state: &Bits<'_>,
     ) -> Result<BitList, AllocError>
         requires { length self.now < 2 ^ 63 }
         ensures { IfOk result (λ bits. bits ≡ picked self.now state.now) }
@@ -100,11 +102,12 @@ impl Picks {
 }
 
 // Adds the bits of a state that runs pick, to none.
+#[tactic(auto, using(crate::proofs::Rules::add_picked_steps))]
 fn add_picked(
     bits: &mut BitList,
     runs: &[Run],
     last: Run,
-    state: &BitList,
+    state: &Bits<'_>,
 ) -> Result<(), AllocError>
     requires few { length (flags_in runs.now last) < 2 ^ 63 }
     requires none { bits.old ≡ [] }
@@ -120,6 +123,7 @@ fn add_picked(
     Ok(())
 }
 
+#[tactic(auto, using(crate::proofs::Rules::pick_row_steps))]
 fn pick_row(runs: &[Run], last: Run, word: u64) -> (u64, usize)
     requires { length (flags_in runs.now last) < 64 }
     ensures { (state : List Bool) → word ≡ row_number state
@@ -137,6 +141,7 @@ fn pick_row(runs: &[Run], last: Run, word: u64) -> (u64, usize)
 }
 
 // Adds the bits that a run picks to so many others.
+#[tactic(auto, using(crate::proofs::Rules::run_steps))]
 fn pick_run(run: Run, left: u64, len: usize, from: u64) -> u64
     requires { len + run.others + run.count < 64 }
     ensures { (bits state : List Bool) → length bits ≡ len → left ≡ row_number bits → from ≡ row_number state
@@ -149,6 +154,7 @@ fn pick_run(run: Run, left: u64, len: usize, from: u64) -> u64
     )
 }
 
+#[tactic(auto, using(crate::proofs::Rules::fill_row_steps))]
 fn fill_row(runs: &[Run], last: Run, word: u64) -> u64
     requires { length (flags_in runs.now last) < 64 }
     ensures { (state : List Bool) → word ≡ row_number state → result ≡ row_number (filled (flags_in runs.now last) state) }
@@ -165,6 +171,7 @@ fn fill_row(runs: &[Run], last: Run, word: u64) -> u64
 }
 
 // Adds the bits that a run does not pick, and a 1 for each that it picks, to so many others.
+#[tactic(auto, using(crate::proofs::Rules::run_steps))]
 fn fill_run(run: Run, left: u64, len: usize, from: u64) -> u64
     requires { len + run.others + run.count < 64 }
     ensures { (bits state : List Bool) → length bits ≡ len → left ≡ row_number bits → from ≡ row_number state

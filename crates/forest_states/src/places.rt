@@ -1,26 +1,27 @@
-ghost use Rattle.std.specs.Prelude.{◌≡◌, ◌<◌, ◌≤◌, ◌+◌, ◌^◌, ◌++◌, ℕ, [], ◌∷◌, true, false, length, map, reverse, slice_set, slice_index_or, option_map, Some, IfOk, OnOk, IfSome, ◌==◌, ◌&&◌};
+ghost use Rattle.std.specs.Prelude.{◌≡◌, ◌<◌, ◌≤◌, ◌+◌, ◌^◌, ◌++◌, ℕ, [], ◌∷◌, true, false, length, map, reverse, slice_set, slice_index_or, option_map, Some, IfOk, OnOk, IfSome, ◌==◌, ◌&&◌, Bool, List};
 ghost use Rattle.std.specs.List.{list_all, range_with_len, position_or_len};
 ghost use Rattle.elimination_forests.specs.Branches.{different};
+ghost use Rattle.elimination_forests.specs.Forests.{has_way};
 ghost use Rattle.forest_states.specs.inner.BitLists.{is_same};
 ghost use Rattle.forest_states.specs.inner.Masked.{IsShort};
-ghost use Rattle.forest_states.specs.inner.Walked.{any_leads, picked, joined, lead, decided_states, decided_forks, parts_by, column_by, table_at, forks_of, row_at, row_of, row_in, stand_decided, stand_part, column_at, stands_below, forks_below, first_stand, or_first, stand_of};
+ghost use Rattle.forest_states.specs.inner.Descents.{picked, successor, joined, lead, decided_states, decided_forks, parts_by, column_by, table_at, forks_of, row_at, row_of, row_in, stand_decided, stand_part, column_at, stands_below, forks_below, first_stand, or_first, stand_of};
 
 use crate::bit_list::BitList;
-use crate::entries::Table;
 use crate::marks::{clauses_with, mark, number_trees};
 use crate::masks::Masks;
 use crate::picks::Picks;
-use crate::tables::{find_picks, find_table};
+use crate::states::States;
+use crate::table_finder::{find_picks, find_table};
+use crate::transition_tables::TransitionTable;
 use clause_encoder::Cnf;
 use elimination_forests::{Forks, Step, Ways};
-use indexmap::IndexSet;
 use std::alloc::{AllocError, Global};
 
-/// A place that is begun: its open clauses, by rising numbers, and its states, which have a bit for each of these.
+/// A place that is begun: its active clauses, by rising numbers, and its states, which have a bit for each of these.
 #[derive(Drop)]
 pub(crate) struct Spot {
-    pub(crate) opened: Vec<u32>,
-    pub(crate) states: IndexSet<BitList>,
+    pub(crate) active: Vec<u32>,
+    pub(crate) states: States,
 }
 
 /// Where a state leads to: the places of what its bits leave, among the states after them. There is none if that is dead.
@@ -37,10 +38,16 @@ pub(crate) struct Fork {
 pub(crate) struct Leads {
     pub(crate) trees: u32,
     pub(crate) columns: Option<Vec<Vec<u32>>>,
+    // none if no forks are to be found
     pub(crate) leads: Vec<Fork>,
+    // whether a state leads on
+    pub(crate) has_way: bool,
 }
 
-/// Where the states of a place lead to. This marks its variable, and adds the places right below to those that are begun.
+/// Where the states of a place lead to, without the forks if these are not kept.
+///
+/// This marks its variable, and adds the places right below to those that are begun.
+#[tactic(auto, using(crate::proofs::Rules::go_down_steps))]
 pub(crate) fn go_down(
     alloc: Global,
     cnf: &Cnf,
@@ -51,18 +58,22 @@ pub(crate) fn go_down(
     rest: &[Step],
     spot: &Spot,
     pending: &mut Vec<Spot>,
+    keep: bool,
 ) -> Result<Leads, AllocError>
-    requires { length spot.now.states.keys < 2 ^ 31 }
+    requires { length spot.now.states.lists < 2 ^ 31 }
     ensures whole { IfOk result (λ leads. (n : ℕ) → length (row_in leads n) ≡ leads.trees) }
-    ensures forks { IfOk result (λ leads. forks_of leads
+    ensures forks { IfOk result (λ leads. keep ≡ true → forks_of leads
         ≡ forks_below cnf.now.clauses (map (λ v. v.items) of.now) seen.old.items numbers.old.items step rest.now (stand_of spot.now)) }
+    ensures way { IfOk result (λ leads. leads.has_way
+        ≡ has_way (forks_below cnf.now.clauses (map (λ v. v.items) of.now) seen.old.items numbers.old.items step rest.now (stand_of spot.now))) }
     ensures seen { OnOk result (seen.new.items ≡ slice_set seen.old.items step.var true) }
     ensures numbers { OnOk result (length numbers.new.items ≡ length numbers.old.items) }
     ensures pending { OnOk result (reverse (map stand_of pending.new.items)
         ≡ stands_below cnf.now.clauses (map (λ v. v.items) of.now) seen.old.items numbers.old.items step rest.now (stand_of spot.now)
         ++ reverse (map stand_of pending.old.items)) }
 {
-    let (leads, base) = go_by_bit(alloc, cnf, of, seen.as_slice(), step.var, spot)?;
+    let (leads, base) = go_by_bit(alloc, cnf, of, seen.as_slice(), step.var, spot, keep)?;
+    let has_way = base.states.len() > 0;
     mark(seen, step.var);
     number_trees(numbers, step.trees, rest);
     let columns = go_below(
@@ -78,10 +89,12 @@ pub(crate) fn go_down(
         trees: step.trees,
         columns,
         leads,
+        has_way,
     })
 }
 
 // Where the states of a place lead to by the bit of its variable, and the base below.
+#[tactic(auto, using(crate::proofs::Rules::go_by_bit_steps))]
 fn go_by_bit(
     alloc: Global,
     cnf: &Cnf,
@@ -89,19 +102,20 @@ fn go_by_bit(
     seen: &[bool],
     var: u32,
     spot: &Spot,
+    keep: bool,
 ) -> Result<(Vec<Fork>, Spot), AllocError>
-    requires { length spot.now.states.keys < 2 ^ 31 }
-    ensures leads { IfOk result (λ r. r.0.items ≡ decided_forks
-        (table_at cnf.now.clauses (map (λ v. v.items) of.now) seen.now var spot.now.opened.items) spot.now.states.keys) }
-    ensures few { IfOk result (λ r. length r.1.states.keys < 2 ^ 32) }
+    requires { length spot.now.states.lists < 2 ^ 31 }
+    ensures leads { IfOk result (λ r. keep ≡ true → r.0.items ≡ decided_forks
+        (table_at cnf.now.clauses (map (λ v. v.items) of.now) seen.now var spot.now.active.items) spot.now.states.lists) }
+    ensures few { IfOk result (λ r. length r.1.states.lists < 2 ^ 32) }
     ensures base { IfOk result (λ r. stand_of r.1
         ≡ stand_decided cnf.now.clauses (map (λ v. v.items) of.now) seen.now var (stand_of spot.now)) }
 {
     let touched = clauses_with(of, var);
-    let (table, opened) = find_table(alloc, cnf, seen, var, touched, &spot.opened)?;
+    let (table, active) = find_table(alloc, cnf, seen, var, touched, &spot.active)?;
     let masks = table.masks(alloc)?;
-    let (leads, states) = decide(alloc, &table, &masks, &spot.states)?;
-    Ok((leads, Spot { opened, states }))
+    let (leads, states) = decide(alloc, &table, &masks, active.len(), &spot.states, keep)?;
+    Ok((leads, Spot { active, states }))
 }
 
 // Where the states of a base lead to in each tree on it. A base of which all goes to one tree is the place of that tree.
@@ -114,8 +128,8 @@ fn go_below(
     base: Spot,
     pending: &mut Vec<Spot>,
 ) -> Result<Option<Vec<Vec<u32>>>, AllocError>
-    requires few { length base.states.keys < 2 ^ 32 }
-    requires once { different base.states.keys ≡ base.states.keys }
+    requires few { length base.states.lists < 2 ^ 32 }
+    requires once { different base.states.lists ≡ base.states.lists }
     ensures columns { IfOk result (λ columns. row_of (option_map (λ cs. map (λ v. v.items) cs.items) columns)
         ≡ row_at (map (λ j. column_at cnf.now.clauses trees seen.now numbers.now j (stand_of base)) (range_with_len 0 trees))) }
     ensures pending { OnOk result (reverse (map stand_of pending.new.items)
@@ -130,17 +144,11 @@ fn go_below(
     Ok(Some(columns))
 }
 
-// Whether there is one tree on a base, so that each open clause goes to it, and so each bit of a state.
+// Whether there is one tree on a base, so that each active clause goes to it, and so each bit of a state.
 fn is_whole(trees: u32, base: &Spot) -> bool
-    ensures { result ≡ ((trees == 1) && list_all (λ s. length s == length base.now.opened.items) base.now.states.keys) }
+    ensures { result ≡ true → ((trees == 1) && list_all (λ s. length s == length base.now.active.items) base.now.states.lists) ≡ true }
 {
-    trees == 1 && have_len(base.opened.len(), &base.states)
-}
-
-fn have_len(size: usize, states: &IndexSet<BitList>) -> bool
-    ensures { result ≡ list_all (λ s. length s == size) states.now.keys }
-{
-    states.as_slice().iter().all(|state| state.len() == size)
+    trees == 1 && base.states.size() == base.active.len()
 }
 
 // Where the states of a base lead to in each tree on it. The places of the trees are added, the first tree's last.
@@ -153,7 +161,7 @@ fn go_apart(
     base: &Spot,
     pending: &mut Vec<Spot>,
 ) -> Result<Vec<Vec<u32>>, AllocError>
-    requires { length base.now.states.keys < 2 ^ 32 }
+    requires { length base.now.states.lists < 2 ^ 32 }
     ensures columns { IfOk result (λ columns. map (λ v. v.items) columns.items
         ≡ map (λ j. column_at cnf.now.clauses trees seen.now numbers.now j (stand_of base.now)) (range_with_len 0 trees)) }
     ensures pending { OnOk result (reverse (map stand_of pending.new.items)
@@ -171,6 +179,7 @@ fn go_apart(
 }
 
 // Where the states of a base lead to in a tree on it, and the place of the tree.
+#[tactic(auto, using(crate::proofs::Rules::go_to_steps))]
 fn go_to(
     alloc: Global,
     cnf: &Cnf,
@@ -180,104 +189,93 @@ fn go_to(
     tree: u32,
     base: &Spot,
 ) -> Result<(Vec<u32>, Spot), AllocError>
-    requires { length base.now.states.keys < 2 ^ 32 }
+    requires { length base.now.states.lists < 2 ^ 32 }
     ensures column { IfOk result (λ r. r.0.items ≡ column_at cnf.now.clauses trees seen.now numbers.now tree (stand_of base.now)) }
     ensures spot { IfOk result (λ r. stand_of r.1 ≡ stand_part cnf.now.clauses trees seen.now numbers.now tree (stand_of base.now)) }
 {
-    let (picks, opened) = find_picks(
+    let (picks, active) = find_picks(
         alloc,
         cnf,
         trees,
         seen,
         numbers,
         tree,
-        base.opened.as_slice(),
+        base.active.as_slice(),
     )?;
-    let (column, states) = part(alloc, &picks, opened.len(), &base.states)?;
-    Ok((column, Spot { opened, states }))
+    let (column, states) = part(alloc, &picks, active.len(), &base.states)?;
+    Ok((column, Spot { active, states }))
 }
 
-// The part of each state that is picked: its place among the parts, and the parts, with room for so many bits.
+// The part of each state that is picked: its place among the parts, and the parts, which have so many bits.
 fn part(
     alloc: Global,
     picks: &Picks,
-    room: usize,
-    states: &IndexSet<BitList>,
-) -> Result<(Vec<u32>, IndexSet<BitList>), AllocError>
-    requires few { length states.now.keys < 2 ^ 32 }
+    size: usize,
+    states: &States,
+) -> Result<(Vec<u32>, States), AllocError>
+    requires few { length states.now.lists < 2 ^ 32 }
     requires short { length picks.now < 2 ^ 63 }
-    ensures column { IfOk result (λ r. r.0.items ≡ column_by (picked picks.now) states.now.keys) }
-    ensures states { IfOk result (λ r. r.1.keys ≡ parts_by (picked picks.now) states.now.keys) }
+    requires size { (state : List Bool) → length (picked picks.now state) ≡ size }
+    ensures column { IfOk result (λ r. r.0.items ≡ column_by (picked picks.now) states.now.lists) }
+    ensures states { IfOk result (λ r. r.1.lists ≡ parts_by (picked picks.now) states.now.lists) }
 {
-    let mut parts = IndexSet::new(alloc);
+    let mut parts = States::new(alloc, size, 0)?;
     let mut column = Vec::with_capacity(alloc, states.len())?;
-    for state in states.as_slice() {
-        column.push(put(picks.pick(alloc, room, state)?, &mut parts)?)?;
+    for at in 0..states.len() {
+        column.push(parts.add(picks.pick(alloc, size, &states.at(at))?)?)?;
     }
     Ok((column, parts))
 }
 
-// The place of a state among others, to which it is added if it is new.
-fn put(state: BitList, states: &mut IndexSet<BitList>) -> Result<u32, AllocError>
-    requires { length states.old.keys < 2 ^ 32 }
-    ensures few { OnOk result (length states.new.keys ≤ length states.old.keys + 1) }
-    ensures states { OnOk result (states.new.keys ≡ joined states.old.keys (Some state)) }
-    ensures place { IfOk result (λ place. place ≡ position_or_len (is_same state) states.old.keys) }
-{
-    let (place, _) = states.insert_full(state)?;
-    Ok(place as u32)
-}
-
-// Where the states of a place lead to by a bit, and the states there. `masks` are the table in words, if it is short.
+// Where the states of a place lead to by a bit, and their successors, which have so many bits. `masks` are the table in words, if it is short.
+#[tactic(auto, using(crate::proofs::Sizes::sized))]
 fn decide(
     alloc: Global,
-    table: &Table,
+    table: &TransitionTable,
     masks: &Option<Masks>,
-    states: &IndexSet<BitList>,
-) -> Result<(Vec<Fork>, IndexSet<BitList>), AllocError>
+    size: usize,
+    states: &States,
+    keep: bool,
+) -> Result<(Vec<Fork>, States), AllocError>
     requires masks { IfSome masks.now (λ masks. IsShort masks table.now) }
-    requires few { length states.now.keys < 2 ^ 31 }
+    requires few { length states.now.lists < 2 ^ 31 }
     requires short { length table.now < 2 ^ 63 }
-    ensures leads { IfOk result (λ r. r.0.items ≡ decided_forks table.now states.now.keys) }
-    ensures few { IfOk result (λ r. length r.1.keys < 2 ^ 32) }
-    ensures states { IfOk result (λ r. r.1.keys ≡ decided_states table.now states.now.keys) }
+    requires size { (bit : Bool) (state : List Bool) → IfSome (successor bit table.now state) (λ next. length next ≡ size) }
+    ensures leads { IfOk result (λ r. keep ≡ true → r.0.items ≡ decided_forks table.now states.now.lists) }
+    ensures few { IfOk result (λ r. length r.1.lists < 2 ^ 32) }
+    ensures states { IfOk result (λ r. r.1.lists ≡ decided_states table.now states.now.lists) }
 {
-    let mut next = IndexSet::with_capacity(alloc, states.len())?;
-    let mut leads = Vec::with_capacity(alloc, states.len())?;
-    for state in states.as_slice() {
-        let (left_by_0, left_by_1) = table.walk(alloc, masks, state)?;
+    let mut next = States::new(alloc, size, states.len())?;
+    let mut leads = Vec::with_capacity(alloc, if keep { states.len() } else { 0 })?;
+    for at in 0..states.len() {
+        let (left_by_0, left_by_1) = table.successors(alloc, masks, &states.at(at))?;
         let zero = add(left_by_0, &mut next)?;
         let one = add(left_by_1, &mut next)?;
-        leads.push(Fork { zero, one })?;
+        if keep {
+            leads.push(Fork { zero, one })?;
+        }
     }
     Ok((leads, next))
 }
 
 // The place of a state, if there is one, among others, to which it is added if it is new.
-fn add(state: Option<BitList>, states: &mut IndexSet<BitList>) -> Result<Option<u32>, AllocError>
-    requires { length states.old.keys < 2 ^ 32 }
-    ensures few { OnOk result (length states.new.keys ≤ length states.old.keys + 1) }
-    ensures states { OnOk result (states.new.keys ≡ joined states.old.keys state) }
-    ensures place { IfOk result (λ place. place ≡ lead states.old.keys state) }
+fn add(state: Option<BitList>, states: &mut States) -> Result<Option<u32>, AllocError>
+    requires few { length states.old.lists < 2 ^ 32 }
+    requires size { IfSome state (λ s. length s ≡ states.old.size) }
+    ensures few { OnOk result (length states.new.lists ≤ length states.old.lists + 1) }
+    ensures size { OnOk result (states.new.size ≡ states.old.size) }
+    ensures states { OnOk result (states.new.lists ≡ joined states.old.lists state) }
+    ensures place { IfOk result (λ place. place ≡ lead states.old.lists state) }
 {
     match state {
-        Some(state) => Ok(Some(put(state, states)?)),
+        Some(state) => Ok(Some(states.add(state)?)),
         None => Ok(None),
     }
 }
 
 impl Leads {
-    /// Whether a state leads on.
-    pub(crate) fn has_way(&self) -> bool
-        ensures { result ≡ any_leads self.now.leads.items }
-    {
-        self.leads
-            .as_slice()
-            .iter()
-            .any(|lead| lead.zero.is_some() || lead.one.is_some())
-    }
-
     /// The forks of the place.
+    #[tactic(auto, using(std::proofs::lemmas::List::take_all))]
     pub(crate) fn forks(&self, alloc: Global) -> Result<Forks, AllocError>
         requires { (n : ℕ) → length (row_in self.now n) ≡ self.now.trees }
         ensures { IfOk result (λ forks. forks ≡ forks_of self.now) }
@@ -360,10 +358,10 @@ pub(crate) fn next_spot(alloc: Global, pending: &mut Vec<Spot>) -> Result<Spot, 
 fn begin(alloc: Global) -> Result<Spot, AllocError>
     ensures { IfOk result (λ spot. stand_of spot ≡ first_stand) }
 {
-    let mut states = IndexSet::new(alloc);
-    states.insert(BitList::new(alloc, 0)?)?;
+    let mut states = States::new(alloc, 0, 1)?;
+    states.add(BitList::new(alloc, 0)?)?;
     Ok(Spot {
-        opened: Vec::new(alloc),
+        active: Vec::new(alloc),
         states,
     })
 }

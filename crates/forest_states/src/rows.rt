@@ -1,9 +1,10 @@
 ghost use Rattle.std.specs.Prelude.{◌≡◌, ◌<◌, ◌≤◌, ◌+◌, ◌++◌, ◌==◌, Bool, List, true, not, length, drop, replicate};
 ghost use Rattle.state_rules.specs.Bits.{bit_in, row_number};
 ghost use Rattle.forest_states.specs.inner.BitLists.{copied};
-ghost use Rattle.forest_states.specs.inner.Tables.{in_both, in_one};
+ghost use Rattle.forest_states.specs.inner.TransitionTables.{in_both, in_one};
 
 /// Writes bits after so many others of a word.
+#[tactic(auto, using(crate::proofs::Rules::row_steps))]
 pub(crate) fn with_bits(word: u64, len: usize, row: u64) -> u64
     requires { len < 64 }
     ensures { (bits more : List Bool) → length bits ≡ len → len + length more ≤ 64 → word ≡ row_number bits → row ≡ row_number more
@@ -13,6 +14,7 @@ pub(crate) fn with_bits(word: u64, len: usize, row: u64) -> u64
 }
 
 /// So many bits of a word, from the first on.
+#[tactic(auto, using(crate::proofs::Rules::row_steps))]
 pub(crate) fn first_bits(word: u64, count: usize) -> u64
     requires { count < 64 }
     ensures { (bits : List Bool) → word ≡ row_number bits → result ≡ row_number (copied count bits) }
@@ -21,6 +23,7 @@ pub(crate) fn first_bits(word: u64, count: usize) -> u64
 }
 
 /// The bits of a word after so many.
+#[tactic(auto, using(crate::proofs::Rules::row_steps))]
 pub(crate) fn later_bits(word: u64, count: usize) -> u64
     requires { count < 64 }
     ensures { (bits : List Bool) → word ≡ row_number bits → result ≡ row_number (drop count bits) }
@@ -29,6 +32,7 @@ pub(crate) fn later_bits(word: u64, count: usize) -> u64
 }
 
 /// So many bits that are 1.
+#[tactic(auto, using(crate::proofs::Rules::row_steps))]
 pub(crate) fn ones(count: usize) -> u64
     requires { count < 64 }
     ensures { result ≡ row_number (replicate count true) }
@@ -37,6 +41,7 @@ pub(crate) fn ones(count: usize) -> u64
 }
 
 /// The bits of a word that are not in another one.
+#[tactic(auto, using(crate::proofs::Rules::row_steps))]
 pub(crate) fn without(word: u64, other: u64) -> u64
     ensures { (bits others : List Bool) → word ≡ row_number bits → other ≡ row_number others → result ≡ row_number (in_one bits others) }
 {
@@ -44,6 +49,7 @@ pub(crate) fn without(word: u64, other: u64) -> u64
 }
 
 /// Whether two words have a bit in common.
+#[tactic(auto, using(crate::proofs::Rules::row_steps))]
 pub(crate) fn meets(word: u64, other: u64) -> bool
     ensures { (bits others : List Bool) → word ≡ row_number bits → other ≡ row_number others → result ≡ not (row_number (in_both bits others) == 0) }
 {

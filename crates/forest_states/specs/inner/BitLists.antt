@@ -1,9 +1,8 @@
 -- Bits in words of 64.
-use Rattle.std.specs.Prelude.{◌≡◌, ℕ, zero, suc, ◌+◌, ◌/◌, ◌%◌, ◌^◌, ◌==◌, ◌&&◌, Bool, true, false, List, [], ◌∷◌, map, slice_index, bit_and, refl}
-use Rattle.std.proofs.Common.{ap, sym}
-use Rattle.std.specs.Cmp.{IsEquivalence}
+use Rattle.std.specs.Prelude.{◌≡◌, ℕ, zero, suc, ◌+◌, ◌/◌, ◌%◌, ◌^◌, ◌==◌, Bool, true, false, List, [], ◌∷◌, map, slice_index, bit_and}
+use Rattle.std.proofs.Common.{sym}
 use Rattle.std.specs.List.{range_with_len}
-use Rattle.state_rules.proofs.Bits.{same_bit-swap, pointwise-refl, pointwise-equal}
+use Rattle.state_rules.proofs.Bits.{pointwise-equal}
 use Rattle.elimination_forests.specs.Branches.{words_of, same_list}
 
 -- the bit at a place
@@ -37,18 +36,5 @@ copied (suc n) bits = first_bit bits ∷ copied n (other_bits bits)
 abbrev pub is_same : List Bool → List Bool → Bool
 is_same list other = same_list other list
 
-same-swap : (list other : List Bool) → same_list list other ≡ same_list other list
-same-swap [] [] = refl
-same-swap [] (b ∷ other) = refl
-same-swap (a ∷ list) [] = refl
-same-swap (a ∷ list) (b ∷ other) = λ i. same_bit-swap a b i && same-swap list other i
-
 pub same-equal : (list other : List Bool) → is_same list other ≡ true → list ≡ other
 same-equal list other e = sym (pointwise-equal other list e)
-
-pub same-laws : IsEquivalence is_same
-same-laws = record {
-  refl = pointwise-refl;
-  symm = λ x y. same-swap y x;
-  congr = λ x y z e. ap (same_list z) (same-equal x y e);
-}

@@ -3,10 +3,10 @@ use Rattle.std.specs.List.{filter}
 use Rattle.std.proofs.lemmas.Bool.{and_left, and_right}
 use Rattle.std.proofs.lemmas.List.{length-take}
 use Rattle.state_rules.proofs.Lists.{length-filter-le}
-use Rattle.elimination_forests.specs.Branches.{order, is_open, is_covered, bits_of, words_of, branch}
+use Rattle.elimination_forests.specs.Branches.{order, is_active, is_covered, bits_of, words_of, branch}
 use Rattle.branch_states.proofs.OneStep.{filter-room, count-more, left-at, IsLeft, stepped-none, stepped-dead, stepped-on, stepped-off, stepped-all}
 use Rattle.branch_states.proofs.stepping.step_over.Goals as goal
-use Rattle.branch_states.proofs.stepping.step_over.Goals.{After-is_left-left, After-from-read, then-is_open, else-is_open+else-left, else-left-via-then-left+else-is_covered, else-left-via-else-left}
+use Rattle.branch_states.proofs.stepping.step_over.Goals.{After-is_left-left, After-from-read, then-is_active, else-is_active+else-left, else-left-via-then-left+else-is_covered, else-left-via-else-left}
 
 left-is : (c : After-is_left-left) → IsLeft c.args.cnf.now.clauses c.args.level c.args.bit c.args.state.now c.loop-at.at c.is_left-left.result
 left-is c =
@@ -14,11 +14,11 @@ left-is c =
     (omega arith) c.requires.order c.clause-clause.ensures c.requires.variable c.requires.state c.loop-at.invariant.reads c.is_in-was_in.ensures c.is_left-left.ensures
 
 -- what is read
-reads : (c : After-from-read) → c.loop-at.read + c.from-read.result ≡ length (filter (is_open (order c.args.cnf.now.clauses) c.args.level) (take (c.loop-at.at + 1) c.args.cnf.now.clauses))
+reads : (c : After-from-read) → c.loop-at.read + c.from-read.result ≡ length (filter (is_active (order c.args.cnf.now.clauses) c.args.level) (take (c.loop-at.at + 1) c.args.cnf.now.clauses))
 reads c =
     let cs = c.args.cnf.now.clauses in
-    count-more (is_open (order cs) c.args.level) cs c.loop-at.at c.loop-at.read c.from-read.result c.is_open.result (omega arith) c.loop-at.invariant.reads c.from-read.ensures
-    (c.is_open.ensures ∙ (λ j. is_open (c.requires.order j) c.args.level (c.clause-clause.ensures j)))
+    count-more (is_active (order cs) c.args.level) cs c.loop-at.at c.loop-at.read c.from-read.result c.is_active.result (omega arith) c.loop-at.invariant.reads c.from-read.ensures
+    (c.is_active.ensures ∙ (λ j. is_active (c.requires.order j) c.args.level (c.clause-clause.ensures j)))
 
 pub loop-at-init : goal.loop-at-init
 loop-at-init c = stepped-none c.args.cnf.now.clauses c.args.level c.args.bit c.args.state.now c.clear.new.words (c.clear.ensures ∙ ap (λ n. words_of n []) (omega arith))
@@ -32,14 +32,14 @@ is_in-was_in-requires c e =
       arith,
       c.loop-at.invariant.reads,
       c.requires.state,
-      filter-room (is_open (order cs) c.args.level) cs c.loop-at.at (omega arith)
-          (sym ((λ j. is_open (c.requires.order j) c.args.level (c.clause-clause.ensures j))) ∙ e),
+      filter-room (is_active (order cs) c.args.level) cs c.loop-at.at (omega arith)
+          (sym ((λ j. is_active (c.requires.order j) c.args.level (c.clause-clause.ensures j))) ∙ e),
     )
 
 pub overflow_add-read : goal.overflow_add-read
 overflow_add-read c =
     let cs = c.args.cnf.now.clauses in
-    omega (arith, reads (goal.at.overflow_add-read c).After-from-read, length-filter-le (is_open (order cs) c.args.level) (take (c.loop-at.at + 1) cs), length-take (c.loop-at.at + 1) cs, c.requires.most)
+    omega (arith, reads (goal.at.overflow_add-read c).After-from-read, length-filter-le (is_active (order cs) c.args.level) (take (c.loop-at.at + 1) cs), length-take (c.loop-at.at + 1) cs, c.requires.most)
 
 pub put_bit-requires : goal.put_bit-requires
 put_bit-requires c =
@@ -50,14 +50,14 @@ put_bit-requires c =
       c.requires.next,
       c.loop-at.auto.next,
       c.clear.auto.words,
-      filter-room (is_open (order cs) (c.args.level + 1)) cs c.loop-at.at (omega arith)
-          (sym ((λ j. is_open (c.requires.order j) (c.args.level + 1) (c.clause-clause.ensures j))) ∙ sym c.is_open-in-loop-at.ensures ∙ c.if-is_open.true),
+      filter-room (is_active (order cs) (c.args.level + 1)) cs c.loop-at.at (omega arith)
+          (sym ((λ j. is_active (c.requires.order j) (c.args.level + 1) (c.clause-clause.ensures j))) ∙ sym c.is_active-in-loop-at.ensures ∙ c.if-is_active.true),
     )
 
 pub overflow_add-written : goal.overflow_add-written
 overflow_add-written c =
     let cs = c.args.cnf.now.clauses in
-    omega (arith, c.loop-at.invariant.writes, length-filter-le (is_open (order cs) (c.args.level + 1)) (take c.loop-at.at cs), length-take c.loop-at.at cs, c.requires.most)
+    omega (arith, c.loop-at.invariant.writes, length-filter-le (is_active (order cs) (c.args.level + 1)) (take c.loop-at.at cs), length-take c.loop-at.at cs, c.requires.most)
 
 -- ---- what comes of it
 
@@ -69,16 +69,16 @@ loop-at-preserved c =
     let left = c.is_left-left.result in
     let low : k < length cs = omega arith in
     let at = goal.at.loop-at-preserved c in
-    let goes_on = c.is_open-in-loop-at.ensures ∙ (λ j. is_open (c.requires.order j) (i + 1) (c.clause-clause.ensures j)) in
-    elim c.if-is_open.branch [
-      | then-is_open w ↦
+    let goes_on = c.is_active-in-loop-at.ensures ∙ (λ j. is_active (c.requires.order j) (i + 1) (c.clause-clause.ensures j)) in
+    elim c.if-is_active.branch [
+      | then-is_active w ↦
           rw (w.next-is, w.written-is)
           (stepped-on cs i c.args.bit c.args.state.now c.loop-at.next k c.loop-at.read c.loop-at.written (c.loop-at.read + c.from-read.result) left low (left-is at.After-is_left-left) c.loop-at.invariant (reads at.After-from-read)
-          w.put_bit.new.words (sym goes_on ∙ w.if-is_open.true) w.put_bit.auto.words w.put_bit.ensures)
-      | else-is_open+else-left w ↦
+          w.put_bit.new.words (sym goes_on ∙ w.if-is_active.true) w.put_bit.auto.words w.put_bit.ensures)
+      | else-is_active+else-left w ↦
           rw (w.next-is, w.written-is)
           (stepped-off cs i c.args.bit c.args.state.now c.loop-at.next k c.loop-at.read c.loop-at.written (c.loop-at.read + c.from-read.result) left low (left-is at.After-is_left-left) c.loop-at.invariant (reads at.After-from-read)
-          (sym goes_on ∙ w.if-is_open.false) (elim w.else-left.branch [
+          (sym goes_on ∙ w.if-is_active.false) (elim w.else-left.branch [
             | else-left-via-then-left+else-is_covered u ↦
                 and_right left (is_covered (order cs) (i + 1) (get_or cs k []))
                 (sym (u.is_covered.ensures ∙ (λ j. is_covered (c.requires.order j) (i + 1) (c.clause-clause.ensures j))) ∙ u.if-is_covered.false)
@@ -103,4 +103,4 @@ pub returns-clause-next : goal.returns-clause-next
 returns-clause-next c list lives s =
     let cs = c.args.cnf.now.clauses in
     (stepped-all cs c.args.level c.args.bit c.args.state.now c.loop-at.next c.loop-at.at c.loop-at.read c.loop-at.written (omega arith) c.loop-at.invariant list lives s).1
-    ∙ ap (λ n. words_of n (bits_of (is_open (order cs) (c.args.level + 1)) cs (branch cs c.args.level list c.args.bit))) (c.loop-at.auto.next ∙ c.clear.auto.words ∙ c.requires.next)
+    ∙ ap (λ n. words_of n (bits_of (is_active (order cs) (c.args.level + 1)) cs (branch cs c.args.level list c.args.bit))) (c.loop-at.auto.next ∙ c.clear.auto.words ∙ c.requires.next)

@@ -1,6 +1,6 @@
 use Rattle.std.proofs.Common.{◌≡◌, ◌<◌, ◌++◌, ℕ, [], ◌∷◌, map, length, take, get_or}
 use Rattle.std.specs.Prelude.{if◌then◌else◌}
-use Rattle.forest_states.specs.inner.Walked.{has_var}
+use Rattle.forest_states.specs.inner.Descents.{has_var}
 use Rattle.forest_states.proofs.marks.add_clause.Given as goal
 
 abbrev pub invariant-loop-literal : goal.invariant-loop-literal

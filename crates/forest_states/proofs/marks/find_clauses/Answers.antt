@@ -1,16 +1,8 @@
-use Rattle.std.proofs.Common.{◌++◌, [], ◌∷◌, get_or, ap, ◌∙◌, arith}
+use Rattle.std.proofs.Common.{◌++◌, [], ◌∷◌, ◌∙◌, arith}
 use Rattle.std.specs.Prelude.{if◌then◌else◌}
-use Rattle.state_rules.proofs.Lists.{list_all-at}
-use Rattle.clause_encoder.specs.Clauses.{is_clause, vars_rise}
-use Rattle.elimination_forests.proofs.MetOrder.{clauses-valid}
-use Rattle.forest_states.specs.inner.Walked.{has_var, clause_at}
-use Rattle.forest_states.proofs.ClausesByVariable.{rises, numbers-more}
+use Rattle.forest_states.specs.inner.Descents.{has_var, clause_at}
+use Rattle.forest_states.proofs.ClausesByVariable.{numbers-more}
 use Rattle.forest_states.proofs.marks.find_clauses.Goals as goal
-
-pub add_clause-requires : goal.add_clause-requires
-add_clause-requires c =
-    ap (vars_rise 0) c.clause.ensures
-    ∙ rises c.args.cnf.now.vars (get_or c.args.cnf.now.clauses c.loop-number.number []) (list_all-at (is_clause c.args.cnf.now.vars) c.args.cnf.now.clauses c.loop-number.number [] (clauses-valid c.args.cnf.now c.vars.ensures.valid).2 (omega arith))
 
 pub loop-number-preserved : goal.loop-number-preserved
 loop-number-preserved c =

@@ -1,6 +1,6 @@
 use Rattle.std.proofs.Common.{◌≡◌, ◌≤◌, ◌+◌, ℕ, [], map, length, replicate, get_or}
 use Rattle.std.specs.List.{filter, range_with_len}
-use Rattle.forest_states.specs.inner.Walked.{has_var, clause_at}
+use Rattle.forest_states.specs.inner.Descents.{has_var, clause_at}
 use Rattle.forest_states.proofs.marks.find_clauses.Given as goal
 
 abbrev pub invariant-loop-var : goal.invariant-loop-var

@@ -1,5 +1,5 @@
 use Rattle.std.proofs.Common.{◌≡◌, ◌≤◌, ◌+◌, ◌*◌, drop, length}
-use Rattle.forest_states.specs.inner.Walked.{numbered}
+use Rattle.forest_states.specs.inner.Descents.{numbered}
 use Rattle.forest_states.proofs.marks.write_trees.Given as goal
 
 abbrev pub invariant-loop-step : goal.invariant-loop-step

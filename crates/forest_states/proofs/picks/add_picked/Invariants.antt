@@ -1,6 +1,6 @@
 use Rattle.std.proofs.Common.{◌≡◌, ◌+◌, ◌≤◌, ◌++◌, drop, length}
-use Rattle.forest_states.specs.inner.Tables.{flags_in}
-use Rattle.forest_states.specs.inner.Walked.{picked}
+use Rattle.forest_states.specs.inner.TransitionTables.{flags_in}
+use Rattle.forest_states.specs.inner.Descents.{picked}
 use Rattle.forest_states.proofs.picks.add_picked.Given as goal
 
 abbrev pub invariant-loop-run : goal.invariant-loop-run

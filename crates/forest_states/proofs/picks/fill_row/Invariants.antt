@@ -1,6 +1,6 @@
 use Rattle.std.proofs.Common.{◌≡◌, ◌+◌, ◌≤◌, ◌++◌, List, Bool, drop, length}
 use Rattle.state_rules.specs.Bits.{row_number}
-use Rattle.forest_states.specs.inner.Tables.{flags_in, filled}
+use Rattle.forest_states.specs.inner.TransitionTables.{flags_in, filled}
 use Rattle.forest_states.proofs.picks.fill_row.Given as goal
 
 abbrev pub invariant-loop-run : goal.invariant-loop-run

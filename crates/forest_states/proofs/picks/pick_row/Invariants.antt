@@ -1,7 +1,7 @@
 use Rattle.std.proofs.Common.{◌≡◌, ◌+◌, ◌≤◌, ◌++◌, List, Bool, drop, length}
 use Rattle.state_rules.specs.Bits.{row_number}
-use Rattle.forest_states.specs.inner.Tables.{flags_in}
-use Rattle.forest_states.specs.inner.Walked.{picked}
+use Rattle.forest_states.specs.inner.TransitionTables.{flags_in}
+use Rattle.forest_states.specs.inner.Descents.{picked}
 use Rattle.forest_states.proofs.picks.pick_row.Given as goal
 
 abbrev pub invariant-loop-run : goal.invariant-loop-run

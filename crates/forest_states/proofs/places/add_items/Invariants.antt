@@ -1,5 +1,5 @@
 use Rattle.std.proofs.Common.{◌≡◌, ◌++◌, take, map}
-use Rattle.forest_states.specs.inner.Walked.{row_at}
+use Rattle.forest_states.specs.inner.Descents.{row_at}
 use Rattle.forest_states.proofs.places.add_items.Given as goal
 
 abbrev pub invariant-loop-column : goal.invariant-loop-column

@@ -2,7 +2,7 @@ use Rattle.std.proofs.Common.{sym, ◌++◌, ◌-◌, [], ◌∷◌, map, revers
 use Rattle.std.proofs.lemmas.List.{map-append, append_assoc, reverse-append}
 use Rattle.std.proofs.lemmas.List.FromFn.{map-range_with_len_more}
 use Rattle.indexmap.proofs.ReorderLemmas.{map-reverse}
-use Rattle.forest_states.specs.inner.Walked.{column_at, stand_part, stand_of}
+use Rattle.forest_states.specs.inner.Descents.{column_at, stand_part, stand_of}
 use Rattle.forest_states.proofs.Numbers.{back-all}
 use Rattle.forest_states.proofs.places.go_apart.Goals as goal
 

@@ -1,6 +1,6 @@
 use Rattle.std.proofs.Common.{◌≡◌, ◌++◌, ◌-◌, map}
 use Rattle.std.specs.List.{range_with_len}
-use Rattle.forest_states.specs.inner.Walked.{column_at, stand_part, stand_of}
+use Rattle.forest_states.specs.inner.Descents.{column_at, stand_part, stand_of}
 use Rattle.forest_states.proofs.places.go_apart.Given as goal
 
 abbrev pub invariant-loop-behind : goal.invariant-loop-behind

@@ -1,24 +1,8 @@
-use Rattle.std.proofs.Common.{◌+◌, ◌++◌, drop, length, ap, sym, ◌∙◌, arith}
-use Rattle.std.proofs.lemmas.List.{length-append, append_assoc, append-nil, drop-drop}
+use Rattle.std.proofs.Common.{◌+◌, ◌++◌, drop, ap, sym, ◌∙◌, arith}
+use Rattle.std.proofs.lemmas.List.{append_assoc, drop-drop}
 use Rattle.forest_states.specs.inner.BitLists.{copied}
 use Rattle.forest_states.proofs.Words.{length-copied, copied-add}
 use Rattle.forest_states.proofs.bit_list.BitList.append.Goals as goal
-
-pub pieces-init : goal.pieces-init
-pieces-init c = record { low = omega arith; bits = sym (append-nil c.args.self.now) }
-
-pub put-requires-clause-few : goal.put-requires-clause-few
-put-requires-clause-few c =
-    let done = c.pieces.done in
-    omega (arith, c.requires.few, c.pieces.invariant.low, ap length c.pieces.invariant.bits, length-append c.args.self.now (copied done (drop c.args.at c.args.from.now)), length-copied done (drop c.args.at c.args.from.now))
-
-pub put-requires-clause-within : goal.put-requires-clause-within
-put-requires-clause-within c = omega (arith, c.piece-many.ensures.len, c.len.ensures)
-
-pub put-requires-clause-row : goal.put-requires-clause-row
-put-requires-clause-row c =
-    let n = c.piece-many.result in
-    (copied n (drop (c.args.at + c.pieces.done) c.args.from.now), (length-copied n (drop (c.args.at + c.pieces.done) c.args.from.now), c.read.ensures))
 
 pub pieces-preserved : goal.pieces-preserved
 pieces-preserved c =

@@ -25,9 +25,6 @@ put_row-requires c =
     let d = (goal.at.put_row-requires c).Joined-self-count-eq64 in
     omega (arith, same d, pushed-room c.self.inside.len c.args.count c.self.inside.words.items c.if-self-count-eq64.self-inside.words.items c.as_mut_slice.result.now (room d) c.as_mut_slice.ensures.value)
 
-pub overflow_add-self : goal.overflow_add-self
-overflow_add-self c = omega (arith, same (goal.at.overflow_add-self c).Joined-self-count-eq64, ap length c.self.view_is, length-bits c.self.inside.len c.self.inside.words.items, c.requires.few, c.requires.within)
-
 pub invariant_of-self-2 : goal.invariant_of-self-2
 invariant_of-self-2 c =
     let d = (goal.at.invariant_of-self-2 c).Joined-self-count-eq64 in

@@ -1,5 +1,5 @@
 use Rattle.std.proofs.Common.{◌≡◌, map, take}
-use Rattle.forest_states.specs.inner.Walked.{ways_found, row_in}
+use Rattle.forest_states.specs.inner.Descents.{ways_found, row_in}
 use Rattle.forest_states.proofs.places.Leads.forks.Given as goal
 
 abbrev pub invariant-loop-lead : goal.invariant-loop-lead

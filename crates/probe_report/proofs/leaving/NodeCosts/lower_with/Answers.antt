@@ -8,7 +8,7 @@ use Rattle.probe_report.proofs.leaving.NodeCosts.lower_with.Goals.{in-Literal+th
 pub lower_wire-requires : goal.lower_wire-requires
 lower_wire-requires c =
     let below : c.loop-at.at < length c.args.self.now.graph.now.nodes = omega (arith, c.len-at-end.ensures.len, c.loop-at-test.true) in
-    (literal_at _ _ _ _ _ c.args.self.now.valid (the_node _ _ _ _ below c.in-Literal.ensures.what refl)).0
+    (literal_at _ _ _ _ _ c.in-Literal.ensures.valid (the_node _ _ _ _ below c.in-Literal.ensures.what refl)).0
 
 pub loop-at-preserved : goal.loop-at-preserved
 loop-at-preserved c i h =

@@ -15,7 +15,6 @@ fn note(evidence: &mut [u32], device: &Device, name: &[u8], bit: bool)
 {
     if let Some(wire) = device.find_wire(name) {
         let parts = device.parts().len() as u32;
-        let _wires = device.wires();
         fix(evidence, parts + wire + 1, bit);
     }
 }

@@ -95,7 +95,8 @@ impl Cnf {
 
     /// The number of clauses.
     pub fn len(&self) -> u32
-        ensures { result ≡ length self.now.clauses }
+        ensures len { result ≡ length self.now.clauses }
+        ensures valid { is_clause_list self.now ≡ true }
     {
         self.clauses.len() as u32
     }

@@ -37,6 +37,7 @@ impl From<AllocError> for EncodeError {
 pub fn encode(alloc: Global, device: &Device) -> Result<Cnf, EncodeError>
     ensures encoded { Fulfils (λ cnf. cnf) reason (encoded device.now) result }
     ensures describes { IfOk result (λ cnf. Describes cnf device.now) }
+    ensures valid { IsDevice device.now }
 {
     let count = raw_count(device);
     if count > u64::from(CLAUSE_LIMIT) {

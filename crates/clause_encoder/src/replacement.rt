@@ -25,8 +25,6 @@ pub fn replaced(alloc: Global, cnf: &Cnf, variables: &[u32], vars: u32) -> Resul
         → all_hold a new.clauses ≡ all_hold (λ v. a (variable_for variables.now v)) cnf.now.clauses) }
 {
     let mut writer = Writer::new(alloc);
-    // Its contract says that the literals are of variables from 1 on.
-    let _vars = cnf.vars();
     for at in 0..cnf.len() {
         push_replaced(&mut writer, cnf.clause(at), variables)?;
     }

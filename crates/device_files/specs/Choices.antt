@@ -2,7 +2,7 @@
 use Rattle.std.specs.Prelude.{◌≡◌, ℕ, Bool, true, Option, None, Some, Result, Ok, if◌then◌else◌}
 use Rattle.std.specs.Option.{option_map_or}
 use Rattle.std.specs.Result.{result_map_both}
-use Rattle.device_model.specs.Devices.{Device}
+use Rattle.device_model.specs.Devices.{Device, IsDevice}
 use Rattle.clause_encoder.specs.declared.encoding.EncodeError.{EncodeError}
 use Rattle.clause_encoder.specs.Clauses.{ClauseList}
 use Rattle.clause_encoder.specs.Encoding.{encoded, Describes}
@@ -54,3 +54,4 @@ HasSum list (Some found) sum = (is : IsFound list found) × (sum ≡ forest_sum 
 pub record IsListOf (device : Device) (list : ClauseList) : Type 0 where
   pub encoded : encoded device ≡ Ok list
   pub describes : Describes list device
+  pub valid : IsDevice device

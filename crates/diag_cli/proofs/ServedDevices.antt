@@ -40,18 +40,18 @@ module _ (device : Device) (cnf : ClauseList) (is : encoded device ≡ Ok cnf) w
       listed : cnf.vars ≤ most_variables
       listed = encoded-few_vars device cnf valid is
 
-pub all_servable : (device : Device) (list : ClauseList) → IsListOf device list → IsDevice device → (budget sum : ℕ) → budget ≤ BUDGET_LIMIT → (result : Result Graph Refusal)
+pub all_servable : (device : Device) (list : ClauseList) → IsListOf device list → (budget sum : ℕ) → budget ≤ BUDGET_LIMIT → (result : Result Graph Refusal)
     → IfOk result (λ (_ : Graph). sum ≤ budget) → IfOk result (IsGraphBy (record { list = list; sum = sum })) → IfOk result (IsServable device)
-all_servable device list of valid budget sum small (Ok graph) few by = servable device list of.encoded graph sum valid of.describes (omega (arith, few, small)) by
-all_servable device list of valid budget sum small (Err refusal) few by = tt
+all_servable device list of budget sum small (Ok graph) few by = servable device list of.encoded graph sum of.valid of.describes (omega (arith, few, small)) by
+all_servable device list of budget sum small (Err refusal) few by = tt
 
 -- what a call answers that compiles it, if its clauses have this sum
-pub found_or_refused : (device : Device) (list : ClauseList) → IsListOf device list → IsDevice device → (budget sum : ℕ) → budget ≤ BUDGET_LIMIT → (result : Result Graph Refusal)
+pub found_or_refused : (device : Device) (list : ClauseList) → IsListOf device list → (budget sum : ℕ) → budget ≤ BUDGET_LIMIT → (result : Result Graph Refusal)
     → Fulfils (λ (_ : Graph). record { list = list; sum = sum }) refusal_output (within budget (Ok (record { list = list; sum = sum }))) result → IfOk result (λ (_ : Graph). sum ≤ budget)
     → IfOk result (IsGraphBy (record { list = list; sum = sum })) → FulfilsGraph device (within budget (Ok (record { list = list; sum = sum }))) result
-found_or_refused device list of valid budget sum small (Ok graph) is few by =
-    (servable device list of.encoded graph sum valid of.describes (omega (arith, few, small)) by, (record { list = list; sum = sum }, is, by))
-found_or_refused device list of valid budget sum small (Err refusal) is few by = is
+found_or_refused device list of budget sum small (Ok graph) is few by =
+    (servable device list of.encoded graph sum of.valid of.describes (omega (arith, few, small)) by, (record { list = list; sum = sum }, is, by))
+found_or_refused device list of budget sum small (Err refusal) is few by = is
 
 -- ---- the same answers
 

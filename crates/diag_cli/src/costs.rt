@@ -2,7 +2,7 @@
 //! imports.
 ghost use Rattle.std.specs.Prelude.{◌≡◌, ◌*◌, ◌<◌, ◌≤◌, length, All, IfOk};
 ghost use Rattle.std.specs.List.{sum};
-ghost use Rattle.device_model.specs.Devices.{part_costs, part_names};
+ghost use Rattle.device_model.specs.Devices.{IsDevice, part_costs, part_names};
 
 use device_model::{COST_LIMIT, Device, Name, PART_LIMIT};
 use std::alloc::{AllocError, Global};
@@ -13,6 +13,7 @@ pub(crate) fn costs_of(alloc: Global, device: &Device) -> Result<Vec<u32>, Alloc
     ensures many { IfOk result (λ costs. length costs.items ≡ length device.now.parts) }
     ensures dear { IfOk result (λ costs. All (λ c. 0 < c) costs.items) }
     ensures total { IfOk result (λ costs. sum costs.items ≤ COST_LIMIT * PART_LIMIT) }
+    ensures valid { IsDevice device.now }
 {
     let parts = device.parts().len();
     let mut costs = Vec::with_capacity(alloc, parts)?;
@@ -33,6 +34,7 @@ pub(crate) fn names_and_costs(
     ensures many { IfOk result (λ taken. length taken.2.items ≡ length device.parts) }
     ensures dear { IfOk result (λ taken. All (λ c. 0 < c) taken.2.items) }
     ensures total { IfOk result (λ taken. sum taken.2.items ≤ COST_LIMIT * PART_LIMIT) }
+    ensures valid { IsDevice device }
 {
     let costs = costs_of(alloc, &device)?;
     let (parts, wires) = device.take_names(alloc)?;

@@ -31,8 +31,6 @@ fn service_over(
     ensures service { IfOk result (Answers (served_device options device) options.sessions) }
     ensures memory { IfErr result (λ refusal. refusal ≡ Refusal.Memory) }
 {
-    // Its contract says that the names of a device rise, and are few.
-    let _parts = device.parts();
     let (parts, wires, costs) = names_and_costs(alloc, device)?;
     match Service::over(
         alloc,

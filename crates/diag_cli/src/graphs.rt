@@ -29,8 +29,6 @@ pub(crate) fn graph_within(
     requires { budget ≤ BUDGET_LIMIT }
     ensures { ByClauses is_narrow (λ clauses. FulfilsGraph device.now (within budget (clauses device.now)) result) }
 {
-    // Its contract says that a device has few parts and wires.
-    let _parts = device.parts();
     let (cnf, forest) = clauses_along(alloc, device, is_narrow)?;
     compiled_within(alloc, &cnf, &forest, budget)
 }

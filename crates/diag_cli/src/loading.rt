@@ -43,8 +43,6 @@ fn summary_within(alloc: Global, device: Device, places: u32) -> Result<Summary,
     ensures summary { Loads (summary_of places (Ok device)) result }
     ensures in_step { IfOk result IsInStep }
 {
-    // Its contract says that a device has few parts and wires.
-    let _parts = device.parts();
     let cnf = clauses_of(alloc, &device)?;
     let graph = compiled_by_names(alloc, &cnf, DEFAULT_BUDGET)?;
     let clauses = u64::from(cnf.len());

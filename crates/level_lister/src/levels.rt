@@ -61,8 +61,6 @@ impl Levels {
         ensures costs { IfOk result (λ levels. levels.costs ≡ costs.now) }
         ensures top { IfOk result (λ levels. levels.top ≡ top) }
     {
-        // Its contract says that this is a graph.
-        let _vars = graph.vars();
         Ok(Levels {
             costs: costs.to_vec(alloc)?,
             top,

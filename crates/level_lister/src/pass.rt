@@ -152,8 +152,6 @@ pub(crate) fn put_full(graph: &Graph, sets: &[u32], at: u32, set: &mut [u32])
     ensures faulty { (skips evidence costs : List ℕ) (groups : Groups) → slice_index skips at ≡ 0 → SameBelow graph.now (length costs) at
         → AreNodeFaults graph.now skips evidence costs groups (length set.old) sets.now at → IsNodeFaults graph.now skips evidence costs groups at set.new }
 {
-    // Its contract says that this is a graph.
-    let _vars = graph.vars();
     let size = set.len();
     clear(set);
     for child in graph.kids(at) {

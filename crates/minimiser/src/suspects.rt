@@ -32,12 +32,11 @@ pub fn first_suspect(
     ensures { MatchOption result (OkBelow graph.now evidence.now costs.now (length costs.now))
         (λ part. Suspect graph.now evidence.now costs.now part × OkBelow graph.now evidence.now costs.now part) }
 {
-    // Its contract says that this is a graph.
-    let _vars = graph.vars();
+    let nodes = graph.len();
     let parts = costs.len() as u32;
     sweep(graph, values);
     let mut first = parts;
-    for at in 0..graph.len() {
+    for at in 0..nodes {
         if let Some(part) = suspect_at(graph, evidence, parts, values, at) {
             first = first.min(part);
         }
@@ -67,12 +66,11 @@ pub fn find_suspects(
     ensures suspects { (part : ℕ) → part < length costs.now
         → (slice_index state.new part ≡ 1) ↔ Suspect graph.now evidence.now costs.now part }
 {
-    // Its contract says that this is a graph.
-    let _vars = graph.vars();
+    let nodes = graph.len();
     let parts = costs.len() as u32;
     sweep(graph, values);
     state.fill(0);
-    for at in 0..graph.len() {
+    for at in 0..nodes {
         if let Some(part) = suspect_at(graph, evidence, parts, values, at) {
             state[part as usize] = 1;
         }
@@ -130,8 +128,6 @@ fn suspect_at(
     ensures suspect { result ≡ suspect_at graph.now.nodes evidence.now parts values.now at }
     ensures within { IfSome result (λ part. part < parts) }
 {
-    // Its contract says that this is a graph.
-    let _vars = graph.vars();
     if !has_mark(values[at as usize]) {
         return None;
     }

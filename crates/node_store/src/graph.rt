@@ -1,4 +1,4 @@
-ghost use Rattle.std.specs.Prelude.{◌≡◌, ℕ, ◌<◌, ◌++◌, [], ◌∷◌, true, length, IfOk, IfErr, OnOk, OnErr};
+ghost use Rattle.std.specs.Prelude.{◌≡◌, ℕ, ◌<◌, ◌^◌, ◌++◌, [], ◌∷◌, true, length, IfOk, IfErr, OnOk, OnErr};
 ghost use Rattle.state_rules.specs.Graphs.{node_at, mentions, apart_at, node_fits, IsGraph, edges};
 
 use crate::Memory;
@@ -22,13 +22,14 @@ pub struct Graph {
 }
 
 impl Model for Graph {
+    ghost use Rattle.std.specs.Prelude.{◌^◌, ◌<◌};
     ghost use Rattle.state_rules.specs.Graphs.{Graph as Shown, IsGraph};
 
     ghost Value = { Shown };
 
     ghost view = { λ g. record { nodes = g.nodes; vars = g.vars } };
 
-    ghost invariant = { λ g. IsGraph (record { nodes = g.nodes; vars = g.vars }) };
+    ghost invariant = { λ g. IsGraph (record { nodes = g.nodes; vars = g.vars }) × (g.vars < 2 ^ 32) };
 }
 
 impl Graph {
@@ -51,6 +52,7 @@ impl Graph {
     pub fn len(&self) -> u32
         ensures len { result ≡ length self.now.nodes }
         ensures valid { IsGraph self.now }
+        ensures few_vars { self.now.vars < 2 ^ 32 }
     {
         self.nodes.len() as u32
     }
@@ -81,7 +83,8 @@ impl Graph {
     /// What a node is.
     pub fn what(&self, node: u32) -> NodeKind
         requires { node < length self.now.nodes }
-        ensures { result ≡ (node_at self.now.nodes node).what }
+        ensures what { result ≡ (node_at self.now.nodes node).what }
+        ensures valid { IsGraph self.now }
     {
         self.nodes.what(node as usize)
     }
@@ -89,7 +92,8 @@ impl Graph {
     /// The children of a node.
     pub fn kids(&self, node: u32) -> &[u32]
         requires { node < length self.now.nodes }
-        ensures { result.now ≡ (node_at self.now.nodes node).kids }
+        ensures kids { result.now ≡ (node_at self.now.nodes node).kids }
+        ensures valid { IsGraph self.now }
     {
         self.nodes.kids(node as usize)
     }

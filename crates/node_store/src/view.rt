@@ -1,4 +1,4 @@
-ghost use Rattle.std.specs.Prelude.{◌≡◌, ◌<◌, length};
+ghost use Rattle.std.specs.Prelude.{◌≡◌, ◌<◌, ◌^◌, length};
 ghost use Rattle.state_rules.specs.Graphs.{node_at, IsGraph};
 
 use crate::walk::Walk;
@@ -13,13 +13,14 @@ pub struct GraphView<'a> {
 }
 
 impl<'a> Model for GraphView<'a> {
+    ghost use Rattle.std.specs.Prelude.{◌^◌, ◌<◌};
     ghost use Rattle.state_rules.specs.Graphs.{Graph as Shown, IsGraph};
 
     ghost Value = { Shown };
 
     ghost view = { λ g. record { nodes = g.nodes; vars = g.vars } };
 
-    ghost invariant = { λ g. IsGraph (record { nodes = g.nodes; vars = g.vars }) };
+    ghost invariant = { λ g. IsGraph (record { nodes = g.nodes; vars = g.vars }) × (g.vars < 2 ^ 32) };
 }
 
 impl<'a> GraphView<'a> {
@@ -35,6 +36,7 @@ impl<'a> GraphView<'a> {
     pub fn len(&self) -> u32
         ensures len { result ≡ length self.now.nodes }
         ensures valid { IsGraph self.now }
+        ensures few_vars { self.now.vars < 2 ^ 32 }
     {
         self.nodes.len() as u32
     }
@@ -58,7 +60,8 @@ impl<'a> GraphView<'a> {
     /// What a node is.
     pub fn what(&self, node: u32) -> NodeKind
         requires { node < length self.now.nodes }
-        ensures { result ≡ (node_at self.now.nodes node).what }
+        ensures what { result ≡ (node_at self.now.nodes node).what }
+        ensures valid { IsGraph self.now }
     {
         self.nodes.what(node as usize)
     }
@@ -66,7 +69,8 @@ impl<'a> GraphView<'a> {
     /// The children of a node.
     pub fn kids(&self, node: u32) -> &'a [u32]
         requires { node < length self.now.nodes }
-        ensures { result.now ≡ (node_at self.now.nodes node).kids }
+        ensures kids { result.now ≡ (node_at self.now.nodes node).kids }
+        ensures valid { IsGraph self.now }
     {
         self.nodes.kids(node as usize)
     }

@@ -1,7 +1,7 @@
 //! For each node of a graph the parts below it.
 ghost use Rattle.std.specs.Prelude.{◌≡◌, ℕ, ◌+◌, ◌*◌, ◌<◌, ◌≤◌, ◌==◌, length, true, IfOk, slice_index};
 ghost use Rattle.std.specs.List.{list_any};
-ghost use Rattle.state_rules.specs.Graphs.{mentions};
+ghost use Rattle.state_rules.specs.Graphs.{mentions, IsGraph};
 ghost use Rattle.part_sets.specs.Numbers.{has_number, part_words, set_at};
 ghost use Rattle.part_sets.specs.PartSets.{ArePartsOf, ArePartsBelow, AreBelow};
 
@@ -15,7 +15,8 @@ use std::alloc::Global;
 // The sets of the parts below the nodes of a graph, and after them the set of all parts.
 pub(crate) fn parts_below(alloc: Global, graph: &Graph, parts: usize) -> Result<Vec<u32>, Memory>
     requires { parts ≤ PART_LIMIT }
-    ensures { IfOk result (λ below. AreBelow graph.now parts below.items) }
+    ensures sets { IfOk result (λ below. AreBelow graph.now parts below.items) }
+    ensures valid { IsGraph graph.now }
 {
     let size = part_words(parts);
     let mut below = vec![in alloc; 0; (graph.len() as usize + 1) * size]?;
@@ -58,8 +59,6 @@ fn put_node(graph: &Graph, parts: usize, earlier: &[u32], at: u32, set: &mut [u3
     requires earlier { ArePartsBelow graph.now parts earlier.now at }
     ensures { ArePartsOf parts (λ v. mentions graph.now.nodes v at) set.new }
 {
-    // Its contract says that this is a graph.
-    let _vars = graph.vars();
     let kids = graph.kids(at);
     match graph.what(at) {
         NodeKind::Literal { var, .. } => put_variable(var, parts, set),

@@ -1,5 +1,6 @@
 //! What is kept of a graph.
 ghost use Rattle.std.specs.Prelude.{◌≡◌, ◌≤◌, IfOk};
+ghost use Rattle.state_rules.specs.Graphs.{IsGraph};
 ghost use Rattle.part_sets.specs.PartSets.{AreFor};
 
 use crate::Memory;
@@ -36,6 +37,7 @@ impl PartSets {
     pub fn new(alloc: Global, graph: &Graph, parts: usize) -> Result<PartSets, Memory>
         requires few { parts ≤ PART_LIMIT }
         ensures for_graph { IfOk result (λ sets. AreFor graph.now parts sets) }
+        ensures valid { IsGraph graph.now }
     {
         let below = parts_below(alloc, graph, parts)?;
         let lacking = nodes_lacking(alloc, graph, &below, parts)?;

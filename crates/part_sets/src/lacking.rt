@@ -71,8 +71,6 @@ fn one_lacks(graph: &Graph, below: &[u32], parts: usize, at: u32) -> bool
     requires what { (node_at graph.now.nodes at).what ≡ Or }
     ensures { (result ≡ false) ↔ SameBelow graph.now parts at }
 {
-    // Its contract says that this is a graph.
-    let _vars = graph.vars();
     for child in graph.kids(at) {
         if lacks(below, parts, at as usize, *child as usize) {
             return true;

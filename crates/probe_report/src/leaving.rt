@@ -1,6 +1,4 @@
 ghost use Rattle.std.specs.Prelude.{◌≡◌, ℕ, ◌+◌, ◌-◌, ◌*◌, ◌/◌, ◌^◌, ◌<◌, ◌≤◌, ◌≢◌, length, All, false, slice_index};
-ghost use Rattle.std.proofs.Props.{props};
-ghost use Rattle.state_rules.specs.Graphs.{IsGraph};
 ghost use Rattle.minimiser.specs.inner.Outside.{lowered};
 ghost use Rattle.probe_report.specs.inner.Outside.{is_left, mark_at, IsLowered, Without};
 ghost use Rattle.probe_report.specs.inner.Leaving.{LeftChild, LeftNode, LowersBlock};
@@ -18,8 +16,6 @@ pub(crate) struct NodeCosts<'a> {
     pub(crate) graph: &'a Graph,
     pub(crate) values: &'a [u32],
     pub(crate) outside: &'a [u32],
-    ghost valid: { IsGraph graph.now } by { Prim.hlevel props },
-    ghost few: { graph.now.vars < 2 ^ 32 },
     ghost value_each: { length values.now ≡ length graph.now.nodes },
     ghost outside_each: { length outside.now ≡ length graph.now.nodes },
 }

@@ -36,8 +36,6 @@ pub(crate) fn mark_of(graph: &Graph, marks: &[u32], at: u32, first: u32) -> u64
     ensures { (b : ℕ) → b < WIDTH → has_bit result b ≡ mention_by (first + b) (node_at graph.now.nodes at).what
         (map (λ k. has_bit (mark_at marks.now k) b) (node_at graph.now.nodes at).kids) }
 {
-    // Its contract says that this is a graph.
-    let _vars = graph.vars();
     match graph.what(at) {
         NodeKind::Literal { var, .. } => literal_mark(var, first),
         NodeKind::And | NodeKind::Or => joined(marks, graph.kids(at)),

@@ -108,8 +108,7 @@ fn probe_wires<L: Ledger>(
         → cost_in (slice_index ones.new wire) ≡ least_with graph.now evidence.now costs.now (length costs.now + wire + 1) true }
     ensures steps { steps.new ≤ steps.old + 4 + (length zeros.old + 63) / 64 }
 {
-    // Its contract says that this is a graph.
-    let _vars = graph.vars();
+    let root = graph.len() as usize - 1;
     zeros.fill(u32::MAX);
     ones.fill(u32::MAX);
     let fewest = least(graph, evidence, costs, values, steps)?;
@@ -127,7 +126,7 @@ fn probe_wires<L: Ledger>(
     steps.tick();
     nodes.lower_with(parts, true, ones);
     steps.tick();
-    let held = fewest - values[graph.len() as usize - 1];
+    let held = fewest - values[root];
     settle(evidence, parts, fewest, held, false, zeros);
     settle(evidence, parts, fewest, held, true, ones);
     Some(fewest)

@@ -1,6 +1,7 @@
 ghost use Rattle.std.specs.Prelude.{◌≡◌, ◌+◌, ◌*◌, ◌≤◌, ◌<◌, [], length, true, All, IfOk, IfSome, IsNone, Some, None, is_some, slice_index_or};
 ghost use Rattle.std.specs.Option.{option_map};
 ghost use Rattle.text_rules.specs.Names.{names_rise};
+ghost use Rattle.state_rules.specs.Graphs.{IsGraph};
 ghost use Rattle.device_model.specs.Devices.{place_of};
 ghost use Rattle.device_model.specs.declared.limits.TheConstants.{PART_LIMIT, WIRE_LIMIT};
 ghost use Rattle.conditioner.specs.Models.{total_cost};
@@ -84,6 +85,7 @@ impl Basis {
         requires costs { length costs.items ≡ length parts.items }
         requires dear { All (λ c. 0 < c) costs.items }
         requires total { total_cost costs.items < TOTAL_LIMIT }
+        requires valid { IsGraph graph }
         requires vars { length parts.items + length wires.items ≤ graph.vars }
         requires few_vars { graph.vars ≤ SERVED_VARIABLES }
         requires few_nodes { length graph.nodes < SERVED_NODES }
@@ -92,8 +94,6 @@ impl Basis {
         ensures { IfOk result (λ basis. basis
             ≡ record { parts = parts.items; wires = wires.items; costs = costs.items; graph = graph; extras = extras }) }
     {
-        // a graph is one whose children are before it and share no variable below an and
-        let _nodes = graph.len();
         let levels = levels_of(alloc, &graph, &costs, extras.levels)?;
         let sets = sets_of(alloc, &graph, costs.len(), extras)?;
         Ok(Basis {
@@ -148,7 +148,8 @@ impl Basis {
 
     /// The place of a wire, or of a part. There is none exactly if none has the name.
     pub(crate) fn find(&self, what: Noted, name: &[u8]) -> Option<u32>
-        ensures { result ≡ place_of name.now (names_of self.now what) }
+        ensures place { result ≡ place_of name.now (names_of self.now what) }
+        ensures basis { IsBasis self.now }
     {
         match what {
             Noted::Wire => place_of(&self.wires, name),

@@ -352,8 +352,6 @@ fn mark_named(basis: &Basis, names: &[u8], state: &mut [u32]) -> bool
     ensures state { result ≡ true → bits_of state.new ≡ state_of (words names.now) basis.now.parts }
     ensures bits { All (λ s. s < 2) state.new }
 {
-    // the names of parts rise, so that no two parts have one name
-    let _parts = basis.parts();
     state.fill(0);
     for name in each_name(names) {
         match basis.find(Noted::Part, name) {

@@ -8,6 +8,7 @@ ghost use Rattle.session_core.specs.Services.{moves_of, ChangesTable, CanList, C
 
 use crate::Memory;
 use crate::basis::Basis;
+use crate::desk::Desk;
 use crate::limits::{SERVED_NODES, SERVED_VARIABLES, SESSION_LIMIT};
 use crate::line_buffer::LineBuffer;
 use crate::sessions::Sessions;
@@ -15,6 +16,7 @@ use device_model::{Name, PART_LIMIT, WIRE_LIMIT};
 use diag_edge::{Sink, WriteFailed};
 use minimiser::TOTAL_LIMIT;
 use node_store::Graph;
+use session_table::OpenSessions;
 use state_rules::Extras;
 use std::alloc::Global;
 use std::marker::Model;
@@ -69,8 +71,13 @@ impl Service {
             }) }
     {
         let gathered = LineBuffer::new(alloc)?;
+        let part_count = parts.len() as u32;
+        let wire_count = wires.len() as u32;
+        let vars = graph.vars();
         let basis = Basis::of(alloc, parts, wires, costs, graph, extras)?;
-        let sessions = Sessions::new(alloc, basis, sessions)?;
+        let desk = Desk::new(alloc, basis)?;
+        let open = OpenSessions::new(alloc, part_count, wire_count, vars, sessions)?;
+        let sessions = Sessions { desk, open };
         Ok(Service { sessions, gathered })
     }
 
@@ -80,7 +87,8 @@ impl Service {
             sessions,
             gathered: _,
         } = self;
-        sessions.finish();
+        let Sessions { desk: _, open } = sessions;
+        open.finish();
     }
 
     /// The number of parts. The contract says too what holds of every service.
@@ -88,14 +96,14 @@ impl Service {
         ensures parts { result ≡ length self.now.subject.parts }
         ensures sound { IsSound self.now }
     {
-        self.sessions.parts()
+        self.sessions.open.parts() as usize
     }
 
     /// The number of wires.
     pub fn wires(&self) -> usize
         ensures { result ≡ length self.now.subject.wires }
     {
-        self.sessions.wires()
+        self.sessions.desk.basis().wires().len()
     }
 
     /// Carries out one line, without its line feed, and writes its replies. `Err` means that a

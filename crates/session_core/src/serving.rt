@@ -99,56 +99,6 @@ fn finish<O: Sink>(
     sessions.line(gathered.as_slice(), out)
 }
 
-// Answers a script from the beginning of a line on.
-fn serve_from<I: Source, O: Sink>(
-    sessions: &mut Sessions,
-    gathered: &mut LineBuffer,
-    input: &mut I,
-    out: &mut O,
-    limit: u64,
-) -> ServeEnd
-    requires begun { gathered.old ≡ [] }
-    requires limit { limit ≤ 2 ^ 40 }
-    requires taken { I.taken input.old < 2 ^ 62 }
-    requires reads { I.faults input.old < 2 ^ 64 - 1 }
-    requires writes { O.faults out.old < 2 ^ 64 - 1 }
-
-    ensures write_fault { RoseExactly (O.faults out.old) (O.faults out.new)
-        (result ≡ ServeEnd.WriteFault) }
-    ensures read_fault { RoseExactly (I.faults input.old) (I.faults input.new)
-        (result ≡ ServeEnd.ReadFault) }
-
-    // The bytes that were taken, and what was done with them.
-    ensures served { (bytes : List ℕ) × (I.taken input.new ≡ I.taken input.old + length bytes)
-        × Consumes (I.left input.old) (I.left input.new) bytes
-        × Served result (moves_of sessions.old)
-        sessions.old.table sessions.new.table bytes limit (IsAtEnd (I.left input.new))
-        (O.got out.old) (O.got out.new) }
-    ensures stays { ChangesTable sessions.old sessions.new }
-{
-    let mut piece = [0u8; READ_LIMIT];
-    let mut taken = 0u64;
-    while taken < limit {
-        let room = (limit - taken).min(READ_LIMIT as u64) as usize;
-        let count = match input.read(&mut piece[..room]) {
-            Ok(count) => count,
-            Err(_) => return ServeEnd::ReadFault,
-        };
-        if count == 0 {
-            return match finish(sessions, gathered, out) {
-                Ok(()) => ServeEnd::Done,
-                Err(_) => ServeEnd::WriteFault,
-            };
-        }
-        match feed(sessions, gathered, &piece[..count], out) {
-            Ok(()) => {}
-            Err(_) => return ServeEnd::WriteFault,
-        }
-        taken += count as u64;
-    }
-    ServeEnd::Limit
-}
-
 impl Service {
     /// Answers a script, at most `limit` bytes of it. As it is written, each line is answered as soon as its line feed was read.
     /// Each call begins with no unfinished line, and with the sessions as the last call left them,
@@ -173,6 +123,26 @@ impl Service {
         ensures stays { ChangesTable self.old self.new }
     {
         self.gathered.clear();
-        serve_from(&mut self.sessions, &mut self.gathered, input, out, limit)
+        let mut piece = [0u8; READ_LIMIT];
+        let mut taken = 0u64;
+        while taken < limit {
+            let room = (limit - taken).min(READ_LIMIT as u64) as usize;
+            let count = match input.read(&mut piece[..room]) {
+                Ok(count) => count,
+                Err(_) => return ServeEnd::ReadFault,
+            };
+            if count == 0 {
+                return match finish(&mut self.sessions, &self.gathered, out) {
+                    Ok(()) => ServeEnd::Done,
+                    Err(_) => ServeEnd::WriteFault,
+                };
+            }
+            match feed(&mut self.sessions, &mut self.gathered, &piece[..count], out) {
+                Ok(()) => {}
+                Err(_) => return ServeEnd::WriteFault,
+            }
+            taken += count as u64;
+        }
+        ServeEnd::Limit
     }
 }

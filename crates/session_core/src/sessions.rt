@@ -4,19 +4,16 @@ ghost use Rattle.diag_edge.specs.Edge.{HasCause};
 ghost use Rattle.script_lang.specs.Script.{asked, Start, Stop, Note};
 ghost use Rattle.session_rules.specs.Carrying.{CarriesOut};
 ghost use Rattle.session_rules.specs.Sessions.{entry_of};
-ghost use Rattle.session_core.specs.Services.{moves_of, ChangesTable, IsSound};
+ghost use Rattle.session_core.specs.Services.{moves_of, ChangesTable};
 ghost use Rattle.session_core.specs.inner.Obeying.{Obeys, IsOpen, no_such};
 
-use crate::basis::Basis;
 use crate::desk::Desk;
-use crate::limits::SESSION_LIMIT;
 use crate::listed::Listed;
 use crate::replies::{put_line_refusal, put_refusal};
 use diag_edge::{Sink, WriteFailed, put_line};
 use script_lang::{AskedLine, Noted, Request, parse_line};
 use session_rules::Refusal;
 use session_table::OpenSessions;
-use std::alloc::{AllocError, Global};
 use std::marker::Model;
 
 /// An open session: its name, and its place among the open ones.
@@ -26,7 +23,7 @@ pub(crate) struct OpenSession<'a> {
     pub(crate) place: usize,
 }
 
-/// The sessions over names and a graph. All memory is taken when it is made, and it is spent by [`Sessions::finish`].
+/// The sessions over names and a graph.
 pub(crate) struct Sessions {
     pub(crate) desk: Desk,
     pub(crate) open: OpenSessions,
@@ -44,42 +41,6 @@ impl Model for Sessions {
 }
 
 impl Sessions {
-    /// No session is open, and at most so many may be. `Err` means that memory ran out.
-    pub(crate) fn new(alloc: Global, basis: Basis, sessions: u32) -> Result<Self, AllocError>
-        requires { sessions ≤ SESSION_LIMIT }
-        ensures { IfOk result (λ made. made ≡ record { subject = basis; limit = sessions; table = [] }) }
-    {
-        let parts = basis.parts().len() as u32;
-        let wires = basis.wires().len() as u32;
-        let vars = basis.vars() as u32;
-        let desk = Desk::new(alloc, basis)?;
-        let open = OpenSessions::new(alloc, parts, wires, vars, sessions)?;
-        Ok(Sessions { desk, open })
-    }
-
-    /// Closes all sessions, and gives all memory back.
-    pub(crate) fn finish(self) {
-        let Sessions { desk: _, open } = self;
-        open.finish();
-    }
-
-    /// The number of parts.
-    pub(crate) fn parts(&self) -> usize
-        ensures parts { result ≡ length self.now.subject.parts }
-        ensures sound { IsSound self.now }
-    {
-        // The case of each open session fits.
-        let _full = self.open.is_full();
-        self.desk.basis().parts().len()
-    }
-
-    /// The number of wires.
-    pub(crate) fn wires(&self) -> usize
-        ensures { result ≡ length self.now.subject.wires }
-    {
-        self.desk.basis().wires().len()
-    }
-
     /// Answers one line. If a write fails, the line is carried out up to the reply that met the
     /// failure.
     pub(crate) fn line<O: Sink>(&mut self, line: &[u8], out: &mut O) -> Result<(), WriteFailed>

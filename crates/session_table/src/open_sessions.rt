@@ -68,11 +68,18 @@ impl OpenSessions {
         })
     }
 
-    /// Whether as many sessions are open as may be.
-    pub fn is_full(&self) -> bool
-        ensures full { result ≡ nat_le self.now.limit (length self.now.table) }
+    /// How many parts each case is over.
+    pub fn parts(&self) -> u32
+        ensures parts { result ≡ self.now.parts }
         ensures cases { (session : Name) (entry : Entry) → entry_of session self.now.table ≡ Some entry
             → Fits self.now.parts self.now.wires entry }
+    {
+        self.layout.parts
+    }
+
+    /// Whether as many sessions are open as may be.
+    pub fn is_full(&self) -> bool
+        ensures { result ≡ nat_le self.now.limit (length self.now.table) }
     {
         self.limit as usize <= self.open.len()
     }

@@ -6,7 +6,7 @@ use Rattle.std.specs.List.{range_with_len}
 use Rattle.std.proofs.lemmas.Bool.{cases_lt, lt-ltb, le-ltb, le-leb, lt-leb}
 use Rattle.std.proofs.lemmas.List.{get_or-take, get_or-drop}
 use Rattle.state_rules.proofs.Members.{filter_same}
-use Rattle.state_rules.specs.Graphs.{mentions, IsGraph}
+use Rattle.state_rules.specs.Graphs.{mentions}
 use Rattle.state_rules.specs.Bits.{has_bit}
 use Rattle.state_rules.proofs.Lists.{filter-never}
 use Rattle.part_sets.specs.Numbers.{part_words, set_at}
@@ -43,5 +43,5 @@ no-fillers d over node none =
     ap (map (filler d.evidence)) (filter_same (missing_in d over node) (λ p. false) (range_with_len 1 d.parts) (λ p m. let r = in_range 1 d.parts p m in none p r.0 (omega (arith, r.1))) ∙ filter-never (range_with_len 1 d.parts))
 
 -- what is below such a node is among what its line is filled in up to
-pub under-wider : (d : Drawing) → IsDrawing d → IsGraph d.graph → (over : Option ℕ) (node : ℕ) → IsUnder d over node → (part : ℕ) → mentions d.graph.nodes part node ≡ true → is_over d.graph.nodes over part ≡ true
-under-wider d is valid over node under part m = grind (arith, nat_tests, child-wider)
+pub under-wider : (d : Drawing) → IsDrawing d → (over : Option ℕ) (node : ℕ) → IsUnder d over node → (part : ℕ) → mentions d.graph.nodes part node ≡ true → is_over d.graph.nodes over part ≡ true
+under-wider d is over node under part m = grind (arith, nat_tests, child-wider)

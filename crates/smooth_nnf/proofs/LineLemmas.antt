@@ -13,7 +13,7 @@ use Rattle.text_rules.specs.Tokens.{spaced}
 use Rattle.state_rules.specs.declared.nodes.TheConstants.{CHILD_LIMIT}
 use Rattle.state_rules.specs.declared.nodes.NodeKind.{NodeKind}
 use Rattle.state_rules.specs.declared.nodes.NodeKind.TheVariants.{Literal, Or}
-use Rattle.state_rules.specs.Graphs.{Node, true_node, node_at, mentions, kind_fits, IsGraph}
+use Rattle.state_rules.specs.Graphs.{Node, true_node, node_at, mentions, kind_fits}
 use Rattle.state_rules.proofs.NodeValues.{below-each}
 use Rattle.state_rules.proofs.NodesFit.{Fits, fits-at, literal}
 use Rattle.nnf_text.specs.WrittenGraphs.{node_words}
@@ -79,9 +79,9 @@ child-under d node kids lt at i h = (
   },
 )
 
-module _ (d : Drawing) (is : IsDrawing d) (valid : IsGraph d.graph) (node : ℕ) (lt : node < length d.graph.nodes) (what : NodeKind) (kids : List ℕ) (at : node_at d.graph.nodes node ≡ record { what = what; kids = kids }) where
+module _ (d : Drawing) (is : IsDrawing d) (node : ℕ) (lt : node < length d.graph.nodes) (what : NodeKind) (kids : List ℕ) (at : node_at d.graph.nodes node ≡ record { what = what; kids = kids }) where
   fit : Fits d.graph.vars node (record { what = what; kids = kids })
-  fit = subst (Fits d.graph.vars node) at (fits-at d.graph.vars d.graph.nodes node valid.nodes.fit lt)
+  fit = subst (Fits d.graph.vars node) at (fits-at d.graph.vars d.graph.nodes node is.valid.nodes.fit lt)
 
   pub kids-inside : All (λ child. child < length d.graph.nodes) kids
   kids-inside k default h = let below = below-each node kids fit.below k default h in omega (arith, below, lt)
@@ -90,7 +90,7 @@ module _ (d : Drawing) (is : IsDrawing d) (valid : IsGraph d.graph) (node : ℕ)
   few-kids-of or = ltb-true (length kids) CHILD_LIMIT (ap (λ w. kind_fits d.graph.vars w kids) (sym or) ∙ fit.kind)
 
   pub child-wider : what ≡ Or → (i part : ℕ) → i < length kids → mentions d.graph.nodes part (get_or kids i 0) ≡ true → mentions d.graph.nodes part node ≡ true
-  child-wider or i part h m = child-mentions d.graph node kids valid lt (ap (λ (n : Node). n.kids) (sym at)) i (ap (λ (n : Node). n.what) at ∙ or) h part m
+  child-wider or i part h m = child-mentions d.graph node kids is.valid lt (ap (λ (n : Node). n.kids) (sym at)) i (ap (λ (n : Node). n.what) at ∙ or) h part m
 
   pub line-room : what ≡ Or → (cost : ℕ) → cost_at (map cost_in d.values) node ≡ Some cost → length (cheapest_children (map cost_in d.values) cost kids) ≤ slice_index d.lines node
   line-room or cost e = grind (arith, nat_tests, own-at)

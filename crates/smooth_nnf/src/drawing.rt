@@ -2,7 +2,7 @@
 ghost use Rattle.std.specs.Prelude.{◌≡◌, ℕ, ◌+◌, ◌*◌, ◌^◌, ◌<◌, ◌≤◌, ◌&&◌, true, false, not, nat_le, map, length, slice_index, MatchOption};
 ghost use Rattle.std.specs.List.{filter, range_with_len};
 ghost use Rattle.state_rules.specs.Bits.{has_bit};
-ghost use Rattle.state_rules.specs.Graphs.{mentions, IsGraph};
+ghost use Rattle.state_rules.specs.Graphs.{mentions};
 ghost use Rattle.minimiser.specs.Costs.{cost_at};
 ghost use Rattle.minimiser.specs.Stored.{cost_in};
 ghost use Rattle.part_sets.specs.Numbers.{part_words};
@@ -43,11 +43,8 @@ impl<'a> Drawing<'a> {
     // The graph.
     pub(crate) fn graph(&self) -> &Graph
         ensures graph { result.now ≡ self.now.graph }
-        ensures valid { IsGraph result.now }
         ensures whole { IsDrawing self.now }
     {
-        // Its contract says that this is a graph.
-        let _nodes = self.graph.len();
         self.graph
     }
 
@@ -104,6 +101,7 @@ impl<'a> Drawing<'a> {
         requires { node < length self.now.graph.nodes }
         ensures count { result ≡ part_count self.now node }
         ensures most { result ≤ self.now.parts }
+        ensures whole { IsDrawing self.now }
     {
         count_parts(set_at(self.below(), node as usize, self.width()))
     }
@@ -155,8 +153,6 @@ impl<'a> Drawing<'a> {
         if self.lacks_none(over) {
             return 0;
         }
-        // Its contract says that this is a graph.
-        let _nodes = self.graph.len();
         self.over_count(over) - self.part_count(node)
     }
 

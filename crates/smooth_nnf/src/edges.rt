@@ -50,7 +50,6 @@ fn node_edges(drawing: &Drawing<'_>, node: u32) -> u64
 fn edges_by(drawing: &Drawing<'_>, node: u32, what: NodeKind, kids: &[u32], cost: u32) -> u64
     requires node { node < length drawing.now.graph.nodes }
     requires is { node_at drawing.now.graph.nodes node ≡ record { what = what; kids = kids.now } }
-    requires valid { IsGraph drawing.now.graph }
     requires cost { cost ≢ NONE }
     ensures { result ≡ edges (lines_by (shown drawing.now) node cost what kids.now) }
 {

@@ -3,12 +3,14 @@ use Rattle.std.specs.Prelude.{◌≡◌, length}
 use Rattle.session_rules.specs.GraphSystems.{Subject}
 use Rattle.session_table.specs.Tables.{Opened}
 use Rattle.session_core.specs.Services.{Shown}
+use Rattle.session_core.specs.inner.Bases.{IsBasis}
 
--- the sessions are over the parts, wires and variables of what is asked over
+-- what is asked over is a basis, and the sessions are over its parts, wires and variables
 pub record HoldsTogether (subject : Subject) (opened : Opened) : Type 0 where
   pub parts : opened.parts ≡ length subject.parts
   pub wires : opened.wires ≡ length subject.wires
   pub vars : opened.vars ≡ subject.graph.vars
+  pub basis : IsBasis subject
 
 -- what is shown over a subject, with these sessions
 abbrev pub shown_of : Subject → Opened → Shown

@@ -15,7 +15,7 @@ use Rattle.session_rules.specs.Sessions.{Entry, Table, Step, with_entry}
 use Rattle.session_rules.specs.Spelling.{Replies}
 use Rattle.session_rules.specs.Carrying.{CarriesOut}
 use Rattle.session_table.specs.Tables.{StandsAt}
-use Rattle.session_core.specs.Services.{Shown, exact_moves, ChangesTable, served_system}
+use Rattle.session_core.specs.Services.{Shown, exact_moves, ChangesTable}
 use Rattle.session_core.specs.inner.Desks.{is_found, listed_states, later_states}
 use Rattle.session_core.specs.inner.Texts.{next_text}
 use Rattle.session_core.specs.declared.listed.Listed.{Listed}

@@ -2,7 +2,7 @@
 use Rattle.std.specs.Prelude.{◌≡◌, ℕ, ◌*◌, ◌+◌, ◌-◌, ◌^◌, ◌<◌, ◌≤◌, Bool, true, not, ◌&&◌, List, [], ◌∷◌, ◌++◌, map, length, slice_index, Option, Some, None, IfSome, All}
 use Rattle.std.specs.List.{filter, range_with_len}
 use Rattle.state_rules.specs.declared.nodes.NodeKind.TheVariants.{Or}
-use Rattle.state_rules.specs.Graphs.{Node, Graph, node_at, mentions, edges}
+use Rattle.state_rules.specs.Graphs.{Node, Graph, node_at, mentions, edges, IsGraph}
 use Rattle.state_rules.specs.Bits.{has_bit}
 use Rattle.minimiser.specs.Costs.{cost_at}
 use Rattle.minimiser.specs.Stored.{cost_in}
@@ -42,6 +42,7 @@ pub record IsDrawing (drawing : Drawing) : Type 0 where
   pub wide : length drawing.graph.nodes * part_words drawing.parts ≤ length drawing.sets
   pub below : ArePartsBelow drawing.graph drawing.parts drawing.sets (length drawing.graph.nodes)
   pub lacks : IfSome drawing.lacking (AreLacking drawing.graph drawing.parts)
+  pub valid : IsGraph drawing.graph
 
 -- how many lines there are up to the last one of these nodes, if the first one has this number and its lines begin at this line
 abbrev pub lines_after : List (Option ℕ) → ℕ → ℕ → List Node → ℕ

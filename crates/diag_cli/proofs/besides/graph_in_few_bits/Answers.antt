@@ -44,5 +44,5 @@ pub returns-clause-servable : goal.returns-clause-servable
 returns-clause-servable c =
     let some = has_sum c.in_ok-cnf.cnf c.args.options.narrow c.in_ok-cnf.forest c.in_ok-cnf.ensures.forest in
     let made = c.compile_in_few_bits.ensures in
-    all_servable c.args.device.now c.in_ok-cnf.cnf c.in_ok-cnf.ensures.list c.parts.ensures.valid c.args.options.budget some.0 c.requires.budget c.compile_in_few_bits.result
+    all_servable c.args.device.now c.in_ok-cnf.cnf c.in_ok-cnf.ensures.list c.args.options.budget some.0 c.requires.budget c.compile_in_few_bits.result
     (made.within some.0 some.1) (made.graph some.0 some.1)

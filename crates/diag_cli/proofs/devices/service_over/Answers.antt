@@ -9,8 +9,8 @@ use Rattle.diag_cli.proofs.devices.service_over.Goals as goal
 
 pub over-requires : goal.over-requires
 over-requires c =
-    let valid = c.parts-parts.ensures.valid in
     let names = c.in_ok-parts.ensures in
+    let valid = names.valid in
     let graph = c.args.graph in
     let many : length c.args.device.parts ≡ length c.in_ok-parts.parts.items = sym (ap length names.parts ∙ length-map c.args.device.parts (λ (part : Component). part.name)) in
     record {

@@ -17,5 +17,5 @@ pub returns : goal.returns
 returns c =
     let of = c.in_ok-cnf.ensures.list in
     list_gives c.args.is_narrow c.args.device.now c.in_ok-cnf.cnf c.in_ok-cnf.forest of c.in_ok-cnf.ensures.forest (λ clauses. FulfilsGraph c.args.device.now (within c.args.budget clauses) c.compiled_within.result)
-    (λ sum has. found_or_refused c.args.device.now c.in_ok-cnf.cnf of c.parts-parts.ensures.valid c.args.budget sum c.requires c.compiled_within.result
+    (λ sum has. found_or_refused c.args.device.now c.in_ok-cnf.cnf of c.args.budget sum c.requires c.compiled_within.result
     (c.compiled_within.ensures.list sum has) (c.compiled_within.ensures.within sum has) (c.compiled_within.ensures.graph sum has))

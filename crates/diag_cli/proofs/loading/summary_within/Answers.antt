@@ -28,4 +28,4 @@ returns-in_err-graph-clause-summary c =
 pub summary_by-requires-clause-graph : goal.summary_by-requires-clause-graph
 summary_by-requires-clause-graph c =
     let of = c.in_ok-cnf.ensures.list in
-    servable c.args.device c.in_ok-cnf.cnf of.encoded c.in_ok-graph.graph (sum_of c.in_ok-cnf.cnf.clauses) c.parts-parts.ensures.valid of.describes (omega (arith, c.in_ok-graph.ensures.within)) c.in_ok-graph.ensures.graph
+    servable c.args.device c.in_ok-cnf.cnf of.encoded c.in_ok-graph.graph (sum_of c.in_ok-cnf.cnf.clauses) of.valid of.describes (omega (arith, c.in_ok-graph.ensures.within)) c.in_ok-graph.ensures.graph

@@ -11,17 +11,17 @@ use Rattle.fault_graph.proofs.minimising.minimise.Goals.{then-places-at-eq-MARKE
 
 pub add-place-requires-clause-kids : goal.add-place-requires-clause-kids
 add-place-requires-clause-kids g c k d h =
-    let before = children_before c.args.graph.now c.loop-at.at c.kids.result.now c.len-root.ensures.valid (omega (arith, c.len-root.ensures.len)) c.kids.ensures k d h in
+    let before = children_before c.args.graph.now c.loop-at.at c.kids.result.now c.len-root.ensures.valid (omega (arith, c.len-root.ensures.len)) c.kids.ensures.kids k d h in
     omega (arith, c.least.auto.values, c.requires.room, c.len-root.ensures.len, before)
 
 pub add-place-requires-clause-child_room : goal.add-place-requires-clause-child_room
 add-place-requires-clause-child_room g c =
     let room = has-room c.args.graph.now c.args.evidence.now c.args.costs.now c.least.new.values c.mark.new.places c.loop-at.places c.loop-at.nodes.nodes c.loop-at.at (omega (arith, c.len-root.ensures.len)) c.loop-at.invariant.built in
-    omega (arith, room.1, ap length c.kids.ensures, ap (λ (f : Filled). f.child_room) c.loop-at.invariant.stays, c.requires.child_room)
+    omega (arith, room.1, ap length c.kids.ensures.kids, ap (λ (f : Filled). f.child_room) c.loop-at.invariant.stays, c.requires.child_room)
 
 pub add-requires-2-clause-kids : goal.add-requires-2-clause-kids
 add-requires-2-clause-kids g c k d h =
-    let before = children_before c.args.graph.now (c.len-root.result - 1) c.kids-2.result.now c.len-root.ensures.valid (omega (arith, c.len-root.ensures.len, c.len-root.ensures.valid.some)) c.kids-2.ensures k d h in
+    let before = children_before c.args.graph.now (c.len-root.result - 1) c.kids-2.result.now c.len-root.ensures.valid (omega (arith, c.len-root.ensures.len, c.len-root.ensures.valid.some)) c.kids-2.ensures.kids k d h in
     omega (arith, c.least.auto.values, c.requires.room, c.len-root.ensures.len, before)
 
 pub loop-at-preserved : goal.loop-at-preserved
@@ -36,7 +36,7 @@ loop-at-preserved g c =
             (built-added graph c.args.evidence.now c.args.costs.now c.len-root.ensures.valid c.requires.long c.requires.parts c.requires.total c.in_ok-cost.cost (sym c.in_ok-cost.ensures.least)
             c.least.new.values c.least.ensures.values c.mark.new.places c.mark.ensures c.loop-at.places c.loop-at.nodes.nodes c.loop-at.at lt c.loop-at.invariant.built w.if-places-at-eq-MARKED.true
             w.what.result w.kids.result.now
-            (slice_get-get_or graph.nodes c.loop-at.at true_node lt ∙ (λ i. Some (record { what = sym w.what.ensures i; kids = sym w.kids.ensures i })))
+            (slice_get-get_or graph.nodes c.loop-at.at true_node lt ∙ (λ i. Some (record { what = sym w.what.ensures.what i; kids = sym w.kids.ensures.kids i })))
             w.add-place.new.self.nodes w.add-place.result room (omega (arith, c.len-root.ensures.len)) (w.add-place.ensures.adds refl)));
         stays = subst (λ (f : Filled). f ≡ record c.args.nodes.now { nodes = f.nodes }) (sym w.nodes-is)
             (w.add-place.ensures.stays ∙ (λ i. record { nodes = w.add-place.new.self.nodes; node_room = (c.loop-at.invariant.stays i).node_room; child_room = (c.loop-at.invariant.stays i).child_room }));
@@ -59,7 +59,7 @@ returns-clause-minimised g c =
     let nodes = c.loop-at.nodes.nodes in
     let same : c.add-2.new.self.nodes ≡ nodes ++ kept_node values places (get_or values (length graph.nodes - 1) 0) (node_at graph.nodes (length graph.nodes - 1)) ∷ [] =
     c.add-2.ensures.own refl
-    ∙ (λ i. nodes ++ record { what = c.what-2.ensures i; kids = kept_children values places (get_or values (c.len-root.result - 1) 0) (c.kids-2.ensures i) } ∷ [])
+    ∙ (λ i. nodes ++ record { what = c.what-2.ensures.what i; kids = kept_children values places (get_or values (c.len-root.result - 1) 0) (c.kids-2.ensures.kids i) } ∷ [])
     ∙ ap (λ n. nodes ++ kept_node values places (get_or values (n - 1) 0) (node_at graph.nodes (n - 1)) ∷ []) c.len-root.ensures.len in
     let all = root-added graph c.args.evidence.now c.args.costs.now c.len-root.ensures.valid c.requires.long c.requires.parts c.requires.total c.in_ok-cost.cost (sym c.in_ok-cost.ensures.least)
     values c.least.ensures.values c.mark.new.places c.mark.ensures c.requires.dear places nodes c.add-2.new.self.nodes c.loop-at.at (omega (arith, c.len-root.ensures.len)) c.loop-at.invariant.built same in

@@ -6,7 +6,7 @@ use Rattle.minimiser.proofs.suspects.sweep.Goals as goal
 
 pub spread-requires-clause-kids : goal.spread-requires-clause-kids
 spread-requires-clause-kids c k d h =
-    let before = children_before c.args.graph.now (c.loop-at.at - 1) c.kids.result.now c.len-count.ensures.valid (omega (arith, c.loop-at.auto.at, c.len-count.ensures.len)) c.kids.ensures k d h in
+    let before = children_before c.args.graph.now (c.loop-at.at - 1) c.kids.result.now c.len-count.ensures.valid (omega (arith, c.loop-at.auto.at, c.len-count.ensures.len)) c.kids.ensures.kids k d h in
     omega (arith, c.loop-at.auto.at, c.loop-at.auto.values, length-set {A = ℕ}, c.len-count.ensures.len, c.requires.room, before)
 
 pub loop-at-preserved-then-has_mark : goal.loop-at-preserved-then-has_mark
@@ -17,4 +17,4 @@ loop-at-preserved-then-has_mark c =
     (subst (IsSwept c.args.graph.now.nodes c.args.values.now c.loop-at.values) next c.loop-at.invariant)
     (sym c.has_mark.ensures ∙ c.if-has_mark.true)
     (λ j h. c.spread.ensures j (omega (arith, c.loop-at.auto.values, length-set {A = ℕ}, c.requires.room))
-    ∙ (λ i. spread_value (c.kids.ensures i) (get_or c.loop-at.values (c.loop-at.at - 1) 0 - 2147483648) j (get_or c.loop-at.values j 0)))
+    ∙ (λ i. spread_value (c.kids.ensures.kids i) (get_or c.loop-at.values (c.loop-at.at - 1) 0 - 2147483648) j (get_or c.loop-at.values j 0)))

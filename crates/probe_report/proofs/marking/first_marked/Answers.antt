@@ -9,6 +9,6 @@ loop-at-preserved c =
     let at = c.loop-at.at in
     let below : at < length graph.nodes = omega (arith, c.len-count.ensures.len, c.loop-at-test.true) in
     elim c.match-what.branch [
-      | in-Literal+else-literal_mark-ne0 w ↦ none-literal graph c.len-count.ensures.valid c.args.first at below c.loop-at.invariant w.in-Literal.var w.literal_mark.result w.in-Literal.positive w.in-Literal.ensures w.literal_mark.ensures w.if-literal_mark-ne0.false
-      | in_default w ↦ none-gate graph c.len-count.ensures.valid c.args.first at below c.loop-at.invariant (λ var positive e. w.in_default.not-Literal positive var (c.what.ensures ∙ e))
+      | in-Literal+else-literal_mark-ne0 w ↦ none-literal graph c.len-count.ensures.valid c.args.first at below c.loop-at.invariant w.in-Literal.var w.literal_mark.result w.in-Literal.positive w.in-Literal.ensures.what w.literal_mark.ensures w.if-literal_mark-ne0.false
+      | in_default w ↦ none-gate graph c.len-count.ensures.valid c.args.first at below c.loop-at.invariant (λ var positive e. w.in_default.not-Literal positive var (c.what.ensures.what ∙ e))
     ]

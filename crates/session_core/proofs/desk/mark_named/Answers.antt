@@ -11,21 +11,21 @@ pub returns-in-None-find-clause-named : goal.returns-in-None-find-clause-named
 returns-in-None-find-clause-named c =
     let parts = c.args.basis.now.parts in
     sym (c.loop-name.invariant.named ∙ ap (list_all (is_among parts)) c.in-Some.ensures.steps
-    ∙ and_left _ _ (is_among-nowhere c.in-Some.name.now parts c.in-None-find.ensures))
+    ∙ and_left _ _ (is_among-nowhere c.in-Some.name.now parts c.in-None-find.ensures.place))
 
 pub loop-name-preserved : goal.loop-name-preserved
 loop-name-preserved c =
     let parts = c.args.basis.now.parts in
     let name = c.in-Some.name.now in
     let left = tokens_left c.next.new.self in
-    let found = c.in-Some-find.ensures in
+    let found = c.in-Some-find.ensures.place in
     let is_part : is_among parts name ≡ true = is_among-at name parts c.in-Some-find.part found in
     record {
       can_next = tt;
       is_finite = tt;
       named = c.loop-name.invariant.named ∙ ap (list_all (is_among parts)) c.in-Some.ensures.steps ∙ rw is_part;
       marked = marked_more parts (words c.args.names.now) left name c.loop-name.state c.in-Some-find.part
-          c.parts-parts.ensures.basis.parts_rise found (omega arith)
+          c.in-Some-find.ensures.basis.parts_rise found (omega arith)
           (subst (AreMarked parts (words c.args.names.now) c.loop-name.state) c.in-Some.ensures.steps c.loop-name.invariant.marked);
       bits = grind (arith, common_steps);
     }

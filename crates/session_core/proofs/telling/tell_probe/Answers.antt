@@ -28,7 +28,7 @@ pub returns-in_default-clause-reply : goal.returns-in_default-clause-reply
 returns-in_default-clause-reply g c =
     let s = c.args.session.now in
     let name = c.args.name.now in
-    told_at c.args.desk.now s name _ _ _ _ (c.in_default.ensures ∙ ap (λ (u : Subject). place_of name u.wires) c.basis.ensures)
+    told_at c.args.desk.now s name _ _ _ _ (c.in_default.ensures.place ∙ ap (λ (u : Subject). place_of name u.wires) c.basis.ensures)
     (replies_one _ _ _ (line (s ∷ error_words (refusal_row NoWire))) _ refl c.put_refusal.ensures.text)
 
 pub returns-then-not-is_consistent-clause-reply : goal.returns-then-not-is_consistent-clause-reply
@@ -37,7 +37,7 @@ returns-then-not-is_consistent-clause-reply g c =
     let system = served_system old.subject in
     let s = c.args.session.now in
     let name = c.args.name.now in
-    told_at old s name (Some c.in-Some.wire) _ _ _ (c.in-Some.ensures ∙ ap (λ (u : Subject). place_of name u.wires) c.basis.ensures)
+    told_at old s name (Some c.in-Some.wire) _ _ _ (c.in-Some.ensures.place ∙ ap (λ (u : Subject). place_of name u.wires) c.basis.ensures)
     (subst (λ (lines : List (List (List ℕ))). Replies (g.O.Sink.got c.args.out.now) (g.O.Sink.got c.put_line.new.out) c.put_line.result (map line lines))
     (sym (if_any-none system.costs s (agreeing old) (probe_line system s (asked_case old) name c.in-Some.wire ∷ []) c.if-not-is_consistent.ensures.some))
     (replies_one _ _ _ (line (inconsistent s)) _ refl c.put_line.ensures.bytes))
@@ -55,7 +55,7 @@ returns-clause-reply g c =
     let same = c.is_consistent.ensures.same in
     let zero = c.probe-zero.ensures.zero ∙ ap (λ (d : OnDesk). least_seen d wire false) same in
     let one = c.probe-zero.ensures.one ∙ ap (λ (d : OnDesk). least_seen d wire true) same in
-    told_at old s name (Some wire) _ _ _ (c.in-Some.ensures ∙ ap (λ (u : Subject). place_of name u.wires) c.basis.ensures)
+    told_at old s name (Some wire) _ _ _ (c.in-Some.ensures.place ∙ ap (λ (u : Subject). place_of name u.wires) c.basis.ensures)
     (subst (λ (lines : List (List (List ℕ))). Replies (g.O.Sink.got c.args.out.now) (g.O.Sink.got c.put_probe.new.out) c.put_probe.result (map line lines))
     (sym (if_any-some system.costs s (agreeing old) (probe_line system s (asked_case old) name wire ∷ []) c.if-not-is_consistent.ensures.some))
     (replies_one _ _ _ (line (probe_line system s (asked_case old) name wire)) _

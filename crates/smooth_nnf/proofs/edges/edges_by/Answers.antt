@@ -13,8 +13,8 @@ invariant_of-or_node c =
     record {
       costs = whole.costs;
       inside = c.requires.node;
-      kids_inside = kids-inside d whole c.requires.valid c.args.node c.requires.node c.args.what c.args.kids.now c.requires.is;
-      few = few-kids-of d whole c.requires.valid c.args.node c.requires.node c.args.what c.args.kids.now c.requires.is c.in-Or.is;
+      kids_inside = kids-inside d whole c.args.node c.requires.node c.args.what c.args.kids.now c.requires.is;
+      few = few-kids-of d whole c.args.node c.requires.node c.args.what c.args.kids.now c.requires.is c.in-Or.is;
       some = c.requires.cost;
       is = c.requires.is ∙ (λ i. record { what = c.in-Or.is i; kids = c.args.kids.now });
     }

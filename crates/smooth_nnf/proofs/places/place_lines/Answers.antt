@@ -14,7 +14,7 @@ before : (c : goal.After-lines_to-line) → c.lines_to-line.result ≡ lines_to 
 before c =
     let least = map cost_in c.args.values.now in
     let lt : c.loop-at.at < length c.args.values.now = omega (arith, c.requires.values, c.len-at-end.ensures.len, c.loop-at-test.true) in
-    c.lines_to-line.ensures ∙ (λ i. lines_to least (record { what = c.what.ensures i; kids = c.kids.ensures i }) (sym (cost_at-map c.args.values.now c.loop-at.at lt) i))
+    c.lines_to-line.ensures ∙ (λ i. lines_to least (record { what = c.what.ensures.what i; kids = c.kids.ensures.kids i }) (sym (cost_at-map c.args.values.now c.loop-at.at lt) i))
 
 more_fits : (c : goal.After-lines_to-line) → c.loop-at.line + c.lines_to-line.result + 1 < 2 ^ 32
 more_fits c =
@@ -30,7 +30,7 @@ lines_to-line-requires-clause-kids c k d h =
     let at = c.loop-at.at in
     let lt : at < length graph.nodes = omega (arith, c.len-at-end.ensures.len, c.loop-at-test.true) in
     let is = fits-at graph.vars graph.nodes at c.len-at-end.ensures.valid.nodes.fit lt in
-    omega (arith, c.requires.values, lt, subst (λ ks. get_or ks k d < at) (sym c.kids.ensures) (below-each at (node_at graph.nodes at).kids is.below k d (subst (λ ks. k < length ks) c.kids.ensures h)))
+    omega (arith, c.requires.values, lt, subst (λ ks. get_or ks k d < at) (sym c.kids.ensures.kids) (below-each at (node_at graph.nodes at).kids is.below k d (subst (λ ks. k < length ks) c.kids.ensures.kids h)))
 
 pub overflow_add-line : goal.overflow_add-line
 overflow_add-line c = omega (arith, more_fits c)

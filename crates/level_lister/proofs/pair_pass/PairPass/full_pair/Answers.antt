@@ -13,7 +13,7 @@ loop-child-init c evidence groups told = tells_none evidence c.args.self.now.lev
 pub pair_at-requires : goal.pair_at-requires
 pair_at-requires c =
     let kids = c.kids-child-items.result.now in
-    omega (arith, c.requires.room, c.requires.node.within, child-below c.args.self.now.graph.now c.args.at kids c.args.self.now.valid c.requires.node.within c.kids-child-items.ensures c.loop-child.child-index c.loop-child-test.true)
+    omega (arith, c.requires.room, c.requires.node.within, child-below c.args.self.now.graph.now c.args.at kids c.args.self.now.valid c.requires.node.within c.kids-child-items.ensures.kids c.loop-child.child-index c.loop-child-test.true)
 
 pub loop-child-preserved : goal.loop-child-preserved
 loop-child-preserved c evidence groups told =
@@ -25,13 +25,13 @@ loop-child-preserved c evidence groups told =
     let j = c.loop-child.child-index in
     let ok = c.args.self.now.valid in
     let lt = c.loop-child-test.true in
-    let below = child-below graph at kids ok c.requires.node.within c.kids-child-items.ensures j lt in
+    let below = child-below graph at kids ok c.requires.node.within c.kids-child-items.ensures.kids j lt in
     let child = subst (TellsNode graph c.args.self.now.skips.now evidence costs top groups (get_or kids j 0)) (sym c.pair_at.ensures) (told (get_or kids j 0) below) in
-    or_next graph at kids ok c.requires.node.within c.kids-child-items.ensures c.args.self.now.skips.now c.requires.node.lives (Told evidence costs top groups c.either-pair.result) j lt
+    or_next graph at kids ok c.requires.node.within c.kids-child-items.ensures.kids c.args.self.now.skips.now c.requires.node.lives (Told evidence costs top groups c.either-pair.result) j lt
     (c.either-pair.ensures evidence costs top (group_count top) (group_in evidence (length costs) groups) _ _ _ (c.loop-child.invariant evidence groups told)
-    (wider_groups evidence costs top groups c.pair_at.result _ _ _ (child_full graph at kids ok c.requires.node.within c.kids-child-items.ensures (length costs) j c.requires.node.what_is lt c.requires.same) child))
+    (wider_groups evidence costs top groups c.pair_at.result _ _ _ (child_full graph at kids ok c.requires.node.within c.kids-child-items.ensures.kids (length costs) j c.requires.node.what_is lt c.requires.same) child))
 
 pub returns : goal.returns
 returns c evidence groups told =
-    or_end c.args.self.now.graph.now c.args.at c.kids-child-items.result.now c.args.self.now.valid c.requires.node.within c.kids-child-items.ensures c.args.self.now.skips.now c.requires.node.lives (Told evidence c.args.self.now.levels.now.costs c.args.self.now.levels.now.top groups c.loop-child.pair) c.loop-child.child-index c.requires.node.what_is (omega arith)
+    or_end c.args.self.now.graph.now c.args.at c.kids-child-items.result.now c.args.self.now.valid c.requires.node.within c.kids-child-items.ensures.kids c.args.self.now.skips.now c.requires.node.lives (Told evidence c.args.self.now.levels.now.costs c.args.self.now.levels.now.top groups c.loop-child.pair) c.loop-child.child-index c.requires.node.what_is (omega arith)
     (c.loop-child.invariant evidence groups told)

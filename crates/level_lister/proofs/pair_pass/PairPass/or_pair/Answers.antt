@@ -17,7 +17,7 @@ loop-child-init c = tells_none c.args.self.now.evidence.now c.args.self.now.leve
 pub pair_at-own-requires : goal.pair_at-own-requires
 pair_at-own-requires c =
     let kids = c.kids-child-items.result.now in
-    omega (arith, c.requires.room, c.requires.node.within, child-below c.args.self.now.graph.now c.args.at kids c.args.self.now.valid c.requires.node.within c.kids-child-items.ensures c.loop-child.child-index c.loop-child-test.true)
+    omega (arith, c.requires.room, c.requires.node.within, child-below c.args.self.now.graph.now c.args.at kids c.args.self.now.valid c.requires.node.within c.kids-child-items.ensures.kids c.loop-child.child-index c.loop-child-test.true)
 
 pub widened-requires-clause-inner : goal.widened-requires-clause-inner
 widened-requires-clause-inner c =
@@ -27,7 +27,7 @@ widened-requires-clause-inner c =
       arith,
       c.args.self.now.for_graph.below.long,
       block-below (get_or kids c.loop-child.child-index 0) (length c.args.self.now.graph.now.nodes + 1) size
-          (omega (arith, c.requires.node.within, child-below c.args.self.now.graph.now c.args.at kids c.args.self.now.valid c.requires.node.within c.kids-child-items.ensures c.loop-child.child-index c.loop-child-test.true)),
+          (omega (arith, c.requires.node.within, child-below c.args.self.now.graph.now c.args.at kids c.args.self.now.valid c.requires.node.within c.kids-child-items.ensures.kids c.loop-child.child-index c.loop-child-test.true)),
     )
 
 pub widened-requires-clause-outer : goal.widened-requires-clause-outer
@@ -47,16 +47,16 @@ loop-child-preserved c =
     let j = c.loop-child.child-index in
     let ok = c.args.self.now.valid in
     let lt = c.loop-child-test.true in
-    let below = child-below graph at kids ok c.requires.node.within c.kids-child-items.ensures j lt in
+    let below = child-below graph at kids ok c.requires.node.within c.kids-child-items.ensures.kids j lt in
     let inside : get_or kids j 0 < length graph.nodes = omega (arith, below, c.requires.node.within) in
     let child = subst (TellsNode graph c.args.self.now.skips.now evidence costs top groups (get_or kids j 0)) (sym c.pair_at-own.ensures) (c.requires.earlier (get_or kids j 0) below) in
-    or_next graph at kids ok c.requires.node.within c.kids-child-items.ensures c.args.self.now.skips.now c.requires.node.lives (Told evidence costs top groups c.either-pair.result) j lt
+    or_next graph at kids ok c.requires.node.within c.kids-child-items.ensures.kids c.args.self.now.skips.now c.requires.node.lives (Told evidence costs top groups c.either-pair.result) j lt
     (c.either-pair.ensures evidence costs top (group_count top) (group_in evidence (length costs) groups) _ _ _ c.loop-child.invariant
     (c.widened.ensures (λ a. is_true (living graph.nodes c.args.self.now.skips.now) (get_or kids j 0) a) (λ v. mentions graph.nodes v (get_or kids j 0)) (λ v. mentions graph.nodes v at)
     (c.args.self.now.for_graph.below.nodes (get_or kids j 0) inside) (c.args.self.now.for_graph.below.nodes at c.requires.node.within)
-    (child-mentions graph at kids ok c.requires.node.within c.kids-child-items.ensures j c.requires.node.what_is lt) child))
+    (child-mentions graph at kids ok c.requires.node.within c.kids-child-items.ensures.kids j c.requires.node.what_is lt) child))
 
 pub returns : goal.returns
 returns c =
-    or_end c.args.self.now.graph.now c.args.at c.kids-child-items.result.now c.args.self.now.valid c.requires.node.within c.kids-child-items.ensures c.args.self.now.skips.now c.requires.node.lives (Told c.args.self.now.evidence.now c.args.self.now.levels.now.costs c.args.self.now.levels.now.top c.args.self.now.groups c.loop-child.pair) c.loop-child.child-index c.requires.node.what_is (omega arith)
+    or_end c.args.self.now.graph.now c.args.at c.kids-child-items.result.now c.args.self.now.valid c.requires.node.within c.kids-child-items.ensures.kids c.args.self.now.skips.now c.requires.node.lives (Told c.args.self.now.evidence.now c.args.self.now.levels.now.costs c.args.self.now.levels.now.top c.args.self.now.groups c.loop-child.pair) c.loop-child.child-index c.requires.node.what_is (omega arith)
     c.loop-child.invariant

@@ -15,7 +15,7 @@ pub set_at-requires : goal.set_at-requires
 set_at-requires c =
     let kids = c.kids-child-items.result.now in
     let size = length c.args.set.now in
-    omega (arith, c.requires.sets, block-below (get_or kids c.loop-child.child-index 0) c.args.at size (child-below c.args.self.now.graph.now c.args.at kids c.args.self.now.valid c.requires.node.within c.kids-child-items.ensures c.loop-child.child-index c.loop-child-test.true))
+    omega (arith, c.requires.sets, block-below (get_or kids c.loop-child.child-index 0) c.args.at size (child-below c.args.self.now.graph.now c.args.at kids c.args.self.now.valid c.requires.node.within c.kids-child-items.ensures.kids c.loop-child.child-index c.loop-child-test.true))
 
 pub loop-child-preserved : goal.loop-child-preserved
 loop-child-preserved c evidence costs sets =
@@ -27,15 +27,15 @@ loop-child-preserved c evidence costs sets =
     let own : length c.put_sums.new.set ≡ length c.args.set.now = omega arith in
     let sums : AreSums c.loop-child.set child (32 * length c.put_sums.new.set) set =
     subst (λ n. AreSums c.loop-child.set child (32 * n) set) (sym size) (subst (λ (xs : List ℕ). AreSums xs child (32 * length c.loop-child.set) set) c.copy_from_slice.ensures.after c.put_sums.ensures) in
-    and_next c.args.self.now.graph.now c.args.at kids c.args.self.now.valid c.requires.node.within c.kids-child-items.ensures c.args.self.now.skips.now c.requires.node.lives (λ t m. IsCostSet evidence costs t m set) j c.loop-child-test.true
-    (and_is evidence costs _ _ _ _ c.loop-child.set child set (sym size) (omega (arith, c.set_at.ensures.long)) (children_apart c.args.self.now.graph.now c.args.at kids c.args.self.now.valid c.requires.node.within c.kids-child-items.ensures j c.requires.node.what_is c.loop-child-test.true) sums
+    and_next c.args.self.now.graph.now c.args.at kids c.args.self.now.valid c.requires.node.within c.kids-child-items.ensures.kids c.args.self.now.skips.now c.requires.node.lives (λ t m. IsCostSet evidence costs t m set) j c.loop-child-test.true
+    (and_is evidence costs _ _ _ _ c.loop-child.set child set (sym size) (omega (arith, c.set_at.ensures.long)) (children_apart c.args.self.now.graph.now c.args.at kids c.args.self.now.valid c.requires.node.within c.kids-child-items.ensures.kids j c.requires.node.what_is c.loop-child-test.true) sums
     (c.loop-child.invariant evidence costs (subst (λ n. AreNodeSets c.args.self.now.graph.now c.args.self.now.skips.now evidence costs n c.args.sets.now c.args.at) size sets))
     (subst (λ (xs : List ℕ). IsNodeSet c.args.self.now.graph.now c.args.self.now.skips.now evidence costs (get_or kids j 0) xs) (sym c.set_at.ensures.set)
-    (subst (λ n. AreNodeSets c.args.self.now.graph.now c.args.self.now.skips.now evidence costs n c.args.sets.now c.args.at) own sets (get_or kids j 0) (child-below c.args.self.now.graph.now c.args.at kids c.args.self.now.valid c.requires.node.within c.kids-child-items.ensures j c.loop-child-test.true))))
+    (subst (λ n. AreNodeSets c.args.self.now.graph.now c.args.self.now.skips.now evidence costs n c.args.sets.now c.args.at) own sets (get_or kids j 0) (child-below c.args.self.now.graph.now c.args.at kids c.args.self.now.valid c.requires.node.within c.kids-child-items.ensures.kids j c.loop-child-test.true))))
 
 pub returns : goal.returns
 returns c evidence costs sets =
     let kids = c.kids-child-items.result.now in
     let size : length c.args.set.now ≡ length c.loop-child.set = omega arith in
-    and_end c.args.self.now.graph.now c.args.at kids c.args.self.now.valid c.requires.node.within c.kids-child-items.ensures c.args.self.now.skips.now c.requires.node.lives (λ t m. IsCostSet evidence costs t m c.loop-child.set) c.loop-child.child-index c.requires.node.what_is (omega arith)
+    and_end c.args.self.now.graph.now c.args.at kids c.args.self.now.valid c.requires.node.within c.kids-child-items.ensures.kids c.args.self.now.skips.now c.requires.node.lives (λ t m. IsCostSet evidence costs t m c.loop-child.set) c.loop-child.child-index c.requires.node.what_is (omega arith)
     (c.loop-child.invariant evidence costs (subst (λ n. AreNodeSets c.args.self.now.graph.now c.args.self.now.skips.now evidence costs n c.args.sets.now c.args.at) size sets))

@@ -6,19 +6,19 @@ use Rattle.level_lister.proofs.search.Asked.put_set.Goals as goal
 
 pub leaf-requires-clause-var : goal.leaf-requires-clause-var
 leaf-requires-clause-var c =
-    let fits = literal-fits c.args.self.now.graph.now c.args.at _ c.args.self.now.valid c.requires.at refl c.in-Literal.var c.in-Literal.positive c.in-Literal.ensures in
+    let fits = literal-fits c.args.self.now.graph.now c.args.at _ c.args.self.now.valid c.requires.at refl c.in-Literal.var c.in-Literal.positive c.in-Literal.ensures.what in
     (fits.0, omega (arith, fits.1, c.args.self.now.long))
 
 pub part_cost-requires : goal.part_cost-requires
-part_cost-requires c = (literal-fits c.args.self.now.graph.now c.args.at _ c.args.self.now.valid c.requires.at refl c.in-Literal.var c.in-Literal.positive c.in-Literal.ensures).0
+part_cost-requires c = (literal-fits c.args.self.now.graph.now c.args.at _ c.args.self.now.valid c.requires.at refl c.in-Literal.var c.in-Literal.positive c.in-Literal.ensures.what).0
 
 pub returns-in-Literal : goal.returns-in-Literal
 returns-in-Literal c = literal_set c.args.self.now.graph.now c.args.at _ c.args.self.now.valid c.requires.at refl c.args.self.now.skips.now c.if-self-at-ne0.false c.args.self.now.evidence.now c.args.self.now.levels.now.costs c.in-Literal.var c.part_cost.result c.in-Literal.positive c.leaf.result c.put_literal.new.set
-    c.in-Literal.ensures c.leaf.ensures (c.part_cost.ensures ∙ ap (λ cs. part_cost cs c.in-Literal.var) c.costs.ensures) c.put_literal.ensures.ruled_out (λ p n h. c.put_literal.ensures.allowed p n (omega arith))
+    c.in-Literal.ensures.what c.leaf.ensures (c.part_cost.ensures ∙ ap (λ cs. part_cost cs c.in-Literal.var) c.costs.ensures) c.put_literal.ensures.ruled_out (λ p n h. c.put_literal.ensures.allowed p n (omega arith))
 
 pub returns-then-lacking-at-eq0 : goal.returns-then-lacking-at-eq0
 returns-then-lacking-at-eq0 c = c.put_full.ensures.all c.args.self.now.skips.now c.args.self.now.evidence.now c.args.self.now.levels.now.costs c.if-self-at-ne0.false
-    ((c.args.self.now.for_graph.lacking.nodes c.args.at c.requires.at).0 (sym (ap (λ xs. get_or xs c.args.at 0) c.lacking.ensures) ∙ c.if-lacking-at-eq0.true) (sym c.in-Or.ensures)) c.requires.earlier
+    ((c.args.self.now.for_graph.lacking.nodes c.args.at c.requires.at).0 (sym (ap (λ xs. get_or xs c.args.at 0) c.lacking.ensures) ∙ c.if-lacking-at-eq0.true) (sym c.in-Or.ensures.what)) c.requires.earlier
 
 pub returns-then-self-at-ne0 : goal.returns-then-self-at-ne0
 returns-then-self-at-ne0 c = skipped_set c.args.self.now.graph.now c.args.self.now.skips.now c.args.self.now.evidence.now c.args.self.now.levels.now.costs c.args.at c.clear.new.set c.args.self.now.valid c.requires.at c.if-self-at-ne0.true c.clear.ensures

@@ -8,7 +8,7 @@ use Rattle.probe_report.proofs.leaving.NodeCosts.lower_with.Goals.{in-Literal+th
 pub lower_wire-requires : goal.lower_wire-requires
 lower_wire-requires c =
     let below : c.loop-at.at < length c.args.self.now.graph.now.nodes = omega (arith, c.len-at-end.ensures.len, c.loop-at-test.true) in
-    (literal_at _ _ _ _ _ c.args.self.now.valid (the_node _ _ _ _ below c.in-Literal.ensures refl)).0
+    (literal_at _ _ _ _ _ c.in-Literal.ensures.valid (the_node _ _ _ _ below c.in-Literal.ensures.what refl)).0
 
 pub loop-at-preserved : goal.loop-at-preserved
 loop-at-preserved c i h =
@@ -23,11 +23,11 @@ loop-at-preserved c i h =
     let before = c.loop-at.invariant i inside in
     let Said = λ (n : ℕ). IsLowered (λ cost. (node : ℕ) × (node < at + 1) × AtLiteral nodes os var c.args.bit node cost) old n in
     elim c.match-what.branch [
-      | in-Literal+then-positive-bit w ↦ literal-more nodes os var c.args.bit at old mid (get_or c.match-what.list i 0) w.in-Literal.var w.in-Literal.positive below before w.in-Literal.ensures (beq-true _ _ w.if-positive-bit.true)
+      | in-Literal+then-positive-bit w ↦ literal-more nodes os var c.args.bit at old mid (get_or c.match-what.list i 0) w.in-Literal.var w.in-Literal.positive below before w.in-Literal.ensures.what (beq-true _ _ w.if-positive-bit.true)
           (ap (λ ys. get_or ys i 0) w.list-is ∙ w.lower_wire.ensures i inside)
       | in-Literal+else-positive-bit w ↦ subst Said (sym (ap (λ ys. get_or ys i 0) w.list-is)) (literal-same nodes os var c.args.bit at old mid before
-          (λ e. beq-false _ _ w.if-positive-bit.false (same_sign (w.in-Literal.ensures ∙ e))))
-      | in_default w ↦ subst Said (sym (ap (λ ys. get_or ys i 0) w.list-is)) (literal-same nodes os var c.args.bit at old mid before (λ e. w.in_default.not-Literal c.args.bit var (c.what.ensures ∙ e)))
+          (λ e. beq-false _ _ w.if-positive-bit.false (same_sign (w.in-Literal.ensures.what ∙ e))))
+      | in_default w ↦ subst Said (sym (ap (λ ys. get_or ys i 0) w.list-is)) (literal-same nodes os var c.args.bit at old mid before (λ e. w.in_default.not-Literal c.args.bit var (c.what.ensures.what ∙ e)))
     ]
 
 pub returns : goal.returns

@@ -15,7 +15,7 @@ kind-requires g c =
     let graph = c.args.self.now.graph.now in
     let node = node_at graph.nodes c.loop-node.node in
     let below : c.loop-node.node < length graph.nodes = omega (arith, c.loop-node.invariant.end) in
-    (λ i. variable_fits graph.vars (c.what.ensures i)) ∙ variable_fits-from graph.vars node.what node.kids (fits-at graph.vars graph.nodes c.loop-node.node c.len-node-end.ensures.valid.nodes.fit below).kind
+    (λ i. variable_fits graph.vars (c.what.ensures.what i)) ∙ variable_fits-from graph.vars node.what node.kids (fits-at graph.vars graph.nodes c.loop-node.node c.len-node-end.ensures.valid.nodes.fit below).kind
 
 pub loop-node-preserved : goal.loop-node-preserved
 loop-node-preserved g c =
@@ -24,6 +24,6 @@ loop-node-preserved g c =
     let below : c.loop-node.node < length nodes = omega (arith, c.loop-node.invariant.end) in
     record {
       added = extends_each (λ node. spaced (node_words (projected_node projection.evidence.now projection.parts node))) nodes c.loop-node.node true_node _ _ _ _ _ _ _ c.loop-node.invariant.added c.add_node.ensures
-          (projected-line projection.evidence.now projection.parts (node_at nodes c.loop-node.node) c.what.result c.kind.result c.kids.result.now c.kind.ensures c.what.ensures c.kids.ensures) below;
+          (projected-line projection.evidence.now projection.parts (node_at nodes c.loop-node.node) c.what.result c.kind.result c.kids.result.now c.kind.ensures c.what.ensures.what c.kids.ensures.kids) below;
       end = c.loop-node.invariant.end;
     }

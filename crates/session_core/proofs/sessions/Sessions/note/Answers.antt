@@ -21,7 +21,7 @@ returns-in-Some-clause-obeys g c =
     let what = c.args.what in
     let s = c.args.session.name.now in
     let here = there subject c.self.inside.open c.args.self.now c.self.view_is c.args.session c.requires in
-    let found = c.in-Some.ensures ∙ ap (λ (u : Subject). place_of c.args.name.now (names_of u what)) c.basis.ensures in
+    let found = c.in-Some.ensures.place ∙ ap (λ (u : Subject). place_of c.args.name.now (names_of u what)) c.basis.ensures in
     open_word subject c.self.inside.open c.args.self.now c.self.view_is c.args.session c.requires (Note what c.args.name.now c.args.known) (Becomes (with_noted here.entry what c.in-Some.at c.args.known)) (codes "ok") _ _ _ _ _
     (grind arith)
     refl (c.note.ensures s here.entry here.stands) c.put_line.ensures.bytes

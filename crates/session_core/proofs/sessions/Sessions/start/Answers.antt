@@ -26,7 +26,7 @@ returns-then-is_full-clause-obeys g c =
     let s = c.args.name.now in
     let none = subst (λ (v : Shown). entry_of s v.table ≡ None) (sym c.self.view_is) c.requires.closed in
     subst (λ (v : Shown). Obeys v v s Start (g.O.Sink.got c.args.out.now) (g.O.Sink.got c.put_refusal.new.out) c.put_refusal.result) c.self.view_is
-    (obeys_refusal shown s Start _ _ _ Full (opened shown s true none c.if-is_full.ensures.full) c.put_refusal.ensures.text)
+    (obeys_refusal shown s Start _ _ _ Full (opened shown s true none c.if-is_full.ensures) c.put_refusal.ensures.text)
 
 pub returns-clause-obeys : goal.returns-clause-obeys
 returns-clause-obeys g c =
@@ -37,11 +37,11 @@ returns-clause-obeys g c =
     let none = subst (λ (v : Shown). entry_of s v.table ≡ None) (sym c.self.view_is) c.requires.closed in
     let fresh = c.start.ensures ∙ (λ i. opened_with sessions (with_entry s (record { known = empty_case (c.self.invariant.wires i) (c.self.invariant.parts i); point = None }) sessions.table)) in
     subst (λ (v : Shown). Obeys v (shown_of subject c.start.new.self) s Start (g.O.Sink.got c.args.out.now) (g.O.Sink.got c.put_line.new.out) c.put_line.result) c.self.view_is
-    (obeys_one shown (shown_of subject c.start.new.self) s Start _ _ _ _ (opened shown s false none c.if-is_full.ensures.full) (ap (shown_of subject) fresh)
+    (obeys_one shown (shown_of subject c.start.new.self) s Start _ _ _ _ (opened shown s false none c.if-is_full.ensures) (ap (shown_of subject) fresh)
     (replies_one _ _ _ (line (s ∷ codes "open" ∷ [])) _ refl c.put_line.ensures.bytes))
 
 pub start-requires-clause-room : goal.start-requires-clause-room
-start-requires-clause-room g c = grind (arith, nat_tests, c.if-is_full.ensures.full)
+start-requires-clause-room g c = grind (arith, nat_tests, c.if-is_full.ensures)
 
 pub start-requires-clause-closed : goal.start-requires-clause-closed
 start-requires-clause-closed g c = grind arith

@@ -2,7 +2,7 @@ use Rattle.std.proofs.Common.{◌≡◌, ◌+◌, ◌-◌, ◌≤◌, ℕ, List,
 use Rattle.std.specs.Io.KnownBytes.{Consumes}
 use Rattle.session_core.specs.Services.{moves_of, ChangesTable}
 use Rattle.session_core.specs.inner.Gathering.{Fed}
-use Rattle.session_core.proofs.serving.serve_from.Given as goal
+use Rattle.session_core.proofs.service.Service.serve.Given as goal
 
 -- the bytes so far were taken and fed
 abbrev pub invariant-loop-taken : goal.invariant-loop-taken
@@ -12,8 +12,8 @@ invariant-loop-taken g l =
     record {
       so_far : (bytes : List ℕ) × (l.taken ≡ length bytes)
           × Consumes (I.left l.fn.input) (I.left l.input) bytes
-          × Fed (moves_of l.fn.sessions) l.fn.sessions.table l.sessions.table [] l.gathered bytes (O.got l.fn.out) (O.got l.out);
-      stays : ChangesTable l.fn.sessions l.sessions;
+          × Fed (moves_of l.fn.self) l.fn.self.table l.self-inside.sessions.table [] l.self-inside.gathered bytes (O.got l.fn.out) (O.got l.out);
+      stays : ChangesTable l.fn.self l.self-inside.sessions;
       taken : I.taken l.input ≡ I.taken l.fn.input + l.taken;
       reads : I.faults l.input ≡ I.faults l.fn.input;
       writes : O.faults l.out ≡ O.faults l.fn.out;

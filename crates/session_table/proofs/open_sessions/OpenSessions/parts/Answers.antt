@@ -3,7 +3,7 @@ use Rattle.text_rules.specs.Names.{Name}
 use Rattle.session_rules.specs.Sessions.{Entry, entry_of}
 use Rattle.session_table.specs.Tables.{Opened, Fits}
 use Rattle.session_table.proofs.FittingCases.{all_fit}
-use Rattle.session_table.proofs.open_sessions.OpenSessions.is_full.Goals as goal
+use Rattle.session_table.proofs.open_sessions.OpenSessions.parts.Goals as goal
 
 pub returns-clause-cases : goal.returns-clause-cases
 returns-clause-cases c =

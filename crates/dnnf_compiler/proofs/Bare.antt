@@ -34,13 +34,15 @@ other_plain m is k not_yes not_no node there = grind (arith, is.store.once k m.y
 -- ---- one more node
 
 pub bare_push : (vars : ℕ) (old new : List Node) (node : Node) → AreNodes vars old → AddsAtMost old node new → HasNoBareChild old → ((k : ℕ) → Contains node.kids k → (k < length old) × IsPlain old k) → HasNoBareChild new
-bare_push vars old new node are adds none plain parent number n child there has child_there = grind (arith, adds, get-push old node n parent, get-push old node child number, none parent number n child, plain number, before vars old are parent n, All-contains (λ k. k < parent) n.kids number, slice_get_within old parent n)
+bare_push vars old new node are adds none plain parent number n child there has child_there =
+    grind (arith, adds, get-push old node n parent, get-push old node child number, none parent number n child, plain number, before vars old are parent n, All-contains (λ k. k < parent) n.kids number, slice_get_within old parent n)
 
 -- ---- at the beginning no node has a child
 
 literals_childless : (n i : ℕ) (node : Node) → slice_get (literals n) i ≡ Some node → node.kids ≡ []
 literals_childless zero i node there = absurd (let never : ⊥ = cc in never)
-literals_childless (suc n) i node there = grind (arith, append_assoc (literals n) (literal_node (n + 1) true ∷ []) (literal_node (n + 1) false ∷ []), get-push (literals n ++ literal_node (n + 1) true ∷ []) (literal_node (n + 1) false) node i, get-push (literals n) (literal_node (n + 1) true) node i, literals_childless n i node)
+literals_childless (suc n) i node there =
+    grind (arith, append_assoc (literals n) (literal_node (n + 1) true ∷ []) (literal_node (n + 1) false ∷ []), get-push (literals n ++ literal_node (n + 1) true ∷ []) (literal_node (n + 1) false) node i, get-push (literals n) (literal_node (n + 1) true) node i, literals_childless n i node)
 
 pub first_bare : (vars : ℕ) (nodes mid new : List Node) (a b : Node) → nodes ≡ literals vars → AddsAtMost nodes a mid → a.kids ≡ [] → AddsAtMost mid b new → b.kids ≡ [] → HasNoBareChild new
 first_bare vars nodes mid new a b is one e two f parent number n child there has = grind (arith, one, two, get-push mid b n parent, get-push nodes a n parent, literals_childless vars parent n)

@@ -94,4 +94,5 @@ pub choices_more : (old mid new : Maker) (var : ℕ) (below : List (Vec ℕ Glob
     → IfSome zero (IsUsable old.store.nodes var below) → IfSome one (IsUsable old.store.nodes var below)
     → slice_get zeros (length nodes) ≡ Some zero → slice_get ones (length nodes) ≡ Some one → Adds old mid more kids → IsChosen mid new var below zero one node
     → AreFirstChoices old mid var below zeros ones nodes → AreFirstChoices old new var below zeros ones (nodes ++ node ∷ [])
-choices_more old mid new var below zeros ones nodes zero one node more kids h k at_zero at_one adds made first j z o n here there at = grind (arith, get-push nodes node n j at, way_grows old.store.nodes mid.store.nodes, names_grow old.store.nodes mid.store.nodes, adds.grows, h, k, made, first j z o n here there)
+choices_more old mid new var below zeros ones nodes zero one node more kids h k at_zero at_one adds made first j z o n here there at =
+    grind (arith, get-push nodes node n j at, way_grows old.store.nodes mid.store.nodes, names_grow old.store.nodes mid.store.nodes, adds.grows, h, k, made, first j z o n here there)

@@ -1,9 +1,9 @@
 -- The steps of the chain of an order.
-use Rattle.std.proofs.Common.{◌≡◌, ℕ, zero, suc, ◌+◌, List, [], ◌∷◌, ◌++◌, map, length, drop, get_or, ap, sym, ◌∙◌, arith, inl, inr}
+use Rattle.std.proofs.Common.{◌≡◌, ℕ, zero, suc, ◌+◌, List, [], ◌∷◌, ◌++◌, map, length, drop, get_or, ap, arith}
 use mir.Val.{bool_byte}
 use Rattle.std.specs.Prelude.{nat_lt}
 use Rattle.std.specs.List.{range_with_len}
-use Rattle.std.proofs.lemmas.Bool.{cases_lt, lt-ltb}
+use Rattle.std.proofs.lemmas.Bool.Decides.{nat_tests}
 use Rattle.std.proofs.lemmas.List.{drop_more, drop_all, append-nil, map-append}
 use Rattle.state_rules.proofs.Lists.{range_more}
 use Rattle.elimination_forests.specs.declared.steps.Step.{Step}
@@ -11,10 +11,7 @@ use Rattle.elimination_forests.specs.Forests.{trees, steps_of, chain}
 
 -- one tree is below each variable but the last
 pub trees_are : (vs : List ℕ) (i : ℕ) → bool_byte (nat_lt (i + 1) (length vs)) ≡ trees (chain (drop (i + 1) vs))
-trees_are vs i = elim (cases_lt (i + 1) (length vs)) [
-  | inl low ↦ ap bool_byte (lt-ltb (i + 1) (length vs) low) ∙ sym (ap (λ us. trees (chain us)) (drop_more vs (i + 1) 0 low))
-  | inr high ↦ grind (arith, drop_all)
-]
+trees_are vs i = grind (arith, nat_tests, drop_all (i + 1) vs, drop_more vs (i + 1) 0)
 
 abbrev pub chain_step : List ℕ → ℕ → Step
 chain_step vs i = record { var = get_or vs i 0; trees = trees (chain (drop (i + 1) vs)) }

@@ -1,9 +1,9 @@
 -- The order of the variables, as it is found.
-use Rattle.std.proofs.Common.{◌≡◌, ℕ, ◌+◌, ◌<◌, ◌≤◌, inl, inr, true, false, List, [], ◌∷◌, ◌++◌, map, length, refl, sym, ◌∙◌, arith}
+use Rattle.std.proofs.Common.{◌≡◌, ℕ, ◌+◌, ◌<◌, ◌≤◌, true, false, List, [], ◌∷◌, ◌++◌, map, length, refl, sym, ◌∙◌, arith}
 use Rattle.std.specs.Prelude.{nat_eq, nat_le, position}
 use Rattle.std.specs.List.{list_any, list_all, flat_map, IsDistinct, AllByRecursion}
 use Rattle.std.specs.Option.{unwrap_or}
-use Rattle.std.proofs.lemmas.Bool.{false≢true, or_cases, ne_eqb, eqb-true}
+use Rattle.std.proofs.lemmas.Bool.{false≢true}
 use Rattle.std.proofs.lemmas.List.{append-nil}
 use Rattle.std.proofs.lemmas.List.Folds.{list_any-append}
 use Rattle.std.proofs.lemmas.Map.Steps.{length-le_from_distinct_below}
@@ -14,10 +14,6 @@ use Rattle.elimination_forests.proofs.FirstPlaces.{found-at}
 use Rattle.elimination_forests.proofs.MetOrder.{among, among-first_met, first_met-push, clauses-valid}
 use Rattle.elimination_forests.proofs.VariableOrder.{AllOnce, first_met-once}
 
-place-absent : (vs : List ℕ) (v : ℕ) → among vs v ≡ false → place vs v ≡ length vs
-place-absent [] v e = refl
-place-absent (u ∷ vs) v e = grind (arith, place-absent vs v)
-
 -- ---- the order as it is found
 
 -- a variable more
@@ -25,6 +21,10 @@ pub met : (old vs : List ℕ) (v : ℕ) → old ≡ first_met same_variable vs �
 met old vs v e = grind (arith, among-first_met, first_met-push, append-nil)
 
 -- where it stands
+place-absent : (vs : List ℕ) (v : ℕ) → among vs v ≡ false → place vs v ≡ length vs
+place-absent [] v e = refl
+place-absent (u ∷ vs) v e = grind (arith, place-absent vs v)
+
 pub place-found : (vs : List ℕ) (v : ℕ) → unwrap_or (position (nat_eq v) vs) (length vs) ≡ place vs v
 place-found vs v = grind (arith, found-at, place-absent)
 
@@ -34,12 +34,9 @@ clause-within : (vars below : ℕ) (c : Clause) (q : ℕ) → vars_rise below c 
 clause-within vars below [] q e f there = absurd (false≢true there)
 clause-within vars below (l ∷ c) q e f there = grind (arith, clause-within vars (var_of l) c q)
 
-clause-bounds : (vars : ℕ) (c : Clause) (q : ℕ) → is_clause vars c ≡ true → among (map var_of c) q ≡ true → (0 < q) × (q ≤ vars)
-clause-bounds vars c q e there = grind (arith, clause-within)
-
 all-within : (vars : ℕ) (cs : List Clause) (q : ℕ) → list_all (is_clause vars) cs ≡ true → among (flat_map (map var_of) cs) q ≡ true → (0 < q) × (q ≤ vars)
 all-within vars [] q e there = absurd (false≢true there)
-all-within vars (c ∷ cs) q e there = grind (arith, list_any-append, clause-bounds, all-within vars cs q)
+all-within vars (c ∷ cs) q e there = grind (arith, list_any-append, clause-within, all-within vars cs q)
 
 each-among : (P : ℕ → Type 0) (vs : List ℕ) → ((q : ℕ) → among vs q ≡ true → P q) → AllByRecursion P vs
 each-among P [] h = tt
@@ -54,12 +51,8 @@ pub order-few : (cnf : ClauseList) → is_clause_list cnf ≡ true → length (o
 unfolding IsDistinct
 order-few cnf e = omega (
   arith,
-  length-le_from_distinct_below (0 ∷ order cnf.clauses) (cnf.vars + 1)
-      (each-among (λ q. nat_eq 0 q ≡ false) (order cnf.clauses) (λ q there. ne_eqb 0 q (λ same. omega (arith, (bounds q there).0))), grind (arith, distinct, first_met-once))
-      (λ q there. elim (or_cases (nat_eq q 0) (list_any (nat_eq q) (order cnf.clauses)) there) [
-        | inl here ↦ omega (arith, eqb-true q 0 here)
-        | inr later ↦ omega (arith, (bounds q (grind arith)).1)
-      ]),
+  length-le_from_distinct_below (0 ∷ order cnf.clauses) (cnf.vars + 1) (each-among (λ q. nat_eq 0 q ≡ false) (order cnf.clauses) (λ q there. grind (arith, bounds q there)), grind (arith, distinct, first_met-once))
+      (λ q there. let low : list_any (nat_eq q) (order cnf.clauses) ≡ true → q ≤ cnf.vars = λ t. (bounds q (grind arith)).1 in grind (arith, low)),
 ) where
   bounds : (q : ℕ) → among (order cnf.clauses) q ≡ true → (0 < q) × (q ≤ cnf.vars)
   bounds q there = all-within cnf.vars cnf.clauses q (clauses-valid cnf e).2 (sym (among-first_met (flat_map (map var_of) cnf.clauses) q) ∙ there)

@@ -1,8 +1,7 @@
 -- A step from one level to the next, clause by clause.
-use Rattle.std.proofs.Common.{◌≡◌, ℕ, zero, suc, ◌+◌, ◌<◌, ◌≤◌, Bool, true, false, not, ◌&&◌, ◌||◌, cond, List, [], ◌∷◌, ◌++◌, length, take, get_or, refl, ap, sym, ◌∙◌, arith}
+use Rattle.std.proofs.Common.{◌≡◌, ℕ, suc, ◌+◌, ◌<◌, ◌≤◌, Bool, true, false, not, ◌&&◌, ◌||◌, cond, List, [], ◌∷◌, ◌++◌, length, take, get_or, refl, ap, arith}
 use mir.Val.{bool_byte}
 use Rattle.std.specs.List.{filter}
-use Rattle.std.proofs.Math.Bool.{or-false}
 use Rattle.std.proofs.lemmas.Bool.{false≢true}
 use Rattle.std.proofs.lemmas.List.{append-nil, length-take-le, take_all}
 use Rattle.std.proofs.lemmas.List.Filters.{length-filter_more}
@@ -17,22 +16,19 @@ some-more : (test : Clause → Bool) (cs : List Clause) (list : List Bool) (k : 
     → some_passes test (take (suc k) cs) list ≡ (some_passes test (take k cs) list || (get_or list k false && test (get_or cs k [])))
 some-more test [] list k h e = absurd (omega arith)
 some-more test (c ∷ cs) [] k h e = absurd (omega arith)
-some-more test (c ∷ cs) (b ∷ list) zero h e = or-false (b && test c)
-some-more test (c ∷ cs) (b ∷ list) (suc k) h e = grind (arith, some-more test cs list k)
+some-more test (c ∷ cs) (b ∷ list) k h e = grind (arith, some-more test cs list)
 
 bits-more : (test : Clause → Bool) (cs : List Clause) (list : List Bool) (k : ℕ) → k < length cs → length list ≡ length cs
     → bits_of test (take (suc k) cs) list ≡ bits_of test (take k cs) list ++ cond (test (get_or cs k [])) (get_or list k false ∷ []) []
 bits-more test [] list k h e = absurd (omega arith)
 bits-more test (c ∷ cs) [] k h e = absurd (omega arith)
-bits-more test (c ∷ cs) (b ∷ list) zero h e = refl
-bits-more test (c ∷ cs) (b ∷ list) (suc k) h e = grind (arith, bits-more test cs list k)
+bits-more test (c ∷ cs) (b ∷ list) k h e = grind (arith, bits-more test cs list)
 
 -- what comes later does not bring a list back
 some-whole : (test : Clause → Bool) (cs : List Clause) (list : List Bool) (k : ℕ) → k < length cs → test (get_or cs k []) ≡ true → get_or list k false ≡ true → some_passes test cs list ≡ true
 some-whole test [] list k h e f = absurd (omega arith)
 some-whole test (c ∷ cs) [] k h e f = absurd (false≢true f)
-some-whole test (c ∷ cs) (b ∷ list) zero h e f = grind arith
-some-whole test (c ∷ cs) (b ∷ list) (suc k) h e f = grind (arith, some-whole test cs list k)
+some-whole test (c ∷ cs) (b ∷ list) k h e f = grind (arith, some-whole test cs list)
 
 length-without : (test : Clause → Bool) (cs : List Clause) (list : List Bool) → length list ≡ length cs → length (without test cs list) ≡ length cs
 length-without test [] list e = refl
@@ -43,22 +39,19 @@ without-at : (test : Clause → Bool) (cs : List Clause) (list : List Bool) (k :
     → get_or (without test cs list) k false ≡ (get_or list k false && not (test (get_or cs k [])))
 without-at test [] list k h e = absurd (omega arith)
 without-at test (c ∷ cs) [] k h e = absurd (omega arith)
-without-at test (c ∷ cs) (b ∷ list) zero h e = refl
-without-at test (c ∷ cs) (b ∷ list) (suc k) h e = without-at test cs list k (omega arith) (omega arith)
+without-at test (c ∷ cs) (b ∷ list) k h e = grind (arith, without-at test cs list)
 
 -- Whether a clause is in the list of a state: what has no bit is, what has all bits is not, and the others' bits are one after the other.
 in-list : (vs : List ℕ) (i : ℕ) (cs : List Clause) (list : List Bool) (k : ℕ) → Known vs i cs list → k < length cs
     → (not (is_covered vs i (get_or cs k [])) && (not (is_touched vs i (get_or cs k [])) || bit_in (bits_of (is_active vs i) cs list) (length (filter (is_active vs i) (take k cs))))) ≡ get_or list k false
 in-list vs i [] list k h low = absurd (omega arith)
 in-list vs i (c ∷ cs) [] k h low = absurd h
-in-list vs i (c ∷ cs) (b ∷ list) zero h low = grind arith
-in-list vs i (c ∷ cs) (b ∷ list) (suc k) h low = grind (arith, in-list vs i cs list k h.2)
+in-list vs i (c ∷ cs) (b ∷ list) k h low = grind (arith, in-list vs i cs list)
 
 -- there is room for what is read and written
 pub filter-room : (test : Clause → Bool) (cs : List Clause) (k : ℕ) → k < length cs → test (get_or cs k []) ≡ true → length (filter test (take k cs)) < length (filter test cs)
 filter-room test [] k h e = absurd (omega arith)
-filter-room test (c ∷ cs) zero h e = omega (arith, ap (λ t. length (cond t (c ∷ filter test cs) (filter test cs))) e)
-filter-room test (c ∷ cs) (suc k) h e = grind (arith, filter-room test cs k)
+filter-room test (c ∷ cs) k h e = grind (arith, filter-room test cs)
 
 byte-one : (b : Bool) → bool_byte b ≡ cond {A = ℕ} b 1 0
 byte-one b = grind arith
@@ -120,7 +113,7 @@ module _ (cs : List Clause) (i : ℕ) (bit : Bool) (state next : List ℕ) (k re
   bits-next list lives t e = grind (arith, bits-more, long-branch)
 
   writes-more : (t : Bool) → is_active (order cs) (i + 1) here ≡ t → written + cond {A = ℕ} t 1 0 ≡ length (filter (is_active (order cs) (i + 1)) (take (k + 1) cs))
-  writes-more t e = (λ j. h.writes j + cond {A = ℕ} (sym e j) 1 0) ∙ sym (length-filter_more (is_active (order cs) (i + 1)) cs k [] low)
+  writes-more t e = grind (arith, h.writes, length-filter_more (is_active (order cs) (i + 1)) cs k [] low)
 
   -- a clause that goes on
   pub stepped-on : (after : List ℕ) → is_active (order cs) (i + 1) here ≡ true → length after ≡ length next
@@ -129,27 +122,12 @@ module _ (cs : List Clause) (i : ℕ) (bit : Bool) (state next : List ℕ) (k re
   stepped-on after e same put = record {
     reads = reads;
     writes = writes-more true e;
-    told = λ list lives s. record {
-      alive = grind (arith, alive-more);
-      words =
-          put (bits_of (is_active (order cs) (i + 1)) (take k cs) (branch cs i list bit))
-          (grind (arith, length-bits_of, long-branch, length-take-le))
-          (h.told list lives s).words
-          ∙ (λ j. words_of (sym same j) (bits_of (is_active (order cs) (i + 1)) (take k cs) (branch cs i list bit) ++ is list lives s j ∷ []))
-          ∙ ap (words_of (length after)) (sym (bits-next list lives true e));
-    };
+    told = λ list lives s. grind (arith, is list lives s, h.told list lives s, alive-more list lives s, put (bits_of (is_active (order cs) (i + 1)) (take k cs) (branch cs i list bit)), length-bits_of, long-branch, length-take-le, bits-next list lives true e);
   }
 
   -- one that does not, and leaves the list alive
   pub stepped-off : is_active (order cs) (i + 1) here ≡ false → (left && is_covered (order cs) (i + 1) here) ≡ false → IsStepped cs i bit state next (k + 1) more written
-  stepped-off e rest = record {
-    reads = reads;
-    writes = omega (arith, writes-more false e);
-    told = λ list lives s. record {
-      alive = alive-more list lives s rest;
-      words = (h.told list lives s).words ∙ ap (words_of (length next)) (sym (grind (arith, append-nil)) ∙ sym (bits-next list lives false e));
-    };
-  }
+  stepped-off e rest = record { reads = reads; writes = grind (arith, writes-more false e); told = λ list lives s. grind (arith, h.told list lives s, alive-more list lives s rest, append-nil, bits-next list lives false e) }
 
 -- all clauses
 pub stepped-all : (cs : List Clause) (i : ℕ) (bit : Bool) (state next : List ℕ) (k read written : ℕ) → length cs ≤ k → IsStepped cs i bit state next k read written

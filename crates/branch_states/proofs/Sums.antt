@@ -1,5 +1,5 @@
 -- The sum of the levels, by that along the forest that is their order.
-use Rattle.std.proofs.Common.{◌≡◌, ℕ, ◌+◌, ◌<◌, ◌≤◌, Bool, true, List, arith}
+use Rattle.std.proofs.Common.{◌≡◌, ℕ, ◌+◌, Bool, true, List, arith}
 use Rattle.std.specs.Prelude.{if◌then◌else◌}
 use Rattle.clause_encoder.specs.Clauses.{ClauseList, is_clause_list}
 use Rattle.elimination_forests.specs.Branches.{order, sum_of}
@@ -9,18 +9,8 @@ use Rattle.elimination_forests.specs.Forests.{Forest, steps_of, is_forest_of, ro
 use Rattle.elimination_forests.proofs.Chains.{chain-forest}
 use Rattle.elimination_forests.proofs.LastWays.{chain-last}
 
-module _ (cnf : ClauseList) (valid : is_clause_list cnf ≡ true) where
-  abbrev its_sum : ℕ
-  its_sum = forest_sum Words (chain (order cnf.clauses)) cnf.clauses
-
-  pub some-counted : (sum : ℕ) → sum ≡ its_sum → 1 ≤ sum
-  some-counted sum e = omega (arith, e)
-
-  pub whole-sum : (steps : List Step) (sum : ℕ) (leads : Bool) → steps ≡ steps_of (chain (order cnf.clauses))
-      → ((forest : Forest) → steps ≡ steps_of forest → is_forest_of forest cnf ≡ true → sum ≡ forest_sum Words forest cnf.clauses)
-      → ((forest : Forest) → steps ≡ steps_of forest → is_forest_of forest cnf ≡ true → leads ≡ leads_on (forks_on forest (root cnf.clauses)))
-      → sum + (if leads then 1 else 0) ≡ 1 + sum_of cnf.clauses
-  whole-sum steps sum leads e s l = grind (arith, chain-forest, chain-last)
-
-  pub above-sum : (top : ℕ) → top + 1 < its_sum → top < sum_of cnf.clauses
-  above-sum top h = omega (arith, h, chain-last cnf valid)
+pub whole-sum : (cnf : ClauseList) → is_clause_list cnf ≡ true → (steps : List Step) (sum : ℕ) (leads : Bool) → steps ≡ steps_of (chain (order cnf.clauses))
+    → ((forest : Forest) → steps ≡ steps_of forest → is_forest_of forest cnf ≡ true → sum ≡ forest_sum Words forest cnf.clauses)
+    → ((forest : Forest) → steps ≡ steps_of forest → is_forest_of forest cnf ≡ true → leads ≡ leads_on (forks_on forest (root cnf.clauses)))
+    → sum + (if leads then 1 else 0) ≡ 1 + sum_of cnf.clauses
+whole-sum cnf valid steps sum leads e s l = grind (arith, chain-forest, chain-last)

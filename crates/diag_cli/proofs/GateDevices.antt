@@ -1,20 +1,18 @@
 -- A device of gates of which no part is held is never at odds with what was seen: if all gates are faulty, they allow anything.
-use Rattle.std.proofs.Common.{◌≡◌, ℕ, zero, suc, Bool, true, false, List, [], ◌∷◌, ◌++◌, map, length, replicate, Option, Some, None, refl, sym, ◌∙◌, subst, ap}
-use Rattle.std.specs.Prelude.{Ok, ◌&&◌, IsSome, fold, option_map, unwrap_or}
+use Rattle.std.proofs.Common.{arith, ◌≡◌, ℕ, zero, suc, Bool, true, false, List, [], ◌∷◌, ◌++◌, map, length, replicate, Option, None, refl}
+use Rattle.std.specs.Prelude.{Ok, ◌&&◌, IsSome, fold, unwrap_or}
 use Rattle.std.specs.List.{filter_map, flat_map, list_all}
-use Rattle.std.specs.Option.{option_to_list}
-use Rattle.std.proofs.lemmas.Bool.{and_parts, and_from}
+use Rattle.std.proofs.lemmas.Bool.{and_from}
 use Rattle.std.proofs.lemmas.List.{length-map}
 use Rattle.std.proofs.lemmas.List.Folds.{list_all-append}
 use Rattle.text_rules.specs.Names.{Name}
 use Rattle.text_rules.specs.TextLines.{all_lines}
-use Rattle.state_rules.specs.Bits.{bit_in, lists_of_bits}
+use Rattle.state_rules.specs.Bits.{lists_of_bits}
 use Rattle.state_rules.specs.Cases.{Case, agrees}
 use Rattle.state_rules.specs.Ranking.{cost}
 use Rattle.state_rules.specs.Systems.{least_cost}
 use Rattle.state_rules.proofs.Bits.{same_bit-refl}
 use Rattle.state_rules.proofs.Members.{In, bits_in, any_in, AtMost, least-below}
-use Rattle.device_model.specs.declared.gates.Kind.{Kind}
 use Rattle.device_model.specs.declared.gates.Rule.{Rule}
 use Rattle.device_model.specs.declared.gates.Rule.TheVariants.{Gate as OfGate, Table as OfTable}
 use Rattle.device_model.specs.declared.component.Component.{Component}
@@ -42,8 +40,7 @@ is_gate (OfTable t) = false
 is_gate (OfGate gate) = true
 
 taken_gate : (r : Rule) (inputs : ℕ) → takes_inputs r inputs ≡ true → is_gate r ≡ true
-taken_gate (OfTable t) inputs h = cc
-taken_gate (OfGate gate) inputs h = refl
+taken_gate r inputs h = grind arith
 
 abbrev named_gate : NamedPart → Bool
 named_gate part = is_gate (rule part.kind)
@@ -54,20 +51,15 @@ gate_part part = is_gate (rule part.kind)
 of_statement : (s : Statement) → is_faultless s ≡ true → list_all named_gate (part_of s) ≡ true
 of_statement (Input signal) h = refl
 of_statement (Output signal) h = refl
-of_statement (Gate output kind inputs) h =
-    let gate = faultless_gate output kind inputs h in
-    ap (λ k. list_all named_gate (option_to_list (option_map (λ (g : Kind). record { name = output; kind = g; wires = inputs ++ output ∷ [] }) k))) gate.meant
-    ∙ and_from _ _ (taken_gate (rule gate.gate) (length inputs) gate.taken) refl
+of_statement (Gate output kind inputs) h = let gate = faultless_gate output kind inputs h in grind (arith, gate.meant, taken_gate (rule gate.gate) (length inputs) gate.taken)
 
 of_statements : (statements : List Statement) → list_all is_faultless statements ≡ true → list_all named_gate (flat_map part_of statements) ≡ true
 of_statements [] h = refl
-of_statements (s ∷ statements) h =
-    let two = and_parts (is_faultless s) (list_all is_faultless statements) h in
-    list_all-append named_gate (part_of s) (flat_map part_of statements) ∙ and_from _ _ (of_statement s two.0) (of_statements statements two.1)
+of_statements (s ∷ statements) h = grind (arith, list_all-append, of_statement s, of_statements statements)
 
 over_wires : (wires : List Name) (parts : List NamedPart) → list_all named_gate parts ≡ true → list_all gate_part (map (joined wires) parts) ≡ true
 over_wires wires [] h = refl
-over_wires wires (part ∷ parts) h = let two = and_parts (named_gate part) (list_all named_gate parts) h in and_from _ _ two.0 (over_wires wires parts two.1)
+over_wires wires (part ∷ parts) h = grind (arith, over_wires wires parts)
 
 device_of_gates : (statements : List Statement) → list_all is_faultless statements ≡ true → list_all gate_part (device_of statements).parts ≡ true
 device_of_gates statements h =
@@ -82,16 +74,12 @@ netlist_of_gates : (text : List ℕ) (device : Device) → netlist text ≡ Ok d
 netlist_of_gates text device is = by (filter_map fault_in (readings Refused text) ++ faults_together (filter_map statement_in (readings Refused text))) is
   where
     by : (faults : List Fault) → unless_fault faults (device_of (statements_in text)) ≡ Ok device → list_all gate_part device.parts ≡ true
-    by [] e =
-        let same : device_of (statements_in text) ≡ device = cc in
-        subst (λ (d : Device). list_all gate_part d.parts ≡ true) same (device_of_gates (statements_in text) (read_are_faultless Refused 1 (all_lines text)))
-    by (fault ∷ faults) e = cc
+    by faults e = grind (arith, device_of_gates (statements_in text) (read_are_faultless Refused 1 (all_lines text)))
 
 -- ---- faulty gates allow anything
 
 faulty_allows : (tables : List TruthTable) (r : Rule) (row : List Bool) → is_gate r ≡ true → allows tables r false row ≡ true
-faulty_allows tables (OfTable t) row h = cc
-faulty_allows tables (OfGate gate) row h = refl
+faulty_allows tables r row h = grind arith
 
 all_faulty : List Component → List Bool
 all_faulty parts = map (λ (part : Component). false) parts
@@ -99,9 +87,7 @@ all_faulty parts = map (λ (part : Component). false) parts
 faulty_fit : (tables : List TruthTable) (parts : List Component) (wires : List Bool) → list_all gate_part parts ≡ true → parts_fit tables parts (all_faulty parts) wires ≡ true
 unfolding all_faulty
 faulty_fit tables [] wires h = refl
-faulty_fit tables (part ∷ parts) wires h =
-    let two = and_parts (gate_part part) (list_all gate_part parts) h in
-    and_from _ _ (faulty_allows tables (rule part.kind) (map (bit_in wires) part.ports) two.0) (faulty_fit tables parts wires two.1)
+faulty_fit tables (part ∷ parts) wires h = grind (arith, faulty_allows, faulty_fit tables parts wires)
 
 -- any state agrees if nothing is held
 none_held : (parts : ℕ) (state : List Bool) → agrees (replicate parts None) state ≡ true
@@ -116,12 +102,10 @@ seen_bits seen = map (λ o. unwrap_or o false) seen
 seen_agree : (seen : List (Option Bool)) → agrees seen (seen_bits seen) ≡ true
 unfolding seen_bits
 seen_agree [] = refl
-seen_agree (None ∷ seen) = seen_agree seen
-seen_agree (Some bit ∷ seen) = and_from _ _ (same_bit-refl bit) (seen_agree seen)
+seen_agree (o ∷ seen) = grind (arith, same_bit-refl, seen_agree seen)
 
 is_there : (o : Option ℕ) (n : ℕ) → AtMost o n → IsSome o
-is_there None n h = absurd h
-is_there (Some c) n h = refl
+is_there o n h = grind arith
 
 -- the case of these readings, if nothing is held
 abbrev pub seen_case : Device → List (Option Bool) → Case
@@ -132,13 +116,10 @@ unfolding all_faulty seen_bits
 gates_agree device seen gates long =
     let state = all_faulty device.parts in
     let wires = seen_bits seen in
-    let is_state : In state (lists_of_bits (length (part_names device.parts))) =
-    subst (λ n. In state (lists_of_bits n))
-    (length-map device.parts (λ (part : Component). false) ∙ sym (length-map device.parts (λ (part : Component). part.name))) (bits_in state) in
-    let are_wires : In wires (lists_of_bits (length device.wires)) =
-    subst (λ n. In wires (lists_of_bits n)) (length-map seen (λ (o : Option Bool). unwrap_or o false) ∙ long) (bits_in wires) in
     let known = seen_case device seen in
-    let fit : (agrees seen wires && fits device state wires) ≡ true = and_from _ _ (seen_agree seen) (faulty_fit device.tables device.parts wires gates) in
+    let is_state : In state (lists_of_bits (length (part_names device.parts))) = rw (length-map, ← length-map device.parts (λ (part : Component). false)) (bits_in state) in
+    let are_wires : In wires (lists_of_bits (length device.wires)) = rw (← long, ← length-map seen (λ (o : Option Bool). unwrap_or o false)) (bits_in wires) in
+    let fit : (agrees seen wires && fits device state wires) ≡ true = grind (arith, seen_agree seen, faulty_fit device.tables device.parts wires gates) in
     let passes : is_consistent (fits device) (length device.wires) known state ≡ true =
     and_from _ _ (none_held (length device.parts) state) (any_in (λ bits. agrees seen bits && fits device state bits) wires (lists_of_bits (length device.wires)) are_wires fit) in
     is_there (least_cost (device_system device) known) (cost (part_costs device) state)

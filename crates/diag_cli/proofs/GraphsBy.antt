@@ -1,5 +1,5 @@
 -- What is compiled, by the sum that a budget limits.
-use Rattle.std.proofs.Common.{◌≡◌, ◌≤◌, ℕ, Option, Some, None, Result, Ok, Err, sym, subst, arith}
+use Rattle.std.proofs.Common.{◌≡◌, ◌≤◌, ℕ, Option, Some, None, Result, Ok, arith}
 use Rattle.std.specs.Prelude.{IfOk, IfErr}
 use Rattle.text_rules.specs.Expected.{IsExpectedFault, Fulfils}
 use Rattle.clause_encoder.specs.Clauses.{ClauseList}
@@ -21,34 +21,27 @@ use Rattle.diag_cli.specs.inner.Compiling.{IsGraphBy}
 -- ---- a graph
 
 pub graph_along : (list : ClauseList) (forest : Forest) (compiled : Compiled) → IsCompiledAlong forest list compiled → IsGraphBy (record { list = list; sum = forest_sum Lists forest list.clauses }) compiled.graph
-graph_along list forest compiled is = record { decomposable = is.decomposable; vars = is.vars; truth = is.truth; few_nodes = omega (arith, is.few_made, is.few_nodes) }
+graph_along list forest compiled is = grind arith
 
 pub graph_by_names : (list : ClauseList) (compiled : Compiled) → IsCompiled list compiled → IsGraphBy (record { list = list; sum = sum_of list.clauses }) compiled.graph
-graph_by_names list compiled is = record { decomposable = is.decomposable; vars = is.vars; truth = is.truth; few_nodes = omega (arith, is.few_made, is.few_nodes) }
+graph_by_names list compiled is = grind arith
 
 -- ---- by each sum that they have
 
 -- along a forest that was found
 pub found_each : (list : ClauseList) (forest : Option Narrowed) (found : Narrowed) → forest ≡ Some found → (Holds : ℕ → Type 0)
     → ((is : IsFound list found) → Holds (forest_sum Lists is.forest list.clauses)) → (sum : ℕ) → HasSum list forest sum → Holds sum
-found_each list forest found e Holds given sum has =
-    let chosen = subst (λ f. HasSum list f sum) e has in
-    subst Holds (sym chosen.1) (given chosen.0)
+found_each list forest found e Holds given sum has = let chosen = rw e at has in rw chosen.1 (given chosen.0)
 
 -- or by the order of the names
 pub named_each : (list : ClauseList) (forest : Option Narrowed) → forest ≡ None → (Holds : ℕ → Type 0) → Holds (sum_of list.clauses) → (sum : ℕ) → HasSum list forest sum → Holds sum
-named_each list forest e Holds given sum has =
-    let named = subst (λ f. HasSum list f sum) e has in
-    subst Holds (sym named) given
+named_each list forest e Holds given sum has = let named = rw e at has in rw named given
 
 -- there is a forest, if one was found
 pub is_found : (list : ClauseList) (forest : Option Narrowed) (found : Narrowed) → forest ≡ Some found → (sum : ℕ) × HasSum list forest sum → IsFound list found
-is_found list forest found e some =
-    let chosen = subst (λ f. HasSum list f some.0) e some.1 in
-    chosen.0
+is_found list forest found e some = let chosen = rw e at some.1 in chosen.0
 
 -- what is within the budget is found, and what is not is refused
 pub fulfils_within : {A : Type 0} (weighed : Weighed) (budget : ℕ) (result : Result A Refusal) → IfOk result (λ (_ : A). weighed.sum ≤ budget)
     → IfErr result (λ refusal. IsExpectedFault (refusal_output refusal) (within budget (Ok weighed))) → Fulfils (λ (_ : A). weighed) refusal_output (within budget (Ok weighed)) result
-fulfils_within weighed budget (Ok found) few fault = kept_within budget weighed few
-fulfils_within weighed budget (Err refusal) few fault = fault
+fulfils_within weighed budget result few fault = grind (arith, kept_within budget weighed)

@@ -14,7 +14,7 @@ use Rattle.device_files.specs.declared.status.Status.TheVariants.{Refused, Usage
 use Rattle.device_files.specs.Output.{Output, FulfilsOutput, says, no_memory, too_long_line, FulfilsOutputUnlessMemory}
 use Rattle.device_files.specs.Refusals.{or_memory}
 use Rattle.diag_cli.specs.declared.words.Command.{Command}
-use Rattle.diag_cli.specs.Words.{Form, Load, Over, named_file, known_file}
+use Rattle.diag_cli.specs.Words.{Form, Load, Over, named_file}
 use Rattle.diag_cli.specs.Behaviours.{Behaviour, Prints, AnswersScript, not_loaded, behaviour_by, behaviour_of}
 use Rattle.diag_cli.specs.Loads.{loaded}
 use Rattle.diag_cli.specs.Runs.{IsDone, IsRun}
@@ -23,8 +23,7 @@ use Rattle.diag_cli.specs.inner.Serving.{FulfilsBehaviourUnlessMemory}
 use Rattle.diag_cli.proofs.Unread.{IsUnread}
 
 pub some_map : {A : Type 0} {P Q : A → Type 0} (o : Option A) → ((a : A) → P a → Q a) → IfSome o P → IfSome o Q
-some_map None f h = tt
-some_map (Some a) f h = f a h
+some_map o f h = grind arith
 
 -- the file that is shown, under another name
 pub same_file : (file bytes : List ℕ) (told : Option (List ℕ)) → file ≡ bytes → IfSome told (λ all. bytes ≡ all) → IfSome told (λ all. file ≡ all)
@@ -54,11 +53,10 @@ long_file limit (Some file) long = (file, refl, long)
 module _ (input new_input : Reading) (out new_out : Writing) (status : Status) where
   pub follows_refusal : (behaviour : Behaviour) (fault : Option Output) → IfSome fault (λ output. behaviour ≡ Prints output) → IsIdle input new_input
       → FulfilsOutput (or_memory fault) status out.got new_out.got → FulfilsBehaviourUnlessMemory behaviour input new_input out new_out status
-  follows_refusal behaviour None is idle said = inl (idle, said)
-  follows_refusal behaviour (Some output) is idle said = inr (subst (λ c. FulfilsBehaviour c input new_input out new_out status) (sym is) (idle, said))
+  follows_refusal behaviour fault is idle said = grind arith
 
   pub follows_serves : (behaviour : Behaviour) (answers : List (List ℕ) → List Item) → behaviour ≡ AnswersScript answers → IsServed answers input new_input out new_out status → FulfilsBehaviourUnlessMemory behaviour input new_input out new_out status
-  follows_serves behaviour answers is done = inr (subst (λ c. FulfilsBehaviour c input new_input out new_out status) (sym is) done)
+  follows_serves behaviour answers is done = grind arith
 
 -- ---- runs
 
@@ -69,14 +67,7 @@ module _ (choose : ClauseList → Option Forest) (held : List ℕ → Holding) (
   -- The words name no file.
   unnamed : (form : Option Form) → IsDone choose form (Some []) shelf shelf input input out new_out status ⊎ (IsSome form × FulfilsBehaviour (Prints no_memory) input input out new_out status) → named_file form ≡ None
       → IsRun choose form held shelf shelf input input out new_out status
-  unnamed form done none = record {
-    done = inl (refl, subst (λ name. IsDone choose form (known_file held name) shelf shelf input input out new_out status ⊎ (IsSome form × FulfilsBehaviour (Prints no_memory) input input out new_out status)) (sym none) done);
-    write_fault = writes;
-    no_name = λ _. idle shelf;
-    absent_file = subst (λ name. IfSome name (λ n. held n ≡ absent → shelf.faults < shelf.faults)) (sym none) tt;
-    file_once = subst (λ name. IfSome (known_file held name) (λ file. shelf.taken ≤ shelf.taken + length file)) (sym none) (omega arith);
-    file_taken = omega arith;
-  }
+  unnamed form done none = grind (arith, done, none, writes, idle)
 
   -- They have no form.
   pub run_usage : FulfilsOutput (says (codes "error: usage\n") Usage) status out.got new_out.got → IsRun choose None held shelf shelf input input out new_out status
@@ -84,8 +75,7 @@ module _ (choose : ClauseList → Option Forest) (held : List ℕ → Holding) (
 
   -- An adder is made.
   pub run_load : (places : ℕ) → FulfilsOutputUnlessMemory (loaded places) status out.got new_out.got → IsRun choose (Some (Load places)) held shelf shelf input input out new_out status
-  run_load places (inl said) = unnamed (Some (Load places)) (inr (refl, (idle input, said))) refl
-  run_load places (inr said) = unnamed (Some (Load places)) (inl (record { file = []; is_told = refl; taken = omega arith; follows = (idle input, said) })) refl
+  run_load places said = unnamed (Some (Load places)) (elim said [ inl short ↦ inr (refl, (idle input, short)) | inr full ↦ inl (record { file = []; is_told = refl; taken = omega arith; follows = (idle input, full) }) ]) refl
 
   module _ (path : List ℕ) (command : Command) where
     module _ (new_input : Reading) where
@@ -94,14 +84,9 @@ module _ (choose : ClauseList → Option Forest) (held : List ℕ → Holding) (
           → new_shelf.taken ≡ shelf.taken + length file → length file ≤ TEXT_LIMIT
           → FulfilsBehaviourUnlessMemory (behaviour_by choose path command file) input new_input out new_out status
           → IsRun choose (Some (Over path command)) held shelf new_shelf input new_input out new_out status
-      run_loaded file is there kept taken small follows = record {
-        done = inl (kept, by follows);
-        write_fault = writes;
-        no_name = λ none. absurd (let never : ⊥ = cc in never);
-        absent_file = λ gone. absurd (there gone);
-        file_once = some_map (known_bytes (held path)) (λ bytes same. omega (arith, taken, ap length same)) is;
-        file_taken = omega (arith, taken, small);
-      }
+      run_loaded file is there kept taken small follows =
+          let once : IfSome (known_bytes (held path)) (λ bytes. new_shelf.taken ≤ shelf.taken + length bytes) = some_map (known_bytes (held path)) (λ bytes same. omega (arith, taken, ap length same)) is in
+          grind (arith, once, by follows)
         where
           by : FulfilsBehaviourUnlessMemory (behaviour_by choose path command file) input new_input out new_out status
               → IsDone choose (Some (Over path command)) (known_bytes (held path)) shelf new_shelf input new_input out new_out status
@@ -117,14 +102,7 @@ module _ (choose : ClauseList → Option Forest) (held : List ℕ → Holding) (
 
       -- It could be.
       there : held path ≢ absent → new_shelf.faults ≡ shelf.faults → DoneOrShort → IsRun choose (Some (Over path command)) held shelf new_shelf input input out new_out status
-      there is kept done = record {
-        done = inl (kept, done);
-        write_fault = writes;
-        no_name = λ none. absurd (let never : ⊥ = cc in never);
-        absent_file = λ gone. absurd (is gone);
-        file_once = once;
-        file_taken = bounded;
-      }
+      there is kept done = grind (arith, done, once, bounded)
 
       -- a file that is too long, which is the one that is shown, if one is
       long_done : (file : List ℕ) → IfSome (known_bytes (held path)) (λ bytes. file ≡ bytes) → TEXT_LIMIT < length file → new_shelf.taken ≡ shelf.taken + TEXT_LIMIT + 1
@@ -139,13 +117,6 @@ module _ (choose : ClauseList → Option Forest) (held : List ℕ → Holding) (
       pub run_unread : (error : LoadError) → IsUnread error (held path) shelf.faults new_shelf.faults
           → ((limit : ℕ) → error ≡ Long limit → new_shelf.taken ≡ shelf.taken + TEXT_LIMIT + 1) → FulfilsOutput (not_loaded error) status out.got new_out.got
           → IsRun choose (Some (Over path command)) held shelf new_shelf input input out new_out status
-      run_unread LoadFailed rises taken said = record {
-        done = inr (rises, (idle input, said));
-        write_fault = writes;
-        no_name = λ none. absurd (let never : ⊥ = cc in never);
-        absent_file = λ gone. rises;
-        file_once = once;
-        file_taken = bounded;
-      }
+      run_unread LoadFailed rises taken said = grind (arith, once, bounded, idle input)
       run_unread (Long limit) is taken said = let some = long_file TEXT_LIMIT (known_bytes (held path)) is.0 in there is.1 is.2 (long_done some.0 some.1 some.2 (taken limit refl) said)
       run_unread Memory is taken said = there is.0 is.1 (inr (refl, (idle input, said)))

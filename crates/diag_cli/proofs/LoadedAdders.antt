@@ -1,5 +1,5 @@
 -- What is found of an adder's graph is what is printed of its device.
-use Rattle.std.proofs.Common.{◌≡◌, ℕ, ◌-◌, ◌<◌, Bool, List, [], ◌∷◌, length, get_or, take, Option, Some, None, IfSome, refl, ap, ap₂, sym, ◌∙◌, subst, arith, inl, inr, codes}
+use Rattle.std.proofs.Common.{◌≡◌, ℕ, ◌-◌, ◌<◌, Bool, List, [], ◌∷◌, length, get_or, take, Option, Some, None, IfSome, refl, ap, ap₂, sym, ◌∙◌, arith, codes}
 use Rattle.std.specs.Option.{option_map}
 use Rattle.std.proofs.Math.Seq.{get_or-take}
 use Rattle.std.proofs.lemmas.List.{length-map, length-take}
@@ -7,7 +7,7 @@ use Rattle.std.specs.Prelude.{Result}
 use Rattle.text_rules.specs.Expected.{IsExpectedFault}
 use Rattle.text_rules.specs.Names.{Name}
 use Rattle.state_rules.specs.Cases.{Case}
-use Rattle.state_rules.specs.Ranking.{least, diagnoses}
+use Rattle.state_rules.specs.Ranking.{diagnoses}
 use Rattle.state_rules.specs.Systems.{least_cost, all_diagnoses}
 use Rattle.state_rules.specs.Graphs.{Graph}
 use Rattle.device_model.specs.Devices.{Device, part_names, part_costs}
@@ -47,10 +47,10 @@ module _ (device : Device) (graph : Graph) (places : ℕ) (words costs : List �
   ds = all_diagnoses (device_system device) known
 
   states_are : models graph words (length costs) ≡ (device_system device).consistent known
-  states_are = ap₂ (λ ws n. models graph ws n) noted (many ∙ sym (length-map device.parts (λ (part : Component). part.name))) ∙ same_consistent device graph is.meaning known (is_case device places)
+  states_are = grind (arith, noted, many, length-map, same_consistent device graph is.meaning known (is_case device places))
 
   least_is : least_under graph words costs ≡ least_cost (device_system device) known
-  least_is = ap₂ least priced states_are
+  least_is = grind (arith, priced, states_are)
 
   all_are : diagnoses_under graph words costs ≡ all_diagnoses (device_system device) known
   all_are = ap₂ diagnoses priced states_are
@@ -91,13 +91,11 @@ have_found parts (Some f) first last = ((_, refl), ((_, refl), ((_, refl), ((_, 
 
 -- what refuses a device is printed of it
 pub refusal_told : {A : Type 0} (told : A → Output) (fault : Option Output) (found : Result A Output) → IsExpectedFault fault found → IfSome fault (λ said. output_or_refusal told found ≡ said)
-refusal_told told None found is = tt
-refusal_told told (Some output) found is = ap (output_or_refusal told) is
+refusal_told told fault found is = grind arith
 
 -- a refusal of an output that is printed
 pub gives_told : (fault : Option Output) (output : Output) (status : Status) (a b : Option (List ℕ)) → IfSome fault (λ said. output ≡ said) → FulfilsOutput (or_memory fault) status a b → FulfilsOutputUnlessMemory output status a b
-gives_told None output status a b is said = inl said
-gives_told (Some other) output status a b is said = inr (subst (λ (o : Output). FulfilsOutput o status a b) (sym is) said)
+gives_told fault output status a b is said = grind arith
 
 pub gives_summary : (output expected : Output) (status : Status) (a b : Option (List ℕ)) → expected ≡ output → FulfilsOutput output status a b → FulfilsOutputUnlessMemory expected status a b
-gives_summary output expected status a b is said = inr (subst (λ (o : Output). FulfilsOutput o status a b) (sym is) said)
+gives_summary output expected status a b is said = grind arith

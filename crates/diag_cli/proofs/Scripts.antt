@@ -1,8 +1,9 @@
 -- From the bytes of a script that were taken to the whole script.
-use Rattle.std.proofs.Common.{◌≡◌, ◌⊎◌, ◌<◌, ◌≤◌, ◌-◌, ◌+◌, ℕ, false, List, [], ◌∷◌, ◌++◌, length, take, Option, Some, None, inl, inr, refl, ◌∙◌, ap, subst, sym, arith, nat_lt, append-nil, take_all, codes, if◌then◌else◌}
+use Rattle.std.proofs.Common.{◌≡◌, ◌⊎◌, ◌<◌, ◌≤◌, ◌-◌, ◌+◌, ℕ, false, List, [], ◌∷◌, ◌++◌, length, take, Option, Some, None, inl, inr, ◌∙◌, ap, subst, sym, arith, nat_lt, append-nil, take_all, codes, if◌then◌else◌}
 use Rattle.std.proofs.lemmas.Grind.{common_steps}
 use Rattle.std.specs.Io.KnownBytes.{Consumes, IsAtEnd}
 use Rattle.std.proofs.lemmas.Bool.{lt-ltb, cases_lt}
+use Rattle.std.proofs.lemmas.Bool.Decides.{nat_tests}
 use Rattle.std.proofs.Math.Seq.{take-append_seam, take-append-add}
 use Rattle.text_rules.specs.TextLines.{whole_lines, all_lines}
 use Rattle.diag_edge.specs.Edge.{Reading}
@@ -62,16 +63,11 @@ module _ (limit : ℕ) (answers : List (List ℕ) → List Item) (script bytes r
 
   -- it is below the limit
   below : length script < limit → (more : List (List ℕ)) → lines ++ more ≡ all_lines script → BeginsOutput
-  below short more all =
-      let whole : all_lines script ≡ all_lines (take limit script) = ap all_lines (sym (take_all limit script (omega (arith, short)))) in
-      begins_output Ended (rw (lt-ltb (length script) limit short)) (subst (λ ls. WritesPart a b (answers ls)) (all ∙ whole) (begun more))
+  below short more all = grind (arith, nat_tests, begun more, take_all limit script)
 
   -- or it is not, and so many of its bytes are answered
   above : limit ≤ length script → (more : List (List ℕ)) → lines ++ more ≡ whole_lines (take limit script) → BeginsOutput
-  above long more all =
-      let over : nat_lt (length script) limit ≡ false = grind (arith, long) in
-      begins_output Cut (rw over)
-      (part_more a b (answers (whole_lines (take limit script))) (Plain script_too_long ∷ []) (subst (λ ls. WritesPart a b (answers ls)) all (begun more)) ((script_too_long, refl), tt))
+  above long more all = grind (arith, nat_tests, begun more, part_more a b (answers (whole_lines (take limit script))) (Plain script_too_long ∷ []))
 
   with_whole_lines : length bytes ≤ limit → lines ≡ whole_lines bytes → BeginsOutput
   with_whole_lines few are = elim (cases_lt (length script) limit) [
@@ -87,10 +83,7 @@ module _ (limit : ℕ) (answers : List (List ℕ) → List Item) (script bytes r
   ]
 
   with_all_lines : rest ≡ [] → length bytes < limit → lines ≡ all_lines bytes → BeginsOutput
-  with_all_lines none short are =
-      let all : script ≡ bytes = is ∙ ap (λ r. bytes ++ r) none ∙ append-nil bytes in
-      let small : length script < limit = omega (arith, ap length all, short) in
-      below small [] (append-nil lines ∙ are ∙ ap all_lines (sym all))
+  with_all_lines none short are = grind (arith, is, append-nil bytes, append-nil lines, below)
 
 -- so many lines are taken of bytes
 abbrev AreTaken : List (List ℕ) → List ℕ → Type 0 → Type 0

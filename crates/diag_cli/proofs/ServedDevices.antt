@@ -42,8 +42,7 @@ module _ (device : Device) (cnf : ClauseList) (is : encoded device ≡ Ok cnf) w
 
 pub all_servable : (device : Device) (list : ClauseList) → IsListOf device list → (budget sum : ℕ) → budget ≤ BUDGET_LIMIT → (result : Result Graph Refusal)
     → IfOk result (λ (_ : Graph). sum ≤ budget) → IfOk result (IsGraphBy (record { list = list; sum = sum })) → IfOk result (IsServable device)
-all_servable device list of budget sum small (Ok graph) few by = servable device list of.encoded graph sum of.valid of.describes (omega (arith, few, small)) by
-all_servable device list of budget sum small (Err refusal) few by = tt
+all_servable device list of budget sum small result few by = grind (arith, servable device list of.encoded, of)
 
 -- what a call answers that compiles it, if its clauses have this sum
 pub found_or_refused : (device : Device) (list : ClauseList) → IsListOf device list → (budget sum : ℕ) → budget ≤ BUDGET_LIMIT → (result : Result Graph Refusal)

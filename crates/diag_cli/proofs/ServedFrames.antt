@@ -14,7 +14,6 @@ use Rattle.clause_encoder.specs.Clauses.{ClauseList}
 use Rattle.clause_encoder.specs.Encoding.{DescribesBy}
 use Rattle.frame_unroller.specs.declared.unrolling.Unrolled.{Unrolled}
 use Rattle.frame_unroller.specs.declared.unrolling.UnrollError.{UnrollError}
-use Rattle.frame_unroller.specs.declared.unrolling.UnrollError.TheVariants.{TooManyParts, TooManyWires, TooManyClauses, Memory as NoMemory}
 use Rattle.frame_unroller.specs.Unrolling.{unrolled, reason, IsUnrolled}
 use Rattle.frame_unroller.proofs.UnrollRefusals.{unrolled-names}
 use Rattle.frame_unroller.specs.Diagnosis.{frame_wires, fits_over, frame_system}
@@ -40,13 +39,7 @@ use Rattle.diag_cli.specs.inner.Serving.{Answers, frames_refusal}
 module _ (seq : Sequential) (frames : ℕ) (options : ServeOptions) where
   pub not_unrolled_told : (weigh : ClauseList → Weighed) (error : UnrollError) (told : Option Output) → told ≡ frames_refusal error → IsExpectedFault (reason error) (unrolled seq frames)
       → IsExpectedFault told (if_unrolled frames options weigh (Ok seq))
-  not_unrolled_told weigh error told is h = subst (λ o. IsExpectedFault o (if_unrolled frames options weigh (Ok seq))) (sym is) (by error h)
-    where
-      by : (e : UnrollError) → IsExpectedFault (reason e) (unrolled seq frames) → IsExpectedFault (frames_refusal e) (if_unrolled frames options weigh (Ok seq))
-      by (TooManyParts count) h = ap (λ r. result_and (in_few_bits options.extras (length seq.device.parts) (unrolled_within options.budget weigh r)) (Ok seq)) h
-      by (TooManyWires count) h = ap (λ r. result_and (in_few_bits options.extras (length seq.device.parts) (unrolled_within options.budget weigh r)) (Ok seq)) h
-      by (TooManyClauses count) h = ap (λ r. result_and (in_few_bits options.extras (length seq.device.parts) (unrolled_within options.budget weigh r)) (Ok seq)) h
-      by NoMemory h = tt
+  not_unrolled_told weigh error told is h = grind arith
 
   -- what its clauses come to by the forest that was chosen for them
   pub unrolled_gives : (made : Unrolled) → unrolled seq frames ≡ Ok made → (chosen : Option Narrowed) → IsChosen options.narrow made.cnf chosen → (FulfilsOutput : Result Sequential Output → Type 0)

@@ -1,5 +1,5 @@
 -- What is known if a file was not read.
-use Rattle.std.proofs.Common.{◌≡◌, ◌≢◌, ◌<◌, ◌-◌, ◌^◌, ℕ, length, IfSome, ap, arith, refl}
+use Rattle.std.proofs.Common.{◌≡◌, ◌≢◌, ◌<◌, ◌-◌, ◌^◌, ℕ, length, IfSome, arith}
 use Rattle.std.specs.Prelude.{Err, IsErrOf}
 use Rattle.text_rules.specs.declared.text_lines.TheConstants.{TEXT_LIMIT}
 use Rattle.diag_edge.specs.Edge.{Holding, absent, known_bytes, RisesAt}
@@ -12,16 +12,7 @@ IsUnread Failed held reads new_reads = reads < new_reads
 IsUnread (Long limit) held reads new_reads = IfSome (known_bytes held) (λ file. TEXT_LIMIT < length file) × (held ≢ absent) × (new_reads ≡ reads)
 IsUnread Memory held reads new_reads = (held ≢ absent) × (new_reads ≡ reads)
 
-long_did_not_fail : {T : Type 0} (limit : ℕ) → IsErrOf {T = T} (Err (Long limit)) Failed → ⊥
-long_did_not_fail limit is = let never : ⊥ = cc in never
-
-memory_did_not_fail : {T : Type 0} → IsErrOf {T = T} (Err Memory) Failed → ⊥
-memory_did_not_fail is = let never : ⊥ = cc in never
-
 pub unread : {T : Type 0} (error : LoadError) (held : Holding) (reads new_reads : ℕ) → reads < 2 ^ 64 - 1 → RisesAt {T = T} Failed reads new_reads (Err error)
     → (held ≡ absent → IsErrOf {T = T} (Err error) Failed) → ((other : ℕ) → IsErrOf {T = T} (Err error) (Long other) → other ≡ TEXT_LIMIT)
     → (IsErrOf {T = T} (Err error) (Long TEXT_LIMIT) → IfSome (known_bytes held) (λ file. TEXT_LIMIT < length file)) → IsUnread error held reads new_reads
-unread Failed held reads new_reads few failed gone that long = omega (arith, few, failed.rose refl)
-unread (Long limit) held reads new_reads few failed gone that long =
-    (long (ap Err (ap Long (that limit refl))), (λ is. long_did_not_fail limit (gone is)), failed.stayed (long_did_not_fail limit))
-unread Memory held reads new_reads few failed gone that long = ((λ is. memory_did_not_fail (gone is)), failed.stayed memory_did_not_fail)
+unread error held reads new_reads few failed gone that long = grind arith

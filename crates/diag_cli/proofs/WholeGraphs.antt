@@ -30,9 +30,6 @@ module _ (path file : List ℕ) (budget : ℕ) (clauses : Device → Result Weig
   abbrev output : Output
   output = record { items = Whole device weighed.list.vars most ∷ []; status = Done }
 
-  is_whole : IsServable device graph → graph.vars ≡ weighed.list.vars → length graph.nodes ≤ most → IsWholeOf device weighed.list.vars most (Ok graph)
-  is_whole is vars few_nodes = (vars, is.valid.nodes.apart, few_nodes, is.meaning)
-
   -- its text, with its own number of variables said again, was written, or a write failed
   pub graph_gives : {T E : Type 0} (result : Result T E) (vars : ℕ) → vars ≡ graph.vars
       → described path file ≡ Ok device → within budget (clauses device) ≡ Ok weighed
@@ -45,4 +42,4 @@ module _ (path file : List ℕ) (budget : ℕ) (clauses : Device → Result Weig
       (replies_give output status a b result (λ five. let never : ⊥ = cc in never) (replies_one a b result (Whole device weighed.list.vars most) _ ((neat, (record graph { vars = vars }, refl)), spelled) puts) ends)
     where
       spelled : IsWholeOf device weighed.list.vars most (parsed (graph_text (record graph { vars = vars })))
-      spelled = subst (IsWholeOf device weighed.list.vars most) (sym (reads ∙ ap (λ n. Ok (record graph { vars = n })) same)) (is_whole servable of_cnf few_nodes)
+      spelled = subst (IsWholeOf device weighed.list.vars most) (sym (reads ∙ ap (λ n. Ok (record graph { vars = n })) same)) (of_cnf, servable.valid.nodes.apart, few_nodes, servable.meaning)

@@ -1,8 +1,8 @@
 -- What is left of clauses at a place of a forest.
-use Rattle.std.proofs.Common.{◌≡◌, ℕ, Bool, true, false, not, ◌&&◌, ◌||◌, List, [], ◌∷◌, ◌++◌, map, get_or, Some, refl, ap, sym, ◌∙◌, subst, arith, inl, inr}
+use Rattle.std.proofs.Common.{◌≡◌, ℕ, Bool, true, false, not, ◌&&◌, ◌||◌, List, [], ◌∷◌, ◌++◌, map, get_or, Some, refl, ap, sym, ◌∙◌, arith}
 use Rattle.std.specs.Prelude.{slice_get}
 use Rattle.std.specs.List.{list_all, flat_map, AllByRecursion}
-use Rattle.std.proofs.lemmas.Bool.{false≢true, eqb-false, ne_eqb, and_parts, or_parts}
+use Rattle.std.proofs.lemmas.Bool.{eqb-false, ne_eqb, or_parts}
 use Rattle.std.proofs.lemmas.Bool.Decides.{nat_tests}
 use Rattle.std.proofs.lemmas.List.Folds.{list_all-append}
 use Rattle.std.proofs.lemmas.List.Quantifiers.{position-Some}
@@ -10,9 +10,9 @@ use Rattle.std.proofs.lemmas.Option.{slice_get-get_or}
 use Rattle.state_rules.specs.Assignments.{Assignment}
 use Rattle.state_rules.proofs.Bits.{pointwise-refl, pointwise-equal}
 use Rattle.state_rules.proofs.Lists.{AllByRecursion-append, any-never}
-use Rattle.state_rules.proofs.Members.{In, In-map, In-append_left, In-append_right, In-filtered, any_in}
+use Rattle.state_rules.proofs.Members.{In, In-map, In-append_left, In-append_right, any_in}
 use Rattle.clause_encoder.specs.Clauses.{Clause, ClauseList, all_hold, is_clause}
-use Rattle.elimination_forests.specs.Branches.{has_true, some_passes, same_list}
+use Rattle.elimination_forests.specs.Branches.{has_true, some_passes, same_list, without}
 use Rattle.elimination_forests.proofs.FirstPlaces.{found-at}
 use Rattle.elimination_forests.proofs.Lists.{all-in, all-at, none-in, any-none, each-map, each-different, In-met}
 use Rattle.elimination_forests.specs.Forests.{Forest, none, tree, variables, is_among, meets, is_within, is_once, fits, is_along, is_forest_of, Place, is_dead_by, next_by, followed_by, decided, part_of, part, root, number_in}
@@ -22,26 +22,19 @@ use Rattle.dnnf_compiler.specs.inner.Placing.{rest_by, left_by, Spot, spots_on, 
 
 -- ---- a variable gets a bit
 
-both_fail : (x y : Bool) → (not x && not y) ≡ not (x || y)
-both_fail x y = grind arith
-
-clause-next : (bound : List ℕ) (v : ℕ) (a : Assignment) (clause : Clause) → is_among bound v ≡ false → rest_by bound a clause ≡ (has_true v (a v) clause || rest_by (v ∷ bound) a clause)
+clause-next : (bound : List ℕ) (v : ℕ) (a : Assignment) (clause : Clause) → is_among bound v ≡ false → not (rest_by bound a clause) ≡ (not (has_true v (a v) clause) && not (rest_by (v ∷ bound) a clause))
 clause-next bound v a [] free = refl
 clause-next bound v a (l ∷ clause) free = grind (arith, nat_tests, clause-next bound v a clause free)
 
 -- What is left holds if it does by the variable's bit.
 pub expand_by : (v : ℕ) (place : Place) (a : Assignment) (list : List Bool) → is_among place.bound v ≡ false → left_by place a list ≡ left_by (decided v place) a (next_by v place list (a v))
-expand_by v place a list free = ap not ((λ j. some_passes (λ c. each c j) place.clauses list) ∙ sym (passes_without (λ c. not (rest_by (v ∷ place.bound) a c)) (has_true v (a v)) place.clauses list)) where
-  each : (c : Clause) → not (rest_by place.bound a c) ≡ (not (has_true v (a v) c) && not (rest_by (v ∷ place.bound) a c))
-  each c = grind (arith, clause-next place.bound v a c free)
+expand_by v place a list free =
+    ap not ((λ j. some_passes (λ c. clause-next place.bound v a c free j) place.clauses list) ∙ sym (passes_without (λ c. not (rest_by (v ∷ place.bound) a c)) (has_true v (a v)) place.clauses list))
 
 -- ---- a dead list does not hold
 
-within_rest : (bound : List ℕ) (a : Assignment) (clause : Clause) → is_within bound clause ≡ true → rest_by bound a clause ≡ false
-within_rest bound a clause e = grind (arith, nat_tests, any-none, all-at)
-
 pub dead_left : (place : Place) (a : Assignment) (list : List Bool) → is_dead_by place.bound place.clauses list ≡ true → left_by place a list ≡ false
-dead_left place a list e = grind (arith, nat_tests, passes_by, within_rest)
+dead_left place a list e = ap not (passes_by (is_within place.bound) (λ c. not (rest_by place.bound a c)) (λ c e. grind (arith, nat_tests, any-none, all-at)) place.clauses list e)
 
 -- ---- variables
 
@@ -56,29 +49,15 @@ abbrev pub trees_hold : Forest → Place → Assignment → List Bool → Bool
 trees_hold none base a list = true
 trees_hold (tree v below beside) base a list = left_by (part (v ∷ variables below) base) a (part_of (v ∷ variables below) base list) && trees_hold beside base a list
 
-under_both : (x y f : Bool) → ((not (not x) && f) || (y && f)) ≡ ((x || y) && f)
-under_both x y f = grind arith
+meets_either : (xs ys : List ℕ) (p : Clause → Bool) (cs : List Clause) (list : List Bool)
+    → some_passes (λ c. meets (xs ++ ys) c && p c) cs list ≡ (some_passes p cs (without (λ c. not (meets xs c)) cs list) || some_passes (λ c. meets ys c && p c) cs list)
+meets_either xs ys p [] list = refl
+meets_either xs ys p (c ∷ cs) [] = refl
+meets_either xs ys p (c ∷ cs) (b ∷ list) = grind (arith, meets-append xs ys c, meets_either xs ys p cs list)
 
 trees_say : (forest : Forest) (base : Place) (a : Assignment) (list : List Bool) → trees_hold forest base a list ≡ not (some_passes (λ c. meets (variables forest) c && not (rest_by base.bound a c)) base.clauses list)
 trees_say none base a list = sym (ap not ((λ j. some_passes (λ c. any-never c j && not (rest_by base.bound a c)) base.clauses list) ∙ passes_never base.clauses list))
-trees_say (tree v below beside) base a list =
-    (λ j. not (passes_without (fails) (λ c. not (meets own c)) base.clauses list j) && trees_say beside base a list j)
-    ∙ both_fail (some_passes here base.clauses list) (some_passes there base.clauses list)
-    ∙ ap not (sym (passes_or here there base.clauses list) ∙ (λ j. some_passes (λ c. each c j) base.clauses list)) where
-      own : List ℕ
-      own = v ∷ variables below
-
-      fails : Clause → Bool
-      fails c = not (rest_by base.bound a c)
-
-      here : Clause → Bool
-      here c = not (not (meets own c)) && fails c
-
-      there : Clause → Bool
-      there c = meets (variables beside) c && fails c
-
-      each : (c : Clause) → (here c || there c) ≡ (meets (variables (tree v below beside)) c && fails c)
-      each c = under_both (meets own c) (meets (variables beside) c) (fails c) ∙ ap (λ m. m && fails c) (sym (meets-append own (variables beside) c))
+trees_say (tree v below beside) base a list = rw (trees_say beside base a list) (grind (arith, meets_either (v ∷ variables below) (variables beside) (λ c. not (rest_by base.bound a c)) base.clauses list))
 
 -- ---- living lists of clauses that go down along a forest
 
@@ -92,10 +71,13 @@ along_within (tree v below beside) bound c e f = grind (arith, nat_tests, along_
 
 -- All its clauses meet the trees.
 pub down_holds : (forest : Forest) (base : Place) (a : Assignment) (list : List Bool) → IsDown forest base list → left_by base a list ≡ trees_hold forest base a list
-down_holds forest base a list is = sym (trees_say forest base a list ∙ ap not (passes_full (meets (variables forest)) (λ c. not (rest_by base.bound a c)) base.clauses list full)) where
-  full : some_passes (λ c. not (meets (variables forest) c)) base.clauses list ≡ false
-  full = fail_by (λ c. is_within base.bound c || not (is_along forest base.bound c)) (λ c. not (meets (variables forest) c)) (λ c e. grind (arith, e, along_within forest base.bound c)) base.clauses list
-      (passes_or (is_within base.bound) (λ c. not (is_along forest base.bound c)) base.clauses list ∙ (λ j. is.alive j || is.along j))
+down_holds forest base a list is = grind (
+  arith,
+  trees_say,
+  passes_full (meets (variables forest)),
+  passes_or (is_within base.bound) (λ c. not (is_along forest base.bound c)) base.clauses list,
+  fail_by (λ c. is_within base.bound c || not (is_along forest base.bound c)) (λ c. not (meets (variables forest) c)) (λ c e. grind (arith, along_within forest base.bound c)) base.clauses list,
+)
 
 -- the trees of a base, or the last of them
 pub record IsBase (vars : ℕ) (forest : Forest) (base : Place) : Type 0 where
@@ -106,50 +88,34 @@ pub record IsBase (vars : ℕ) (forest : Forest) (base : Place) : Type 0 where
 
 pub each_spot : (vars : ℕ) (forest : Forest) (base : Place) → IsBase vars forest base → AllByRecursion (IsSpot vars) (spots_on forest base)
 each_spot vars none base is = tt
-each_spot vars (tree v below beside) base is = (
-  record {
-    once = once_front own (variables beside) is.once;
-    free = (parts (λ u. not (is_among base.bound u)) is.free).0;
-    fit = (parts (fits vars) is.fit).0;
-    along = each-different GoesDown (map (part_of own base) base.lists) (each-map Along GoesDown (part_of own base)
-        (λ list e. passes_without (λ c. not (is_along below (v ∷ base.bound) c)) (λ c. not (meets own c)) base.clauses list
-        ∙ fail_by (λ c. meets (variables (tree v below beside)) c && not (is_along (tree v below beside) base.bound c)) (λ c. not (not (meets own c)) && not (is_along below (v ∷ base.bound) c))
-        (λ c f. grind (arith, f, meets-append own (variables beside) c)) base.clauses list e) base.lists is.along);
-  },
-  each_spot vars beside base (record {
-    once = once_back own (variables beside) is.once;
-    free = (parts (λ u. not (is_among base.bound u)) is.free).1;
-    fit = (parts (fits vars) is.fit).1;
-    along = each_more Along Later base.lists (λ list e.
-        fail_by (λ c. meets (variables (tree v below beside)) c && not (is_along (tree v below beside) base.bound c)) (λ c. meets (variables beside) c && not (is_along beside base.bound c))
-        (λ c f. grind (arith, f, meets-append own (variables beside) c)) base.clauses list e) is.along;
-  }),
+each_spot vars (tree v below beside) base is = grind (
+  arith,
+  once_front own (variables beside),
+  once_back own (variables beside),
+  list_all-append,
+  different_part,
+  each_spot vars beside base,
+  each_more Along (λ list. some_passes (λ c. meets (variables beside) c && not (is_along beside base.bound c)) base.clauses list ≡ false) base.lists
+      (λ list. fail_by along (λ c. meets (variables beside) c && not (is_along beside base.bound c)) (λ c f. grind (arith, meets-append own (variables beside) c)) base.clauses list),
 ) where
   own : List ℕ
   own = v ∷ variables below
 
-  parts : (p : ℕ → Bool) → list_all p (v ∷ (variables below ++ variables beside)) ≡ true → (list_all p (v ∷ variables below) ≡ true) × (list_all p (variables beside) ≡ true)
-  parts p e = and_parts (list_all p (v ∷ variables below)) (list_all p (variables beside)) (sym (list_all-append p (v ∷ variables below) (variables beside)) ∙ e)
+  along : Clause → Bool
+  along c = meets (variables (tree v below beside)) c && not (is_along (tree v below beside) base.bound c)
 
   Along : List Bool → Type 0
-  Along list = some_passes (λ c. meets (variables (tree v below beside)) c && not (is_along (tree v below beside) base.bound c)) base.clauses list ≡ false
+  Along list = some_passes along base.clauses list ≡ false
 
-  GoesDown : List Bool → Type 0
-  GoesDown list = some_passes (λ c. not (is_along below (v ∷ base.bound) c)) base.clauses list ≡ false
-
-  Later : List Bool → Type 0
-  Later list = some_passes (λ c. meets (variables beside) c && not (is_along beside base.bound c)) base.clauses list ≡ false
+  different_part : AllByRecursion (λ list. some_passes (λ c. not (is_along below (v ∷ base.bound) c)) base.clauses list ≡ false) (part own base).lists
+  different_part = each-different _ _ (each-map Along _ (part_of own base) (λ list e. passes_without (λ c. not (is_along below (v ∷ base.bound) c)) (λ c. not (meets own c)) base.clauses list
+      ∙ fail_by along (λ c. not (not (meets own c)) && not (is_along below (v ∷ base.bound) c)) (λ c f. grind (arith, f, meets-append own (variables beside) c)) base.clauses list e) base.lists is.along)
 
 pub down_base : (vars : ℕ) (forest : Forest) (base : Place) → is_once (variables forest) ≡ true → list_all (λ u. not (is_among base.bound u)) (variables forest) ≡ true → list_all (fits vars) (variables forest) ≡ true
     → AllByRecursion (IsDown forest base) base.lists → IsBase vars forest base
-down_base vars forest base once free fit down = grind (
-  arith,
-  once,
-  free,
-  fit,
-  each_more (IsDown forest base) (λ list. some_passes (λ c. meets (variables forest) c && not (is_along forest base.bound c)) base.clauses list ≡ false) base.lists
-      (λ list is. fail_by (λ c. not (is_along forest base.bound c)) (λ c. meets (variables forest) c && not (is_along forest base.bound c)) (λ c e. grind (arith, e)) base.clauses list is.along) down,
-)
+down_base vars forest base once free fit down = grind (arith, each_more (IsDown forest base) _ base.lists along down) where
+  along : (list : List Bool) → IsDown forest base list → some_passes (λ c. meets (variables forest) c && not (is_along forest base.bound c)) base.clauses list ≡ false
+  along list is = fail_by (λ c. not (is_along forest base.bound c)) (λ c. meets (variables forest) c && not (is_along forest base.bound c)) (λ c e. grind arith) base.clauses list is.along
 
 -- ---- after a variable's bit
 
@@ -157,35 +123,19 @@ each_flat : (P Q : List Bool → Type 0) (f : List Bool → List (List Bool)) �
 each_flat P Q f h [] each = tt
 each_flat P Q f h (x ∷ xs) each = AllByRecursion-append Q (f x) (flat_map f xs) (h x each.0) (each_flat P Q f h xs each.1)
 
-each_decided : (P Q : List Bool → Type 0) (v : ℕ) (place : Place) → ((list : List Bool) (bit : Bool) → P list → is_dead_by (v ∷ place.bound) place.clauses (next_by v place list bit) ≡ false → Q (next_by v place list bit))
-    → AllByRecursion P place.lists → AllByRecursion Q (decided v place).lists
-each_decided P Q v place h each =
-    each-different Q (flat_map both place.lists) (each_flat P Q both (λ x p. AllByRecursion-append Q (followed_by v place x false) (followed_by v place x true) (one x false p) (one x true p)) place.lists each) where
-      both : List Bool → List (List Bool)
-      both x = followed_by v place x false ++ followed_by v place x true
-
-      one : (x : List Bool) (bit : Bool) → P x → AllByRecursion Q (followed_by v place x bit)
-      one x bit p = grind (arith, h x bit p)
+down_next : (spot : Spot) (list : List Bool) → some_passes (λ c. not (is_along spot.below (spot.v ∷ spot.place.bound) c)) spot.place.clauses list ≡ false → (bit : Bool)
+    → AllByRecursion (IsDown spot.below (decided spot.v spot.place)) (followed_by spot.v spot.place list bit)
+down_next spot list e bit = grind (
+  arith,
+  passes_without (λ c. not (is_along spot.below (spot.v ∷ spot.place.bound) c)) (has_true spot.v bit),
+  fail_by (λ c. not (is_along spot.below (spot.v ∷ spot.place.bound) c)) (λ c. not (has_true spot.v bit c) && not (is_along spot.below (spot.v ∷ spot.place.bound) c)),
+)
 
 pub each_down : (vars : ℕ) (spot : Spot) → IsSpot vars spot → AllByRecursion (IsDown spot.below (decided spot.v spot.place)) (decided spot.v spot.place).lists
-each_down vars spot is =
-    each_decided (λ list. some_passes (λ c. not (is_along spot.below (spot.v ∷ spot.place.bound) c)) spot.place.clauses list ≡ false) (IsDown spot.below (decided spot.v spot.place)) spot.v spot.place
-    (λ list bit e alive. grind (
-      arith,
-      e,
-      alive,
-      passes_without (λ c. not (is_along spot.below (spot.v ∷ spot.place.bound) c)) (has_true spot.v bit) spot.place.clauses list,
-      fail_by (λ c. not (is_along spot.below (spot.v ∷ spot.place.bound) c)) (λ c. not (has_true spot.v bit c) && not (is_along spot.below (spot.v ∷ spot.place.bound) c)),
-    )) is.along
+each_down vars spot is = each-different (IsDown spot.below (decided spot.v spot.place)) _ (each_flat _ _ _ (λ list e. grind (arith, AllByRecursion-append, down_next spot list e)) spot.place.lists is.along)
 
 pub below_base : (vars : ℕ) (spot : Spot) → IsSpot vars spot → IsBase vars spot.below (decided spot.v spot.place)
 below_base vars spot is = grind (arith, nat_tests, down_base vars spot.below (decided spot.v spot.place), free_next spot.v spot.place.bound (variables spot.below), each_down vars spot is)
-
-pub spot_free : (vars : ℕ) (spot : Spot) → IsSpot vars spot → is_among spot.place.bound spot.v ≡ false
-spot_free vars spot is = grind (arith, nat_tests)
-
-pub spot_once : (vars : ℕ) (spot : Spot) → IsSpot vars spot → (is_among (variables spot.below) spot.v ≡ false) × (is_once (variables spot.below) ≡ true)
-spot_once vars spot is = grind (arith, nat_tests)
 
 -- ---- at the root all clauses are left
 
@@ -193,15 +143,8 @@ pub root_holds : (clauses : List Clause) (a : Assignment) → left_by (root clau
 root_holds [] a = refl
 root_holds (c ∷ clauses) a = grind (arith, nat_tests, root_holds clauses a)
 
-open_first : (vars : ℕ) (c : Clause) → is_clause vars c ≡ true → is_within [] c ≡ false
-open_first vars [] e = absurd (false≢true e)
-open_first vars (l ∷ c) e = refl
-
-root_alive : (vars : ℕ) (clauses : List Clause) → list_all (is_clause vars) clauses ≡ true → is_dead_by [] clauses (map (λ c. true) clauses) ≡ false
-root_alive vars clauses e = grind (arith, none_passes, all-at, open_first vars)
-
 pub root_down : (cnf : ClauseList) (forest : Forest) → is_forest_of forest cnf ≡ true → list_all (is_clause cnf.vars) cnf.clauses ≡ true → IsDown forest (root cnf.clauses) (map (λ c. true) cnf.clauses)
-root_down cnf forest e valid = grind (arith, nat_tests, root_alive cnf.vars cnf.clauses valid, all_fail (is_along forest []) cnf.clauses (map (λ c. true) cnf.clauses))
+root_down cnf forest e valid = grind (arith, nat_tests, none_passes (is_within []) cnf.clauses (map (λ c. true) cnf.clauses), all-at (is_clause cnf.vars), all_fail (is_along forest []) cnf.clauses (map (λ c. true) cnf.clauses))
 
 pub root_base : (cnf : ClauseList) (forest : Forest) → is_forest_of forest cnf ≡ true → list_all (is_clause cnf.vars) cnf.clauses ≡ true → IsBase cnf.vars forest (root cnf.clauses)
 root_base cnf forest e valid = grind (arith, nat_tests, down_base cnf.vars forest (root cnf.clauses), all-in (λ u. not (is_among [] u)) (variables forest) (λ u m. refl), root_down cnf forest e valid)
@@ -218,22 +161,10 @@ part_in vs base list there = In-met same_list pointwise-equal (part_of vs base l
 
 In-flat : (f : List Bool → List (List Bool)) (x y : List Bool) (xs : List (List Bool)) → In x xs → In y (f x) → In y (flat_map f xs)
 In-flat f x y [] there given = absurd there
-In-flat f x y (z ∷ xs) (inl e) given = In-append_left y (f z) (flat_map f xs) (subst (λ w. In y (f w)) e given)
-In-flat f x y (z ∷ xs) (inr later) given = In-append_right y (f z) (flat_map f xs) (In-flat f x y xs later given)
+In-flat f x y (z ∷ xs) there given = grind (arith, In-append_left y (f z) (flat_map f xs), In-append_right y (f z) (flat_map f xs), In-flat f x y xs)
 
 -- what a bit leaves is on the base after it
 pub next_in : (v : ℕ) (place : Place) (list : List Bool) (bit : Bool) → In list place.lists → is_dead_by (v ∷ place.bound) place.clauses (next_by v place list bit) ≡ false
     → In (next_by v place list bit) (decided v place).lists
-next_in v place list bit there alive = In-met same_list pointwise-equal next (flat_map follow place.lists) (In-flat follow list next place.lists there (by bit followed)) where
-  next : List Bool
-  next = next_by v place list bit
-
-  follow : List Bool → List (List Bool)
-  follow l = followed_by v place l false ++ followed_by v place l true
-
-  followed : In next (followed_by v place list bit)
-  followed = In-filtered (λ l. not (is_dead_by (v ∷ place.bound) place.clauses l)) next (next ∷ []) (inl refl) (ap not alive)
-
-  by : (b : Bool) → In next (followed_by v place list b) → In next (follow list)
-  by false m = In-append_left next (followed_by v place list false) (followed_by v place list true) m
-  by true m = In-append_right next (followed_by v place list false) (followed_by v place list true) m
+next_in v place list false there alive = In-met same_list pointwise-equal _ _ (In-flat (λ l. followed_by v place l false ++ followed_by v place l true) list (next_by v place list false) place.lists there (grind (arith, alive)))
+next_in v place list true there alive = In-met same_list pointwise-equal _ _ (In-flat (λ l. followed_by v place l false ++ followed_by v place l true) list (next_by v place list true) place.lists there (grind (arith, alive, In-append_right (next_by v place list true))))

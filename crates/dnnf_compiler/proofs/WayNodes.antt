@@ -1,10 +1,12 @@
 -- What is made of the ways of a variable's bits.
-use Rattle.std.proofs.Common.{◌≡◌, ◌≢◌, ℕ, suc, ◌+◌, ◌<◌, Bool, true, false, ◌&&◌, ◌||◌, List, [], ◌∷◌, ◌++◌, map, length, Some, None, Option, refl, ap, ◌∙◌, subst, arith}
+use Rattle.std.proofs.Common.{◌≡◌, ◌≢◌, ℕ, ◌+◌, ◌<◌, Bool, true, false, ◌&&◌, List, [], ◌∷◌, ◌++◌, length, Some, None, Option, refl, ap, sym, ◌∙◌, arith}
 use Rattle.std.specs.Prelude.{◌==◌, slice_get, IfSome, Vec}
 use Rattle.std.specs.declared.alloc.Global.{Global}
 use Rattle.std.specs.List.{list_any, list_all, AllByRecursion}
 use Rattle.std.proofs.lemmas.Bool.Decides.{nat_tests}
 use Rattle.std.proofs.lemmas.List.Elements.{All-from_recursion}
+use Rattle.std.proofs.lemmas.Slice.Zip.{AllZip-long}
+use Rattle.state_rules.proofs.Children.{at_most_one-from, at_most_one-none}
 use Rattle.state_rules.specs.Bits.{same_bit}
 use Rattle.state_rules.specs.Assignments.{Assignment}
 use Rattle.state_rules.specs.Graphs.{Node, at_most_one, is_true, mentions}
@@ -15,19 +17,19 @@ use Rattle.node_store.specs.declared.store.TheConstants.{MADE_LIMIT}
 use Rattle.dnnf_compiler.specs.declared.maker.Maker.{Maker}
 use Rattle.dnnf_compiler.specs.inner.Joining.{Grows}
 use Rattle.dnnf_compiler.specs.inner.Making.{IsMaker, Adds, IsJoin}
-use Rattle.dnnf_compiler.specs.inner.Meeting.{AreApart, AreMeetable, IsMeet, taken, AreHeld, IsUsable, way_true, way_mentions, bit_way, IsChoice, IsTaken, IsChosen}
-use Rattle.dnnf_compiler.proofs.MadeNodes.{adds_then, may_grow, mention_grows, get-push}
-use Rattle.dnnf_compiler.proofs.Conjunctions.{each_more, all_same, others_none, length-zip}
+use Rattle.dnnf_compiler.specs.inner.Meeting.{AreApart, AreMeetable, IsMeet, taken, AreHeld, IsUsable, way_true, way_mentions, IsChoice, IsTaken, IsChosen}
+use Rattle.dnnf_compiler.proofs.MadeNodes.{adds_then, may_grow, get-push}
+use Rattle.dnnf_compiler.proofs.Conjunctions.{each_more, all_same}
 
 -- ---- the nodes to which numbers lead
 
 pub length-taken : (below : List (Vec ℕ Global)) (numbers : List ℕ) → AreHeld below numbers → length (taken below numbers) ≡ length below
 length-taken [] numbers held = refl
 length-taken (level ∷ below) [] held = absurd held
-length-taken (level ∷ below) (n ∷ numbers) held = ap suc (length-taken below numbers held.1)
+length-taken (level ∷ below) (n ∷ numbers) held = grind (arith, length-taken below numbers held.1)
 
 pub length-held : (below : List (Vec ℕ Global)) (numbers : List ℕ) → AreHeld below numbers → length below ≡ length numbers
-length-held = length-zip (λ (level : Vec ℕ Global) (n : ℕ). n < length level.items)
+length-held below numbers held = sym (AllZip-long (λ (level : Vec ℕ Global) (n : ℕ). n < length level.items) below numbers held)
 
 module _ (old new : List Node) (g : Grows old new) (ks : List ℕ) (within : AllByRecursion (λ k. k < length old) ks) where
   pub within_grow : AllByRecursion (λ k. k < length new) ks
@@ -43,22 +45,13 @@ module _ (old new : List Node) (g : Grows old new) (ks : List ℕ) (within : All
   apart_grow apart v = ap at_most_one (map_same (mentions new v) (mentions old v) ks (λ k m. g.variables k v (each-at (λ k. k < length old) k ks within m))) ∙ apart v
 
 pub usable_grows : (old new : List Node) (var : ℕ) (below : List (Vec ℕ Global)) (way : Option (List ℕ)) → Grows old new → IfSome way (IsUsable old var below) → IfSome way (IsUsable new var below)
-usable_grows old new var below None g h = tt
-usable_grows old new var below (Some numbers) g h = record {
-  held = h.held;
-  few = h.few;
-  within = within_grow old new g (taken below numbers) h.within;
-  apart = apart_grow old new g (taken below numbers) h.within h.apart;
-  free = mentions_grow old new g (taken below numbers) h.within var ∙ h.free;
-}
+usable_grows old new var below way g h = grind (arith, within_grow old new g, apart_grow old new g, mentions_grow old new g)
 
 way_grows : (old new : List Node) (var : ℕ) (below : List (Vec ℕ Global)) (way : Option (List ℕ)) (a : Assignment) → Grows old new → IfSome way (IsUsable old var below) → way_true new a below way ≡ way_true old a below way
-way_grows old new var below None a g h = refl
-way_grows old new var below (Some numbers) a g h = truths_grow old new g (taken below numbers) h.within a
+way_grows old new var below way a g h = grind (arith, truths_grow old new g)
 
 names_grow : (old new : List Node) (var : ℕ) (below : List (Vec ℕ Global)) (way : Option (List ℕ)) (v : ℕ) → Grows old new → IfSome way (IsUsable old var below) → way_mentions new v below way ≡ way_mentions old v below way
-names_grow old new var below None v g h = refl
-names_grow old new var below (Some numbers) v g h = mentions_grow old new g (taken below numbers) h.within v
+names_grow old new var below way v g h = grind (arith, mentions_grow old new g)
 
 -- ---- one bit
 
@@ -68,22 +61,14 @@ module _ (m : Maker) (var : ℕ) (bit : Bool) (below : List (Vec ℕ Global)) (n
   kids = literal ∷ taken below numbers
 
   pub children_meetable : IsMaker m → m.store.made < MADE_LIMIT → AreMeetable m kids
-  children_meetable maker few = record {
-    maker = maker;
-    within = All-from_recursion (λ k. k < length m.store.nodes) kids (literal_in, is.within);
-    apart = by;
-    few_children = omega (arith, is.few, length-taken below numbers is.held, length-held below numbers is.held);
-    few = few;
-  } where
-    by : (v : ℕ) → at_most_one (map (mentions m.store.nodes v) kids) ≡ true
-    by v = grind (arith, nat_tests, others_none, list_any-map, is.free, is.apart v, variables v)
+  children_meetable maker few = grind (arith, nat_tests, maker, few, is, literal_in, variables, All-from_recursion (λ k. k < length m.store.nodes) kids, length-taken below numbers is.held, length-held below numbers is.held, at_most_one-from, at_most_one-none, list_any-map)
 
   module _ (new : Maker) (node : ℕ) (meet : IsMeet m new kids node) where
     adds : Adds m new 1 (1 + length below)
-    adds = let e : length kids ≡ 1 + length below = omega (arith, length-taken below numbers is.held) in subst (Adds m new 1) e meet.adds
+    adds = grind (arith, meet.adds, length-taken below numbers is.held)
 
     says : (a : Assignment) → is_true new.store.nodes node a ≡ (same_bit bit (a var) && list_all (λ k. is_true m.store.nodes k a) (taken below numbers))
-    says a = meet.truth a ∙ ap (λ b. b && list_all (λ k. is_true m.store.nodes k a) (taken below numbers)) (truth a)
+    says a = grind (arith, meet.truth a, truth a)
 
     pub take_false : node ≡ new.no → IsTaken m new var bit below (Some numbers) None
     take_false e = grind (arith, adds, says, meet.adds.maker.no.truth)
@@ -93,24 +78,12 @@ module _ (m : Maker) (var : ℕ) (bit : Bool) (below : List (Vec ℕ Global)) (n
 
 -- ---- both bits
 
-bit_true : (nodes : List Node) (a : Assignment) (below : List (Vec ℕ Global)) (zero one : Option (List ℕ)) (x : Bool)
-    → ((same_bit false x && way_true nodes a below zero) || (same_bit true x && way_true nodes a below one)) ≡ way_true nodes a below (bit_way zero one x)
-bit_true nodes a below zero one x = grind arith
-
 pub choice_one : (old mid most new : Maker) (var : ℕ) (below : List (Vec ℕ Global)) (zero one : Option (List ℕ)) (first second : Option ℕ) (node : ℕ)
     → IfSome zero (IsUsable old.store.nodes var below) → IfSome one (IsUsable old.store.nodes var below)
     → IsTaken old mid var false below zero first → IsTaken mid most var true below one second → IsJoin most new first second node → IsChosen old new var below zero one node
-choice_one old mid most new var below zero one first second node zero_usable one_usable off on join = grind (arith, zero_usable, one_usable, off, on, join, adds_then old mid most, adds_then old most new, may_grow mid.store.nodes most.store.nodes, mention_grows mid.store.nodes most.store.nodes, way_grows old.store.nodes mid.store.nodes, names_grow old.store.nodes mid.store.nodes, bit_true)
+choice_one old mid most new var below zero one first second node zero_usable one_usable off on join = grind (arith, zero_usable, one_usable, off, on, join, adds_then old mid most, adds_then old most new, may_grow mid.store.nodes most.store.nodes, way_grows old.store.nodes mid.store.nodes, names_grow old.store.nodes mid.store.nodes)
 
 -- ---- all lists
-
-choice_grows : (old new more : List Node) (var : ℕ) (below : List (Vec ℕ Global)) (zero one : Option (List ℕ)) (node : ℕ) → Grows new more → IsChoice old new var below zero one node → IsChoice old more var below zero one node
-choice_grows old new more var below zero one node g is = grind arith
-
--- what a node was made of later says the same of the nodes that were there at first
-choice_before : (old mid new : List Node) (var : ℕ) (below : List (Vec ℕ Global)) (zero one : Option (List ℕ)) (node : ℕ) → Grows old mid
-    → IfSome zero (IsUsable old var below) → IfSome one (IsUsable old var below) → IsChoice mid new var below zero one node → IsChoice old new var below zero one node
-choice_before old mid new var below zero one node g h k is = grind (arith, way_grows, names_grow)
 
 -- the nodes of the first lists
 abbrev pub AreFirstChoices : Maker → Maker → ℕ → List (Vec ℕ Global) → List (Option (List ℕ)) → List (Option (List ℕ)) → List ℕ → Type 0
@@ -121,4 +94,5 @@ pub choices_more : (old mid new : Maker) (var : ℕ) (below : List (Vec ℕ Glob
     → IfSome zero (IsUsable old.store.nodes var below) → IfSome one (IsUsable old.store.nodes var below)
     → slice_get zeros (length nodes) ≡ Some zero → slice_get ones (length nodes) ≡ Some one → Adds old mid more kids → IsChosen mid new var below zero one node
     → AreFirstChoices old mid var below zeros ones nodes → AreFirstChoices old new var below zeros ones (nodes ++ node ∷ [])
-choices_more old mid new var below zeros ones nodes zero one node more kids h k at_zero at_one adds made first j z o n here there at = grind (arith, get-push nodes node n j at, choice_before old.store.nodes mid.store.nodes new.store.nodes var below zero one node adds.grows h k made.right, choice_grows old.store.nodes mid.store.nodes new.store.nodes var below z o n made.adds.grows, first j z o n here there)
+choices_more old mid new var below zeros ones nodes zero one node more kids h k at_zero at_one adds made first j z o n here there at =
+    grind (arith, get-push nodes node n j at, way_grows old.store.nodes mid.store.nodes, names_grow old.store.nodes mid.store.nodes, adds.grows, h, k, made, first j z o n here there)

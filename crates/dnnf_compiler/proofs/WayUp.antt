@@ -1,18 +1,18 @@
 -- The way up along a forest: the last step first.
-use Rattle.std.proofs.Common.{Bool, ◌≡◌, ℕ, zero, suc, ◌+◌, ◌*◌, ◌<◌, ◌≤◌, true, List, [], ◌∷◌, ◌++◌, map, length, drop, get_or, replicate, Some, refl, ap, sym, ◌∙◌, subst, arith, add-one, inl, length-append}
+use Rattle.std.proofs.Common.{Bool, ◌≡◌, ℕ, zero, suc, ◌+◌, ◌*◌, ◌<◌, ◌≤◌, true, List, [], ◌∷◌, ◌++◌, map, length, drop, replicate, Some, refl, ap, sym, ◌∙◌, subst, arith, add-one, inl, length-append}
 use Rattle.std.specs.Prelude.{slice_get, reverse, Vec}
 use Rattle.std.specs.declared.alloc.Global.{Global}
-use Rattle.std.specs.List.{flat_map, list_all, AllByRecursion}
+use Rattle.std.specs.List.{flat_map, AllByRecursion}
 use Rattle.std.proofs.lemmas.List.{append-nil, nil_from_length, drop_more, drop-drop, length-drop, length-reverse, reverse-append}
 use Rattle.std.proofs.lemmas.List.Elements.{All-from_recursion}
 use Rattle.std.proofs.lemmas.Option.{slice_get-get_or}
 use Rattle.std.proofs.lemmas.List.Concat.{flat_map-append}
+use Rattle.state_rules.specs.Assignments.{Assignment}
 use Rattle.state_rules.specs.Graphs.{IsGraph, is_true}
 use Rattle.state_rules.proofs.Bits.{pointwise-refl}
 use Rattle.state_rules.proofs.Lists.{AllByRecursion-append}
-use Rattle.state_rules.proofs.Members.{In}
 use Rattle.node_store.specs.Stores.{IsFrozen}
-use Rattle.clause_encoder.specs.Clauses.{ClauseList, is_clause_list}
+use Rattle.clause_encoder.specs.Clauses.{ClauseList, all_hold, is_clause_list}
 use Rattle.branch_states.specs.declared.measuring.TheConstants.{BUDGET_LIMIT}
 use Rattle.elimination_forests.proofs.MetOrder.{clauses-valid}
 use Rattle.elimination_forests.specs.declared.forks.Forks.{Forks}
@@ -52,48 +52,24 @@ abbrev pub all_sum : List Spot → ℕ
 all_sum [] = 0
 all_sum (spot ∷ spots) = (length spot.place.lists + sum_on Lists spot.below (decided spot.v spot.place)) + all_sum spots
 
-steps_on : (forest : Forest) (base : Place) → flat_map its_steps (spots_on forest base) ≡ steps_of forest
-steps_on none base = refl
-steps_on (tree v below beside) base = grind (arith, steps_on beside base)
+-- those of the trees of a base
+record AreOn (most : ℕ) (forest : Forest) (base : Place) : Type 0 where
+  steps : flat_map its_steps (spots_on forest base) ≡ steps_of forest
+  forks : flat_map its_forks (spots_on forest base) ≡ forks_on forest base
+  sum : all_sum (spots_on forest base) ≡ sum_on Lists forest base
+  few : trees forest ≤ width forest
+  narrow : width forest ≤ most → AllByRecursion (λ (s : Spot). width s.below ≤ most) (spots_on forest base)
 
-forks_along : (forest : Forest) (base : Place) → flat_map its_forks (spots_on forest base) ≡ forks_on forest base
-forks_along none base = refl
-forks_along (tree v below beside) base = grind (arith, forks_along beside base)
-
-sum_along : (forest : Forest) (base : Place) → all_sum (spots_on forest base) ≡ sum_on Lists forest base
-sum_along none base = refl
-sum_along (tree v below beside) base = omega (arith, sum_along beside base)
-
-steps_advance : (spots : List Spot) → flat_map its_steps (advance spots) ≡ drop 1 (flat_map its_steps spots)
-steps_advance [] = refl
-steps_advance (s ∷ spots) = flat_map-append its_steps (spots_below s) spots ∙ ap (λ xs. xs ++ flat_map its_steps spots) (steps_on s.below (decided s.v s.place))
-
-forks_advance : (spots : List Spot) → flat_map its_forks (advance spots) ≡ drop 1 (flat_map its_forks spots)
-forks_advance [] = refl
-forks_advance (s ∷ spots) = flat_map-append its_forks (spots_below s) spots ∙ ap (λ xs. xs ++ flat_map its_forks spots) (forks_along s.below (decided s.v s.place))
+are_on : (most : ℕ) (forest : Forest) (base : Place) → AreOn most forest base
+are_on most none base = grind arith
+are_on most (tree v below beside) base = grind (arith, are_on most beside base)
 
 all_sum-append : (xs ys : List Spot) → all_sum (xs ++ ys) ≡ all_sum xs + all_sum ys
 all_sum-append [] ys = omega arith
 all_sum-append (x ∷ xs) ys = omega (arith, all_sum-append xs ys)
 
 sum_next : (s : Spot) (rest : List Spot) → length s.place.lists + all_sum (spots_below s ++ rest) ≡ all_sum (s ∷ rest)
-sum_next s rest = omega (arith, all_sum-append (spots_below s) rest, sum_along s.below (decided s.v s.place))
-
-sum_advance : (spots : List Spot) → all_sum (advance spots) ≤ all_sum spots
-sum_advance [] = omega arith
-sum_advance (s ∷ rest) = omega (arith, sum_next s rest)
-
-trees_within : (forest : Forest) → trees forest ≤ width forest
-trees_within none = omega arith
-trees_within (tree v below beside) = omega arith
-
-narrow_on : (k : ℕ) (forest : Forest) (base : Place) → width forest ≤ k → AllByRecursion (λ (s : Spot). width s.below ≤ k) (spots_on forest base)
-narrow_on k none base h = tt
-narrow_on k (tree v below beside) base h = (omega arith, narrow_on k beside base (omega arith))
-
-each_advance : (P : Spot → Type 0) → ((s : Spot) → P s → AllByRecursion P (spots_below s)) → (spots : List Spot) → AllByRecursion P spots → AllByRecursion P (advance spots)
-each_advance P h [] are = tt
-each_advance P h (s ∷ spots) are = AllByRecursion-append P (spots_below s) spots (h s are.0) are.1
+sum_next s rest = grind (arith, all_sum-append (spots_below s) rest, are_on 0 s.below (decided s.v s.place))
 
 -- what is known of the places when so many steps are left out
 record IsAfter (vars most sum i : ℕ) (steps : List Step) (forks : List Forks) (spots : List Spot) : Type 0 where
@@ -106,17 +82,23 @@ record IsAfter (vars most sum i : ℕ) (steps : List Step) (forks : List Forks) 
 drop_next : {X : Type 0} (i : ℕ) (xs : List X) → drop 1 (drop i xs) ≡ drop (suc i) xs
 drop_next i xs = drop-drop 1 i xs ∙ ap (λ n. drop n xs) (add-one i)
 
+after_next : (vars most sum i : ℕ) (steps : List Step) (forks : List Forks) (spots : List Spot) → IsAfter vars most sum i steps forks spots → IsAfter vars most sum (suc i) steps forks (advance spots)
+after_next vars most sum i steps forks [] is = grind (arith, drop_next i steps, drop_next i forks)
+after_next vars most sum i steps forks (s ∷ spots) is = grind (
+  arith,
+  drop_next i steps,
+  drop_next i forks,
+  are_on most s.below (decided s.v s.place),
+  flat_map-append,
+  sum_next s spots,
+  each_spot,
+  below_base,
+  AllByRecursion-append {A = Spot},
+)
+
 all_after : (vars most sum i : ℕ) (steps : List Step) (forks : List Forks) (spots : List Spot) → IsAfter vars most sum 0 steps forks spots → IsAfter vars most sum i steps forks (spots_at spots i)
 all_after vars most sum zero steps forks spots is = is
-all_after vars most sum (suc i) steps forks spots is =
-    let so_far = all_after vars most sum i steps forks spots is in
-    record {
-      steps_are = steps_advance (spots_at spots i) ∙ ap (drop 1) so_far.steps_are ∙ drop_next i steps;
-      forks_are = forks_advance (spots_at spots i) ∙ ap (drop 1) so_far.forks_are ∙ drop_next i forks;
-      few = omega (arith, sum_advance (spots_at spots i), so_far.few);
-      each = each_advance (IsSpot vars) (λ s one. each_spot vars s.below (decided s.v s.place) (below_base vars s one)) (spots_at spots i) so_far.each;
-      narrow = each_advance (λ s. width s.below ≤ most) (λ s low. narrow_on most s.below (decided s.v s.place) low) (spots_at spots i) so_far.narrow;
-    }
+all_after vars most sum (suc i) steps forks spots is = after_next vars most sum i steps forks (spots_at spots i) (all_after vars most sum i steps forks spots is)
 
 -- ---- the place of a step, and those that are after it
 
@@ -126,10 +108,7 @@ pub record IsNext (first_spots : List Spot) (i : ℕ) : Type 0 where
   pub are : spots_at first_spots i ≡ spot ∷ rest
 
 head_at : {X : Type 0} (i : ℕ) (x : X) (xs ys : List X) → x ∷ ys ≡ drop i xs → slice_get xs i ≡ Some x
-head_at i x xs ys e =
-    let low : i < length xs = omega (arith, ap length e, length-drop i xs) in
-    let more = drop_more xs i x low in
-    slice_get-get_or xs i x low ∙ ap Some (let same : get_or xs i x ≡ x = cc in same)
+head_at i x xs ys e = grind (arith, e, drop_more xs i x, slice_get-get_or xs i x, length-drop i xs)
 
 forks_many : (forest : Forest) (base : Place) → length (forks_on forest base) ≡ length (steps_of forest)
 forks_many none base = refl
@@ -163,13 +142,12 @@ module _ (cnf : ClauseList) (steps : List Step) (forks : List Forks) (forest : F
   forks_long = ap length is.forks_are ∙ forks_many forest (root cnf.clauses) ∙ sym (ap length is.steps_are)
 
   its_after : is_clause_list cnf ≡ true → (i : ℕ) → IsAfter cnf.vars (width forest) BUDGET_LIMIT i steps forks (spots_at (start cnf forest) i)
-  its_after valid i = all_after cnf.vars (width forest) BUDGET_LIMIT i steps forks (start cnf forest) (record {
-    steps_are = steps_on forest (root cnf.clauses) ∙ sym is.steps_are;
-    forks_are = forks_along forest (root cnf.clauses) ∙ sym is.forks_are;
-    few = omega (arith, sum_along forest (root cnf.clauses), is.few);
-    each = each_spot cnf.vars forest (root cnf.clauses) (root_base cnf forest is.forest_is (clauses-valid cnf valid).2);
-    narrow = narrow_on (width forest) forest (root cnf.clauses) (omega arith);
-  })
+  its_after valid i = all_after cnf.vars (width forest) BUDGET_LIMIT i steps forks (start cnf forest) (grind (
+    arith,
+    is,
+    are_on (width forest) forest (root cnf.clauses),
+    each_spot cnf.vars forest (root cnf.clauses) (root_base cnf forest is.forest_is (clauses-valid cnf valid).2),
+  ))
 
   pub next_way : is_clause_list cnf ≡ true → (i : ℕ) → i < length steps → IsNext (start cnf forest) i
   next_way valid i h = by (spots_at (start cnf forest) i) refl where
@@ -197,7 +175,7 @@ module _ (cnf : ClauseList) (steps : List Step) (forks : List Forks) (forest : F
 
     pub climb_more : (new : Maker) (under : List (Vec ℕ Global)) (numbers : Vec ℕ Global) → IsRaised m new under numbers.items next.spot next.rest
         → IsClimbing cnf (width forest) new (under ++ numbers ∷ []) (spots_at (start cnf forest) i)
-    climb_more new under numbers raised = grind (arith, next.are, raised, climbing, climbed, known, sum_next next.spot next.rest, trees_within next.spot.below, children_few m.store.handed new.store.handed (trees next.spot.below) (width forest), reverse-append under (numbers ∷ []))
+    climb_more new under numbers raised = grind (arith, next.are, raised, climbing, climbed, known, sum_next next.spot next.rest, are_on 0 next.spot.below (decided next.spot.v next.spot.place), children_few m.store.handed new.store.handed (trees next.spot.below) (width forest), reverse-append under (numbers ∷ []))
 
   -- ---- the base of all
 
@@ -210,13 +188,10 @@ module _ (cnf : ClauseList) (steps : List Step) (forks : List Forks) (forest : F
       whole = grind (arith, are, length-append, length-reverse, many, append-nil, nil_from_length)
 
       levels : AreLevels m.store.nodes (spots_on forest (root cnf.clauses)) top
-      levels = subst (AreLevels m.store.nodes (spots_on forest (root cnf.clauses))) whole climbing.stacked
-
-      there : In all (root cnf.clauses).lists
-      there = inl refl
+      levels = rw whole at climbing.stacked
 
       its_begin : AreBegun m.store.nodes forest (root cnf.clauses) top all
-      its_begin = begun m.store.nodes forest (root cnf.clauses) top all (root_base cnf forest is.forest_is (clauses-valid cnf valid).2).once there levels
+      its_begin = begun m.store.nodes forest (root cnf.clauses) top all (root_base cnf forest is.forest_is (clauses-valid cnf valid).2).once (inl refl) levels
 
       pub top_many : length top ≡ trees forest
       top_many = sym (length-levels m.store.nodes (spots_on forest (root cnf.clauses)) top levels) ∙ length-spots forest (root cnf.clauses)
@@ -227,7 +202,7 @@ module _ (cnf : ClauseList) (steps : List Step) (forks : List Forks) (forest : F
 
       module _ (numbers : List ℕ) (n : ℕ) (long : n ≡ length stack) (zeros : numbers ≡ replicate n 0) where
         same_numbers : begins forest (root cnf.clauses) all ≡ numbers
-        same_numbers = begin_zero forest ∙ ap (λ k. replicate k 0) (sym (long ∙ sym many ∙ top_many)) ∙ sym zeros
+        same_numbers = grind (arith, begin_zero forest, long, many, top_many, zeros)
 
         pub root_held : AreHeld top numbers
         root_held = subst (AreHeld top) same_numbers its_begin.held
@@ -241,25 +216,9 @@ module _ (cnf : ClauseList) (steps : List Step) (forks : List Forks) (forest : F
 
           pub root_is : IsRoot cnf forest m kids
           root_is = record {
-            meetable = grind (arith, climbing, All-from_recursion, children_are, its_begin, children_many, trees_few forest (root cnf.clauses) all there, is.few, sum_along forest (root cnf.clauses));
+            meetable = grind (arith, climbing, All-from_recursion, children_are, its_begin, children_many, trees_few forest (root cnf.clauses) all (inl refl), is.few, are_on 0 forest (root cnf.clauses));
             right = λ new node compiled meet valid_graph frozen made.
-                let vars : new.store.vars ≡ cnf.vars = meet.adds.vars ∙ climbing.vars in
-                record {
-                  decomposable = valid_graph;
-                  vars = frozen.vars ∙ vars;
-                  truth = λ a.
-                      frozen.truth a
-                      ∙ meet.truth a
-                      ∙ ap (list_all (λ k. is_true m.store.nodes k a)) (sym children_are)
-                      ∙ its_begin.truth a
-                      ∙ sym (down_holds forest (root cnf.clauses) a all (root_down cnf forest is.forest_is (clauses-valid cnf valid).2))
-                      ∙ root_holds cnf.clauses a;
-                  no_bare_child = frozen.no_bare_child meet.adds.maker.bare;
-                  few_made = omega (arith, made, meet.adds.made, climbing.made, sum_along forest (root cnf.clauses));
-                  few_alone = λ h. let alone = (meet.alone (omega (arith, h, children_many))).made in omega (arith, made, alone, climbing.made, sum_along forest (root cnf.clauses));
-                  few_nodes = omega (arith, frozen.few, made, vars);
-                  few_edges = omega (arith, frozen.few_edges, meet.adds.handed, children_many, trees_within forest, last_children m.store.handed (width forest) (sum_on Lists forest (root cnf.clauses)) (subst (λ n. m.store.handed ≤ (4 + 2 * width forest) * n) (sum_along forest (root cnf.clauses)) climbing.handed));
-                };
-          } where
-            last_children : (handed k sum : ℕ) → handed ≤ (4 + 2 * k) * sum → handed + k ≤ (4 + 2 * k) * (1 + sum)
-            last_children handed k sum h = grind arith
+                let says : (a : Assignment) → is_true new.store.nodes node a ≡ all_hold a cnf.clauses =
+                λ a. grind (arith, meet.truth a, children_are, its_begin.truth a, down_holds forest (root cnf.clauses) a all (root_down cnf forest is.forest_is (clauses-valid cnf valid).2), root_holds cnf.clauses a) in
+                grind (arith, valid_graph, frozen, meet.adds, meet.alone, made, climbing, says, children_many, are_on 0 forest (root cnf.clauses), children_few m.store.handed new.store.handed (width forest) (width forest) 1);
+          }

@@ -1,9 +1,8 @@
-use Rattle.std.proofs.Common.{pos, take, get_or, sym, ◌∙◌, arith}
+use Rattle.std.proofs.Common.{pos, sym, ◌∙◌, arith}
 use Rattle.std.specs.Prelude.{nat_lt}
-use Rattle.std.proofs.lemmas.Bool.{or_from}
 use Rattle.std.proofs.lemmas.List.Folds.{list_any_at, list_any_more}
 use Rattle.clause_encoder.specs.Clauses.{var_of}
-use Rattle.elimination_forests.specs.Branches.{place, is_touched}
+use Rattle.elimination_forests.specs.Branches.{place}
 use Rattle.branch_states.proofs.clauses.is_touched.Goals as goal
 
 pub returns-then-has_bit : goal.returns-then-has_bit
@@ -11,6 +10,4 @@ returns-then-has_bit c =
     sym (list_any_at (λ l. nat_lt (place c.args.variables.now.keys (var_of l)) c.args.level) c.args.clause.now c.loop-literal.literal-index (pos 0) (omega arith) (sym c.has_bit.ensures ∙ c.if-has_bit.true))
 
 pub loop-literal-preserved : goal.loop-literal-preserved
-loop-literal-preserved c =
-    list_any_more (λ l. nat_lt (place c.args.variables.now.keys (var_of l)) c.args.level) c.args.clause.now c.loop-literal.literal-index (pos 0) (omega arith)
-    ∙ or_from (is_touched c.args.variables.now.keys c.args.level (take c.loop-literal.literal-index c.args.clause.now)) (nat_lt (place c.args.variables.now.keys (var_of (get_or c.args.clause.now c.loop-literal.literal-index (pos 0)))) c.args.level) c.loop-literal.invariant (sym c.has_bit.ensures ∙ c.if-has_bit.false)
+loop-literal-preserved c = grind (arith, c.has_bit.ensures, list_any_more (λ l. nat_lt (place c.args.variables.now.keys (var_of l)) c.args.level) c.args.clause.now c.loop-literal.literal-index (pos 0))

@@ -3,20 +3,20 @@ use Rattle.elimination_forests.specs.Branches.{order}
 use Rattle.elimination_forests.specs.Forests.{chain}
 use Rattle.elimination_forests.proofs.Chains.{chain-forest}
 use Rattle.forest_states.proofs.Mapped.{if-some}
-use Rattle.branch_states.proofs.Sums.{some-counted, whole-sum, above-sum}
+use Rattle.elimination_forests.proofs.LastWays.{chain-last}
+use Rattle.branch_states.proofs.Sums.{whole-sum}
 use Rattle.branch_states.proofs.measuring.measure.Goals as goal
 
 pub returns-in_default-clause-above : goal.returns-in_default-clause-above
 returns-in_default-clause-above c _ =
     let valid = c.in_ok-steps.ensures.valid in
-    above-sum c.args.cnf.now valid c.args.top
-    (c.in_ok-found.ensures.above (ap (λ o. Ok o) c.in_default.is) (chain (order c.args.cnf.now.clauses)) (c.deref.ensures.value ∙ c.in_ok-steps.ensures.steps) (chain-forest c.args.cnf.now valid))
+    let high = c.in_ok-found.ensures.above (ap (λ o. Ok o) c.in_default.is) (chain (order c.args.cnf.now.clauses)) (c.deref.ensures.value ∙ c.in_ok-steps.ensures.steps) (chain-forest c.args.cnf.now valid) in
+    omega (arith, high, chain-last c.args.cnf.now valid)
 
 pub sum_within-requires-clause-some : goal.sum_within-requires-clause-some
 sum_within-requires-clause-some c =
-    let valid = c.in_ok-steps.ensures.valid in
-    some-counted c.args.cnf.now valid c.in-Some.found.sum
-    (if-some _ _ _ c.in-Some.is c.in_ok-found.ensures.sum (chain (order c.args.cnf.now.clauses)) (c.deref.ensures.value ∙ c.in_ok-steps.ensures.steps) (chain-forest c.args.cnf.now valid))
+    let sum = if-some _ _ _ c.in-Some.is c.in_ok-found.ensures.sum (chain (order c.args.cnf.now.clauses)) (c.deref.ensures.value ∙ c.in_ok-steps.ensures.steps) (chain-forest c.args.cnf.now c.in_ok-steps.ensures.valid) in
+    omega (arith, sum)
 
 pub returns-clause-above : goal.returns-clause-above
 returns-clause-above c _ =

@@ -1,4 +1,4 @@
-use Rattle.std.proofs.Common.{◌+◌, ◌<◌, length, take, ◌∙◌, arith}
+use Rattle.std.proofs.Common.{◌+◌, take, arith}
 use Rattle.std.proofs.lemmas.List.{length-take}
 use Rattle.state_rules.proofs.Lists.{length-filter-le}
 use Rattle.elimination_forests.specs.Branches.{order, is_active}
@@ -6,12 +6,7 @@ use Rattle.branch_states.proofs.OneStep.{count-more}
 use Rattle.branch_states.proofs.stepping.count_active.Goals as goal
 
 pub loop-at-preserved : goal.loop-at-preserved
-loop-at-preserved c =
-    let cs = c.args.cnf.now.clauses in
-    let k = c.loop-at.at in
-    let low : k < length cs = omega arith in
-    count-more (is_active (order cs) c.args.level) cs k c.loop-at.count c.from-count.result c.is_active.result low c.loop-at.invariant c.from-count.ensures
-    (c.is_active.ensures ∙ (λ j. is_active (c.requires.order j) c.args.level (c.clause.ensures j)))
+loop-at-preserved c = count-more (is_active (order c.args.cnf.now.clauses) c.args.level) c.args.cnf.now.clauses c.loop-at.at _ _ _ (omega arith) c.loop-at.invariant c.from-count.ensures (rw (c.requires.order, c.clause.ensures) at c.is_active.ensures)
 
 pub overflow_add-count : goal.overflow_add-count
 overflow_add-count c =

@@ -1,12 +1,9 @@
 use Rattle.std.proofs.lemmas.Result.{err_from_is_err_and}
-use Rattle.std.proofs.Common.{sym, subst}
 use Rattle.session_rules.specs.GraphSystems.{system_of}
 use Rattle.device_files.specs.Checking.{graph_in}
 use Rattle.device_files.specs.Refusals.{refusal_output}
 use Rattle.device_files.proofs.KeptRefusals.{refused_then}
 use Rattle.diag_cli.specs.Asking.{asked}
-use Rattle.diag_cli.specs.Behaviours.{served_or_refused}
-use Rattle.diag_cli.specs.inner.Serving.{IsFor}
 use Rattle.diag_cli.proofs.Services.{refused_for, service_for, none_open}
 use Rattle.diag_cli.proofs.asking.graph_service.Goals as goal
 
@@ -19,8 +16,7 @@ returns-in_err-graph-clause-behaviour c =
 pub returns-clause-behaviour : goal.returns-clause-behaviour
 returns-clause-behaviour c =
     let made = c.service_over.ensures in
-    subst (λ found. IsFor (served_or_refused system_of c.args.sessions (asked c.args.health found)) c.service_over.result) (sym c.in_ok-graph.ensures.graph)
-    (service_for system_of c.args.sessions _ (λ service. service.subject) c.service_over.result made.asked made.ready)
+    rw c.in_ok-graph.ensures.graph (service_for system_of c.args.sessions _ (λ service. service.subject) c.service_over.result made.asked made.ready)
 
 pub returns-clause-none_open : goal.returns-clause-none_open
 returns-clause-none_open c = none_open (λ service. system_of service.subject) c.args.sessions c.service_over.result c.service_over.ensures.ready

@@ -1,12 +1,10 @@
-use Rattle.std.proofs.Common.{sym, subst}
 use Rattle.std.proofs.lemmas.Result.{err_from_is_err_and}
 use Rattle.device_files.specs.Choices.{clauses_by}
 use Rattle.device_files.specs.Describing.{described}
 use Rattle.device_files.specs.Refusals.{refusal_output}
 use Rattle.device_files.proofs.ForestChoices.{by_any, by_same}
 use Rattle.device_files.proofs.KeptRefusals.{refused_then}
-use Rattle.diag_cli.specs.Behaviours.{if_within, served_device, served_or_refused}
-use Rattle.diag_cli.specs.inner.Serving.{IsFor}
+use Rattle.diag_cli.specs.Behaviours.{if_within, served_device}
 use Rattle.diag_cli.proofs.Services.{refused_for, service_for, none_open}
 use Rattle.diag_cli.proofs.devices.device_service.Goals as goal
 
@@ -22,10 +20,7 @@ pub returns-clause-behaviour : goal.returns-clause-behaviour
 returns-clause-behaviour c =
     let made = c.service_within.ensures in
     let options = c.args.options in
-    let device = c.in_ok-device.device in
-    by_same made.within (λ choose within.
-    subst (λ found. IsFor (served_or_refused (served_device options) options.sessions (if_within options (clauses_by options.narrow choose) found)) c.service_within.result) (sym c.in_ok-device.ensures)
-    (service_for (served_device options) options.sessions _ (λ service. device) c.service_within.result within made.service))
+    by_same made.within (λ choose within. rw c.in_ok-device.ensures (service_for (served_device options) options.sessions _ (λ service. c.in_ok-device.device) c.service_within.result within made.service))
 
 pub returns-clause-none_open : goal.returns-clause-none_open
 returns-clause-none_open c = none_open (λ service. served_device c.args.options c.in_ok-device.device) c.args.options.sessions c.service_within.result c.service_within.ensures.service

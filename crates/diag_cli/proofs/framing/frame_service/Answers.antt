@@ -1,12 +1,10 @@
-use Rattle.std.proofs.Common.{sym, subst}
 use Rattle.std.proofs.lemmas.Result.{err_from_is_err_and}
 use Rattle.device_files.specs.Choices.{weighed_by}
 use Rattle.device_files.specs.Refusals.{refusal_output}
 use Rattle.device_files.proofs.ForestChoices.{by_any, by_same}
 use Rattle.device_files.proofs.KeptRefusals.{refused_then}
-use Rattle.diag_cli.specs.Behaviours.{served_frames, served_or_refused}
+use Rattle.diag_cli.specs.Behaviours.{served_frames}
 use Rattle.diag_cli.specs.Frames.{sequential_in, if_unrolled}
-use Rattle.diag_cli.specs.inner.Serving.{IsFor}
 use Rattle.diag_cli.proofs.Services.{refused_for, service_for, none_open}
 use Rattle.diag_cli.proofs.framing.frame_service.Goals as goal
 
@@ -23,11 +21,7 @@ pub returns-clause-behaviour : goal.returns-clause-behaviour
 returns-clause-behaviour c =
     let made = c.service_within.ensures in
     let options = c.args.options in
-    let frames = c.args.frames in
-    let seq = c.in_ok-seq.seq in
-    by_same made.within (λ choose within.
-    subst (λ found. IsFor (served_or_refused (served_frames frames options) options.sessions (if_unrolled frames options (weighed_by options.narrow choose) found)) c.service_within.result) (sym c.in_ok-seq.ensures.read)
-    (service_for (served_frames frames options) options.sessions _ (λ service. seq) c.service_within.result within made.service))
+    by_same made.within (λ choose within. rw c.in_ok-seq.ensures.read (service_for (served_frames c.args.frames options) options.sessions _ (λ service. c.in_ok-seq.seq) c.service_within.result within made.service))
 
 pub returns-clause-none_open : goal.returns-clause-none_open
 returns-clause-none_open c = none_open (λ service. served_frames c.args.frames c.args.options c.in_ok-seq.seq) c.args.options.sessions c.service_within.result c.service_within.ensures.service

@@ -1,9 +1,8 @@
-use Rattle.std.proofs.Common.{◌≡◌, ℕ, [], Ok, IfSome, length, ap, refl, sym, subst, ◌∙◌, arith}
+use Rattle.std.proofs.Common.{◌≡◌, ℕ, [], Ok, length, ap, refl, sym, subst, ◌∙◌, arith}
 use Rattle.std.specs.Result.{result_and}
 use Rattle.std.proofs.lemmas.Result.{err_from_is_err_and}
 use Rattle.text_rules.specs.Expected.{IsExpectedFault}
 use Rattle.state_rules.specs.Ranking.{plain_costs}
-use Rattle.session_core.specs.Services.{CanList, CanDraw}
 use Rattle.device_files.specs.Choices.{weighed_by}
 use Rattle.device_files.specs.Weighing.{within}
 use Rattle.device_files.specs.Refusals.{refusal_output}
@@ -55,32 +54,27 @@ over-requires-clause-costs c =
 pub over-requires-clause-vars : goal.over-requires-clause-vars
 over-requires-clause-vars c =
     let some = has_sum c.in-Ok.made.cnf c.args.options.narrow c.in_ok-forest.forest c.in_ok-forest.ensures in
-    let by = c.in_ok-graph.ensures.graph some.0 some.1 in
-    omega (arith, c.in-Ok.ensures.valid.room, ap length c.into_vec.ensures, ap length c.into_vec-2.ensures, by.vars)
+    omega (arith, c.in-Ok.ensures.valid.room, ap length c.into_vec.ensures, ap length c.into_vec-2.ensures, (c.in_ok-graph.ensures.graph some.0 some.1).vars)
 
 pub over-requires-clause-few_vars : goal.over-requires-clause-few_vars
 over-requires-clause-few_vars c =
     let some = has_sum c.in-Ok.made.cnf c.args.options.narrow c.in_ok-forest.forest c.in_ok-forest.ensures in
-    let by = c.in_ok-graph.ensures.graph some.0 some.1 in
-    omega (arith, c.in-Ok.ensures.valid.few_vars, by.vars)
+    omega (arith, c.in-Ok.ensures.valid.few_vars, (c.in_ok-graph.ensures.graph some.0 some.1).vars)
 
 pub over-requires-clause-few_nodes : goal.over-requires-clause-few_nodes
 over-requires-clause-few_nodes c =
     let some = has_sum c.in-Ok.made.cnf c.args.options.narrow c.in_ok-forest.forest c.in_ok-forest.ensures in
-    let by = c.in_ok-graph.ensures.graph some.0 some.1 in
-    omega (arith, c.in-Ok.ensures.valid.few_vars, by.few_nodes, c.in_ok-graph.ensures.within some.0 some.1, c.requires.options.budget)
+    omega (arith, c.in-Ok.ensures.valid.few_vars, (c.in_ok-graph.ensures.graph some.0 some.1).few_nodes, c.in_ok-graph.ensures.within some.0 some.1, c.requires.options.budget)
 
 pub over-requires-clause-levels : goal.over-requires-clause-levels
 over-requires-clause-levels c =
-    let many = many_parts c.args.seq.now c.args.frames c.in-Ok.made c.in-Ok.ensures.unrolled c.in-Ok.ensures.valid in
-    subst (λ (parts : ℕ). IfSome c.args.options.extras.levels (CanList c.in_ok-graph.graph parts))
-    (ap length c.parts-count.ensures.parts ∙ sym (ap length c.into_vec.ensures ∙ many)) c.in_ok-graph.ensures.told.levels
+    let same = ap length c.into_vec.ensures ∙ many_parts c.args.seq.now c.args.frames c.in-Ok.made c.in-Ok.ensures.unrolled c.in-Ok.ensures.valid ∙ sym (ap length c.parts-count.ensures.parts) in
+    rw same c.in_ok-graph.ensures.told.levels
 
 pub over-requires-clause-least : goal.over-requires-clause-least
 over-requires-clause-least c = λ asked.
-    let many = many_parts c.args.seq.now c.args.frames c.in-Ok.made c.in-Ok.ensures.unrolled c.in-Ok.ensures.valid in
-    subst (λ (parts : ℕ). CanDraw c.in_ok-graph.graph parts)
-    (ap length c.parts-count.ensures.parts ∙ sym (ap length c.into_vec.ensures ∙ many)) (c.in_ok-graph.ensures.told.least asked)
+    let same = ap length c.into_vec.ensures ∙ many_parts c.args.seq.now c.args.frames c.in-Ok.made c.in-Ok.ensures.unrolled c.in-Ok.ensures.valid ∙ sym (ap length c.parts-count.ensures.parts) in
+    rw same (c.in_ok-graph.ensures.told.least asked)
 
 pub returns-in-Ok-over-clause-within : goal.returns-in-Ok-over-clause-within
 returns-in-Ok-over-clause-within c =

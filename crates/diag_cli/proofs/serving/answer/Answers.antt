@@ -83,10 +83,8 @@ pub returns-in-ReadFault-clause-served : goal.returns-in-ReadFault-clause-served
 returns-in-ReadFault-clause-served g c =
     let shown = c.args.service.now in
     let done = c.in-ReadFault.ensures.served in
-    let said = c.say_read_fault.ensures.said in
     let answers = answers_of (system_of shown.subject) shown.limit in
-    let written =
-    ready_then shown c.parts.ensures.sound _ _ (whole_lines done.0) _ _ _ _ _ c.requires.none_open c.parts.ensures.parts c.wires.ensures c.in-Ok.ensures.text done.3.1 in
+    let written = ready_then shown c.parts.ensures.sound _ _ (whole_lines done.0) _ _ _ _ _ c.requires.none_open c.parts.ensures.parts c.wires.ensures c.in-Ok.ensures.text done.3.1 in
     served_shown (g.I.Source.shown_is _) (g.I.Source.shown_is _) (g.O.Sink.shown_is _) (g.O.Sink.shown_is _) (record {
       bytes = done.0;
       counted = done.1;
@@ -94,8 +92,8 @@ returns-in-ReadFault-clause-served g c =
       wrote = inl (record {
         end = Failed;
         ends = (done.3.0, c.in-ReadFault.ensures.read_fault.rose refl);
-        answered = first_given (answers (whole_lines done.0)) _ _ _ _ _ written said;
-        gives = gives_after (answers (whole_lines done.0)) read_error _ _ _ _ _ written said;
+        answered = first_given (answers (whole_lines done.0)) _ _ _ _ _ written c.say_read_fault.ensures.said;
+        gives = gives_after (answers (whole_lines done.0)) read_error _ _ _ _ _ written c.say_read_fault.ensures.said;
       });
     })
 
@@ -103,10 +101,8 @@ pub returns-in-Limit-clause-served : goal.returns-in-Limit-clause-served
 returns-in-Limit-clause-served g c =
     let shown = c.args.service.now in
     let done = c.in-Limit.ensures.served in
-    let said = c.say_too_long.ensures.said in
     let answers = answers_of (system_of shown.subject) shown.limit in
-    let written =
-    ready_then shown c.parts.ensures.sound _ _ (whole_lines done.0) _ _ _ _ _ c.requires.none_open c.parts.ensures.parts c.wires.ensures c.in-Ok.ensures.text done.3.1 in
+    let written = ready_then shown c.parts.ensures.sound _ _ (whole_lines done.0) _ _ _ _ _ c.requires.none_open c.parts.ensures.parts c.wires.ensures c.in-Ok.ensures.text done.3.1 in
     served_shown (g.I.Source.shown_is _) (g.I.Source.shown_is _) (g.O.Sink.shown_is _) (g.O.Sink.shown_is _) (record {
       bytes = done.0;
       counted = done.1;
@@ -114,7 +110,7 @@ returns-in-Limit-clause-served g c =
       wrote = inl (record {
         end = Cut;
         ends = (done.3.0, c.in-Limit.ensures.read_fault.stayed (λ e. let never : ⊥ = cc in never));
-        answered = first_given (answers (whole_lines done.0)) _ _ _ _ _ written said;
-        gives = gives_after (answers (whole_lines done.0)) (too_long_line (codes "script") SCRIPT_LIMIT) _ _ _ _ _ written said;
+        answered = first_given (answers (whole_lines done.0)) _ _ _ _ _ written c.say_too_long.ensures.said;
+        gives = gives_after (answers (whole_lines done.0)) (too_long_line (codes "script") SCRIPT_LIMIT) _ _ _ _ _ written c.say_too_long.ensures.said;
       });
     })

@@ -1,7 +1,7 @@
-use Rattle.std.proofs.Common.{◌≡◌, ◌<◌, ◌++◌, ◌∷◌, Some, None, length, ap, sym, ◌∙◌, subst}
+use Rattle.std.proofs.Common.{◌≡◌, ◌<◌, ◌++◌, ◌∷◌, length, ap, ◌∙◌, subst}
 use Rattle.std.specs.Prelude.{option_map, IfSome}
 use Rattle.std.proofs.lemmas.Option.{slice_get_within}
-use Rattle.dnnf_compiler.specs.inner.Meeting.{taken, AreMeetable, IsMeet, IsUsable, IsTaken}
+use Rattle.dnnf_compiler.specs.inner.Meeting.{taken, IsUsable}
 use Rattle.dnnf_compiler.proofs.WayNodes.{children_meetable, take_false, take_some}
 use Rattle.dnnf_compiler.proofs.maker.Maker.take.Goals as goal
 use Rattle.dnnf_compiler.proofs.maker.Maker.take.Goals.{After-as_slice}
@@ -18,22 +18,14 @@ literal_in c = slice_get_within c.args.self.now.store.nodes c.literal-literal.re
 pub meet-requires : goal.meet-requires
 meet-requires c =
     let d = (goal.at.meet-requires c).After-as_slice in
-    subst (AreMeetable c.args.self.now) (sym (its_children d))
-    (children_meetable c.args.self.now c.args.var c.args.bit c.args.below.now c.in-Some.numbers.now c.literal-literal.result (usable d) (literal_in d) c.literal-literal.ensures.truth c.literal-literal.ensures.variables
-    c.requires.maker c.requires.few)
+    rw (its_children d) (children_meetable _ _ _ _ _ _ (usable d) (literal_in d) c.literal-literal.ensures.truth c.literal-literal.ensures.variables c.requires.maker c.requires.few)
 
 pub returns-then-node-self : goal.returns-then-node-self
 returns-then-node-self c =
     let d = (goal.at.returns-then-node-self c).After-as_slice in
-    let m = c.args.self.now in
-    subst (λ way. IsTaken c.args.self.now c.meet.new.self c.args.var c.args.bit c.args.below.now (option_map (λ numbers. numbers.now) way) None) (sym c.in-Some.is)
-    (take_false m c.args.var c.args.bit c.args.below.now c.in-Some.numbers.now c.literal-literal.result (usable d) (literal_in d) c.literal-literal.ensures.truth c.literal-literal.ensures.variables
-    c.meet.new.self c.in_ok-node.node (subst (λ ks. IsMeet c.args.self.now c.meet.new.self ks c.in_ok-node.node) (its_children d) c.in_ok-node.ensures) c.if-node-self.true)
+    rw c.in-Some.is (take_false _ _ _ _ _ _ (usable d) (literal_in d) c.literal-literal.ensures.truth c.literal-literal.ensures.variables _ _ (rw (its_children d) at c.in_ok-node.ensures) c.if-node-self.true)
 
 pub returns : goal.returns
 returns c =
     let d = (goal.at.returns c).After-as_slice in
-    let m = c.args.self.now in
-    subst (λ way. IsTaken c.args.self.now c.meet.new.self c.args.var c.args.bit c.args.below.now (option_map (λ numbers. numbers.now) way) (Some c.in_ok-node.node)) (sym c.in-Some.is)
-    (take_some m c.args.var c.args.bit c.args.below.now c.in-Some.numbers.now c.literal-literal.result (usable d) (literal_in d) c.literal-literal.ensures.truth c.literal-literal.ensures.variables
-    c.meet.new.self c.in_ok-node.node (subst (λ ks. IsMeet c.args.self.now c.meet.new.self ks c.in_ok-node.node) (its_children d) c.in_ok-node.ensures) c.if-node-self.false)
+    rw c.in-Some.is (take_some _ _ _ _ _ _ (usable d) (literal_in d) c.literal-literal.ensures.truth c.literal-literal.ensures.variables _ _ (rw (its_children d) at c.in_ok-node.ensures) c.if-node-self.false)

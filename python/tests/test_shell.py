@@ -75,7 +75,8 @@ class Lines(unittest.TestCase):
             self.assertEqual(len(told), 1)
             self.assertTrue(told[0].startswith(f"refused: {text} (error {number})"), told)
         self.assertIn("near it: 2", self.say("see 24=1")[0])
-        self.assertIn("it is see w=b", self.say("see 1=2")[0])
+        self.assertIn("it is see w=b: b is 0 or 1", self.say("see 1=2")[0])
+        self.assertIn("it is hold p=m: m is ok or bad", self.say("hold 10=faulty")[0])
         self.assertIn("it is list k: the next k diagnoses; k is 1 to 1000000", self.say("list 1000001")[0])
         self.assertIn("? lists the commands", self.say("dance")[0])
 
@@ -175,6 +176,8 @@ class Lines(unittest.TestCase):
         with tempfile.TemporaryDirectory() as folder:
             self.assertEqual(self.say(f"picture {folder}/out.dot"), [f"wrote {folder}/out.dot"])
             self.assertIn("part 10", pathlib.Path(folder, "out.dot").read_text())
+            with mock.patch("diag_client.graphviz.find_dot", return_value=None):
+                self.assertEqual(self.say(f"picture {folder}/out.svg"), [f"Graphviz's `dot` is not here (Debian: graphviz); wrote {folder}/out.dot alone"])
         self.assertEqual(len(self.say("picture")), 1)
         with mock.patch("diag_client.picture.Case.of", side_effect=AssertionError):
             # It is found before anything is asked.

@@ -437,7 +437,9 @@ class Shell(cmd.Cmd):
             return " ".join(names)
         missing = next((name for name in names if name not in known), "")
         same = [name for name in known if name.lower() == missing.lower()]
-        near = same or difflib.get_close_matches(missing, known, NEAR)
+        # A wire over several times is named without its time.
+        timed = [name for name in known if name.startswith(f"{missing}@")][:NEAR]
+        near = same or timed or difflib.get_close_matches(missing, known, NEAR)
         return missing + (f"; near it: {', '.join(near)}" if near else "")
 
 

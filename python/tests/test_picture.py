@@ -33,6 +33,13 @@ class Devices(unittest.TestCase):
         self.assertEqual(device.parts, [Part("y", "NAND", ("a", "b", "y")), Part("b", "BUFF", ("a", "b")), Part("q", "DFF", ("y", "q"))])
         self.assertEqual((device.inputs, device.outputs), ({"a"}, {"y"}))
 
+    def test_a_pipe(self):
+        """The program has read it, and nobody writes into it any more."""
+        with tempfile.TemporaryDirectory() as folder:
+            os.mkfifo(f"{folder}/pipe.bench")
+            with self.assertRaisesRegex(DiagError, "copy it into a plain file"):
+                read_device(f"{folder}/pipe.bench")
+
     def test_carriage_returns_are_blanks(self):
         with tempfile.NamedTemporaryFile(suffix=".bench") as file:
             file.write(b"INPUT(\ra)# old\rINPUT(b)\r\ny =\rNOT(a)\r\n")

@@ -104,6 +104,12 @@ class Lines(unittest.TestCase):
                 self.assertIn(hint, " ".join(self.say(line)))
         self.assertEqual(dict(self.session.seen), {})
 
+    def test_name_without_its_time(self):
+        toggle = EXAMPLES / "frames/toggle.bench"
+        with Service(toggle, frames=4) as service, service.session() as session, contextlib.redirect_stdout(io.StringIO()) as told:
+            shell.Shell(service, session).onecmd("see q=1")
+        self.assertEqual(told.getvalue(), "refused: no wire (error 9): q; near it: q@0001, q@0002, q@0003\n")
+
     def test_saved_and_loaded(self):
         with tempfile.TemporaryDirectory() as folder, mock.patch.dict("os.environ", HOME=folder):
             self.say("see 1=0 22=1", "hold 10=ok")

@@ -5,14 +5,10 @@ from __future__ import annotations
 import argparse
 import functools
 import os
-import re
 import sys
 
 from . import bench, board, draw, progress, shell
 from .errors import DiagError, sentence
-from .service import LIMITS
-
-OPTION = re.compile(rf"\b({'|'.join(LIMITS)})=(\w+)")
 
 
 def words_of() -> argparse.ArgumentParser:
@@ -28,16 +24,20 @@ def words_of() -> argparse.ArgumentParser:
     served.add_argument("--frames", type=int, metavar="F", help="serve a netlist with flip-flops over F times")
     served.add_argument("--program", metavar="PATH", help="the program or launcher to start")
 
-    draws = commands.add_parser("picture", parents=[served], help="draw a device with what was seen, held and blamed")
+    # An installed command has a name of its own.
+    name = os.path.basename(sys.argv[0])
+    own = name if name.startswith("diag-") else None
+    draws = commands.add_parser("picture", parents=[served], prog=own, help="draw a device with what was seen, held and blamed")
     draw.add_words(draws)
 
-    asks = commands.add_parser("shell", parents=[served], help="ask a device interactively")
+    asks = commands.add_parser("shell", parents=[served], prog=own, help="ask a device interactively")
     asks.add_argument("--health", type=int, metavar="N", help="FILE is a graph (.nnf) whose first N variables are parts")
     asks.add_argument("--levels", type=int, metavar="C", help="what is next best may be asked for, up to a cost of C")
     asks.add_argument("--least", action="store_true", help="the graph of the diagnoses may be asked for")
     patterns = "begin with the test patterns of a table (.csv): wires in its first row, then 0, 1 or nothing"
     asks.add_argument("--patterns", metavar="TABLE", help=patterns)
-    bench.add_words(commands.add_parser("bench", parents=[served], help="open a page on which readings are entered by clicking wires"))
+    opens = commands.add_parser("bench", parents=[served], prog=own, help="open a page on which readings are entered by clicking wires")
+    bench.add_words(opens)
     return parser
 
 
@@ -60,8 +60,7 @@ def main() -> int:
         os.dup2(os.open(os.devnull, os.O_WRONLY), sys.stdout.fileno())
         return 1
     except (DiagError, OSError, ValueError) as error:
-        # What Python gives as frames=N is an option here.
-        print("diag_client:", OPTION.sub(r"--\1 \2", sentence(error).replace("narrow=True", "--narrow")), file=sys.stderr)
+        print("diag_client:", progress.as_options(sentence(error)), file=sys.stderr)
         return 1
 
 

@@ -6,16 +6,17 @@ import sys
 from collections.abc import Sequence
 from typing import Any
 
+from .errors import DiagError, Refused
 from .holding import JointProgress
 from .joint import Joint
 from .service import Service
 from .session import Session, case_lines
-from .shell import BEST, MORE, Asked, Shell, _path
+from .shell import BEST, MORE, Asked, Shell, _path, in_words
 
 MORE_PATTERNS = {
     "pattern": ("pattern NAME", "begins a test pattern of the same board, or goes back to one; see belongs to it, hold to the board"),
     "patterns": ("patterns", "the patterns: the present one has a star"),
-    "this": ("this COMMAND ..", "min, list, blame or best for the present pattern alone; without `this` they are for all together"),
+    "this": ("this COMMAND ..", "min, list, blame or best for the present pattern alone, as next and probe are; without `this` they are for all together"),
 }
 # What is asked for all patterns together once there are two.
 TOGETHER = ("min", "list", "blame", "best")
@@ -185,7 +186,8 @@ class BoardShell(Shell):
     def _min(self, words: list[str]) -> None:
         _none(words, "min")
         least = self._together().minimum()
-        self._say(" ".join(["min", str(least.cost), *least.faulty]))
+        told = " ".join(["min", str(least.cost), *least.faulty])
+        self._say(in_words(told) if self.prompt else told)
 
     def _list(self, words: list[str]) -> None:
         if len(words) > 1 or not all(word.isdecimal() and int(word) for word in words):
@@ -216,7 +218,10 @@ def begin(service: Service, session: Session, table: str | None = None) -> Board
     if table is not None:
         # One of the patterns may have its name.
         session.close()
-        shell.take(service.patterns(table))
+        try:
+            shell.take(service.patterns(table))
+        except Refused as refused:
+            raise DiagError(f"{table}: {shell.why(refused)}") from None
         print(f"{len(shell.sessions)} patterns of {table}; the present one is {shell.session.name}")
     return shell
 

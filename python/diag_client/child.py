@@ -186,7 +186,7 @@ class Child:
             self._hang_up()
             while not self._is_out():
                 self._turn()
-            self._finish()
+            self._finish("the service was closed")
         return self._process.returncode or 0
 
     def stop(self) -> None:
@@ -322,7 +322,7 @@ class Child:
         self.unanswered += self._awaited
         self._awaited.clear()
 
-    def _finish(self) -> None:
+    def _finish(self, hint: str = "") -> None:
         """Waits for the end, and lets go of all that was held."""
         self._hang_up()
         try:
@@ -342,7 +342,7 @@ class Child:
             last_line, said = self._stray if self._stray[1] else (self._last_line, self._said.strip().split("\n")[-1])
             if not self._in_step:
                 said = "stopped, since an error came in the midst of a reply"
-            self._over = Ended(self._words, self._process.returncode, last_line, said)
+            self._over = Ended(self._words, self._process.returncode, last_line, said, hint)
 
     @staticmethod
     def _text(data: bytes | bytearray) -> str:

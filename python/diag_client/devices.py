@@ -12,6 +12,8 @@ import pathlib
 import re
 from collections.abc import Iterable
 
+from .errors import DiagError
+
 
 class Reduction(enum.Enum):
     """What is asked of the inputs of a gate."""
@@ -91,6 +93,9 @@ class Device:
 def read_device(path: str | os.PathLike[str]) -> Device:
     """The device in a file, which the program has read without a fault."""
     path = pathlib.Path(path)
+    if path.is_fifo():
+        # Nobody writes into it any more.
+        raise DiagError(f"{path}: the program has read this pipe, and what is asked needs the file once more: copy it into a plain file")
     # A line ends at a line feed alone, and a carriage return is a blank.
     text = path.read_bytes().decode("utf-8", "surrogateescape")
     device = read_design(text) if path.suffix == ".dev" else read_netlist(text)

@@ -9,6 +9,7 @@ from collections.abc import Callable, Iterable
 
 from . import graphviz, picture
 from .errors import Ended
+from .progress import as_options
 from .service import Service
 
 # The exit status of the program for a device above the budget.
@@ -57,7 +58,7 @@ def draw(words: argparse.Namespace, serve: Callable[[], Service]) -> int:
     written = picture.render(text, output)
     if written == output:
         return 0
-    print(f"diag_client: Graphviz's `dot` is not here (Debian: graphviz); wrote {written} alone", file=sys.stderr)
+    print(f"diag_client: {graphviz.NO_DOT}; wrote {written} alone", file=sys.stderr)
     return 1
 
 
@@ -69,5 +70,5 @@ def _text(words: argparse.Namespace, serve: Callable[[], Service], script: Itera
     except Ended as ended:
         if ended.status != TOO_LARGE:
             raise
-        print(f"diag_client: {ended}; drawn without diagnoses", file=sys.stderr)
+        print(f"diag_client: {as_options(str(ended))}; drawn without diagnoses", file=sys.stderr)
         return picture.picture_alone(words.file, words.frames, script, words.session, words.most, ended.last_line.removeprefix("error: "))

@@ -96,6 +96,8 @@ class Ended(DiagError):
         how = f"status {self.status}"
         if self.status < 0:
             how = f"signal {-self.status} ({signal.strsignal(-self.status)})"
-        texts = [self.said] if self.last_line in self.said else [self.last_line, self.said]
+        # A program that was closed or killed did not say why.
+        last_line = self.last_line if self.status > 0 else ""
+        texts = [self.said] if last_line in self.said else [last_line, self.said]
         why = "".join(f": {text}" for text in texts if text)
         return f"`{shlex.join(self.words)}` ended with {how}{why}" + (f"; {self.hint}" if self.hint else "")

@@ -13,6 +13,7 @@ from .files import write_whole
 # A picture of the most parts that are drawn unasked takes well under a second.
 PATIENCE = 60.0
 TEXTS = (".dot", ".gv")
+NO_DOT = "Graphviz's `dot` is not here (Debian: graphviz)"
 
 
 def find_dot() -> str | None:
@@ -24,7 +25,7 @@ def layout(text: str, form: str) -> bytes:
     """What `dot` draws, in a form that it knows, such as svg."""
     program = find_dot()
     if program is None:
-        raise DiagError("Graphviz's `dot` is not here (Debian: graphviz)")
+        raise DiagError(NO_DOT)
     try:
         drawn = subprocess.run([program, f"-T{form}"], input=text.encode(), capture_output=True, check=False, timeout=PATIENCE)
     except subprocess.TimeoutExpired:

@@ -22,12 +22,14 @@ MOST_PORTS = 6
 WIRES_ON_A_LINE = 12
 TYPE_NAMES = {(len(letters), table): name for name, (letters, table) in TABLES.items()}
 TOP = "TOP"
+FROM_VERILOG = "; of Verilog yosys makes BLIF: `read_verilog x.v; synth -flatten; write_blif -icells -gates x.blif`"
 
 
 def read_circuit(path: pathlib.Path) -> Circuit:
     """The circuit in a file, by the ending of its name. Raises `UnusableNetlist` for what cannot be taken."""
     if path.suffix not in READERS:
-        raise UnusableNetlist(f"the name of the file ends in {', '.join(READERS)}")
+        hint = FROM_VERILOG if path.suffix in (".v", ".sv") else ""
+        raise UnusableNetlist(f"the name of the file ends in {', '.join(READERS)}{hint}")
     text = path.read_text(encoding="utf-8", errors="surrogateescape")
     try:
         circuit = READERS[path.suffix](text)

@@ -70,6 +70,7 @@ def read_blif(text: str) -> Circuit:
     """The circuit in a BLIF of one model."""
     circuit = Circuit()
     models = 0
+    is_whole = False
     cover: tuple[list[str], list[tuple[str, str]]] | None = None
     for number, words in logical_lines(text):
         if not words[0].startswith("."):
@@ -85,13 +86,19 @@ def read_blif(text: str) -> Circuit:
         elif words[0] == ".model":
             models += 1
         elif words[0] == ".exdc":
+            is_whole = True
             break
-        elif words[0] != ".end":
+        elif words[0] == ".end":
+            is_whole = True
+        else:
             add_statement(circuit, number, words)
     if cover is not None:
         add_cover(circuit, *cover)
     if models != 1:
         raise UnusableNetlist(f"{models} models instead of one; in yosys: `flatten`" if models else "no .model: this is no BLIF")
+    if not is_whole:
+        # Tools write it. A table that lost its last rows is another table.
+        circuit.left_out.append("the line .end: is the file whole?")
     return circuit
 
 

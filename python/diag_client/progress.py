@@ -4,16 +4,19 @@ from __future__ import annotations
 
 import argparse
 import os
+import re
 import sys
 import threading
 import time
 from collections.abc import Mapping
 from typing import Any, TextIO
 
-from .service import Service
+from .service import LIMITS, Service
 
 # So many seconds pass before anything is shown, and between two times that it is shown.
 PAUSE = 1.0
+# An option as it is given in Python.
+OPTION = re.compile(rf"\b({'|'.join(LIMITS)})=(\w+)")
 
 
 class Progress:
@@ -66,8 +69,19 @@ def compiling(file: str | os.PathLike[str], options: Mapping[str, Any]) -> Progr
     return Progress(f"{work if options.get('health') is None else 'reading'} {os.path.basename(os.fspath(file))}")
 
 
+def as_options(text: str) -> str:
+    """A text with options as the command line has them, and not as Python does.
+
+    >>> as_options("try narrow=True, then budget=8388608")
+    'try --narrow, then --budget 8388608'
+    """
+    return OPTION.sub(r"--\1 \2", text.replace("narrow=True", "--narrow"))
+
+
 def options_in(words: argparse.Namespace) -> dict[str, Any]:
     """The options of a service that the words give."""
+    if os.fspath(words.file).endswith(".nnf") and "health" not in words:
+        raise ValueError(f"{words.file}: a graph (.nnf) is asked in the terminal, by `shell FILE --health N`")
     return {name: value for name, value in vars(words).items() if name in Service.__init__.__kwdefaults__ and value is not None}
 
 

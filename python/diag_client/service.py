@@ -6,6 +6,7 @@ import functools
 import itertools
 import os
 import pathlib
+import re
 import shutil
 import subprocess
 import weakref
@@ -30,6 +31,13 @@ PACKED = pathlib.Path(__file__).parent / "bin/diag"
 # The options of `serve`, and the numbers that some of them and HEALTH of `ask` take, from the least to the greatest.
 OPTIONS = {word.removeprefix("--") for word in manual.forms()["serve"].option_words()}
 LIMITS = manual.limits() | {"health": (0, 4096)}
+# A fault in a text, and how it names its line.
+FAULT = re.compile(r"error: line ([0-9]+): fault ")
+UTF_16 = "the file is in UTF-16: save it as UTF-8"
+# What some editors put before a text.
+MARKS = {b"\xef\xbb\xbf": "the file begins with a byte order mark: save it as UTF-8 without one", b"\xff\xfe": UTF_16, b"\xfe\xff": UTF_16}
+# So many characters of a line are shown.
+LONGEST_SHOWN = 60
 
 Program = str | os.PathLike[str] | Sequence[str | os.PathLike[str]]
 
@@ -81,6 +89,7 @@ def check_options(file: pathlib.Path, options: Mapping[str, int | bool | None]) 
     if file.suffix not in suffixes:
         hints = {".nnf": "; a graph (.nnf) needs health=N, the number of its parts"}
         hints |= dict.fromkeys((".blif", ".json"), f"; `diag-netlist {file}` makes one")
+        hints |= dict.fromkeys((".v", ".sv"), "; of Verilog yosys and then `diag-netlist` make one")
         raise ValueError(f"{file}: the name of the file ends in {' or '.join(suffixes)}{hints.get(file.suffix, '')}")
     for name, value in options.items():
         if name not in OPTIONS | {"health"}:
@@ -115,18 +124,25 @@ def explained(ended: Ended, file: pathlib.Path) -> Exception:
         hint = f"try {', then '.join(tried)}" if tried else "the device is too wide to be compiled"
     elif "fault 5 sequential" in ended.last_line:
         hint = "the netlist has flip-flops: give frames=N, the number of clock periods that are seen"
-    elif ended.status == 1 and starts_with_mark(file):
-        hint = "the file begins with a byte order mark: save it as UTF-8 without one"
+    elif ended.status == 1 and (fault := FAULT.match(ended.last_line)):
+        hint = looks_like(file, int(fault[1]))
     return Ended(ended.words, ended.status, ended.last_line, ended.said, hint)
 
 
-def starts_with_mark(file: pathlib.Path) -> bool:
-    """Whether a file begins with the mark that some editors put before UTF-8."""
+def looks_like(file: pathlib.Path, number: int) -> str:
+    """What is in a line of a file, counted from 1; before that, which mark the file begins with that some editors put there."""
     try:
-        with file.open("rb") as opened:
-            return opened.read(3) == b"\xef\xbb\xbf"
+        # A pipe is read already, and would be waited for.
+        lines = file.read_bytes().split(b"\n") if file.is_file() else []
     except OSError:
-        return False
+        return ""
+    if not 0 < number <= len(lines):
+        return ""
+    for mark, text in MARKS.items():
+        if lines[0].startswith(mark):
+            return text
+    text = lines[number - 1].decode("utf-8", "replace").strip()
+    return f"line {number} is `{text if len(text) <= LONGEST_SHOWN else text[:LONGEST_SHOWN] + '...'}`"
 
 
 class Service:

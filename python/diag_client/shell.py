@@ -19,7 +19,7 @@ from .errors import DiagError, Ended, Inconsistent, Refused, sentence
 from .files import write_whole
 from .progress import Progress
 from .replies import AnyLines, Lines
-from .service import Service
+from .service import LIMITS, Service
 from .session import CHANGES, Session, at_odds, case_lines
 
 try:
@@ -50,7 +50,10 @@ COUNTED = {
     "unhold": ("part released", "parts released"),
 }
 # What to do about a refusal of the program, by its text.
-CURES = {"no levels": "start the terminal with --levels C", "no least": "start the terminal with --least"}
+CURES = {
+    "no levels": "start the terminal with --levels C", "no least": "start the terminal with --least",
+    "full": f"each pattern is a session, and a search opens one more for each: at most {LIMITS['sessions'][1] // 2} patterns can be searched",
+}
 # Replies that mean that nothing is wrong.
 NOTHING_WRONG = ("diag", "min 0", "level 0")
 
@@ -95,7 +98,7 @@ class Shell(cmd.Cmd):
         try:
             return bool(super().onecmd(line))
         except Refused as refused:
-            self.refuse(f"refused: {self._why(refused)}")
+            self.refuse(f"refused: {self.why(refused)}")
         except Inconsistent:
             print("no set of faulty parts explains what was seen and held")
         except KeyboardInterrupt:
@@ -250,7 +253,11 @@ class Shell(cmd.Cmd):
         picture.check_drawable(self.service)
         out = graphviz.check_output(_path(rest, "picture OUT: into which file? out.svg, say"))
         case = self._waited("picture", lambda: picture.Case.of(self.session))
-        print("wrote", picture.render(picture.dot_text(read_device(self.service.file), case, self.service.title), out))
+        written = picture.render(picture.dot_text(read_device(self.service.file), case, self.service.title), out)
+        if written == out:
+            print("wrote", written)
+        else:
+            self.refuse(f"{graphviz.NO_DOT}; wrote {written} alone")
         return False
 
     def do_quit(self, _: str) -> bool:
@@ -347,7 +354,7 @@ class Shell(cmd.Cmd):
                 told = [line.removeprefix(begin) for line in lines]
                 if refusals:
                     self.has_refused = True
-                    whys = map(self._why, refusals)
+                    whys = map(self.why, refusals)
                     told = [f"refused: {next(whys)}" if request.refusal(line) else text for line, text in zip(lines, told)]
                 texts += map(in_words, told) if self.prompt else told
             if not request.is_answered:
@@ -364,7 +371,7 @@ class Shell(cmd.Cmd):
         refused = [refused for request in requests for refused in request.refusals]
         if refused:
             self.has_refused = True
-            whys = "; ".join(dict.fromkeys(map(self._why, refused)))
+            whys = "; ".join(dict.fromkeys(map(self.why, refused)))
             texts.append(f"{len(refused)} refused: {whys}")
         return ", ".join(texts)
 
@@ -400,7 +407,7 @@ class Shell(cmd.Cmd):
             return list(names)
         return [f"{name}={value}" for value in values] if equals else [f"{name}=" for name in names]
 
-    def _why(self, refused: Refused) -> str:
+    def why(self, refused: Refused) -> str:
         """A refusal in words, and what to do."""
         command, _, *words = refused.line.split() + [""]
         told = f"{refused.text} (error {refused.number})"
@@ -414,8 +421,10 @@ class Shell(cmd.Cmd):
             near = [small] if small in self.commands else difflib.get_close_matches(small, [*self.commands, *MORE, "exit"], 1)
             return f"{told}: {command}" + (f"; do you mean {near[0]}?" if near else "; ? lists the commands")
         given = " ".join(filter(None, words))
-        # What a number may be is in the text.
-        form = " ".join([command, *usage.words]) + (f": {usage.text}" if usage.words == ("k",) else "")
+        # What a number or a value may be is in the text.
+        form = " ".join([command, *usage.words])
+        if usage.words == ("k",) or "=" in form:
+            form += f": {usage.text if usage.words == ('k',) else usage.text.rpartition('; ')[2]}"
         return f"{told}: {given or command}; {_hint(given) or f'it is {form}'}"
 
     def _unknown_name(self, text: str, words: Sequence[str]) -> str:
@@ -428,7 +437,9 @@ class Shell(cmd.Cmd):
             return " ".join(names)
         missing = next((name for name in names if name not in known), "")
         same = [name for name in known if name.lower() == missing.lower()]
-        near = same or difflib.get_close_matches(missing, known, NEAR)
+        # A wire over several times is named without its time.
+        timed = [name for name in known if name.startswith(f"{missing}@")][:NEAR]
+        near = same or timed or difflib.get_close_matches(missing, known, NEAR)
         return missing + (f"; near it: {', '.join(near)}" if near else "")
 
 
@@ -481,7 +492,7 @@ def run(service: Service, begin: Callable[[Service, Session], Shell] = Shell) ->
             try:
                 readline.write_history_file(history_file())
             except OSError as error:
-                print(f"diag_client: history: {sentence(error)}", file=sys.stderr)
+                print(f"diag_client: history {history_file()}: {sentence(error)}", file=sys.stderr)
     return int(shell.has_refused and not shell.use_rawinput)
 
 

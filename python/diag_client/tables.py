@@ -2,10 +2,12 @@
 
 from __future__ import annotations
 
+import codecs
 import csv
 import dataclasses
 import io
 import os
+import pathlib
 from collections.abc import Iterable, Mapping, Sequence
 
 from .errors import DiagError
@@ -13,7 +15,8 @@ from .session import BLANKS
 
 # The column that names the patterns.
 NAME = "pattern"
-Rows = Iterable[Sequence[str | int]]
+Rows = Iterable[Sequence[str | int | None]]
+UTF_16 = (codecs.BOM_UTF16_LE, codecs.BOM_UTF16_BE)
 
 
 class BadTable(DiagError, ValueError):
@@ -31,15 +34,15 @@ class Row:
 def read_table(source: str | os.PathLike[str] | Rows, wires: Iterable[str], others: Mapping[str, str] | None = None) -> list[Row]:
     """The patterns in a file of comma-separated values, or in rows of cells, over a device with these wires and other names of them.
 
-    A cell is 0, 1 or empty. A column called `pattern` names them; without it they are p1, p2 and so on. Semicolons or tabs may part the
-    cells as well.
+    A cell is 0, 1 or empty; in rows None is empty too. A column called `pattern` names them; without it they are p1, p2 and so on.
+    Semicolons or tabs may part the cells as well.
     """
     names = {wire: wire for wire in wires} | dict(others or {})
     if not isinstance(source, (str, os.PathLike)):
-        return rows_of("the table", [[str(cell).strip(BLANKS) for cell in row] for row in source], names)
-    # Some programs put a mark before UTF-8.
-    with open(source, encoding="utf-8-sig", errors="surrogateescape", newline="") as file:
-        text = file.read()
+        return rows_of("the table", [["" if cell is None else str(cell).strip(BLANKS) for cell in row] for row in source], names)
+    data = pathlib.Path(source).read_bytes()
+    # Some programs put a mark before UTF-8, and some write UTF-16, which begins with another.
+    text = data.decode("utf-16", "replace") if data.startswith(UTF_16) else data.decode("utf-8-sig", "surrogateescape")
     header = text.strip().split("\n")[0].strip(BLANKS)
     sign = next((sign for sign in ",;\t" if sign in header and header not in names), ",")
     try:

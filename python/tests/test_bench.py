@@ -36,6 +36,13 @@ class Texts(unittest.TestCase):
         self.assertIn("no wire 'c'", self.refused("a,c\n0,1"))
         self.assertIn("row 2", self.refused("a,b\nmaybe,1"))
 
+    def test_names_have_times(self):
+        """The drawing shows a wire without its time."""
+        known = cases.Known({"a@0001", "a@0002"}, {"g"}, {"a"})
+        self.assertEqual(cases.read_readings("a@0002=1", known), [("", {"a@0002": 1})])
+        with self.assertRaisesRegex(Bad, "a has a reading for each time: write a@0001 for the first"):
+            cases.read_readings("a=1", known)
+
     def test_rows_are_patterns(self):
         case = cases.take_readings(Case(), cases.read_readings("a,b\n0,1\n1,0\n", KNOWN))
         self.assertEqual([(row.name, row.seen) for row in case.patterns], [("P1", {"a": 0, "b": 1}), ("P2", {"a": 1, "b": 0})])

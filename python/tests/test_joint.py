@@ -176,6 +176,15 @@ class Tables(unittest.TestCase):
             with self.assertRaisesRegex(BadTable, "row 1, column 2: no wire 'z'"):
                 read_table(path, "ab")
 
+    def test_utf_16(self):
+        """A spreadsheet may write it, with tabs."""
+        with tempfile.TemporaryDirectory() as folder:
+            path = pathlib.Path(folder, "readings.txt")
+            for encoding in ("utf-16-le", "utf-16-be"):
+                path.write_bytes("\ufeffa\tb\r\n0\t1\r\n".encode(encoding))
+                self.assertEqual([row.seen for row in read_table(path, "ab")], [{"a": 0, "b": 1}])
+        self.assertEqual([row.seen for row in read_table([["a", "b"], [0, None], [None, 1]], "ab")], [{"a": 0}, {"b": 1}])
+
     def test_a_refusal_opens_none(self):
         with Service(C17, narrow=False, sessions=2) as service:
             for rows in (["pattern", "1"], ["a", 0], ["b", 1], ["c", 1]), (["pattern", "1"], ["a", 0], ["b=", 1]):
@@ -238,6 +247,12 @@ class Board(unittest.TestCase):
             told, status, said = self.told(["min"], "--patterns", table)
             self.assertEqual((told, status), ([], 1))
             self.assertIn("row 1, column 2: no wire '99'", said)
+            for count, told in ((600, ["600 patterns", "refused: full (error 8)"]), (1025, [])):
+                table.write_text("1\n" + "0\n" * count)
+                texts, status, said = self.told(["min"], "--patterns", table)
+                self.assertEqual((status, len(texts)), (1, len(told)))
+                self.assertIn("at most 512 patterns can be searched", [*texts, said][-2 if told else -1])
+                self.assertTrue(all(text.startswith(start) for text, start in zip(texts, told)))
 
 
 if __name__ == "__main__":

@@ -153,7 +153,7 @@ class Hints(InCheckout):
     def test_hints(self):
         files = {
             "bom.bench": b"\xef\xbb\xbfINPUT(a)\n", "flops.bench": b"INPUT(a)\nq = dff(a)\n", "abc.bench": b"INPUT(a)\nq = LUT 0x1 ( a )\n",
-            "plain.bench": b"INPUT(a)\n", "plain.nnf": b"nnf 1 0 1\nA 0\n",
+            "plain.bench": b"INPUT(a)\n", "plain.nnf": b"nnf 1 0 1\nA 0\n", "wide.bench": "INPUT(a)\n".encode("utf-16"),
         }
         for name, data in files.items():
             (self.elsewhere / name).write_bytes(data)
@@ -168,9 +168,15 @@ class Hints(InCheckout):
             ("plan /dev/stdin", 2, ".bench or .dev;"), ("plan x.blif", 2, "`diag-netlist x.blif` makes one"), ("check x.json", 2, "ends in .nnf;"),
             ("serve", 2, ".bench or .dev;"), ("check plain.bench", 2, ".nnf"), ("ask plain.nnf", 2, "comes HEALTH: `diag ask FILE HEALTH`"), ("ask plain.nnf --sessions 2", 2, "comes HEALTH"),
             ("ask plain.nnf 4097", 2, "HEALTH is a number from 0 to 4096, without leading zeros"), ("ask plain.nnf 02", 2, "without leading zeros"),
-            ("ask plain.nnf 99999999999999999999", 2, "HEALTH is a number"), ("ask plain.nnf 4096 --wide", 2, "an option of `ask`"),
-            ("ask plain.nnf 0 --wide", 2, "an option of `ask`"),
-            ("load 801", 2, "from 1 to 800"), ("serve plain.bench --wide", 2, "an option of `serve`"),
+            ("ask plain.nnf 99999999999999999999", 2, "HEALTH is a number"), ("ask plain.nnf 4096 --wide", 2, "`ask` takes no `--wide`"),
+            ("ask plain.nnf 0 --narrow", 2, "`ask` takes no `--narrow`"), ("-v", 2, "there is no form `-v`"),
+            ("load 801", 2, "from 1 to 800"), ("serve plain.bench --wide", 2, "`serve` takes no `--wide`"), ("plan x.v", 2, "how to make one of Verilog"),
+            ("check plain.nnf x", 2, "`check` takes no `x`"), ("plan plain.bench --frames 2", 2, "`plan` takes no `--frames`"),
+            ("compile plain.bench --budget 2 --levels 2", 2, "`compile` takes no `--levels`"), ("serve plain.bench --levels=3", 2, "a blank, and no ="),
+            ("serve plain.bench --least --budget 2 --least", 2, "`--least` is given twice"), ("serve x.dev --frames 2", 2, "is for a netlist"),
+            ("serve plain.bench --frames 65", 2, "after `--frames` comes a number from 1 to 64"), ("serve plain.bench --budget", 2, "from 1 to 8388608"),
+            ("serve plain.bench --levels 08 --least", 2, "from 0 to 4096000"), ("ask plain.nnf 3 --sessions 0", 2, "from 1 to 1024"),
+            (b"plan caf\xe9.bench", 2, "is not UTF-8"), ("plan wide.bench", 1, "iconv -f UTF-16 -t UTF-8 wide.bench"),
         ):
             got, told, said = self.run_diag(*words.split(), FAKE=str(status))
             said = said.replace(said.partition("diag: no checksum")[1] and said.split("\n")[0] + "\n", "")

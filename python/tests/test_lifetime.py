@@ -317,8 +317,26 @@ class Options(unittest.TestCase):
     def test_byte_order_mark(self):
         with self.temporary(b"\xef\xbb\xbfINPUT(a)\n") as file:
             self.assertIn("byte order mark", self.refusal("error: line 1: fault 1 line", 1, file=file))
-        with self.temporary(b"INPUT[a]\n") as file:
-            self.assertNotIn("byte order mark", self.refusal("error: line 1: fault 1 line", 1, file=file))
+        with self.temporary("INPUT(a)\n".encode("utf-16")) as file:
+            self.assertIn("the file is in UTF-16", self.refusal("error: line 1: fault 1 line", 1, file=file))
+
+    def test_line_with_a_fault(self):
+        """It is shown, unless it is very long."""
+        with self.temporary(b"INPUT[a]\r\n y = AND(a\n" + b"x" * 61 + b"\n") as file:
+            for number, shown in ((1, "; line 1 is `INPUT[a]`"), (2, "; line 2 is `y = AND(a`"), (3, f"; line 3 is `{'x' * 60}...`"), (0, "fault 1 line"), (9, "fault 1 line")):
+                self.assertTrue(self.refusal(f"error: line {number}: fault 1 line", 1, file=file).endswith(shown))
+            file.unlink()
+            os.mkfifo(file)
+            self.assertTrue(self.refusal("error: line 1: fault 1 line", 1, file=file).endswith("fault 1 line"))
+
+    def test_closed(self):
+        """What was last answered is not why."""
+        service = served("lists")
+        service.session("S")
+        service.close()
+        with self.assertRaises(Ended) as caught:
+            service.session()
+        self.assertRegex(str(caught.exception), "ended with status 0; the service was closed$")
 
     @contextlib.contextmanager
     def temporary(self, data):

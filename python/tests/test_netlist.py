@@ -375,9 +375,16 @@ class ByHand(Converts):
             self.assertIn(why, self.refused(f"{head}{lines}\n.end\n"), lines)
         self.assertIn("2 models", self.refused(".model a\n.end\n.model b\n.end\n"))
         self.assertIn("no JSON", self.refused("[]", "x.json"))
+        self.assertIn("of Verilog yosys makes BLIF", self.refused("module x;", "x.v"))
         self.assertIn("not known here", self.refused("INPUT(a)\ny = TOASTER(a)\n", "x.bench"))
         self.assertIn("line 2", self.refused("INPUT(a)\nwhat\n", "x.bench"))
         self.assertIn("need types", self.refused(head + ".names a b y\n10 1\n.end\n", out="x.bench"))
+
+    def test_end(self):
+        """A file that was cut off may say something else."""
+        text = ".model m\n.inputs a b\n.outputs y\n.names a b y\n11 1\n"
+        self.assertEqual(self.convert(text)[1].split("\n")[1:], ["# left out: the line .end: is the file whole?", ""])
+        self.assertEqual(self.convert(f"{text}.end\n")[1], "")
 
     def test_abc_words(self):
         path, _ = self.convert("INPUT(a)\nOUTPUT(q)\nq = DFFRSE( d, gnd, gnd, gnd, gnd )\none = vdd\nd = LUT 0x6 ( a, q )\nz = LUT 0x8 ( a, one )\n", "x.bench")

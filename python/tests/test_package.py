@@ -94,6 +94,7 @@ class Wheel(unittest.TestCase):
         """Its commands."""
         shutil.copy(EXAMPLES / "verilog/gray.blif", self.folder)
         self.assertIn("3 flip-flops", self.run_tool("diag-netlist", "gray.blif"))
+        self.assertTrue(self.run_tool("diag-shell", "-h").startswith("usage: diag-shell [-h] "))
         self.assertTrue(self.run_tool("diag-picture", "gray.bench", "--frames", "2").startswith("digraph"))
 
     def repair(self):

@@ -33,6 +33,13 @@ class Devices(unittest.TestCase):
         self.assertEqual(device.parts, [Part("y", "NAND", ("a", "b", "y")), Part("b", "BUFF", ("a", "b")), Part("q", "DFF", ("y", "q"))])
         self.assertEqual((device.inputs, device.outputs), ({"a"}, {"y"}))
 
+    def test_a_pipe(self):
+        """The program has read it, and nobody writes into it any more."""
+        with tempfile.TemporaryDirectory() as folder:
+            os.mkfifo(f"{folder}/pipe.bench")
+            with self.assertRaisesRegex(DiagError, "copy it into a plain file"):
+                read_device(f"{folder}/pipe.bench")
+
     def test_carriage_returns_are_blanks(self):
         with tempfile.NamedTemporaryFile(suffix=".bench") as file:
             file.write(b"INPUT(\ra)# old\rINPUT(b)\r\ny =\rNOT(a)\r\n")
@@ -297,7 +304,7 @@ class Served(unittest.TestCase):
         self.assertEqual(done.returncode, 0)
         self.assertIn(b"no diagnoses, since the program refuses the device: sum above 1", done.stdout)
         self.assertIn(b"22 = 1 <font", done.stdout)
-        self.assertIn(b"drawn without diagnoses", done.stderr)
+        self.assertIn(b"; try --budget 8388608; drawn without diagnoses", done.stderr)
 
     def test_interrupt(self):
         """While a device is compiled, an interrupt ends the picture, and the terminal, without a traceback."""
@@ -327,6 +334,7 @@ class Served(unittest.TestCase):
         for words, why in (
             ((C17, "-", "--session", "T"), "opens no session T"),
             (("nowhere.bench",), ": nowhere.bench: no such file or directory\n"),
+            (("nowhere.nnf",), ": nowhere.nnf: a graph (.nnf) is asked in the terminal, by `shell FILE --health N`\n"),
             ((C17, "nowhere.script"), "nowhere.script"),
             ((EXAMPLES / "lamps.nnf",), "lamps.nnf"),
             ((C17, "-o", "out"), "such as out.svg"),

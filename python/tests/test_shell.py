@@ -75,7 +75,8 @@ class Lines(unittest.TestCase):
             self.assertEqual(len(told), 1)
             self.assertTrue(told[0].startswith(f"refused: {text} (error {number})"), told)
         self.assertIn("near it: 2", self.say("see 24=1")[0])
-        self.assertIn("it is see w=b", self.say("see 1=2")[0])
+        self.assertIn("it is see w=b: b is 0 or 1", self.say("see 1=2")[0])
+        self.assertIn("it is hold p=m: m is ok or bad", self.say("hold 10=faulty")[0])
         self.assertIn("it is list k: the next k diagnoses; k is 1 to 1000000", self.say("list 1000001")[0])
         self.assertIn("? lists the commands", self.say("dance")[0])
 
@@ -102,6 +103,12 @@ class Lines(unittest.TestCase):
             with self.subTest(line):
                 self.assertIn(hint, " ".join(self.say(line)))
         self.assertEqual(dict(self.session.seen), {})
+
+    def test_name_without_its_time(self):
+        toggle = EXAMPLES / "frames/toggle.bench"
+        with Service(toggle, frames=4) as service, service.session() as session, contextlib.redirect_stdout(io.StringIO()) as told:
+            shell.Shell(service, session).onecmd("see q=1")
+        self.assertEqual(told.getvalue(), "refused: no wire (error 9): q; near it: q@0001, q@0002, q@0003\n")
 
     def test_saved_and_loaded(self):
         with tempfile.TemporaryDirectory() as folder, mock.patch.dict("os.environ", HOME=folder):
@@ -175,6 +182,8 @@ class Lines(unittest.TestCase):
         with tempfile.TemporaryDirectory() as folder:
             self.assertEqual(self.say(f"picture {folder}/out.dot"), [f"wrote {folder}/out.dot"])
             self.assertIn("part 10", pathlib.Path(folder, "out.dot").read_text())
+            with mock.patch("diag_client.graphviz.find_dot", return_value=None):
+                self.assertEqual(self.say(f"picture {folder}/out.svg"), [f"Graphviz's `dot` is not here (Debian: graphviz); wrote {folder}/out.dot alone"])
         self.assertEqual(len(self.say("picture")), 1)
         with mock.patch("diag_client.picture.Case.of", side_effect=AssertionError):
             # It is found before anything is asked.

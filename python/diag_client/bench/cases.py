@@ -105,6 +105,8 @@ class Known:
     def reading(self, wire: str, text: str) -> tuple[str, int | None]:
         """A wire and its bit; an empty text, - and x take the reading back."""
         here = self.others.get(wire, wire)
+        if here not in self.wires and here in self.reachable:
+            raise Bad(f"{wire} has a reading for each time: write {wire}@0001 for the first")
         if here not in self.wires:
             raise Bad(f"no wire {wire}: names are those in the drawing, capital and small letters are not the same")
         # A name is kept once, however often it is entered.

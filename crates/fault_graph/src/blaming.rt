@@ -108,8 +108,8 @@ fn confirm<L: Ledger>(
     ensures evidence { evidence.new ≡ evidence.old }
     ensures steps { steps.new ≤ steps.old + fault_count (bits_of state.now) }
 {
-    // There are no more parts than variables, and so their numbers fit.
-    let _vars = graph.vars();
+    // There are no more parts than variables, so their numbers fit in 32 bits.
+    prove!(state.len() <= graph.vars() as usize);
     for (part, mark) in state.iter().enumerate() {
         if is_faulty(*mark) && is_open(evidence[part]) {
             verdicts[part] = blame_faulty(

@@ -86,7 +86,7 @@ impl Store {
         ensures variables { (v : ℕ) → mentions self.now.nodes v result ≡ (var == v) }
         ensures valid { IsStore self.now }
     {
-        let _vars = self.vars;
+        prove!(var <= self.vars);
         2 * (var - 1) + u32::from(!positive)
     }
 

@@ -107,8 +107,8 @@ impl Service {
     }
 
     /// Carries out one line, without its line feed, and writes its replies. `Err` means that a
-    /// write failed: the line was carried out up to one of its replies, and those before it were written.
-    /// Of that one a beginning was written, perhaps nothing, or all.
+    /// write failed: the line was carried out up to and with what one of its replies says, and the replies
+    /// before it were written. Of that one a beginning was written, perhaps nothing, or all.
     pub fn line<O: Sink>(&mut self, line: &[u8], out: &mut O) -> Result<(), WriteFailed>
         ensures carried { CarriesOut self.old.table self.new.table
             (moves_of self.old self.old.table line.now)

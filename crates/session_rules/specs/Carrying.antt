@@ -8,7 +8,8 @@ pub record Makes (old new : Table) (moves : List Step) (before after : Option (L
   pub written : Writes before after (said moves)
   pub table : new ≡ left_by old moves
 
--- Some of the moves were made and their replies written. One more was made, whose reply was at most begun, and none after it.
+-- Some of the moves were made and their replies written. One more was made; of its reply nothing, a part or all was written. None after it
+-- was made.
 pub record BreaksOff (new : Table) (moves : List Step) (before after : Option (List ℕ)) : Type 0 where
   pub made : List Step
   pub move : Step

@@ -37,7 +37,7 @@ impl Model for States {
 }
 
 impl States {
-    /// No state, with room for so many of so many bits.
+    /// No state: each is to have so many bits, and there is room for so many.
     pub(crate) fn new(alloc: Global, size: usize, room: usize) -> Result<States, AllocError>
         ensures { IfOk result (λ states. states ≡ record { size = size; lists = [] }) }
     {

@@ -41,8 +41,8 @@ impl Model for Sessions {
 }
 
 impl Sessions {
-    /// Answers one line. If a write fails, the line is carried out up to the reply that met the
-    /// failure.
+    /// Answers one line. If a write fails, the line is carried out up to and with what the reply says that
+    /// met the failure.
     pub(crate) fn line<O: Sink>(&mut self, line: &[u8], out: &mut O) -> Result<(), WriteFailed>
         ensures carried { CarriesOut self.old.table self.new.table
             (moves_of self.old self.old.table line.now)

@@ -68,7 +68,7 @@ impl OpenSessions {
         })
     }
 
-    /// How many parts each case is over.
+    /// How many parts each case is over. The contract says too that the case of each open session fits.
     pub fn parts(&self) -> u32
         ensures parts { result ≡ self.now.parts }
         ensures cases { (session : Name) (entry : Entry) → entry_of session self.now.table ≡ Some entry

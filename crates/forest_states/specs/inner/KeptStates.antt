@@ -1,5 +1,5 @@
 -- States of one length, as they are kept.
-use Rattle.std.specs.Prelude.{◌<◌, ℕ, Bool, List, [], ◌∷◌, map, ⊤}
+use Rattle.std.specs.Prelude.{◌<◌, ◌≤◌, ℕ, Bool, List, [], ◌∷◌, map}
 use Rattle.std.specs.List.{AllByRecursion}
 use Rattle.forest_states.specs.declared.states.Kept.{Kept}
 use Rattle.forest_states.specs.declared.states.Kept.TheVariants.{Words, Lists}
@@ -17,10 +17,10 @@ kept_words (Lists lists) = map (λ l. l.items) lists.keys
 abbrev pub kept_lists : ℕ → Kept → List (List Bool)
 kept_lists size kept = map (bits_in size) (kept_words kept)
 
--- one word is enough, if no more is kept
+-- One word is kept of each exactly if one is enough.
 abbrev pub Fits : ℕ → Kept → Type 0
 Fits size (Words words) = size < 64
-Fits size (Lists lists) = ⊤
+Fits size (Lists lists) = 64 ≤ size
 
 abbrev pub AreKept : ℕ → Kept → Type 0
 AreKept size kept = Fits size kept × AllByRecursion (AreBits size) (kept_words kept)

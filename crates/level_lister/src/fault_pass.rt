@@ -4,8 +4,8 @@ ghost use Rattle.std.proofs.Props.{props};
 ghost use Rattle.state_rules.specs.Assignments.{Assignment};
 ghost use Rattle.state_rules.specs.Bits.{same_bit};
 ghost use Rattle.state_rules.specs.declared.nodes.NodeKind.TheVariants.{And, Or};
-ghost use Rattle.state_rules.specs.Graphs.{IsGraph};
-ghost use Rattle.part_sets.specs.Numbers.{part_words, set_at};
+ghost use Rattle.state_rules.specs.Graphs.{IsGraph, node_at};
+ghost use Rattle.part_sets.specs.Numbers.{has_number, part_words, set_at};
 ghost use Rattle.part_sets.specs.PartSets.{ArePartsOf};
 ghost use Rattle.level_lister.specs.Listing.{IsFor, cost_words};
 ghost use Rattle.level_lister.specs.inner.Skips.{LivesAs};
@@ -16,7 +16,7 @@ use crate::choices::add_part;
 use crate::groups::Groups;
 use crate::levels::Levels;
 use crate::pass::put_full;
-use crate::sets::{SET_LIMIT, add_shifted, put_sums};
+use crate::sets::{SET_LIMIT, add_shifted, is_empty, put_sums};
 use conditioner::is_open;
 use node_store::Graph;
 use part_sets::{clear, next_missing, part_words, put_one, set_at};
@@ -150,16 +150,37 @@ impl FaultPass<'_> {
         requires scratch { length scratch.old ≡ 3 * cost_words self.now.levels.now.top }
         ensures { IsNodeFaults self.now.graph.now self.now.skips.now self.now.evidence.now self.now.levels.now.costs self.now.groups at set.new }
     {
+        clear(set);
+        // In most passes few nodes have a part of the group below them.
+        if !self.has_faulty_child(earlier, at) {
+            return;
+        }
         let size = self.levels.size();
         let (other, rest) = scratch.split_at_mut(size);
         let (all, spare) = rest.split_at_mut(size);
-        clear(set);
         put_one(all, 0);
         for child in self.graph.kids(at) {
             let own = set_at(self.sets, *child as usize, size);
             let faults = set_at(earlier, *child as usize, size);
             put_both_sums(set, other, all, spare, own, faults);
         }
+    }
+
+    // Whether the set of some child is not empty.
+    fn has_faulty_child(&self, earlier: &[u32], at: u32) -> bool
+        requires at { at < length self.now.graph.now.nodes }
+        requires sets { length earlier.now ≡ at * cost_words self.now.levels.now.top }
+        ensures { result ≡ false
+            → All (λ k. (n : ℕ) → has_number (set_at earlier.now k (cost_words self.now.levels.now.top)) n ≡ false)
+            (node_at self.now.graph.now.nodes at).kids }
+    {
+        let size = self.levels.size();
+        for child in self.graph.kids(at) {
+            if !is_empty(set_at(earlier, *child as usize, size)) {
+                return true;
+            }
+        }
+        false
     }
 
     // The set of an Or: parts that a child does not mention are free where it is true.

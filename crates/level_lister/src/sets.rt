@@ -78,7 +78,7 @@ pub(crate) fn put_sums(set: &mut [u32], left: &[u32], right: &[u32])
 }
 
 // True only if a set has no number.
-fn is_empty(set: &[u32]) -> bool
+pub(crate) fn is_empty(set: &[u32]) -> bool
     ensures { result ≡ true → (n : ℕ) → has_number set.now n ≡ false }
 {
     set.iter().all(|word| *word == 0)

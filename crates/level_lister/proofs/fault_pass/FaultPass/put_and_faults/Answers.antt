@@ -4,7 +4,7 @@ use Rattle.scratch_pool.proofs.Counted.{block-below}
 use Rattle.part_sets.proofs.Children.{child-below}
 use Rattle.level_lister.specs.inner.NodeSets.{IsNodeSet}
 use Rattle.level_lister.specs.inner.FaultSets.{in_first, IsFaultSet, AreBothSets, IsNodeFaults}
-use Rattle.level_lister.proofs.FaultNodes.{both_zero}
+use Rattle.level_lister.proofs.FaultNodes.{both_zero, no_fault_below}
 use Rattle.level_lister.proofs.Children.{children_apart, and_next, and_end}
 use Rattle.level_lister.proofs.fault_pass.FaultPass.put_and_faults.Goals as goal
 
@@ -51,6 +51,11 @@ loop-child-preserved c =
     and_next graph at kids ok c.requires.node.within c.kids-child-items.ensures.kids c.args.self.now.skips.now c.requires.node.lives (λ t m. AreBothSets evidence costs (in_first evidence costs groups) t m c.put_both_sums.new.all c.put_both_sums.new.set) j lt
     (c.put_both_sums.ensures evidence costs (in_first evidence costs groups) _ _ _ _ (children_apart graph at kids ok c.requires.node.within c.kids-child-items.ensures.kids j c.requires.node.what_is lt)
     c.loop-child.invariant (record { all = own; faulty = faults }))
+
+pub returns-then-not-has_faulty_child : goal.returns-then-not-has_faulty_child
+returns-then-not-has_faulty_child c =
+    no_fault_below c.args.self.now.graph.now c.args.self.now.skips.now c.args.self.now.evidence.now c.args.self.now.levels.now.costs c.args.self.now.groups c.args.at _ c.args.earlier.now c.clear.new.set c.args.self.now.valid c.requires.node c.requires.sets (omega arith) c.requires.earlier
+    (c.has_faulty_child.ensures c.if-not-has_faulty_child.true) c.clear.ensures
 
 pub returns : goal.returns
 returns c =

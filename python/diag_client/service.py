@@ -14,7 +14,7 @@ from collections.abc import Callable, Iterable, Iterator, Mapping, Sequence
 from typing import TYPE_CHECKING
 
 from . import manual
-from .child import Child
+from .child import PIECE, Child
 from .devices import input_wires, other_names
 from .errors import Ended, NotBuilt
 from .joint import Joint
@@ -133,15 +133,23 @@ def looks_like(file: pathlib.Path, number: int) -> str:
     """What is in a line of a file, counted from 1; before that, which mark the file begins with that some editors put there."""
     try:
         # A pipe is read already, and would be waited for.
-        lines = file.read_bytes().split(b"\n") if file.is_file() else []
+        if not file.is_file():
+            return ""
+        with file.open("rb") as data:
+            begin = data.read(max(map(len, MARKS)))
+            for mark, text in MARKS.items():
+                if begin.startswith(mark):
+                    return text
+            data.seek(0)
+            left = number - 1
+            while left > 0 and (piece := data.readline(PIECE)):
+                left -= piece.endswith(b"\n")
+            line = data.readline(PIECE)
     except OSError:
         return ""
-    if not 0 < number <= len(lines):
+    if left or not line:
         return ""
-    for mark, text in MARKS.items():
-        if lines[0].startswith(mark):
-            return text
-    text = lines[number - 1].decode("utf-8", "replace").strip()
+    text = line.decode("utf-8", "replace").strip()
     return f"line {number} is `{text if len(text) <= LONGEST_SHOWN else text[:LONGEST_SHOWN] + '...'}`"
 
 

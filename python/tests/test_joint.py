@@ -210,13 +210,13 @@ class Board(unittest.TestCase):
                 "--patterns", table)
             self.assertEqual(told, [
                 f"2 patterns of {table}; the present one is one", "min 1 10", "diag 10", "diag 22", "end", "ok", "min 1 22",
-                "pattern three: 0 readings", "ok", "min 0", f"wrote {saved}: 3 patterns, 1 parts held",
+                "pattern three: 0 readings", "ok", "pattern three alone:", "min 0", f"wrote {saved}: 3 patterns, 1 parts held",
                 "  one: 7 readings", "  two: 7 readings", "* three: 1 readings", "diag 22"])
             self.assertEqual(status, 0)
             told, _, _ = self.told([f"load {saved}", "patterns", "min", "pattern two", "case"])
             self.assertEqual(told, [
                 "3 patterns, 15 readings, 1 parts held", "* one: 7 readings", "  two: 7 readings", "  three: 1 readings", "min 1 22",
-                "pattern two: 7 readings", "seen: 1=1 2=0 3=1 6=0 7=0 22=0 23=0", "held: 10=ok"])
+                "pattern two: 7 readings", "pattern two alone:", "seen: 1=1 2=0 3=1 6=0 7=0 22=0 23=0", "held: 10=ok"])
 
     def test_patterns_by_hand(self):
         told, status, _ = self.told(
@@ -226,10 +226,30 @@ class Board(unittest.TestCase):
         self.assertEqual(told[4:6], ["min 1 10", "ok"])
         self.assertEqual(told[6:13], ["blame 10 sometimes", *(f"blame {part} never" for part in (11, 16, 19)), "blame 22 sometimes",
                                       "blame 23 never", "end"])
-        self.assertEqual(told[-6:], [
+        together = "one of min, next, list, probe, probes, blame, best"
+        self.assertEqual(told[-7:], [
             "min: nothing follows it", "pattern NAME: which pattern? a name without blanks; `patterns` lists them",
-            "this COMMAND: one of min, list, blame, best",
-            "all COMMAND: one of min, list, blame, best, hold and unhold", "pattern one: 4 readings", "min 1 10"])
+            f"this COMMAND: {together}", f"all COMMAND: {together}, hold and unhold", "pattern one: 4 readings", "pattern one alone:", "min 1 10"])
+        self.assertEqual(status, 1)
+
+    def test_for_all_or_for_one(self):
+        """An answer is for all patterns, or says for which one it is."""
+        with tempfile.TemporaryDirectory() as folder:
+            table = pathlib.Path(folder, "readings.csv")
+            table.write_text(TABLE)
+            told, status, _ = self.told(
+                ["next", "next", "next", "list 1", "this next", "probe 16 22", "this probe 16", "probes", "level", "after 10", "level",
+                 "expect 22", "hold 10=ok", "next", "list 1", "probe", "probe 99", "hold 16=ok", "probe 16",
+                 "hold 22=ok", "probe 16"], "--patterns", table, "--levels", "2")
+        alone = "pattern one alone:"
+        self.assertEqual(told[1:], [
+            "diag 10", "diag 22", "end", "end", alone, "diag 10",
+            # What each costs was found by trying all sets of parts.
+            "probe 16 3 1", "probe 22 - 1", alone, "probe 16 2 1",
+            "probe 10 1 1", "probe 11 2 1", "probe 16 3 1", "probe 19 3 1", "end",
+            alone, "level 1 22", alone, "ok", alone, "level 1 22", alone, "22 should be 0, and was seen as 1",
+            "ok", "diag 22", "end", "probe w: which wire?", "refused: no wire (error 9): 99", "ok",
+            "probe 16 - 1", "ok", "no set of faulty parts explains what was seen and held"])
         self.assertEqual(status, 1)
 
     def test_the_example(self):

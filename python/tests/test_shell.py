@@ -231,6 +231,14 @@ class Lines(unittest.TestCase):
             self.assertEqual(shell_run.communicate(b"min\n")[1], b"")
         self.assertEqual(shell_run.returncode, 1)
 
+    def test_closed_streams(self):
+        """Nothing comes from one, and what goes into one is gone."""
+        words, python = [sys.executable, "-m", "diag_client", "shell", str(C17)], {"PYTHONPATH": str(TOP / "python")}
+        for closed, told in (("<&-", b""), (">&-", b""), ("2>&-", b"min 0\n")):
+            shell_run = ["sh", "-c", f'exec "$@" {closed}', "sh", *words]
+            done = subprocess.run(shell_run, input=b"min\n", env=os.environ | python, capture_output=True, check=False)
+            self.assertEqual((done.returncode, done.stdout, done.stderr), (0, told, b""), closed)
+
     def test_options_in_words(self):
         """What Python gives as budget=N is an option at the terminal."""
         for hint, *given in (

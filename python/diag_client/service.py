@@ -16,7 +16,7 @@ from typing import TYPE_CHECKING
 from . import manual
 from .child import PIECE, Child
 from .devices import input_wires, other_names
-from .errors import Ended, NotBuilt
+from .errors import Ended, NotBuilt, shown
 from .joint import Joint
 from .replies import AnyLines, Lines, Ready, Request
 from .session import BLANKS, CHANGES, Session
@@ -36,8 +36,6 @@ FAULT = re.compile(r"error: line ([0-9]+): fault ")
 UTF_16 = "the file is in UTF-16: save it as UTF-8"
 # What some editors put before a text.
 MARKS = {b"\xef\xbb\xbf": "the file begins with a byte order mark: save it as UTF-8 without one", b"\xff\xfe": UTF_16, b"\xfe\xff": UTF_16}
-# So many characters of a line are shown.
-LONGEST_SHOWN = 60
 
 Program = str | os.PathLike[str] | Sequence[str | os.PathLike[str]]
 
@@ -149,8 +147,7 @@ def looks_like(file: pathlib.Path, number: int) -> str:
         return ""
     if left or not line:
         return ""
-    text = line.decode("utf-8", "replace").strip()
-    return f"line {number} is `{text if len(text) <= LONGEST_SHOWN else text[:LONGEST_SHOWN] + '...'}`"
+    return f"line {number} is `{shown(line.decode('utf-8', 'replace').strip())}`"
 
 
 class Service:

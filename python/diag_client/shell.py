@@ -15,7 +15,7 @@ from typing import Any
 
 from . import graphviz, manual, picture
 from .devices import read_device
-from .errors import DiagError, Ended, Inconsistent, Refused, sentence
+from .errors import DiagError, Ended, Inconsistent, Refused, sentence, shown
 from .files import write_whole
 from .progress import Progress
 from .replies import AnyLines, Lines
@@ -51,9 +51,10 @@ COUNTED = {
 }
 # What to do about a refusal of the program, by its text.
 CURES = {
-    "no levels": "start the terminal with --levels C", "no least": "start the terminal with --least",
+    "line too long": "a line has at most 1048576 bytes", "no levels": "start the terminal with --levels C", "no least": "start the terminal with --least",
     "full": f"each pattern is a session, and a search opens one more for each: at most {LIMITS['sessions'][1] // 2} patterns can be searched",
 }
+NAMES = "a name has at most 255 printable ASCII characters, and none of ( ) , = #"
 # Replies that mean that nothing is wrong.
 NOTHING_WRONG = ("diag", "min 0", "level 0")
 
@@ -419,13 +420,13 @@ class Shell(cmd.Cmd):
         if usage is None:
             small = command.lower()
             near = [small] if small in self.commands else difflib.get_close_matches(small, [*self.commands, *MORE, "exit"], 1)
-            return f"{told}: {command}" + (f"; do you mean {near[0]}?" if near else "; ? lists the commands")
-        given = " ".join(filter(None, words))
+            return f"{told}: {shown(command)}" + (f"; do you mean {near[0]}?" if near else "; ? lists the commands")
+        given = shown(" ".join(filter(None, words)))
         # What a number or a value may be is in the text.
-        form = " ".join([command, *usage.words])
+        form = " ".join(["it is", command, *usage.words])
         if usage.words == ("k",) or "=" in form:
             form += f": {usage.text if usage.words == ('k',) else usage.text.rpartition('; ')[2]}"
-        return f"{told}: {given or command}; {_hint(given) or f'it is {form}'}"
+        return f"{told}: {given or command}; {_hint(given) or (NAMES if refused.text == 'bad name' else form)}"
 
     def _unknown_name(self, text: str, words: Sequence[str]) -> str:
         """The name in a line that is not known, and what looks like it."""

@@ -158,6 +158,9 @@ class Tables(unittest.TestCase):
                     service.patterns(path)
                 self.assertIn(why, str(caught.exception))
                 self.assertIn(str(path), str(caught.exception))
+            path.write_bytes(b"PK\x03\x04\0,1\n0,1\n")
+            with self.assertRaisesRegex(BadTable, "save the sheet as CSV"):
+                service.patterns(path)
             # Nothing was taken: the names are free, and a table with a mark before it is read.
             path.write_text("\ufeff22, 1,3\r\n1,0,\r\n0,1,1\r\n")
             patterns = service.patterns(path)

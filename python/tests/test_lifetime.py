@@ -334,7 +334,7 @@ class Options(unittest.TestCase):
         with self.temporary(b"INPUT(a)\nwrong\n") as file:
             os.truncate(file, 1 << 36)
             self.assertTrue(self.refusal("error: line 2: fault 1 line", 1, file=file).endswith("; line 2 is `wrong`"))
-            self.assertTrue(self.refusal("error: line 3: fault 1 line", 1, file=file).endswith(f"; line 3 is `{chr(0) * 60}...`"))
+            self.assertTrue(self.refusal("error: line 3: fault 1 line", 1, file=file).endswith(f"; line 3 is `{chr(0xfffd) * 60}...`"))
 
     def test_closed(self):
         """What was last answered is not why."""

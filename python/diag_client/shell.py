@@ -54,7 +54,7 @@ CURES = {
     "line too long": "a line has at most 1048576 bytes", "no levels": "start the terminal with --levels C", "no least": "start the terminal with --least",
     "full": f"each pattern is a session, and a search opens one more for each: at most {LIMITS['sessions'][1] // 2} patterns can be searched",
 }
-NAMES = "a name has at most 255 printable ASCII characters, and none of ( ) , = #"
+NAMES = "a name has up to 255 printable ASCII characters, that of a pattern up to 64, and none of ( ) , = #"
 # Replies that mean that nothing is wrong.
 NOTHING_WRONG = ("diag", "min 0", "level 0")
 
@@ -410,8 +410,11 @@ class Shell(cmd.Cmd):
 
     def why(self, refused: Refused) -> str:
         """A refusal in words, and what to do."""
-        command, _, *words = refused.line.split() + [""]
+        command, session, *words = refused.line.split() + [""]
         told = f"{refused.text} (error {refused.number})"
+        given = shown(" ".join(filter(None, words)))
+        if refused.text == "bad name":
+            return f"{told}: {given or shown(session)}; {_hint(given) or NAMES}"
         if refused.text in ("no wire", "no part"):
             return f"{told}: {self._unknown_name(refused.text, words)}"
         if refused.text in CURES:
@@ -421,12 +424,11 @@ class Shell(cmd.Cmd):
             small = command.lower()
             near = [small] if small in self.commands else difflib.get_close_matches(small, [*self.commands, *MORE, "exit"], 1)
             return f"{told}: {shown(command)}" + (f"; do you mean {near[0]}?" if near else "; ? lists the commands")
-        given = shown(" ".join(filter(None, words)))
         # What a number or a value may be is in the text.
         form = " ".join(["it is", command, *usage.words])
         if usage.words == ("k",) or "=" in form:
             form += f": {usage.text if usage.words == ('k',) else usage.text.rpartition('; ')[2]}"
-        return f"{told}: {given or command}; {_hint(given) or (NAMES if refused.text == 'bad name' else form)}"
+        return f"{told}: {given or command}; {_hint(given) or form}"
 
     def _unknown_name(self, text: str, words: Sequence[str]) -> str:
         """The name in a line that is not known, and what looks like it."""

@@ -11,7 +11,7 @@ from unittest import mock
 
 from support import C17, EXAMPLES, TOP, needs_program
 
-from diag_client import BadTable, DiagError, Inconsistent, Refused, Service, holding
+from diag_client import BadTable, DiagError, Inconsistent, Refused, Service, holding, shell
 from diag_client.tables import read_table
 from diag_client.replies import Verdict
 from diag_client.session import case_lines
@@ -224,14 +224,15 @@ class Board(unittest.TestCase):
     def test_patterns_by_hand(self):
         told, status, _ = self.told(
             ["pattern one", "see 1=0 3=0 22=1 16=1", "pattern two", "see 1=1 3=1 22=0 16=1", "min", "unhold 10", "blame", "best", "min 1",
-             "pattern", "this see 1=1", "all 1", "pattern one", "this min"])
+             "pattern", "pattern é", "this see 1=1", "all 1", "pattern one", "this min"])
         self.assertEqual(told[:4], ["pattern one: 0 readings", "4 readings taken", "pattern two: 0 readings", "4 readings taken"])
         self.assertEqual(told[4:6], ["min 1 10", "ok"])
         self.assertEqual(told[6:13], ["blame 10 sometimes", *(f"blame {part} never" for part in (11, 16, 19)), "blame 22 sometimes",
                                       "blame 23 never", "end"])
         together = "one of min, next, list, probe, probes, blame, best"
-        self.assertEqual(told[-7:], [
+        self.assertEqual(told[-8:], [
             "min: nothing follows it", "pattern NAME: which pattern? a name without blanks; `patterns` lists them",
+            f"refused: bad name (error 3): é; {shell.NAMES}",
             f"this COMMAND: {together}", f"all COMMAND: {together}, hold and unhold", "pattern one: 4 readings", "pattern one alone:", "min 1 10"])
         self.assertEqual(status, 1)
 

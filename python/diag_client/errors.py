@@ -17,7 +17,7 @@ class DiagError(Exception):
 def shown(text: str) -> str:
     """A text that somebody wrote, as an error shows it: the begin of a long one, and no sign that a terminal obeys.
 
-    >>> shown("see\tS \x1b[2J=1"), shown("x" * 70)
+    >>> shown("see\\tS \\x1b[2J=1"), shown("x" * 70)
     ('see S �[2J=1', 'xxxxxxxxxxxxxxxxxxxxxxxxxxxxxxxxxxxxxxxxxxxxxxxxxxxxxxxxxxxx...')
     """
     signs = ("\N{REPLACEMENT CHARACTER}" if not sign.isprintable() else sign for sign in text[:LONGEST_SHOWN].replace("\t", " "))

@@ -1,7 +1,6 @@
 """What `diag-netlist` writes means what it read: both sides are simulated, and ABC compares them if it is here."""
 
 import contextlib
-import doctest
 import graphlib
 import io
 import os
@@ -15,7 +14,7 @@ import unittest
 
 from support import EXAMPLES, PROGRAM, TOP, needs_program
 
-from diag_client import DiagError, Refused, Service, netlist, netlist_circuit, netlist_readers
+from diag_client import DiagError, Refused, Service, netlist
 from diag_client.bench import boards
 from diag_client.devices import GATES, other_names, read_device
 from diag_client.netlist_circuit import Circuit, UnusableNetlist, table_of
@@ -415,10 +414,6 @@ class ByHand(Converts):
         words = [sys.executable, "-m", "diag_client.netlist", VERILOG / "gray.blif", "-o", self.folder / "gray.bench"]
         done = subprocess.run(words, capture_output=True, text=True, env={**os.environ, "PYTHONPATH": str(TOP / "python")}, check=True)
         self.assertIn("14 gates, 3 flip-flops, 2 inputs\n", done.stdout)
-
-    def test_docstrings(self):
-        for module in (netlist, netlist_circuit, netlist_readers):
-            self.assertEqual(doctest.testmod(module).failed, 0)
 
     def test_odd_files(self):
         for name in ("empty.blif", "binary.blif", "binary.bench", "binary.json", "folder.bench", "other.v", "nowhere.blif"):

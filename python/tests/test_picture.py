@@ -1,6 +1,5 @@
 """Pictures: C17 against a stored text, blocks, times, cones of large devices, devices that are refused, and what is written where."""
 
-import doctest
 import os
 import pathlib
 import re
@@ -14,7 +13,7 @@ from unittest import mock
 
 from support import C17, EXAMPLES, TESTS, TOP, needs_program
 
-from diag_client import DiagError, Refused, Service, Verdict, case, cone, graphviz, picture
+from diag_client import DiagError, Refused, Service, Verdict, case, graphviz, picture
 from diag_client.cone import Wiring, derive
 from diag_client.devices import Part, read_device, read_netlist
 
@@ -167,9 +166,6 @@ class Texts(unittest.TestCase):
         self.assertEqual({name: row.bit for name, row in found.items()}, {"a": 1, "b": 0, "x": 0, "y": 0, "z": 0, "free": 1, "c": 1})
         self.assertEqual((found["y"].by, found["z"].by), ({"y"}, {"y", "z"}))
         self.assertEqual(set(derive(device, {"b": 1})), {"b"})
-
-    def test_docstrings(self):
-        self.assertEqual(doctest.testmod(cone), (0, 2))
 
     def drawn(self, text):
         return re.findall(r'"part (\w+)" \[label', text)

@@ -12,7 +12,7 @@ from .holding import JointProgress
 from .joint import Joint
 from .replies import Probe
 from .service import Service
-from .session import Session, case_lines
+from .session import Session
 from .shell import BEST, MORE, Asked, Shell, _path, in_words
 
 MORE_PATTERNS = {

@@ -254,7 +254,7 @@ class Shell(cmd.Cmd):
         picture.check_drawable(self.service)
         out = graphviz.check_output(_path(rest, "picture OUT: into which file? out.svg, say"))
         case = self._waited("picture", lambda: picture.Case.of(self.session))
-        written = picture.render(picture.dot_text(read_device(self.service.file), case, self.service.title), out)
+        written = graphviz.render(picture.dot_text(read_device(self.service.file), case, self.service.title), out)
         if written == out:
             print("wrote", written)
         else:

@@ -221,10 +221,10 @@ class Written(unittest.TestCase):
 
     def test_whole(self):
         self.dot("cat >/dev/null; echo drawn as $1")
-        self.assertEqual(picture.render("graph {}", self.out), self.out)
+        self.assertEqual(graphviz.render("graph {}", self.out), self.out)
         self.assertEqual(self.out.read_text(), "drawn as -Tsvg\n")
         loud = self.out.with_name("out.SVG")
-        picture.render("graph {}", loud)
+        graphviz.render("graph {}", loud)
         self.assertEqual(loud.read_text(), "drawn as -Tsvg\n")
         self.assertEqual(sorted(path.name for path in self.folder.iterdir()), ["dot", "out.SVG", "out.svg"])
 
@@ -233,33 +233,33 @@ class Written(unittest.TestCase):
             with self.subTest(script):
                 self.dot(script)
                 with self.assertRaisesRegex(DiagError, why):
-                    picture.render("graph {}", self.out)
+                    graphviz.render("graph {}", self.out)
                 self.assertEqual(self.out.read_text(), "before")
 
     def test_no_room(self):
         self.dot("cat >/dev/null; echo drawn")
         with mock.patch("os.replace", side_effect=OSError), self.assertRaises(OSError):
-            picture.render("graph {}", self.out)
+            graphviz.render("graph {}", self.out)
         self.assertEqual(self.out.read_text(), "before")
         self.assertEqual(sorted(path.name for path in self.folder.iterdir()), ["dot", "out.svg"])
 
     def test_slow(self):
         self.dot("exec sleep 100")
         with mock.patch.object(graphviz, "PATIENCE", 0.1), self.assertRaisesRegex(DiagError, "--most"):
-            picture.render("graph {}", self.out)
+            graphviz.render("graph {}", self.out)
         self.assertEqual(self.out.read_text(), "before")
 
     def test_names(self):
         self.dot("cat >/dev/null; echo drawn")
         with mock.patch.dict("os.environ", HOME=str(self.folder)):
-            self.assertEqual(picture.render("graph {}", "~/home.svg"), self.folder / "home.svg")
+            self.assertEqual(graphviz.render("graph {}", "~/home.svg"), self.folder / "home.svg")
         with self.assertRaisesRegex(DiagError, "such as out.svg"):
-            picture.render("graph {}", self.folder / "out")
+            graphviz.render("graph {}", self.folder / "out")
         with self.assertRaisesRegex(DiagError, "no folder"):
-            picture.render("graph {}", self.folder / "nowhere/out.svg")
+            graphviz.render("graph {}", self.folder / "nowhere/out.svg")
         link = self.folder / "link.svg"
         link.symlink_to(self.out)
-        picture.render("graph {}", link)
+        graphviz.render("graph {}", link)
         self.assertTrue(link.is_symlink())
         self.assertEqual(self.out.read_text(), "drawn\n")
 
@@ -293,7 +293,7 @@ class Served(unittest.TestCase):
             self.assertNotIn(b"Traceback", self.run_tool(file, "-o", out, "-").stderr)
             text = picture.picture_alone(os.fsdecode(file), None, None, None, 9, "")
             self.assertIn("c\ufffd.bench", text)
-            self.assertEqual(picture.render(text, os.fsdecode(out)).read_text(encoding="utf-8"), text)
+            self.assertEqual(graphviz.render(text, os.fsdecode(out)).read_text(encoding="utf-8"), text)
 
     def test_too_large(self):
         done = self.run_tool(C17, "--budget", "1", "-")

@@ -1,6 +1,7 @@
 """What `diag-netlist` writes means what it read: both sides are simulated, and ABC compares them if it is here."""
 
 import contextlib
+import errno
 import graphlib
 import io
 import os
@@ -11,6 +12,7 @@ import subprocess
 import sys
 import tempfile
 import unittest
+from unittest import mock
 
 from support import EXAMPLES, PROGRAM, TOP, needs_program
 
@@ -409,6 +411,15 @@ class ByHand(Converts):
         names.unlink()
         self.convert(text, out="given.bench")
         self.assertIn("AND(a, b)\n", made.read_text())
+
+    def test_no_room_for_the_table(self):
+        """The one of the netlist before does not stay beside the new netlist."""
+        text = ".model m\n.inputs a[0] b\n.outputs y\n.names a[0] b y\n11 1\n.end\n"
+        self.assertIn("a(0)", self.convert(text.replace("[0]", "(0)"))[1])
+        write = mock.Mock(side_effect=[None, OSError(errno.ENOSPC, "No space left on device")])
+        with mock.patch.object(netlist, "write_whole", write), self.assertRaises(OSError):
+            self.convert(text.replace("[0]", "(1)"))
+        self.assertEqual([path.name for path in sorted(self.folder.iterdir())], ["given.bench", "given.blif"])
 
     def test_command(self):
         words = [sys.executable, "-m", "diag_client.netlist", VERILOG / "gray.blif", "-o", self.folder / "gray.bench"]

@@ -62,6 +62,8 @@ class BoardShell(Shell):
             self._ask_one(rest)
             self._hold_in_all()
         elif command in TOGETHER:
+            if words and command in self.commands and not self.commands[command].words:
+                raise ValueError(f"{command}: nothing follows it")
             try:
                 getattr(self, f"_{command}")(words)
             finally:
@@ -195,14 +197,12 @@ class BoardShell(Shell):
         self._clear()
         print(text)
 
-    def _min(self, words: list[str]) -> None:
-        _none(words, "min")
+    def _min(self, _: list[str]) -> None:
         least = self._together().minimum()
         told = " ".join(["min", str(least.cost), *least.faulty])
         self._say(in_words(told) if self.prompt else told)
 
-    def _next(self, words: list[str]) -> None:
-        _none(words, "next")
+    def _next(self, _: list[str]) -> None:
         self._tell_diagnoses(1)
 
     def _list(self, words: list[str]) -> None:
@@ -230,8 +230,7 @@ class BoardShell(Shell):
         for wire in words:
             self._tell_costs(self.session.probe(wire))
 
-    def _probes(self, words: list[str]) -> None:
-        _none(words, "probes")
+    def _probes(self, _: list[str]) -> None:
         for alone in self.session.probes():
             self._tell_costs(alone)
         self._say("end")
@@ -252,8 +251,7 @@ class BoardShell(Shell):
             except Inconsistent:
                 return "-"
 
-    def _blame(self, words: list[str]) -> None:
-        _none(words, "blame")
+    def _blame(self, _: list[str]) -> None:
         for row in self._together().blame():
             self._say(f"blame {row.part} {row.verdict}")
         self._say("end")
@@ -276,11 +274,6 @@ def begin(service: Service, session: Session, table: str | None = None) -> Board
             raise DiagError(f"{table}: {shell.why(refused)}") from None
         print(f"{len(shell.sessions)} patterns of {table}; the present one is {shell.session.name}")
     return shell
-
-
-def _none(words: list[str], command: str) -> None:
-    if words:
-        raise ValueError(f"{command}: nothing follows it")
 
 
 MORE.update(MORE_PATTERNS)

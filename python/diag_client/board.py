@@ -51,9 +51,9 @@ class BoardShell(Shell):
         self._joint = None
         self._told_since = (0, 0)
 
-    def parseline(self, line: str) -> tuple[str | None, str | None, str]:
-        """The words of a line; before them `all` or `this`, if there are several patterns and it is for all of them or for the present one."""
-        return super().parseline(f"{self._whose(line.split(None, 1))} {line.strip()}".lstrip())
+    def onecmd(self, line: str) -> bool:
+        """Carries out a line, as one of `all` or of `this` if there are several patterns and it is for all of them or for the present one."""
+        return super().onecmd(f"{self._whose(line.split(None, 1))} {line.strip()}".lstrip())
 
     def do_all(self, rest: str) -> bool:
         """What is asked of all patterns together, and what is said of the board."""

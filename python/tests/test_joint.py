@@ -1,6 +1,7 @@
 """What explains many patterns of one board, the table that they come from, and the terminal over them."""
 
 import contextlib
+import io
 import os
 import pathlib
 import subprocess
@@ -11,7 +12,7 @@ from unittest import mock
 
 from support import C17, EXAMPLES, TOP, needs_program
 
-from diag_client import BadTable, DiagError, Inconsistent, Refused, Service, holding, shell
+from diag_client import BadTable, DiagError, Inconsistent, Refused, Service, board, holding, shell
 from diag_client.tables import read_table
 from diag_client.replies import Verdict
 from diag_client.session import case_lines
@@ -255,6 +256,20 @@ class Board(unittest.TestCase):
             "ok", "diag 22", "end", "probe w: which wire?", "refused: no wire (error 9): 99", "ok",
             "probe 16 - 1", "ok", "no set of faulty parts explains what was seen and held"])
         self.assertEqual(status, 1)
+
+    @unittest.skipUnless(shell.readline, "there is no completion")
+    def test_completion(self):
+        """With several patterns names are completed as with one."""
+        with Service(C17) as service, mock.patch("sys.stdin", io.StringIO()):
+            terminal = board.BoardShell(service, service.session("S"))
+            terminal.take(service.patterns(ROWS))
+            for line, found in (("expect 2", ["2", "22", "23"]), ("probe 2", ["2", "22", "23"]), ("best 1", ["10", "11", "16", "19"]), ("pattern t", ["two "])):
+                text = line.split()[1]
+                ends = {"get_line_buffer": line, "get_begidx": len(line) - len(text), "get_endidx": len(line)}
+                with contextlib.ExitStack() as stack:
+                    for name, value in ends.items():
+                        stack.enter_context(mock.patch(f"readline.{name}", return_value=value))
+                    self.assertEqual([terminal.complete(text, place) for place in range(len(found))], found)
 
     def test_the_example(self):
         """The commands of the example have the output that its page shows."""

@@ -5,7 +5,6 @@ from __future__ import annotations
 import shlex
 import signal
 
-
 # So many characters of a text are shown.
 LONGEST_SHOWN = 60
 

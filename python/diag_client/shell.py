@@ -54,6 +54,7 @@ CURES = {
     "line too long": "a line has at most 1048576 bytes", "no levels": "start the terminal with --levels C", "no least": "start the terminal with --least",
     "full": f"each pattern is a session, and a search opens one more for each: at most {LIMITS['sessions'][1] // 2} patterns can be searched",
 }
+# What is said of a name that is none.
 NAMES = "a name has up to 255 printable ASCII characters, that of a pattern up to 64, and none of ( ) , = #"
 # Replies that mean that nothing is wrong.
 NOTHING_WRONG = ("diag", "min 0", "level 0")

@@ -5,6 +5,7 @@ import json
 import os
 import pathlib
 import re
+import resource
 import tempfile
 import threading
 import unittest
@@ -100,6 +101,14 @@ class Answers(unittest.TestCase):
             with Service(file.name, health=6) as asked, asked.session() as session:
                 self.assertEqual(session.minimum(), Minimum(0, ()))
                 self.assertEqual(asked.parts[0], "00001")
+            # If there is no room, what was there stays.
+            limit = resource.getrlimit(resource.RLIMIT_FSIZE)
+            try:
+                resource.setrlimit(resource.RLIMIT_FSIZE, (0, limit[1]))
+                self.assertRaises(OSError, graph.write, file.name)
+            finally:
+                resource.setrlimit(resource.RLIMIT_FSIZE, limit)
+            self.assertEqual(pathlib.Path(file.name).read_text(), graph.text)
 
     def test_any_command(self):
         self.assertEqual(self.session.ask("see", "22=1"), ["S ok"])

@@ -257,7 +257,8 @@ class BoardShell(Shell):
         self._say("end")
 
     def _best(self, words: list[str]) -> None:
-        among = {self.service.other_names.get(word, word) for word in words}
+        # An unknown name is refused.
+        among = {row.wire for row in self.session.probe_each(words)}
         rows = [row for row in self._together().rank_probes() if row.reduction > 0 and (not among or row.wire in among)]
         self._say("\n".join(map(str, rows[:BEST])) or "no wire splits the diagnoses at hand")
 

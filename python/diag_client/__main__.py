@@ -41,8 +41,16 @@ def words_of() -> argparse.ArgumentParser:
     return parser
 
 
+def open_streams() -> None:
+    """Opens the standard streams that were closed: nothing comes in, and what goes out is gone."""
+    for name, mode in (("stdin", "r"), ("stdout", "w"), ("stderr", "w")):
+        if getattr(sys, name) is None:
+            setattr(sys, name, open(os.devnull, mode, encoding="utf-8"))
+
+
 def main() -> int:
     """Does what the words say, and gives the exit status."""
+    open_streams()
     words = draw.read_words(words_of())
     try:
         if words.command == "bench":

@@ -2,24 +2,27 @@
 
 from __future__ import annotations
 
+import itertools
 import sys
 from collections.abc import Sequence
 from typing import Any
 
-from .errors import DiagError, Refused
+from .errors import DiagError, Inconsistent, Refused
 from .holding import JointProgress
 from .joint import Joint
+from .replies import Probe
 from .service import Service
-from .session import Session, case_lines
+from .session import Session
 from .shell import BEST, MORE, Asked, Shell, _path, in_words
 
 MORE_PATTERNS = {
     "pattern": ("pattern NAME", "begins a test pattern of the same board, or goes back to one; see belongs to it, hold to the board"),
     "patterns": ("patterns", "the patterns: the present one has a star"),
-    "this": ("this COMMAND ..", "min, list, blame or best for the present pattern alone, as next and probe are; without `this` they are for all together"),
+    "this": ("this COMMAND ..", "min, next, list, probe, probes, blame or best for the present pattern alone; without `this` they are for all together"),
 }
-# What is asked for all patterns together once there are two.
-TOGETHER = ("min", "list", "blame", "best")
+# What is asked for all patterns together once there are two, and what has an answer for one pattern alone.
+TOGETHER = ("min", "next", "list", "probe", "probes", "blame", "best")
+ALONE = ("after", "level", "levels", "dnnf", "leastnnf", "expect", "case", "picture")
 # So many diagnoses are listed if no number is given.
 LISTED = 100
 
@@ -35,6 +38,8 @@ class BoardShell(Shell):
         self._has_line = False
         # Whether a line is asked of the present pattern alone.
         self._is_one = False
+        # So many diagnoses of all patterns were told since the last of so many changes.
+        self._told_since = (0, 0)
 
     def take(self, patterns: dict[str, Session]) -> None:
         """These are the patterns from now on, and the first one is the present one."""
@@ -44,20 +49,23 @@ class BoardShell(Shell):
         self.sessions = dict(patterns)
         self.session = next(iter(patterns.values()))
         self._joint = None
+        self._told_since = (0, 0)
 
-    def parseline(self, line: str) -> tuple[str | None, str | None, str]:
-        """The words of a line; of one that is for all patterns, those of `all` before it."""
-        return super().parseline(f"all {line.strip()}" if self._is_for_all(line.split(None, 1)) else line)
+    def onecmd(self, line: str) -> bool:
+        """Carries out a line, as one of `all` or of `this` if there are several patterns and it is for all of them or for the present one."""
+        return super().onecmd(f"{self._whose(line.split(None, 1))} {line.strip()}".lstrip())
 
     def do_all(self, rest: str) -> bool:
         """What is asked of all patterns together, and what is said of the board."""
-        command, _, rest = rest.partition(" ")
+        command, *words = rest.split() or [""]
         if command in ("hold", "unhold"):
-            self._ask_one(f"{command} {rest}")
+            self._ask_one(rest)
             self._hold_in_all()
         elif command in TOGETHER:
+            if words and command in self.commands and not self.commands[command].words:
+                raise ValueError(f"{command}: nothing follows it")
             try:
-                getattr(self, f"_{command}")(rest.split())
+                getattr(self, f"_{command}")(words)
             finally:
                 self._clear()
         else:
@@ -90,10 +98,14 @@ class BoardShell(Shell):
         return False
 
     def do_this(self, rest: str) -> bool:
-        """A command for the present pattern alone."""
-        if rest.split(" ")[0] not in TOGETHER:
+        """A command for the present pattern alone, which is named if there are others."""
+        command = rest.split()[0] if rest else ""
+        if command not in TOGETHER + ALONE:
             raise ValueError(f"this COMMAND: one of {', '.join(TOGETHER)}")
-        return super().do_best(rest[len("best"):]) if rest.startswith("best") else self._ask_one(rest)
+        if len(self.sessions) > 1:
+            print(f"pattern {self.session.name} alone:")
+        ask = getattr(self, f"do_{command}", None)
+        return bool(ask(rest[len(command):])) if ask else self._ask_one(rest)
 
     def _saved(self) -> tuple[str, str]:
         if len(self.sessions) == 1:
@@ -138,13 +150,15 @@ class BoardShell(Shell):
         """The commands that begin so."""
         return [f"{name} " for name in TOGETHER if name.startswith(text)]
 
-    def _is_for_all(self, words: Sequence[str]) -> bool:
-        return len(self.sessions) > 1 and bool(words) and words[0] in (*TOGETHER, "hold", "unhold")
+    def _whose(self, words: Sequence[str]) -> str:
+        """Whether a line is for all patterns or for the present one alone, if there are several. A reading belongs to the present one."""
+        command = words[0] if words and len(self.sessions) > 1 else ""
+        return "all" if command in (*TOGETHER, "hold", "unhold") else "this" if command in ALONE else ""
 
     def _asked(self, words: list[str]) -> Asked:
-        # A line from a pipe that is for all patterns is not one of the present session.
-        if len(self.sessions) > 1 and not self._is_one and self._is_for_all(words):
-            raise ValueError("for all patterns")
+        # Of the lines from a pipe these are carried out one by one.
+        if not self._is_one and self._whose(words):
+            raise ValueError("not one of many lines")
         return super()._asked(words)
 
     def _ask_one(self, line: str) -> bool:
@@ -183,31 +197,68 @@ class BoardShell(Shell):
         self._clear()
         print(text)
 
-    def _min(self, words: list[str]) -> None:
-        _none(words, "min")
+    def _min(self, _: list[str]) -> None:
         least = self._together().minimum()
         told = " ".join(["min", str(least.cost), *least.faulty])
         self._say(in_words(told) if self.prompt else told)
 
+    def _next(self, _: list[str]) -> None:
+        self._tell_diagnoses(1)
+
     def _list(self, words: list[str]) -> None:
         if len(words) > 1 or not all(word.isdecimal() and int(word) for word in words):
             raise ValueError("list [k]: at most k diagnoses, k from 1")
-        most = int(words[0]) if words else LISTED
-        told = 0
-        for diagnosis in self._together().diagnoses(most):
+        self._tell_diagnoses(int(words[0]) if words else LISTED)
+
+    def _tell_diagnoses(self, most: int) -> None:
+        """Those after the last one that was told, as of one session: each change begins anew."""
+        self.service.catch_up()
+        changes = sum(session.changes for session in self.sessions.values())
+        if self._told_since[1] != changes:
+            self._told_since = (0, changes)
+        begin, _ = self._told_since
+        end = begin + most
+        for told, diagnosis in enumerate(itertools.islice(self._together().diagnoses(end), begin, None), begin + 1):
             self._say(" ".join(["diag", *diagnosis.faulty]))
-            told += 1
-        if told < most:
+            self._told_since = (told, changes)
+        if self._told_since[0] < end:
             self._say("end")
 
-    def _blame(self, words: list[str]) -> None:
-        _none(words, "blame")
+    def _probe(self, words: list[str]) -> None:
+        if not words:
+            raise ValueError("probe w: which wire?")
+        for wire in words:
+            self._tell_costs(self.session.probe(wire))
+
+    def _probes(self, _: list[str]) -> None:
+        for alone in self.session.probes():
+            self._tell_costs(alone)
+        self._say("end")
+
+    def _tell_costs(self, alone: Probe) -> None:
+        """The least costs for all patterns if a wire was seen as 0 in the present one too, and if it was seen as 1."""
+        costs = ["-" if cost is None else self._cost_with(alone.wire, bit) for bit, cost in enumerate((alone.if_zero, alone.if_one))]
+        if costs == ["-", "-"]:
+            raise Inconsistent(self.session.name)
+        self._say(f"probe {alone.wire} {costs[0]} {costs[1]}")
+
+    def _cost_with(self, wire: str, bit: int) -> str:
+        with self.session.copy() as other:
+            other.see({wire: bit})
+            sessions = [other if session is self.session else session for session in self.sessions.values()]
+            try:
+                return str(self.service.together(sessions, progress=self._tell_progress).minimum().cost)
+            except Inconsistent:
+                return "-"
+
+    def _blame(self, _: list[str]) -> None:
         for row in self._together().blame():
             self._say(f"blame {row.part} {row.verdict}")
         self._say("end")
 
     def _best(self, words: list[str]) -> None:
-        among = {self.service.other_names.get(word, word) for word in words}
+        # An unknown name is refused.
+        among = {row.wire for row in self.session.probe_each(words)}
         rows = [row for row in self._together().rank_probes() if row.reduction > 0 and (not among or row.wire in among)]
         self._say("\n".join(map(str, rows[:BEST])) or "no wire splits the diagnoses at hand")
 
@@ -224,11 +275,6 @@ def begin(service: Service, session: Session, table: str | None = None) -> Board
             raise DiagError(f"{table}: {shell.why(refused)}") from None
         print(f"{len(shell.sessions)} patterns of {table}; the present one is {shell.session.name}")
     return shell
-
-
-def _none(words: list[str], command: str) -> None:
-    if words:
-        raise ValueError(f"{command}: nothing follows it")
 
 
 MORE.update(MORE_PATTERNS)

@@ -55,7 +55,7 @@ def draw(words: argparse.Namespace, serve: Callable[[], Service]) -> int:
         sys.stdout.buffer.write(text.encode())
         sys.stdout.buffer.flush()
         return 0
-    written = picture.render(text, output)
+    written = graphviz.render(text, output)
     if written == output:
         return 0
     print(f"diag_client: {graphviz.NO_DOT}; wrote {written} alone", file=sys.stderr)

@@ -5,9 +5,22 @@ from __future__ import annotations
 import shlex
 import signal
 
+# So many characters of a text are shown.
+LONGEST_SHOWN = 60
+
 
 class DiagError(Exception):
     """All errors of this client."""
+
+
+def shown(text: str) -> str:
+    """A text that somebody wrote, as an error shows it: the begin of a long one, and no sign that a terminal obeys.
+
+    >>> shown("see\\tS \\x1b[2J=1"), shown("x" * 70)
+    ('see S �[2J=1', 'xxxxxxxxxxxxxxxxxxxxxxxxxxxxxxxxxxxxxxxxxxxxxxxxxxxxxxxxxxxx...')
+    """
+    signs = ("\N{REPLACEMENT CHARACTER}" if not sign.isprintable() else sign for sign in text[:LONGEST_SHOWN].replace("\t", " "))
+    return "".join(signs) + ("..." if len(text) > LONGEST_SHOWN else "")
 
 
 def sentence(error: BaseException) -> str:
@@ -61,8 +74,7 @@ class Refused(DiagError):
         self.line = line
 
     def __str__(self) -> str:
-        line = self.line if len(self.line) <= 80 else self.line[:77] + "..."
-        return f"{self.text} (error {self.number}): {line}"
+        return f"{self.text} (error {self.number}): {shown(self.line)}"
 
 
 class Inconsistent(DiagError):

@@ -156,13 +156,13 @@ def convert(path: pathlib.Path, out: pathlib.Path | None = None) -> list[str]:
     title = f"{MADE}{' '.join(path.name.split())}{MADE_BY}"
     made = design_text(circuit, special, names, title) if is_design else bench_text(circuit, names, title)
     write_whole(out, made.encode("utf-8", "surrogateescape"))
+    # The table of another netlist would be worse than none, if there is no room for the new one.
+    table.unlink(missing_ok=True)
     said = [f"{out}: {len(circuit.nodes)} gates, {len(circuit.flip_flops)} flip-flops, {len(circuit.inputs)} inputs"]
     text = table_text(circuit, names)
     if text.count("\n") > 1:
         write_whole(table, text.encode("utf-8", "surrogateescape"))
         said.append(f"{table}: {sum(line[:1] != '#' for line in text.splitlines())} names that were replaced")
-    else:
-        table.unlink(missing_ok=True)
     return said + one_wire(circuit, names) + [f"left out: {text}" for text in circuit.left_out]
 
 

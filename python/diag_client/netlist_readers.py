@@ -8,6 +8,7 @@ from collections.abc import Iterator
 from typing import Any
 
 from .devices import FLIP_FLOP, GATES, OTHER_WORDS
+from .errors import shown
 from .netlist_circuit import MOST_TABLE_INPUTS, Circuit, Constant, UnusableNetlist
 
 # The gate cells of yosys that are gates of a netlist, and all others by their inputs and tables.
@@ -251,7 +252,7 @@ def read_bench(text: str) -> Circuit:
         elif found := re.fullmatch(r"(\S+?)\s*=\s*(LUT\s+0x[0-9a-f]+|\w+)\s*\(([^()]*)\)", line, re.IGNORECASE):
             add_bench_gate(circuit, found[1], found[2].split(), [word.strip() for word in found[3].split(",") if word.strip()])
         else:
-            raise UnusableNetlist(f"line {number}: this is no line of a .bench: {line[:60]}")
+            raise UnusableNetlist(f"line {number}: this is no line of a .bench: {shown(line)}")
     used = {name for node in circuit.nodes for name in node.inputs}
     for name in sorted(used - circuit.driven.keys()):
         if name.lower() in ("gnd", "vdd"):

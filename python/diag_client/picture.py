@@ -11,12 +11,11 @@ from .case import Case, case_of_script, lines_of, noted
 from .cone import Wiring, derive
 from .devices import FLIP_FLOP, GATES, Device, Part, Reduction, read_device
 from .errors import DiagError
-from .graphviz import render
 from .replies import Verdict
 from .service import Service
 
 # What others look for here.
-__all__ = ["MOST", "Case", "dot_text", "picture", "picture_alone", "render"]
+__all__ = ["MOST", "Case", "dot_text", "picture", "picture_alone"]
 
 # So many parts are drawn if nothing else is said.
 MOST = 60

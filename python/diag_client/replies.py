@@ -12,6 +12,7 @@ from typing import Literal
 
 from . import display
 from .errors import Refused
+from .files import write_whole
 
 REFUSAL = re.compile(r"error ([0-9]+) (.+)")
 # A command that there is not, so that its reply marks the end of what came before.
@@ -133,7 +134,7 @@ class Graph:
 
     def write(self, path: str | os.PathLike[str]) -> None:
         """Writes the text to a file, which `diag check` and `diag ask` read."""
-        pathlib.Path(path).write_text(self.text, encoding="ascii")
+        write_whole(pathlib.Path(path), self.text.encode("ascii"))
 
     def _header(self) -> list[str]:
         return self.text.split("\n", 1)[0].split()

@@ -14,9 +14,9 @@ from collections.abc import Callable, Iterable, Iterator, Mapping, Sequence
 from typing import TYPE_CHECKING
 
 from . import manual
-from .child import Child
+from .child import PIECE, Child
 from .devices import input_wires, other_names
-from .errors import Ended, NotBuilt
+from .errors import Ended, NotBuilt, shown
 from .joint import Joint
 from .replies import AnyLines, Lines, Ready, Request
 from .session import BLANKS, CHANGES, Session
@@ -36,8 +36,6 @@ FAULT = re.compile(r"error: line ([0-9]+): fault ")
 UTF_16 = "the file is in UTF-16: save it as UTF-8"
 # What some editors put before a text.
 MARKS = {b"\xef\xbb\xbf": "the file begins with a byte order mark: save it as UTF-8 without one", b"\xff\xfe": UTF_16, b"\xfe\xff": UTF_16}
-# So many characters of a line are shown.
-LONGEST_SHOWN = 60
 
 Program = str | os.PathLike[str] | Sequence[str | os.PathLike[str]]
 
@@ -133,16 +131,23 @@ def looks_like(file: pathlib.Path, number: int) -> str:
     """What is in a line of a file, counted from 1; before that, which mark the file begins with that some editors put there."""
     try:
         # A pipe is read already, and would be waited for.
-        lines = file.read_bytes().split(b"\n") if file.is_file() else []
+        if not file.is_file():
+            return ""
+        with file.open("rb") as data:
+            begin = data.read(max(map(len, MARKS)))
+            for mark, text in MARKS.items():
+                if begin.startswith(mark):
+                    return text
+            data.seek(0)
+            left = number - 1
+            while left > 0 and (piece := data.readline(PIECE)):
+                left -= piece.endswith(b"\n")
+            line = data.readline(PIECE)
     except OSError:
         return ""
-    if not 0 < number <= len(lines):
+    if left or not line:
         return ""
-    for mark, text in MARKS.items():
-        if lines[0].startswith(mark):
-            return text
-    text = lines[number - 1].decode("utf-8", "replace").strip()
-    return f"line {number} is `{text if len(text) <= LONGEST_SHOWN else text[:LONGEST_SHOWN] + '...'}`"
+    return f"line {number} is `{shown(line.decode('utf-8', 'replace').strip())}`"
 
 
 class Service:

@@ -313,14 +313,7 @@ class Session:
         ...         print(session.minimum().cost, other.minimum().cost)
         0 1
         """
-        other = self.service.session(name)
-        try:
-            other.see(self._seen)
-            other.hold(self._held)
-        except BaseException:
-            other.abandon()
-            raise
-        return other
+        return self.service.session_from(self.script(), name)
 
     def script(self) -> str:
         """The case as lines of a script, without the one that opens the session. `load` reads them.

@@ -15,7 +15,7 @@ from typing import Any
 
 from . import graphviz, manual, picture
 from .devices import read_device
-from .errors import DiagError, Ended, Inconsistent, Refused, sentence
+from .errors import DiagError, Ended, Inconsistent, Refused, sentence, shown
 from .files import write_whole
 from .progress import Progress
 from .replies import AnyLines, Lines
@@ -51,9 +51,11 @@ COUNTED = {
 }
 # What to do about a refusal of the program, by its text.
 CURES = {
-    "no levels": "start the terminal with --levels C", "no least": "start the terminal with --least",
+    "line too long": "a line has at most 1048576 bytes", "no levels": "start the terminal with --levels C", "no least": "start the terminal with --least",
     "full": f"each pattern is a session, and a search opens one more for each: at most {LIMITS['sessions'][1] // 2} patterns can be searched",
 }
+# What is said of a name that is none.
+NAMES = "a name has up to 255 printable ASCII characters, that of a pattern up to 64, and none of ( ) , = #"
 # Replies that mean that nothing is wrong.
 NOTHING_WRONG = ("diag", "min 0", "level 0")
 
@@ -253,7 +255,7 @@ class Shell(cmd.Cmd):
         picture.check_drawable(self.service)
         out = graphviz.check_output(_path(rest, "picture OUT: into which file? out.svg, say"))
         case = self._waited("picture", lambda: picture.Case.of(self.session))
-        written = picture.render(picture.dot_text(read_device(self.service.file), case, self.service.title), out)
+        written = graphviz.render(picture.dot_text(read_device(self.service.file), case, self.service.title), out)
         if written == out:
             print("wrote", written)
         else:
@@ -409,8 +411,11 @@ class Shell(cmd.Cmd):
 
     def why(self, refused: Refused) -> str:
         """A refusal in words, and what to do."""
-        command, _, *words = refused.line.split() + [""]
+        command, session, *words = refused.line.split() + [""]
         told = f"{refused.text} (error {refused.number})"
+        given = shown(" ".join(filter(None, words)))
+        if refused.text == "bad name":
+            return f"{told}: {given or shown(session)}; {_hint(given) or NAMES}"
         if refused.text in ("no wire", "no part"):
             return f"{told}: {self._unknown_name(refused.text, words)}"
         if refused.text in CURES:
@@ -419,13 +424,12 @@ class Shell(cmd.Cmd):
         if usage is None:
             small = command.lower()
             near = [small] if small in self.commands else difflib.get_close_matches(small, [*self.commands, *MORE, "exit"], 1)
-            return f"{told}: {command}" + (f"; do you mean {near[0]}?" if near else "; ? lists the commands")
-        given = " ".join(filter(None, words))
+            return f"{told}: {shown(command)}" + (f"; do you mean {near[0]}?" if near else "; ? lists the commands")
         # What a number or a value may be is in the text.
-        form = " ".join([command, *usage.words])
+        form = " ".join(["it is", command, *usage.words])
         if usage.words == ("k",) or "=" in form:
             form += f": {usage.text if usage.words == ('k',) else usage.text.rpartition('; ')[2]}"
-        return f"{told}: {given or command}; {_hint(given) or f'it is {form}'}"
+        return f"{told}: {given or command}; {_hint(given) or form}"
 
     def _unknown_name(self, text: str, words: Sequence[str]) -> str:
         """The name in a line that is not known, and what looks like it."""

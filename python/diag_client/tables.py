@@ -10,13 +10,15 @@ import os
 import pathlib
 from collections.abc import Iterable, Mapping, Sequence
 
-from .errors import DiagError
+from .errors import DiagError, shown
 from .session import BLANKS
 
 # The column that names the patterns.
 NAME = "pattern"
 Rows = Iterable[Sequence[str | int | None]]
 UTF_16 = (codecs.BOM_UTF16_LE, codecs.BOM_UTF16_BE)
+# The begin of a workbook (.xlsx, .ods).
+ZIP = b"PK\x03\x04"
 
 
 class BadTable(DiagError, ValueError):
@@ -41,6 +43,8 @@ def read_table(source: str | os.PathLike[str] | Rows, wires: Iterable[str], othe
     if not isinstance(source, (str, os.PathLike)):
         return rows_of("the table", [["" if cell is None else str(cell).strip(BLANKS) for cell in row] for row in source], names)
     data = pathlib.Path(source).read_bytes()
+    if data.startswith(ZIP):
+        raise BadTable(f"{source}: a workbook or an archive, and no comma-separated values: save the sheet as CSV")
     # Some programs put a mark before UTF-8, and some write UTF-16, which begins with another.
     text = data.decode("utf-16", "replace") if data.startswith(UTF_16) else data.decode("utf-8-sig", "surrogateescape")
     header = text.strip().split("\n")[0].strip(BLANKS)
@@ -60,14 +64,14 @@ def rows_of(table: str, cells: Sequence[Sequence[str]], names: Mapping[str, str]
     (first, header), *rest = numbered
     for column, name in enumerate(header, 1):
         if name != NAME and name not in names:
-            raise BadTable(f"{table}: row {first}, column {column}: no wire {name!r}")
+            raise BadTable(f"{table}: row {first}, column {column}: no wire {shown(name)!r}")
         if name in header[:column - 1]:
-            raise BadTable(f"{table}: row {first}, column {column}: a second column {name!r}")
+            raise BadTable(f"{table}: row {first}, column {column}: a second column {shown(name)!r}")
     found: list[Row] = []
     for place, (number, row) in enumerate(rest, 1):
         found.append(_row(f"{table}: row {number}", place, header, row, names))
         if found[-1].name in [other.name for other in found[:-1]]:
-            raise BadTable(f"{table}: row {number}, column {header.index(NAME) + 1}: a second pattern {found[-1].name!r}")
+            raise BadTable(f"{table}: row {number}, column {header.index(NAME) + 1}: a second pattern {shown(found[-1].name)!r}")
     return found
 
 
@@ -79,10 +83,10 @@ def _row(where: str, place: int, header: Sequence[str], row: Sequence[str], name
     for column, (wire, cell) in enumerate(zip(header, row, strict=True), 1):
         if wire == NAME:
             if not cell or any(byte in cell for byte in BLANKS):
-                raise BadTable(f"{where}, column {column}: not the name of a pattern, which has no blanks: {cell!r}")
+                raise BadTable(f"{where}, column {column}: not the name of a pattern, which has no blanks: {shown(cell)!r}")
             name = cell
         elif cell not in ("", "0", "1"):
-            raise BadTable(f"{where}, column {column} ({wire}): not 0, 1 or empty: {cell!r}")
+            raise BadTable(f"{where}, column {column} ({wire}): not 0, 1 or empty: {shown(cell)!r}")
         elif cell and seen.setdefault(names[wire], int(cell)) != int(cell):
             raise BadTable(f"{where}, column {column} ({wire}): not {cell}, since it is one wire with a column before it")
     return Row(name, seen)

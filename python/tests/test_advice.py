@@ -5,7 +5,7 @@ import tempfile
 import unittest
 from unittest import mock
 
-from support import C17, EXAMPLES, needs_program
+from support import EXAMPLES, needs_program
 
 from diag_client import Proposal, Refused, Service, Session, advice
 
@@ -100,12 +100,7 @@ class Chains(unittest.TestCase):
 
 @needs_program
 class Others(unittest.TestCase):
-    """Costs that differ, wires that may be either, and the case of the README."""
-
-    def test_readme(self):
-        with Service(C17) as served, served.session() as session:
-            session.see(CASE)
-            self.assertEqual(session.best_probe(), Proposal("10", 2, 1, 1, True))
+    """Costs that differ, and wires that may be either."""
 
     def test_both_ways(self):
         """What is counted by wires and by diagnoses is the same."""

@@ -27,6 +27,7 @@ class Texts(unittest.TestCase):
         self.assertIn("a=2", self.refused("a=2"))
         self.assertIn("'b'", self.refused("a=1 b"))
         self.assertIn("a=0 b=1", self.refused("hello"))
+        self.assertIn(f"no wire {'c' * 60}...: names", self.refused(f"{'c' * 9999}=1"))
         self.assertIn("a=0 b=1", self.refused(""))
 
     def test_tables(self):

@@ -5,6 +5,7 @@ import json
 import os
 import pathlib
 import re
+import resource
 import tempfile
 import threading
 import unittest
@@ -100,6 +101,14 @@ class Answers(unittest.TestCase):
             with Service(file.name, health=6) as asked, asked.session() as session:
                 self.assertEqual(session.minimum(), Minimum(0, ()))
                 self.assertEqual(asked.parts[0], "00001")
+            # If there is no room, what was there stays.
+            limit = resource.getrlimit(resource.RLIMIT_FSIZE)
+            try:
+                resource.setrlimit(resource.RLIMIT_FSIZE, (0, limit[1]))
+                self.assertRaises(OSError, graph.write, file.name)
+            finally:
+                resource.setrlimit(resource.RLIMIT_FSIZE, limit)
+            self.assertEqual(pathlib.Path(file.name).read_text(), graph.text)
 
     def test_any_command(self):
         self.assertEqual(self.session.ask("see", "22=1"), ["S ok"])
@@ -321,13 +330,6 @@ class Refusals(unittest.TestCase):
         # All that there are: the numbers have no gap.
         self.assertEqual(numbers, set(range(1, len(numbers) + 1)))
         self.assertGreaterEqual(len(numbers), 10)
-
-    def test_the_others_are_carried_out(self):
-        with Service(C17) as served, served.session() as session:
-            with self.assertRaises(Refused) as caught:
-                session.see({"1": 0, "99": 1, "2": 1, "98": 1})
-            self.assertIn("99=1", caught.exception.line)
-            self.assertEqual(dict(session.seen), {"1": 0, "2": 1})
 
     def test_many_sessions(self):
         """There is room for as many as the program allows, unless its own default is asked for."""

@@ -1,6 +1,5 @@
 """What a notebook shows: pictures and tables."""
 
-import doctest
 import gc
 import unittest
 import weakref
@@ -39,9 +38,6 @@ class Tables(unittest.TestCase):
         self.assertEqual(next(listed).faulty, ("10",))
         self.assertIn("<td>10</td>", listed._repr_html_())
         self.assertEqual([row.faulty for row in listed], [("22",)])
-
-    def test_docstrings(self):
-        self.assertEqual(doctest.testmod(display), (0, 2))
 
     def test_an_error_is_shown(self):
         self.assertEqual(display.Listed(mock.Mock(side_effect=[iter([]), DiagError("a<b")]))._repr_html_(), "<p>a&lt;b</p>")

@@ -1,9 +1,11 @@
 """The examples in docstrings and in docs/PYTHON.md, and the script `examples/troubleshoot`."""
 
 import doctest
+import importlib
 import inspect
 import os
 import pathlib
+import pkgutil
 import re
 import shutil
 import subprocess
@@ -13,7 +15,6 @@ import unittest
 from support import C17, TOP, needs_program
 
 import diag_client
-from diag_client import advice, child, devices, errors, manual, picture, progress, replies, service, session, shell
 
 FLAGS = doctest.ELLIPSIS | doctest.NORMALIZE_WHITESPACE
 
@@ -28,9 +29,10 @@ class Examples(unittest.TestCase):
 
     def test_docstrings(self):
         tried = 0
-        for module in (diag_client, advice, child, devices, errors, manual, picture, progress, replies, service, session, shell):
+        for name in ["diag_client", *(found.name for found in pkgutil.walk_packages(diag_client.__path__, "diag_client."))]:
+            module = importlib.import_module(name)
             failed, found = doctest.testmod(module, optionflags=FLAGS, extraglobs={"Service": diag_client.Service})
-            self.assertEqual(failed, 0, module)
+            self.assertEqual(failed, 0, name)
             tried += found
         self.assertGreater(tried, 10)
 

@@ -1,6 +1,7 @@
 """What explains many patterns of one board, the table that they come from, and the terminal over them."""
 
 import contextlib
+import io
 import os
 import pathlib
 import subprocess
@@ -11,7 +12,7 @@ from unittest import mock
 
 from support import C17, EXAMPLES, TOP, needs_program
 
-from diag_client import BadTable, DiagError, Inconsistent, Refused, Service, holding
+from diag_client import BadTable, DiagError, Inconsistent, Refused, Service, board, holding, shell
 from diag_client.tables import read_table
 from diag_client.replies import Verdict
 from diag_client.session import case_lines
@@ -158,6 +159,9 @@ class Tables(unittest.TestCase):
                     service.patterns(path)
                 self.assertIn(why, str(caught.exception))
                 self.assertIn(str(path), str(caught.exception))
+            path.write_bytes(b"PK\x03\x04\0,1\n0,1\n")
+            with self.assertRaisesRegex(BadTable, "save the sheet as CSV"):
+                service.patterns(path)
             # Nothing was taken: the names are free, and a table with a mark before it is read.
             path.write_text("\ufeff22, 1,3\r\n1,0,\r\n0,1,1\r\n")
             patterns = service.patterns(path)
@@ -210,27 +214,62 @@ class Board(unittest.TestCase):
                 "--patterns", table)
             self.assertEqual(told, [
                 f"2 patterns of {table}; the present one is one", "min 1 10", "diag 10", "diag 22", "end", "ok", "min 1 22",
-                "pattern three: 0 readings", "ok", "min 0", f"wrote {saved}: 3 patterns, 1 parts held",
+                "pattern three: 0 readings", "ok", "pattern three alone:", "min 0", f"wrote {saved}: 3 patterns, 1 parts held",
                 "  one: 7 readings", "  two: 7 readings", "* three: 1 readings", "diag 22"])
             self.assertEqual(status, 0)
             told, _, _ = self.told([f"load {saved}", "patterns", "min", "pattern two", "case"])
             self.assertEqual(told, [
                 "3 patterns, 15 readings, 1 parts held", "* one: 7 readings", "  two: 7 readings", "  three: 1 readings", "min 1 22",
-                "pattern two: 7 readings", "seen: 1=1 2=0 3=1 6=0 7=0 22=0 23=0", "held: 10=ok"])
+                "pattern two: 7 readings", "pattern two alone:", "seen: 1=1 2=0 3=1 6=0 7=0 22=0 23=0", "held: 10=ok"])
 
     def test_patterns_by_hand(self):
         told, status, _ = self.told(
             ["pattern one", "see 1=0 3=0 22=1 16=1", "pattern two", "see 1=1 3=1 22=0 16=1", "min", "unhold 10", "blame", "best", "min 1",
-             "pattern", "this see 1=1", "all 1", "pattern one", "this min"])
+             "pattern", "pattern é", "this see 1=1", "all 1", "pattern one", "this min"])
         self.assertEqual(told[:4], ["pattern one: 0 readings", "4 readings taken", "pattern two: 0 readings", "4 readings taken"])
         self.assertEqual(told[4:6], ["min 1 10", "ok"])
         self.assertEqual(told[6:13], ["blame 10 sometimes", *(f"blame {part} never" for part in (11, 16, 19)), "blame 22 sometimes",
                                       "blame 23 never", "end"])
-        self.assertEqual(told[-6:], [
+        together = "one of min, next, list, probe, probes, blame, best"
+        self.assertEqual(told[-8:], [
             "min: nothing follows it", "pattern NAME: which pattern? a name without blanks; `patterns` lists them",
-            "this COMMAND: one of min, list, blame, best",
-            "all COMMAND: one of min, list, blame, best, hold and unhold", "pattern one: 4 readings", "min 1 10"])
+            f"refused: bad name (error 3): é; {shell.NAMES}",
+            f"this COMMAND: {together}", f"all COMMAND: {together}, hold and unhold", "pattern one: 4 readings", "pattern one alone:", "min 1 10"])
         self.assertEqual(status, 1)
+
+    def test_for_all_or_for_one(self):
+        """An answer is for all patterns, or says for which one it is."""
+        with tempfile.TemporaryDirectory() as folder:
+            table = pathlib.Path(folder, "readings.csv")
+            table.write_text(TABLE)
+            told, status, _ = self.told(
+                ["next", "next", "next", "list 1", "this next", "probe 16 22", "this probe 16", "probes", "level", "after 10", "level",
+                 "expect 22", "hold 10=ok", "next", "list 1", "probe", "probe 99", "best 10 99", "hold 16=ok", "probe 16",
+                 "hold 22=ok", "probe 16"], "--patterns", table, "--levels", "2")
+        alone = "pattern one alone:"
+        self.assertEqual(told[1:], [
+            "diag 10", "diag 22", "end", "end", alone, "diag 10",
+            # What each costs was found by trying all sets of parts.
+            "probe 16 3 1", "probe 22 - 1", alone, "probe 16 2 1",
+            "probe 10 1 1", "probe 11 2 1", "probe 16 3 1", "probe 19 3 1", "end",
+            alone, "level 1 22", alone, "ok", alone, "level 1 22", alone, "22 should be 0, and was seen as 1",
+            "ok", "diag 22", "end", "probe w: which wire?", *["refused: no wire (error 9): 99"] * 2, "ok",
+            "probe 16 - 1", "ok", "no set of faulty parts explains what was seen and held"])
+        self.assertEqual(status, 1)
+
+    @unittest.skipUnless(shell.readline, "there is no completion")
+    def test_completion(self):
+        """With several patterns names are completed as with one."""
+        with Service(C17) as service, mock.patch("sys.stdin", io.StringIO()):
+            terminal = board.BoardShell(service, service.session("S"))
+            terminal.take(service.patterns(ROWS))
+            for line, found in (("expect 2", ["2", "22", "23"]), ("probe 2", ["2", "22", "23"]), ("best 1", ["10", "11", "16", "19"]), ("pattern t", ["two "])):
+                text = line.split()[1]
+                ends = {"get_line_buffer": line, "get_begidx": len(line) - len(text), "get_endidx": len(line)}
+                with contextlib.ExitStack() as stack:
+                    for name, value in ends.items():
+                        stack.enter_context(mock.patch(f"readline.{name}", return_value=value))
+                    self.assertEqual([terminal.complete(text, place) for place in range(len(found))], found)
 
     def test_the_example(self):
         """The commands of the example have the output that its page shows."""

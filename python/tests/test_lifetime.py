@@ -329,6 +329,13 @@ class Options(unittest.TestCase):
             os.mkfifo(file)
             self.assertTrue(self.refusal("error: line 1: fault 1 line", 1, file=file).endswith("fault 1 line"))
 
+    def test_no_more_is_read_than_the_line(self):
+        """What comes after it is not looked at, however large the file is, nor is more of a line kept than a piece."""
+        with self.temporary(b"INPUT(a)\nwrong\n") as file:
+            os.truncate(file, 1 << 36)
+            self.assertTrue(self.refusal("error: line 2: fault 1 line", 1, file=file).endswith("; line 2 is `wrong`"))
+            self.assertTrue(self.refusal("error: line 3: fault 1 line", 1, file=file).endswith(f"; line 3 is `{chr(0xfffd) * 60}...`"))
+
     def test_closed(self):
         """What was last answered is not why."""
         service = served("lists")

@@ -1,6 +1,5 @@
 """Pictures: C17 against a stored text, blocks, times, cones of large devices, devices that are refused, and what is written where."""
 
-import doctest
 import os
 import pathlib
 import re
@@ -14,7 +13,7 @@ from unittest import mock
 
 from support import C17, EXAMPLES, TESTS, TOP, needs_program
 
-from diag_client import DiagError, Refused, Service, Verdict, case, cone, graphviz, picture
+from diag_client import DiagError, Refused, Service, Verdict, case, graphviz, picture
 from diag_client.cone import Wiring, derive
 from diag_client.devices import Part, read_device, read_netlist
 
@@ -168,9 +167,6 @@ class Texts(unittest.TestCase):
         self.assertEqual((found["y"].by, found["z"].by), ({"y"}, {"y", "z"}))
         self.assertEqual(set(derive(device, {"b": 1})), {"b"})
 
-    def test_docstrings(self):
-        self.assertEqual(doctest.testmod(cone), (0, 2))
-
     def drawn(self, text):
         return re.findall(r'"part (\w+)" \[label', text)
 
@@ -225,10 +221,10 @@ class Written(unittest.TestCase):
 
     def test_whole(self):
         self.dot("cat >/dev/null; echo drawn as $1")
-        self.assertEqual(picture.render("graph {}", self.out), self.out)
+        self.assertEqual(graphviz.render("graph {}", self.out), self.out)
         self.assertEqual(self.out.read_text(), "drawn as -Tsvg\n")
         loud = self.out.with_name("out.SVG")
-        picture.render("graph {}", loud)
+        graphviz.render("graph {}", loud)
         self.assertEqual(loud.read_text(), "drawn as -Tsvg\n")
         self.assertEqual(sorted(path.name for path in self.folder.iterdir()), ["dot", "out.SVG", "out.svg"])
 
@@ -237,33 +233,33 @@ class Written(unittest.TestCase):
             with self.subTest(script):
                 self.dot(script)
                 with self.assertRaisesRegex(DiagError, why):
-                    picture.render("graph {}", self.out)
+                    graphviz.render("graph {}", self.out)
                 self.assertEqual(self.out.read_text(), "before")
 
     def test_no_room(self):
         self.dot("cat >/dev/null; echo drawn")
         with mock.patch("os.replace", side_effect=OSError), self.assertRaises(OSError):
-            picture.render("graph {}", self.out)
+            graphviz.render("graph {}", self.out)
         self.assertEqual(self.out.read_text(), "before")
         self.assertEqual(sorted(path.name for path in self.folder.iterdir()), ["dot", "out.svg"])
 
     def test_slow(self):
         self.dot("exec sleep 100")
         with mock.patch.object(graphviz, "PATIENCE", 0.1), self.assertRaisesRegex(DiagError, "--most"):
-            picture.render("graph {}", self.out)
+            graphviz.render("graph {}", self.out)
         self.assertEqual(self.out.read_text(), "before")
 
     def test_names(self):
         self.dot("cat >/dev/null; echo drawn")
         with mock.patch.dict("os.environ", HOME=str(self.folder)):
-            self.assertEqual(picture.render("graph {}", "~/home.svg"), self.folder / "home.svg")
+            self.assertEqual(graphviz.render("graph {}", "~/home.svg"), self.folder / "home.svg")
         with self.assertRaisesRegex(DiagError, "such as out.svg"):
-            picture.render("graph {}", self.folder / "out")
+            graphviz.render("graph {}", self.folder / "out")
         with self.assertRaisesRegex(DiagError, "no folder"):
-            picture.render("graph {}", self.folder / "nowhere/out.svg")
+            graphviz.render("graph {}", self.folder / "nowhere/out.svg")
         link = self.folder / "link.svg"
         link.symlink_to(self.out)
-        picture.render("graph {}", link)
+        graphviz.render("graph {}", link)
         self.assertTrue(link.is_symlink())
         self.assertEqual(self.out.read_text(), "drawn\n")
 
@@ -297,7 +293,7 @@ class Served(unittest.TestCase):
             self.assertNotIn(b"Traceback", self.run_tool(file, "-o", out, "-").stderr)
             text = picture.picture_alone(os.fsdecode(file), None, None, None, 9, "")
             self.assertIn("c\ufffd.bench", text)
-            self.assertEqual(picture.render(text, os.fsdecode(out)).read_text(encoding="utf-8"), text)
+            self.assertEqual(graphviz.render(text, os.fsdecode(out)).read_text(encoding="utf-8"), text)
 
     def test_too_large(self):
         done = self.run_tool(C17, "--budget", "1", "-")

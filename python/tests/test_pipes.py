@@ -67,11 +67,6 @@ class Ends(unittest.TestCase):
             served("greets")
         self.assertEqual(caught.exception.last_line, "hello")
 
-    def test_answers_something_else(self):
-        with self.assertRaises(Ended) as caught, served("strays") as service, service.session("S") as session:
-            session.see(a=0, b=1)
-        self.assertEqual(caught.exception.status, 0)
-
     def test_ends_badly(self):
         service = served("ends badly")
         with self.assertRaises(Ended) as caught:

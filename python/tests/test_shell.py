@@ -98,9 +98,10 @@ class Lines(unittest.TestCase):
             ("see 1:0", "write 1=0"), ("see 22=H", "write 22=1"), ("see 22=Low", "write 22=0"), ("SEE 1=0", "do you mean see?"),
             ("hold 10=OK", "write 10=ok"), ("see 1 = 0", "without blanks"), ("see 1= 0 2=1", "nothing of this line was taken"),
             ("see 1=0,2=0", "blanks between names"), ("probe 1,2", "no commas"), ("level", "--levels C"), ("leastnnf", "--least"),
-            ("exitt", "do you mean exit?"), ("best 10,16", "no commas"),
+            ("exitt", "do you mean exit?"), ("best 10,16", "no commas"), ("see Net-(U1)=1", "none of ( )"), ("probe café", "ASCII"),
+            ("see 1=\x1b[2J", "1=\ufffd[2J; write 1=\ufffd[2j"), (f"min {'1' * 2000}", f"{'1' * 60}...; it is min"), (f"{'x' * 1048577}", "at most 1048576 bytes"),
         ):
-            with self.subTest(line):
+            with self.subTest(line[:80]):
                 self.assertIn(hint, " ".join(self.say(line)))
         self.assertEqual(dict(self.session.seen), {})
 
@@ -212,7 +213,7 @@ class Lines(unittest.TestCase):
         self.assertEqual(status, 1)
         self.assertEqual(told[:5], ["ok", "seen: 22=1", "held: nothing", "refused: no wire (error 9): 99", "min 0"])
         self.assertEqual(told[5], "there is one session here, which is open to the end")
-        self.assertIn("unknown command (error 1): \udcff", told[6])
+        self.assertIn("unknown command (error 1): \ufffd;", told[6])
         self.assertEqual(told[7:], ["2 readings taken"])
 
     def test_many_lines(self):
@@ -230,6 +231,14 @@ class Lines(unittest.TestCase):
             shell_run.stdout.close()
             self.assertEqual(shell_run.communicate(b"min\n")[1], b"")
         self.assertEqual(shell_run.returncode, 1)
+
+    def test_closed_streams(self):
+        """Nothing comes from one, and what goes into one is gone."""
+        words, python = [sys.executable, "-m", "diag_client", "shell", str(C17)], {"PYTHONPATH": str(TOP / "python")}
+        for closed, told in (("<&-", b""), (">&-", b""), ("2>&-", b"min 0\n")):
+            shell_run = ["sh", "-c", f'exec "$@" {closed}', "sh", *words]
+            done = subprocess.run(shell_run, input=b"min\n", env=os.environ | python, capture_output=True, check=False)
+            self.assertEqual((done.returncode, done.stdout, done.stderr), (0, told, b""), closed)
 
     def test_options_in_words(self):
         """What Python gives as budget=N is an option at the terminal."""

@@ -9,6 +9,7 @@ import re
 import sys
 from collections.abc import Collection, Iterable, Mapping
 
+from ..errors import shown
 from ..replies import Mode
 from ..session import at_odds
 from ..tables import NAME as NAME_COLUMN
@@ -70,7 +71,7 @@ class Case:
         if not name:
             name = next(made for number in range(1, len(names) + 2) if (made := f"P{number}") not in names)
         if not NAME.fullmatch(name):
-            raise Bad(f"{name!r} is no name of a pattern: use 1 to 40 letters, digits, dots, lines and underscores")
+            raise Bad(f"{shown(name)!r} is no name of a pattern: use 1 to 40 letters, digits, dots, lines and underscores")
         if name in names:
             raise Bad(f"there is a pattern {name} already: choose another name")
         if len(names) >= MOST_PATTERNS:
@@ -108,25 +109,25 @@ class Known:
         if here not in self.wires and here in self.reachable:
             raise Bad(f"{wire} has a reading for each time: write {wire}@0001 for the first")
         if here not in self.wires:
-            raise Bad(f"no wire {wire}: names are those in the drawing, capital and small letters are not the same")
+            raise Bad(f"no wire {shown(wire)}: names are those in the drawing, capital and small letters are not the same")
         # A name is kept once, however often it is entered.
         here = sys.intern(here)
         if text.strip() in ("", "-", "x", "X"):
             return here, None
         if text.strip() not in ("0", "1"):
-            raise Bad(f"{wire}={text}: a reading is 0 or 1")
+            raise Bad(f"{wire}={shown(text)}: a reading is 0 or 1")
         return here, int(text)
 
     def mode(self, part: str, mode: str) -> tuple[str, Mode]:
         """A part and how it was tested."""
         here = self.others.get(part, part)
         if here not in self.parts:
-            raise Bad(f"no part {part}")
+            raise Bad(f"no part {shown(part)}")
         if mode == "ok":
             return here, "ok"
         if mode == "bad":
             return here, "bad"
-        raise Bad(f"{part}={mode}: a part was tested ok or bad")
+        raise Bad(f"{part}={shown(mode)}: a part was tested ok or bad")
 
 
 def read_script(text: str, known: Known) -> Case:
@@ -155,7 +156,7 @@ def read_script(text: str, known: Known) -> Case:
 
 def _reached(wire: str, known: Known) -> str:
     if wire not in known.reachable:
-        raise Bad(f"no wire {wire}")
+        raise Bad(f"no wire {shown(wire)}")
     return wire
 
 
@@ -180,7 +181,7 @@ def _take(words: list[str], known: Known, seen: dict[str, dict[str, int]], held:
         case ["unhold", _, part]:
             held.pop(known.mode(part, "ok")[0], None)
         case [("see" | "unsee" | "hold" | "unhold"), *_]:
-            raise Bad(f"not understood: {' '.join(words)}")
+            raise Bad(f"not understood: {shown(' '.join(words))}")
         case _:
             pass
 
@@ -195,7 +196,7 @@ def read_readings(text: str, known: Known) -> list[tuple[str, dict[str, int | No
         pairs = [word.rpartition("=") for word in words]
         for word, (wire, sign, _) in zip(words, pairs):
             if not sign or not wire:
-                raise Bad(f"{word!r} is no reading: write a=0 b=1")
+                raise Bad(f"{shown(word)!r} is no reading: write a=0 b=1")
         if why := at_odds(words, known.others):
             raise Bad(why)
         return [("", dict(known.reading(wire, bit) for wire, _, bit in pairs))]

@@ -12,7 +12,7 @@ from collections.abc import Collection, Iterable, Mapping
 from typing import Any
 
 from ..cone import Wiring
-from ..devices import FLIP_FLOP, Device, Part, read_device
+from ..devices import FLIP_FLOP, Part, read_device
 from . import layout
 
 # A design with more parts than this is first drawn with its blocks closed.

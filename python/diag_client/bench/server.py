@@ -243,7 +243,7 @@ class Handler(http.server.BaseHTTPRequestHandler):
         words = self.path.split("?")[0].split("/")
         watching = self.server.watch_token is not None and _same(words[1:2], self.server.watch_token)
         if words[0] or not (watching or _same(words[1:2], self.server.token)):
-            raise Refusal(403, "the address lacks its token: use the whole address that the program printed")
+            raise Refusal(403, "the address has no token, or that of an earlier run: use the whole address that the program printed")
         match words[2:]:
             case [name] if name in FILES:
                 return "", name, watching

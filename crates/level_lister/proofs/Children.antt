@@ -1,9 +1,9 @@
 -- What holds of a node, from what holds of the children before a place.
-use Rattle.std.proofs.Common.{◌≡◌, ◌≢◌, ℕ, zero, suc, ◌+◌, ◌-◌, ◌*◌, ◌<◌, ◌≤◌, Bool, true, false, cond, ◌&&◌, ◌||◌, List, [], ◌∷◌, ◌++◌, map, take, length, get_or, refl, ap, sym, ◌∙◌, arith, inl, inr, ⊎_elim}
-use Rattle.std.specs.Prelude.{◌⊎◌, ◌==◌}
+use Rattle.std.proofs.lemmas.Bool.Decides.{nat_tests}
+use Rattle.std.proofs.Common.{◌≡◌, ◌≢◌, ℕ, zero, suc, ◌+◌, ◌-◌, ◌*◌, ◌<◌, ◌≤◌, Bool, true, false, cond, ◌&&◌, ◌||◌, List, [], ◌∷◌, ◌++◌, map, take, length, get_or, refl, ap, sym, ◌∙◌, arith}
+use Rattle.std.specs.Prelude.{◌==◌}
 use Rattle.std.specs.List.{list_all, list_any}
 use Rattle.std.proofs.Math.Bool.{and_comm, or_comm, and-true}
-use Rattle.std.proofs.lemmas.Bool.{false_from_ne_true, and_parts, and_from, or_cases, false≢true}
 use Rattle.std.proofs.lemmas.List.{map_more, take_all}
 use Rattle.std.proofs.lemmas.List.Folds.{list_all-append}
 use Rattle.minimiser.proofs.Derivations.{any-child}
@@ -17,7 +17,7 @@ use Rattle.state_rules.specs.Graphs.{Graph, node_at, truth_by, mention_by, is_tr
 use Rattle.state_rules.proofs.NodesFit.{each_apart}
 use Rattle.state_rules.proofs.Children.{at_most_one-tail, not_both}
 use Rattle.conditioner.specs.declared.leaves.Leaf.{Leaf}
-use Rattle.conditioner.specs.declared.leaves.Leaf.TheVariants.{True, False, Open}
+use Rattle.conditioner.specs.declared.leaves.Leaf.TheVariants.{False}
 use Rattle.conditioner.specs.Evidence.{leaf_of}
 use Rattle.minimiser.specs.Costs.{known_at, part_cost}
 use Rattle.part_sets.specs.Numbers.{has_number}
@@ -38,11 +38,7 @@ all_push bs b = list_all-append (λ x. x) bs (b ∷ []) ∙ ap (λ c. list_all (
 pub apart_from : (f : ℕ → Bool) (kids : List ℕ) (j : ℕ) → at_most_one (map f kids) ≡ true → j < length kids → (list_any (λ x. x) (map f (take j kids)) && f (get_or kids j 0)) ≡ false
 apart_from f [] j e lt = absurd (omega arith)
 apart_from f (k ∷ kids) zero e lt = refl
-apart_from f (k ∷ kids) (suc j) e lt = false_from_ne_true ((f k || list_any (λ x. x) (map f (take j kids))) && f (get_or kids j 0)) (λ h.
-    let p = and_parts (f k || list_any (λ x. x) (map f (take j kids))) (f (get_or kids j 0)) h in ⊎_elim
-    (λ a. false≢true (sym (not_both (f k) (map f kids) e) ∙ and_from _ _ a (any-child f kids (get_or kids j 0) (In-at kids j 0 (omega arith)) p.1)))
-    (λ b. false≢true (sym (apart_from f kids j (at_most_one-tail (f k) (map f kids) e) (omega arith)) ∙ and_from _ _ b p.1))
-    (or_cases (f k) (list_any (λ x. x) (map f (take j kids))) p.0))
+apart_from f (k ∷ kids) (suc j) e lt = grind (arith, nat_tests, not_both (f k) (map f kids) e, any-child f kids (get_or kids j 0) (In-at kids j 0 (omega arith)), apart_from f kids j (at_most_one-tail (f k) (map f kids) e))
 
 module _ (graph : Graph) (at : ℕ) (kids : List ℕ) (ok : IsGraph graph) (inside : at < length graph.nodes) (are : kids ≡ (node_at graph.nodes at).kids) where
   -- one and those before it share no variable
@@ -105,14 +101,7 @@ module _ (graph : Graph) (at : ℕ) (kids : List ℕ) (ok : IsGraph graph) (insi
 
     pub literal_set : (evidence costs : List ℕ) (var cost : ℕ) (positive : Bool) (leaf : Leaf) (set : List ℕ) → Literal positive var ≡ (node_at graph.nodes at).what → leaf ≡ leaf_of positive (known_at evidence var) → cost ≡ part_cost costs var
         → (leaf ≡ False → (n : ℕ) → has_number set n ≡ false) → ((leaf ≡ False → ⊥) → (n : ℕ) → n < 32 * length set → has_number set n ≡ (n == cond positive 0 cost)) → IsNodeSet graph skips evidence costs at set
-    literal_set evidence costs var cost positive leaf set what is priced ruled_out allowed = literal_at (λ t m. IsCostSet evidence costs t m set) var positive what (⊎_elim
-        (λ p. false_literal_is evidence costs var positive set (sym is ∙ p) (ruled_out p))
-        (λ p. literal_is evidence costs var positive set (λ q. p (is ∙ q)) (λ n h. allowed p n h ∙ ap (λ c. n == cond positive 0 c) priced))
-        (false_or_not leaf)) where
-          false_or_not : (leaf : Leaf) → (leaf ≡ False) ⊎ (leaf ≡ False → ⊥)
-          false_or_not True = inr (λ e. cc)
-          false_or_not False = inl refl
-          false_or_not Open = inr (λ e. cc)
+    literal_set evidence costs var cost positive leaf set what is priced ruled_out allowed = literal_at (λ t m. IsCostSet evidence costs t m set) var positive what grind (arith, false_literal_is evidence costs var positive set, literal_is evidence costs var positive set)
 
 -- a node that is skipped
 pub skipped_set : (graph : Graph) (skips evidence costs : List ℕ) (at : ℕ) (set : List ℕ) → IsGraph graph → at < length graph.nodes → get_or skips at 0 ≢ 0 → ((n : ℕ) → has_number set n ≡ false) → IsNodeSet graph skips evidence costs at set

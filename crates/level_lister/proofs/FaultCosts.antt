@@ -1,7 +1,8 @@
 -- Sets of the costs at which a part of a group is faulty.
-use Rattle.std.proofs.Common.{◌≡◌, ℕ, ◌+◌, ◌-◌, ◌*◌, ◌<◌, ◌≤◌, Bool, true, false, not, ◌&&◌, ◌||◌, List, length, get_or, refl, ap, sym, ◌∙◌, inl, inr, ⊎_elim}
+use Rattle.std.proofs.lemmas.Bool.Decides.{nat_tests}
+use Rattle.std.proofs.Common.{◌≡◌, ℕ, ◌+◌, ◌-◌, ◌*◌, ◌<◌, ◌≤◌, Bool, true, false, not, ◌&&◌, ◌||◌, List, length, get_or, refl, ap, sym, ◌∙◌, arith}
 use Rattle.std.specs.Prelude.{◌⊎◌, ◌==◌}
-use Rattle.std.proofs.lemmas.Bool.{or_cases, or_left, or_right, eqb-true, eq-eqb, false≢true}
+use Rattle.std.proofs.lemmas.Bool.{or_cases, or_left, eqb-true}
 use Rattle.state_rules.specs.Assignments.{Assignment}
 use Rattle.state_rules.specs.Bits.{same_bit}
 use Rattle.state_rules.specs.Cases.{agrees_at}
@@ -74,10 +75,7 @@ module _ (evidence costs : List ℕ) (group : ℕ → Bool) where
       faulty = row-cost g (32 * length mid) (has_number mid) _ _ _ _ (λ a f h. (h.0, wider_fault a h.1)) (λ a f h. (h.0, back a h.1)) (λ v l h. refl) wider_faults;
     } where
       back : (a : Assignment) → HasFault group (λ v. some v || (p + 1 == v)) a → HasFault group some a
-      back a f = ⊎_elim
-          (λ q. moved f q refl)
-          (λ q. absurd (false≢true (sym none ∙ ap group (eqb-true (p + 1) f.var q) ∙ f.of_group)))
-          (or_cases (some f.var) (p + 1 == f.var) f.among)
+      back a f = grind (arith, nat_tests, eqb-true, or_cases)
 
     -- and if it is, and open
     pub free_marked : (new_faults : List ℕ) → group (p + 1) ≡ true → get_or evidence p 0 ≡ 0 → length set ≡ length new_faults → length mid ≡ length new_faults
@@ -89,14 +87,10 @@ module _ (evidence costs : List ℕ) (group : ℕ → Bool) where
           (of_faulty evidence costs some (λ a. t a ≡ true) p out (λ a b h e. is.all.local a b h ∙ e) (IsFault group some t) set mid new_faults free l m added is.all.row wider_faults);
     } where
       to : (a : Assignment) → ((t a ≡ true) × HasFault group some a) ⊎ ((t a ≡ true) × (a (p + 1) ≡ false)) → (t a ≡ true) × HasFault group (λ v. some v || (p + 1 == v)) a
-      to a (inl h) = (h.0, wider_fault a h.1)
-      to a (inr h) = (h.0, record { var = p + 1; among = or_right _ _ (eq-eqb (p + 1) (p + 1) refl); of_group = marked; faulty = h.1 })
+      to a s = grind (arith, nat_tests)
 
       from : (a : Assignment) → (t a ≡ true) × HasFault group (λ v. some v || (p + 1 == v)) a → ((t a ≡ true) × HasFault group some a) ⊎ ((t a ≡ true) × (a (p + 1) ≡ false))
-      from a h = ⊎_elim
-          (λ q. inl (h.0, moved h.1 q refl))
-          (λ q. inr (h.0, ap a (eqb-true (p + 1) h.1.var q) ∙ h.1.faulty))
-          (or_cases (some h.1.var) (p + 1 == h.1.var) h.1.among)
+      from a h = grind (arith, nat_tests, eqb-true, or_cases)
 
   -- ---- a literal
 

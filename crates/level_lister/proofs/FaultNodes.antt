@@ -1,8 +1,9 @@
 -- The sets of the costs with a fault, from those of the children.
-use Rattle.std.proofs.Common.{◌≡◌, ◌≢◌, ℕ, suc, ◌+◌, ◌-◌, ◌*◌, ◌/◌, ◌<◌, ◌≤◌, Bool, true, false, List, [], ◌∷◌, map, length, get_or, All, refl, ap, sym, ◌∙◌, subst, arith, inl, inr, ⊎_elim}
+use Rattle.std.proofs.lemmas.Bool.Decides.{nat_tests}
+use Rattle.std.proofs.Common.{◌≡◌, ◌≢◌, ℕ, suc, ◌+◌, ◌-◌, ◌*◌, ◌<◌, ◌≤◌, Bool, true, false, List, [], ◌∷◌, map, length, get_or, All, refl, ap, sym, ◌∙◌, subst, arith, inl, inr}
 use Rattle.std.specs.Prelude.{◌==◌, nat_lt}
 use Rattle.std.specs.List.{list_all, list_any}
-use Rattle.std.proofs.lemmas.Bool.{cases_lt, lt-ltb, le-ltb, false≢true}
+use Rattle.std.proofs.lemmas.Bool.{false≢true}
 use Rattle.std.proofs.lemmas.Nat.{div_below}
 use Rattle.std.proofs.Math.Nat.{lt-div-mul-add}
 use Rattle.state_rules.specs.Assignments.{Assignment}
@@ -25,32 +26,14 @@ use Rattle.level_lister.proofs.LivingNodes.{living-is, skipped-is}
 use Rattle.level_lister.proofs.TestCosts.{zero_is}
 use Rattle.scratch_pool.proofs.Counted.{block-below}
 use Rattle.scratch_pool.proofs.Written.{length-words_at}
-use Rattle.level_lister.proofs.PairNodes.{grouped, in_group, not_grouped, on_parts}
+use Rattle.level_lister.proofs.PairNodes.{grouped, on_parts}
 use Rattle.node_costs.proofs.Sets.{row-none}
 
 -- ---- the first group
 
 pub first_is : (evidence : List ℕ) (parts : ℕ) (groups : Groups) (part : ℕ) → 0 < groups.size → part < parts → groups.low ≤ part → get_or evidence part 0 ≡ 0
     → nat_lt (part - groups.low) groups.size ≡ group_in evidence parts groups 0 (part + 1)
-first_is evidence parts groups part some within low open_ = ⊎_elim
-    (λ (lt : part - groups.low < groups.size). lt-ltb (part - groups.low) groups.size lt ∙ sym (in_group evidence parts groups 0 (part + 1) (record {
-      low = omega arith;
-      high = omega arith;
-      open_ = ap (λ k. get_or evidence k 0) back ∙ open_;
-      group = ap (λ k. (k - groups.low) / groups.size) back ∙ none lt;
-    })))
-    (λ (le : groups.size ≤ part - groups.low). le-ltb (part - groups.low) groups.size le ∙ sym (not_grouped evidence parts groups 0 (part + 1) (λ r. far le (sym (ap (λ k. (k - groups.low) / groups.size) back) ∙ r.group))))
-    (cases_lt (part - groups.low) groups.size) where
-      back : part + 1 - 1 ≡ part
-      back = omega arith
-
-      none : part - groups.low < groups.size → (part - groups.low) / groups.size ≡ 0
-      none lt = let b = div_below (part - groups.low) groups.size 1 some (omega arith) in omega (arith, b)
-
-      far : groups.size ≤ part - groups.low → (part - groups.low) / groups.size ≡ 0 → ⊥
-      far le e =
-          let b : part - groups.low < 0 * groups.size + groups.size = subst (λ m. part - groups.low < m * groups.size + groups.size) e (lt-div-mul-add {a = part - groups.low} {b = groups.size} some) in
-          absurd (omega (arith, b))
+first_is evidence parts groups part some within low open_ = grind (arith, nat_tests, div_below (part - groups.low) groups.size 1, lt-div-mul-add {a = part - groups.low} {b = groups.size})
 
 -- a part of it is open
 pub first_open : (evidence costs : List ℕ) (groups : Groups) (part : ℕ) → in_first evidence costs groups (part + 1) ≡ true → get_or evidence part 0 ≡ 0

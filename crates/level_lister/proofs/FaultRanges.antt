@@ -1,7 +1,7 @@
 -- The range in which the first fault is, as one pass after the other makes it smaller.
-use Rattle.std.proofs.Common.{◌≡◌, ℕ, zero, suc, ◌+◌, ◌-◌, ◌*◌, ◌/◌, ◌^◌, ◌<◌, ◌≤◌, List, length, refl, sym, ◌∙◌, arith, inl, inr, ⊎_elim}
+use Rattle.std.proofs.Common.{ℕ, zero, suc, ◌+◌, ◌-◌, ◌*◌, ◌/◌, ◌^◌, ◌<◌, ◌≤◌, List, length, refl, arith, inl, inr, ⊎_elim}
 use Rattle.std.specs.Prelude.{◌⊎◌}
-use Rattle.std.proofs.lemmas.Bool.{cases_lt, false≢true, true_from_ne_false}
+use Rattle.std.proofs.lemmas.Bool.{cases_lt, true_from_ne_false}
 use Rattle.std.proofs.lemmas.Nat.{div_below}
 use Rattle.std.proofs.Math.Nat.{lt-div-mul-add, div-mul-le_self, pow-zero, pow-suc}
 use Rattle.state_rules.specs.Bits.{bit_in}
@@ -60,11 +60,7 @@ module _ (graph : Graph) (evidence costs : List ℕ) (c from : ℕ) where
       reach p = grind arith
 
       at_end : count ≤ g → FaultWithin low span ⊎ (length costs < low + span) → FaultWithin (low + g * ((span + count) / (count + 1))) ((span + count) / (count + 1)) ⊎ (length costs < low + g * ((span + count) / (count + 1)) + (span + count) / (count + 1))
-      at_end p (inr q) = inr (omega (arith, reach p, q))
-      at_end p (inl f) = ⊎_elim
-          (λ (q : f.part < low + g * ((span + count) / (count + 1))). absurd (false≢true (sym f.fault.faulty ∙ before f.part (omega (arith, is.le, f.from_)) q f.fault.within f.fault.open_ f.fault.state f.fault.is)))
-          (λ (q : low + g * ((span + count) / (count + 1)) ≤ f.part). inl (record { part = f.part; from_ = q; to = omega (arith, reach p, f.to); fault = f.fault }))
-          (cases_lt f.part (low + g * ((span + count) / (count + 1))))
+      at_end p s = grind (arith, before, reach, is.le)
 
 -- so many passes are left for a range
 pub record PassesLeft (count span steps most : ℕ) : Type 0 where
@@ -74,11 +70,8 @@ pub record PassesLeft (count span steps most : ℕ) : Type 0 where
 
 pub left_next : (count span steps most : ℕ) → 1 < span → PassesLeft count span steps most → PassesLeft count ((span + count) / (count + 1)) (steps + 1) most
 left_next count span steps most more left = by_rest left.rest left.fits left.few where
-  twice : (x : ℕ) → (x + 1) * (count + 1) ≡ x * (count + 1) + (count + 1)
-  twice x = grind arith
-
   by_rest : (rest : ℕ) → span ≤ (count + 1) ^ rest → steps + rest ≤ most → PassesLeft count ((span + count) / (count + 1)) (steps + 1) most
-  by_rest zero fits few = let one : (count + 1) ^ 0 ≡ 1 = pow-zero (count + 1) in absurd (omega (arith, fits, more, one))
+  by_rest zero fits few = grind (arith, pow-zero (count + 1))
   by_rest (suc r) fits few = grind (arith, div_below (span + count) (count + 1) ((count + 1) ^ r + 1), pow-suc (count + 1) r)
 
 -- numbers of the range stay small

@@ -1,5 +1,5 @@
 -- The states in which an open part of a group is faulty, and the assignments that are after them.
-use Rattle.std.proofs.Common.{◌≡◌, ℕ, ◌+◌, ◌-◌, ◌*◌, ◌/◌, ◌<◌, ◌≤◌, true, List, length, get_or, refl, ap, sym, ◌∙◌, arith}
+use Rattle.std.proofs.Common.{◌≡◌, ℕ, ◌+◌, ◌-◌, ◌*◌, ◌<◌, ◌≤◌, true, List, length, refl, ap, sym, ◌∙◌, arith}
 use Rattle.state_rules.specs.Graphs.{Graph, IsGraph, is_true}
 use Rattle.node_costs.specs.Costs.{CostOf}
 use Rattle.part_sets.proofs.SetBits.{has-within}
@@ -12,7 +12,7 @@ use Rattle.level_lister.specs.inner.FaultSets.{IsWholeFaults}
 use Rattle.level_lister.specs.inner.Skips.{IsEnough}
 use Rattle.level_lister.proofs.LivingNodes.{living-true}
 use Rattle.level_lister.proofs.RootCosts.{cost_among-all}
-use Rattle.level_lister.proofs.PairNodes.{IsGrouped, grouped, in_group}
+use Rattle.level_lister.proofs.PairNodes.{grouped, in_group}
 
 module _ (graph : Graph) (evidence costs : List ℕ) (groups : Groups) (ok : IsGraph graph) (long : length evidence ≡ graph.vars) (within : length costs ≤ graph.vars) where
   -- the last node is true, and a part of a group faulty
@@ -41,18 +41,11 @@ module _ (graph : Graph) (evidence costs : List ℕ) (groups : Groups) (ok : IsG
   state_fault g c f =
       let h = f.state in
       let a = assignment_of graph evidence costs ok long within h f.is.long f.is.model in
-      let back : f.part + 1 - 1 ≡ f.part = omega arith in
       let place : 1 + f.part ≡ f.part + 1 = omega arith in
-      let is : IsGrouped evidence (length costs) groups g (f.part + 1) = record {
-        low = omega (arith, f.low);
-        high = omega (arith, f.within);
-        open_ = ap (λ k. get_or evidence k 0) back ∙ f.open_;
-        group = ap (λ k. (k - groups.low) / groups.size) back ∙ f.group;
-      } in
       let fault : HasFault (group_in evidence (length costs) groups g) (λ v. true) a.by = record {
         var = f.part + 1;
         among = refl;
-        of_group = in_group evidence (length costs) groups g (f.part + 1) is;
+        of_group = in_group evidence (length costs) groups g (f.part + 1) (grind arith);
         faulty = ap a.by (sym place) ∙ sym (a.bits f.part f.within) ∙ f.faulty;
       } in
       record { by = a.by; agrees = a.agrees; meets = (a.holds, fault); cost_is = sym (cost_among-all evidence a.by costs h f.is.long a.bits) ∙ f.is.cost_is }

@@ -22,3 +22,4 @@ pub mod FaultCosts
 pub mod FaultNodes
 pub mod Skips
 pub mod ByParts
+pub mod Rules

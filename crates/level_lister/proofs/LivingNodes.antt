@@ -1,7 +1,8 @@
 -- What is left of a graph without the nodes that are skipped.
-use Rattle.std.proofs.Common.{◌≡◌, ◌≢◌, ℕ, zero, suc, ◌<◌, Bool, true, false, cond, List, [], ◌∷◌, map, length, get_or, refl, ap, sym, ◌∙◌, subst, arith, ⊎_elim}
+use Rattle.std.proofs.lemmas.Bool.Decides.{nat_tests}
+use Rattle.std.proofs.Common.{◌≡◌, ◌≢◌, ℕ, zero, suc, ◌<◌, Bool, true, false, cond, List, [], ◌∷◌, map, length, get_or, refl, ap, sym, ◌∙◌, subst, arith}
 use Rattle.std.specs.List.{list_all, list_any}
-use Rattle.std.proofs.lemmas.Bool.{ne_eqb, eq-eqb, and_parts, and_from, or_cases, or_left, or_right, false≢true, cases_eq}
+use Rattle.std.proofs.lemmas.Bool.{ne_eqb, eq-eqb, false≢true}
 use Rattle.state_rules.specs.Assignments.{Assignment}
 use Rattle.state_rules.specs.declared.nodes.NodeKind.{NodeKind}
 use Rattle.state_rules.specs.declared.nodes.NodeKind.TheVariants.{Literal, And, Or}
@@ -31,16 +32,11 @@ skipped-at (node ∷ nodes) (skip ∷ skips) (suc k) h ne = skipped-at nodes ski
 -- a node is true if it was, if its children are
 all_more : (f g : ℕ → Bool) (kids : List ℕ) → ((j : ℕ) → j < length kids → f (get_or kids j 0) ≡ true → g (get_or kids j 0) ≡ true) → list_all (λ b. b) (map f kids) ≡ true → list_all (λ b. b) (map g kids) ≡ true
 all_more f g [] more h = refl
-all_more f g (k ∷ kids) more h =
-    let both = and_parts (f k) (list_all (λ b. b) (map f kids)) h in
-    and_from _ _ (more zero (omega arith) both.0) (all_more f g kids (λ j lt. more (suc j) (omega arith)) both.1)
+all_more f g (k ∷ kids) more h = grind (arith, nat_tests, more zero, all_more f g kids (λ j lt. more (suc j) (omega arith)))
 
 any_more : (f g : ℕ → Bool) (kids : List ℕ) → ((j : ℕ) → j < length kids → f (get_or kids j 0) ≡ true → g (get_or kids j 0) ≡ true) → list_any (λ b. b) (map f kids) ≡ true → list_any (λ b. b) (map g kids) ≡ true
 any_more f g [] more h = absurd (false≢true h)
-any_more f g (k ∷ kids) more h = ⊎_elim
-    (λ p. or_left _ _ (more zero (omega arith) p))
-    (λ p. or_right _ _ (any_more f g kids (λ j lt. more (suc j) (omega arith)) p))
-    (or_cases (f k) (list_any (λ b. b) (map f kids)) h)
+any_more f g (k ∷ kids) more h = grind (arith, more zero, any_more f g kids (λ j lt. more (suc j) (omega arith)))
 
 pub truth_more : (a : Assignment) (what : NodeKind) (f g : ℕ → Bool) (kids : List ℕ) → ((j : ℕ) → j < length kids → f (get_or kids j 0) ≡ true → g (get_or kids j 0) ≡ true)
     → truth_by a what (map f kids) ≡ true → truth_by a what (map g kids) ≡ true
@@ -77,12 +73,7 @@ module _ (graph : Graph) (skips : List ℕ) (ok : IsGraph graph) where
   -- what is left is true only if the graph is
   sound : (fuel k : ℕ) → k < fuel → k < length graph.nodes → (a : Assignment) → is_true (living graph.nodes skips) k a ≡ true → is_true graph.nodes k a ≡ true
   sound zero k h inside a e = absurd (omega arith)
-  sound (suc fuel) k h inside a e = ⊎_elim
-      (λ (q : get_or skips k 0 ≡ 0). graph-is k inside a ∙ truth_more a (node_at graph.nodes k).what (λ j. is_true (living graph.nodes skips) j a) (λ j. is_true graph.nodes j a) (node_at graph.nodes k).kids
-      (λ j lt. let low = child-below graph k (node_at graph.nodes k).kids ok inside refl j lt in sound fuel (get_or (node_at graph.nodes k).kids j 0) (omega arith) (omega arith) a)
-      (sym (living-is k inside q a) ∙ e))
-      (λ (ne : get_or skips k 0 ≢ 0). absurd (false≢true (sym (skipped-is k inside ne a) ∙ e)))
-      (cases_eq (get_or skips k 0) 0)
+  sound (suc fuel) k h inside a e = grind (arith, graph-is, living-is, truth_more, child-below, skipped-is, sound fuel)
 
   pub living-true : (k : ℕ) → k < length graph.nodes → (a : Assignment) → is_true (living graph.nodes skips) k a ≡ true → is_true graph.nodes k a ≡ true
   living-true k inside a e = sound (suc k) k (omega arith) inside a e

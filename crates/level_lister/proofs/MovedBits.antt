@@ -1,5 +1,5 @@
 -- The bits of one word, moved by those of another.
-use Rattle.std.proofs.Common.{◌≡◌, ℕ, ◌+◌, ◌-◌, ◌*◌, ◌/◌, ◌%◌, ◌^◌, ◌<◌, ◌≤◌, true, false, ap, sym, ◌∙◌, arith, inl, inr, ⊎_elim, bit_or}
+use Rattle.std.proofs.Common.{◌≡◌, ℕ, ◌+◌, ◌-◌, ◌*◌, ◌/◌, ◌%◌, ◌^◌, ◌<◌, ◌≤◌, true, false, ap, sym, ◌∙◌, arith, ⊎_elim, bit_or}
 use Rattle.std.specs.Prelude.{◌⊎◌, ◌==◌}
 use Rattle.std.specs.Int.{bit_at}
 use Rattle.std.proofs.lemmas.Nat.{pow_pos}
@@ -32,32 +32,17 @@ moved_low x k b lt h =
 
 module _ (left right step : ℕ) where
   pub spread_none : IsSpread left right step 0 0
-  spread_none = record {
-    sound = λ m e. absurd (false≢true (sym (has_bit-zero m) ∙ e));
-    whole = λ m j e lt f h. absurd (omega arith);
-  }
+  spread_none = grind (arith, has_bit-zero)
 
   wider : (count m : ℕ) → SpreadOf left right step count m → SpreadOf left right step (count + 1) m
-  wider count m s = record { first = s.first; times = s.times; on_left = s.on_left; few = omega (arith, s.few); on_right = s.on_right; sum_is = s.sum_is }
+  wider count m s = grind arith
 
   pub spread_skip : (count set : ℕ) → has_bit right count ≡ false → IsSpread left right step count set → IsSpread left right step (count + 1) set
-  spread_skip count set none is = record {
-    sound = λ m e. wider count m (is.sound m e);
-    whole = λ m j e lt f h. ⊎_elim
-        (λ (p : j < count). is.whole m j e p f h)
-        (λ (p : count ≤ j). let same : j ≡ count = omega arith in absurd (false≢true (sym none ∙ ap (has_bit right) (sym same) ∙ f)))
-        (cases_lt j count);
-  }
+  spread_skip count set none is = grind (arith, wider)
 
   -- no bit is left from one on
   pub spread_end : (count times set : ℕ) → times ≤ count → right / 2 ^ times ≡ 0 → IsSpread left right step times set → IsSpread left right step count set
-  spread_end count times set le none is = record {
-    sound = λ m e. let s = is.sound m e in record { first = s.first; times = s.times; on_left = s.on_left; few = omega (arith, s.few, le); on_right = s.on_right; sum_is = s.sum_is };
-    whole = λ m j e lt f h. ⊎_elim
-        (λ (p : j < times). is.whole m j e p f h)
-        (λ (p : times ≤ j). absurd (false≢true (sym (no_high right times j none p) ∙ f)))
-        (cases_lt j times);
-  }
+  spread_end count times set le none is = grind (arith, no_high)
 
   pub spread_more : (count set : ℕ) → has_bit right count ≡ true → IsSpread left right step count set
       → IsSpread left right step (count + 1) (bit_or set (left * 2 ^ (step * count) % 4294967296))
@@ -75,18 +60,7 @@ module _ (left right step : ℕ) where
     small m e = bit-within (left * 2 ^ (step * count) % 4294967296) m (omega arith) e
 
     by_place : (m : ℕ) → has_bit (left * 2 ^ (step * count) % 4294967296) m ≡ true → (m < step * count) ⊎ (step * count ≤ m) → SpreadOf left right step (count + 1) m
-    by_place m p (inl lt) = absurd (false≢true (sym (ap (λ b. b == 1) (moved_low left (step * count) m lt (small m p))) ∙ p))
-    by_place m p (inr le) = record {
-      first = m - step * count;
-      times = count;
-      on_left = sym (ap (λ b. b == 1) (moved_high left (step * count) m le (small m p))) ∙ p;
-      few = omega arith;
-      on_right = some;
-      sum_is = omega arith;
-    }
+    by_place m p s = grind (arith, moved_low left (step * count) m, moved_high left (step * count) m, small m p)
 
     at_end : (m j : ℕ) → j ≡ count → has_bit left m ≡ true → m + step * j < 32 → has_bit (left * 2 ^ (step * count) % 4294967296) (m + step * j) ≡ true
-    at_end m j same e h =
-        let k : step * j ≡ step * count = ap (λ n. step * n) same in
-        let back : m + step * j - step * count ≡ m = omega arith in
-        ap (λ b. b == 1) (moved_high left (step * count) (m + step * j) (omega arith) h) ∙ ap (has_bit left) back ∙ e
+    at_end m j same e h = grind (arith, moved_high left (step * count) (m + step * j))

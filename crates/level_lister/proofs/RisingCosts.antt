@@ -1,9 +1,9 @@
 -- The states listed by rising cost, and what comes after a point.
-use Rattle.std.proofs.Common.{◌≡◌, ◌≢◌, ℕ, zero, suc, ◌+◌, ◌<◌, ◌≤◌, Bool, true, List, [], ◌∷◌, ◌++◌, length, get_or, Option, Some, None, refl, ap, sym, ◌∙◌, subst, arith, inl, inr, ⊎_elim}
+use Rattle.std.proofs.Common.{◌≡◌, ℕ, zero, suc, ◌+◌, ◌<◌, ◌≤◌, Bool, true, List, [], ◌∷◌, ◌++◌, length, get_or, Option, Some, None, refl, ap, sym, ◌∙◌, subst, arith, inl, inr, ⊎_elim}
 use Rattle.std.proofs.lemmas.Bool.Decides.{nat_tests}
 use Rattle.std.specs.Prelude.{◌⊎◌, ◌==◌}
 use Rattle.std.specs.List.{filter, flat_map, range_with_len}
-use Rattle.std.proofs.lemmas.Bool.{eq-eqb, eqb-true, cases_eq}
+use Rattle.std.proofs.lemmas.Bool.{eqb-true}
 use Rattle.state_rules.specs.Bits.{lists_of_bits}
 use Rattle.state_rules.specs.Ranking.{cost, states}
 use Rattle.state_rules.specs.Graphs.{Graph}
@@ -52,10 +52,7 @@ module _ (costs : List ℕ) where
 
   pub some_levels-has : (hs : List (List Bool)) (from n : ℕ) (h : List Bool) → In h hs → from ≤ cost costs h → cost costs h < from + n → In h (some_levels hs from n)
   some_levels-has hs from zero h m low high = absurd (omega arith)
-  some_levels-has hs from (suc n) h m low high = ⊎_elim
-      (λ e. In-append_left h (of_cost costs hs from) (some_levels hs (from + 1) n) (In-filtered (λ h. cost costs h == from) h hs m (eq-eqb (cost costs h) from e)))
-      (λ (ne : cost costs h ≢ from). In-append_right h (of_cost costs hs from) (some_levels hs (from + 1) n) (some_levels-has hs (from + 1) n h m (omega arith) (omega arith)))
-      (cases_eq (cost costs h) from)
+  some_levels-has hs from (suc n) h m low high = grind (arith, nat_tests, In-append_left, In-filtered, In-append_right h (of_cost costs hs from) (some_levels hs (from + 1) n), some_levels-has hs (from + 1) n h)
 
   Rising-levels : (hs : List (List Bool)) (from n : ℕ) → Sorted hs → Rising (some_levels hs from n)
   Rising-levels hs from zero s = tt
@@ -87,10 +84,7 @@ module _ (costs : List ℕ) where
     listed-in h l = some_levels-has ms 0 (top + 1) h (model-in h l.long l.model) (omega arith) (omega (arith, l.high))
 
     in-listed : (h : List Bool) → In h (levels costs top ms) → IsListed graph evidence costs 0 top h
-    in-listed h m =
-        let r = some_levels-in ms 0 (top + 1) h m in
-        let s = In-filter (has_model graph (fits_evidence evidence) (length costs)) h (states (length costs)) r.0 in
-        record { long = bits_length (length costs) h s.0; model = s.1; low = omega arith; high = omega (arith, r.1.1) }
+    in-listed h m = grind (arith, some_levels-in ms 0 (top + 1) h m, In-filter, bits_length)
 
     next-in : (h : List Bool) → Next h → In h later
     next-in h n = grind (arith, nat_tests, listed-in, In-filtered)

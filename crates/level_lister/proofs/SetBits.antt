@@ -1,12 +1,12 @@
 -- Bits of words, and words whose numbers are greater.
-use Rattle.std.proofs.Common.{◌≡◌, ℕ, zero, suc, ◌+◌, ◌-◌, ◌*◌, ◌/◌, ◌%◌, ◌^◌, ◌<◌, ◌≤◌, false, ◌&&◌, List, length, get_or, set, refl, ap, sym, ◌∙◌, subst, arith, ⊎_elim, bit_and, bit_or}
-use Rattle.std.specs.Prelude.{◌==◌, nat_le}
+use Rattle.std.proofs.Common.{◌≡◌, ℕ, ◌+◌, ◌-◌, ◌*◌, ◌/◌, ◌%◌, ◌^◌, ◌<◌, ◌≤◌, false, ◌&&◌, List, length, get_or, set, ap, sym, ◌∙◌, subst, arith, ⊎_elim, bit_and, bit_or}
+use Rattle.std.specs.Prelude.{◌==◌}
 use Rattle.std.specs.Int.{bit_at}
 use Rattle.std.proofs.lemmas.Nat.{pow_pos, or_shifted, shl_whole, shr-shr}
 use Rattle.std.proofs.lemmas.Nat.Bits.{bit_at-zero, bit_at_and, bit_at_ones, bit_at-lt, bit_at_cat_low, bit_at_cat_high, bit_at_above}
 use Rattle.std.proofs.Math.Nat.{lt-div-mul-add}
 use Rattle.std.proofs.Math.ListN.{length-set}
-use Rattle.std.proofs.lemmas.Bool.{cases_eq, cases_lt, le-leb, lt-leb}
+use Rattle.std.proofs.lemmas.Bool.{cases_lt, le-leb, lt-leb}
 use Rattle.std.proofs.lemmas.List.{get_or-set_same, get_or-set_other}
 use Rattle.part_sets.specs.Numbers.{has_number}
 use Rattle.level_lister.specs.inner.CostSets.{has_shifted, word_before}
@@ -61,8 +61,7 @@ shifted_is xs i more at low word place is below above n e = ⊎_elim
     (λ (le : more % 32 ≤ n % 32). ap (λ b. b == 1) (above (n % 32) le (omega arith)) ∙ sym (shifted_to xs more n at (n % 32 - more % 32) (omega arith) (omega arith) (omega arith)))
     (cases_lt (n % 32) (more % 32)) where
       by_place : (at : ℕ) → at + more / 32 ≡ i → low ≡ word_before xs at → n % 32 < more % 32 → (bit_at low (32 - more % 32 + n % 32) == 1) ≡ has_shifted xs more n
-      by_place zero place is lt = ap (λ w. bit_at w (32 - more % 32 + n % 32) == 1) is ∙ ap (λ b. b == 1) (bit_at-zero (32 - more % 32 + n % 32)) ∙ sym (never_shifted xs more n (omega arith))
-      by_place (suc k) place is lt = ap (λ w. bit_at w (32 - more % 32 + n % 32) == 1) is ∙ sym (shifted_to xs more n k (32 - more % 32 + n % 32) (omega arith) (omega arith) (omega arith))
+      by_place at place is lt = grind (arith, bit_at-zero, never_shifted, shifted_to)
 
 -- ---- words from the last one back
 
@@ -72,22 +71,8 @@ pub record AreMoved (old : List ℕ) (more i : ℕ) (new : List ℕ) : Type 0 wh
   pub moved : (n : ℕ) → i ≤ n / 32 → n < 32 * length new → has_number new n ≡ has_shifted old more n
 
 pub moved_none : (old : List ℕ) (more i : ℕ) → length old ≤ i → AreMoved old more i old
-moved_none old more i all = record { before = λ k h. refl; moved = λ n h lt. absurd (omega arith) }
+moved_none old more i all = grind arith
 
 pub moved_more : (old xs : List ℕ) (more i word : ℕ) → i < length xs → AreMoved old more (i + 1) xs → ((n : ℕ) → n / 32 ≡ i → (bit_at word (n % 32) == 1) ≡ has_shifted xs more n)
     → AreMoved old more i (set xs i word)
-moved_more old xs more i word h are is = record {
-  before = λ k lt. get_or-set_other xs i k word 0 (λ q. absurd (omega arith)) ∙ are.before k (omega arith);
-  moved = λ n from lt. ⊎_elim (λ e. here n e) (λ ne. there n ne from lt) (cases_eq (n / 32) i);
-} where
-  here : (n : ℕ) → n / 32 ≡ i → has_number (set xs i word) n ≡ has_shifted old more n
-  here n e =
-      ap (λ w. bit_at w (n % 32) == 1) (ap (λ k. get_or (set xs i word) k 0) e ∙ get_or-set_same xs i word 0 h) ∙ is n e
-      ∙ ap (λ b. nat_le more n && b) (ap (λ w. bit_at w ((n - more) % 32) == 1) (are.before ((n - more) / 32) (omega arith)))
-
-  there : (n : ℕ) → (n / 32 ≡ i → ⊥) → i ≤ n / 32 → n < 32 * length (set xs i word) → has_number (set xs i word) n ≡ has_shifted old more n
-  there n ne from lt =
-      ap (λ w. bit_at w (n % 32) == 1) (get_or-set_other xs i (n / 32) word 0 ne)
-      ∙ are.moved n (above (n / 32) from ne) (omega (arith, length-set xs i word)) where
-        above : (k : ℕ) → i ≤ k → (k ≡ i → ⊥) → i + 1 ≤ k
-        above k p q = grind arith
+moved_more old xs more i word h are is = grind (arith, get_or-set_other, get_or-set_same, are.moved, are.before, is, length-set)

@@ -1,6 +1,6 @@
 -- The nodes that are skipped are in no derivation that costs little.
-use Rattle.std.proofs.Common.{◌≡◌, ◌≢◌, ℕ, zero, suc, ◌+◌, ◌-◌, ◌<◌, ◌≤◌, true, cond, List, length, get_or, refl, ◌∙◌, arith, ⊎_elim}
-use Rattle.std.proofs.lemmas.Bool.{cases_lt, le-ltb, cases_eq}
+use Rattle.std.proofs.Common.{◌≡◌, ◌≢◌, ℕ, zero, suc, ◌+◌, ◌-◌, ◌<◌, ◌≤◌, true, cond, List, length, get_or, refl, arith, ⊎_elim}
+use Rattle.std.proofs.lemmas.Bool.{cases_lt, le-ltb}
 use Rattle.state_rules.specs.Assignments.{Assignment}
 use Rattle.state_rules.proofs.Members.{In-at}
 use Rattle.state_rules.specs.Graphs.{Graph, node_at, is_true, mentions, IsGraph}
@@ -36,10 +36,7 @@ module _ (graph : Graph) (evidence costs : List ℕ) (ok : IsGraph graph) (least
     -- a node is left through which the derivation costs no more
     lives : (fuel k : ℕ) → k < fuel → k < length graph.nodes → is_true graph.nodes k a ≡ true → through k ≤ top → is_true (living graph.nodes skips) k a ≡ true
     lives zero k h inside e le = absurd (omega arith)
-    lives (suc fuel) k h inside e le = ⊎_elim
-        grind (arith, living-is, truth_more, child-below, child-through, graph-is, lives fuel)
-        (λ (ne : get_or skips k 0 ≢ 0). absurd (omega (arith, le, skipped-dear top (get_or least k 0) (get_or outside k 0) (λ q. ne (marks k inside ∙ q)), (has_least graph evidence costs least are_least ok a agrees k inside e).low)))
-        (cases_eq (get_or skips k 0) 0)
+    lives (suc fuel) k h inside e le = grind (arith, living-is, truth_more, child-below, child-through, graph-is, lives fuel, marks, skipped-dear, has_least graph evidence costs least are_least ok a agrees k inside e)
 
   pub enough : length evidence ≡ graph.vars → length costs ≤ graph.vars → IsEnough graph skips evidence costs top
   enough long within = record {

@@ -1,5 +1,6 @@
 -- When a set is that of the costs of a test: one that is never true, one that always is, a literal, the same test, one of more variables.
-use Rattle.std.proofs.Common.{◌≡◌, ℕ, zero, suc, ◌-◌, ◌*◌, ◌<◌, ◌≤◌, Bool, true, false, cond, List, length, get_or, Option, Some, None, refl, ap, sym, ◌∙◌, arith}
+use Rattle.std.proofs.lemmas.Bool.Decides.{nat_tests}
+use Rattle.std.proofs.Common.{◌≡◌, ℕ, zero, suc, ◌-◌, ◌*◌, ◌<◌, ◌≤◌, Bool, true, false, cond, List, length, get_or, Option, refl, ap, sym, ◌∙◌, arith}
 use Rattle.std.specs.Prelude.{◌==◌}
 use Rattle.std.proofs.lemmas.Bool.{eq-eqb, false≢true}
 use Rattle.state_rules.specs.Bits.{same_bit}
@@ -19,18 +20,10 @@ use Rattle.level_lister.proofs.PartVariables.{Wider}
 
 -- a literal that its word does not rule out, and one that it does
 pub allowed_by : (k : Option Bool) (positive : Bool) → (leaf_of positive k ≡ False → ⊥) → agrees_at k positive ≡ true
-allowed_by None positive h = refl
-allowed_by (Some true) true h = refl
-allowed_by (Some true) false h = absurd (h refl)
-allowed_by (Some false) true h = absurd (h refl)
-allowed_by (Some false) false h = refl
+allowed_by k positive h = grind (arith, nat_tests)
 
 ruled_out : (k : Option Bool) (positive : Bool) → leaf_of positive k ≡ False → agrees_at k positive ≡ true → ⊥
-ruled_out None positive e f = absurd (cc)
-ruled_out (Some true) true e f = absurd (cc)
-ruled_out (Some true) false e f = absurd (cc)
-ruled_out (Some false) true e f = absurd (cc)
-ruled_out (Some false) false e f = absurd (cc)
+ruled_out k positive e f = grind (arith, nat_tests)
 
 pub part_cost-at : (costs : List ℕ) (var : ℕ) → 1 ≤ var → get_or costs (var - 1) 0 ≡ part_cost costs var
 part_cost-at costs zero h = absurd (omega arith)

@@ -1,5 +1,5 @@
 -- What two words tell, from what they say of children.
-use Rattle.std.proofs.Common.{◌≡◌, ℕ, zero, suc, ◌+◌, ◌-◌, ◌*◌, ◌<◌, ◌≤◌, Bool, true, false, not, ◌&&◌, ◌||◌, List, length, get_or, refl, ap, sym, ◌∙◌, subst, arith, inl, inr, ⊎_elim, bit_or}
+use Rattle.std.proofs.Common.{◌≡◌, ℕ, ◌+◌, ◌-◌, ◌*◌, ◌<◌, ◌≤◌, Bool, true, false, not, ◌&&◌, ◌||◌, List, length, get_or, refl, ap, sym, ◌∙◌, subst, arith, inl, inr, ⊎_elim, bit_or}
 use Rattle.std.specs.Prelude.{◌⊎◌, ◌==◌}
 use Rattle.std.proofs.Math.Bool.{and-true}
 use Rattle.std.proofs.lemmas.Bool.{cases_lt, eqb-true, eq-eqb, false≢true}
@@ -109,8 +109,7 @@ module _ (evidence costs : List ℕ) (top step : ℕ) (group : ℕ → ℕ → B
     local = depends-all g t u some more is_t.local is_u.local;
   } where
     at_least : (step : ℕ) → 0 < step → (n : ℕ) → 1 * n ≤ step * n
-    at_least zero h n = absurd (omega arith)
-    at_least (suc s) h n = grind arith
+    at_least step h n = grind arith
 
   -- ---- what stands alone
 

@@ -79,6 +79,7 @@ impl FaultPass<'_> {
     }
 
     // The set of a node, from those of the nodes before it. One that is skipped has no cost.
+    #[tactic(auto, using(crate::proofs::Rules::literals))]
     fn put_node(&self, earlier: &[u32], at: u32, set: &mut [u32], scratch: &mut [u32])
         requires are { AreNodeSets self.now.graph.now self.now.skips.now self.now.evidence.now self.now.levels.now.costs (cost_words self.now.levels.now.top)
             self.now.sets.now (length self.now.graph.now.nodes) }
@@ -108,6 +109,7 @@ impl FaultPass<'_> {
     }
 
     // Whether a part is open and of the first group. There may be no such part.
+    #[tactic(auto, using(crate::proofs::Rules::marks))]
     fn is_marked(&self, part: usize) -> bool
         ensures marked { result ≡ in_first self.now.evidence.now self.now.levels.now.costs self.now.groups (part + 1) }
         ensures within { result ≡ true → part < length self.now.levels.now.costs }
@@ -167,6 +169,7 @@ impl FaultPass<'_> {
     }
 
     // Whether the set of some child is not empty.
+    #[tactic(auto, using(crate::proofs::Rules::child_places))]
     fn has_faulty_child(&self, earlier: &[u32], at: u32) -> bool
         requires at { at < length self.now.graph.now.nodes }
         requires sets { length earlier.now ≡ at * cost_words self.now.levels.now.top }
@@ -184,6 +187,7 @@ impl FaultPass<'_> {
     }
 
     // The set of an Or: parts that a child does not mention are free where it is true.
+    #[tactic(auto, using(crate::proofs::Rules::child_places))]
     fn put_or_faults(&self, earlier: &[u32], at: u32, set: &mut [u32], scratch: &mut [u32])
         requires are { AreNodeSets self.now.graph.now self.now.skips.now self.now.evidence.now self.now.levels.now.costs (cost_words self.now.levels.now.top)
             self.now.sets.now (length self.now.graph.now.nodes) }

@@ -208,6 +208,7 @@ impl Levels {
     /// What [`next`](Levels::next) answers, worked out in words that are lent for it, whatever they hold. The passes over the graph
     /// are counted, and the one sweep from the root down is not. As it is written, the passes skip each node through which every
     /// derivation of the graph costs more in open parts than what is listed.
+    #[tactic(auto, using(crate::proofs::Rules::ends))]
     pub fn next_in<L: Ledger>(
         &self,
         graph: &Graph,

@@ -180,6 +180,7 @@ impl PairPass<'_> {
     }
 
     // Puts the two words of each node, and gives those of all parts.
+    #[tactic(auto, using(crate::proofs::Rules::child_pairs))]
     fn put_all(&self, values: &mut [u32]) -> Pair
         requires room { 2 * length self.now.graph.now.nodes ≤ length values.old }
         ensures { TellsWhole self.now.graph.now self.now.skips.now self.now.evidence.now self.now.levels.now.costs self.now.levels.now.top self.now.groups result }
@@ -198,6 +199,7 @@ impl PairPass<'_> {
     }
 
     // The two words of a node, from those of the nodes before it. One that is skipped is never true.
+    #[tactic(auto, using(crate::proofs::Rules::literals))]
     fn node_pair(&self, values: &[u32], at: u32) -> Pair
         requires at { at < length self.now.graph.now.nodes }
         requires room { 2 * length self.now.graph.now.nodes ≤ length values.now }
@@ -220,6 +222,7 @@ impl PairPass<'_> {
         }
     }
 
+    #[tactic(auto, using(crate::proofs::Rules::child_pairs))]
     fn and_pair(&self, values: &[u32], at: u32) -> Pair
         requires node { LivesAs self.now.graph.now self.now.skips.now at And }
         requires room { 2 * length self.now.graph.now.nodes ≤ length values.now }
@@ -241,6 +244,7 @@ impl PairPass<'_> {
     }
 
     // The words of an Or whose children lack no part.
+    #[tactic(auto, using(crate::proofs::Rules::child_pairs))]
     fn full_pair(&self, values: &[u32], at: u32) -> Pair
         requires node { LivesAs self.now.graph.now self.now.skips.now at Or }
         requires same { SameBelow self.now.graph.now (length self.now.levels.now.costs) at }
@@ -257,6 +261,7 @@ impl PairPass<'_> {
     }
 
     // The words of an Or: parts that a child does not mention are free where it is true.
+    #[tactic(auto, using(crate::proofs::Rules::child_pairs))]
     fn or_pair(&self, values: &[u32], at: u32) -> Pair
         requires node { LivesAs self.now.graph.now self.now.skips.now at Or }
         requires room { 2 * length self.now.graph.now.nodes ≤ length values.now }

@@ -30,6 +30,7 @@ pub(crate) fn has_bit(word: u32, number: u32) -> bool
 }
 
 // The numbers of a word, each of them greater by so many steps as another word has below a limit.
+#[tactic(auto, using(crate::proofs::Rules::spreads))]
 fn spread(left: u32, right: u32, step: u32, count: u32) -> u32
     requires step { 0 < step }
     requires room { step * count ≤ 32 }

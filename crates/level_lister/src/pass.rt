@@ -62,6 +62,7 @@ impl Asked<'_> {
     }
 
     // The set of a node, from those of the nodes before it. One that is skipped has no cost.
+    #[tactic(auto, using(crate::proofs::Rules::literals))]
     fn put_set(&self, sets: &[u32], at: u32, set: &mut [u32], spare: &mut [u32], other: &mut [u32])
         requires room { length set.old ≤ SET_LIMIT }
         requires at { at < length self.now.graph.now.nodes }
@@ -96,6 +97,7 @@ impl Asked<'_> {
     }
 
     // The set of an And: its children share no variable.
+    #[tactic(auto, using(crate::proofs::Rules::child_places))]
     fn put_and(&self, sets: &[u32], at: u32, set: &mut [u32], spare: &mut [u32])
         requires room { length set.old ≤ SET_LIMIT }
         requires node { LivesAs self.now.graph.now self.now.skips.now at And }
@@ -113,6 +115,7 @@ impl Asked<'_> {
     }
 
     // The set of an Or: parts that a child does not mention are free where it is true.
+    #[tactic(auto, using(crate::proofs::Rules::child_places))]
     fn put_or(&self, sets: &[u32], at: u32, set: &mut [u32], spare: &mut [u32], other: &mut [u32])
         requires node { LivesAs self.now.graph.now self.now.skips.now at Or }
         requires sets { length sets.now ≡ at * length set.old }
@@ -143,6 +146,7 @@ impl Asked<'_> {
 }
 
 // The set of an Or whose children lack no part, from those of the children: that of its costs, or that of those with a fault.
+#[tactic(auto, using(crate::proofs::Rules::child_places))]
 pub(crate) fn put_full(graph: &Graph, sets: &[u32], at: u32, set: &mut [u32])
     requires at { at < length graph.now.nodes }
     requires what { (node_at graph.now.nodes at).what ≡ Or }

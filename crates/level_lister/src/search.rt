@@ -72,6 +72,7 @@ impl Search<'_> {
     }
 
     // The first state after another.
+    #[tactic(auto, using(crate::proofs::Rules::fixed_words))]
     fn find_after<L: Ledger>(
         &self,
         evidence: &mut [u32],

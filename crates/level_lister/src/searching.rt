@@ -52,6 +52,7 @@ impl Asked<'_> {
     }
 
     // The same, where only costs below 32 are listed.
+    #[tactic(auto, using(crate::proofs::Rules::group_faults))]
     fn faulty_group_by_pairs(&self, work: &mut [u32], cost: u32, groups: Groups) -> u32
         requires top { self.now.levels.now.top < 32 }
         requires work { 2 * length self.now.graph.now.nodes ≤ length work.old }
@@ -73,6 +74,7 @@ impl Asked<'_> {
 
     // The first group alone: 0 where an open part of it is faulty in some state of this cost, and else 1. The pass goes over the nodes
     // once, for the costs with a fault: the sets of all costs are there.
+    #[tactic(auto, using(crate::proofs::Rules::first_faults))]
     fn faulty_group_by_sets(&self, work: &mut [u32], cost: u32, groups: Groups) -> u32
         requires work { length work.old ≡ (length self.now.graph.now.nodes + 2) * (2 * cost_words self.now.levels.now.top) }
         requires cost { cost ≤ self.now.levels.now.top }

@@ -10,6 +10,7 @@ use part_sets::{WIDTH, clear, has_number};
 pub const SET_LIMIT: usize = 67_108_864;
 
 // Adds to a set the numbers of another, each of them greater by so much.
+#[tactic(auto, using(crate::proofs::Rules::additions))]
 pub(crate) fn add_shifted(set: &mut [u32], other: &[u32], more: usize)
     requires { length other.now ≡ length set.old }
     ensures { (n : ℕ) → n < 32 * length set.old
@@ -21,6 +22,7 @@ pub(crate) fn add_shifted(set: &mut [u32], other: &[u32], more: usize)
 }
 
 // Makes each number of a set greater by so much. The last word comes first, since each is put from those up to it.
+#[tactic(auto, using(crate::proofs::Rules::moves))]
 pub(crate) fn shift(set: &mut [u32], more: usize)
     ensures { (n : ℕ) → n < 32 * length set.old → has_number set.new n ≡ has_shifted set.old more n }
 {
@@ -52,6 +54,7 @@ fn word_before(set: &[u32], at: usize) -> u32
 }
 
 // The bits of a word, so many places higher, and below them the highest of another.
+#[tactic(auto, using(crate::proofs::Rules::joined_words))]
 fn joined_word(high: u32, low: u32, more: usize) -> u32
     requires { more < 32 }
     ensures below { (b : ℕ) → b < more → bit_at result b ≡ bit_at low (32 - more + b) }
@@ -62,6 +65,7 @@ fn joined_word(high: u32, low: u32, more: usize) -> u32
 }
 
 // Makes a set of the sums of a number of one set and a number of another. The first is to have few: the other is moved by each.
+#[tactic(auto, using(crate::proofs::Rules::sums))]
 pub(crate) fn put_sums(set: &mut [u32], left: &[u32], right: &[u32])
     requires few { length set.old ≤ SET_LIMIT }
     requires left { length left.now ≡ length set.old }
@@ -85,6 +89,7 @@ pub(crate) fn is_empty(set: &[u32]) -> bool
 }
 
 // Adds to a set the numbers of another, moved by each number of a word of a third.
+#[tactic(auto, using(crate::proofs::Rules::sums))]
 fn add_moved(set: &mut [u32], other: &[u32], moves: &[u32], i: usize)
     requires few { length set.old ≤ SET_LIMIT }
     requires other { length other.now ≡ length set.old }

@@ -57,6 +57,7 @@ impl Asked<'_> {
     }
 
     // The least cost from one on up to the greatest that some state has that agrees with the evidence. It takes one pass.
+    #[tactic(auto, using(std::proofs::lemmas::Bool::cases_lt))]
     pub(crate) fn next_cost<L: Ledger>(
         &self,
         work: &mut [u32],
@@ -113,6 +114,7 @@ impl Search<'_> {
     }
 
     // The same: the next part that can be faulty is searched, and those before it are ok.
+    #[tactic(auto, using(crate::proofs::Rules::fixed_words))]
     fn settle_by_groups<L: Ledger>(
         &self,
         evidence: &mut [u32],
@@ -182,6 +184,7 @@ impl Search<'_> {
 
     // The last part at which a later state of this cost can leave a state: the same before it, ok if the state has faulty. The
     // evidence is then fixed so far. It takes a pass for each part that is faulty in the state, at most.
+    #[tactic(auto, using(crate::proofs::Rules::fixed_words))]
     pub(crate) fn leave<L: Ledger>(
         &self,
         evidence: &mut [u32],

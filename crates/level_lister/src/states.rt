@@ -44,6 +44,7 @@ pub(crate) fn follow(evidence: &mut [u32], state: &[u32]) -> usize
 }
 
 // Writes what the evidence says of the parts into the state.
+#[tactic(auto, using(crate::proofs::Rules::states_read))]
 pub(crate) fn read_state(evidence: &[u32], state: &mut [u32])
     requires { length state.old ≤ length evidence.now }
     ensures bits { bits_of state.new ≡ fixed_bits (length state.old) evidence.now }

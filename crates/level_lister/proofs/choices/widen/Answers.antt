@@ -13,13 +13,12 @@ loop-part-init c = record {
 
 pub loop-part-preserved : goal.loop-part-preserved
 loop-part-preserved c =
-    let evidence = c.args.evidence.now in
     let costs = c.args.costs.now in
     let part = c.loop-part.part in
     let miss = c.loop-part.invariant.found (omega (arith, c.requires.outer)) in record {
-      set = λ test some more on_inner on_outer within is. wider_is evidence costs test _ _ c.add_part.new.set
+      set = λ test some more on_inner on_outer within is. wider_is c.args.evidence.now costs test _ _ c.add_part.new.set
           (further (length costs) some more within c.args.outer.now c.args.inner.now on_inner on_outer part c.next_missing-part-in-loop-part.result (omega arith) miss c.next_missing-part-in-loop-part.ensures.from c.next_missing-part-in-loop-part.ensures.before)
-          (choice_is evidence costs test (grown some more part) part c.loop-part.set c.add_part.new.set (c.requires.evidence part 0 (omega arith))
+          (choice_is c.args.evidence.now costs test (grown some more part) part c.loop-part.set c.add_part.new.set (c.requires.evidence part 0 (omega arith))
           (not_yet (length costs) some more within c.args.outer.now c.args.inner.now on_inner on_outer part (omega arith) miss) (omega arith) (λ n lt. c.add_part.ensures n (omega arith))
           (c.loop-part.invariant.set test some more on_inner on_outer within is));
       found = c.next_missing-part-in-loop-part.ensures.found;

@@ -3,25 +3,13 @@ use Rattle.level_lister.specs.inner.NodeSets.{IsNodeSet, AreNodeSets}
 use Rattle.level_lister.specs.inner.FaultSets.{in_first, IsFaultSet, IsNodeFaults, AreNodeFaults}
 use Rattle.level_lister.specs.inner.CostSets.{IsCostSet}
 use Rattle.part_sets.specs.PartSets.{SameBelow}
-use Rattle.scratch_pool.proofs.Counted.{block-below}
 use Rattle.part_sets.proofs.Children.{child-below}
-use Rattle.level_lister.proofs.TestCosts.{empty_is, wider_is}
+use Rattle.level_lister.proofs.TestCosts.{wider_is}
 use Rattle.level_lister.proofs.ConditionCosts.{or_is}
 use Rattle.level_lister.proofs.FaultCosts.{fault_or, fault_wider}
 use Rattle.level_lister.proofs.Children.{child_full, or_next, or_end}
-use Rattle.level_lister.proofs.FaultNodes.{first_parts, never_faults}
+use Rattle.level_lister.proofs.FaultNodes.{first_parts}
 use Rattle.level_lister.proofs.pass.put_full.Goals as goal
-
-pub loop-child-init : goal.loop-child-init
-loop-child-init c = record {
-  all = λ skips evidence costs lives same sets. empty_is evidence costs _ c.clear.new.set c.clear.ensures;
-  faulty = λ skips evidence costs groups lives same sets. never_faults evidence costs _ _ c.clear.new.set c.clear.ensures;
-}
-
-pub set_at-requires : goal.set_at-requires
-set_at-requires c =
-    let kids = c.kids-child-items.result.now in
-    omega (arith, c.requires.sets, block-below (get_or kids c.loop-child.child-index 0) c.args.at (length c.args.set.now) (child-below c.args.graph.now c.args.at kids c.kids-child-items.ensures.valid c.requires.at c.kids-child-items.ensures.kids c.loop-child.child-index c.loop-child-test.true))
 
 pub loop-child-preserved : goal.loop-child-preserved
 loop-child-preserved c =
@@ -30,7 +18,6 @@ loop-child-preserved c =
     let earlier = c.args.sets.now in
     let kids = c.kids-child-items.result.now in
     let j = c.loop-child.child-index in
-    let child = c.set_at.result.now in
     let new = c.add_shifted.new.set in
     let ok = c.kids-child-items.ensures.valid in
     let lt = c.loop-child-test.true in
@@ -40,15 +27,15 @@ loop-child-preserved c =
     let below = child-below graph at kids ok c.requires.at c.kids-child-items.ensures.kids j lt in record {
       all = λ skips evidence costs lives same sets.
           or_next graph at kids ok c.requires.at c.kids-child-items.ensures.kids skips lives (λ t m. IsCostSet evidence costs t m new) j lt
-          (or_is evidence costs _ _ _ c.loop-child.set child new (sym size) (omega (arith, c.set_at.ensures.long)) (λ n h. c.add_shifted.ensures n (omega arith))
+          (or_is evidence costs _ _ _ c.loop-child.set c.set_at.result.now new (sym size) (omega (arith, c.set_at.ensures.long)) (λ n h. c.add_shifted.ensures n (omega arith))
           (c.loop-child.invariant.all skips evidence costs lives same (subst (λ n. AreNodeSets graph skips evidence costs n earlier at) size sets))
-          (wider_is evidence costs _ _ _ child (full costs same)
+          (wider_is evidence costs _ _ _ c.set_at.result.now (full costs same)
           (subst (IsNodeSet graph skips evidence costs (get_or kids j 0)) (sym c.set_at.ensures.set) (subst (λ n. AreNodeSets graph skips evidence costs n earlier at) own sets (get_or kids j 0) below))));
       faulty = λ skips evidence costs groups lives same sets.
           or_next graph at kids ok c.requires.at c.kids-child-items.ensures.kids skips lives (λ t m. IsFaultSet evidence costs (in_first evidence costs groups) t m new) j lt
-          (fault_or evidence costs (in_first evidence costs groups) _ _ _ c.loop-child.set child new (sym size) (omega (arith, c.set_at.ensures.long)) (λ n h. c.add_shifted.ensures n (omega arith))
+          (fault_or evidence costs (in_first evidence costs groups) _ _ _ c.loop-child.set c.set_at.result.now new (sym size) (omega (arith, c.set_at.ensures.long)) (λ n h. c.add_shifted.ensures n (omega arith))
           (c.loop-child.invariant.faulty skips evidence costs groups lives same (subst (λ n. AreNodeFaults graph skips evidence costs groups n earlier at) size sets))
-          (fault_wider evidence costs (in_first evidence costs groups) (first_parts evidence costs groups) _ _ _ child (full costs same)
+          (fault_wider evidence costs (in_first evidence costs groups) (first_parts evidence costs groups) _ _ _ c.set_at.result.now (full costs same)
           (subst (IsNodeFaults graph skips evidence costs groups (get_or kids j 0)) (sym c.set_at.ensures.set) (subst (λ n. AreNodeFaults graph skips evidence costs groups n earlier at) own sets (get_or kids j 0) below))));
     }
 

@@ -19,10 +19,9 @@ own_bit state i h faulty e = ap not e ∙ twice (get_or state i 0 == 0) ∙ sym 
 
 pub loop-part-preserved : goal.loop-part-preserved
 loop-part-preserved c =
-    let state = c.args.state.now in
-    let point = bits_of state in
+    let point = bits_of c.args.state.now in
     let i = c.loop-part.part in
-    let word : c.word_of_known-word.result ≡ word_of (bit_in point i) = c.word_of_known-word.ensures ∙ ap word_of (own_bit state i c.loop-part-test.true c.is_faulty.result c.is_faulty.ensures) in
+    let word : c.word_of_known-word.result ≡ word_of (bit_in point i) = c.word_of_known-word.ensures ∙ ap word_of (own_bit c.args.state.now i c.loop-part-test.true c.is_faulty.result c.is_faulty.ensures) in
     let few : c.word_of_known-word.result < 3 = subst (λ (w : ℕ). w < 3) (sym word) (word_of-small (bit_in point i)) in
     elim c.if-is_open.branch [
       | then-is_open w ↦ record {

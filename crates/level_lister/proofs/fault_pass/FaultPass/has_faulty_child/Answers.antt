@@ -1,16 +1,9 @@
-use Rattle.std.proofs.Common.{◌≡◌, ℕ, ◌*◌, false, List, get_or, All, ap, sym, ◌∙◌, subst, arith, ⊎_elim}
+use Rattle.std.proofs.Common.{◌≡◌, ℕ, false, List, get_or, All, ap, sym, ◌∙◌, subst, arith, ⊎_elim}
 use Rattle.std.proofs.lemmas.Bool.{cases_lt}
 use Rattle.std.proofs.lemmas.List.Elements.{All-from_get_or}
 use Rattle.part_sets.specs.Numbers.{has_number, set_at}
-use Rattle.part_sets.proofs.Children.{child-below}
-use Rattle.scratch_pool.proofs.Counted.{block-below}
 use Rattle.level_lister.specs.Listing.{cost_words}
 use Rattle.level_lister.proofs.fault_pass.FaultPass.has_faulty_child.Goals as goal
-
-pub set_at-requires : goal.set_at-requires
-set_at-requires c =
-    let below = child-below c.args.self.now.graph.now c.args.at c.kids-child-items.result.now c.kids-child-items.ensures.valid c.requires.at c.kids-child-items.ensures.kids c.loop-child.child-index c.loop-child-test.true in
-    omega (arith, c.requires.sets, block-below (get_or c.kids-child-items.result.now c.loop-child.child-index 0) c.args.at c.size-size.result below, ap (λ n. c.args.at * n) c.size-size.ensures)
 
 pub loop-child-preserved : goal.loop-child-preserved
 loop-child-preserved c j n lt = ⊎_elim

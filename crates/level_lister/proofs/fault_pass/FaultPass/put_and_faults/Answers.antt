@@ -25,9 +25,8 @@ set_at-own-requires c =
 
 pub set_at-faults-requires : goal.set_at-faults-requires
 set_at-faults-requires c =
-    let graph = c.args.self.now.graph.now in
     let kids = c.kids-child-items.result.now in
-    let below = child-below graph c.args.at kids c.args.self.now.valid c.requires.node.within c.kids-child-items.ensures.kids c.loop-child.child-index c.loop-child-test.true in
+    let below = child-below c.args.self.now.graph.now c.args.at kids c.args.self.now.valid c.requires.node.within c.kids-child-items.ensures.kids c.loop-child.child-index c.loop-child-test.true in
     omega (arith, c.requires.sets, block-below (get_or kids c.loop-child.child-index 0) c.args.at c.size-size.result below, ap (λ n. c.args.at * n) c.size-size.ensures)
 
 pub loop-child-preserved : goal.loop-child-preserved

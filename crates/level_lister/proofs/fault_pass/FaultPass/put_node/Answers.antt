@@ -1,12 +1,7 @@
 use Rattle.std.proofs.Common.{get_or, refl, sym, ◌∙◌, ap, subst}
-use Rattle.part_sets.proofs.Children.{literal-fits}
 use Rattle.level_lister.specs.inner.FaultSets.{in_first, IsFaultSet, AreNodeFaults}
-use Rattle.level_lister.proofs.FaultNodes.{skipped_faults}
 use Rattle.level_lister.proofs.Children.{literal_at}
 use Rattle.level_lister.proofs.fault_pass.FaultPass.put_node.Goals as goal
-
-pub put_literal_faults-requires : goal.put_literal_faults-requires
-put_literal_faults-requires c = record { var = (literal-fits c.args.self.now.graph.now c.args.at _ c.args.self.now.valid c.requires.at refl c.in-Literal.var c.in-Literal.positive c.in-Literal.ensures.what).0 }
 
 pub returns-in-Literal : goal.returns-in-Literal
 returns-in-Literal c =
@@ -17,13 +12,9 @@ returns-in-Literal c =
 
 pub returns-then-lacking-at-eq0 : goal.returns-then-lacking-at-eq0
 returns-then-lacking-at-eq0 c =
-    let graph = c.args.self.now.graph.now in
     let evidence = c.args.self.now.evidence.now in
     let costs = c.args.self.now.levels.now.costs in
     let groups = c.args.self.now.groups in
     c.put_full.ensures.faulty c.args.self.now.skips.now evidence costs groups c.if-self-at-ne0.false
     ((c.args.self.now.for_graph.lacking.nodes c.args.at c.requires.at).0 (sym (ap (λ xs. get_or xs c.args.at 0) c.lacking.ensures) ∙ c.if-lacking-at-eq0.true) (sym c.in-Or.ensures.what))
-    (subst (λ n. AreNodeFaults graph c.args.self.now.skips.now evidence costs groups n c.args.earlier.now c.args.at) (sym c.requires.set) c.requires.earlier)
-
-pub returns-then-self-at-ne0 : goal.returns-then-self-at-ne0
-returns-then-self-at-ne0 c = skipped_faults c.args.self.now.graph.now c.args.self.now.skips.now c.args.self.now.evidence.now c.args.self.now.levels.now.costs c.args.self.now.groups c.args.at c.clear.new.set c.args.self.now.valid c.requires.at c.if-self-at-ne0.true c.clear.ensures
+    (subst (λ n. AreNodeFaults c.args.self.now.graph.now c.args.self.now.skips.now evidence costs groups n c.args.earlier.now c.args.at) (sym c.requires.set) c.requires.earlier)

@@ -11,10 +11,9 @@ pub loop-part-init : goal.loop-part-init
 loop-part-init c =
     let evidence = c.args.self.now.evidence.now in
     let costs = c.args.self.now.levels.now.costs in
-    let group = in_first evidence costs c.args.self.now.groups in
     let on = first_parts evidence costs c.args.self.now.groups in record {
       both = λ test some more on_inner on_outer within is.
-          both_wider evidence costs group on test _ _ c.args.all.now c.args.faults.now
+          both_wider evidence costs (in_first evidence costs c.args.self.now.groups) on test _ _ c.args.all.now c.args.faults.now
           (begun (length costs) some more within c.set_at-below.result.now c.set_at-own.result.now on_inner on_outer c.next_missing-part.result c.next_missing-part.ensures.before) is;
       found = c.next_missing-part.ensures.found;
     }
@@ -26,12 +25,10 @@ loop-part-preserved c =
     let part = c.loop-part.part in
     let outer = c.set_at-below.result.now in
     let inner = c.set_at-own.result.now in
-    let group = in_first evidence costs c.args.self.now.groups in
-    let on = first_parts evidence costs c.args.self.now.groups in
     let lt : part < length costs = omega (arith, c.loop-part-test.true, ap length c.costs-parts.ensures) in
     let miss = c.loop-part.invariant.found (omega (arith, c.set_at-below.ensures.long, c.part_words-size.ensures, c.loop-part-test.true)) in record {
       both = λ test some more on_inner on_outer within is.
-          both_wider evidence costs group on test _ _ c.add_free.new.all c.add_free.new.faults
+          both_wider evidence costs (in_first evidence costs c.args.self.now.groups) (first_parts evidence costs c.args.self.now.groups) test _ _ c.add_free.new.all c.add_free.new.faults
           (further (length costs) some more within outer inner on_inner on_outer part c.next_missing-part-in-loop-part.result lt miss c.next_missing-part-in-loop-part.ensures.from c.next_missing-part-in-loop-part.ensures.before)
           (c.add_free.ensures test (grown some more part) (not_yet (length costs) some more within outer inner on_inner on_outer part lt miss) (c.loop-part.invariant.both test some more on_inner on_outer within is));
       found = c.next_missing-part-in-loop-part.ensures.found;

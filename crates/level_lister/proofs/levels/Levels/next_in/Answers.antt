@@ -6,7 +6,7 @@ use Rattle.diagnosis_lister.specs.inner.Fixing.{fixed_bits}
 use Rattle.level_lister.specs.Listing.{point_if}
 use Rattle.level_lister.specs.Passes.{fixing_passes}
 use Rattle.level_lister.specs.declared.levels.LevelStep.TheVariants.{Found}
-use Rattle.level_lister.proofs.RisingCosts.{next-first, next-none, none-none, step-end, step-found}
+use Rattle.level_lister.proofs.RisingCosts.{next-first, next-none, none-none, step-found}
 use Rattle.level_lister.proofs.levels.Levels.next_in.Goals as goal
 
 -- words after a place that are the same
@@ -20,16 +20,10 @@ returns-then-not-put_skips-clause-next g c =
     let point = point_if c.args.pointed state in
     λ i. get_or (sym (next-none kept.costs c.args.graph.now c.args.evidence.now kept.top point (none-none kept.costs c.args.graph.now c.args.evidence.now kept.top point (c.put_skips.ensures.none c.if-not-put_skips.true))) i) 0 state
 
-pub returns-in-None-clause-step : goal.returns-in-None-clause-step
-returns-in-None-clause-step g c =
-    let kept = c.args.self.now in
-    step-end kept.costs c.args.graph.now c.args.evidence.now kept.top (point_if c.args.pointed (bits_of c.args.state.now)) (c.put_skips.ensures.some c.if-not-put_skips.false) c.in-None.ensures.found.1
-
 pub returns-in-None-clause-next : goal.returns-in-None-clause-next
 returns-in-None-clause-next g c =
-    let kept = c.args.self.now in
     let state = bits_of c.args.state.now in
-    λ i. get_or (sym (next-none kept.costs c.args.graph.now c.args.evidence.now kept.top (point_if c.args.pointed state) c.in-None.ensures.found.1) i) 0 state
+    λ i. get_or (sym (next-none c.args.self.now.costs c.args.graph.now c.args.evidence.now c.args.self.now.top (point_if c.args.pointed state) c.in-None.ensures.found.1) i) 0 state
 
 pub returns-in-Some-clause-step : goal.returns-in-Some-clause-step
 returns-in-Some-clause-step g c =
@@ -40,10 +34,9 @@ returns-in-Some-clause-step g c =
 
 pub returns-in-Some-clause-next : goal.returns-in-Some-clause-next
 returns-in-Some-clause-next g c =
-    let kept = c.args.self.now in
     let state = bits_of c.args.state.now in
     c.read_state.ensures.bits ∙ ap (λ n. fixed_bits n c.find.new.evidence) c.requires.state
-    ∙ next-first kept.costs c.args.graph.now c.args.evidence.now kept.top (point_if c.args.pointed state) (fixed_bits (length kept.costs) c.find.new.evidence) state c.in-Some.ensures.found.first
+    ∙ next-first c.args.self.now.costs c.args.graph.now c.args.evidence.now c.args.self.now.top (point_if c.args.pointed state) (fixed_bits (length c.args.self.now.costs) c.find.new.evidence) state c.in-Some.ensures.found.first
 
 pub returns-in-Some-clause-evidence : goal.returns-in-Some-clause-evidence
 returns-in-Some-clause-evidence g c =
@@ -55,12 +48,5 @@ returns-in-Some-clause-evidence g c =
 
 pub returns-in-Some-clause-steps : goal.returns-in-Some-clause-steps
 returns-in-Some-clause-steps g c fast search h =
-    let kept = c.args.self.now in
-    let same : bits_of c.read_state.new.state ≡ fixed_bits (length kept.costs) c.find.new.evidence = c.read_state.ensures.bits ∙ ap (λ n. fixed_bits n c.find.new.evidence) c.requires.state in
+    let same : bits_of c.read_state.new.state ≡ fixed_bits (length c.args.self.now.costs) c.find.new.evidence = c.read_state.ensures.bits ∙ ap (λ n. fixed_bits n c.find.new.evidence) c.requires.state in
     omega (arith, c.put_skips.ensures.steps, c.in-Some.ensures.steps (omega (arith, fast, c.len.ensures.len, ap length c.costs.ensures, c.split_at_mut-skips.ensures.back_len, c.split_at_mut-saved.ensures.back_len)) search h, ap (fixing_passes search) same)
-
-pub returns-in-None-clause-steps : goal.returns-in-None-clause-steps
-returns-in-None-clause-steps g c fast search h = omega (arith, c.put_skips.ensures.steps, c.in-None.ensures.steps)
-
-pub returns-then-not-put_skips-clause-steps : goal.returns-then-not-put_skips-clause-steps
-returns-then-not-put_skips-clause-steps g c fast search h = omega (arith, c.put_skips.ensures.steps)

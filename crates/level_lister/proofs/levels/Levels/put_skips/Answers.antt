@@ -19,11 +19,10 @@ returns-then-is_none-clause-none g c e =
 
 pub returns-clause-enough : goal.returns-clause-enough
 returns-clause-enough g c e =
-    let graph = c.args.graph.now in
     let evidence = c.args.evidence.now in
     let costs = c.args.self.now.costs in
-    let least : AreLeastCosts graph evidence costs c.least.new.values = subst (λ (cs : List ℕ). AreLeastCosts graph evidence cs c.least.new.values) c.costs.ensures c.least.ensures.values in
+    let least : AreLeastCosts c.args.graph.now evidence costs c.least.new.values = subst (λ (cs : List ℕ). AreLeastCosts c.args.graph.now evidence cs c.least.new.values) c.costs.ensures c.least.ensures.values in
     let outside = c.put_outside_costs.new.outside in
-    enough graph evidence costs c.len.ensures.valid c.least.new.values outside c.mark_dear.new.outside c.args.self.now.top least c.put_outside_costs.ensures
+    enough c.args.graph.now evidence costs c.len.ensures.valid c.least.new.values outside c.mark_dear.new.outside c.args.self.now.top least c.put_outside_costs.ensures
     (λ k h. c.mark_dear.ensures k (omega (arith, c.put_outside_costs.auto.outside, c.requires.skips)) ∙ ap (λ top. skip_of top (get_or c.least.new.values k 0) (get_or outside k 0)) c.top.ensures)
     c.requires.long c.requires.graph.parts

@@ -9,11 +9,6 @@ use Rattle.level_lister.proofs.pair_pass.PairPass.and_pair.Goals as goal
 pub loop-child-init : goal.loop-child-init
 loop-child-init c evidence groups told = tells_true evidence c.args.self.now.levels.now.costs c.args.self.now.levels.now.top (group_count c.args.self.now.levels.now.top) (group_in evidence (length c.args.self.now.levels.now.costs) groups)
 
-pub pair_at-requires : goal.pair_at-requires
-pair_at-requires c =
-    let kids = c.kids-child-items.result.now in
-    omega (arith, c.requires.room, c.requires.node.within, child-below c.args.self.now.graph.now c.args.at kids c.args.self.now.valid c.requires.node.within c.kids-child-items.ensures.kids c.loop-child.child-index c.loop-child-test.true)
-
 pub loop-child-preserved : goal.loop-child-preserved
 loop-child-preserved c evidence groups told =
     let graph = c.args.self.now.graph.now in
@@ -25,8 +20,7 @@ loop-child-preserved c evidence groups told =
     let ok = c.args.self.now.valid in
     let group = group_in evidence (length costs) groups in
     let lt = c.loop-child-test.true in
-    let below = child-below graph at kids ok c.requires.node.within c.kids-child-items.ensures.kids j lt in
-    let child = subst (TellsNode graph c.args.self.now.skips.now evidence costs top groups (get_or kids j 0)) (sym c.pair_at.ensures) (told (get_or kids j 0) below) in
+    let child = subst (TellsNode graph c.args.self.now.skips.now evidence costs top groups (get_or kids j 0)) (sym c.pair_at.ensures) (told (get_or kids j 0) (child-below graph at kids ok c.requires.node.within c.kids-child-items.ensures.kids j lt)) in
     and_before graph at kids ok c.requires.node.within c.kids-child-items.ensures.kids c.args.self.now.skips.now c.requires.node.lives (Told evidence costs top groups c.joined-pair.result) j lt
     (c.joined-pair.ensures evidence costs top (group_count top) group _ _ _ _ c.group_count.ensures.count (ap (λ n. n + 1) c.top.ensures) (apart_children graph at kids ok c.requires.node.within c.kids-child-items.ensures.kids j c.requires.node.what_is lt)
     child (c.loop-child.invariant evidence groups told))

@@ -12,12 +12,11 @@ returns-then-part-costs c =
     let costs = c.args.self.now.levels.now.costs in
     let evidence = c.args.self.now.evidence.now in
     let top = c.args.self.now.levels.now.top in
-    let part = c.args.part in
-    let past : length costs ≤ part = omega (arith, c.if-part-costs.true, ap length c.costs-costs.ensures) in
-    let none : 0 ≡ get_or costs (part + 1 - 1) 0 = sym (get_or_past costs (part + 1 - 1) 0 (omega arith)) in
-    tells_faulty evidence costs top (group_count top) (group_in evidence (length costs) c.args.self.now.groups) (part + 1) (omega arith) 0 1 0 c.args.self.now.few none c.requires.allowed
+    let past : length costs ≤ c.args.part = omega (arith, c.if-part-costs.true, ap length c.costs-costs.ensures) in
+    let none : 0 ≡ get_or costs (c.args.part + 1 - 1) 0 = sym (get_or_past costs (c.args.part + 1 - 1) 0 (omega arith)) in
+    tells_faulty evidence costs top (group_count top) (group_in evidence (length costs) c.args.self.now.groups) (c.args.part + 1) (omega arith) 0 1 0 c.args.self.now.few none c.requires.allowed
     (λ n h. one_bit 32 0 n (omega arith))
-    (λ n g le lt. has_bit-zero (group_count top * n + g) ∙ none_marked evidence (length costs) c.args.self.now.groups g (part + 1) (n == 0) (λ is. absurd (omega (arith, is.high, past))))
+    (λ n g le lt. has_bit-zero (group_count top * n + g) ∙ none_marked evidence (length costs) c.args.self.now.groups g (c.args.part + 1) (n == 0) (λ is. absurd (omega (arith, is.high, past))))
 
 pub returns : goal.returns
 returns c =

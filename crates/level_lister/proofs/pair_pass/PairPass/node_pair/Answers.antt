@@ -1,13 +1,7 @@
-use Rattle.std.proofs.Common.{get_or, refl, ap, sym, ◌∙◌, arith}
-use Rattle.part_sets.proofs.Children.{literal-fits}
+use Rattle.std.proofs.Common.{refl}
 use Rattle.level_lister.proofs.Children.{literal_at}
 use Rattle.level_lister.proofs.PairNodes.{Told, skipped_told}
 use Rattle.level_lister.proofs.pair_pass.PairPass.node_pair.Goals as goal
-
-pub literal_pair-requires : goal.literal_pair-requires
-literal_pair-requires c =
-    let fits = literal-fits c.args.self.now.graph.now c.args.at _ c.args.self.now.valid c.requires.at refl c.in-Literal.var c.in-Literal.positive c.in-Literal.ensures.what in
-    record { var = (fits.0, omega (arith, fits.1, c.args.self.now.long)) }
 
 pub returns-in-Literal : goal.returns-in-Literal
 returns-in-Literal c = literal_at c.args.self.now.graph.now c.args.at _ c.args.self.now.valid c.requires.at refl c.args.self.now.skips.now c.if-self-at-ne0.false (Told c.args.self.now.evidence.now c.args.self.now.levels.now.costs c.args.self.now.levels.now.top c.args.self.now.groups c.literal_pair.result) c.in-Literal.var c.in-Literal.positive
@@ -15,9 +9,6 @@ returns-in-Literal c = literal_at c.args.self.now.graph.now c.args.at _ c.args.s
 
 pub returns-in-And : goal.returns-in-And
 returns-in-And c = c.and_pair.ensures c.args.self.now.evidence.now c.args.self.now.groups c.requires.earlier
-
-pub full_pair-requires-clause-same : goal.full_pair-requires-clause-same
-full_pair-requires-clause-same c = (c.args.self.now.for_graph.lacking.nodes c.args.at c.requires.at).0 (sym (ap (λ xs. get_or xs c.args.at 0) c.lacking.ensures) ∙ c.if-lacking-at-eq0.true) (sym c.in-Or.ensures.what)
 
 pub returns-then-lacking-at-eq0 : goal.returns-then-lacking-at-eq0
 returns-then-lacking-at-eq0 c = c.full_pair.ensures c.args.self.now.evidence.now c.args.self.now.groups c.requires.earlier

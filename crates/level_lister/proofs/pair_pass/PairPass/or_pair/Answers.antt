@@ -1,44 +1,15 @@
-use Rattle.std.proofs.Common.{◌+◌, ◌<◌, length, get_or, sym, refl, subst, arith}
-use Rattle.std.proofs.lemmas.Bool.{false≢true}
+use Rattle.std.proofs.Common.{◌<◌, length, get_or, sym, subst, arith}
 use Rattle.state_rules.specs.Graphs.{is_true, mentions}
-use Rattle.scratch_pool.proofs.Counted.{block-below}
-use Rattle.part_sets.specs.Numbers.{part_words}
 use Rattle.part_sets.proofs.Children.{child-below, child-mentions}
 use Rattle.level_lister.specs.inner.Skips.{living}
 use Rattle.level_lister.specs.inner.Pairs.{TellsNode, group_count, group_in}
-use Rattle.level_lister.proofs.TwoWords.{tells_none}
 use Rattle.level_lister.proofs.Children.{or_next, or_end}
 use Rattle.level_lister.proofs.PairNodes.{Told}
 use Rattle.level_lister.proofs.pair_pass.PairPass.or_pair.Goals as goal
 
-pub loop-child-init : goal.loop-child-init
-loop-child-init c = tells_none c.args.self.now.evidence.now c.args.self.now.levels.now.costs c.args.self.now.levels.now.top (group_count c.args.self.now.levels.now.top) (group_in c.args.self.now.evidence.now (length c.args.self.now.levels.now.costs) c.args.self.now.groups) _ _ (λ a f e. false≢true e) (λ a b h. refl)
-
-pub pair_at-own-requires : goal.pair_at-own-requires
-pair_at-own-requires c =
-    let kids = c.kids-child-items.result.now in
-    omega (arith, c.requires.room, c.requires.node.within, child-below c.args.self.now.graph.now c.args.at kids c.args.self.now.valid c.requires.node.within c.kids-child-items.ensures.kids c.loop-child.child-index c.loop-child-test.true)
-
-pub widened-requires-clause-inner : goal.widened-requires-clause-inner
-widened-requires-clause-inner c =
-    let kids = c.kids-child-items.result.now in
-    let size = part_words (length c.args.self.now.levels.now.costs) in
-    omega (
-      arith,
-      c.args.self.now.for_graph.below.long,
-      block-below (get_or kids c.loop-child.child-index 0) (length c.args.self.now.graph.now.nodes + 1) size
-          (omega (arith, c.requires.node.within, child-below c.args.self.now.graph.now c.args.at kids c.args.self.now.valid c.requires.node.within c.kids-child-items.ensures.kids c.loop-child.child-index c.loop-child-test.true)),
-    )
-
-pub widened-requires-clause-outer : goal.widened-requires-clause-outer
-widened-requires-clause-outer c =
-    let size = part_words (length c.args.self.now.levels.now.costs) in
-    omega (arith, c.args.self.now.for_graph.below.long, block-below c.args.at (length c.args.self.now.graph.now.nodes + 1) size (omega (arith, c.requires.node.within)))
-
 pub loop-child-preserved : goal.loop-child-preserved
 loop-child-preserved c =
     let graph = c.args.self.now.graph.now in
-    let at = c.args.at in
     let evidence = c.args.self.now.evidence.now in
     let groups = c.args.self.now.groups in
     let kids = c.kids-child-items.result.now in
@@ -47,14 +18,14 @@ loop-child-preserved c =
     let j = c.loop-child.child-index in
     let ok = c.args.self.now.valid in
     let lt = c.loop-child-test.true in
-    let below = child-below graph at kids ok c.requires.node.within c.kids-child-items.ensures.kids j lt in
+    let below = child-below graph c.args.at kids ok c.requires.node.within c.kids-child-items.ensures.kids j lt in
     let inside : get_or kids j 0 < length graph.nodes = omega (arith, below, c.requires.node.within) in
     let child = subst (TellsNode graph c.args.self.now.skips.now evidence costs top groups (get_or kids j 0)) (sym c.pair_at-own.ensures) (c.requires.earlier (get_or kids j 0) below) in
-    or_next graph at kids ok c.requires.node.within c.kids-child-items.ensures.kids c.args.self.now.skips.now c.requires.node.lives (Told evidence costs top groups c.either-pair.result) j lt
+    or_next graph c.args.at kids ok c.requires.node.within c.kids-child-items.ensures.kids c.args.self.now.skips.now c.requires.node.lives (Told evidence costs top groups c.either-pair.result) j lt
     (c.either-pair.ensures evidence costs top (group_count top) (group_in evidence (length costs) groups) _ _ _ c.loop-child.invariant
-    (c.widened.ensures (λ a. is_true (living graph.nodes c.args.self.now.skips.now) (get_or kids j 0) a) (λ v. mentions graph.nodes v (get_or kids j 0)) (λ v. mentions graph.nodes v at)
-    (c.args.self.now.for_graph.below.nodes (get_or kids j 0) inside) (c.args.self.now.for_graph.below.nodes at c.requires.node.within)
-    (child-mentions graph at kids ok c.requires.node.within c.kids-child-items.ensures.kids j c.requires.node.what_is lt) child))
+    (c.widened.ensures (λ a. is_true (living graph.nodes c.args.self.now.skips.now) (get_or kids j 0) a) (λ v. mentions graph.nodes v (get_or kids j 0)) (λ v. mentions graph.nodes v c.args.at)
+    (c.args.self.now.for_graph.below.nodes (get_or kids j 0) inside) (c.args.self.now.for_graph.below.nodes c.args.at c.requires.node.within)
+    (child-mentions graph c.args.at kids ok c.requires.node.within c.kids-child-items.ensures.kids j c.requires.node.what_is lt) child))
 
 pub returns : goal.returns
 returns c =

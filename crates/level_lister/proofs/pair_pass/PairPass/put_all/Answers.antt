@@ -1,6 +1,5 @@
 use Rattle.std.proofs.Common.{◌≡◌, ◌+◌, ◌-◌, ◌<◌, true, length, get_or, sym, ap, refl, subst, arith, ◌∙◌}
 use Rattle.state_rules.specs.Graphs.{is_true, mentions}
-use Rattle.scratch_pool.proofs.Counted.{block-below}
 use Rattle.part_sets.specs.Numbers.{part_words, set_at}
 use Rattle.part_sets.specs.PartSets.{ArePartsOf}
 use Rattle.level_lister.specs.inner.Skips.{living}
@@ -44,11 +43,3 @@ returns c =
     (subst (λ k. ArePartsOf (length costs) (λ v. true) (set_at below k size)) (sym next) c.args.self.now.for_graph.below.all)
     (λ v e. refl)
     (subst (TellsNode graph c.args.self.now.skips.now c.args.self.now.evidence.now costs c.args.self.now.levels.now.top c.args.self.now.groups (length graph.nodes - 1)) (sym pair) (c.loop-at.invariant.told (length graph.nodes - 1) (omega (arith, inside, all))))
-
-pub widened-requires-clause-inner : goal.widened-requires-clause-inner
-widened-requires-clause-inner c =
-    omega (arith, c.args.self.now.for_graph.below.long, block-below (c.len.result - 1) (length c.args.self.now.graph.now.nodes + 1) (part_words (length c.args.self.now.levels.now.costs)) (omega (arith, c.len.ensures.len, c.len.ensures.valid.some)))
-
-pub widened-requires-clause-outer : goal.widened-requires-clause-outer
-widened-requires-clause-outer c =
-    omega (arith, c.args.self.now.for_graph.below.long, block-below (c.len.result - 1 + 1) (length c.args.self.now.graph.now.nodes + 1) (part_words (length c.args.self.now.levels.now.costs)) (omega (arith, c.len.ensures.len, c.len.ensures.valid.some)))

@@ -38,7 +38,6 @@ loop-part-preserved c =
 
 pub returns : goal.returns
 returns c test some more on_inner on_outer within is =
-    let evidence = c.args.self.now.evidence.now in
     let costs = c.args.self.now.levels.now.costs in
     let top = c.args.self.now.levels.now.top in
     let below = c.args.self.now.levels.now.below in
@@ -47,5 +46,5 @@ returns c test some more on_inner on_outer within is =
     c.set_at-below.ensures.set ∙ (λ i. set_at (c.below.ensures i) c.args.outer ((c.part_words.ensures ∙ ap part_words parts) i)) in
     let inner : c.set_at-own.result.now ≡ set_at below c.args.inner (part_words (length costs)) =
     c.set_at-own.ensures.set ∙ (λ i. set_at (c.below-2.ensures i) c.args.inner ((c.part_words-2.ensures ∙ ap part_words parts) i)) in
-    wider_groups evidence costs top c.args.self.now.groups c.loop-part.pair test _ _ (ended (length costs) some more within c.loop-part.part (omega (arith, c.loop-part-test.false, parts)))
+    wider_groups c.args.self.now.evidence.now costs top c.args.self.now.groups c.loop-part.pair test _ _ (ended (length costs) some more within c.loop-part.part (omega (arith, c.loop-part-test.false, parts)))
     (c.loop-part.invariant.told test some more (subst (ArePartsOf (length costs) some) (sym inner) on_inner) (subst (ArePartsOf (length costs) more) (sym outer) on_outer) within is)

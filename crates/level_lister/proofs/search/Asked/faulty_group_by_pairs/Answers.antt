@@ -2,21 +2,8 @@ use Rattle.std.proofs.Common.{◌≡◌, ◌+◌, ◌*◌, ◌<◌, ◌≤◌, t
 use Rattle.std.proofs.lemmas.Bool.{cases_lt, false≢true}
 use Rattle.state_rules.specs.Bits.{has_bit}
 use Rattle.level_lister.specs.inner.Pairs.{FaultOf}
-use Rattle.level_lister.proofs.TwoWords.{step_below}
-use Rattle.level_lister.proofs.PairWhole.{group_sound, group_whole}
+use Rattle.level_lister.proofs.PairWhole.{group_whole}
 use Rattle.level_lister.proofs.search.Asked.faulty_group_by_pairs.Goals as goal
-
-pub has_bit-requires : goal.has_bit-requires
-has_bit-requires c =
-    let count = c.group_count-count.result in
-    omega (arith, step_below count c.args.cost (c.args.self.now.levels.now.top + 1) (omega (arith, c.requires.cost)), c.group_count-count.ensures.room, c.loop-group-test.true)
-
-pub returns-then-has_bit-clause-found : goal.returns-then-has_bit-clause-found
-returns-then-has_bit-clause-found c lt =
-    let pair = c.put_pairs-pair.result in
-    let same = c.group_count-count.ensures.count in
-    group_sound c.args.self.now.graph.now c.args.self.now.skips.now c.args.self.now.evidence.now c.args.self.now.levels.now.costs c.args.self.now.levels.now.top c.args.groups pair c.args.self.now.valid c.args.self.now.long c.args.self.now.for_graph.parts c.put_pairs-pair.ensures c.args.self.now.enough c.args.cost c.loop-group.group c.requires.cost lt
-    (subst (λ n. has_bit pair.faults (n * c.args.cost + c.loop-group.group) ≡ true) same (sym c.has_bit.ensures ∙ c.if-has_bit.true))
 
 pub loop-group-preserved : goal.loop-group-preserved
 loop-group-preserved c h lt f =

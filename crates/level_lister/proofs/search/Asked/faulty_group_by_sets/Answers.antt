@@ -1,9 +1,6 @@
-use Rattle.std.proofs.Common.{◌≡◌, ◌*◌, length, sym, ◌∙◌, subst, arith}
-use Rattle.std.proofs.lemmas.Bool.{false≢true}
+use Rattle.std.proofs.Common.{◌*◌, length, ◌∙◌}
 use Rattle.level_lister.specs.Listing.{cost_words}
 use Rattle.level_lister.specs.inner.NodeSets.{IsNodeSet}
-use Rattle.level_lister.specs.inner.Pairs.{FaultOf}
-use Rattle.level_lister.proofs.FaultStates.{first_sound, first_whole}
 use Rattle.level_lister.proofs.Stacks.{sets_before, sets_stay}
 use Rattle.level_lister.proofs.search.Asked.faulty_group_by_sets.Goals as goal
 
@@ -12,18 +9,6 @@ put_all-requires-clause-are c =
     let graph = c.args.self.now.graph.now in
     sets_before (IsNodeSet graph c.args.self.now.skips.now c.args.self.now.evidence.now c.args.self.now.levels.now.costs) (cost_words c.args.self.now.levels.now.top) c.args.work.now c.split_at_mut-sets.result.0.now c.split_at_mut-sets.result.1.now (length graph.nodes)
     c.split_at_mut-sets.ensures.value (c.split_at_mut-sets.ensures.front_len ∙ (λ i. c.len.ensures.len i * c.size-size.ensures i)) c.requires.sets
-
-pub returns-then-has_number-clause-found : goal.returns-then-has_number-clause-found
-returns-then-has_number-clause-found c lt =
-    first_sound c.args.self.now.graph.now c.args.self.now.evidence.now c.args.self.now.levels.now.costs c.args.groups c.len.ensures.valid c.args.self.now.long c.args.self.now.for_graph.parts c.args.self.now.skips.now c.args.self.now.levels.now.top c.args.self.now.enough c.put_all.new.whole c.put_all.ensures c.args.cost
-    (sym c.has_number.ensures ∙ c.if-has_number.true)
-
-pub returns-else-has_number-clause-before : goal.returns-else-has_number-clause-before
-returns-else-has_number-clause-before c g lt f =
-    let first : g ≡ 0 = omega arith in
-    false≢true (sym (sym c.has_number.ensures ∙ c.if-has_number.false) ∙ first_whole c.args.self.now.graph.now c.args.self.now.evidence.now c.args.self.now.levels.now.costs c.args.groups c.len.ensures.valid c.args.self.now.long c.args.self.now.for_graph.parts
-    c.args.self.now.skips.now c.args.self.now.levels.now.top c.args.self.now.enough c.put_all.new.whole c.put_all.ensures c.args.cost c.requires.cost (omega (arith, c.split_at_mut-whole.ensures.front_len, c.size-size.ensures, c.requires.cost))
-    (subst (FaultOf c.args.self.now.graph.now c.args.self.now.evidence.now c.args.self.now.levels.now.costs c.args.cost c.args.groups) first f))
 
 pub returns-then-has_number-clause-sets : goal.returns-then-has_number-clause-sets
 returns-then-has_number-clause-sets c =

@@ -18,6 +18,3 @@ loop-cost-preserved g c = record {
       (cases_lt d c.loop-cost.cost);
   end = c.loop-cost.invariant.end;
 }
-
-pub returns-clause-next : goal.returns-clause-next
-returns-clause-next g c d low high has = c.loop-cost.invariant.none d low (omega (arith, c.loop-cost.invariant.end)) has

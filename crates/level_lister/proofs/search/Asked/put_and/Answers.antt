@@ -2,7 +2,6 @@ use Rattle.std.proofs.Common.{◌≡◌, ◌*◌, List, ℕ, length, get_or, sym
 use Rattle.level_lister.specs.inner.CostSets.{AreSums, IsCostSet}
 use Rattle.level_lister.specs.inner.NodeSets.{AreNodeSets, IsNodeSet}
 use Rattle.level_lister.proofs.TestCosts.{zero_is}
-use Rattle.scratch_pool.proofs.Counted.{block-below}
 use Rattle.part_sets.proofs.Children.{child-below}
 use Rattle.level_lister.proofs.Children.{children_apart, and_next, and_end}
 use Rattle.level_lister.proofs.ConditionCosts.{and_is}
@@ -10,12 +9,6 @@ use Rattle.level_lister.proofs.search.Asked.put_and.Goals as goal
 
 pub loop-child-init : goal.loop-child-init
 loop-child-init c evidence costs sets = zero_is evidence costs c.put_one.new.set (λ n h. c.put_one.ensures n (omega arith))
-
-pub set_at-requires : goal.set_at-requires
-set_at-requires c =
-    let kids = c.kids-child-items.result.now in
-    let size = length c.args.set.now in
-    omega (arith, c.requires.sets, block-below (get_or kids c.loop-child.child-index 0) c.args.at size (child-below c.args.self.now.graph.now c.args.at kids c.args.self.now.valid c.requires.node.within c.kids-child-items.ensures.kids c.loop-child.child-index c.loop-child-test.true))
 
 pub loop-child-preserved : goal.loop-child-preserved
 loop-child-preserved c evidence costs sets =

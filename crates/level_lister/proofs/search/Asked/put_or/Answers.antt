@@ -1,4 +1,4 @@
-use Rattle.std.proofs.Common.{◌≡◌, ◌<◌, ◌+◌, ◌*◌, List, ℕ, length, get_or, sym, ◌∙◌, ap, subst, arith}
+use Rattle.std.proofs.Common.{◌≡◌, ◌<◌, List, ℕ, length, get_or, sym, ◌∙◌, ap, subst, arith}
 use Rattle.state_rules.specs.Graphs.{is_true, mentions}
 use Rattle.scratch_pool.proofs.Counted.{block-below}
 use Rattle.part_sets.specs.Numbers.{part_words, set_at}
@@ -6,30 +6,14 @@ use Rattle.part_sets.specs.PartSets.{ArePartsOf}
 use Rattle.part_sets.proofs.Children.{child-below, child-mentions}
 use Rattle.level_lister.specs.inner.Skips.{living}
 use Rattle.level_lister.specs.inner.CostSets.{IsCostSet}
-use Rattle.level_lister.proofs.TestCosts.{empty_is}
 use Rattle.level_lister.proofs.Children.{or_next, or_end}
 use Rattle.level_lister.proofs.ConditionCosts.{or_is}
 use Rattle.level_lister.proofs.search.Asked.put_or.Goals as goal
-
-pub loop-child-init : goal.loop-child-init
-loop-child-init c = empty_is c.args.self.now.evidence.now c.args.self.now.levels.now.costs _ c.clear.new.set c.clear.ensures
 
 pub set_at-requires : goal.set_at-requires
 set_at-requires c =
     let kids = c.kids-child-items.result.now in
     omega (arith, c.requires.sets, block-below (get_or kids c.loop-child.child-index 0) c.args.at (length c.args.set.now) (child-below c.args.self.now.graph.now c.args.at kids c.args.self.now.valid c.requires.node.within c.kids-child-items.ensures.kids c.loop-child.child-index c.loop-child-test.true))
-
-pub set_at-requires-in-loop-child : goal.set_at-requires-in-loop-child
-set_at-requires-in-loop-child c =
-    let kids = c.kids-child-items.result.now in
-    let graph = c.args.self.now.graph.now in
-    let size = c.part_words-parts.result in
-    let parts = length c.args.self.now.levels.now.costs in
-    let same : c.part_words-parts.result ≡ part_words (length c.args.self.now.levels.now.costs) = c.part_words-parts.ensures ∙ ap (λ (cs : List ℕ). part_words (length cs)) c.costs-costs.ensures in
-    let below = child-below graph c.args.at kids c.args.self.now.valid c.requires.node.within c.kids-child-items.ensures.kids c.loop-child.child-index c.loop-child-test.true in
-    let long : length c.below-below.result.now ≡ (length graph.nodes + 1) * c.part_words-parts.result =
-    ap length c.below-below.ensures ∙ c.args.self.now.for_graph.below.long ∙ ap (λ n. (length graph.nodes + 1) * n) (sym same) in
-    omega (arith, long, block-below (get_or kids c.loop-child.child-index 0) (length graph.nodes + 1) size (omega arith))
 
 pub loop-child-preserved : goal.loop-child-preserved
 loop-child-preserved c =

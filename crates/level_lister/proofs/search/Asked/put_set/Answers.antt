@@ -1,16 +1,7 @@
 use Rattle.std.proofs.Common.{get_or, refl, sym, ◌∙◌, ap, arith}
 use Rattle.minimiser.specs.Costs.{part_cost}
-use Rattle.part_sets.proofs.Children.{literal-fits}
 use Rattle.level_lister.proofs.Children.{literal_set, skipped_set}
 use Rattle.level_lister.proofs.search.Asked.put_set.Goals as goal
-
-pub leaf-requires-clause-var : goal.leaf-requires-clause-var
-leaf-requires-clause-var c =
-    let fits = literal-fits c.args.self.now.graph.now c.args.at _ c.args.self.now.valid c.requires.at refl c.in-Literal.var c.in-Literal.positive c.in-Literal.ensures.what in
-    (fits.0, omega (arith, fits.1, c.args.self.now.long))
-
-pub part_cost-requires : goal.part_cost-requires
-part_cost-requires c = (literal-fits c.args.self.now.graph.now c.args.at _ c.args.self.now.valid c.requires.at refl c.in-Literal.var c.in-Literal.positive c.in-Literal.ensures.what).0
 
 pub returns-in-Literal : goal.returns-in-Literal
 returns-in-Literal c = literal_set c.args.self.now.graph.now c.args.at _ c.args.self.now.valid c.requires.at refl c.args.self.now.skips.now c.if-self-at-ne0.false c.args.self.now.evidence.now c.args.self.now.levels.now.costs c.in-Literal.var c.part_cost.result c.in-Literal.positive c.leaf.result c.put_literal.new.set

@@ -19,9 +19,8 @@ pub returns-else-pointed-clause-found : goal.returns-else-pointed-clause-found
 returns-else-pointed-clause-found g c =
     let graph = c.args.self.now.graph.now in
     let kept = c.args.self.now.levels.now in
-    let evidence = c.args.evidence.now in
-    subst (λ pointed. FindsNext graph evidence kept (point_if pointed (bits_of c.args.state.now)) c.find_from.new.evidence c.find_from.result) (sym c.if-pointed.false)
-    (finds-alike evidence kept.costs (IsListed graph evidence kept.costs 0 kept.top) _ c.find_from.new.evidence c.find_from.result (λ k l. (l, refl)) (λ k l. l.0) c.find_from.ensures.found)
+    subst (λ pointed. FindsNext graph c.args.evidence.now kept (point_if pointed (bits_of c.args.state.now)) c.find_from.new.evidence c.find_from.result) (sym c.if-pointed.false)
+    (finds-alike c.args.evidence.now kept.costs (IsListed graph c.args.evidence.now kept.costs 0 kept.top) _ c.find_from.new.evidence c.find_from.result (λ k l. (l, refl)) (λ k l. l.0) c.find_from.ensures.found)
 
 pub returns-else-pointed-clause-steps : goal.returns-else-pointed-clause-steps
 returns-else-pointed-clause-steps g c =

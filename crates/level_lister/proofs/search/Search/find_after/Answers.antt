@@ -1,14 +1,13 @@
 use Rattle.std.specs.Prelude.{MatchOption}
-use Rattle.std.proofs.Common.{◌≡◌, ◌+◌, ℕ, Option, Some, None, true, List, length, refl, sym, ◌∙◌, ap, subst, arith}
+use Rattle.std.proofs.Common.{◌≡◌, ◌+◌, ℕ, Option, Some, None, true, length, refl, ◌∙◌, ap, subst, arith}
 use Rattle.state_rules.specs.Ranking.{cost, is_before}
 use Rattle.conditioner.specs.Evidence.{bits_of}
 use Rattle.diagnosis_lister.specs.inner.Fixing.{IsFirst, NoneAfter, fixed_bits}
 use Rattle.diagnosis_lister.proofs.OpenMarks.{length-bits}
-use Rattle.level_lister.specs.inner.Searching.{OfCost, CanAsk, FindsFirst, IsListed}
+use Rattle.level_lister.specs.inner.Searching.{OfCost, FindsFirst, IsListed}
 use Rattle.diagnosis_lister.proofs.Points.{leaves-first}
 use Rattle.level_lister.proofs.StatesOfOneCost.{allows-cost}
 use Rattle.level_lister.proofs.FirstByCost.{Later, first-same, later-dearer, dearer-later, none-too_dear, finds-alike}
-use Rattle.level_lister.proofs.Skips.{enough_more}
 use Rattle.level_lister.proofs.search.Search.find_after.Goals as goal
 
 pub returns-then-own-top-clause-found : goal.returns-then-own-top-clause-found
@@ -40,37 +39,23 @@ pub returns-in-None-clause-found : goal.returns-in-None-clause-found
 returns-in-None-clause-found g c =
     let graph = c.args.self.now.graph.now in
     let kept = c.args.self.now.levels.now in
-    let costs = kept.costs in
     let evidence = c.args.evidence.now in
     let point = bits_of c.args.state.now in
-    let own_is : c.state_cost-own.result ≡ cost costs point = c.state_cost-own.ensures ∙ ap (λ cs. cost cs point) c.costs.ensures in
+    let own_is : c.state_cost-own.result ≡ cost kept.costs point = c.state_cost-own.ensures ∙ ap (λ cs. cost cs point) c.costs.ensures in
     let left = c.in-None.ensures.left in
-    let none : NoneAfter (OfCost graph evidence costs (cost costs point)) point 0 = subst (λ n. NoneAfter (OfCost graph evidence costs n) point 0) own_is left.1 in
-    let found : FindsFirst graph evidence kept (cost costs point + 1) c.find_from.new.evidence c.find_from.result =
+    let none : NoneAfter (OfCost graph evidence kept.costs (cost kept.costs point)) point 0 = subst (λ n. NoneAfter (OfCost graph evidence kept.costs n) point 0) own_is left.1 in
+    let found : FindsFirst graph evidence kept (cost kept.costs point + 1) c.find_from.new.evidence c.find_from.result =
     subst (λ n. FindsFirst graph evidence kept (n + 1) c.find_from.new.evidence c.find_from.result) own_is
     (subst (λ ws. FindsFirst graph ws kept (c.state_cost-own.result + 1) c.find_from.new.evidence c.find_from.result) left.0 c.find_from.ensures.found) in
-    finds-alike evidence costs (IsListed graph evidence costs (cost costs point + 1) kept.top) (Later graph evidence costs kept.top point) c.find_from.new.evidence c.find_from.result
-    (dearer-later graph evidence costs kept.top point) (later-dearer graph evidence costs kept.top point none) found
+    finds-alike evidence kept.costs (IsListed graph evidence kept.costs (cost kept.costs point + 1) kept.top) (Later graph evidence kept.costs kept.top point) c.find_from.new.evidence c.find_from.result
+    (dearer-later graph evidence kept.costs kept.top point) (later-dearer graph evidence kept.costs kept.top point none) found
 
 more : (o : Option ℕ) (P Q : Type 0) (R S : ℕ → Type 0) → (P → Q) → ((n : ℕ) → R n → S n) → MatchOption o P R → MatchOption o Q S
 more None P Q R S to over m = to m
 more (Some n) P Q R S to over m = over n m
 
-pub returns-then-own-top-clause-steps : goal.returns-then-own-top-clause-steps
-returns-then-own-top-clause-steps g c = omega arith
-
-pub returns-in-Some-clause-steps : goal.returns-in-Some-clause-steps
-returns-in-Some-clause-steps g c wide search h = omega (arith, c.in-Some.ensures.steps, c.settle.ensures.steps (omega (arith, wide)) search h)
-
 pub returns-in-None-clause-steps : goal.returns-in-None-clause-steps
 returns-in-None-clause-steps g c = more c.find_from.result _ _ _ _ (λ s. omega (arith, c.in-None.ensures.steps, s)) (λ n s wide search h. omega (arith, c.in-None.ensures.steps, s (omega (arith, wide)) search h)) c.find_from.ensures.steps
-
-pub settle-requires-clause-asked : goal.settle-requires-clause-asked
-settle-requires-clause-asked g c = record {
-  long = c.leave.auto.evidence ∙ c.requires.asked.long;
-  small = c.in-Some.ensures.evidence;
-  enough = enough_more c.args.self.now.graph.now c.args.self.now.skips.now c.args.self.now.levels.now.costs c.args.self.now.levels.now.top c.args.evidence.now c.leave.new.evidence c.in-Some.ensures.left.follows.kept c.requires.asked.enough;
-}
 
 pub settle-requires-clause-begun : goal.settle-requires-clause-begun
 settle-requires-clause-begun g c =
@@ -81,6 +66,3 @@ settle-requires-clause-begun g c =
       front = λ k h. grind (arith, leaves.follows.front, leaves.ok);
       some = leaves.some;
     }
-
-pub find_from-requires-clause-asked : goal.find_from-requires-clause-asked
-find_from-requires-clause-asked g c = subst (λ (ws : List ℕ). CanAsk c.args.self.now.graph.now c.args.self.now.skips.now ws c.args.self.now.levels.now) (sym c.in-None.ensures.left.0) c.requires.asked

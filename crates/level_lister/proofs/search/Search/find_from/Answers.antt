@@ -1,4 +1,4 @@
-use Rattle.std.proofs.Common.{refl, arith}
+use Rattle.std.proofs.Common.{refl}
 use Rattle.state_rules.specs.Ranking.{cost}
 use Rattle.level_lister.proofs.FirstByCost.{listed-has, first-from}
 use Rattle.level_lister.proofs.search.Search.find_from.Goals as goal
@@ -14,9 +14,3 @@ returns-in-Some-clause-found g c =
       first = first-from c.args.self.now.graph.now c.args.evidence.now c.args.self.now.levels.now.costs c.args.self.now.levels.now.top c.args.from c.in-Some.cost _ found.0 found.1 found.3 c.settle.ensures.first;
       cost_is = c.settle.ensures.first.meets.cost_is;
     }
-
-pub returns-in-None-clause-steps : goal.returns-in-None-clause-steps
-returns-in-None-clause-steps g c = omega (arith, c.in-None.ensures.steps)
-
-pub returns-in-Some-clause-steps : goal.returns-in-Some-clause-steps
-returns-in-Some-clause-steps g c wide search h = omega (arith, c.in-Some.ensures.steps, c.settle.ensures.steps (omega (arith, wide)) search h)

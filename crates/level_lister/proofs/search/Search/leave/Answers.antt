@@ -34,9 +34,6 @@ invariant_of-asked-clause-long g c = length-set c.loop-part.evidence (c.loop-par
 pub invariant_of-asked-clause-small : goal.invariant_of-asked-clause-small
 invariant_of-asked-clause-small g c = All-set (λ w. w < 3) c.loop-part.evidence (c.loop-part.part - 1) 1 (omega arith) c.loop-part.invariant.small
 
-pub returns-then-reaches-clause-evidence : goal.returns-then-reaches-clause-evidence
-returns-then-reaches-clause-evidence g c = All-set (λ w. w < 3) c.loop-part.evidence (c.loop-part.part - 1) 1 (omega arith) c.loop-part.invariant.small
-
 pub returns-then-reaches-clause-left : goal.returns-then-reaches-clause-left
 returns-then-reaches-clause-left g c =
     let graph = c.args.self.now.graph.now in
@@ -106,17 +103,13 @@ returns-clause-left g c =
 
 pub returns-then-reaches-clause-steps : goal.returns-then-reaches-clause-steps
 returns-then-reaches-clause-steps g c =
-    let state = c.args.state.now in
-    let point = bits_of state in
+    let point = bits_of c.args.state.now in
     let j : ℕ = c.loop-part.part - 1 in
     let next : c.loop-part.part ≡ j + 1 = omega arith in
-    let lt : j < length state = omega (arith, c.loop-part.invariant.within) in
-    let at : j < length point = omega (arith, length-bits state, lt) in
+    let lt : j < length c.args.state.now = omega (arith, c.loop-part.invariant.within) in
+    let at : j < length point = omega (arith, length-bits c.args.state.now, lt) in
     let steps : c.loop-part.steps ≤ c.args.steps.now + fault_count (drop (j + 1) point) = subst (λ (n : ℕ). c.loop-part.steps ≤ c.args.steps.now + fault_count (drop n point)) next c.loop-part.invariant.steps in
-    omega (arith, steps, c.reaches.ensures.steps, faults-at point j at (is_faulty state j lt (faulty_word (get_or state j 0) c.is_faulty.result c.is_faulty.ensures c.if-is_faulty.true)), faults-all point j)
-
-pub returns-clause-steps : goal.returns-clause-steps
-returns-clause-steps g c = omega (arith, c.loop-part.invariant.steps, faults-all (bits_of c.args.state.now) c.loop-part.part)
+    omega (arith, steps, c.reaches.ensures.steps, faults-at point j at (is_faulty c.args.state.now j lt (faulty_word (get_or c.args.state.now j 0) c.is_faulty.result c.is_faulty.ensures c.if-is_faulty.true)), faults-all point j)
 
 pub invariant_of-asked-clause-enough : goal.invariant_of-asked-clause-enough
 invariant_of-asked-clause-enough g c =

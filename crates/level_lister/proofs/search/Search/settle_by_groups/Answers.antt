@@ -7,7 +7,6 @@ use Rattle.diagnosis_lister.proofs.FixedParts.{FixesOk, Settles-start, settles-o
 use Rattle.scratch_pool.proofs.Counted.{block-below}
 use Rattle.level_lister.specs.inner.Pairs.{FaultIn, OkAmong}
 use Rattle.level_lister.proofs.StatesOfOneCost.{allows-cost}
-use Rattle.level_lister.proofs.Skips.{enough_more}
 use Rattle.level_lister.proofs.search.Search.settle_by_groups.Goals as goal
 
 pub loop-part-init : goal.loop-part-init
@@ -51,19 +50,15 @@ loop-part-preserved g c =
 
 pub returns-clause-first : goal.returns-clause-first
 returns-clause-first g c =
-    let graph = c.args.self.now.graph.now in
     let costs = c.args.self.now.levels.now.costs in
     let old = c.loop-part.evidence in
     let new = c.fix_ok-2.new.evidence in
     let all : length c.costs.result.now ≡ length costs = ap length c.costs.ensures in
     let fixes : FixesOk old new c.loop-part.from (length costs) =
     subst (λ n. FixesOk old new c.loop-part.from n) all (record { long = c.fix_ok-2.auto.evidence; fixed = c.fix_ok-2.ensures.fixed; kept = c.fix_ok-2.ensures.kept; before = c.fix_ok-2.ensures.before; behind = c.fix_ok-2.ensures.behind }) in
-    let allows = allows-cost graph costs c.args.cost c.args.self.now.for_graph.parts in
+    let allows = allows-cost c.args.self.now.graph.now costs c.args.cost c.args.self.now.for_graph.parts in
     settles-end allows c.args.evidence.now c.requires.asked.long new (length costs)
     (settles-ok allows c.args.evidence.now c.requires.asked.long old c.loop-part.from c.loop-part.invariant.settles new (length costs) (omega arith) fixes (λ k l lt free. c.in_default.ensures.found k l lt lt free)) refl (λ k h. c.fix_ok-2.ensures.evidence k 0 h)
-
-pub returns-clause-others : goal.returns-clause-others
-returns-clause-others g c k h = c.fix_ok-2.ensures.behind k (omega (arith, ap length c.costs.ensures, h)) ∙ c.loop-part.invariant.settles.refines.others k h
 
 pub returns-clause-steps : goal.returns-clause-steps
 returns-clause-steps g c search h =
@@ -77,6 +72,3 @@ returns-clause-steps g c search h =
       c.loop-part.invariant.steps search h,
       block-below (fault_count (fixed_bits (length costs) old)) (fault_count (fixed_bits (length costs) new) + 1) search (omega (arith, kept)),
     )
-
-pub invariant_of-first_faulty-clause-enough : goal.invariant_of-first_faulty-clause-enough
-invariant_of-first_faulty-clause-enough g c = enough_more c.args.self.now.graph.now c.args.self.now.skips.now c.args.self.now.levels.now.costs c.args.self.now.levels.now.top c.args.evidence.now c.loop-part.evidence c.loop-part.invariant.settles.refines.kept c.requires.asked.enough

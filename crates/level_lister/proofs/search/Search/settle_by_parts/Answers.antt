@@ -21,38 +21,34 @@ pub invariant_of-asked-clause-enough : goal.invariant_of-asked-clause-enough
 invariant_of-asked-clause-enough g c =
     let costs = c.args.self.now.levels.now.costs in
     let evidence = c.loop-part.evidence in
-    let part = c.loop-part.part in
-    let lt : part < length costs = omega (arith, ap length c.costs-part-end.ensures) in
-    let free : get_or evidence part 0 ≡ 0 = eqb-true _ 0 (sym c.is_open.ensures ∙ c.if-is_open.true) in
-    enough_more c.args.self.now.graph.now c.args.self.now.skips.now costs c.args.self.now.levels.now.top c.args.evidence.now (set evidence part 2)
-    (Refines-more (length costs) c.args.evidence.now evidence (set evidence part 2) c.loop-part.invariant.settles.refines (Refines-set (length costs) evidence part 2 lt free)).kept c.requires.asked.enough
+    let lt : c.loop-part.part < length costs = omega (arith, ap length c.costs-part-end.ensures) in
+    let free : get_or evidence c.loop-part.part 0 ≡ 0 = eqb-true _ 0 (sym c.is_open.ensures ∙ c.if-is_open.true) in
+    enough_more c.args.self.now.graph.now c.args.self.now.skips.now costs c.args.self.now.levels.now.top c.args.evidence.now (set evidence c.loop-part.part 2)
+    (Refines-more (length costs) c.args.evidence.now evidence (set evidence c.loop-part.part 2) c.loop-part.invariant.settles.refines (Refines-set (length costs) evidence c.loop-part.part 2 lt free)).kept c.requires.asked.enough
 
 pub loop-part-preserved : goal.loop-part-preserved
 loop-part-preserved g c =
     let costs = c.args.self.now.levels.now.costs in
     let allows = allows-cost c.args.self.now.graph.now costs c.args.cost c.args.self.now.for_graph.parts in
-    let start = c.args.evidence.now in
-    let evidence = c.loop-part.evidence in
-    let part = c.loop-part.part in
     let small = c.loop-part.invariant.small in
-    let lt : part < length costs = omega (arith, ap length c.costs-part-end.ensures) in
+    let lt : c.loop-part.part < length costs = omega (arith, ap length c.costs-part-end.ensures) in
     let long = c.requires.asked.long in
     let so = c.loop-part.invariant.settles in
     elim c.if-is_open.branch [
       | then-is_open+then-not-reaches w ↦
-          let free : get_or evidence part 0 ≡ 0 = eqb-true _ 0 (sym c.is_open.ensures ∙ w.if-is_open.true) in
-          let is : c.if-is_open.evidence ≡ set evidence part 1 = w.evidence-is ∙ set-set evidence part 2 1 in record {
-            small = rw is (All-set (λ n. n < 3) evidence part 1 (lit< tt) small);
-            settles = rw is (settles-one_ok allows start long evidence part lt so free (λ has. false≢true (sym w.if-not-reaches.true ∙ w.reaches.ensures.reached.1 has)));
+          let free : get_or c.loop-part.evidence c.loop-part.part 0 ≡ 0 = eqb-true _ 0 (sym c.is_open.ensures ∙ w.if-is_open.true) in
+          let is : c.if-is_open.evidence ≡ set c.loop-part.evidence c.loop-part.part 1 = w.evidence-is ∙ set-set c.loop-part.evidence c.loop-part.part 2 1 in record {
+            small = rw is (All-set (λ n. n < 3) c.loop-part.evidence c.loop-part.part 1 (lit< tt) small);
+            settles = rw is (settles-one_ok allows c.args.evidence.now long c.loop-part.evidence c.loop-part.part lt so free (λ has. false≢true (sym w.if-not-reaches.true ∙ w.reaches.ensures.reached.1 has)));
           }
       | then-is_open+else-not-reaches w ↦
-          let free : get_or evidence part 0 ≡ 0 = eqb-true _ 0 (sym c.is_open.ensures ∙ w.if-is_open.true) in record {
-            small = rw w.evidence-is (All-set (λ n. n < 3) evidence part 2 (lit< tt) small);
-            settles = rw w.evidence-is (settles-faulty allows start long evidence part so lt free (w.reaches.ensures.reached.0 w.if-not-reaches.false));
+          let free : get_or c.loop-part.evidence c.loop-part.part 0 ≡ 0 = eqb-true _ 0 (sym c.is_open.ensures ∙ w.if-is_open.true) in record {
+            small = rw w.evidence-is (All-set (λ n. n < 3) c.loop-part.evidence c.loop-part.part 2 (lit< tt) small);
+            settles = rw w.evidence-is (settles-faulty allows c.args.evidence.now long c.loop-part.evidence c.loop-part.part so lt free (w.reaches.ensures.reached.0 w.if-not-reaches.false));
           }
       | else-is_open w ↦ record {
         small = rw w.evidence-is small;
-        settles = rw w.evidence-is (settles-held allows start long evidence part lt so (λ e. eqb-false _ 0 (sym c.is_open.ensures ∙ w.if-is_open.false) e));
+        settles = rw w.evidence-is (settles-held allows c.args.evidence.now long c.loop-part.evidence c.loop-part.part lt so (λ e. eqb-false _ 0 (sym c.is_open.ensures ∙ w.if-is_open.false) e));
       }
     ]
 

@@ -29,7 +29,7 @@ use Rattle.minimiser.proofs.Derivations.{mention-at, apart-kids, costs-at, all-b
 use Rattle.smooth_nnf.specs.Layouts.{Layout, layout_of, own_line, literal_pairs, literal_line, literal_children, filling, fillers, costs_just, cheapest_children, lines_before, lines_to, own_lines, child_line, or_behind, or_lines, lines_by, lines_at, node_lines, and_over}
 use Rattle.smooth_nnf.proofs.LaterLines.{value_of-front, value_of-there, values-behind, Stand, MayFollow, stand-behind}
 use Rattle.smooth_nnf.proofs.DrawnMeaning.{is_part, Means, NodeMeans, filled, part-means, other-means, and-means, or-means, child-inside, cheapest-in, cheapest-is}
-use Rattle.smooth_nnf.proofs.Fillers.{length-literal_pairs, pairs-stand, literal_line-lt, literal-value, fillers-below, fillers-mention, fillers-once, fillers-true, fillers-say, map-in}
+use Rattle.smooth_nnf.proofs.Fillers.{length-literal_pairs, room, pairs-stand, literal_line-lt, literal-value, fillers-below, fillers-mention, fillers-once, fillers-true, fillers-say, map-in}
 
 -- ---- lists
 
@@ -45,13 +45,8 @@ any-const false (k ∷ kids) some = list_any-map (λ x. x) (λ k. false) kids �
 
 same-const : (b : Bool) (kids : List ℕ) → all_same (map (λ k. b) kids) ≡ true
 same-const b [] = refl
-same-const b (k ∷ kids) = all kids where
-  all : (kids : List ℕ) → list_all (same_bit b) (map (λ k. b) kids) ≡ true
-  all [] = refl
-  all (j ∷ kids) = and_from _ _ (same_bit-refl b) (all kids)
-
-one_alone : (b : Bool) → at_most_one (b ∷ []) ≡ true
-one_alone b = grind (arith, nat_tests)
+same-const b (k ∷ []) = refl
+same-const b (k ∷ j ∷ kids) = and_from _ _ (same_bit-refl b) (same-const b (k ∷ kids))
 
 -- what a line has below it that is filled in
 pub below_filled : (p m o : Bool) → (m ≡ true → o ≡ true) → ((p && m) || (p && (o && not m))) ≡ (p && o)
@@ -121,14 +116,11 @@ module _ (graph : Graph) (evidence costs : List ℕ) (ok : IsGraph graph) (dear 
     abbrev pub line_over : Node
     line_over = and_over (slice_index (layout_of graph evidence costs).lines k ∷ fillers evidence (length costs) (λ v. o v && not (mentions graph.nodes v k)))
 
-    room : 2 * parts ≤ length lines
-    room = omega (arith, length-append (literal_pairs parts) more, length-literal_pairs parts)
-
     few : length filling_in ≤ parts
     few = omega (arith, length-map (filter rest (range_with_len 1 parts)) (λ p. literal_line p (filling (known_at evidence p))), length-filter-le rest (range_with_len 1 parts), length-range_with_len 1 parts)
 
     pub over-mention : (v : ℕ) → list_any (λ b. b) (map (mentions (literal_pairs (length costs) ++ more) v) line_over.kids) ≡ ((nat_le 1 v && nat_le v (length costs)) && o v)
-    over-mention v = (λ i. drawn.mentioned v i || fillers-mention parts more evidence rest room v i) ∙ below_filled (part_of v) (M v k) (o v) (wider v)
+    over-mention v = (λ i. drawn.mentioned v i || fillers-mention parts more evidence rest v i) ∙ below_filled (part_of v) (M v k) (o v) (wider v)
 
     pub over-follows : MayFollow (length costs) (literal_pairs (length costs) ++ more) line_over
     over-follows = grind (arith, nat_tests, and_from, lt-ltb, fillers-below, room, few, at_most_one-from, and_parts, fillers-mention, drawn.mentioned, and_right, not-true, fillers-once)
@@ -136,8 +128,8 @@ module _ (graph : Graph) (evidence costs : List ℕ) (ok : IsGraph graph) (dear 
     pub over-means : Means graph evidence costs ok dear (λ a. is_true graph.nodes k a) o c (λ a. list_all (λ b. b) (map (λ q. is_true (literal_pairs (length costs) ++ more) q a) line_over.kids))
     over-means = filled graph evidence costs ok dear k c cost_is o wider (λ a. is_true lines (own k) a) (λ a. list_all (λ b. b) (map (λ q. is_true lines q a) filling_in)) drawn.means
         (record {
-          sound = λ a h. fillers-true parts more evidence rest room a h;
-          reached = λ a h. fillers-say parts more evidence rest room a h;
+          sound = λ a h. fillers-true parts more evidence rest a h;
+          reached = λ a h. fillers-say parts more evidence rest a h;
         })
 
   -- ---- the lines of one more node
@@ -145,9 +137,6 @@ module _ (graph : Graph) (evidence costs : List ℕ) (ok : IsGraph graph) (dear 
   module _ (i : ℕ) (more : List Node) (upto : Upto i more) where
     abbrev before : List Node
     before = literal_pairs parts ++ more
-
-    enough : 2 * parts ≤ length before
-    enough = omega (arith, length-append (literal_pairs parts) more, length-literal_pairs parts)
 
     -- lines that are added, with the node's own as the last
     record Adds (block : List Node) : Type 0 where
@@ -202,12 +191,12 @@ module _ (graph : Graph) (evidence costs : List ℕ) (ok : IsGraph graph) (dear 
         by_part : (b : Bool) → nat_le var parts ≡ b → Adds (and_over (cond b (literal_line var positive ∷ []) []) ∷ [])
         by_part true p =
             let part : part_of var ≡ true = and_from _ _ (le-leb 1 var low) p in
-            let inside : literal_line var positive < length before = omega (arith, enough, literal_line-lt parts var positive low (high p)) in
+            let inside : literal_line var positive < length before = omega (arith, room parts more, literal_line-lt parts var positive low (high p)) in
             one-adds (and_over (literal_line var positive ∷ []))
-            (record { below = and_from _ _ (lt-ltb (literal_line var positive) (length before) inside) refl; kind = refl; apart = λ v. one_alone (mentions before v (literal_line var positive)); smooth = λ v. refl })
+            (record { below = and_from _ _ (lt-ltb (literal_line var positive) (length before) inside) refl; kind = refl; apart = λ v. grind (arith, nat_tests); smooth = λ v. refl })
             at
-            (λ v c q. or-false (mentions before v (literal_line var positive)) ∙ literal-value parts more (mention_by v) var positive low (high p) inside ∙ part_alone v part ∙ ap (λ b. part_of v && b) (sym (has-is v)))
-            (λ c q. Means-same (λ a. and-true (is_true before (literal_line var positive) a) ∙ literal-value parts more (truth_by a) var positive low (high p) inside) (part-means graph evidence costs ok dear i var positive kids e c q part))
+            (λ v c q. or-false (mentions before v (literal_line var positive)) ∙ literal-value parts more (mention_by v) var positive low (high p) ∙ part_alone v part ∙ ap (λ b. part_of v && b) (sym (has-is v)))
+            (λ c q. Means-same (λ a. and-true (is_true before (literal_line var positive) a) ∙ literal-value parts more (truth_by a) var positive low (high p)) (part-means graph evidence costs ok dear i var positive kids e c q part))
         by_part false p =
             one-adds (and_over []) (record { below = refl; kind = refl; apart = λ v. refl; smooth = λ v. refl }) at
             (λ v c q. other_none v (and_right (nat_le 1 var) _ p) ∙ ap (λ b. part_of v && b) (sym (has-is v)))
@@ -298,11 +287,8 @@ module _ (graph : Graph) (evidence costs : List ℕ) (ok : IsGraph graph) (dear 
       abbrev or_node : Node
       or_node = or_behind (own i) (length best)
 
-      start-is : own i - length best ≡ length before
-      start-is = omega (arith, at)
-
       or_children : or_node.kids ≡ range_with_len (length before) (length best)
-      or_children = ap (λ n. range_with_len n (length best)) start-is
+      or_children = let start : own i - length best ≡ length before = omega (arith, at) in ap (λ n. range_with_len n (length best)) start
 
       length-all_children : length all_children ≡ length before + length best
       unfolding all_children

@@ -24,15 +24,12 @@ use Rattle.smooth_nnf.specs.Layouts.{filling, costs_just, cheapest_children}
 costs_just-is : (c : ℕ) (o : Option ℕ) → costs_just c o ≡ true → o ≡ Some c
 costs_just-is c o e = grind (arith, nat_tests, eqb-true)
 
-costs_just-of : (c : ℕ) (o : Option ℕ) → o ≡ Some c → costs_just c o ≡ true
-costs_just-of c o e = ap (costs_just c) e ∙ eq-eqb c c refl
-
 -- a child of least cost
 pub cheapest-in : (least : List (Option ℕ)) (c : ℕ) (kids : List ℕ) (k : ℕ) → In k kids → cost_at least k ≡ Some c → In k (cheapest_children least c kids)
-cheapest-in least c kids k m e = In-filtered (λ j. costs_just c (cost_at least j)) k kids m (costs_just-of c (cost_at least k) e)
+cheapest-in least c kids k m e = In-filtered (λ j. costs_just c (cost_at least j)) k kids m (ap (costs_just c) e ∙ eq-eqb c c refl)
 
 pub cheapest-is : (least : List (Option ℕ)) (c : ℕ) (kids : List ℕ) (k : ℕ) → In k (cheapest_children least c kids) → In k kids × (cost_at least k ≡ Some c)
-cheapest-is least c kids k m = let r = In-filter (λ j. costs_just c (cost_at least j)) k kids m in (r.0, costs_just-is c (cost_at least k) r.1)
+cheapest-is least c kids k m = grind (arith, nat_tests, In-filter, eqb-true)
 
 -- a bit that agrees and costs nothing is that which fills in
 filled_bit : (k : Option Bool) (b : Bool) (w : ℕ) → 0 < w → agrees_at k b ≡ true → (fault k w b ≡ 0) → b ≡ filling k
@@ -88,15 +85,10 @@ module _ (graph : Graph) (evidence costs : List ℕ) (ok : IsGraph graph) (dear 
       let range = and_parts (nat_le 1 v) (nat_le v n) part in
       let low : 1 ≤ v = leb-true 1 v range.0 in
       let high : v ≤ n = leb-true v n range.1 in
-      filled_bit (kn v) (b v) (price v) (price-some v low high) (ag v) (by_test (fault (kn v) (price v) (b v)) refl low high) where
-        by_test : (w : ℕ) → fault (kn v) (price v) (b v) ≡ w → 1 ≤ v → v ≤ n → fault (kn v) (price v) (b v) ≡ 0
-        by_test zero q low high = q
-        by_test (suc w) q low high =
-            let costly : 0 < fault (kn v) (price v) (b v) = omega arith in
-            let most : c ≤ faults_in kn price n (λ u. M u k) b = subst (λ d. AtMost d (faults_in kn price n (λ u. M u k) b)) e ((is_cost graph evidence costs ok k).bound b ag h) in
-            let less : faults_in kn price n (λ u. M u k) b < faults_in kn price n o b =
-            faults-lt graph evidence costs ok b ag v low (omega arith) (only_fault (kn v) (b v) (price v) (λ z. omega arith)) costly (λ u. M u k) o wider not_below in_o in
-            absurd (omega arith)
+      let most : c ≤ faults_in kn price n (λ u. M u k) b = subst (λ d. AtMost d (faults_in kn price n (λ u. M u k) b)) e ((is_cost graph evidence costs ok k).bound b ag h) in
+      let less : 0 < fault (kn v) (price v) (b v) → faults_in kn price n (λ u. M u k) b < faults_in kn price n o b =
+      λ costly. faults-lt graph evidence costs ok b ag v low (omega arith) (only_fault (kn v) (b v) (price v) (λ z. omega arith)) costly (λ u. M u k) o wider not_below in_o in
+      filled_bit (kn v) (b v) (price v) (price-some v low high) (ag v) (grind (arith, most, less, few))
 
   -- ---- parts that are filled in
 
@@ -132,16 +124,13 @@ module _ (graph : Graph) (evidence costs : List ℕ) (ok : IsGraph graph) (dear 
     of_var : (v : ℕ) → M v k ≡ true → var ≡ v
     of_var v m = eqb-true var v (sym (mention-at graph evidence costs ok k _ e v) ∙ m)
 
-    has_var : M var k ≡ true
-    has_var = mention-at graph evidence costs ok k _ e var ∙ eq-eqb var var refl
-
     says : (a : Assignment) → T a k ≡ true → a var ≡ positive
     says a h = sym (same_bit-equal positive (a var) (sym (true-at graph evidence costs ok k _ e a) ∙ h))
 
     -- of a part
     pub part-means : is_part var ≡ true → NodeMeans k c (λ a. same_bit positive (a var))
     part-means part = record {
-      sound = λ a b ag h few same. ap (same_bit positive) (same var part has_var ∙ says b h) ∙ same_bit-refl positive;
+      sound = λ a b ag h few same. ap (same_bit positive) (same var part (mention-at graph evidence costs ok k _ e var ∙ eq-eqb var var refl) ∙ says b h) ∙ same_bit-refl positive;
       reached = λ a h.
           let r = (is_cost graph evidence costs ok k).reached c cost_is in
           record { is = r; same = λ v p m. subst (λ u. a u ≡ r.by u) (of_var v m) (sym (same_bit-equal positive (a var) h) ∙ sym (says r.by r.holds)) };

@@ -6,9 +6,9 @@ use Rattle.std.specs.List.{flat_map, enumerate_from, range_with_len}
 use Rattle.std.proofs.lemmas.List.{take_more, flat_map_more, take-append-drop}
 use Rattle.std.proofs.lemmas.List.Sums.{sum_by-cons, sum_by-append}
 use Rattle.std.proofs.lemmas.List.Concat.{flat_map-append}
-use Rattle.std.proofs.lemmas.List.FromFn.{length-range_with_len}
+use Rattle.std.proofs.lemmas.List.FromFn.{length-range_with_len, length-enumerate_from}
 use Rattle.text_rules.specs.Tokens.{spaced}
-use Rattle.state_rules.specs.Graphs.{Node, edges}
+use Rattle.state_rules.specs.Graphs.{Node, true_node, node_at, edges}
 use Rattle.nnf_text.specs.WrittenGraphs.{node_words, graph_text}
 use Rattle.nnf_text.proofs.LineTexts.{header, lines, text-lines}
 use Rattle.minimiser.specs.Costs.{cost_at}
@@ -17,6 +17,7 @@ use Rattle.minimiser.proofs.Sums.{cost_in-some}
 use Rattle.smooth_nnf.specs.Layouts.{Layout, literal_pair, literal_pairs, costs_just, cheapest_children, child_line, or_lines, node_lines, last_line, all_lines}
 use Rattle.smooth_nnf.specs.inner.Drawings.{Drawing, shown, filled_line}
 use Rattle.smooth_nnf.specs.inner.Texts.{lines_text, child_edges}
+use Rattle.smooth_nnf.proofs.LineLemmas.{numbered}
 
 pub last-kids : (d : Drawing) (root value : ℕ) → root ≡ length d.graph.nodes - 1 → cost_in value ≡ cost_at (map cost_in d.values) root → (value ≡ 4294967295 → ⊥)
     → length (filled_line d None root).kids ≡ length (last_line (shown d)).kids
@@ -39,28 +40,30 @@ or-edges d node cost kids = grind (arith, nat_tests, child-lines, sum_by-append,
 -- ---- one node after the other
 
 module _ {X : Type 0} (f : X → List Node) (xs : List X) where
-  pub more-edges : (i : ℕ) (d : X) → i < length xs → edges (flat_map f (take (i + 1) xs)) ≡ edges (flat_map f (take i xs)) + edges (f (get_or xs i d))
+  more-edges : (i : ℕ) (d : X) → i < length xs → edges (flat_map f (take (i + 1) xs)) ≡ edges (flat_map f (take i xs)) + edges (f (get_or xs i d))
   more-edges i d lt = ap (λ ys. edges (flat_map f ys)) (take_more xs i d lt) ∙ ap edges (sym (flat_map_more f [] (take i xs) (get_or xs i d)))
       ∙ sum_by-append (λ (n : Node). length n.kids) (flat_map f (take i xs)) (f (get_or xs i d))
 
-  pub part-edges : (i : ℕ) → edges (flat_map f (take i xs)) ≤ edges (flat_map f xs)
-  part-edges i = omega (
-    arith,
-    ap (λ ys. edges (flat_map f ys)) (take-append-drop i xs),
-    ap edges (flat_map-append f (take i xs) (drop i xs)),
-    sum_by-append (λ (n : Node). length n.kids) (flat_map f (take i xs)) (flat_map f (drop i xs)),
-  )
+  part-edges : (i : ℕ) → edges (flat_map f (take i xs)) ≤ edges (flat_map f xs)
+  part-edges i = omega (arith, simp (flat_map-append, sum_by-append) at (ap (λ ys. edges (flat_map f ys)) (take-append-drop i xs)))
 
 no-edges : (s n : ℕ) → edges (flat_map literal_pair (range_with_len s n)) ≡ 0
 no-edges s zero = refl
-no-edges s (suc n) = omega (
-  arith,
-  sum_by-append (λ (n : Node). length n.kids) (literal_pair s) (flat_map literal_pair (range_with_len (s + 1) n)),
-  no-edges (s + 1) n,
-)
+no-edges s (suc n) = grind (arith, nat_tests, sum_by-append, no-edges (s + 1) n)
 
 pub all-edges : (L : Layout) → edges (all_lines L) ≡ edges (flat_map (node_lines L) (enumerate_from 0 L.graph.nodes)) + length (last_line L).kids
 all-edges L = grind (arith, nat_tests, sum_by-append, sum_by-cons, no-edges)
+
+pub edges-next : (L : Layout) (nodes : List Node) (i : ℕ) → i < length nodes
+    → edges (flat_map (node_lines L) (take (i + 1) (enumerate_from 0 nodes))) ≡ edges (flat_map (node_lines L) (take i (enumerate_from 0 nodes))) + edges (node_lines L (i, node_at nodes i))
+edges-next L nodes i lt =
+    more-edges (node_lines L) (enumerate_from 0 nodes) i (0, true_node) (omega (arith, length-enumerate_from 0 nodes, lt)) ∙ ap (λ x. edges (flat_map (node_lines L) (take i (enumerate_from 0 nodes))) + edges (node_lines L x)) (sym (numbered nodes i lt))
+
+-- the nodes up to one have no more edges than all lines
+pub edges-up : (L : Layout) (nodes : List Node) (i : ℕ) → nodes ≡ L.graph.nodes → i < length nodes
+    → edges (flat_map (node_lines L) (take i (enumerate_from 0 nodes))) + edges (node_lines L (i, node_at nodes i)) + length (last_line L).kids ≤ edges (all_lines L)
+edges-up L nodes i is lt =
+    omega (arith, edges-next L nodes i lt, part-edges (node_lines L) (enumerate_from 0 nodes) (i + 1), ap (λ ns. edges (flat_map (node_lines L) (enumerate_from 0 ns))) is, all-edges L)
 
 -- ---- the text of all
 

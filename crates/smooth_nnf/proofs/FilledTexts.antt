@@ -1,5 +1,5 @@
 -- The texts of lines that are filled in, word by word.
-use Rattle.std.proofs.Common.{◌≡◌, ℕ, zero, suc, ◌+◌, ◌-◌, ◌*◌, ◌<◌, Bool, cond, ◌&&◌, List, [], ◌∷◌, ◌++◌, map, length, Option, refl, sym, ap, ◌∙◌, arith, append_assoc}
+use Rattle.std.proofs.Common.{◌≡◌, ℕ, zero, suc, ◌+◌, ◌-◌, ◌*◌, ◌<◌, Bool, cond, ◌&&◌, List, [], ◌∷◌, ◌++◌, map, length, Option, refl, sym, ap, ◌∙◌, subst, arith, append_assoc}
 use Rattle.std.proofs.lemmas.Bool.Decides.{nat_tests}
 use Rattle.std.specs.Prelude.{nat_le, decimal, slice_index}
 use Rattle.std.specs.List.{filter, flat_map, range_with_len}
@@ -9,6 +9,8 @@ use Rattle.std.proofs.lemmas.List.Elements.{filter-append}
 use Rattle.text_rules.specs.Tokens.{spaced}
 use Rattle.state_rules.proofs.WordBits.{has_bit-zero}
 use Rattle.state_rules.specs.Bits.{has_bit}
+use Rattle.diag_edge.specs.Edge.{Writing}
+use Rattle.nnf_text.specs.Extending.{Extends}
 use Rattle.nnf_text.specs.WrittenGraphs.{node_words}
 use Rattle.nnf_text.proofs.LineTexts.{and-spaced}
 use Rattle.part_sets.specs.Numbers.{part_words}
@@ -50,8 +52,13 @@ words-text d node over word (suc count) =
     ∙ ap (λ ps. numbers_text (map (filler d.evidence) ps)) (sym (filter-append test (range_with_len (32 * word + 1) 32) (range_with_len ((32 * word + 1) + 32) (32 * count))) ∙ ap (filter test) (sym (range-append (32 * word + 1) 32 (32 * count))))
     ∙ ap (λ n. numbers_text (map (filler d.evidence) (filter test (range_with_len (32 * word + 1) n)))) (sym all)
 
-pub fillers-text : (d : Drawing) (node : ℕ) (over : Option ℕ) → flat_map (word_text d node over) (range_with_len 0 (part_words d.parts)) ≡ numbers_text (fillers d.evidence d.parts (missing_in d over node))
+fillers-text : (d : Drawing) (node : ℕ) (over : Option ℕ) → flat_map (word_text d node over) (range_with_len 0 (part_words d.parts)) ≡ numbers_text (fillers d.evidence d.parts (missing_in d over node))
 fillers-text d node over = grind (arith, nat_tests, words-text, all-words)
+
+-- what was added word by word
+pub fillers-added : (d : Drawing) (node : ℕ) (over : Option ℕ) (n : ℕ) (a b : Writing) (p q : Option (List ℕ)) → Extends a b p q (flat_map (word_text d node over) (range_with_len 0 n)) → n ≡ part_words d.parts
+    → Extends a b p q (numbers_text (fillers d.evidence d.parts (missing_in d over node)))
+fillers-added d node over n a b p q h e = subst (Extends a b p q) (ap (λ k. flat_map (word_text d node over) (range_with_len 0 k)) e ∙ fillers-text d node over) h
 
 -- ---- the line
 

@@ -1,5 +1,5 @@
 -- The lines of the parts' literals, and those that fill parts in.
-use Rattle.std.proofs.Common.{◌≡◌, ℕ, zero, suc, ◌+◌, ◌-◌, ◌*◌, ◌<◌, ◌≤◌, Bool, true, false, cond, ◌&&◌, ◌==◌, List, [], ◌∷◌, ◌++◌, map, length, refl, ap, ◌∙◌, subst, arith, ⊎_elim, inl, inr, get_or}
+use Rattle.std.proofs.Common.{◌≡◌, ℕ, zero, suc, ◌+◌, ◌-◌, ◌*◌, ◌<◌, ◌≤◌, Bool, true, false, cond, ◌&&◌, ◌==◌, List, [], ◌∷◌, ◌++◌, map, length, refl, ap, ◌∙◌, subst, arith, ⊎_elim, inl, inr, get_or, length-append}
 use Rattle.std.proofs.lemmas.Bool.Decides.{nat_tests}
 use Rattle.std.specs.Prelude.{nat_le}
 use Rattle.std.specs.List.{list_all, list_any, filter, flat_map, range_with_len, AllByRecursion}
@@ -18,7 +18,7 @@ use Rattle.state_rules.proofs.Children.{at_most_one-from}
 use Rattle.minimiser.specs.Costs.{known_at}
 use Rattle.minimiser.proofs.Derivations.{any-child, all-child, child-with}
 use Rattle.smooth_nnf.specs.Layouts.{literal_pair, literal_pairs, literal_line, filling, filler, fillers}
-use Rattle.smooth_nnf.proofs.LaterLines.{MayFollow, Stand, stand-none, stand-behind}
+use Rattle.smooth_nnf.proofs.LaterLines.{MayFollow, Stand, stand-behind}
 
 -- ---- lists
 
@@ -56,12 +56,7 @@ here-at s b rest = grind (arith, nat_tests)
 
 pair-at : (s n p : ℕ) (b : Bool) (more : List Node) → s ≤ p → p < s + n → node_at (flat_map literal_pair (range_with_len s n) ++ more) (pair_line s p b) ≡ literal_node p b
 pair-at s zero p b more low high = absurd (omega arith)
-pair-at s (suc n) p b more low high = ⊎_elim
-    (λ (lt : s < p). ap (node_at all) (pair_line-later s p b lt) ∙ pair-at (s + 1) n p b more (omega arith) (omega arith))
-    (λ (le : p ≤ s). let same : s ≡ p = omega arith in subst (λ q. node_at all (pair_line s q b) ≡ literal_node q b) same (ap (node_at all) (pair_line-here s b) ∙ here-at s b (flat_map literal_pair (range_with_len (s + 1) n) ++ more)))
-    (cases_lt s p) where
-      all : List Node
-      all = literal_node s true ∷ literal_node s false ∷ (flat_map literal_pair (range_with_len (s + 1) n) ++ more)
+pair-at s (suc n) p b more low high = grind (arith, nat_tests, pair_line-later, pair_line-here, here-at, cases_lt, pair-at (s + 1) n p b more)
 
 length-pairs : (s n : ℕ) → length (flat_map literal_pair (range_with_len s n)) ≡ 2 * n
 length-pairs s zero = refl
@@ -81,19 +76,22 @@ pairs-follow parts s zero low few = tt
 pairs-follow parts s (suc n) low few = grind (arith, nat_tests, and_from, le-leb, pairs-follow parts (s + 1) n)
 
 pub pairs-stand : (parts : ℕ) → Stand parts (literal_pairs parts)
-pairs-stand parts = stand-behind parts [] (literal_pairs parts) (stand-none parts) (pairs-follow parts 1 parts (omega arith) (omega arith))
+pairs-stand parts = stand-behind parts [] (literal_pairs parts) (record { nodes = record { fit = refl; apart = λ v. tt }; smooth = λ v. tt }) (pairs-follow parts 1 parts (omega arith) (omega arith))
 
 -- lines that begin with them
 module _ (parts : ℕ) (more : List Node) where
   abbrev lines : List Node
   lines = literal_pairs parts ++ more
 
-  pub literal-value : (by : NodeKind → List Bool → Bool) (p : ℕ) (b : Bool) → 1 ≤ p → p ≤ parts → literal_line p b < length (literal_pairs parts ++ more) → value_of by (literal_pairs parts ++ more) (literal_line p b) ≡ by (Literal b p) []
-  literal-value by p b low high inside = grind (arith, nat_tests, line-as_pair, pair-at, value_of-at)
+  pub room : 2 * parts ≤ length (literal_pairs parts ++ more)
+  room = omega (arith, length-append (literal_pairs parts) more, length-literal_pairs parts)
+
+  pub literal-value : (by : NodeKind → List Bool → Bool) (p : ℕ) (b : Bool) → 1 ≤ p → p ≤ parts → value_of by (literal_pairs parts ++ more) (literal_line p b) ≡ by (Literal b p) []
+  literal-value by p b low high = let inside : literal_line p b < length lines = omega (arith, room, literal_line-lt parts p b low high) in grind (arith, nat_tests, line-as_pair, pair-at, value_of-at)
 
   -- ---- fillers
 
-  module _ (evidence : List ℕ) (missing : ℕ → Bool) (room : 2 * parts ≤ length (literal_pairs parts ++ more)) where
+  module _ (evidence : List ℕ) (missing : ℕ → Bool) where
     abbrev chosen : List ℕ
     chosen = filter missing (range_with_len 1 parts)
 
@@ -104,7 +102,7 @@ module _ (parts : ℕ) (more : List Node) where
     chosen-has p low high is = In-filtered missing p (range_with_len 1 parts) (range_has 1 parts p low (omega arith)) is
 
     filler-value : (by : NodeKind → List Bool → Bool) (p : ℕ) → In p chosen → value_of by lines (filler evidence p) ≡ by (Literal (filling (known_at evidence p)) p) []
-    filler-value by p m = grind (arith, nat_tests, chosen-is, literal-value, literal_line-lt)
+    filler-value by p m = grind (arith, nat_tests, chosen-is, literal-value)
 
     pub fillers-values : (by : NodeKind → List Bool → Bool)
         → map (value_of by (literal_pairs parts ++ more)) (fillers evidence parts missing) ≡ map (λ p. by (Literal (filling (known_at evidence p)) p) []) (filter missing (range_with_len 1 parts))
@@ -148,16 +146,10 @@ module _ (parts : ℕ) (more : List Node) where
         by_test more false = more
 
     -- and are true where what is missing is filled in
-    abbrev truths : Assignment → Bool
-    truths a = list_all (λ b. b) (map (λ k. is_true (literal_pairs parts ++ more) k a) (fillers evidence parts missing))
-
-    as_bits : (a : Assignment) → truths a ≡ list_all (λ b. b) (map (λ p. same_bit (filling (known_at evidence p)) (a p)) chosen)
-    as_bits a = ap (list_all (λ b. b)) (fillers-values (truth_by a))
-
     pub fillers-true : (a : Assignment) → ((v : ℕ) → (nat_le 1 v && nat_le v parts) ≡ true → missing v ≡ true → a v ≡ filling (known_at evidence v))
         → list_all (λ b. b) (map (λ k. is_true (literal_pairs parts ++ more) k a) (fillers evidence parts missing)) ≡ true
-    fillers-true a filled = grind (arith, nat_tests, as_bits, all-from, chosen-is, filled, and_from, le-leb, same_bit-refl)
+    fillers-true a filled = grind (arith, nat_tests, fillers-values (truth_by a), all-from, chosen-is, filled, and_from, le-leb, same_bit-refl)
 
     pub fillers-say : (a : Assignment) → list_all (λ b. b) (map (λ k. is_true (literal_pairs parts ++ more) k a) (fillers evidence parts missing)) ≡ true
         → (v : ℕ) → (nat_le 1 v && nat_le v parts) ≡ true → missing v ≡ true → a v ≡ filling (known_at evidence v)
-    fillers-say a all v part is = grind (arith, nat_tests, and_parts, same_bit-equal, all-child, chosen-has, leb-true, as_bits)
+    fillers-say a all v part is = grind (arith, nat_tests, and_parts, same_bit-equal, all-child, chosen-has, leb-true, fillers-values (truth_by a))

@@ -62,13 +62,10 @@ pub record MayFollow (vars : ℕ) (base : List Node) (node : Node) : Type 0 wher
   pub apart : (v : ℕ) → apart_at (mentions base v) node.what node.kids ≡ true
   pub smooth : (v : ℕ) → smooth_at (mentions base v) node.what node.kids ≡ true
 
-pub are_below-more : (m n : ℕ) (kids : List ℕ) → m ≤ n → are_below m kids ≡ true → are_below n kids ≡ true
-are_below-more m n kids le below = are_below-from n kids (λ k d h. omega (arith, below-each m kids below k d h))
-
 -- it may follow later too
 may_follow-later : (vars : ℕ) (base seen : List Node) (node : Node) → MayFollow vars base node → MayFollow vars (base ++ seen) node
 may_follow-later vars base seen node f = record {
-  below = are_below-more (length base) (length (base ++ seen)) node.kids (omega (arith, length-append base seen)) f.below;
+  below = are_below-from (length (base ++ seen)) node.kids (λ k d h. omega (arith, length-append base seen, below-each (length base) node.kids f.below k d h));
   kind = f.kind;
   apart = λ v. apart_at-below (mentions (base ++ seen) v) (mentions base v) (length base) node.what node.kids f.below (λ k h. value_of-front (mention_by v) base seen k h) ∙ f.apart v;
   smooth = λ v. smooth_at-below (mentions (base ++ seen) v) (mentions base v) (length base) node.what node.kids f.below (λ k h. value_of-front (mention_by v) base seen k h) ∙ f.smooth v;
@@ -91,6 +88,3 @@ stand-more vars base seen (x ∷ middle) s h = grind (arith, nat_tests, append_a
 -- nodes that may each follow stand one after the other
 pub stand-behind : (vars : ℕ) (base middle : List Node) → Stand vars base → AllByRecursion (MayFollow vars base) middle → Stand vars (base ++ middle)
 stand-behind vars base middle s h = stand-more vars base [] middle (subst (Stand vars) (sym (append-nil base)) s) h
-
-pub stand-none : (vars : ℕ) → Stand vars []
-stand-none vars = record { nodes = record { fit = refl; apart = λ v. tt }; smooth = λ v. tt }

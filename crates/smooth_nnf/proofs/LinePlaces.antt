@@ -43,19 +43,13 @@ module _ (least : List (Option ℕ)) where
       → own_lines least line number (take (suc i) nodes) ≡ own_lines least line number (take i nodes) ++ (lines_after least line number (take i nodes) + lines_to least (node_at nodes i) (cost_at least (number + i))) ∷ []
   own_lines-next line number [] i lt = absurd (omega arith)
   own_lines-next line number (node ∷ nodes) zero lt = let e : number ≡ number + 0 = omega arith in ap (λ n. (line + lines_to least node (cost_at least n)) ∷ []) e
-  own_lines-next line number (node ∷ nodes) (suc i) lt =
-      let own : ℕ = line + lines_to least node (cost_at least number) in
-      let e : (number + 1) + i ≡ number + suc i = omega arith in
-      grind (arith, nat_tests, own_lines-next (own + 1) (number + 1) nodes i)
+  own_lines-next line number (node ∷ nodes) (suc i) lt = grind (arith, nat_tests, own_lines-next (line + lines_to least node (cost_at least number) + 1) (number + 1) nodes i)
 
   lines_after-next : (line number : ℕ) (nodes : List Node) (i : ℕ) → i < length nodes
       → lines_after least line number (take (suc i) nodes) ≡ lines_after least line number (take i nodes) + lines_to least (node_at nodes i) (cost_at least (number + i)) + 1
   lines_after-next line number [] i lt = absurd (omega arith)
   lines_after-next line number (node ∷ nodes) zero lt = let e : number ≡ number + 0 = omega arith in ap (λ n. line + lines_to least node (cost_at least n) + 1) e
-  lines_after-next line number (node ∷ nodes) (suc i) lt =
-      let own : ℕ = line + lines_to least node (cost_at least number) in
-      let e : (number + 1) + i ≡ number + suc i = omega arith in
-      grind (arith, nat_tests, lines_after-next (own + 1) (number + 1) nodes i)
+  lines_after-next line number (node ∷ nodes) (suc i) lt = grind (arith, nat_tests, lines_after-next (line + lines_to least node (cost_at least number) + 1) (number + 1) nodes i)
 
   -- one more node, of the first ones
   module _ (line : ℕ) (nodes : List Node) (i : ℕ) (lt : i < length nodes) where
@@ -81,3 +75,6 @@ module _ (least : List (Option ℕ)) where
     lines_to-le least node (cost_at least number),
     sum_by-cons (λ (n : Node). length n.kids) node nodes,
   )
+
+  pub line-fits : (line : ℕ) (nodes : List Node) (i : ℕ) → i < length nodes → lines_after least line 0 (take i nodes) + lines_to least (node_at nodes i) (cost_at least i) + 1 ≤ line + length nodes + edges nodes
+  line-fits line nodes i lt = omega (arith, lines_after-more line nodes i lt, lines_after-le line 0 nodes (i + 1))

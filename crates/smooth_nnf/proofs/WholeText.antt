@@ -16,7 +16,7 @@ use Rattle.state_rules.specs.Assignments.{Assignment, assignment}
 use Rattle.state_rules.specs.Ranking.{cost, is_at_most}
 use Rattle.state_rules.specs.Values.{values}
 use Rattle.state_rules.proofs.Bits.{pointwise-refl, pointwise-equal}
-use Rattle.state_rules.proofs.Members.{In, In-filter, any_from, any_in}
+use Rattle.state_rules.proofs.Members.{In, In-at, In-filter, any_from, any_in}
 use Rattle.state_rules.specs.declared.nodes.NodeKind.{NodeKind}
 use Rattle.state_rules.specs.Graphs.{Node, Graph, truth_by, mention_by, mentions, is_true, holds, IsGraph, edges}
 use Rattle.state_rules.proofs.NodeValues.{value_of}
@@ -36,6 +36,10 @@ use Rattle.smooth_nnf.proofs.LaterLines.{value_of-there, Stand, MayFollow, stand
 use Rattle.smooth_nnf.proofs.DrawnMeaning.{Means}
 use Rattle.smooth_nnf.proofs.Fillers.{length-literal_pairs}
 use Rattle.smooth_nnf.proofs.DrawnLines.{Means-same, Drawn, over-mention, over-follows, over-means, length-lines, body, all-drawn}
+
+-- how far the lines reach
+all-lines-le : (least : List (Option ℕ)) (line : ℕ) (nodes : List Node) → lines_after least line 0 nodes ≤ line + length nodes + edges nodes
+all-lines-le least line nodes = omega (arith, ap (lines_after least line 0) (take-length nodes), lines_after-le least line 0 nodes (length nodes))
 
 module _ (graph : Graph) (evidence costs : List ℕ) (ok : IsGraph graph) (long : length evidence ≡ graph.vars) (within : length costs ≤ graph.vars) (dear : All (λ c. 0 < c) costs)
     (small : length graph.nodes + edges graph.nodes + 2 * length costs + 1 < 2 ^ 32) where
@@ -155,28 +159,21 @@ module _ (graph : Graph) (evidence costs : List ℕ) (ok : IsGraph graph) (long 
 
   -- ---- its text
 
-  lines-le : (i : ℕ) (nodes : List Node) → length (flat_map (node_lines L) (enumerate_from i nodes)) ≤ length nodes + edges nodes
-  lines-le i [] = omega arith
-  lines-le i (node ∷ nodes) = omega (
+  body-length : (line i : ℕ) (nodes : List Node) → line + length (flat_map (node_lines L) (enumerate_from i nodes)) ≡ lines_after L.least line i nodes
+  body-length line i [] = omega arith
+  body-length line i (node ∷ nodes) = omega (
     arith,
     length-append (node_lines L (i, node)) (flat_map (node_lines L) (enumerate_from (i + 1) nodes)),
     length-lines graph evidence costs ok dear few i node (least_at graph evidence costs i),
-    lines_to-le L.least node (least_at graph evidence costs i),
-    sum_by-cons (λ (n : Node). length n.kids) node nodes,
-    lines-le (i + 1) nodes,
+    body-length (line + lines_to L.least node (least_at graph evidence costs i) + 1) (i + 1) nodes,
   )
 
   -- at most a line for each node and each child, two for each part, and one more
   pub all-le : length all ≤ length graph.nodes + edges graph.nodes + 2 * length costs + 1
-  all-le = omega (arith, length-all, length-append (literal_pairs parts) lines, length-literal_pairs parts, lines-le 0 graph.nodes)
+  all-le = omega (arith, length-all, length-append (literal_pairs parts) lines, length-literal_pairs parts, body-length 0 0 graph.nodes, all-lines-le L.least 0 graph.nodes)
 
   pub all-are_list : IsList (length costs) all
-  all-are_list = record {
-    some = omega (arith, length-all);
-    few = omega (arith, all-le);
-    vars_fit = omega arith;
-    fit = stand.nodes.fit;
-  }
+  all-are_list = grind (arith, nat_tests, length-all, all-le, stand)
 
   -- the text has no blank line
   pub least_text-is_neat : is_neat (least_text graph evidence costs) ≡ true
@@ -184,12 +181,8 @@ module _ (graph : Graph) (evidence costs : List ℕ) (ok : IsGraph graph) (long 
 
   below-last : 0 < length ds → (part : ℕ) → 1 ≤ part → part ≤ parts → mentions all part (length all - 1) ≡ true
   below-last some part low high =
-      let d = first ds some in
-      let known = has-cost d.0 d.1 in
-      last-mentions known.0 known.1 part ∙ and_from _ _ (le-leb 1 part low) (le-leb part parts high) where
-        first : (xs : List (List Bool)) → 0 < length xs → (x : List Bool) × In x xs
-        first [] some = absurd (omega arith)
-        first (x ∷ xs) some = (x, inl refl)
+      let known = has-cost _ (In-at ds 0 [] some) in
+      last-mentions known.0 known.1 part ∙ and_from _ _ (le-leb 1 part low) (le-leb part parts high)
 
   -- and is read as a smooth graph
   pub least_text-means : IsSmoothGraphOfStates (length costs) (diagnoses_under graph evidence costs) (parsed (least_text graph evidence costs))
@@ -207,15 +200,6 @@ module _ (graph : Graph) (evidence costs : List ℕ) (ok : IsGraph graph) (long 
       → record { graph = graph; evidence = evidence; parts = length costs; least = map cost_in xs; lines = ls } ≡ layout_of graph evidence costs
   laid xs ls is at = grind (arith, nat_tests, costs-all)
 
-  body-length : (line i : ℕ) (nodes : List Node) → line + length (flat_map (node_lines L) (enumerate_from i nodes)) ≡ lines_after L.least line i nodes
-  body-length line i [] = omega arith
-  body-length line i (node ∷ nodes) = omega (
-    arith,
-    length-append (node_lines L (i, node)) (flat_map (node_lines L) (enumerate_from (i + 1) nodes)),
-    length-lines graph evidence costs ok dear few i node (least_at graph evidence costs i),
-    body-length (line + lines_to L.least node (least_at graph evidence costs i) + 1) (i + 1) nodes,
-  )
-
   pub counted : (xs ls : List ℕ) (count : ℕ) → AreLeastCosts graph evidence costs xs → ls ≡ own_lines (map cost_in xs) (2 * length costs) 0 graph.nodes → count ≡ lines_after (map cost_in xs) (2 * length costs) 0 graph.nodes
       → count + 1 ≡ length (all_lines (record { graph = graph; evidence = evidence; parts = length costs; least = map cost_in xs; lines = ls }))
   counted xs ls count is at n = grind (arith, nat_tests, costs-all, laid, length-all, length-append, length-literal_pairs, body-length)
@@ -225,4 +209,4 @@ module _ (graph : Graph) (evidence costs : List ℕ) (ok : IsGraph graph) (long 
   edges-fit xs ls is at = omega (arith, ap (λ l. edges (all_lines l)) (laid xs ls is at), edges-le parts 0 all stand.nodes.fit, all-le)
 
 pub count-fits : (graph : Graph) (costs : List ℕ) (least : List (Option ℕ)) → length graph.nodes + edges graph.nodes + 2 * length costs + 1 < 2 ^ 32 → lines_after least (2 * length costs) 0 graph.nodes + 1 < 2 ^ 32
-count-fits graph costs least small = omega (arith, small, ap (lines_after least (2 * length costs) 0) (take-length graph.nodes), lines_after-le least (2 * length costs) 0 graph.nodes (length graph.nodes))
+count-fits graph costs least small = omega (arith, all-lines-le least (2 * length costs) graph.nodes)

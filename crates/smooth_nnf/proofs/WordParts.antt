@@ -1,5 +1,5 @@
 -- The parts of the bits of words.
-use Rattle.std.proofs.Common.{◌≡◌, ℕ, zero, suc, ◌+◌, ◌-◌, ◌*◌, ◌/◌, ◌%◌, ◌^◌, ◌<◌, ◌≤◌, Bool, true, false, not, cond, ◌&&◌, ◌==◌, List, [], ◌∷◌, ◌++◌, length, take, drop, get_or, refl, sym, ap, ◌∙◌, arith, append_assoc, append-nil, length-append}
+use Rattle.std.proofs.Common.{◌≡◌, ℕ, zero, suc, ◌+◌, ◌-◌, ◌*◌, ◌/◌, ◌%◌, ◌^◌, ◌<◌, ◌≤◌, Bool, true, false, not, cond, ◌&&◌, ◌==◌, List, [], ◌∷◌, ◌++◌, length, take, drop, get_or, Option, None, refl, sym, ap, ◌∙◌, arith, append_assoc, append-nil, length-append}
 use Rattle.std.proofs.lemmas.Bool.Decides.{nat_tests}
 use Rattle.std.specs.Prelude.{nat_le, bit_and, count_ones}
 use Rattle.std.specs.Int.{bit_at, w32}
@@ -7,11 +7,11 @@ use Rattle.std.specs.List.{filter, range_with_len}
 use Rattle.std.proofs.lemmas.Bool.{le-leb, leb-true, false_from_ne_true}
 use Rattle.std.proofs.lemmas.Nat.{ones-le}
 use Rattle.std.proofs.lemmas.Nat.Bits.{bit_at-suc, bit_at-lt, bit_at_lowest, bit_at_not}
-use Rattle.std.proofs.lemmas.List.{length-take-le, length-drop, get_or-take, get_or-drop}
+use Rattle.std.proofs.lemmas.List.{length-map, length-take-le, length-drop, get_or-take, get_or-drop}
 use Rattle.std.proofs.lemmas.List.FromFn.{length-range_with_len}
 use Rattle.std.proofs.lemmas.List.Elements.{filter-append}
 use lib.Count.{ones_step}
-use Rattle.state_rules.specs.Graphs.{mentions}
+use Rattle.state_rules.specs.Graphs.{Node, mentions}
 use Rattle.state_rules.proofs.Bits.{half-below}
 use Rattle.state_rules.proofs.Members.{filter_same}
 use Rattle.state_rules.proofs.Lists.{length-filter-le, filter-never, filter-all}
@@ -19,10 +19,11 @@ use Rattle.state_rules.proofs.WordBits.{has_bit-and}
 use Rattle.state_rules.specs.Bits.{has_bit}
 use Rattle.scratch_pool.proofs.Counted.{block-below}
 use Rattle.part_sets.specs.Numbers.{part_words}
+use Rattle.smooth_nnf.specs.Layouts.{filler, fillers}
 use Rattle.smooth_nnf.specs.inner.Sets.{part_at}
-use Rattle.smooth_nnf.specs.inner.Drawings.{Drawing, IsDrawing, word_parts, set_parts, part_count}
+use Rattle.smooth_nnf.specs.inner.Drawings.{Drawing, IsDrawing, IsUnder, is_over, missing_in, word_parts, set_parts, part_count}
 use Rattle.smooth_nnf.proofs.Fillers.{in_range}
-use Rattle.smooth_nnf.proofs.LackingParts.{set-bit}
+use Rattle.smooth_nnf.proofs.LackingParts.{set-bit, under-wider}
 
 -- ---- words of which some bits are set
 
@@ -49,13 +50,7 @@ low-bit n xs x = grind (arith, nat_tests)
 
 ones-from : (d n s : ℕ) → n < 2 ^ d → count_ones n ≡ length (filter (λ p. has_bit n (p - s)) (range_with_len s d))
 ones-from zero n s h = omega (arith, ones-le 0 n h)
-ones-from (suc d) n s h =
-    let here : s - s ≡ 0 = omega arith in
-    let bit : has_bit n (s - s) ≡ (n % 2 == 1) = ap (has_bit n) here ∙ ap (λ k. k == 1) (bit_at_lowest n) in
-    let rest : List ℕ = filter (λ p. has_bit n (p - s)) (range_with_len (s + 1) d) in
-    let half : n / 2 < 2 ^ d = half-below n d h in
-    ones_step n ∙ ap (λ k. n % 2 + k) (ones-from d (n / 2) (s + 1) half ∙ ap length (filter-later n s d))
-    ∙ sym (low-bit n rest s) ∙ ap (λ b. length (cond b (s ∷ rest) rest)) (sym bit)
+ones-from (suc d) n s h = grind (arith, nat_tests, bit_at_lowest, half-below, ones_step, filter-later, low-bit, ones-from d (n / 2) (s + 1))
 
 pub ones-parts : (word bits : ℕ) → bits < 2 ^ 32 → count_ones bits ≡ length (word_parts word bits)
 ones-parts word bits h = ones-from 32 bits (32 * word + 1) h
@@ -95,13 +90,20 @@ pub left-over : (o m : ℕ → Bool) → ((p : ℕ) → m p ≡ true → o p ≡
 left-over o m wider [] = refl
 left-over o m wider (x ∷ xs) = grind (arith, nat_tests, wider, left-over o m wider xs)
 
-pub all-count : (n : ℕ) → length (filter (λ p. true) (range_with_len 1 n)) ≡ n
-all-count n = ap length (filter-all (range_with_len 1 n)) ∙ length-range_with_len 1 n
+-- without a node, all parts
+pub over-all : (nodes : List Node) (over : Option ℕ) (n : ℕ) → over ≡ None → length (filter (is_over nodes over) (range_with_len 1 n)) ≡ n
+over-all nodes over n none = ap (λ o. length (filter (is_over nodes o) (range_with_len 1 n))) none ∙ ap length (filter-all (range_with_len 1 n)) ∙ length-range_with_len 1 n
+
+-- the parts that a line is to have below it are those below the node, and those that are missing
+pub over-less : (d : Drawing) → IsDrawing d → (over : Option ℕ) (node : ℕ) → IsUnder d over node
+    → length (fillers d.evidence d.parts (missing_in d over node)) + part_count d node ≡ length (filter (is_over d.graph.nodes over) (range_with_len 1 d.parts))
+over-less d is over node under = omega (
+  arith,
+  left-over (is_over d.graph.nodes over) (λ p. mentions d.graph.nodes p node) (under-wider d is over node under) (range_with_len 1 d.parts),
+  length-map (filter (missing_in d over node) (range_with_len 1 d.parts)) (filler d.evidence),
+)
 
 -- ---- the parts of a set
-
-length-word_parts : (word bits : ℕ) → length (word_parts word bits) ≤ 32
-length-word_parts word bits = omega (arith, length-filter-le (λ part. has_bit bits (part - (32 * word + 1))) (range_with_len (32 * word + 1) 32), length-range_with_len (32 * word + 1) 32)
 
 set_parts-next : (word i : ℕ) (words : List ℕ) → i < length words → set_parts word (take (suc i) words) ≡ set_parts word (take i words) ++ word_parts (word + i) (get_or words i 0)
 set_parts-next word i [] lt = absurd (omega arith)
@@ -114,6 +116,9 @@ set_parts-next word (suc i) (w ∷ words) lt =
 -- one more word is counted
 pub count-more : (words : List ℕ) (i count : ℕ) → i < length words → get_or words i 0 < 2 ^ 32 → count ≡ length (set_parts 0 (take i words)) → count + count_ones (get_or words i 0) ≡ length (set_parts 0 (take (i + 1) words))
 count-more words i count lt fits is = grind (arith, nat_tests, ones-parts, set_parts-next, length-append)
+
+length-word_parts : (word bits : ℕ) → length (word_parts word bits) ≤ 32
+length-word_parts word bits = omega (arith, length-filter-le (λ part. has_bit bits (part - (32 * word + 1))) (range_with_len (32 * word + 1) 32), length-range_with_len (32 * word + 1) 32)
 
 pub count-le : (word : ℕ) (words : List ℕ) → length (set_parts word words) ≤ 32 * length words
 count-le word [] = omega arith

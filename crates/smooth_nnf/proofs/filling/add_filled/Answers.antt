@@ -11,14 +11,6 @@ use Rattle.smooth_nnf.proofs.FilledTexts.{filled-text}
 use Rattle.smooth_nnf.proofs.LackingParts.{no-fillers}
 use Rattle.smooth_nnf.proofs.filling.add_filled.Goals as goal
 
-pub returns-then-lacks_none : goal.returns-then-lacks_none
-returns-then-lacks_none g c =
-    let none = no-fillers c.args.drawing.now c.args.over c.args.node (λ part low high. c.lacks_none.ensures c.args.node part c.if-lacks_none.true c.requires.under low high) in
-    extends_same _ _ _ _ _ _ c.add_node.ensures (λ i. spaced (kind_words And (c.line-line.ensures i ∷ sym none i)))
-
-pub overflow_add-count : goal.overflow_add-count
-overflow_add-count g c = omega (arith, c.missing_count-count.ensures.most)
-
 pub returns : goal.returns
 returns g c =
     let d = c.args.drawing.now in

@@ -31,8 +31,3 @@ returns-clause-bytes g c =
     let text = whole c.args.drawing.now c.args.count c.edge_count.result c.parts.result c.parts-2.result c.requires.count c.edge_count.ensures c.parts.ensures.parts c.parts-2.ensures.parts in
     let all = extends_on _ _ _ _ _ _ _ _ _ c.add_header.ensures (extends_three _ _ _ _ _ _ _ _ _ _ _ _ c.add_literals.ensures c.add_nodes.ensures c.add_last.ensures refl) text in
     (extends_whole _ _ _ _ _ _ _ _ _ _ _ (g.O.Sink.shown_is _) (g.O.Sink.shown_is _) c.new-text.ensures all c.finish.ensures).0
-
-pub returns-clause-cause : goal.returns-clause-cause
-returns-clause-cause g c =
-    let all = extends_on _ _ _ _ _ _ _ _ _ c.add_header.ensures (extends_three _ _ _ _ _ _ _ _ _ _ _ _ c.add_literals.ensures c.add_nodes.ensures c.add_last.ensures refl) refl in
-    (extends_whole _ _ _ _ _ _ _ _ _ _ _ (g.O.Sink.shown_is _) (g.O.Sink.shown_is _) c.new-text.ensures all c.finish.ensures).1

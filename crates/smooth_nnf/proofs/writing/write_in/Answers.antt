@@ -12,19 +12,6 @@ use Rattle.smooth_nnf.proofs.writing.write_in.Goals.{After-put_least_costs}
 are-costs : (g : Over) (c : After-put_least_costs g) → AreLeastCosts c.args.asked.now.graph.now c.args.asked.now.evidence.now c.args.asked.now.costs.now c.put_least_costs.new.values
 are-costs g c = subst (λ (graph : Graph). AreLeastCosts graph c.args.asked.now.evidence.now c.args.asked.now.costs.now c.put_least_costs.new.values) c.view.ensures c.put_least_costs.ensures.values
 
-pub overflow_add-count : goal.overflow_add-count
-overflow_add-count g c =
-    let fits = count-fits c.args.asked.now.graph.now c.args.asked.now.costs.now (map cost_in c.put_least_costs.new.values) c.args.asked.now.few in
-    omega (arith, c.place_lines-count.ensures.count, fits)
-
-pub put_lines-requires-clause-count : goal.put_lines-requires-clause-count
-put_lines-requires-clause-count g c =
-    counted c.args.asked.now.graph.now c.args.asked.now.evidence.now c.args.asked.now.costs.now c.len-nodes.ensures.valid c.args.asked.now.long c.args.asked.now.parts c.args.asked.now.dear c.args.asked.now.few _ _ _ (are-costs g (goal.at.put_lines-requires-clause-count g c).After-put_least_costs) c.place_lines-count.ensures.places c.place_lines-count.ensures.count
-
-pub put_lines-requires-clause-edges : goal.put_lines-requires-clause-edges
-put_lines-requires-clause-edges g c =
-    edges-fit c.args.asked.now.graph.now c.args.asked.now.evidence.now c.args.asked.now.costs.now c.len-nodes.ensures.valid c.args.asked.now.long c.args.asked.now.parts c.args.asked.now.dear c.args.asked.now.few _ _ (are-costs g (goal.at.put_lines-requires-clause-edges g c).After-put_least_costs) c.place_lines-count.ensures.places
-
 pub returns-clause-bytes : goal.returns-clause-bytes
 returns-clause-bytes g c =
     let same = laid c.args.asked.now.graph.now c.args.asked.now.evidence.now c.args.asked.now.costs.now c.len-nodes.ensures.valid c.args.asked.now.long c.args.asked.now.parts c.args.asked.now.dear c.args.asked.now.few c.put_least_costs.new.values c.place_lines-count.new.lines

@@ -143,9 +143,6 @@ module _ (graph : Graph) (evidence costs : List ℕ) (ok : IsGraph graph) (dear 
       stand : Stand (length costs) (literal_pairs (length costs) ++ (more ++ block))
       drawn : (c : ℕ) → least_at graph evidence costs i ≡ Some c → Drawn (literal_pairs (length costs) ++ (more ++ block)) i c
 
-    regroup : (block : List Node) → before ++ block ≡ literal_pairs parts ++ (more ++ block)
-    regroup block = append_assoc (literal_pairs parts) more block
-
     -- one line is added
     one-adds : (node : Node) → MayFollow parts before node → own i ≡ length before
         → ((v : ℕ) (c : ℕ) → least_at graph evidence costs i ≡ Some c → mention_by v node.what (map (mentions before v) node.kids) ≡ (part_of v && M v i))
@@ -159,8 +156,8 @@ module _ (graph : Graph) (evidence costs : List ℕ) (ok : IsGraph graph) (dear 
           means = Means-same (λ a. here (truth_by a)) (means c e);
         } in
         record {
-          stand = subst (Stand parts) (regroup (node ∷ [])) (stand-behind parts before (node ∷ []) upto.stand (follows, tt));
-          drawn = λ c e. subst (λ lines. Drawn lines i c) (regroup (node ∷ [])) (drawn c e);
+          stand = subst (Stand parts) (append_assoc (literal_pairs parts) more (node ∷ [])) (stand-behind parts before (node ∷ []) upto.stand (follows, tt));
+          drawn = λ c e. subst (λ lines. Drawn lines i c) (append_assoc (literal_pairs parts) more (node ∷ [])) (drawn c e);
         }
 
     -- a node that is never true
@@ -171,15 +168,6 @@ module _ (graph : Graph) (evidence costs : List ℕ) (ok : IsGraph graph) (dear 
 
     -- a literal
     module _ (var : ℕ) (positive : Bool) (kids : List ℕ) (e : slice_get graph.nodes i ≡ Some (record { what = Literal positive var; kids = kids })) (cost : ℕ) (cost_is : least_at graph evidence costs i ≡ Some cost) (at : own i ≡ length before) where
-      low : 1 ≤ var
-      low = (literal graph.vars var positive kids (fits-get graph.vars graph.nodes i _ ok.nodes.fit e).kind).low
-
-      high : nat_le var parts ≡ true → var ≤ parts
-      high p = leb-true var parts p
-
-      has-is : (v : ℕ) → M v i ≡ (var == v)
-      has-is v = mention-at graph evidence costs ok i _ e v
-
       part_alone : (v : ℕ) → part_of var ≡ true → (var == v) ≡ (part_of v && (var == v))
       part_alone v part = grind (arith, nat_tests, and_from, eqb-true, and-false)
 
@@ -190,16 +178,18 @@ module _ (graph : Graph) (evidence costs : List ℕ) (ok : IsGraph graph) (dear 
       literal-adds = by_part (nat_le var parts) refl where
         by_part : (b : Bool) → nat_le var parts ≡ b → Adds (and_over (cond b (literal_line var positive ∷ []) []) ∷ [])
         by_part true p =
+            let low = (literal graph.vars var positive kids (fits-get graph.vars graph.nodes i _ ok.nodes.fit e).kind).low in
+            let high = leb-true var parts p in
             let part : part_of var ≡ true = and_from _ _ (le-leb 1 var low) p in
-            let inside : literal_line var positive < length before = omega (arith, room parts more, literal_line-lt parts var positive low (high p)) in
+            let inside : literal_line var positive < length before = omega (arith, room parts more, literal_line-lt parts var positive low high) in
             one-adds (and_over (literal_line var positive ∷ []))
             (record { below = and_from _ _ (lt-ltb (literal_line var positive) (length before) inside) refl; kind = refl; apart = λ v. grind (arith, nat_tests); smooth = λ v. refl })
             at
-            (λ v c q. or-false (mentions before v (literal_line var positive)) ∙ literal-value parts more (mention_by v) var positive low (high p) ∙ part_alone v part ∙ ap (λ b. part_of v && b) (sym (has-is v)))
-            (λ c q. Means-same (λ a. and-true (is_true before (literal_line var positive) a) ∙ literal-value parts more (truth_by a) var positive low (high p)) (part-means graph evidence costs ok dear i var positive kids e c q part))
+            (λ v c q. or-false (mentions before v (literal_line var positive)) ∙ literal-value parts more (mention_by v) var positive low high ∙ part_alone v part ∙ ap (λ b. part_of v && b) (sym (mention-at graph evidence costs ok i _ e v)))
+            (λ c q. Means-same (λ a. and-true (is_true before (literal_line var positive) a) ∙ literal-value parts more (truth_by a) var positive low high) (part-means graph evidence costs ok dear i var positive kids e c q part))
         by_part false p =
             one-adds (and_over []) (record { below = refl; kind = refl; apart = λ v. refl; smooth = λ v. refl }) at
-            (λ v c q. other_none v (and_right (nat_le 1 var) _ p) ∙ ap (λ b. part_of v && b) (sym (has-is v)))
+            (λ v c q. other_none v (and_right (nat_le 1 var) _ p) ∙ ap (λ b. part_of v && b) (sym (mention-at graph evidence costs ok i _ e v)))
             (λ c q. other-means graph evidence costs ok dear i var positive kids e c q (and_right (nat_le 1 var) _ p))
 
     -- an and
@@ -248,10 +238,6 @@ module _ (graph : Graph) (evidence costs : List ℕ) (ok : IsGraph graph) (dear 
           let m = cheapest-is least cost kids k (are k (inl refl)) in
           (over-follows more k cost m.1 (drawn_child k m.0 m.1) (λ v. M v i) (wider k m.0), follows ks (λ j n. are j (inr n)))
 
-      below-all : (xs : List Node) → AllByRecursion (MayFollow parts before) xs → AllByRecursion (λ (x : Node). are_below (length before) x.kids ≡ true) xs
-      below-all [] all = tt
-      below-all (x ∷ xs) all = (all.0.below, below-all xs all.1)
-
       block-follows : AllByRecursion (MayFollow parts before) block
       block-follows = follows best (λ k m. m)
 
@@ -271,7 +257,7 @@ module _ (graph : Graph) (evidence costs : List ℕ) (ok : IsGraph graph) (dear 
       block-values by =
           let start : length before ≡ length before + 0 = omega arith in
           (λ j. map (value_of by (before ++ sym (append-nil block) j)) (range_with_len (start j) (sym length-block j)))
-          ∙ values-behind by before [] block [] (below-all block block-follows)
+          ∙ values-behind by parts before [] block [] block-follows
           ∙ map-map (λ (x : Node). by x.what (map (value_of by before) x.kids)) (child_line L i) best
 
       block-mentions : (v : ℕ) → map (mentions all_children v) (range_with_len (length before) (length best)) ≡ map (λ k. part_of v && M v i) best
@@ -308,8 +294,7 @@ module _ (graph : Graph) (evidence costs : List ℕ) (ok : IsGraph graph) (dear 
       or-drawn : Drawn (all_children ++ or_node ∷ []) i cost
       or-drawn = record {
         inside = omega (arith, at, length-all_children, length-append all_children (or_node ∷ []));
-        mentioned = λ v. ap (value_of (mention_by v) (all_children ++ or_node ∷ [])) (at ∙ sym length-all_children) ∙ value_of-there (mention_by v) all_children or_node []
-            ∙ ap (λ ks. list_any (λ b. b) (map (mentions all_children v) ks)) or_children ∙ ap (list_any (λ b. b)) (block-mentions v) ∙ any-const (part_of v && M v i) best some-best;
+        mentioned = λ v. here (mention_by v) ∙ ap (list_any (λ b. b)) (sym (block-values (mention_by v)) ∙ block-mentions v) ∙ any-const (part_of v && M v i) best some-best;
         means = Means-same (λ a. here (truth_by a))
             (or-means graph evidence costs ok dear i kids cost e cost_is (λ k a. list_all (λ b. b) (map (λ q. is_true before q a) (child_line L i k).kids))
             (λ k m c. over-means more k cost c (drawn_child k m c) (λ v. M v i) (wider k m)));
@@ -317,7 +302,7 @@ module _ (graph : Graph) (evidence costs : List ℕ) (ok : IsGraph graph) (dear 
 
       whole : all_children ++ or_node ∷ [] ≡ literal_pairs parts ++ (more ++ (block ++ or_node ∷ []))
       unfolding all_children
-      whole = append_assoc before block (or_node ∷ []) ∙ regroup (block ++ or_node ∷ [])
+      whole = append_assoc before block (or_node ∷ []) ∙ append_assoc (literal_pairs parts) more (block ++ or_node ∷ [])
 
       or-adds : Adds (or_lines L i best)
       or-adds = record {
@@ -342,7 +327,7 @@ module _ (graph : Graph) (evidence costs : List ℕ) (ok : IsGraph graph) (dear 
         record {
           stand = added.stand;
           drawn = λ k c h q. ⊎_elim
-              (λ (lt : k < i). subst (λ lines. Drawn lines k c) (regroup (node_lines L (i, node))) (Drawn-more before (node_lines L (i, node)) k c (upto.drawn k c lt q)))
+              (λ (lt : k < i). subst (λ lines. Drawn lines k c) (append_assoc (literal_pairs parts) more (node_lines L (i, node))) (Drawn-more before (node_lines L (i, node)) k c (upto.drawn k c lt q)))
               (λ (le : i ≤ k). let same : i ≡ k = omega arith in subst (λ j. Drawn (literal_pairs parts ++ (more ++ node_lines L (i, node))) j c) same (added.drawn c (ap (least_at graph evidence costs) same ∙ q)))
               (cases_lt k i);
         }

@@ -21,9 +21,6 @@ use Rattle.smooth_nnf.specs.Layouts.{filling, costs_just, cheapest_children}
 
 -- ---- costs of children
 
-costs_just-is : (c : ℕ) (o : Option ℕ) → costs_just c o ≡ true → o ≡ Some c
-costs_just-is c o e = grind (arith, nat_tests, eqb-true)
-
 -- a child of least cost
 pub cheapest-in : (least : List (Option ℕ)) (c : ℕ) (kids : List ℕ) (k : ℕ) → In k kids → cost_at least k ≡ Some c → In k (cheapest_children least c kids)
 cheapest-in least c kids k m e = In-filtered (λ j. costs_just c (cost_at least j)) k kids m (ap (costs_just c) e ∙ eq-eqb c c refl)
@@ -58,9 +55,6 @@ module _ (graph : Graph) (evidence costs : List ℕ) (ok : IsGraph graph) (dear 
   abbrev pub is_part : ℕ → Bool
   is_part v = nat_le 1 v && nat_le v (length costs)
 
-  price-some : (v : ℕ) → 1 ≤ v → v ≤ length costs → 0 < part_cost costs v
-  price-some v low high = grind (arith, nat_tests)
-
   -- an assignment that agrees and passes a test at no more than a cost, with the same bits of some parts
   pub record Gives (t : Assignment → Bool) (m : ℕ → Bool) (c : ℕ) (a : Assignment) : Type 0 where
     pub is : Reaches (known_at evidence) (part_cost costs) (length costs) t c
@@ -88,7 +82,7 @@ module _ (graph : Graph) (evidence costs : List ℕ) (ok : IsGraph graph) (dear 
       let most : c ≤ faults_in kn price n (λ u. M u k) b = subst (λ d. AtMost d (faults_in kn price n (λ u. M u k) b)) e ((is_cost graph evidence costs ok k).bound b ag h) in
       let less : 0 < fault (kn v) (price v) (b v) → faults_in kn price n (λ u. M u k) b < faults_in kn price n o b =
       λ costly. faults-lt graph evidence costs ok b ag v low (omega arith) (only_fault (kn v) (b v) (price v) (λ z. omega arith)) costly (λ u. M u k) o wider not_below in_o in
-      filled_bit (kn v) (b v) (price v) (price-some v low high) (ag v) (grind (arith, most, less, few))
+      filled_bit (kn v) (b v) (price v) (grind (arith, nat_tests)) (ag v) (grind (arith, most, less, few))
 
   -- ---- parts that are filled in
 
@@ -110,13 +104,11 @@ module _ (graph : Graph) (evidence costs : List ℕ) (ok : IsGraph graph) (dear 
     reached = λ a h.
         let both = and_parts (line a) (fill a) h in
         let g = means.reached a both.0 in
-        record { is = g.is; same = λ v p q. by_test a both.1 g v p q (M v k) refl };
-  } where
-    by_test : (a : Assignment) → fill a ≡ true → (g : Gives (λ b. T b k) (λ v. M v k) c a) → (v : ℕ) → is_part v ≡ true → o v ≡ true → (x : Bool) → M v k ≡ x → a v ≡ g.is.by v
-    by_test a f g v p q true m = g.same v p m
-    by_test a f g v p q false m =
-        fills.reached a f v p (and_from _ _ q (ap not m))
-        ∙ sym (outside k c e (λ u. true) (λ u r. refl) g.is.by g.is.agrees g.is.holds g.is.cheap v p refl m)
+        record {
+          is = g.is;
+          same = λ v p q. grind (arith, nat_tests, g.same v p, fills.reached a both.1 v p, outside k c e (λ u. true) (λ u r. refl) g.is.by g.is.agrees g.is.holds g.is.cheap v p refl);
+        };
+  }
 
   -- ---- a literal
 

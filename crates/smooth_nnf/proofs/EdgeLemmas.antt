@@ -79,7 +79,7 @@ all-lines L =
     ∙ ap (λ t. lines_text (literal_pairs L.parts) ++ t) (sym (flat_map-append (λ node. spaced (node_words node)) body (last_line L ∷ [])))
     ∙ sym (flat_map-append (λ node. spaced (node_words node)) (literal_pairs L.parts) (body ++ last_line L ∷ []))
 
-pub all-written : (L : Layout) (count kids : ℕ) → count ≡ length (all_lines L) → kids ≡ edges (all_lines L)
-    → header count kids L.parts ++ (flat_map (λ part. lines_text (literal_pair part)) (range_with_len 1 L.parts)
+pub all-written : (L : Layout) (count kids p q : ℕ) → count ≡ length (all_lines L) → kids ≡ edges (all_lines L) → p ≡ L.parts → q ≡ L.parts
+    → header count kids p ++ (flat_map (λ part. lines_text (literal_pair part)) (range_with_len 1 q)
     ++ (flat_map (λ x. lines_text (node_lines L x)) (enumerate_from 0 L.graph.nodes) ++ spaced (node_words (last_line L)))) ≡ graph_text (record { nodes = all_lines L; vars = L.parts })
-all-written L count kids e f = ap (λ t. header count kids L.parts ++ t) (all-lines L) ∙ text-lines count kids L.parts (all_lines L) e f
+all-written L count kids p q e f at_p at_q = rw (at_p, at_q) (ap (λ t. header count kids L.parts ++ t) (all-lines L) ∙ text-lines count kids L.parts (all_lines L) e f)

@@ -88,11 +88,8 @@ kids-inside graph ok node lt kids over k default h =
     omega (arith, below k default h, lt)
 
 module _ (d : Drawing) (is : IsDrawing d) (node : ℕ) (lt : node < length d.graph.nodes) (what : NodeKind) (kids : List ℕ) (at : node_at d.graph.nodes node ≡ record { what = what; kids = kids }) where
-  fit : Fits d.graph.vars node (record { what = what; kids = kids })
-  fit = subst (Fits d.graph.vars node) at (fits-at d.graph.vars d.graph.nodes node is.valid.nodes.fit lt)
-
   pub few-kids-of : what ≡ Or → length kids < 2 ^ 32
-  few-kids-of or = ltb-true (length kids) CHILD_LIMIT (ap (λ w. kind_fits d.graph.vars w kids) (sym or) ∙ fit.kind)
+  few-kids-of or = ltb-true (length kids) CHILD_LIMIT (ap (λ w. kind_fits d.graph.vars w kids) (sym or) ∙ (subst (Fits d.graph.vars node) at (fits-at d.graph.vars d.graph.nodes node is.valid.nodes.fit lt)).kind)
 
   pub child-wider : what ≡ Or → (i part : ℕ) → i < length kids → mentions d.graph.nodes part (get_or kids i 0) ≡ true → mentions d.graph.nodes part node ≡ true
   child-wider or i part h m = child-mentions d.graph node kids is.valid lt (ap (λ (n : Node). n.kids) (sym at)) i (ap (λ (n : Node). n.what) at ∙ or) h part m

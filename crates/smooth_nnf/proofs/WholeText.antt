@@ -41,6 +41,15 @@ use Rattle.smooth_nnf.proofs.DrawnLines.{Means-same, Drawn, over-mention, over-f
 all-lines-le : (least : List (Option ℕ)) (line : ℕ) (nodes : List Node) → lines_after least line 0 nodes ≤ line + length nodes + edges nodes
 all-lines-le least line nodes = omega (arith, ap (lines_after least line 0) (take-length nodes), lines_after-le least line 0 nodes (length nodes))
 
+costs-all : (graph : Graph) (evidence costs : List ℕ) → costs_to graph evidence costs (length graph.nodes) ≡ values (node_cost (known_at evidence) (part_cost costs)) graph.nodes
+unfolding costs_to
+costs-all graph evidence costs = ap (values (node_cost (known_at evidence) (part_cost costs))) (take-length graph.nodes)
+
+-- with the least costs and the places of the lines, a layout is that of the graph
+pub laid : (graph : Graph) (evidence costs xs ls : List ℕ) → AreLeastCosts graph evidence costs xs → ls ≡ own_lines (map cost_in xs) (2 * length costs) 0 graph.nodes
+    → record { graph = graph; evidence = evidence; parts = length costs; least = map cost_in xs; lines = ls } ≡ layout_of graph evidence costs
+laid graph evidence costs xs ls is at = grind (arith, nat_tests, costs-all)
+
 module _ (graph : Graph) (evidence costs : List ℕ) (ok : IsGraph graph) (long : length evidence ≡ graph.vars) (within : length costs ≤ graph.vars) (dear : All (λ c. 0 < c) costs)
     (small : length graph.nodes + edges graph.nodes + 2 * length costs + 1 < 2 ^ 32) where
   abbrev L : Layout
@@ -191,22 +200,13 @@ module _ (graph : Graph) (evidence costs : List ℕ) (ok : IsGraph graph) (long 
 
   -- ---- as it is made
 
-  costs-all : costs_to graph evidence costs (length graph.nodes) ≡ values (node_cost (known_at evidence) (part_cost costs)) graph.nodes
-  unfolding costs_to
-  costs-all = ap (values (node_cost (known_at evidence) (part_cost costs))) (take-length graph.nodes)
-
-  -- with the least costs and the places of the lines, a layout is that of the graph
-  pub laid : (xs ls : List ℕ) → AreLeastCosts graph evidence costs xs → ls ≡ own_lines (map cost_in xs) (2 * length costs) 0 graph.nodes
-      → record { graph = graph; evidence = evidence; parts = length costs; least = map cost_in xs; lines = ls } ≡ layout_of graph evidence costs
-  laid xs ls is at = grind (arith, nat_tests, costs-all)
-
   pub counted : (xs ls : List ℕ) (count : ℕ) → AreLeastCosts graph evidence costs xs → ls ≡ own_lines (map cost_in xs) (2 * length costs) 0 graph.nodes → count ≡ lines_after (map cost_in xs) (2 * length costs) 0 graph.nodes
       → count + 1 ≡ length (all_lines (record { graph = graph; evidence = evidence; parts = length costs; least = map cost_in xs; lines = ls }))
   counted xs ls count is at n = grind (arith, nat_tests, costs-all, laid, length-all, length-append, length-literal_pairs, body-length)
 
   pub edges-fit : (xs ls : List ℕ) → AreLeastCosts graph evidence costs xs → ls ≡ own_lines (map cost_in xs) (2 * length costs) 0 graph.nodes
       → edges (all_lines (record { graph = graph; evidence = evidence; parts = length costs; least = map cost_in xs; lines = ls })) < 2 ^ 64
-  edges-fit xs ls is at = omega (arith, ap (λ l. edges (all_lines l)) (laid xs ls is at), edges-le parts 0 all stand.nodes.fit, all-le)
+  edges-fit xs ls is at = omega (arith, ap (λ l. edges (all_lines l)) (laid graph evidence costs xs ls is at), edges-le parts 0 all stand.nodes.fit, all-le)
 
 pub count-fits : (graph : Graph) (costs : List ℕ) (least : List (Option ℕ)) → length graph.nodes + edges graph.nodes + 2 * length costs + 1 < 2 ^ 32 → lines_after least (2 * length costs) 0 graph.nodes + 1 < 2 ^ 32
 count-fits graph costs least small = omega (arith, all-lines-le least (2 * length costs) graph.nodes)

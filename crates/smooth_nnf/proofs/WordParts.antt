@@ -142,16 +142,10 @@ set_parts-are test word (w ∷ words) is =
 pub node_parts : (d : Drawing) → IsDrawing d → (node : ℕ) → node < length d.graph.nodes → (set : List ℕ) → set ≡ take (part_words d.parts) (drop (node * part_words d.parts) d.sets)
     → length (set_parts 0 set) ≡ part_count d node
 node_parts d is node lt set at =
-    let width : ℕ = part_words d.parts in
-    let room = block-below node (length d.graph.nodes) width lt in
-    let enough : width ≤ length (drop (node * width) d.sets) = omega (arith, length-drop (node * width) d.sets, is.wide, room) in
-    let long : length set ≡ width = ap length at ∙ length-take-le width (drop (node * width) d.sets) enough in
-    let few : d.parts ≤ 32 * length set = omega (arith, long) in
-    ap length (set_parts-are (λ p. nat_le p d.parts && mentions d.graph.nodes p node) 0 set (λ i b inside s.
-    let first : 0 + i ≡ i = omega arith in
-    ap (λ xs. has_bit (get_or xs i 0) b) at ∙ ap (λ n. has_bit n b) (get_or-take width (drop (node * width) d.sets) i 0 (omega (arith, long)) ∙ get_or-drop (node * width) d.sets i 0)
-    ∙ set-bit d.parts (λ v. mentions d.graph.nodes v node) d.sets node i b (is.below node lt) (omega (arith, long)) s ∙ ap (λ n. nat_le (part_at n b) d.parts && mentions d.graph.nodes (part_at n b) node) (sym first)))
-    ∙ ap length (all-words (λ p. mentions d.graph.nodes p node) d.parts (32 * length set) few)
+    let long : length set ≡ part_words d.parts = grind (arith, length-take-le, length-drop, block-below, is.wide) in
+    let bits : (i b : ℕ) → i < length set → b < 32 → has_bit (get_or set i 0) b ≡ (nat_le (part_at (0 + i) b) d.parts && mentions d.graph.nodes (part_at (0 + i) b) node) =
+    λ i b inside s. grind (arith, nat_tests, set-bit, get_or-take, get_or-drop, is.below) in
+    ap length (set_parts-are (λ p. nat_le p d.parts && mentions d.graph.nodes p node) 0 set bits ∙ all-words (λ p. mentions d.graph.nodes p node) d.parts (32 * length set) (omega (arith, long)))
 
 pub part_count-le : (d : Drawing) (node : ℕ) → part_count d node ≤ d.parts
 part_count-le d node = omega (arith, length-filter-le (λ part. mentions d.graph.nodes part node) (range_with_len 1 d.parts), length-range_with_len 1 d.parts)

@@ -26,13 +26,13 @@ last-kids d root value at is some = grind (arith, nat_tests, cost_in-some)
 child-lines : (d : Drawing) (node cost : ℕ) (kids : List ℕ) → sum_by (child_edges d node cost) kids
     ≡ edges (map (child_line (shown d) node) (cheapest_children (map cost_in d.values) cost kids)) + length (cheapest_children (map cost_in d.values) cost kids)
 child-lines d node cost [] = refl
-child-lines d node cost (k ∷ kids) = sum_by-cons (child_edges d node cost) k kids ∙ by (child-lines d node cost kids) (costs_just cost (cost_at (map cost_in d.values) k)) where
-  by : sum_by (child_edges d node cost) kids ≡ edges (map (child_line (shown d) node) (cheapest_children (map cost_in d.values) cost kids)) + length (cheapest_children (map cost_in d.values) cost kids) → (b : Bool)
-      → cond b (length (child_line (shown d) node k).kids + 1) 0 + sum_by (child_edges d node cost) kids
-      ≡ edges (map (child_line (shown d) node) (cond b (k ∷ cheapest_children (map cost_in d.values) cost kids) (cheapest_children (map cost_in d.values) cost kids)))
-      + length (cond b (k ∷ cheapest_children (map cost_in d.values) cost kids) (cheapest_children (map cost_in d.values) cost kids))
-  by more true = omega (arith, more, sum_by-cons (λ (n : Node). length n.kids) (child_line (shown d) node k) (map (child_line (shown d) node) (cheapest_children (map cost_in d.values) cost kids)))
-  by more false = omega (arith, more)
+child-lines d node cost (k ∷ kids) = grind (
+  arith,
+  nat_tests,
+  sum_by-cons (child_edges d node cost) k kids,
+  sum_by-cons (λ (n : Node). length n.kids) (child_line (shown d) node k) (map (child_line (shown d) node) (cheapest_children (map cost_in d.values) cost kids)),
+  child-lines d node cost kids,
+)
 
 pub or-edges : (d : Drawing) (node cost : ℕ) (kids : List ℕ) → sum_by (child_edges d node cost) kids ≡ edges (or_lines (shown d) node (cheapest_children (map cost_in d.values) cost kids))
 or-edges d node cost kids = grind (arith, nat_tests, child-lines, sum_by-append, sum_by-cons, length-range_with_len)

@@ -51,12 +51,9 @@ pair_line-later s p b lt = grind (arith, nat_tests)
 pair_line-here : (s : ℕ) (b : Bool) → pair_line s s b ≡ cond b 0 1
 pair_line-here s b = grind (arith, nat_tests)
 
-here-at : (s : ℕ) (b : Bool) (rest : List Node) → node_at (literal_node s true ∷ literal_node s false ∷ rest) (cond b 0 1) ≡ literal_node s b
-here-at s b rest = grind (arith, nat_tests)
-
 pair-at : (s n p : ℕ) (b : Bool) (more : List Node) → s ≤ p → p < s + n → node_at (flat_map literal_pair (range_with_len s n) ++ more) (pair_line s p b) ≡ literal_node p b
 pair-at s zero p b more low high = absurd (omega arith)
-pair-at s (suc n) p b more low high = grind (arith, nat_tests, pair_line-later, pair_line-here, here-at, cases_lt, pair-at (s + 1) n p b more)
+pair-at s (suc n) p b more low high = grind (arith, nat_tests, pair_line-later, pair_line-here, cases_lt, pair-at (s + 1) n p b more)
 
 length-pairs : (s n : ℕ) → length (flat_map literal_pair (range_with_len s n)) ≡ 2 * n
 length-pairs s zero = refl
@@ -133,17 +130,13 @@ module _ (parts : ℕ) (more : List Node) where
     fillers-once v = ap at_most_one (fillers-values (mention_by v)) ∙ once 1 parts where
       once : (s n : ℕ) → at_most_one (map (λ p. p == v) (filter missing (range_with_len s n))) ≡ true
       once s zero = refl
-      once s (suc n) = by_test (once (s + 1) n) (missing s) where
-        other : list_any (λ b. b) (map (λ p. p == v) (filter missing (range_with_len (s + 1) n))) ≡ true → (s == v) ≡ false
-        other any =
-            let r = child-with (λ p. p == v) (filter missing (range_with_len (s + 1) n)) any in
-            let range = in_range (s + 1) n r.item (In-filter missing r.item (range_with_len (s + 1) n) r.is_in).0 in
-            let same = eqb-true r.item v r.passes in
-            ne_eqb s v (λ e. omega (arith, range.0))
-
-        by_test : at_most_one (map (λ p. p == v) (filter missing (range_with_len (s + 1) n))) ≡ true → (b : Bool) → at_most_one (map (λ p. p == v) (cond b (s ∷ filter missing (range_with_len (s + 1) n)) (filter missing (range_with_len (s + 1) n)))) ≡ true
-        by_test more true = at_most_one-from (s == v) (map (λ p. p == v) (filter missing (range_with_len (s + 1) n))) other more
-        by_test more false = more
+      once s (suc n) =
+          let other : list_any (λ b. b) (map (λ p. p == v) (filter missing (range_with_len (s + 1) n))) ≡ true → (s == v) ≡ false = λ any.
+          let r = child-with (λ p. p == v) (filter missing (range_with_len (s + 1) n)) any in
+          let range = in_range (s + 1) n r.item (In-filter missing r.item (range_with_len (s + 1) n) r.is_in).0 in
+          let same = eqb-true r.item v r.passes in
+          ne_eqb s v (λ e. omega (arith, range.0)) in
+          grind (arith, nat_tests, at_most_one-from, other, once (s + 1) n)
 
     -- and are true where what is missing is filled in
     pub fillers-true : (a : Assignment) → ((v : ℕ) → (nat_le 1 v && nat_le v parts) ≡ true → missing v ≡ true → a v ≡ filling (known_at evidence v))

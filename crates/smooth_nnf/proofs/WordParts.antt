@@ -57,7 +57,7 @@ ones-parts word bits h = ones-from 32 bits (32 * word + 1) h
 
 -- ---- words one after the other
 
-pub range-append : (s m n : ℕ) → range_with_len s (m + n) ≡ range_with_len s m ++ range_with_len (s + m) n
+range-append : (s m n : ℕ) → range_with_len s (m + n) ≡ range_with_len s m ++ range_with_len (s + m) n
 range-append s zero n = let e : s ≡ s + 0 = omega arith in let f : 0 + n ≡ n = omega arith in ap (range_with_len s) f ∙ ap (λ k. range_with_len k n) e
 range-append s (suc m) n =
     let e : (s + 1) + m ≡ s + suc m = omega arith in
@@ -70,13 +70,19 @@ word-parts test word bits is = filter_same (λ part. has_bit bits (part - (32 * 
     let e : part_at word (p - (32 * word + 1)) ≡ p = omega (arith, range.0) in
     is (p - (32 * word + 1)) (omega (arith, range.0, range.1)) ∙ ap test e)
 
+-- the parts of one more word
+pub word-more : (test : ℕ → Bool) (word n : ℕ) → filter test (range_with_len (32 * word + 1) (32 * suc n)) ≡ filter test (range_with_len (32 * word + 1) 32) ++ filter test (range_with_len (32 * (word + 1) + 1) (32 * n))
+word-more test word n =
+    let all : 32 * suc n ≡ 32 + 32 * n = omega arith in
+    let next : (32 * word + 1) + 32 ≡ 32 * (word + 1) + 1 = omega arith in
+    (λ i. filter test (range_with_len (32 * word + 1) (all i))) ∙ ap (filter test) (range-append (32 * word + 1) 32 (32 * n)) ∙ filter-append test (range_with_len (32 * word + 1) 32) (range_with_len ((32 * word + 1) + 32) (32 * n))
+    ∙ (λ i. filter test (range_with_len (32 * word + 1) 32) ++ filter test (range_with_len (next i) (32 * n)))
+
 -- after the last part there is none
 pub all-words : (test : ℕ → Bool) (parts n : ℕ) → parts ≤ n → filter (λ p. nat_le p parts && test p) (range_with_len 1 n) ≡ filter test (range_with_len 1 parts)
 all-words test parts n le =
     let all : n ≡ parts + (n - parts) = omega arith in
-    ap (λ k. filter (λ p. nat_le p parts && test p) (range_with_len 1 k)) all ∙ ap (filter (λ p. nat_le p parts && test p)) (range-append 1 parts (n - parts))
-    ∙ filter-append (λ p. nat_le p parts && test p) (range_with_len 1 parts) (range_with_len (1 + parts) (n - parts))
-    ∙ (λ i. first i ++ (none (1 + parts) (n - parts) (omega arith)) i) ∙ append-nil (filter test (range_with_len 1 parts)) where
+    rw (all, range-append 1 parts (n - parts), filter-append) ((λ i. first i ++ (none (1 + parts) (n - parts) (omega arith)) i) ∙ append-nil (filter test (range_with_len 1 parts))) where
       first : filter (λ p. nat_le p parts && test p) (range_with_len 1 parts) ≡ filter test (range_with_len 1 parts)
       first = grind (arith, nat_tests, filter_same, in_range, le-leb)
 
@@ -129,14 +135,9 @@ pub set_parts-are : (test : ℕ → Bool) (word : ℕ) (words : List ℕ) → ((
 set_parts-are test word [] is = let e : 32 * 0 ≡ 0 = omega arith in ap (λ n. filter test (range_with_len (32 * word + 1) n)) (sym e)
 set_parts-are test word (w ∷ words) is =
     let here : word + 0 ≡ word = omega arith in
-    let all : 32 * length (w ∷ words) ≡ 32 + 32 * length words = omega arith in
-    let start : 32 * (word + 1) + 1 ≡ (32 * word + 1) + 32 = omega arith in
     (λ j. word-parts test word w (λ b s. is 0 b (omega arith) s ∙ ap (λ n. test (part_at n b)) here) j
-    ++ (set_parts-are test (word + 1) words (λ i b lt s. let e : word + suc i ≡ (word + 1) + i = omega arith in is (suc i) b (omega arith) s ∙ ap (λ n. test (part_at n b)) e)
-    ∙ ap (λ n. filter test (range_with_len n (32 * length words))) start) j)
-    ∙ sym (filter-append test (range_with_len (32 * word + 1) 32) (range_with_len ((32 * word + 1) + 32) (32 * length words)))
-    ∙ ap (filter test) (sym (range-append (32 * word + 1) 32 (32 * length words)))
-    ∙ ap (λ n. filter test (range_with_len (32 * word + 1) n)) (sym all)
+    ++ set_parts-are test (word + 1) words (λ i b lt s. let e : word + suc i ≡ (word + 1) + i = omega arith in is (suc i) b (omega arith) s ∙ ap (λ n. test (part_at n b)) e) j)
+    ∙ sym (word-more test word (length words))
 
 -- the set of parts of a drawing's node
 pub node_parts : (d : Drawing) → IsDrawing d → (node : ℕ) → node < length d.graph.nodes → (set : List ℕ) → set ≡ take (part_words d.parts) (drop (node * part_words d.parts) d.sets)

@@ -244,19 +244,12 @@ module _ (graph : Graph) (evidence costs : List ℕ) (ok : IsGraph graph) (dear 
       all_children : List Node
       all_children = before ++ block
 
-      kids-stand : Stand parts all_children
-      unfolding all_children
-      kids-stand = stand-behind parts before block upto.stand block-follows
-
-      length-block : length block ≡ length best
-      length-block = length-map best (child_line L i)
-
       -- what the lines of the children are worth
       block-values : (by : NodeKind → List Bool → Bool) → map (value_of by all_children) (range_with_len (length before) (length best)) ≡ map (λ k. by And (map (value_of by before) (child_line L i k).kids)) best
       unfolding all_children
       block-values by =
           let start : length before ≡ length before + 0 = omega arith in
-          (λ j. map (value_of by (before ++ sym (append-nil block) j)) (range_with_len (start j) (sym length-block j)))
+          (λ j. map (value_of by (before ++ sym (append-nil block) j)) (range_with_len (start j) (sym (length-map best (child_line L i)) j)))
           ∙ values-behind by parts before [] block [] block-follows
           ∙ map-map (λ (x : Node). by x.what (map (value_of by before) x.kids)) (child_line L i) best
 
@@ -264,11 +257,6 @@ module _ (graph : Graph) (evidence costs : List ℕ) (ok : IsGraph graph) (dear 
       block-mentions v = block-values (mention_by v) ∙ map-in (λ k. list_any (λ b. b) (map (mentions before v) (child_line L i k).kids)) (λ k. part_of v && M v i) best (λ k m.
           let is = cheapest-is least cost kids k m in
           over-mention more k cost is.1 (drawn_child k is.0 is.1) (λ u. M u i) (wider k is.0) v)
-
-      some-best : best ≡ [] → ⊥
-      some-best none =
-          let r = cheapest-has (least_at graph evidence costs) kids cost (sym (costs-at graph evidence costs ok i _ e) ∙ cost_is) in
-          subst (In r.0) none (cheapest-in least cost kids r.0 r.1.0 r.1.1)
 
       abbrev or_node : Node
       or_node = or_behind (own i) (length best)
@@ -278,7 +266,7 @@ module _ (graph : Graph) (evidence costs : List ℕ) (ok : IsGraph graph) (dear 
 
       length-all_children : length all_children ≡ length before + length best
       unfolding all_children
-      length-all_children = omega (arith, length-append before block, length-block)
+      length-all_children = omega (arith, length-append before block, length-map best (child_line L i))
 
       or-follows : MayFollow parts all_children or_node
       or-follows = record {
@@ -292,21 +280,26 @@ module _ (graph : Graph) (evidence costs : List ℕ) (ok : IsGraph graph) (dear 
       here by = grind (arith, nat_tests, all_children, length-all_children, value_of-there, or_children, block-values)
 
       or-drawn : Drawn (all_children ++ or_node ∷ []) i cost
-      or-drawn = record {
-        inside = omega (arith, at, length-all_children, length-append all_children (or_node ∷ []));
-        mentioned = λ v. here (mention_by v) ∙ ap (list_any (λ b. b)) (sym (block-values (mention_by v)) ∙ block-mentions v) ∙ any-const (part_of v && M v i) best some-best;
-        means = Means-same (λ a. here (truth_by a))
-            (or-means graph evidence costs ok dear i kids cost e cost_is (λ k a. list_all (λ b. b) (map (λ q. is_true before q a) (child_line L i k).kids))
-            (λ k m c. over-means more k cost c (drawn_child k m c) (λ v. M v i) (wider k m)));
-      }
+      or-drawn =
+          let some : best ≡ [] → ⊥ = λ none.
+          let r = cheapest-has (least_at graph evidence costs) kids cost (sym (costs-at graph evidence costs ok i _ e) ∙ cost_is) in
+          subst (In r.0) none (cheapest-in least cost kids r.0 r.1.0 r.1.1) in
+          record {
+            inside = omega (arith, at, length-all_children, length-append all_children (or_node ∷ []));
+            mentioned = λ v. here (mention_by v) ∙ ap (list_any (λ b. b)) (sym (block-values (mention_by v)) ∙ block-mentions v) ∙ any-const (part_of v && M v i) best some;
+            means = Means-same (λ a. here (truth_by a))
+                (or-means graph evidence costs ok dear i kids cost e cost_is (λ k a. list_all (λ b. b) (map (λ q. is_true before q a) (child_line L i k).kids))
+                (λ k m c. over-means more k cost c (drawn_child k m c) (λ v. M v i) (wider k m)));
+          }
 
       whole : all_children ++ or_node ∷ [] ≡ literal_pairs parts ++ (more ++ (block ++ or_node ∷ []))
       unfolding all_children
       whole = append_assoc before block (or_node ∷ []) ∙ append_assoc (literal_pairs parts) more (block ++ or_node ∷ [])
 
       or-adds : Adds (or_lines L i best)
+      unfolding all_children
       or-adds = record {
-        stand = subst (Stand parts) whole (stand-behind parts all_children (or_node ∷ []) kids-stand (or-follows, tt));
+        stand = subst (Stand parts) whole (stand-behind parts all_children (or_node ∷ []) (stand-behind parts before block upto.stand block-follows) (or-follows, tt));
         drawn = λ c q. subst (λ lines. Drawn lines i c) whole (subst (Drawn (all_children ++ or_node ∷ []) i) (same_Some cost c (sym cost_is ∙ q)) or-drawn);
       }
 

@@ -109,18 +109,13 @@ module _ (parts : ℕ) (more : List Node) where
     pub fillers-below : (own : ℕ) → 2 * parts ≤ own → are_below own (fillers evidence parts missing) ≡ true
     fillers-below own le = are_below-from own (map (filler evidence) chosen) (λ i d h.
         let x = from_map (filler evidence) (get_or (map (filler evidence) chosen) i d) chosen (In-at (map (filler evidence) chosen) i d h) in
-        let is = chosen-is x.item x.is_in in
-        omega (arith, x.gives, literal_line-lt parts x.item (filling (known_at evidence x.item)) is.0 is.1))
+        grind (arith, x.gives, chosen-is x.item x.is_in, literal_line-lt))
 
     -- together they mention what is missing
     pub fillers-mention : (v : ℕ) → list_any (λ b. b) (map (mentions (literal_pairs parts ++ more) v) (fillers evidence parts missing)) ≡ ((nat_le 1 v && nat_le v parts) && missing v)
     fillers-mention v = ap (list_any (λ b. b)) (fillers-values (mention_by v)) ∙ both_ways _ _ from to where
       from : list_any (λ b. b) (map (λ p. p == v) chosen) ≡ true → ((nat_le 1 v && nat_le v parts) && missing v) ≡ true
-      from any =
-          let r = child-with (λ p. p == v) chosen any in
-          let is = chosen-is r.item r.is_in in
-          subst (λ u. ((nat_le 1 u && nat_le u parts) && missing u) ≡ true) (eqb-true r.item v r.passes)
-          (and_from _ _ (and_from _ _ (le-leb 1 r.item is.0) (le-leb r.item parts is.1)) is.2)
+      from any = let r = child-with (λ p. p == v) chosen any in grind (arith, nat_tests, chosen-is r.item r.is_in, r.passes)
 
       to : ((nat_le 1 v && nat_le v parts) && missing v) ≡ true → list_any (λ b. b) (map (λ p. p == v) chosen) ≡ true
       to all = grind (arith, nat_tests, and_parts, any-child, chosen-has, leb-true, eq-eqb)
@@ -133,9 +128,7 @@ module _ (parts : ℕ) (more : List Node) where
       once s (suc n) =
           let other : list_any (λ b. b) (map (λ p. p == v) (filter missing (range_with_len (s + 1) n))) ≡ true → (s == v) ≡ false = λ any.
           let r = child-with (λ p. p == v) (filter missing (range_with_len (s + 1) n)) any in
-          let range = in_range (s + 1) n r.item (In-filter missing r.item (range_with_len (s + 1) n) r.is_in).0 in
-          let same = eqb-true r.item v r.passes in
-          ne_eqb s v (λ e. omega (arith, range.0)) in
+          grind (arith, nat_tests, in_range (s + 1) n r.item (In-filter missing r.item (range_with_len (s + 1) n) r.is_in).0, r.passes) in
           grind (arith, nat_tests, at_most_one-from, other, once (s + 1) n)
 
     -- and are true where what is missing is filled in

@@ -40,10 +40,7 @@ masked x y b fits s = has_bit-and x (4294967295 - y) b ∙ ap (λ z. has_bit x b
 -- ---- how many there are
 
 filter-later : (n s d : ℕ) → filter (λ p. has_bit (n / 2) (p - (s + 1))) (range_with_len (s + 1) d) ≡ filter (λ p. has_bit n (p - s)) (range_with_len (s + 1) d)
-filter-later n s d = filter_same (λ p. has_bit (n / 2) (p - (s + 1))) (λ p. has_bit n (p - s)) (range_with_len (s + 1) d) (λ p m.
-    let range = in_range (s + 1) d p m in
-    let e : p - s ≡ suc (p - (s + 1)) = omega (arith, range.0) in
-    ap (λ k. k == 1) (sym (bit_at-suc n (p - (s + 1)))) ∙ ap (has_bit n) (sym e))
+filter-later n s d = filter_same (λ p. has_bit (n / 2) (p - (s + 1))) (λ p. has_bit n (p - s)) (range_with_len (s + 1) d) (λ p m. grind (arith, nat_tests, in_range (s + 1) d p m, bit_at-suc n (p - (s + 1))))
 
 low-bit : (n : ℕ) (xs : List ℕ) (x : ℕ) → length (cond (n % 2 == 1) (x ∷ xs) xs) ≡ n % 2 + length xs
 low-bit n xs x = grind (arith, nat_tests)
@@ -66,9 +63,7 @@ range-append s (suc m) n =
 
 pub word-parts : (test : ℕ → Bool) (word bits : ℕ) → ((b : ℕ) → b < 32 → has_bit bits b ≡ test (part_at word b)) → word_parts word bits ≡ filter test (range_with_len (32 * word + 1) 32)
 word-parts test word bits is = filter_same (λ part. has_bit bits (part - (32 * word + 1))) test (range_with_len (32 * word + 1) 32) (λ p m.
-    let range = in_range (32 * word + 1) 32 p m in
-    let e : part_at word (p - (32 * word + 1)) ≡ p = omega (arith, range.0) in
-    is (p - (32 * word + 1)) (omega (arith, range.0, range.1)) ∙ ap test e)
+    grind (arith, nat_tests, in_range (32 * word + 1) 32 p m, is (p - (32 * word + 1))))
 
 -- the parts of one more word
 pub word-more : (test : ℕ → Bool) (word n : ℕ) → filter test (range_with_len (32 * word + 1) (32 * suc n)) ≡ filter test (range_with_len (32 * word + 1) 32) ++ filter test (range_with_len (32 * (word + 1) + 1) (32 * n))
@@ -87,9 +82,7 @@ all-words test parts n le =
       first = grind (arith, nat_tests, filter_same, in_range, le-leb)
 
       none : (s d : ℕ) → parts < s → filter (λ p. nat_le p parts && test p) (range_with_len s d) ≡ []
-      none s d lt = filter_same (λ p. nat_le p parts && test p) (λ p. false) (range_with_len s d) (λ p m.
-          let range = in_range s d p m in
-          ap (λ b. b && test p) (false_from_ne_true (nat_le p parts) (λ e. let le = leb-true p parts e in absurd (omega (arith, range.0))))) ∙ filter-never (range_with_len s d)
+      none s d lt = filter_same (λ p. nat_le p parts && test p) (λ p. false) (range_with_len s d) (λ p m. grind (arith, nat_tests, in_range s d p m)) ∙ filter-never (range_with_len s d)
 
 -- what passes one test and not another that passes no more
 pub left-over : (o m : ℕ → Bool) → ((p : ℕ) → m p ≡ true → o p ≡ true) → (xs : List ℕ) → length (filter (λ p. o p && not (m p)) xs) + length (filter m xs) ≡ length (filter o xs)

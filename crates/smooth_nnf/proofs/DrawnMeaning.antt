@@ -32,9 +32,6 @@ cheapest-is least c kids k m = grind (arith, nat_tests, In-filter, eqb-true)
 filled_bit : (k : Option Bool) (b : Bool) (w : ℕ) → 0 < w → agrees_at k b ≡ true → (fault k w b ≡ 0) → b ≡ filling k
 filled_bit k b w dear ag free = grind (arith, nat_tests, same_bit-equal)
 
-only_fault : (k : Option Bool) (b : Bool) (w : ℕ) → (fault k w b ≡ 0 → ⊥) → b ≡ false
-only_fault k b w h = grind (arith, nat_tests)
-
 module _ (graph : Graph) (evidence costs : List ℕ) (ok : IsGraph graph) (dear : All (λ c. 0 < c) costs) where
   abbrev kn : ℕ → Option Bool
   kn v = known_at evidence v
@@ -76,13 +73,11 @@ module _ (graph : Graph) (evidence costs : List ℕ) (ok : IsGraph graph) (dear 
   outside : (k c : ℕ) → least_at graph evidence costs k ≡ Some c → (o : ℕ → Bool) → ((v : ℕ) → M v k ≡ true → o v ≡ true) → (b : Assignment) → Agrees kn price n b → T b k ≡ true → faults_in kn price n o b ≤ c
       → (v : ℕ) → is_part v ≡ true → o v ≡ true → M v k ≡ false → b v ≡ filling (kn v)
   outside k c e o wider b ag h few v part in_o not_below =
-      let range = and_parts (nat_le 1 v) (nat_le v n) part in
-      let low : 1 ≤ v = leb-true 1 v range.0 in
-      let high : v ≤ n = leb-true v n range.1 in
+      let range : (1 ≤ v) × (v ≤ n) = grind (arith, nat_tests, part) in
       let most : c ≤ faults_in kn price n (λ u. M u k) b = subst (λ d. AtMost d (faults_in kn price n (λ u. M u k) b)) e ((is_cost graph evidence costs ok k).bound b ag h) in
       let less : 0 < fault (kn v) (price v) (b v) → faults_in kn price n (λ u. M u k) b < faults_in kn price n o b =
-      λ costly. faults-lt graph evidence costs ok b ag v low (omega arith) (only_fault (kn v) (b v) (price v) (λ z. omega arith)) costly (λ u. M u k) o wider not_below in_o in
-      filled_bit (kn v) (b v) (price v) (grind (arith, nat_tests)) (ag v) (grind (arith, most, less, few))
+      λ costly. faults-lt graph evidence costs ok b ag v range.0 (omega (arith, range.1)) (grind (arith, nat_tests, costly)) costly (λ u. M u k) o wider not_below in_o in
+      filled_bit (kn v) (b v) (price v) (grind (arith, nat_tests, range.0, range.1)) (ag v) (grind (arith, most, less, few))
 
   -- ---- parts that are filled in
 

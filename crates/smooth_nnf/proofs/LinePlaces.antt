@@ -53,17 +53,11 @@ module _ (least : List (Option ℕ)) where
 
   -- one more node, of the first ones
   module _ (line : ℕ) (nodes : List Node) (i : ℕ) (lt : i < length nodes) where
-    next : i + 1 ≡ suc i
-    next = omega arith
-
-    first : 0 + i ≡ i
-    first = omega arith
-
     pub own_lines-more : own_lines least line 0 (take (i + 1) nodes) ≡ own_lines least line 0 (take i nodes) ++ (lines_after least line 0 (take i nodes) + lines_to least (node_at nodes i) (cost_at least i)) ∷ []
-    own_lines-more = grind (arith, nat_tests, next, own_lines-next, first)
+    own_lines-more = grind (arith, nat_tests, own_lines-next line 0 nodes i lt)
 
     pub lines_after-more : lines_after least line 0 (take (i + 1) nodes) ≡ lines_after least line 0 (take i nodes) + lines_to least (node_at nodes i) (cost_at least i) + 1
-    lines_after-more = grind (arith, nat_tests, next, lines_after-next, first)
+    lines_after-more = grind (arith, nat_tests, lines_after-next line 0 nodes i lt)
 
   -- lines fit
   pub lines_after-le : (line number : ℕ) (nodes : List Node) (i : ℕ) → lines_after least line number (take i nodes) ≤ line + length nodes + edges nodes

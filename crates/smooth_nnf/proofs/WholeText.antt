@@ -142,8 +142,7 @@ module _ (graph : Graph) (evidence costs : List ℕ) (ok : IsGraph graph) (long 
           let g = (last-means c e).reached (assignment h) t in
           let s = state_of graph evidence costs ok long within g.is.by g.is.agrees g.is.holds in
           let same : h ≡ s.state = ext_get_or false h s.state (as_long ∙ sym s.long_state) (λ i lt.
-          let place : (1 + i) - 1 ≡ i = omega arith in
-          ap (bit_in h) (sym place) ∙ g.same (1 + i) (and_from _ _ (le-leb 1 (1 + i) (omega arith)) (le-leb (1 + i) parts (omega arith))) refl ∙ sym (s.bits i (omega arith))) in
+          grind (arith, nat_tests, g.same (1 + i), s.bits i)) in
           any_in (pointwise same_bit h) s.state ds
           (diagnosis-in graph evidence costs (held + c) (least-under (Some c) e) s.state (record { long = s.long_state; model = s.model; cheap = omega (arith, s.cost_is, g.is.cheap) }))
           (subst (λ k. pointwise same_bit h k ≡ true) same (pointwise-refl h))
@@ -157,11 +156,7 @@ module _ (graph : Graph) (evidence costs : List ℕ) (ok : IsGraph graph) (long 
         let p = diagnosis-out graph evidence costs (held + c) (least-under (Some c) known.1) r.item r.is_in in
         let x = assignment_of graph evidence costs ok long within r.item p.long p.model in
         (last-means c known.1).sound (assignment h) x.by x.agrees x.holds (omega (arith, x.cost_is, p.cheap)) (λ v part m.
-        let range = and_parts (nat_le 1 v) (nat_le v parts) part in
-        let low = leb-true 1 v range.0 in
-        let high = leb-true v parts range.1 in
-        let place : 1 + (v - 1) ≡ v = omega arith in
-        ap (λ k. bit_in k (v - 1)) same ∙ x.bits (v - 1) (omega arith) ∙ ap x.by place)
+        grind (arith, nat_tests, same, x.bits (v - 1)))
 
     pub least-holds : holds (least_graph graph evidence costs) h ≡ list_any (pointwise same_bit h) (diagnoses_under graph evidence costs)
     least-holds = both_ways _ _ is_diagnosis is_shown

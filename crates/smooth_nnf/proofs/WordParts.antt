@@ -127,9 +127,7 @@ pub set_parts-are : (test : ℕ → Bool) (word : ℕ) (words : List ℕ) → ((
     → set_parts word words ≡ filter test (range_with_len (32 * word + 1) (32 * length words))
 set_parts-are test word [] is = let e : 32 * 0 ≡ 0 = omega arith in ap (λ n. filter test (range_with_len (32 * word + 1) n)) (sym e)
 set_parts-are test word (w ∷ words) is =
-    let here : word + 0 ≡ word = omega arith in
-    (λ j. word-parts test word w (λ b s. is 0 b (omega arith) s ∙ ap (λ n. test (part_at n b)) here) j
-    ++ set_parts-are test (word + 1) words (λ i b lt s. let e : word + suc i ≡ (word + 1) + i = omega arith in is (suc i) b (omega arith) s ∙ ap (λ n. test (part_at n b)) e) j)
+    (λ j. word-parts test word w (λ b s. grind (arith, is 0 b)) j ++ set_parts-are test (word + 1) words (λ i b lt s. grind (arith, is (suc i) b)) j)
     ∙ sym (word-more test word (length words))
 
 -- the set of parts of a drawing's node

@@ -248,10 +248,7 @@ module _ (graph : Graph) (evidence costs : List ℕ) (ok : IsGraph graph) (dear 
       block-values : (by : NodeKind → List Bool → Bool) → map (value_of by all_children) (range_with_len (length before) (length best)) ≡ map (λ k. by And (map (value_of by before) (child_line L i k).kids)) best
       unfolding all_children
       block-values by =
-          let start : length before ≡ length before + 0 = omega arith in
-          (λ j. map (value_of by (before ++ sym (append-nil block) j)) (range_with_len (start j) (sym (length-map best (child_line L i)) j)))
-          ∙ values-behind by parts before [] block [] block-follows
-          ∙ map-map (λ (x : Node). by x.what (map (value_of by before) x.kids)) (child_line L i) best
+          grind (arith, append-nil block, length-map best (child_line L i), values-behind by parts before [] block [] block-follows, map-map (λ (x : Node). by x.what (map (value_of by before) x.kids)) (child_line L i) best)
 
       block-mentions : (v : ℕ) → map (mentions all_children v) (range_with_len (length before) (length best)) ≡ map (λ k. part_of v && M v i) best
       block-mentions v = block-values (mention_by v) ∙ map-in (λ k. list_any (λ b. b) (map (mentions before v) (child_line L i k).kids)) (λ k. part_of v && M v i) best (λ k m.

@@ -41,8 +41,7 @@ or-edges d node cost kids = grind (arith, nat_tests, child-lines, sum_by-append,
 
 module _ {X : Type 0} (f : X → List Node) (xs : List X) where
   more-edges : (i : ℕ) (d : X) → i < length xs → edges (flat_map f (take (i + 1) xs)) ≡ edges (flat_map f (take i xs)) + edges (f (get_or xs i d))
-  more-edges i d lt = ap (λ ys. edges (flat_map f ys)) (take_more xs i d lt) ∙ ap edges (sym (flat_map_more f [] (take i xs) (get_or xs i d)))
-      ∙ sum_by-append (λ (n : Node). length n.kids) (flat_map f (take i xs)) (f (get_or xs i d))
+  more-edges i d lt = grind (arith, take_more xs i d lt, flat_map_more f [] (take i xs) (get_or xs i d), sum_by-append (λ (n : Node). length n.kids) (flat_map f (take i xs)) (f (get_or xs i d)))
 
   part-edges : (i : ℕ) → edges (flat_map f (take i xs)) ≤ edges (flat_map f xs)
   part-edges i = omega (arith, simp (flat_map-append, sum_by-append) at (ap (λ ys. edges (flat_map f ys)) (take-append-drop i xs)))

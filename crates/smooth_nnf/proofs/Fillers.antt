@@ -48,12 +48,9 @@ pair_line s p false = 2 * (p - s) + 1
 pair_line-later : (s p : ℕ) (b : Bool) → s < p → pair_line s p b ≡ suc (suc (pair_line (s + 1) p b))
 pair_line-later s p b lt = grind (arith, nat_tests)
 
-pair_line-here : (s : ℕ) (b : Bool) → pair_line s s b ≡ cond b 0 1
-pair_line-here s b = grind (arith, nat_tests)
-
 pair-at : (s n p : ℕ) (b : Bool) (more : List Node) → s ≤ p → p < s + n → node_at (flat_map literal_pair (range_with_len s n) ++ more) (pair_line s p b) ≡ literal_node p b
 pair-at s zero p b more low high = absurd (omega arith)
-pair-at s (suc n) p b more low high = grind (arith, nat_tests, pair_line-later, pair_line-here, cases_lt, pair-at (s + 1) n p b more)
+pair-at s (suc n) p b more low high = grind (arith, nat_tests, pair_line-later, cases_lt, pair-at (s + 1) n p b more)
 
 length-pairs : (s n : ℕ) → length (flat_map literal_pair (range_with_len s n)) ≡ 2 * n
 length-pairs s zero = refl

@@ -52,15 +52,9 @@ pub values-behind : (by : NodeKind → List Bool → Bool) (vars : ℕ) (base se
     → map (value_of by (base ++ (seen ++ (middle ++ back)))) (range_with_len (length base + length seen) (length middle)) ≡ map (λ x. by x.what (map (value_of by base) x.kids)) middle
 values-behind by vars base seen [] back below = refl
 values-behind by vars base seen (x ∷ middle) back below =
-    let all : List Node = base ++ (seen ++ (x ∷ (middle ++ back))) in
-    let joined : (base ++ seen) ++ (x ∷ (middle ++ back)) ≡ base ++ (seen ++ (x ∷ (middle ++ back))) = append_assoc base seen (x ∷ (middle ++ back)) in
-    let longer : length (base ++ seen) ≡ length base + length seen = length-append base seen in
-    let here : value_of by all (length base + length seen) ≡ by x.what (map (value_of by base) x.kids) =
-    (λ i. value_of by (sym joined i) (sym longer i)) ∙ value_of-there by (base ++ seen) x (middle ++ back)
-    ∙ ap (by x.what) (map-below (value_of by (base ++ seen)) (value_of by base) (length base) x.kids below.0.below (λ k h. value_of-front by base seen k h)) in
-    let next : base ++ ((seen ++ x ∷ []) ++ (middle ++ back)) ≡ all = ap (λ t. base ++ t) (append_assoc seen (x ∷ []) (middle ++ back)) in
-    let one_more : length base + length (seen ++ x ∷ []) ≡ (length base + length seen) + 1 = omega (arith, length-append seen (x ∷ [])) in
-    grind (arith, nat_tests, values-behind by vars base (seen ++ x ∷ []) middle back below.1)
+    let here : value_of by ((base ++ seen) ++ (x ∷ (middle ++ back))) (length (base ++ seen)) ≡ by x.what (map (value_of by base) x.kids) =
+    value_of-there by (base ++ seen) x (middle ++ back) ∙ ap (by x.what) (map-below (value_of by (base ++ seen)) (value_of by base) (length base) x.kids below.0.below (λ k h. value_of-front by base seen k h)) in
+    grind (arith, nat_tests, here, append_assoc, length-append, values-behind by vars base (seen ++ x ∷ []) middle back below.1)
 
 -- it may follow later too
 may_follow-later : (vars : ℕ) (base seen : List Node) (node : Node) → MayFollow vars base node → MayFollow vars (base ++ seen) node

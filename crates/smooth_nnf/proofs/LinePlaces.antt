@@ -20,18 +20,14 @@ just-stored cost n some = grind (arith, nat_tests, cases_eq, cond-true, eq-eqb, 
 cheapest-more : (values kids : List ℕ) (cost i count : ℕ) → i < length kids → get_or kids i 0 < length values → (cost ≡ 4294967295 → ⊥) → count ≡ length (cheapest_children (map cost_in values) cost (take i kids))
     → count + cond (get_or values (get_or kids i 0) 0 == cost) 1 0 ≡ length (cheapest_children (map cost_in values) cost (take (i + 1) kids))
 cheapest-more values kids cost i count lt inside some is =
-    let test : ℕ → Bool = λ child. costs_just cost (cost_at (map cost_in values) child) in
-    let here : test (get_or kids i 0) ≡ (get_or values (get_or kids i 0) 0 == cost) = ap (costs_just cost) (cost_at-map values (get_or kids i 0) inside) ∙ just-stored cost (get_or values (get_or kids i 0) 0) some in
-    (λ j. is j + cond (sym here j) 1 0) ∙ sym (length-filter_more test kids i 0 lt)
+    grind (arith, nat_tests, length-filter_more (λ child. costs_just cost (cost_at (map cost_in values) child)) kids i 0 lt, cost_at-map values (get_or kids i 0) inside, just-stored cost (get_or values (get_or kids i 0) 0) some)
 
 module _ (values kids : List ℕ) (cost i count : ℕ) (lt : i < length kids) (inside : get_or kids i 0 < length values) (some : cost ≡ 4294967295 → ⊥) (is : count ≡ length (cheapest_children (map cost_in values) cost (take i kids))) where
   pub one-cheapest : get_or values (get_or kids i 0) 0 ≡ cost → count + 1 ≡ length (cheapest_children (map cost_in values) cost (take (i + 1) kids))
   one-cheapest hit = ap (λ b. count + cond b 1 0) (sym (eq-eqb (get_or values (get_or kids i 0) 0) cost hit)) ∙ cheapest-more values kids cost i count lt inside some is
 
   pub none-cheapest : (get_or values (get_or kids i 0) 0 ≡ cost → ⊥) → count ≡ length (cheapest_children (map cost_in values) cost (take (i + 1) kids))
-  none-cheapest miss =
-      let same : count ≡ count + 0 = omega arith in
-      same ∙ ap (λ b. count + cond b 1 0) (sym (ne_eqb (get_or values (get_or kids i 0) 0) cost miss)) ∙ cheapest-more values kids cost i count lt inside some is
+  none-cheapest miss = grind (arith, nat_tests, cheapest-more values kids cost i count lt inside some is, miss)
 
 -- ---- lines
 

@@ -27,27 +27,21 @@ use Rattle.smooth_nnf.proofs.LackingParts.{set-bit, under-wider}
 
 -- ---- words of which some bits are set
 
-off-bit : (n : ℕ) → n < 2 → ((1 - n) == 1) ≡ not (n == 1)
-off-bit n h = grind (arith, nat_tests)
-
 pub mask_bits : (p o m : Bool) → ((p && o) && not (p && m)) ≡ (p && (o && not m))
 mask_bits p o m = grind (arith, nat_tests)
 
 -- bits of one word that are not set in another
 pub masked : (x y b : ℕ) → y < 2 ^ 32 → b < 32 → has_bit (bit_and x (4294967295 - y)) b ≡ (has_bit x b && not (has_bit y b))
-masked x y b fits s = has_bit-and x (4294967295 - y) b ∙ ap (λ z. has_bit x b && z) (ap (λ n. n == 1) (bit_at_not w32 y b fits s) ∙ off-bit (bit_at y b) (bit_at-lt y b))
+masked x y b fits s = grind (arith, nat_tests, has_bit-and x (4294967295 - y) b, bit_at_not w32 y b fits s, bit_at-lt y b)
 
 -- ---- how many there are
 
 filter-later : (n s d : ℕ) → filter (λ p. has_bit (n / 2) (p - (s + 1))) (range_with_len (s + 1) d) ≡ filter (λ p. has_bit n (p - s)) (range_with_len (s + 1) d)
 filter-later n s d = filter_same (λ p. has_bit (n / 2) (p - (s + 1))) (λ p. has_bit n (p - s)) (range_with_len (s + 1) d) (λ p m. grind (arith, nat_tests, in_range (s + 1) d p m, bit_at-suc n (p - (s + 1))))
 
-low-bit : (n : ℕ) (xs : List ℕ) (x : ℕ) → length (cond (n % 2 == 1) (x ∷ xs) xs) ≡ n % 2 + length xs
-low-bit n xs x = grind (arith, nat_tests)
-
 ones-from : (d n s : ℕ) → n < 2 ^ d → count_ones n ≡ length (filter (λ p. has_bit n (p - s)) (range_with_len s d))
 ones-from zero n s h = omega (arith, ones-le 0 n h)
-ones-from (suc d) n s h = grind (arith, nat_tests, bit_at_lowest, half-below, ones_step, filter-later, low-bit, ones-from d (n / 2) (s + 1))
+ones-from (suc d) n s h = grind (arith, nat_tests, bit_at_lowest, half-below, ones_step, filter-later, ones-from d (n / 2) (s + 1))
 
 pub ones-parts : (word bits : ℕ) → bits < 2 ^ 32 → count_ones bits ≡ length (word_parts word bits)
 ones-parts word bits h = ones-from 32 bits (32 * word + 1) h

@@ -127,10 +127,7 @@ module _ (graph : Graph) (evidence costs : List ℕ) (ok : IsGraph graph) (dear 
 
     pub over-means : Means graph evidence costs ok dear (λ a. is_true graph.nodes k a) o c (λ a. list_all (λ b. b) (map (λ q. is_true (literal_pairs (length costs) ++ more) q a) line_over.kids))
     over-means = filled graph evidence costs ok dear k c cost_is o wider (λ a. is_true lines (own k) a) (λ a. list_all (λ b. b) (map (λ q. is_true lines q a) filling_in)) drawn.means
-        (record {
-          sound = λ a h. fillers-true parts more evidence rest a h;
-          reached = λ a h. fillers-say parts more evidence rest a h;
-        })
+        (record { sound = fillers-true parts more evidence rest; reached = fillers-say parts more evidence rest })
 
   -- ---- the lines of one more node
 
@@ -163,17 +160,10 @@ module _ (graph : Graph) (evidence costs : List ℕ) (ok : IsGraph graph) (dear 
     -- a node that is never true
     false-adds : least_at graph evidence costs i ≡ None → own i ≡ length before → Adds (false_node ∷ [])
     false-adds none at = one-adds false_node (record { below = refl; kind = refl; apart = λ v. refl; smooth = λ v. refl }) at
-        (λ v c e. absurd (let no : None ≡ Some c = sym none ∙ e in cc))
-        (λ c e. absurd (let no : None ≡ Some c = sym none ∙ e in cc))
+        (λ v c e. absurd (cc)) (λ c e. absurd (cc))
 
     -- a literal
     module _ (var : ℕ) (positive : Bool) (kids : List ℕ) (e : slice_get graph.nodes i ≡ Some (record { what = Literal positive var; kids = kids })) (cost : ℕ) (cost_is : least_at graph evidence costs i ≡ Some cost) (at : own i ≡ length before) where
-      part_alone : (v : ℕ) → part_of var ≡ true → (var == v) ≡ (part_of v && (var == v))
-      part_alone v part = grind (arith, nat_tests, and_from, eqb-true, and-false)
-
-      other_none : (v : ℕ) → part_of var ≡ false → false ≡ (part_of v && (var == v))
-      other_none v other = grind (arith, nat_tests, and_left, eqb-true, and-false)
-
       literal-adds : Adds (and_over (literal_children parts var positive) ∷ [])
       literal-adds = by_part (nat_le var parts) refl where
         by_part : (b : Bool) → nat_le var parts ≡ b → Adds (and_over (cond b (literal_line var positive ∷ []) []) ∷ [])
@@ -185,11 +175,11 @@ module _ (graph : Graph) (evidence costs : List ℕ) (ok : IsGraph graph) (dear 
             one-adds (and_over (literal_line var positive ∷ []))
             (record { below = and_from _ _ (lt-ltb (literal_line var positive) (length before) inside) refl; kind = refl; apart = λ v. grind (arith, nat_tests); smooth = λ v. refl })
             at
-            (λ v c q. or-false (mentions before v (literal_line var positive)) ∙ literal-value parts more (mention_by v) var positive low high ∙ part_alone v part ∙ ap (λ b. part_of v && b) (sym (mention-at graph evidence costs ok i _ e v)))
+            (λ v c q. or-false (mentions before v (literal_line var positive)) ∙ literal-value parts more (mention_by v) var positive low high ∙ grind (arith, nat_tests, part, mention-at graph evidence costs ok i _ e v))
             (λ c q. Means-same (λ a. and-true (is_true before (literal_line var positive) a) ∙ literal-value parts more (truth_by a) var positive low high) (part-means graph evidence costs ok dear i var positive kids e c q part))
         by_part false p =
             one-adds (and_over []) (record { below = refl; kind = refl; apart = λ v. refl; smooth = λ v. refl }) at
-            (λ v c q. other_none v (and_right (nat_le 1 var) _ p) ∙ ap (λ b. part_of v && b) (sym (mention-at graph evidence costs ok i _ e v)))
+            (λ v c q. grind (arith, nat_tests, and_right (nat_le 1 var) _ p, mention-at graph evidence costs ok i _ e v))
             (λ c q. other-means graph evidence costs ok dear i var positive kids e c q (and_right (nat_le 1 var) _ p))
 
     -- an and

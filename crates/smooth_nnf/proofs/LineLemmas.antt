@@ -50,8 +50,7 @@ or-text first count = grind (arith, nat_tests, or-spaced, length-range_with_len)
 pub and-text : (d : Drawing) (kids : List ℕ) → codes "A" ++ ((32 ∷ decimal (length kids)) ++ (flat_map (λ child. 32 ∷ decimal (slice_index d.lines child)) kids ++ 10 ∷ []))
     ≡ lines_text (and_over (map (own_line (shown d)) kids) ∷ [])
 and-text d kids =
-    (λ i. codes "A" ++ ((32 ∷ decimal (sym (length-map kids (own_line (shown d))) i)) ++ (sym (flat_map-map (λ n. 32 ∷ decimal n) (own_line (shown d)) kids) i ++ 10 ∷ [])))
-    ∙ and-spaced (map (own_line (shown d)) kids) ∙ sym (append-nil (spaced (node_words (and_over (map (own_line (shown d)) kids)))))
+    grind (arith, length-map kids (own_line (shown d)), flat_map-map (λ n. 32 ∷ decimal n) (own_line (shown d)) kids, and-spaced (map (own_line (shown d)) kids), append-nil (spaced (node_words (and_over (map (own_line (shown d)) kids)))))
 
 kids-text : (d : Drawing) (node cost : ℕ) (kids : List ℕ) → flat_map (child_text d node cost) kids ≡ lines_text (map (child_line (shown d) node) (cheapest_children (map cost_in d.values) cost kids))
 kids-text d node cost [] = refl
@@ -72,15 +71,7 @@ own-at least line number (node ∷ nodes) (suc i) lt = grind (arith, nat_tests, 
 
 -- a child of an or
 pub child-under : (d : Drawing) (node : ℕ) (kids : List ℕ) → node < length d.graph.nodes → node_at d.graph.nodes node ≡ record { what = Or; kids = kids } → (i : ℕ) → i < length kids → IsUnder d (Some node) (get_or kids i 0)
-child-under d node kids lt at i h = (
-  lt,
-  record {
-    what = ap (λ (n : Node). n.what) at;
-    place = i;
-    within = subst (λ (n : Node). i < length n.kids) (sym at) h;
-    child_is = ap (λ (n : Node). get_or n.kids i 0) at;
-  },
-)
+child-under d node kids lt at i h = (lt, record { what = cc; place = i; within = grind (arith, at); child_is = cc })
 
 pub kids-inside : (graph : Graph) → IsGraph graph → (node : ℕ) → node < length graph.nodes → (kids : List ℕ) → kids ≡ (node_at graph.nodes node).kids → All (λ child. child < length graph.nodes) kids
 kids-inside graph ok node lt kids over k default h =

@@ -94,24 +94,18 @@ module _ (graph : Graph) (evidence costs : List ℕ) (ok : IsGraph graph) (long 
   length-all : length all ≡ length front + 1
   length-all = ap length all-is ∙ length-append front (last ∷ [])
 
-  last-value : (by : NodeKind → List Bool → Bool) → value_of by all (length all - 1) ≡ by last.what (map (value_of by front) last.kids)
-  last-value by =
+  last-value : (o : Option ℕ) → least_at graph evidence costs root ≡ o → (by : NodeKind → List Bool → Bool) → value_of by all (length all - 1) ≡ by (last_at L root o).what (map (value_of by front) (last_at L root o).kids)
+  last-value o e by =
       let place : length all - 1 ≡ length front = omega (arith, length-all) in
-      (λ j. value_of by (all-is j) (place j)) ∙ value_of-there by front last []
+      (λ j. value_of by (all-is j) (place j)) ∙ value_of-there by front last [] ∙ ap (λ m. by (last_at L root m).what (map (value_of by front) (last_at L root m).kids)) e
 
   -- the parts are below it
   last-mentions : (c : ℕ) → least_at graph evidence costs root ≡ Some c → (v : ℕ) → mentions all v (length all - 1) ≡ (nat_le 1 v && nat_le v parts)
   last-mentions c e v =
-      last-value (mention_by v) ∙ ap (λ o. mention_by v (last_at L root o).what (map (mentions front v) (last_at L root o).kids)) e
-      ∙ over-mention graph evidence costs ok dear few lines root c e (drawn-root c e) (λ u. true) (λ u h. refl) v ∙ and-true (nat_le 1 v && nat_le v parts)
-
-  last-false : least_at graph evidence costs root ≡ None → (a : Assignment) → is_true all (length all - 1) a ≡ false
-  last-false e a = last-value (truth_by a) ∙ ap (λ o. truth_by a (last_at L root o).what (map (λ k. is_true front k a) (last_at L root o).kids)) e
+      last-value (Some c) e (mention_by v) ∙ over-mention graph evidence costs ok dear few lines root c e (drawn-root c e) (λ u. true) (λ u h. refl) v ∙ and-true (nat_le 1 v && nat_le v parts)
 
   last-means : (c : ℕ) → least_at graph evidence costs root ≡ Some c → Means graph evidence costs ok dear (λ a. is_true graph.nodes root a) (λ v. true) c (λ a. is_true all (length all - 1) a)
-  last-means c e = Means-same graph evidence costs ok dear few
-      (λ a. last-value (truth_by a) ∙ ap (λ o. truth_by a (last_at L root o).what (map (λ k. is_true front k a) (last_at L root o).kids)) e)
-      (over-means graph evidence costs ok dear few lines root c e (drawn-root c e) (λ v. true) (λ v h. refl))
+  last-means c e = Means-same graph evidence costs ok dear few (λ a. last-value (Some c) e (truth_by a)) (over-means graph evidence costs ok dear few lines root c e (drawn-root c e) (λ v. true) (λ v h. refl))
 
   -- ---- states and diagnoses
 
@@ -137,7 +131,7 @@ module _ (graph : Graph) (evidence costs : List ℕ) (ok : IsGraph graph) (long 
     is_diagnosis : is_true all (length all - 1) (assignment h) ≡ true → list_any (pointwise same_bit h) ds ≡ true
     is_diagnosis t = by_cost (least_at graph evidence costs root) refl where
       by_cost : (o : Option ℕ) → least_at graph evidence costs root ≡ o → list_any (pointwise same_bit h) ds ≡ true
-      by_cost None e = absurd (false≢true (sym (last-false e (assignment h)) ∙ t))
+      by_cost None e = absurd (false≢true (sym (last-value None e (truth_by (assignment h))) ∙ t))
       by_cost (Some c) e =
           let g = (last-means c e).reached (assignment h) t in
           let s = state_of graph evidence costs ok long within g.is.by g.is.agrees g.is.holds in

@@ -1,16 +1,15 @@
 -- The lines of the nodes stand as those of a smooth graph, and each says what its node means.
-use Rattle.std.proofs.Common.{◌≡◌, ℕ, ◌+◌, ◌-◌, ◌*◌, ◌^◌, ◌<◌, ◌≤◌, Bool, true, false, not, cond, ◌&&◌, ◌||◌, ◌==◌, All, List, [], ◌∷◌, ◌++◌, map, length, get_or, Option, Some, None, refl, ap, sym, ◌∙◌, subst, arith, ⊎_elim, inl, inr, append_assoc, append-nil, length-append}
+use Rattle.std.proofs.Common.{◌≡◌, ℕ, ◌+◌, ◌-◌, ◌*◌, ◌^◌, ◌<◌, ◌≤◌, Bool, true, false, not, cond, ◌&&◌, ◌||◌, All, List, [], ◌∷◌, ◌++◌, map, length, get_or, Option, Some, None, refl, ap, sym, ◌∙◌, subst, arith, ⊎_elim, inl, inr, append_assoc, append-nil, length-append}
 use Rattle.std.proofs.lemmas.Bool.Decides.{nat_tests}
 use Rattle.std.specs.Prelude.{slice_get, slice_index, nat_lt, nat_le}
 use Rattle.std.specs.List.{list_all, list_any, filter, flat_map, enumerate_from, range_with_len, AllByRecursion}
 use Rattle.std.proofs.lemmas.Simd.{map-map}
-use Rattle.std.proofs.lemmas.Bool.{and_from, and_parts, lt-ltb, ltb-true, le-leb, leb-true, eqb-true, cases_lt, and_left, and_right, not-true}
+use Rattle.std.proofs.lemmas.Bool.{and_from, and_parts, lt-ltb, ltb-true, le-leb, leb-true, cases_lt, and_right, not-true}
 use Rattle.std.proofs.lemmas.List.{length-map, get_or_at}
 use Rattle.std.proofs.lemmas.List.FromFn.{length-range_with_len}
 use Rattle.std.proofs.lemmas.Option.{slice_get-get_or, same_Some}
-use Rattle.std.proofs.Math.Bool.{and-false, and-true, or-false}
+use Rattle.std.proofs.Math.Bool.{and-true, or-false}
 use Rattle.state_rules.proofs.Bits.{same_bit-refl}
-use Rattle.state_rules.specs.Bits.{same_bit}
 use Rattle.state_rules.specs.Assignments.{Assignment}
 use Rattle.state_rules.specs.Values.{values}
 use Rattle.state_rules.proofs.Members.{In, from_map, In-at}
@@ -47,10 +46,6 @@ same-const : (b : Bool) (kids : List ℕ) → all_same (map (λ k. b) kids) ≡ 
 same-const b [] = refl
 same-const b (k ∷ []) = refl
 same-const b (k ∷ j ∷ kids) = and_from _ _ (same_bit-refl b) (same-const b (k ∷ kids))
-
--- what a line has below it that is filled in
-pub below_filled : (p m o : Bool) → (m ≡ true → o ≡ true) → ((p && m) || (p && (o && not m))) ≡ (p && o)
-below_filled p m o h = grind (arith, nat_tests)
 
 -- the least cost is that of some child
 cheapest-has : (C : ℕ → Option ℕ) (kids : List ℕ) (c : ℕ) → cheapest (map C kids) ≡ Some c → (k : ℕ) × (In k kids × (C k ≡ Some c))
@@ -120,7 +115,7 @@ module _ (graph : Graph) (evidence costs : List ℕ) (ok : IsGraph graph) (dear 
     few = omega (arith, length-map (filter rest (range_with_len 1 parts)) (λ p. literal_line p (filling (known_at evidence p))), length-filter-le rest (range_with_len 1 parts), length-range_with_len 1 parts)
 
     pub over-mention : (v : ℕ) → list_any (λ b. b) (map (mentions (literal_pairs (length costs) ++ more) v) line_over.kids) ≡ ((nat_le 1 v && nat_le v (length costs)) && o v)
-    over-mention v = (λ i. drawn.mentioned v i || fillers-mention parts more evidence rest v i) ∙ below_filled (part_of v) (M v k) (o v) (wider v)
+    over-mention v = (λ i. drawn.mentioned v i || fillers-mention parts more evidence rest v i) ∙ grind (arith, nat_tests, wider v)
 
     pub over-follows : MayFollow (length costs) (literal_pairs (length costs) ++ more) line_over
     over-follows = grind (arith, nat_tests, and_from, lt-ltb, fillers-below, room, few, at_most_one-from, and_parts, fillers-mention, drawn.mentioned, and_right, not-true, fillers-once)

@@ -1,9 +1,9 @@
 -- What lines say that are drawn for nodes: one is true if its node can be, at its least cost, with the same bits of the parts below it.
-use Rattle.std.proofs.Common.{◌≡◌, ℕ, zero, suc, ◌<◌, ◌≤◌, Bool, true, false, not, ◌&&◌, All, List, [], ◌∷◌, map, length, Option, Some, refl, ap, sym, ◌∙◌, subst, arith, ⊎_elim, inl, inr}
+use Rattle.std.proofs.Common.{◌≡◌, ℕ, ◌<◌, ◌≤◌, Bool, true, false, not, ◌&&◌, All, List, [], ◌∷◌, map, length, Option, Some, refl, ap, sym, ◌∙◌, subst, arith, ⊎_elim, inl, inr}
 use Rattle.std.proofs.lemmas.Bool.Decides.{nat_tests}
 use Rattle.std.specs.Prelude.{slice_get, nat_le}
 use Rattle.std.specs.List.{list_all, list_any}
-use Rattle.std.proofs.lemmas.Bool.{and_from, and_parts, or_cases, or_left, or_right, eqb-true, eq-eqb, leb-true, not-true}
+use Rattle.std.proofs.lemmas.Bool.{and_from, and_parts, or_cases, or_left, or_right, eqb-true, eq-eqb, not-true}
 use Rattle.state_rules.specs.Bits.{same_bit}
 use Rattle.state_rules.specs.Cases.{agrees_at}
 use Rattle.state_rules.specs.Assignments.{Assignment}
@@ -128,7 +128,7 @@ module _ (graph : Graph) (evidence costs : List ℕ) (ok : IsGraph graph) (dear 
     other-means other = record {
       sound = λ a b ag h few same. refl;
       reached = λ a h.
-          record { is = (is_cost graph evidence costs ok k).reached c cost_is; same = λ v p m. absurd (let no : true ≡ false = sym p ∙ ap is_part (sym (of_var v m)) ∙ other in cc) };
+          record { is = (is_cost graph evidence costs ok k).reached c cost_is; same = λ v p m. grind (arith, p, of_var v m, other) };
     }
 
   -- ---- an and
@@ -141,7 +141,7 @@ module _ (graph : Graph) (evidence costs : List ℕ) (ok : IsGraph graph) (dear 
     all_lines [] apart are c s = record {
       sound = λ a b ag h few same. refl;
       reached = λ a h.
-          record { is = (kids-cost graph evidence costs ok [] apart).reached c s; same = λ v p m. absurd (let no : false ≡ true = m in cc) };
+          record { is = (kids-cost graph evidence costs ok [] apart).reached c s; same = λ v p m. absurd (cc) };
     }
     all_lines (j ∷ kids) apart are c s =
         let sum = from_add (least_at graph evidence costs j) (sum_costs (map (least_at graph evidence costs) kids)) c s in

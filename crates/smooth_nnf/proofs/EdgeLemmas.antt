@@ -1,5 +1,5 @@
 -- How many edges lines have, and the text of all lines.
-use Rattle.std.proofs.Common.{◌≡◌, ℕ, zero, suc, ◌+◌, ◌-◌, ◌<◌, ◌≤◌, Bool, true, false, cond, List, [], ◌∷◌, ◌++◌, map, length, take, drop, get_or, None, refl, sym, ap, ◌∙◌, arith, append-nil}
+use Rattle.std.proofs.Common.{◌≡◌, ℕ, zero, suc, ◌+◌, ◌-◌, ◌<◌, ◌≤◌, List, [], ◌∷◌, ◌++◌, map, length, take, get_or, None, refl, sym, ap, ◌∙◌, arith, append-nil}
 use Rattle.std.proofs.lemmas.Bool.Decides.{nat_tests}
 use Rattle.std.specs.Prelude.{sum_by}
 use Rattle.std.specs.List.{flat_map, enumerate_from, range_with_len}
@@ -14,7 +14,7 @@ use Rattle.nnf_text.proofs.LineTexts.{header, lines, text-lines}
 use Rattle.minimiser.specs.Costs.{cost_at}
 use Rattle.minimiser.specs.Stored.{cost_in}
 use Rattle.minimiser.proofs.Sums.{cost_in-some}
-use Rattle.smooth_nnf.specs.Layouts.{Layout, literal_pair, literal_pairs, costs_just, cheapest_children, child_line, or_lines, node_lines, last_line, all_lines}
+use Rattle.smooth_nnf.specs.Layouts.{Layout, literal_pair, literal_pairs, cheapest_children, child_line, or_lines, node_lines, last_line, all_lines}
 use Rattle.smooth_nnf.specs.inner.Drawings.{Drawing, shown, filled_line}
 use Rattle.smooth_nnf.specs.inner.Texts.{lines_text, child_edges}
 use Rattle.smooth_nnf.proofs.LineLemmas.{numbered}

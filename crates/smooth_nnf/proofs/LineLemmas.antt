@@ -1,5 +1,5 @@
 -- The texts of the lines of nodes.
-use Rattle.std.proofs.Common.{◌≡◌, ℕ, zero, suc, ◌+◌, ◌-◌, ◌^◌, ◌<◌, ◌≤◌, All, Bool, true, List, [], ◌∷◌, ◌++◌, map, length, take, get_or, codes, Option, Some, None, refl, sym, ap, ◌∙◌, subst, arith, append-nil}
+use Rattle.std.proofs.Common.{◌≡◌, ℕ, zero, suc, ◌+◌, ◌-◌, ◌^◌, ◌<◌, ◌≤◌, All, true, List, [], ◌∷◌, ◌++◌, map, length, take, get_or, codes, Option, Some, None, refl, sym, ap, ◌∙◌, subst, arith, append-nil}
 use Rattle.std.proofs.lemmas.Bool.Decides.{nat_tests}
 use Rattle.std.specs.Prelude.{decimal, slice_index}
 use Rattle.std.specs.List.{flat_map, enumerate_from, range_with_len}
@@ -12,10 +12,10 @@ use Rattle.part_sets.proofs.Children.{child-mentions}
 use Rattle.text_rules.specs.Tokens.{spaced}
 use Rattle.state_rules.specs.declared.nodes.TheConstants.{CHILD_LIMIT}
 use Rattle.state_rules.specs.declared.nodes.NodeKind.{NodeKind}
-use Rattle.state_rules.specs.declared.nodes.NodeKind.TheVariants.{Literal, Or}
+use Rattle.state_rules.specs.declared.nodes.NodeKind.TheVariants.{Or}
 use Rattle.state_rules.specs.Graphs.{Node, Graph, IsGraph, true_node, node_at, mentions, kind_fits}
 use Rattle.state_rules.proofs.NodeValues.{below-each}
-use Rattle.state_rules.proofs.NodesFit.{Fits, fits-at, literal}
+use Rattle.state_rules.proofs.NodesFit.{Fits, fits-at}
 use Rattle.diag_edge.specs.Edge.{Writing}
 use Rattle.nnf_text.specs.Extending.{Extends}
 use Rattle.nnf_text.proofs.Extended.{extends_each}

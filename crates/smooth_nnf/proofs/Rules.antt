@@ -16,6 +16,8 @@ use Rattle.std.proofs.lemmas.Bool.{eqb-true}
 use Rattle.std.proofs.lemmas.List.{append-nil, length-set, length-take-le, take_all, take_more_set}
 use Rattle.std.proofs.lemmas.List.FromFn.{length-enumerate_from}
 
+-- parts below nodes, as sets and words
+
 pub ruleset none_lacking_steps = (eqb-true, is-lacking, none-under)
 
 pub ruleset missing_steps = (no-fillers, over-less)
@@ -27,6 +29,8 @@ pub ruleset bit_steps = (and-true, mask_bits, masked, part_ones)
 pub ruleset count_steps = (count-le, count-more, length-take-le)
 
 pub ruleset value_steps = (cost_at-map)
+
+-- edges and texts of lines
 
 pub ruleset edge_steps = (all-edges, edges-next, edges-up, length-enumerate_from, take_all)
 
@@ -48,9 +52,13 @@ pub ruleset child_steps = (child-under)
 
 pub ruleset or_text_steps = (extends_three, or-text)
 
+-- places of lines
+
 pub ruleset cheapest_steps = (none-cheapest, one-cheapest)
 
 pub ruleset place_steps = (cost_at-map, length-set, line-fits, lines_after-more, own_lines-more, take_more_set)
+
+-- the whole text
 
 pub ruleset put_steps = (extends_on, extends_three, extends_whole)
 

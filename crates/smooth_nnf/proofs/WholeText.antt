@@ -1,18 +1,17 @@
 -- The text of the diagnoses is read as a smooth graph over the parts, decomposable, and true for the diagnoses alone.
-use Rattle.std.proofs.Common.{◌≡◌, ℕ, ◌+◌, ◌-◌, ◌*◌, ◌^◌, ◌<◌, ◌≤◌, Bool, true, false, ◌&&◌, All, List, [], ◌∷◌, ◌++◌, map, length, Option, Some, None, refl, ap, sym, ◌∙◌, subst, arith, append_assoc, length-append, inl}
+use Rattle.std.proofs.Common.{◌≡◌, ℕ, ◌+◌, ◌-◌, ◌*◌, ◌^◌, ◌<◌, ◌≤◌, Bool, true, false, ◌&&◌, All, List, [], ◌∷◌, ◌++◌, map, length, Option, Some, None, refl, ap, sym, ◌∙◌, subst, arith, append_assoc, length-append}
 use Rattle.std.proofs.lemmas.Bool.Decides.{nat_tests}
 use Rattle.std.specs.Prelude.{nat_le}
 use Rattle.std.specs.List.{list_any, flat_map, enumerate_from}
 use Rattle.std.specs.Cmp.{both_ways}
 use Rattle.std.specs.Cmp.Lexicographic.{pointwise}
 use Rattle.std.proofs.Math.Bool.{and-true}
-use Rattle.std.proofs.lemmas.Bool.{and_from, and_parts, le-leb, leb-true, false≢true}
+use Rattle.std.proofs.lemmas.Bool.{and_from, le-leb, false≢true}
 use Rattle.std.proofs.lemmas.List.{ext_get_or}
-use Rattle.std.proofs.lemmas.List.Sums.{sum_by-cons}
 use Rattle.std.proofs.Math.Seq.{take-length}
 use Rattle.text_rules.specs.Tokens.{is_neat}
-use Rattle.state_rules.specs.Bits.{bit_in, same_bit}
-use Rattle.state_rules.specs.Assignments.{Assignment, assignment}
+use Rattle.state_rules.specs.Bits.{same_bit}
+use Rattle.state_rules.specs.Assignments.{assignment}
 use Rattle.state_rules.specs.Ranking.{cost, is_at_most}
 use Rattle.state_rules.specs.Values.{values}
 use Rattle.state_rules.proofs.Bits.{pointwise-refl, pointwise-equal}
@@ -31,7 +30,7 @@ use Rattle.minimiser.proofs.Models.{diagnosis-in, diagnosis-out}
 use Rattle.minimiser.specs.Stored.{cost_in, costs_to, AreLeastCosts}
 use Rattle.smooth_nnf.specs.Layouts.{Layout, own_lines, layout_of, literal_pairs, lines_to, node_lines, last_at, last_line, all_lines, least_graph, least_text}
 use Rattle.smooth_nnf.specs.inner.Drawings.{lines_after}
-use Rattle.smooth_nnf.proofs.LinePlaces.{lines_after-le, lines_to-le}
+use Rattle.smooth_nnf.proofs.LinePlaces.{lines_after-le}
 use Rattle.smooth_nnf.proofs.LaterLines.{value_of-there, Stand, MayFollow, stand-behind}
 use Rattle.smooth_nnf.proofs.DrawnMeaning.{Means}
 use Rattle.smooth_nnf.proofs.Fillers.{length-literal_pairs}

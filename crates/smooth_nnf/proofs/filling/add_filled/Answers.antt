@@ -1,14 +1,10 @@
-use Rattle.std.proofs.Common.{◌+◌, ◌∷◌, ◌++◌, [], refl, ap, sym, ◌∙◌, arith}
+use Rattle.std.proofs.Common.{◌+◌, ◌∷◌, ◌++◌, [], refl, ap, ◌∙◌}
 use Rattle.std.specs.Prelude.{decimal}
-use Rattle.text_rules.specs.Tokens.{spaced}
-use Rattle.state_rules.specs.declared.nodes.NodeKind.TheVariants.{And}
-use Rattle.nnf_text.specs.WrittenGraphs.{kind_words}
-use Rattle.nnf_text.proofs.Extended.{extends_on, extends_three, extends_same}
+use Rattle.nnf_text.proofs.Extended.{extends_on, extends_three}
 use Rattle.smooth_nnf.specs.Layouts.{fillers}
 use Rattle.smooth_nnf.specs.inner.Drawings.{missing_in}
 use Rattle.smooth_nnf.specs.inner.Texts.{numbers_text}
 use Rattle.smooth_nnf.proofs.FilledTexts.{filled-text}
-use Rattle.smooth_nnf.proofs.LackingParts.{no-fillers}
 use Rattle.smooth_nnf.proofs.filling.add_filled.Goals as goal
 
 pub returns : goal.returns

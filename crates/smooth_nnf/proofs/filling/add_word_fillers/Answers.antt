@@ -1,5 +1,5 @@
-use Rattle.nnf_text.proofs.Extended.{extends_none, extends_same}
-use Rattle.smooth_nnf.proofs.FilledTexts.{word-text, no-bits}
+use Rattle.nnf_text.proofs.Extended.{extends_same}
+use Rattle.smooth_nnf.proofs.FilledTexts.{word-text}
 use Rattle.smooth_nnf.proofs.filling.add_word_fillers.Goals as goal
 
 pub returns : goal.returns

@@ -1,16 +1,15 @@
 -- The lines of the nodes stand as those of a smooth graph, and each says what its node means.
-use Rattle.std.proofs.Common.{◌≡◌, ℕ, ◌+◌, ◌-◌, ◌*◌, ◌^◌, ◌<◌, ◌≤◌, Bool, true, false, not, cond, ◌&&◌, ◌||◌, ◌==◌, All, List, [], ◌∷◌, ◌++◌, map, length, get_or, Option, Some, None, refl, ap, sym, ◌∙◌, subst, arith, ⊎_elim, inl, inr, append_assoc, append-nil, length-append}
+use Rattle.std.proofs.Common.{◌≡◌, ℕ, ◌+◌, ◌-◌, ◌*◌, ◌^◌, ◌<◌, ◌≤◌, Bool, true, false, not, cond, ◌&&◌, ◌||◌, All, List, [], ◌∷◌, ◌++◌, map, length, get_or, Option, Some, None, refl, ap, sym, ◌∙◌, subst, arith, ⊎_elim, inl, inr, append_assoc, append-nil, length-append}
 use Rattle.std.proofs.lemmas.Bool.Decides.{nat_tests}
 use Rattle.std.specs.Prelude.{slice_get, slice_index, nat_lt, nat_le}
 use Rattle.std.specs.List.{list_all, list_any, filter, flat_map, enumerate_from, range_with_len, AllByRecursion}
 use Rattle.std.proofs.lemmas.Simd.{map-map}
-use Rattle.std.proofs.lemmas.Bool.{and_from, and_parts, lt-ltb, ltb-true, le-leb, leb-true, eqb-true, cases_lt, and_left, and_right, not-true}
+use Rattle.std.proofs.lemmas.Bool.{and_from, and_parts, lt-ltb, ltb-true, le-leb, leb-true, cases_lt, and_right, not-true}
 use Rattle.std.proofs.lemmas.List.{length-map, get_or_at}
 use Rattle.std.proofs.lemmas.List.FromFn.{length-range_with_len}
 use Rattle.std.proofs.lemmas.Option.{slice_get-get_or, same_Some}
-use Rattle.std.proofs.Math.Bool.{and-false, and-true, or-false}
+use Rattle.std.proofs.Math.Bool.{and-true, or-false}
 use Rattle.state_rules.proofs.Bits.{same_bit-refl}
-use Rattle.state_rules.specs.Bits.{same_bit}
 use Rattle.state_rules.specs.Assignments.{Assignment}
 use Rattle.state_rules.specs.Values.{values}
 use Rattle.state_rules.proofs.Members.{In, from_map, In-at}
@@ -29,7 +28,7 @@ use Rattle.minimiser.proofs.Derivations.{mention-at, apart-kids, costs-at, all-b
 use Rattle.smooth_nnf.specs.Layouts.{Layout, layout_of, own_line, literal_pairs, literal_line, literal_children, filling, fillers, costs_just, cheapest_children, lines_before, lines_to, own_lines, child_line, or_behind, or_lines, lines_by, lines_at, node_lines, and_over}
 use Rattle.smooth_nnf.proofs.LaterLines.{value_of-front, value_of-there, values-behind, Stand, MayFollow, stand-behind}
 use Rattle.smooth_nnf.proofs.DrawnMeaning.{is_part, Means, NodeMeans, filled, part-means, other-means, and-means, or-means, child-inside, cheapest-in, cheapest-is}
-use Rattle.smooth_nnf.proofs.Fillers.{length-literal_pairs, pairs-stand, literal_line-lt, literal-value, fillers-below, fillers-mention, fillers-once, fillers-true, fillers-say, map-in}
+use Rattle.smooth_nnf.proofs.Fillers.{length-literal_pairs, room, pairs-stand, literal_line-lt, literal-value, fillers-below, fillers-mention, fillers-once, fillers-true, fillers-say, map-in}
 
 -- ---- lists
 
@@ -45,17 +44,8 @@ any-const false (k ∷ kids) some = list_any-map (λ x. x) (λ k. false) kids �
 
 same-const : (b : Bool) (kids : List ℕ) → all_same (map (λ k. b) kids) ≡ true
 same-const b [] = refl
-same-const b (k ∷ kids) = all kids where
-  all : (kids : List ℕ) → list_all (same_bit b) (map (λ k. b) kids) ≡ true
-  all [] = refl
-  all (j ∷ kids) = and_from _ _ (same_bit-refl b) (all kids)
-
-one_alone : (b : Bool) → at_most_one (b ∷ []) ≡ true
-one_alone b = grind (arith, nat_tests)
-
--- what a line has below it that is filled in
-pub below_filled : (p m o : Bool) → (m ≡ true → o ≡ true) → ((p && m) || (p && (o && not m))) ≡ (p && o)
-below_filled p m o h = grind (arith, nat_tests)
+same-const b (k ∷ []) = refl
+same-const b (k ∷ j ∷ kids) = and_from _ _ (same_bit-refl b) (same-const b (k ∷ kids))
 
 -- the least cost is that of some child
 cheapest-has : (C : ℕ → Option ℕ) (kids : List ℕ) (c : ℕ) → cheapest (map C kids) ≡ Some c → (k : ℕ) × (In k kids × (C k ≡ Some c))
@@ -121,24 +111,18 @@ module _ (graph : Graph) (evidence costs : List ℕ) (ok : IsGraph graph) (dear 
     abbrev pub line_over : Node
     line_over = and_over (slice_index (layout_of graph evidence costs).lines k ∷ fillers evidence (length costs) (λ v. o v && not (mentions graph.nodes v k)))
 
-    room : 2 * parts ≤ length lines
-    room = omega (arith, length-append (literal_pairs parts) more, length-literal_pairs parts)
-
     few : length filling_in ≤ parts
     few = omega (arith, length-map (filter rest (range_with_len 1 parts)) (λ p. literal_line p (filling (known_at evidence p))), length-filter-le rest (range_with_len 1 parts), length-range_with_len 1 parts)
 
     pub over-mention : (v : ℕ) → list_any (λ b. b) (map (mentions (literal_pairs (length costs) ++ more) v) line_over.kids) ≡ ((nat_le 1 v && nat_le v (length costs)) && o v)
-    over-mention v = (λ i. drawn.mentioned v i || fillers-mention parts more evidence rest room v i) ∙ below_filled (part_of v) (M v k) (o v) (wider v)
+    over-mention v = (λ i. drawn.mentioned v i || fillers-mention parts more evidence rest v i) ∙ grind (arith, nat_tests, wider v)
 
     pub over-follows : MayFollow (length costs) (literal_pairs (length costs) ++ more) line_over
     over-follows = grind (arith, nat_tests, and_from, lt-ltb, fillers-below, room, few, at_most_one-from, and_parts, fillers-mention, drawn.mentioned, and_right, not-true, fillers-once)
 
     pub over-means : Means graph evidence costs ok dear (λ a. is_true graph.nodes k a) o c (λ a. list_all (λ b. b) (map (λ q. is_true (literal_pairs (length costs) ++ more) q a) line_over.kids))
     over-means = filled graph evidence costs ok dear k c cost_is o wider (λ a. is_true lines (own k) a) (λ a. list_all (λ b. b) (map (λ q. is_true lines q a) filling_in)) drawn.means
-        (record {
-          sound = λ a h. fillers-true parts more evidence rest room a h;
-          reached = λ a h. fillers-say parts more evidence rest room a h;
-        })
+        (record { sound = fillers-true parts more evidence rest; reached = fillers-say parts more evidence rest })
 
   -- ---- the lines of one more node
 
@@ -146,16 +130,10 @@ module _ (graph : Graph) (evidence costs : List ℕ) (ok : IsGraph graph) (dear 
     abbrev before : List Node
     before = literal_pairs parts ++ more
 
-    enough : 2 * parts ≤ length before
-    enough = omega (arith, length-append (literal_pairs parts) more, length-literal_pairs parts)
-
     -- lines that are added, with the node's own as the last
     record Adds (block : List Node) : Type 0 where
       stand : Stand (length costs) (literal_pairs (length costs) ++ (more ++ block))
       drawn : (c : ℕ) → least_at graph evidence costs i ≡ Some c → Drawn (literal_pairs (length costs) ++ (more ++ block)) i c
-
-    regroup : (block : List Node) → before ++ block ≡ literal_pairs parts ++ (more ++ block)
-    regroup block = append_assoc (literal_pairs parts) more block
 
     -- one line is added
     one-adds : (node : Node) → MayFollow parts before node → own i ≡ length before
@@ -170,47 +148,33 @@ module _ (graph : Graph) (evidence costs : List ℕ) (ok : IsGraph graph) (dear 
           means = Means-same (λ a. here (truth_by a)) (means c e);
         } in
         record {
-          stand = subst (Stand parts) (regroup (node ∷ [])) (stand-behind parts before (node ∷ []) upto.stand (follows, tt));
-          drawn = λ c e. subst (λ lines. Drawn lines i c) (regroup (node ∷ [])) (drawn c e);
+          stand = subst (Stand parts) (append_assoc (literal_pairs parts) more (node ∷ [])) (stand-behind parts before (node ∷ []) upto.stand (follows, tt));
+          drawn = λ c e. subst (λ lines. Drawn lines i c) (append_assoc (literal_pairs parts) more (node ∷ [])) (drawn c e);
         }
 
     -- a node that is never true
     false-adds : least_at graph evidence costs i ≡ None → own i ≡ length before → Adds (false_node ∷ [])
     false-adds none at = one-adds false_node (record { below = refl; kind = refl; apart = λ v. refl; smooth = λ v. refl }) at
-        (λ v c e. absurd (let no : None ≡ Some c = sym none ∙ e in cc))
-        (λ c e. absurd (let no : None ≡ Some c = sym none ∙ e in cc))
+        (λ v c e. absurd (cc)) (λ c e. absurd (cc))
 
     -- a literal
     module _ (var : ℕ) (positive : Bool) (kids : List ℕ) (e : slice_get graph.nodes i ≡ Some (record { what = Literal positive var; kids = kids })) (cost : ℕ) (cost_is : least_at graph evidence costs i ≡ Some cost) (at : own i ≡ length before) where
-      low : 1 ≤ var
-      low = (literal graph.vars var positive kids (fits-get graph.vars graph.nodes i _ ok.nodes.fit e).kind).low
-
-      high : nat_le var parts ≡ true → var ≤ parts
-      high p = leb-true var parts p
-
-      has-is : (v : ℕ) → M v i ≡ (var == v)
-      has-is v = mention-at graph evidence costs ok i _ e v
-
-      part_alone : (v : ℕ) → part_of var ≡ true → (var == v) ≡ (part_of v && (var == v))
-      part_alone v part = grind (arith, nat_tests, and_from, eqb-true, and-false)
-
-      other_none : (v : ℕ) → part_of var ≡ false → false ≡ (part_of v && (var == v))
-      other_none v other = grind (arith, nat_tests, and_left, eqb-true, and-false)
-
       literal-adds : Adds (and_over (literal_children parts var positive) ∷ [])
       literal-adds = by_part (nat_le var parts) refl where
         by_part : (b : Bool) → nat_le var parts ≡ b → Adds (and_over (cond b (literal_line var positive ∷ []) []) ∷ [])
         by_part true p =
+            let low = (literal graph.vars var positive kids (fits-get graph.vars graph.nodes i _ ok.nodes.fit e).kind).low in
+            let high = leb-true var parts p in
             let part : part_of var ≡ true = and_from _ _ (le-leb 1 var low) p in
-            let inside : literal_line var positive < length before = omega (arith, enough, literal_line-lt parts var positive low (high p)) in
+            let inside : literal_line var positive < length before = omega (arith, room parts more, literal_line-lt parts var positive low high) in
             one-adds (and_over (literal_line var positive ∷ []))
-            (record { below = and_from _ _ (lt-ltb (literal_line var positive) (length before) inside) refl; kind = refl; apart = λ v. one_alone (mentions before v (literal_line var positive)); smooth = λ v. refl })
+            (record { below = and_from _ _ (lt-ltb (literal_line var positive) (length before) inside) refl; kind = refl; apart = λ v. grind (arith, nat_tests); smooth = λ v. refl })
             at
-            (λ v c q. or-false (mentions before v (literal_line var positive)) ∙ literal-value parts more (mention_by v) var positive low (high p) inside ∙ part_alone v part ∙ ap (λ b. part_of v && b) (sym (has-is v)))
-            (λ c q. Means-same (λ a. and-true (is_true before (literal_line var positive) a) ∙ literal-value parts more (truth_by a) var positive low (high p) inside) (part-means graph evidence costs ok dear i var positive kids e c q part))
+            (λ v c q. or-false (mentions before v (literal_line var positive)) ∙ literal-value parts more (mention_by v) var positive low high ∙ grind (arith, nat_tests, part, mention-at graph evidence costs ok i _ e v))
+            (λ c q. Means-same (λ a. and-true (is_true before (literal_line var positive) a) ∙ literal-value parts more (truth_by a) var positive low high) (part-means graph evidence costs ok dear i var positive kids e c q part))
         by_part false p =
             one-adds (and_over []) (record { below = refl; kind = refl; apart = λ v. refl; smooth = λ v. refl }) at
-            (λ v c q. other_none v (and_right (nat_le 1 var) _ p) ∙ ap (λ b. part_of v && b) (sym (has-is v)))
+            (λ v c q. grind (arith, nat_tests, and_right (nat_le 1 var) _ p, mention-at graph evidence costs ok i _ e v))
             (λ c q. other-means graph evidence costs ok dear i var positive kids e c q (and_right (nat_le 1 var) _ p))
 
     -- an and
@@ -259,54 +223,32 @@ module _ (graph : Graph) (evidence costs : List ℕ) (ok : IsGraph graph) (dear 
           let m = cheapest-is least cost kids k (are k (inl refl)) in
           (over-follows more k cost m.1 (drawn_child k m.0 m.1) (λ v. M v i) (wider k m.0), follows ks (λ j n. are j (inr n)))
 
-      below-all : (xs : List Node) → AllByRecursion (MayFollow parts before) xs → AllByRecursion (λ (x : Node). are_below (length before) x.kids ≡ true) xs
-      below-all [] all = tt
-      below-all (x ∷ xs) all = (all.0.below, below-all xs all.1)
-
       block-follows : AllByRecursion (MayFollow parts before) block
       block-follows = follows best (λ k m. m)
 
       all_children : List Node
       all_children = before ++ block
 
-      kids-stand : Stand parts all_children
-      unfolding all_children
-      kids-stand = stand-behind parts before block upto.stand block-follows
-
-      length-block : length block ≡ length best
-      length-block = length-map best (child_line L i)
-
       -- what the lines of the children are worth
       block-values : (by : NodeKind → List Bool → Bool) → map (value_of by all_children) (range_with_len (length before) (length best)) ≡ map (λ k. by And (map (value_of by before) (child_line L i k).kids)) best
       unfolding all_children
       block-values by =
-          let start : length before ≡ length before + 0 = omega arith in
-          (λ j. map (value_of by (before ++ sym (append-nil block) j)) (range_with_len (start j) (sym length-block j)))
-          ∙ values-behind by before [] block [] (below-all block block-follows)
-          ∙ map-map (λ (x : Node). by x.what (map (value_of by before) x.kids)) (child_line L i) best
+          grind (arith, append-nil block, length-map best (child_line L i), values-behind by parts before [] block [] block-follows, map-map (λ (x : Node). by x.what (map (value_of by before) x.kids)) (child_line L i) best)
 
       block-mentions : (v : ℕ) → map (mentions all_children v) (range_with_len (length before) (length best)) ≡ map (λ k. part_of v && M v i) best
       block-mentions v = block-values (mention_by v) ∙ map-in (λ k. list_any (λ b. b) (map (mentions before v) (child_line L i k).kids)) (λ k. part_of v && M v i) best (λ k m.
           let is = cheapest-is least cost kids k m in
           over-mention more k cost is.1 (drawn_child k is.0 is.1) (λ u. M u i) (wider k is.0) v)
 
-      some-best : best ≡ [] → ⊥
-      some-best none =
-          let r = cheapest-has (least_at graph evidence costs) kids cost (sym (costs-at graph evidence costs ok i _ e) ∙ cost_is) in
-          subst (In r.0) none (cheapest-in least cost kids r.0 r.1.0 r.1.1)
-
       abbrev or_node : Node
       or_node = or_behind (own i) (length best)
 
-      start-is : own i - length best ≡ length before
-      start-is = omega (arith, at)
-
       or_children : or_node.kids ≡ range_with_len (length before) (length best)
-      or_children = ap (λ n. range_with_len n (length best)) start-is
+      or_children = let start : own i - length best ≡ length before = omega (arith, at) in ap (λ n. range_with_len n (length best)) start
 
       length-all_children : length all_children ≡ length before + length best
       unfolding all_children
-      length-all_children = omega (arith, length-append before block, length-block)
+      length-all_children = omega (arith, length-append before block, length-map best (child_line L i))
 
       or-follows : MayFollow parts all_children or_node
       or-follows = record {
@@ -320,22 +262,26 @@ module _ (graph : Graph) (evidence costs : List ℕ) (ok : IsGraph graph) (dear 
       here by = grind (arith, nat_tests, all_children, length-all_children, value_of-there, or_children, block-values)
 
       or-drawn : Drawn (all_children ++ or_node ∷ []) i cost
-      or-drawn = record {
-        inside = omega (arith, at, length-all_children, length-append all_children (or_node ∷ []));
-        mentioned = λ v. ap (value_of (mention_by v) (all_children ++ or_node ∷ [])) (at ∙ sym length-all_children) ∙ value_of-there (mention_by v) all_children or_node []
-            ∙ ap (λ ks. list_any (λ b. b) (map (mentions all_children v) ks)) or_children ∙ ap (list_any (λ b. b)) (block-mentions v) ∙ any-const (part_of v && M v i) best some-best;
-        means = Means-same (λ a. here (truth_by a))
-            (or-means graph evidence costs ok dear i kids cost e cost_is (λ k a. list_all (λ b. b) (map (λ q. is_true before q a) (child_line L i k).kids))
-            (λ k m c. over-means more k cost c (drawn_child k m c) (λ v. M v i) (wider k m)));
-      }
+      or-drawn =
+          let some : best ≡ [] → ⊥ = λ none.
+          let r = cheapest-has (least_at graph evidence costs) kids cost (sym (costs-at graph evidence costs ok i _ e) ∙ cost_is) in
+          subst (In r.0) none (cheapest-in least cost kids r.0 r.1.0 r.1.1) in
+          record {
+            inside = omega (arith, at, length-all_children, length-append all_children (or_node ∷ []));
+            mentioned = λ v. here (mention_by v) ∙ ap (list_any (λ b. b)) (sym (block-values (mention_by v)) ∙ block-mentions v) ∙ any-const (part_of v && M v i) best some;
+            means = Means-same (λ a. here (truth_by a))
+                (or-means graph evidence costs ok dear i kids cost e cost_is (λ k a. list_all (λ b. b) (map (λ q. is_true before q a) (child_line L i k).kids))
+                (λ k m c. over-means more k cost c (drawn_child k m c) (λ v. M v i) (wider k m)));
+          }
 
       whole : all_children ++ or_node ∷ [] ≡ literal_pairs parts ++ (more ++ (block ++ or_node ∷ []))
       unfolding all_children
-      whole = append_assoc before block (or_node ∷ []) ∙ regroup (block ++ or_node ∷ [])
+      whole = append_assoc before block (or_node ∷ []) ∙ append_assoc (literal_pairs parts) more (block ++ or_node ∷ [])
 
       or-adds : Adds (or_lines L i best)
+      unfolding all_children
       or-adds = record {
-        stand = subst (Stand parts) whole (stand-behind parts all_children (or_node ∷ []) kids-stand (or-follows, tt));
+        stand = subst (Stand parts) whole (stand-behind parts all_children (or_node ∷ []) (stand-behind parts before block upto.stand block-follows) (or-follows, tt));
         drawn = λ c q. subst (λ lines. Drawn lines i c) whole (subst (Drawn (all_children ++ or_node ∷ []) i) (same_Some cost c (sym cost_is ∙ q)) or-drawn);
       }
 
@@ -356,7 +302,7 @@ module _ (graph : Graph) (evidence costs : List ℕ) (ok : IsGraph graph) (dear 
         record {
           stand = added.stand;
           drawn = λ k c h q. ⊎_elim
-              (λ (lt : k < i). subst (λ lines. Drawn lines k c) (regroup (node_lines L (i, node))) (Drawn-more before (node_lines L (i, node)) k c (upto.drawn k c lt q)))
+              (λ (lt : k < i). subst (λ lines. Drawn lines k c) (append_assoc (literal_pairs parts) more (node_lines L (i, node))) (Drawn-more before (node_lines L (i, node)) k c (upto.drawn k c lt q)))
               (λ (le : i ≤ k). let same : i ≡ k = omega arith in subst (λ j. Drawn (literal_pairs parts ++ (more ++ node_lines L (i, node))) j c) same (added.drawn c (ap (least_at graph evidence costs) same ∙ q)))
               (cases_lt k i);
         }

@@ -1,9 +1,9 @@
 -- What lines say that are drawn for nodes: one is true if its node can be, at its least cost, with the same bits of the parts below it.
-use Rattle.std.proofs.Common.{◌≡◌, ℕ, zero, suc, ◌<◌, ◌≤◌, Bool, true, false, not, ◌&&◌, All, List, [], ◌∷◌, map, length, Option, Some, refl, ap, sym, ◌∙◌, subst, arith, ⊎_elim, inl, inr}
+use Rattle.std.proofs.Common.{◌≡◌, ℕ, ◌<◌, ◌≤◌, Bool, true, false, not, ◌&&◌, All, List, [], ◌∷◌, map, length, Option, Some, refl, ap, sym, ◌∙◌, subst, arith, ⊎_elim, inl, inr}
 use Rattle.std.proofs.lemmas.Bool.Decides.{nat_tests}
 use Rattle.std.specs.Prelude.{slice_get, nat_le}
 use Rattle.std.specs.List.{list_all, list_any}
-use Rattle.std.proofs.lemmas.Bool.{and_from, and_parts, or_cases, or_left, or_right, eqb-true, eq-eqb, leb-true, not-true}
+use Rattle.std.proofs.lemmas.Bool.{and_from, and_parts, or_cases, or_left, or_right, eqb-true, eq-eqb, not-true}
 use Rattle.state_rules.specs.Bits.{same_bit}
 use Rattle.state_rules.specs.Cases.{agrees_at}
 use Rattle.state_rules.specs.Assignments.{Assignment}
@@ -21,25 +21,16 @@ use Rattle.smooth_nnf.specs.Layouts.{filling, costs_just, cheapest_children}
 
 -- ---- costs of children
 
-costs_just-is : (c : ℕ) (o : Option ℕ) → costs_just c o ≡ true → o ≡ Some c
-costs_just-is c o e = grind (arith, nat_tests, eqb-true)
-
-costs_just-of : (c : ℕ) (o : Option ℕ) → o ≡ Some c → costs_just c o ≡ true
-costs_just-of c o e = ap (costs_just c) e ∙ eq-eqb c c refl
-
 -- a child of least cost
 pub cheapest-in : (least : List (Option ℕ)) (c : ℕ) (kids : List ℕ) (k : ℕ) → In k kids → cost_at least k ≡ Some c → In k (cheapest_children least c kids)
-cheapest-in least c kids k m e = In-filtered (λ j. costs_just c (cost_at least j)) k kids m (costs_just-of c (cost_at least k) e)
+cheapest-in least c kids k m e = In-filtered (λ j. costs_just c (cost_at least j)) k kids m (ap (costs_just c) e ∙ eq-eqb c c refl)
 
 pub cheapest-is : (least : List (Option ℕ)) (c : ℕ) (kids : List ℕ) (k : ℕ) → In k (cheapest_children least c kids) → In k kids × (cost_at least k ≡ Some c)
-cheapest-is least c kids k m = let r = In-filter (λ j. costs_just c (cost_at least j)) k kids m in (r.0, costs_just-is c (cost_at least k) r.1)
+cheapest-is least c kids k m = grind (arith, nat_tests, In-filter, eqb-true)
 
 -- a bit that agrees and costs nothing is that which fills in
 filled_bit : (k : Option Bool) (b : Bool) (w : ℕ) → 0 < w → agrees_at k b ≡ true → (fault k w b ≡ 0) → b ≡ filling k
 filled_bit k b w dear ag free = grind (arith, nat_tests, same_bit-equal)
-
-only_fault : (k : Option Bool) (b : Bool) (w : ℕ) → (fault k w b ≡ 0 → ⊥) → b ≡ false
-only_fault k b w h = grind (arith, nat_tests)
 
 module _ (graph : Graph) (evidence costs : List ℕ) (ok : IsGraph graph) (dear : All (λ c. 0 < c) costs) where
   abbrev kn : ℕ → Option Bool
@@ -60,9 +51,6 @@ module _ (graph : Graph) (evidence costs : List ℕ) (ok : IsGraph graph) (dear 
   -- a variable that is a part's
   abbrev pub is_part : ℕ → Bool
   is_part v = nat_le 1 v && nat_le v (length costs)
-
-  price-some : (v : ℕ) → 1 ≤ v → v ≤ length costs → 0 < part_cost costs v
-  price-some v low high = grind (arith, nat_tests)
 
   -- an assignment that agrees and passes a test at no more than a cost, with the same bits of some parts
   pub record Gives (t : Assignment → Bool) (m : ℕ → Bool) (c : ℕ) (a : Assignment) : Type 0 where
@@ -85,18 +73,11 @@ module _ (graph : Graph) (evidence costs : List ℕ) (ok : IsGraph graph) (dear 
   outside : (k c : ℕ) → least_at graph evidence costs k ≡ Some c → (o : ℕ → Bool) → ((v : ℕ) → M v k ≡ true → o v ≡ true) → (b : Assignment) → Agrees kn price n b → T b k ≡ true → faults_in kn price n o b ≤ c
       → (v : ℕ) → is_part v ≡ true → o v ≡ true → M v k ≡ false → b v ≡ filling (kn v)
   outside k c e o wider b ag h few v part in_o not_below =
-      let range = and_parts (nat_le 1 v) (nat_le v n) part in
-      let low : 1 ≤ v = leb-true 1 v range.0 in
-      let high : v ≤ n = leb-true v n range.1 in
-      filled_bit (kn v) (b v) (price v) (price-some v low high) (ag v) (by_test (fault (kn v) (price v) (b v)) refl low high) where
-        by_test : (w : ℕ) → fault (kn v) (price v) (b v) ≡ w → 1 ≤ v → v ≤ n → fault (kn v) (price v) (b v) ≡ 0
-        by_test zero q low high = q
-        by_test (suc w) q low high =
-            let costly : 0 < fault (kn v) (price v) (b v) = omega arith in
-            let most : c ≤ faults_in kn price n (λ u. M u k) b = subst (λ d. AtMost d (faults_in kn price n (λ u. M u k) b)) e ((is_cost graph evidence costs ok k).bound b ag h) in
-            let less : faults_in kn price n (λ u. M u k) b < faults_in kn price n o b =
-            faults-lt graph evidence costs ok b ag v low (omega arith) (only_fault (kn v) (b v) (price v) (λ z. omega arith)) costly (λ u. M u k) o wider not_below in_o in
-            absurd (omega arith)
+      let range : (1 ≤ v) × (v ≤ n) = grind (arith, nat_tests, part) in
+      let most : c ≤ faults_in kn price n (λ u. M u k) b = subst (λ d. AtMost d (faults_in kn price n (λ u. M u k) b)) e ((is_cost graph evidence costs ok k).bound b ag h) in
+      let less : 0 < fault (kn v) (price v) (b v) → faults_in kn price n (λ u. M u k) b < faults_in kn price n o b =
+      λ costly. faults-lt graph evidence costs ok b ag v range.0 (omega (arith, range.1)) (grind (arith, nat_tests, costly)) costly (λ u. M u k) o wider not_below in_o in
+      filled_bit (kn v) (b v) (price v) (grind (arith, nat_tests, range.0, range.1)) (ag v) (grind (arith, most, less, few))
 
   -- ---- parts that are filled in
 
@@ -118,13 +99,11 @@ module _ (graph : Graph) (evidence costs : List ℕ) (ok : IsGraph graph) (dear 
     reached = λ a h.
         let both = and_parts (line a) (fill a) h in
         let g = means.reached a both.0 in
-        record { is = g.is; same = λ v p q. by_test a both.1 g v p q (M v k) refl };
-  } where
-    by_test : (a : Assignment) → fill a ≡ true → (g : Gives (λ b. T b k) (λ v. M v k) c a) → (v : ℕ) → is_part v ≡ true → o v ≡ true → (x : Bool) → M v k ≡ x → a v ≡ g.is.by v
-    by_test a f g v p q true m = g.same v p m
-    by_test a f g v p q false m =
-        fills.reached a f v p (and_from _ _ q (ap not m))
-        ∙ sym (outside k c e (λ u. true) (λ u r. refl) g.is.by g.is.agrees g.is.holds g.is.cheap v p refl m)
+        record {
+          is = g.is;
+          same = λ v p q. grind (arith, nat_tests, g.same v p, fills.reached a both.1 v p, outside k c e (λ u. true) (λ u r. refl) g.is.by g.is.agrees g.is.holds g.is.cheap v p refl);
+        };
+  }
 
   -- ---- a literal
 
@@ -132,16 +111,13 @@ module _ (graph : Graph) (evidence costs : List ℕ) (ok : IsGraph graph) (dear 
     of_var : (v : ℕ) → M v k ≡ true → var ≡ v
     of_var v m = eqb-true var v (sym (mention-at graph evidence costs ok k _ e v) ∙ m)
 
-    has_var : M var k ≡ true
-    has_var = mention-at graph evidence costs ok k _ e var ∙ eq-eqb var var refl
-
     says : (a : Assignment) → T a k ≡ true → a var ≡ positive
     says a h = sym (same_bit-equal positive (a var) (sym (true-at graph evidence costs ok k _ e a) ∙ h))
 
     -- of a part
     pub part-means : is_part var ≡ true → NodeMeans k c (λ a. same_bit positive (a var))
     part-means part = record {
-      sound = λ a b ag h few same. ap (same_bit positive) (same var part has_var ∙ says b h) ∙ same_bit-refl positive;
+      sound = λ a b ag h few same. ap (same_bit positive) (same var part (mention-at graph evidence costs ok k _ e var ∙ eq-eqb var var refl) ∙ says b h) ∙ same_bit-refl positive;
       reached = λ a h.
           let r = (is_cost graph evidence costs ok k).reached c cost_is in
           record { is = r; same = λ v p m. subst (λ u. a u ≡ r.by u) (of_var v m) (sym (same_bit-equal positive (a var) h) ∙ sym (says r.by r.holds)) };
@@ -152,7 +128,7 @@ module _ (graph : Graph) (evidence costs : List ℕ) (ok : IsGraph graph) (dear 
     other-means other = record {
       sound = λ a b ag h few same. refl;
       reached = λ a h.
-          record { is = (is_cost graph evidence costs ok k).reached c cost_is; same = λ v p m. absurd (let no : true ≡ false = sym p ∙ ap is_part (sym (of_var v m)) ∙ other in cc) };
+          record { is = (is_cost graph evidence costs ok k).reached c cost_is; same = λ v p m. grind (arith, p, of_var v m, other) };
     }
 
   -- ---- an and
@@ -165,7 +141,7 @@ module _ (graph : Graph) (evidence costs : List ℕ) (ok : IsGraph graph) (dear 
     all_lines [] apart are c s = record {
       sound = λ a b ag h few same. refl;
       reached = λ a h.
-          record { is = (kids-cost graph evidence costs ok [] apart).reached c s; same = λ v p m. absurd (let no : false ≡ true = m in cc) };
+          record { is = (kids-cost graph evidence costs ok [] apart).reached c s; same = λ v p m. absurd (cc) };
     }
     all_lines (j ∷ kids) apart are c s =
         let sum = from_add (least_at graph evidence costs j) (sum_costs (map (least_at graph evidence costs) kids)) c s in

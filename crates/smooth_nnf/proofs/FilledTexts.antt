@@ -1,14 +1,14 @@
 -- The texts of lines that are filled in, word by word.
-use Rattle.std.proofs.Common.{◌≡◌, ℕ, zero, suc, ◌+◌, ◌-◌, ◌*◌, ◌<◌, Bool, cond, ◌&&◌, List, [], ◌∷◌, ◌++◌, map, length, Option, refl, sym, ap, ◌∙◌, arith, append_assoc}
+use Rattle.std.proofs.Common.{◌≡◌, ℕ, zero, suc, ◌+◌, ◌-◌, ◌*◌, ◌<◌, Bool, ◌&&◌, List, [], ◌∷◌, ◌++◌, map, length, Option, refl, sym, ap, ◌∙◌, subst, arith, append_assoc}
 use Rattle.std.proofs.lemmas.Bool.Decides.{nat_tests}
 use Rattle.std.specs.Prelude.{nat_le, decimal, slice_index}
 use Rattle.std.specs.List.{filter, flat_map, range_with_len}
 use Rattle.std.proofs.lemmas.List.{map-append}
 use Rattle.std.proofs.lemmas.List.Concat.{flat_map-append}
-use Rattle.std.proofs.lemmas.List.Elements.{filter-append}
 use Rattle.text_rules.specs.Tokens.{spaced}
-use Rattle.state_rules.proofs.WordBits.{has_bit-zero}
 use Rattle.state_rules.specs.Bits.{has_bit}
+use Rattle.diag_edge.specs.Edge.{Writing}
+use Rattle.nnf_text.specs.Extending.{Extends}
 use Rattle.nnf_text.specs.WrittenGraphs.{node_words}
 use Rattle.nnf_text.proofs.LineTexts.{and-spaced}
 use Rattle.part_sets.specs.Numbers.{part_words}
@@ -16,7 +16,7 @@ use Rattle.smooth_nnf.specs.Layouts.{filler, fillers}
 use Rattle.smooth_nnf.specs.inner.Sets.{part_at}
 use Rattle.smooth_nnf.specs.inner.Drawings.{Drawing, missing_in, filled_line}
 use Rattle.smooth_nnf.specs.inner.Texts.{numbers_text, bit_text, word_text}
-use Rattle.smooth_nnf.proofs.WordParts.{range-append, all-words, word-parts}
+use Rattle.smooth_nnf.proofs.WordParts.{all-words, word-more, word-parts}
 
 -- ---- a word
 
@@ -42,16 +42,15 @@ words-text d node over word zero = let none : 32 * 0 ≡ 0 = omega arith in ap (
 words-text d node over word (suc count) =
     let test : ℕ → Bool = λ part. nat_le part d.parts && missing_in d over node part in
     let here : List ℕ = filter test (range_with_len (32 * word + 1) 32) in
-    let next : 32 * (word + 1) + 1 ≡ (32 * word + 1) + 32 = omega arith in
-    let all : 32 * suc count ≡ 32 + 32 * count = omega arith in
-    ap (λ t. word_text d node over word ++ t) (words-text d node over (word + 1) count ∙ ap (λ n. numbers_text (map (filler d.evidence) (filter test (range_with_len n (32 * count))))) next)
-    ∙ sym (flat_map-append (λ n. 32 ∷ decimal n) (map (filler d.evidence) here) (map (filler d.evidence) (filter test (range_with_len ((32 * word + 1) + 32) (32 * count)))))
-    ∙ ap numbers_text (sym (map-append (filler d.evidence) here (filter test (range_with_len ((32 * word + 1) + 32) (32 * count)))))
-    ∙ ap (λ ps. numbers_text (map (filler d.evidence) ps)) (sym (filter-append test (range_with_len (32 * word + 1) 32) (range_with_len ((32 * word + 1) + 32) (32 * count))) ∙ ap (filter test) (sym (range-append (32 * word + 1) 32 (32 * count))))
-    ∙ ap (λ n. numbers_text (map (filler d.evidence) (filter test (range_with_len (32 * word + 1) n)))) (sym all)
+    let later : List ℕ = filter test (range_with_len (32 * (word + 1) + 1) (32 * count)) in
+    ap (λ t. word_text d node over word ++ t) (words-text d node over (word + 1) count)
+    ∙ sym (flat_map-append (λ n. 32 ∷ decimal n) (map (filler d.evidence) here) (map (filler d.evidence) later))
+    ∙ ap numbers_text (sym (map-append (filler d.evidence) here later) ∙ ap (map (filler d.evidence)) (sym (word-more test word count)))
 
-pub fillers-text : (d : Drawing) (node : ℕ) (over : Option ℕ) → flat_map (word_text d node over) (range_with_len 0 (part_words d.parts)) ≡ numbers_text (fillers d.evidence d.parts (missing_in d over node))
-fillers-text d node over = grind (arith, nat_tests, words-text, all-words)
+-- what was added word by word
+pub fillers-added : (d : Drawing) (node : ℕ) (over : Option ℕ) (n : ℕ) (a b : Writing) (p q : Option (List ℕ)) → Extends a b p q (flat_map (word_text d node over) (range_with_len 0 n)) → n ≡ part_words d.parts
+    → Extends a b p q (numbers_text (fillers d.evidence d.parts (missing_in d over node)))
+fillers-added d node over n a b p q h e = subst (Extends a b p q) (grind (arith, nat_tests, words-text, all-words)) h
 
 -- ---- the line
 
@@ -64,8 +63,4 @@ filled-text d node over count is =
 
 -- a word without bits fills nothing in
 pub no-bits : (d : Drawing) (node : ℕ) (over : Option ℕ) (word bits : ℕ) → bits ≡ 0 → ((b : ℕ) → b < 32 → has_bit bits b ≡ (nat_le (part_at word b) d.parts && missing_in d over node (part_at word b))) → [] ≡ word_text d node over word
-no-bits d node over word bits none is =
-    none_there 0 32 ∙ ap (λ n. flat_map (bit_text d.evidence word n) (range_with_len 0 32)) (sym none) ∙ word-text d node over word bits is where
-      none_there : (s n : ℕ) → [] ≡ flat_map (bit_text d.evidence word 0) (range_with_len s n)
-      none_there s zero = refl
-      none_there s (suc n) = none_there (s + 1) n ∙ ap (λ b. cond b (32 ∷ decimal (filler d.evidence (part_at word s))) [] ++ flat_map (bit_text d.evidence word 0) (range_with_len (s + 1) n)) (sym (has_bit-zero s))
+no-bits d node over word bits none is = ap (λ n. flat_map (bit_text d.evidence word n) (range_with_len 0 32)) (sym none) ∙ word-text d node over word bits is

@@ -1,12 +1,11 @@
 -- The lines of the parts' literals, and those that fill parts in.
-use Rattle.std.proofs.Common.{◌≡◌, ℕ, zero, suc, ◌+◌, ◌-◌, ◌*◌, ◌<◌, ◌≤◌, Bool, true, false, cond, ◌&&◌, ◌==◌, List, [], ◌∷◌, ◌++◌, map, length, refl, ap, ◌∙◌, subst, arith, ⊎_elim, inl, inr, get_or}
+use Rattle.std.proofs.Common.{◌≡◌, ℕ, zero, suc, ◌+◌, ◌-◌, ◌*◌, ◌<◌, ◌≤◌, Bool, true, false, ◌&&◌, ◌==◌, List, [], ◌∷◌, ◌++◌, map, length, refl, ap, ◌∙◌, arith, inl, inr, get_or, length-append}
 use Rattle.std.proofs.lemmas.Bool.Decides.{nat_tests}
 use Rattle.std.specs.Prelude.{nat_le}
 use Rattle.std.specs.List.{list_all, list_any, filter, flat_map, range_with_len, AllByRecursion}
 use Rattle.std.specs.Cmp.{both_ways}
 use Rattle.std.proofs.lemmas.Simd.{map-map}
-use Rattle.std.proofs.lemmas.Bool.{and_parts, and_from, le-leb, leb-true, eqb-true, eq-eqb, ne_eqb, cases_lt}
-use Rattle.state_rules.specs.Bits.{same_bit}
+use Rattle.std.proofs.lemmas.Bool.{and_parts, and_from, le-leb, leb-true, eq-eqb, cases_lt}
 use Rattle.state_rules.specs.Assignments.{Assignment}
 use Rattle.state_rules.proofs.Bits.{same_bit-equal, same_bit-refl}
 use Rattle.state_rules.proofs.Members.{In, In-filter, In-filtered, from_map, In-at}
@@ -18,7 +17,7 @@ use Rattle.state_rules.proofs.Children.{at_most_one-from}
 use Rattle.minimiser.specs.Costs.{known_at}
 use Rattle.minimiser.proofs.Derivations.{any-child, all-child, child-with}
 use Rattle.smooth_nnf.specs.Layouts.{literal_pair, literal_pairs, literal_line, filling, filler, fillers}
-use Rattle.smooth_nnf.proofs.LaterLines.{MayFollow, Stand, stand-none, stand-behind}
+use Rattle.smooth_nnf.proofs.LaterLines.{MayFollow, Stand, stand-behind}
 
 -- ---- lists
 
@@ -48,20 +47,9 @@ pair_line s p false = 2 * (p - s) + 1
 pair_line-later : (s p : ℕ) (b : Bool) → s < p → pair_line s p b ≡ suc (suc (pair_line (s + 1) p b))
 pair_line-later s p b lt = grind (arith, nat_tests)
 
-pair_line-here : (s : ℕ) (b : Bool) → pair_line s s b ≡ cond b 0 1
-pair_line-here s b = grind (arith, nat_tests)
-
-here-at : (s : ℕ) (b : Bool) (rest : List Node) → node_at (literal_node s true ∷ literal_node s false ∷ rest) (cond b 0 1) ≡ literal_node s b
-here-at s b rest = grind (arith, nat_tests)
-
 pair-at : (s n p : ℕ) (b : Bool) (more : List Node) → s ≤ p → p < s + n → node_at (flat_map literal_pair (range_with_len s n) ++ more) (pair_line s p b) ≡ literal_node p b
 pair-at s zero p b more low high = absurd (omega arith)
-pair-at s (suc n) p b more low high = ⊎_elim
-    (λ (lt : s < p). ap (node_at all) (pair_line-later s p b lt) ∙ pair-at (s + 1) n p b more (omega arith) (omega arith))
-    (λ (le : p ≤ s). let same : s ≡ p = omega arith in subst (λ q. node_at all (pair_line s q b) ≡ literal_node q b) same (ap (node_at all) (pair_line-here s b) ∙ here-at s b (flat_map literal_pair (range_with_len (s + 1) n) ++ more)))
-    (cases_lt s p) where
-      all : List Node
-      all = literal_node s true ∷ literal_node s false ∷ (flat_map literal_pair (range_with_len (s + 1) n) ++ more)
+pair-at s (suc n) p b more low high = grind (arith, nat_tests, pair_line-later, cases_lt, pair-at (s + 1) n p b more)
 
 length-pairs : (s n : ℕ) → length (flat_map literal_pair (range_with_len s n)) ≡ 2 * n
 length-pairs s zero = refl
@@ -81,19 +69,22 @@ pairs-follow parts s zero low few = tt
 pairs-follow parts s (suc n) low few = grind (arith, nat_tests, and_from, le-leb, pairs-follow parts (s + 1) n)
 
 pub pairs-stand : (parts : ℕ) → Stand parts (literal_pairs parts)
-pairs-stand parts = stand-behind parts [] (literal_pairs parts) (stand-none parts) (pairs-follow parts 1 parts (omega arith) (omega arith))
+pairs-stand parts = stand-behind parts [] (literal_pairs parts) (record { nodes = record { fit = refl; apart = λ v. tt }; smooth = λ v. tt }) (pairs-follow parts 1 parts (omega arith) (omega arith))
 
 -- lines that begin with them
 module _ (parts : ℕ) (more : List Node) where
   abbrev lines : List Node
   lines = literal_pairs parts ++ more
 
-  pub literal-value : (by : NodeKind → List Bool → Bool) (p : ℕ) (b : Bool) → 1 ≤ p → p ≤ parts → literal_line p b < length (literal_pairs parts ++ more) → value_of by (literal_pairs parts ++ more) (literal_line p b) ≡ by (Literal b p) []
-  literal-value by p b low high inside = grind (arith, nat_tests, line-as_pair, pair-at, value_of-at)
+  pub room : 2 * parts ≤ length (literal_pairs parts ++ more)
+  room = omega (arith, length-append (literal_pairs parts) more, length-literal_pairs parts)
+
+  pub literal-value : (by : NodeKind → List Bool → Bool) (p : ℕ) (b : Bool) → 1 ≤ p → p ≤ parts → value_of by (literal_pairs parts ++ more) (literal_line p b) ≡ by (Literal b p) []
+  literal-value by p b low high = let inside : literal_line p b < length lines = omega (arith, room, literal_line-lt parts p b low high) in grind (arith, nat_tests, line-as_pair, pair-at, value_of-at)
 
   -- ---- fillers
 
-  module _ (evidence : List ℕ) (missing : ℕ → Bool) (room : 2 * parts ≤ length (literal_pairs parts ++ more)) where
+  module _ (evidence : List ℕ) (missing : ℕ → Bool) where
     abbrev chosen : List ℕ
     chosen = filter missing (range_with_len 1 parts)
 
@@ -104,7 +95,7 @@ module _ (parts : ℕ) (more : List Node) where
     chosen-has p low high is = In-filtered missing p (range_with_len 1 parts) (range_has 1 parts p low (omega arith)) is
 
     filler-value : (by : NodeKind → List Bool → Bool) (p : ℕ) → In p chosen → value_of by lines (filler evidence p) ≡ by (Literal (filling (known_at evidence p)) p) []
-    filler-value by p m = grind (arith, nat_tests, chosen-is, literal-value, literal_line-lt)
+    filler-value by p m = grind (arith, nat_tests, chosen-is, literal-value)
 
     pub fillers-values : (by : NodeKind → List Bool → Bool)
         → map (value_of by (literal_pairs parts ++ more)) (fillers evidence parts missing) ≡ map (λ p. by (Literal (filling (known_at evidence p)) p) []) (filter missing (range_with_len 1 parts))
@@ -114,18 +105,13 @@ module _ (parts : ℕ) (more : List Node) where
     pub fillers-below : (own : ℕ) → 2 * parts ≤ own → are_below own (fillers evidence parts missing) ≡ true
     fillers-below own le = are_below-from own (map (filler evidence) chosen) (λ i d h.
         let x = from_map (filler evidence) (get_or (map (filler evidence) chosen) i d) chosen (In-at (map (filler evidence) chosen) i d h) in
-        let is = chosen-is x.item x.is_in in
-        omega (arith, x.gives, literal_line-lt parts x.item (filling (known_at evidence x.item)) is.0 is.1))
+        grind (arith, x.gives, chosen-is x.item x.is_in, literal_line-lt))
 
     -- together they mention what is missing
     pub fillers-mention : (v : ℕ) → list_any (λ b. b) (map (mentions (literal_pairs parts ++ more) v) (fillers evidence parts missing)) ≡ ((nat_le 1 v && nat_le v parts) && missing v)
     fillers-mention v = ap (list_any (λ b. b)) (fillers-values (mention_by v)) ∙ both_ways _ _ from to where
       from : list_any (λ b. b) (map (λ p. p == v) chosen) ≡ true → ((nat_le 1 v && nat_le v parts) && missing v) ≡ true
-      from any =
-          let r = child-with (λ p. p == v) chosen any in
-          let is = chosen-is r.item r.is_in in
-          subst (λ u. ((nat_le 1 u && nat_le u parts) && missing u) ≡ true) (eqb-true r.item v r.passes)
-          (and_from _ _ (and_from _ _ (le-leb 1 r.item is.0) (le-leb r.item parts is.1)) is.2)
+      from any = let r = child-with (λ p. p == v) chosen any in grind (arith, nat_tests, chosen-is r.item r.is_in, r.passes)
 
       to : ((nat_le 1 v && nat_le v parts) && missing v) ≡ true → list_any (λ b. b) (map (λ p. p == v) chosen) ≡ true
       to all = grind (arith, nat_tests, and_parts, any-child, chosen-has, leb-true, eq-eqb)
@@ -135,29 +121,17 @@ module _ (parts : ℕ) (more : List Node) where
     fillers-once v = ap at_most_one (fillers-values (mention_by v)) ∙ once 1 parts where
       once : (s n : ℕ) → at_most_one (map (λ p. p == v) (filter missing (range_with_len s n))) ≡ true
       once s zero = refl
-      once s (suc n) = by_test (once (s + 1) n) (missing s) where
-        other : list_any (λ b. b) (map (λ p. p == v) (filter missing (range_with_len (s + 1) n))) ≡ true → (s == v) ≡ false
-        other any =
-            let r = child-with (λ p. p == v) (filter missing (range_with_len (s + 1) n)) any in
-            let range = in_range (s + 1) n r.item (In-filter missing r.item (range_with_len (s + 1) n) r.is_in).0 in
-            let same = eqb-true r.item v r.passes in
-            ne_eqb s v (λ e. omega (arith, range.0))
-
-        by_test : at_most_one (map (λ p. p == v) (filter missing (range_with_len (s + 1) n))) ≡ true → (b : Bool) → at_most_one (map (λ p. p == v) (cond b (s ∷ filter missing (range_with_len (s + 1) n)) (filter missing (range_with_len (s + 1) n)))) ≡ true
-        by_test more true = at_most_one-from (s == v) (map (λ p. p == v) (filter missing (range_with_len (s + 1) n))) other more
-        by_test more false = more
+      once s (suc n) =
+          let other : list_any (λ b. b) (map (λ p. p == v) (filter missing (range_with_len (s + 1) n))) ≡ true → (s == v) ≡ false = λ any.
+          let r = child-with (λ p. p == v) (filter missing (range_with_len (s + 1) n)) any in
+          grind (arith, nat_tests, in_range (s + 1) n r.item (In-filter missing r.item (range_with_len (s + 1) n) r.is_in).0, r.passes) in
+          grind (arith, nat_tests, at_most_one-from, other, once (s + 1) n)
 
     -- and are true where what is missing is filled in
-    abbrev truths : Assignment → Bool
-    truths a = list_all (λ b. b) (map (λ k. is_true (literal_pairs parts ++ more) k a) (fillers evidence parts missing))
-
-    as_bits : (a : Assignment) → truths a ≡ list_all (λ b. b) (map (λ p. same_bit (filling (known_at evidence p)) (a p)) chosen)
-    as_bits a = ap (list_all (λ b. b)) (fillers-values (truth_by a))
-
     pub fillers-true : (a : Assignment) → ((v : ℕ) → (nat_le 1 v && nat_le v parts) ≡ true → missing v ≡ true → a v ≡ filling (known_at evidence v))
         → list_all (λ b. b) (map (λ k. is_true (literal_pairs parts ++ more) k a) (fillers evidence parts missing)) ≡ true
-    fillers-true a filled = grind (arith, nat_tests, as_bits, all-from, chosen-is, filled, and_from, le-leb, same_bit-refl)
+    fillers-true a filled = grind (arith, nat_tests, fillers-values (truth_by a), all-from, chosen-is, filled, and_from, le-leb, same_bit-refl)
 
     pub fillers-say : (a : Assignment) → list_all (λ b. b) (map (λ k. is_true (literal_pairs parts ++ more) k a) (fillers evidence parts missing)) ≡ true
         → (v : ℕ) → (nat_le 1 v && nat_le v parts) ≡ true → missing v ≡ true → a v ≡ filling (known_at evidence v)
-    fillers-say a all v part is = grind (arith, nat_tests, and_parts, same_bit-equal, all-child, chosen-has, leb-true, as_bits)
+    fillers-say a all v part is = grind (arith, nat_tests, and_parts, same_bit-equal, all-child, chosen-has, leb-true, fillers-values (truth_by a))

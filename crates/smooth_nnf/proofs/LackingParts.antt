@@ -1,5 +1,5 @@
 -- What is kept of a graph, as a drawing has it: sets of parts, and nodes below which nothing is missing.
-use Rattle.std.proofs.Common.{◌≡◌, ℕ, ◌+◌, ◌*◌, ◌<◌, ◌≤◌, Bool, true, false, not, ◌&&◌, List, [], map, length, get_or, Option, Some, None, ap, ◌∙◌, subst, arith}
+use Rattle.std.proofs.Common.{◌≡◌, ℕ, ◌+◌, ◌*◌, ◌<◌, ◌≤◌, Bool, true, false, ◌&&◌, List, [], map, length, get_or, Option, Some, None, ap, ◌∙◌, subst, arith}
 use Rattle.std.proofs.lemmas.Bool.Decides.{nat_tests}
 use Rattle.std.specs.Prelude.{nat_le, IfSome, MatchOption}
 use Rattle.std.specs.List.{range_with_len}
@@ -22,17 +22,11 @@ pub set-bit : (parts : ℕ) (some : ℕ → Bool) (sets : List ℕ) (k word b : 
     → has_bit (get_or sets (k * part_words parts + word) 0) b ≡ (nat_le (part_at word b) parts && some (part_at word b))
 set-bit parts some sets k word b are w s = grind (arith, nat_tests, get_or-take, get_or-drop, are, lt-ltb, le-leb, le-ltb, lt-leb, cases_lt)
 
--- nothing is missing below the last node, or below a child of an or, if its word says so
-pub none-of_all : (d : Drawing) (lacking : List ℕ) → AreLacking d.graph d.parts lacking → get_or lacking (length d.graph.nodes) 0 ≡ 0 → (node part : ℕ) → IsUnder d None node → 1 ≤ part → part ≤ d.parts → missing_in d None node part ≡ false
-none-of_all d lacking is zero node part under low high = ap (λ b. true && not b) (ap (mentions d.graph.nodes part) under ∙ is.all.0 zero part low high)
-
-pub none-of_or : (d : Drawing) (lacking : List ℕ) → AreLacking d.graph d.parts lacking → (o : ℕ) → get_or lacking o 0 ≡ 0 → (node part : ℕ) → IsUnder d (Some o) node → 1 ≤ part → part ≤ d.parts → missing_in d (Some o) node part ≡ false
-none-of_or d lacking is o zero node part under low high = grind (arith, nat_tests, is.nodes)
-
 -- nothing is missing where the word at its place says so
 pub none-under : (d : Drawing) (lacking : List ℕ) → AreLacking d.graph d.parts lacking → (over : Option ℕ) (place : ℕ) → MatchOption over (place ≡ length d.graph.nodes) (λ node. place ≡ node) → get_or lacking place 0 ≡ 0
     → (node part : ℕ) → IsUnder d over node → 1 ≤ part → part ≤ d.parts → missing_in d over node part ≡ false
-none-under d lacking is over place at given = grind (arith, nat_tests, none-of_all, none-of_or)
+none-under d lacking is None place at given node part under low high = grind (arith, nat_tests, is.all)
+none-under d lacking is (Some o) place at given node part under low high = grind (arith, nat_tests, is.nodes)
 
 pub is-lacking : (d : Drawing) → IsDrawing d → (lacking : List ℕ) → d.lacking ≡ Some lacking → AreLacking d.graph d.parts lacking
 is-lacking d is lacking e = subst (λ o. IfSome o (AreLacking d.graph d.parts)) e is.lacks

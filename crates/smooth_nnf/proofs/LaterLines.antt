@@ -25,21 +25,6 @@ module _ (by : NodeKind → List Bool → Bool) where
       ∙ value_of-front (front ++ node ∷ []) back (length front) (omega (arith, length-append front (node ∷ [])))
       ∙ value_of-last by front node
 
-  -- nodes one after the other whose children are before all of them
-  pub values-behind : (base seen middle back : List Node) → AllByRecursion (λ (x : Node). are_below (length base) x.kids ≡ true) middle
-      → map (value_of by (base ++ (seen ++ (middle ++ back)))) (range_with_len (length base + length seen) (length middle)) ≡ map (λ x. by x.what (map (value_of by base) x.kids)) middle
-  values-behind base seen [] back below = refl
-  values-behind base seen (x ∷ middle) back below =
-      let all : List Node = base ++ (seen ++ (x ∷ (middle ++ back))) in
-      let joined : (base ++ seen) ++ (x ∷ (middle ++ back)) ≡ base ++ (seen ++ (x ∷ (middle ++ back))) = append_assoc base seen (x ∷ (middle ++ back)) in
-      let longer : length (base ++ seen) ≡ length base + length seen = length-append base seen in
-      let here : value_of by all (length base + length seen) ≡ by x.what (map (value_of by base) x.kids) =
-      (λ i. value_of by (sym joined i) (sym longer i)) ∙ value_of-there (base ++ seen) x (middle ++ back)
-      ∙ ap (by x.what) (map-below (value_of by (base ++ seen)) (value_of by base) (length base) x.kids below.0 (λ k h. value_of-front base seen k h)) in
-      let next : base ++ ((seen ++ x ∷ []) ++ (middle ++ back)) ≡ all = ap (λ t. base ++ t) (append_assoc seen (x ∷ []) (middle ++ back)) in
-      let one_more : length base + length (seen ++ x ∷ []) ≡ (length base + length seen) + 1 = omega (arith, length-append seen (x ∷ [])) in
-      grind (arith, nat_tests, values-behind base (seen ++ x ∷ []) middle back below.1)
-
 -- ---- smooth nodes
 
 smooth_at-below : (f g : ℕ → Bool) (own : ℕ) (kind : NodeKind) (kids : List ℕ) → are_below own kids ≡ true → ((k : ℕ) → k < own → f k ≡ g k) → smooth_at f kind kids ≡ smooth_at g kind kids
@@ -62,13 +47,19 @@ pub record MayFollow (vars : ℕ) (base : List Node) (node : Node) : Type 0 wher
   pub apart : (v : ℕ) → apart_at (mentions base v) node.what node.kids ≡ true
   pub smooth : (v : ℕ) → smooth_at (mentions base v) node.what node.kids ≡ true
 
-pub are_below-more : (m n : ℕ) (kids : List ℕ) → m ≤ n → are_below m kids ≡ true → are_below n kids ≡ true
-are_below-more m n kids le below = are_below-from n kids (λ k d h. omega (arith, below-each m kids below k d h))
+-- nodes one after the other that may each follow
+pub values-behind : (by : NodeKind → List Bool → Bool) (vars : ℕ) (base seen middle back : List Node) → AllByRecursion (MayFollow vars base) middle
+    → map (value_of by (base ++ (seen ++ (middle ++ back)))) (range_with_len (length base + length seen) (length middle)) ≡ map (λ x. by x.what (map (value_of by base) x.kids)) middle
+values-behind by vars base seen [] back below = refl
+values-behind by vars base seen (x ∷ middle) back below =
+    let here : value_of by ((base ++ seen) ++ (x ∷ (middle ++ back))) (length (base ++ seen)) ≡ by x.what (map (value_of by base) x.kids) =
+    value_of-there by (base ++ seen) x (middle ++ back) ∙ ap (by x.what) (map-below (value_of by (base ++ seen)) (value_of by base) (length base) x.kids below.0.below (λ k h. value_of-front by base seen k h)) in
+    grind (arith, nat_tests, here, append_assoc, length-append, values-behind by vars base (seen ++ x ∷ []) middle back below.1)
 
 -- it may follow later too
 may_follow-later : (vars : ℕ) (base seen : List Node) (node : Node) → MayFollow vars base node → MayFollow vars (base ++ seen) node
 may_follow-later vars base seen node f = record {
-  below = are_below-more (length base) (length (base ++ seen)) node.kids (omega (arith, length-append base seen)) f.below;
+  below = are_below-from (length (base ++ seen)) node.kids (λ k d h. omega (arith, length-append base seen, below-each (length base) node.kids f.below k d h));
   kind = f.kind;
   apart = λ v. apart_at-below (mentions (base ++ seen) v) (mentions base v) (length base) node.what node.kids f.below (λ k h. value_of-front (mention_by v) base seen k h) ∙ f.apart v;
   smooth = λ v. smooth_at-below (mentions (base ++ seen) v) (mentions base v) (length base) node.what node.kids f.below (λ k h. value_of-front (mention_by v) base seen k h) ∙ f.smooth v;
@@ -91,6 +82,3 @@ stand-more vars base seen (x ∷ middle) s h = grind (arith, nat_tests, append_a
 -- nodes that may each follow stand one after the other
 pub stand-behind : (vars : ℕ) (base middle : List Node) → Stand vars base → AllByRecursion (MayFollow vars base) middle → Stand vars (base ++ middle)
 stand-behind vars base middle s h = stand-more vars base [] middle (subst (Stand vars) (sym (append-nil base)) s) h
-
-pub stand-none : (vars : ℕ) → Stand vars []
-stand-none vars = record { nodes = record { fit = refl; apart = λ v. tt }; smooth = λ v. tt }

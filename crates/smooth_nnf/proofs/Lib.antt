@@ -11,3 +11,4 @@ mod LineLemmas
 mod EdgeLemmas
 pub mod PartBits
 mod Examples
+pub mod Rules

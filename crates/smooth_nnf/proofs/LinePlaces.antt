@@ -1,5 +1,5 @@
 -- Where the lines of nodes stand, node by node.
-use Rattle.std.proofs.Common.{◌≡◌, ℕ, zero, suc, ◌+◌, ◌<◌, ◌≤◌, Bool, cond, ◌==◌, List, [], ◌∷◌, ◌++◌, map, length, take, get_or, Option, sym, ap, ◌∙◌, arith}
+use Rattle.std.proofs.Common.{◌≡◌, ℕ, zero, suc, ◌+◌, ◌<◌, ◌≤◌, cond, ◌==◌, List, [], ◌∷◌, ◌++◌, map, length, take, get_or, Option, sym, ap, ◌∙◌, arith}
 use Rattle.std.proofs.lemmas.Bool.Decides.{nat_tests}
 use Rattle.std.proofs.lemmas.Bool.{cond-true, eq-eqb, ne_eqb, cases_eq}
 use Rattle.std.proofs.lemmas.List.Filters.{length-filter_more}
@@ -20,18 +20,14 @@ just-stored cost n some = grind (arith, nat_tests, cases_eq, cond-true, eq-eqb, 
 cheapest-more : (values kids : List ℕ) (cost i count : ℕ) → i < length kids → get_or kids i 0 < length values → (cost ≡ 4294967295 → ⊥) → count ≡ length (cheapest_children (map cost_in values) cost (take i kids))
     → count + cond (get_or values (get_or kids i 0) 0 == cost) 1 0 ≡ length (cheapest_children (map cost_in values) cost (take (i + 1) kids))
 cheapest-more values kids cost i count lt inside some is =
-    let test : ℕ → Bool = λ child. costs_just cost (cost_at (map cost_in values) child) in
-    let here : test (get_or kids i 0) ≡ (get_or values (get_or kids i 0) 0 == cost) = ap (costs_just cost) (cost_at-map values (get_or kids i 0) inside) ∙ just-stored cost (get_or values (get_or kids i 0) 0) some in
-    (λ j. is j + cond (sym here j) 1 0) ∙ sym (length-filter_more test kids i 0 lt)
+    grind (arith, nat_tests, length-filter_more (λ child. costs_just cost (cost_at (map cost_in values) child)) kids i 0 lt, cost_at-map values (get_or kids i 0) inside, just-stored cost (get_or values (get_or kids i 0) 0) some)
 
 module _ (values kids : List ℕ) (cost i count : ℕ) (lt : i < length kids) (inside : get_or kids i 0 < length values) (some : cost ≡ 4294967295 → ⊥) (is : count ≡ length (cheapest_children (map cost_in values) cost (take i kids))) where
   pub one-cheapest : get_or values (get_or kids i 0) 0 ≡ cost → count + 1 ≡ length (cheapest_children (map cost_in values) cost (take (i + 1) kids))
   one-cheapest hit = ap (λ b. count + cond b 1 0) (sym (eq-eqb (get_or values (get_or kids i 0) 0) cost hit)) ∙ cheapest-more values kids cost i count lt inside some is
 
   pub none-cheapest : (get_or values (get_or kids i 0) 0 ≡ cost → ⊥) → count ≡ length (cheapest_children (map cost_in values) cost (take (i + 1) kids))
-  none-cheapest miss =
-      let same : count ≡ count + 0 = omega arith in
-      same ∙ ap (λ b. count + cond b 1 0) (sym (ne_eqb (get_or values (get_or kids i 0) 0) cost miss)) ∙ cheapest-more values kids cost i count lt inside some is
+  none-cheapest miss = grind (arith, nat_tests, cheapest-more values kids cost i count lt inside some is, miss)
 
 -- ---- lines
 
@@ -43,33 +39,21 @@ module _ (least : List (Option ℕ)) where
       → own_lines least line number (take (suc i) nodes) ≡ own_lines least line number (take i nodes) ++ (lines_after least line number (take i nodes) + lines_to least (node_at nodes i) (cost_at least (number + i))) ∷ []
   own_lines-next line number [] i lt = absurd (omega arith)
   own_lines-next line number (node ∷ nodes) zero lt = let e : number ≡ number + 0 = omega arith in ap (λ n. (line + lines_to least node (cost_at least n)) ∷ []) e
-  own_lines-next line number (node ∷ nodes) (suc i) lt =
-      let own : ℕ = line + lines_to least node (cost_at least number) in
-      let e : (number + 1) + i ≡ number + suc i = omega arith in
-      grind (arith, nat_tests, own_lines-next (own + 1) (number + 1) nodes i)
+  own_lines-next line number (node ∷ nodes) (suc i) lt = grind (arith, nat_tests, own_lines-next (line + lines_to least node (cost_at least number) + 1) (number + 1) nodes i)
 
   lines_after-next : (line number : ℕ) (nodes : List Node) (i : ℕ) → i < length nodes
       → lines_after least line number (take (suc i) nodes) ≡ lines_after least line number (take i nodes) + lines_to least (node_at nodes i) (cost_at least (number + i)) + 1
   lines_after-next line number [] i lt = absurd (omega arith)
   lines_after-next line number (node ∷ nodes) zero lt = let e : number ≡ number + 0 = omega arith in ap (λ n. line + lines_to least node (cost_at least n) + 1) e
-  lines_after-next line number (node ∷ nodes) (suc i) lt =
-      let own : ℕ = line + lines_to least node (cost_at least number) in
-      let e : (number + 1) + i ≡ number + suc i = omega arith in
-      grind (arith, nat_tests, lines_after-next (own + 1) (number + 1) nodes i)
+  lines_after-next line number (node ∷ nodes) (suc i) lt = grind (arith, nat_tests, lines_after-next (line + lines_to least node (cost_at least number) + 1) (number + 1) nodes i)
 
   -- one more node, of the first ones
   module _ (line : ℕ) (nodes : List Node) (i : ℕ) (lt : i < length nodes) where
-    next : i + 1 ≡ suc i
-    next = omega arith
-
-    first : 0 + i ≡ i
-    first = omega arith
-
     pub own_lines-more : own_lines least line 0 (take (i + 1) nodes) ≡ own_lines least line 0 (take i nodes) ++ (lines_after least line 0 (take i nodes) + lines_to least (node_at nodes i) (cost_at least i)) ∷ []
-    own_lines-more = grind (arith, nat_tests, next, own_lines-next, first)
+    own_lines-more = grind (arith, nat_tests, own_lines-next line 0 nodes i lt)
 
     pub lines_after-more : lines_after least line 0 (take (i + 1) nodes) ≡ lines_after least line 0 (take i nodes) + lines_to least (node_at nodes i) (cost_at least i) + 1
-    lines_after-more = grind (arith, nat_tests, next, lines_after-next, first)
+    lines_after-more = grind (arith, nat_tests, lines_after-next line 0 nodes i lt)
 
   -- lines fit
   pub lines_after-le : (line number : ℕ) (nodes : List Node) (i : ℕ) → lines_after least line number (take i nodes) ≤ line + length nodes + edges nodes
@@ -81,3 +65,6 @@ module _ (least : List (Option ℕ)) where
     lines_to-le least node (cost_at least number),
     sum_by-cons (λ (n : Node). length n.kids) node nodes,
   )
+
+  pub line-fits : (line : ℕ) (nodes : List Node) (i : ℕ) → i < length nodes → lines_after least line 0 (take i nodes) + lines_to least (node_at nodes i) (cost_at least i) + 1 ≤ line + length nodes + edges nodes
+  line-fits line nodes i lt = omega (arith, lines_after-more line nodes i lt, lines_after-le line 0 nodes (i + 1))

@@ -11,14 +11,10 @@ use Rattle.state_rules.specs.Bits.{has_bit}
 pub ones : (count b : ℕ) → has_bit (2 ^ count - 1) b ≡ nat_le (b + 1) count
 ones count b = grind (arith, nat_tests, bit_at_ones, le-leb, bit_at_ones_above, lt-leb, cases_lt)
 
--- a number is below two bounds
-pub same_le : (a b m n : ℕ) → (a ≤ m → b ≤ n) → (b ≤ n → a ≤ m) → nat_le a m ≡ nat_le b n
-same_le a b m n to from = grind (arith, nat_tests, lt-leb, from, cases_lt, le-leb, to)
-
 -- the ones of a word are the bits of its parts
 pub part_ones : (parts word count : ℕ) → word < (parts + 31) / 32 → count ≡ min (parts - 32 * word) 32 → (b : ℕ) → b < 32 → has_bit (1 * 2 ^ count % 18446744073709551616 - 1) b ≡ nat_le (32 * word + b + 1) parts
 part_ones parts word count w e b s =
     let few : count ≤ 32 = omega (arith, e) in
     let less : 2 ^ count < 2 ^ 64 = pow_below count 64 (omega arith) in
     let same : 1 * 2 ^ count % 18446744073709551616 ≡ 2 ^ count = omega (arith, less) in
-    ap (λ n. has_bit (n - 1) b) same ∙ ones count b ∙ same_le (b + 1) (32 * word + b + 1) count parts (λ h. omega (arith, e, w, h)) (λ h. omega (arith, e, w, h, s))
+    ap (λ n. has_bit (n - 1) b) same ∙ ones count b ∙ grind (arith, nat_tests, e, w, s)

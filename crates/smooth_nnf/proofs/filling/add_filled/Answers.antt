@@ -1,23 +1,11 @@
-use Rattle.std.proofs.Common.{◌+◌, ◌∷◌, ◌++◌, [], refl, ap, sym, ◌∙◌, arith}
+use Rattle.std.proofs.Common.{◌+◌, ◌∷◌, ◌++◌, [], refl, ap, ◌∙◌}
 use Rattle.std.specs.Prelude.{decimal}
-use Rattle.text_rules.specs.Tokens.{spaced}
-use Rattle.state_rules.specs.declared.nodes.NodeKind.TheVariants.{And}
-use Rattle.nnf_text.specs.WrittenGraphs.{kind_words}
-use Rattle.nnf_text.proofs.Extended.{extends_on, extends_three, extends_same}
+use Rattle.nnf_text.proofs.Extended.{extends_on, extends_three}
 use Rattle.smooth_nnf.specs.Layouts.{fillers}
 use Rattle.smooth_nnf.specs.inner.Drawings.{missing_in}
 use Rattle.smooth_nnf.specs.inner.Texts.{numbers_text}
 use Rattle.smooth_nnf.proofs.FilledTexts.{filled-text}
-use Rattle.smooth_nnf.proofs.LackingParts.{no-fillers}
 use Rattle.smooth_nnf.proofs.filling.add_filled.Goals as goal
-
-pub returns-then-lacks_none : goal.returns-then-lacks_none
-returns-then-lacks_none g c =
-    let none = no-fillers c.args.drawing.now c.args.over c.args.node (λ part low high. c.lacks_none.ensures c.args.node part c.if-lacks_none.true c.requires.under low high) in
-    extends_same _ _ _ _ _ _ c.add_node.ensures (λ i. spaced (kind_words And (c.line-line.ensures i ∷ sym none i)))
-
-pub overflow_add-count : goal.overflow_add-count
-overflow_add-count g c = omega (arith, c.missing_count-count.ensures.most)
 
 pub returns : goal.returns
 returns g c =

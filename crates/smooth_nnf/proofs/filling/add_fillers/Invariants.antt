@@ -1,7 +1,5 @@
-use Rattle.std.proofs.Common.{◌≡◌}
 use Rattle.std.specs.List.{flat_map, range_with_len}
 use Rattle.nnf_text.specs.Extending.{Extends}
-use Rattle.part_sets.specs.Numbers.{part_words}
 use Rattle.smooth_nnf.specs.inner.Texts.{word_text}
 use Rattle.smooth_nnf.proofs.filling.add_fillers.Given as goal
 
@@ -9,7 +7,4 @@ use Rattle.smooth_nnf.proofs.filling.add_fillers.Given as goal
 abbrev pub invariant-loop-word : goal.invariant-loop-word
 invariant-loop-word g l =
     let O = g.O.Sink in
-    record {
-      added : Extends (O.shown l.fn.out) (O.shown l.out) l.fn.text l.text (flat_map (word_text l.drawing l.node l.over) (range_with_len 0 l.word));
-      end : l.word-end ≡ part_words l.drawing.parts;
-    }
+    Extends (O.shown l.fn.out) (O.shown l.out) l.fn.text l.text (flat_map (word_text l.drawing l.node l.over) (range_with_len 0 l.word))

@@ -1,10 +1,6 @@
-use Rattle.nnf_text.proofs.Extended.{extends_none, extends_same}
-use Rattle.smooth_nnf.proofs.FilledTexts.{word-text, no-bits}
+use Rattle.nnf_text.proofs.Extended.{extends_same}
+use Rattle.smooth_nnf.proofs.FilledTexts.{word-text}
 use Rattle.smooth_nnf.proofs.filling.add_word_fillers.Goals as goal
-
-pub returns-then-bits-eq0 : goal.returns-then-bits-eq0
-returns-then-bits-eq0 g c =
-    extends_same _ _ _ _ _ _ (extends_none _ _) (no-bits c.args.drawing.now c.args.node c.args.over c.args.word c.missing_word-bits.result c.if-bits-eq0.true c.missing_word-bits.ensures)
 
 pub returns : goal.returns
 returns g c =

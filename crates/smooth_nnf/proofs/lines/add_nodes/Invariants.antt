@@ -1,4 +1,4 @@
-use Rattle.std.proofs.Common.{◌≡◌, take, length}
+use Rattle.std.proofs.Common.{take}
 use Rattle.std.specs.List.{flat_map, enumerate_from}
 use Rattle.nnf_text.specs.Extending.{Extends}
 use Rattle.smooth_nnf.specs.Layouts.{node_lines}
@@ -10,7 +10,4 @@ use Rattle.smooth_nnf.proofs.lines.add_nodes.Given as goal
 abbrev pub invariant-loop-node : goal.invariant-loop-node
 invariant-loop-node g l =
     let O = g.O.Sink in
-    record {
-      added : Extends (O.shown l.fn.out) (O.shown l.out) l.fn.text l.text (flat_map (λ x. lines_text (node_lines (shown l.drawing) x)) (take l.node (enumerate_from 0 l.drawing.graph.nodes)));
-      end : l.node-end ≡ length l.drawing.graph.nodes;
-    }
+    Extends (O.shown l.fn.out) (O.shown l.out) l.fn.text l.text (flat_map (λ x. lines_text (node_lines (shown l.drawing) x)) (take l.node (enumerate_from 0 l.drawing.graph.nodes)))

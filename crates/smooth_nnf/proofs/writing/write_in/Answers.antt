@@ -1,33 +1,16 @@
-use Rattle.std.proofs.Common.{map, ap, subst, arith, length}
+use Rattle.std.proofs.Common.{ap, subst, length}
 use Rattle.diag_edge.specs.Edge.{Puts}
 use Rattle.nnf_text.specs.WrittenGraphs.{graph_text}
 use Rattle.state_rules.specs.Graphs.{Graph}
-use Rattle.minimiser.specs.Stored.{cost_in, AreLeastCosts}
+use Rattle.minimiser.specs.Stored.{AreLeastCosts}
 use Rattle.smooth_nnf.specs.Layouts.{Layout, all_lines}
-use Rattle.smooth_nnf.proofs.WholeText.{laid, counted, edges-fit, count-fits}
-use Rattle.smooth_nnf.proofs.writing.write_in.Given.{Over}
+use Rattle.smooth_nnf.proofs.WholeText.{laid}
 use Rattle.smooth_nnf.proofs.writing.write_in.Goals as goal
-use Rattle.smooth_nnf.proofs.writing.write_in.Goals.{After-put_least_costs}
-
-are-costs : (g : Over) (c : After-put_least_costs g) → AreLeastCosts c.args.asked.now.graph.now c.args.asked.now.evidence.now c.args.asked.now.costs.now c.put_least_costs.new.values
-are-costs g c = subst (λ (graph : Graph). AreLeastCosts graph c.args.asked.now.evidence.now c.args.asked.now.costs.now c.put_least_costs.new.values) c.view.ensures c.put_least_costs.ensures.values
-
-pub overflow_add-count : goal.overflow_add-count
-overflow_add-count g c =
-    let fits = count-fits c.args.asked.now.graph.now c.args.asked.now.costs.now (map cost_in c.put_least_costs.new.values) c.args.asked.now.few in
-    omega (arith, c.place_lines-count.ensures.count, fits)
-
-pub put_lines-requires-clause-count : goal.put_lines-requires-clause-count
-put_lines-requires-clause-count g c =
-    counted c.args.asked.now.graph.now c.args.asked.now.evidence.now c.args.asked.now.costs.now c.len-nodes.ensures.valid c.args.asked.now.long c.args.asked.now.parts c.args.asked.now.dear c.args.asked.now.few _ _ _ (are-costs g (goal.at.put_lines-requires-clause-count g c).After-put_least_costs) c.place_lines-count.ensures.places c.place_lines-count.ensures.count
-
-pub put_lines-requires-clause-edges : goal.put_lines-requires-clause-edges
-put_lines-requires-clause-edges g c =
-    edges-fit c.args.asked.now.graph.now c.args.asked.now.evidence.now c.args.asked.now.costs.now c.len-nodes.ensures.valid c.args.asked.now.long c.args.asked.now.parts c.args.asked.now.dear c.args.asked.now.few _ _ (are-costs g (goal.at.put_lines-requires-clause-edges g c).After-put_least_costs) c.place_lines-count.ensures.places
 
 pub returns-clause-bytes : goal.returns-clause-bytes
 returns-clause-bytes g c =
-    let same = laid c.args.asked.now.graph.now c.args.asked.now.evidence.now c.args.asked.now.costs.now c.len-nodes.ensures.valid c.args.asked.now.long c.args.asked.now.parts c.args.asked.now.dear c.args.asked.now.few c.put_least_costs.new.values c.place_lines-count.new.lines
-    (are-costs g (goal.at.returns-clause-bytes g c).After-put_least_costs) c.place_lines-count.ensures.places in
+    let asked = c.args.asked.now in
+    let are = subst (λ (graph : Graph). AreLeastCosts graph asked.evidence.now asked.costs.now c.put_least_costs.new.values) c.view.ensures c.put_least_costs.ensures.values in
+    let same = laid asked.graph.now asked.evidence.now asked.costs.now c.put_least_costs.new.values c.place_lines-count.new.lines are c.place_lines-count.ensures.places in
     subst (λ t. Puts (g.O.Sink.got c.args.out.now) (g.O.Sink.got c.put_lines.new.out) c.put_lines.result t)
-    (ap (λ (l : Layout). graph_text (record { nodes = all_lines l; vars = length c.args.asked.now.costs.now })) same) c.put_lines.ensures.bytes
+    (ap (λ (l : Layout). graph_text (record { nodes = all_lines l; vars = length asked.costs.now })) same) c.put_lines.ensures.bytes

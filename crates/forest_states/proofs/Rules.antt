@@ -18,7 +18,7 @@ use Rattle.std.proofs.lemmas.Nat.{and_mask, pow_pos}
 
 pub ruleset bit_list_append_steps = (append-nil, length-append, length-bits, length-copied)
 
-pub ruleset bit_list_into_words_steps = (length-bits)
+pub ruleset bit_lengths = (length-bits)
 
 pub ruleset bit_list_of_word_steps = (are-one, bits-one)
 

@@ -58,7 +58,7 @@ impl BitList {
     }
 
     /// The words of the bits.
-    #[tactic(auto, using(crate::proofs::Rules::bit_list_into_words_steps))]
+    #[tactic(auto, using(crate::proofs::Rules::bit_lengths))]
     pub(crate) fn into_words(self) -> SmallVec<u64, 2>
         ensures { result.items ≡ words_of (length self / 64 + 1) self }
     {
@@ -95,7 +95,7 @@ impl BitList {
     }
 
     /// Adds so many bits, which stay in one word.
-    #[tactic(auto, using(crate::proofs::Rules::bit_list_into_words_steps))]
+    #[tactic(auto, using(crate::proofs::Rules::bit_lengths))]
     pub(crate) fn put(&mut self, row: u64, count: usize) -> Result<(), AllocError>
         requires some { 0 < count }
         requires few { length self.old < 2 ^ 63 }

@@ -32,7 +32,7 @@ impl<'a> Bits<'a> {
     }
 
     /// How many bits there are.
-    #[tactic(auto, using(crate::proofs::Rules::bit_list_into_words_steps))]
+    #[tactic(auto, using(crate::proofs::Rules::bit_lengths))]
     pub(crate) fn len(&self) -> usize
         ensures { result ≡ length self.now }
     {

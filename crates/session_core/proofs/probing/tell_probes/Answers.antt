@@ -28,9 +28,6 @@ put_probes-requires g c = λ (wire : ℕ) (bit : Bool) (h : wire < length c.prob
     c.probe_all.ensures.probed wire bit (subst (λ (d : OnDesk). wire < length d.subject.wires) stays h)
     ∙ sym (ap (λ (d : OnDesk). least_seen d wire bit) stays)
 
-pub returns-in_err-put_probes-clause-reply : goal.returns-in_err-put_probes-clause-reply
-returns-in_err-put_probes-clause-reply g c = grind (arith, lines_broken)
-
 pub returns-clause-reply : goal.returns-clause-reply
 returns-clause-reply g c =
     let old = c.args.desk.now in

@@ -6,12 +6,6 @@ use Rattle.session_core.specs.Services.{Shown}
 use Rattle.session_core.proofs.OneMove.{obeys_refusal, unopened}
 use Rattle.session_core.proofs.sessions.Sessions.ask.Goals as goal
 
-pub ask_open-requires : goal.ask_open-requires
-ask_open-requires g c = grind arith
-
-pub start-requires-clause-closed : goal.start-requires-clause-closed
-start-requires-clause-closed g c = subst (λ (v : Shown). entry_of c.args.name.now v.table ≡ None) c.self.view_is c.in-None.ensures.none
-
 pub returns-in_default-clause-obeys : goal.returns-in_default-clause-obeys
 returns-in_default-clause-obeys g c =
     let old = c.args.self.now in

@@ -15,9 +15,6 @@ use Rattle.session_core.proofs.sessions.Sessions.ask_graph.Goals as goal
 abbrev items : Subject → List ℕ → Case → List Item
 items subject session known = line (session ∷ codes "dnnf" ∷ []) ∷ Plain (case_text subject known) ∷ []
 
-pub tell_graph-requires : goal.tell_graph-requires
-tell_graph-requires g c = grind (arith, known-there)
-
 pub returns-clause-obeys : goal.returns-clause-obeys
 returns-clause-obeys g c =
     let basis = c.self.inside.desk.subject in

@@ -1,10 +1,9 @@
-use Rattle.std.proofs.Common.{◌≡◌, ◌∙◌, true, ap, arith, sym, subst}
+use Rattle.std.proofs.Common.{◌≡◌, ◌∙◌, true, ap, arith, subst}
 use Rattle.std.specs.List.{list_all}
-use Rattle.std.proofs.lemmas.Bool.{and_left}
 use Rattle.std.proofs.lemmas.Grind.{common_steps}
 use Rattle.text_rules.specs.Names.{is_among}
 use Rattle.text_rules.specs.Tokens.{words, tokens_left}
-use Rattle.session_core.proofs.NamedParts.{AreMarked, is_among-at, is_among-nowhere, marked_more, marked_all}
+use Rattle.session_core.proofs.NamedParts.{AreMarked, is_among-at, marked_more}
 use Rattle.session_core.proofs.desk.mark_named.Goals as goal
 
 pub loop-name-preserved : goal.loop-name-preserved

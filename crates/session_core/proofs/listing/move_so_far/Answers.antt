@@ -1,6 +1,6 @@
 use Rattle.std.proofs.Common.{◌∙◌, arith}
 use Rattle.session_core.specs.inner.Holding.{shown_of}
-use Rattle.session_core.proofs.SessionMoves.{lists_none, lists_more, lists_end, lists_broken, lists_all, carries_broken}
+use Rattle.session_core.proofs.SessionMoves.{lists_more, lists_end, lists_broken, carries_broken}
 use Rattle.session_core.proofs.listing.move_so_far.Goals as goal
 
 pub returns-in_err-move_on-clause-moves : goal.returns-in_err-move_on-clause-moves

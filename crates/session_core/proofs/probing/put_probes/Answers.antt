@@ -4,7 +4,7 @@ use Rattle.session_rules.specs.Replies.{probe_lines}
 use Rattle.session_core.specs.Services.{served_system}
 use Rattle.session_core.specs.inner.Desks.{asked_case}
 use Rattle.session_core.specs.inner.Telling.{unseen_line}
-use Rattle.session_core.proofs.Told.{said_more, said_part}
+use Rattle.session_core.proofs.Told.{said_part}
 use Rattle.session_core.proofs.Questions.{lines-next}
 use Rattle.session_core.proofs.probing.put_probes.Goals as goal
 

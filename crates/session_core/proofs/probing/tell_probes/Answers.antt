@@ -6,7 +6,7 @@ use Rattle.session_rules.specs.Spelling.{Replies}
 use Rattle.session_rules.proofs.Spellings.{replies_one}
 use Rattle.session_core.specs.Services.{served_system}
 use Rattle.session_core.specs.inner.Desks.{OnDesk, asked_case, agreeing, least_seen}
-use Rattle.session_core.proofs.Told.{lines_then, lines_broken}
+use Rattle.session_core.proofs.Told.{lines_then}
 use Rattle.session_core.proofs.Questions.{if_any-none}
 use Rattle.session_core.proofs.probing.tell_probes.Goals as goal
 

@@ -1,10 +1,8 @@
-use Rattle.std.proofs.Common.{◌≡◌, ◌∙◌, ◌∷◌, ℕ, List, codes, decimal, ap, sym, subst}
+use Rattle.std.proofs.Common.{sym, subst}
 use Rattle.diag_edge.specs.Edge.{Puts}
 use Rattle.text_rules.specs.Tokens.{spaced}
 use Rattle.conditioner.specs.Evidence.{bits_of}
-use Rattle.session_rules.specs.Replies.{faulty_names}
 use Rattle.session_core.specs.declared.listed.NextState.{NextState}
-use Rattle.session_core.specs.declared.listed.NextState.TheVariants.{Found}
 use Rattle.session_core.specs.inner.Texts.{next_text}
 use Rattle.session_core.proofs.replies.put_next.Goals as goal
 

@@ -1,5 +1,4 @@
-use Rattle.session_core.specs.Services.{moves_of}
-use Rattle.session_core.proofs.FedBytes.{fed_other, fed_feed, breaks_feed}
+use Rattle.session_core.proofs.FedBytes.{fed_other}
 use Rattle.session_core.proofs.serving.take_byte.Goals as goal
 
 pub returns-else-byte-eq10-clause-ok : goal.returns-else-byte-eq10-clause-ok

@@ -13,7 +13,6 @@ use Rattle.session_rules.specs.Spelling.{Replies}
 use Rattle.session_rules.proofs.Spellings.{replies_one}
 use Rattle.session_core.specs.Services.{served_system}
 use Rattle.session_core.specs.inner.Desks.{OnDesk, asked_case, agreeing, least_seen}
-use Rattle.session_core.proofs.ShownService.{place-within}
 use Rattle.session_core.proofs.Questions.{if_any-none, if_any-some}
 use Rattle.session_core.proofs.telling.tell_probe.Goals as goal
 

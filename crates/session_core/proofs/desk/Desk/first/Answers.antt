@@ -1,7 +1,7 @@
-use Rattle.std.proofs.Common.{◌∙◌, ◌<◌, ℕ, List, Bool, All, get_or, length, ap, sym, subst}
+use Rattle.std.proofs.Common.{◌∙◌, List, Bool, get_or, ap, sym}
 use Rattle.conditioner.specs.Evidence.{bits_of}
 use Rattle.session_core.specs.inner.Desks.{OnDesk, least_asked, diagnoses_asked}
-use Rattle.session_core.proofs.Desks.{least-asked, diagnoses-asked, fits_after, stays_after}
+use Rattle.session_core.proofs.Desks.{least-asked, diagnoses-asked}
 use Rattle.session_core.proofs.ShownService.{written_back}
 use Rattle.session_core.proofs.NextStates.{is_first}
 use Rattle.session_core.proofs.desk.Desk.first.Goals as goal

@@ -1,4 +1,4 @@
-use Rattle.std.proofs.Common.{◌∙◌, ◌<◌, ℕ, List, Some, All, get_or, length, ap, sym, subst}
+use Rattle.std.proofs.Common.{◌∙◌, Some, get_or, ap, sym}
 use Rattle.state_rules.specs.Ranking.{rest}
 use Rattle.conditioner.specs.Evidence.{bits_of}
 use Rattle.diagnosis_lister.specs.Listing.{step_of}
@@ -6,7 +6,7 @@ use Rattle.session_core.specs.Services.{served_system}
 use Rattle.session_core.specs.declared.listed.Listed.TheVariants.{Diagnoses}
 use Rattle.session_core.specs.inner.Bases.{case_in}
 use Rattle.session_core.specs.inner.Desks.{OnDesk, asked_case, diagnoses_asked, next_after, of_step}
-use Rattle.session_core.proofs.Desks.{states-asked, diagnoses-asked, fits_after, stays_after}
+use Rattle.session_core.proofs.Desks.{states-asked, diagnoses-asked}
 use Rattle.session_core.proofs.ShownService.{written_back}
 use Rattle.session_core.proofs.NextStates.{is_first, diagnosis_next}
 use Rattle.session_core.proofs.desk.Desk.go_on.Goals as goal

@@ -1,18 +1,17 @@
-use Rattle.std.proofs.Common.{arith, ◌≡◌, ◌∙◌, ◌+◌, ◌*◌, ◌<◌, ◌≤◌, ℕ, List, Bor, Option, Some, All, get_or, length, sym, ap, subst}
+use Rattle.std.proofs.Common.{◌≡◌, ◌∙◌, ◌<◌, ℕ, List, Bor, Option, Some, All, get_or, length, sym, ap, subst}
 use Rattle.std.specs.Prelude.{IfSome}
 use Rattle.std.specs.Option.{option_map}
-use Rattle.state_rules.specs.Graphs.{Graph}
 use Rattle.state_rules.specs.Levels.{levels, levels_rest}
 use Rattle.conditioner.specs.Evidence.{bits_of}
-use Rattle.level_lister.specs.Listing.{Kept, IsFor, level_step, point_if, cost_words, step_words}
+use Rattle.level_lister.specs.Listing.{Kept, IsFor, point_if}
 use Rattle.session_rules.specs.GraphSystems.{Subject}
 use Rattle.session_core.specs.declared.listed.Listed.TheVariants.{Levels}
 use Rattle.session_core.specs.inner.Bases.{AreEnough, AreKnown}
-use Rattle.session_core.specs.inner.Desks.{OnDesk, asked_case, top_of, later_states, next_after, of_level_step}
-use Rattle.session_core.proofs.Desks.{states-asked, stays_after}
+use Rattle.session_core.specs.inner.Desks.{OnDesk, asked_case, top_of, later_states}
+use Rattle.session_core.proofs.Desks.{states-asked}
 use Rattle.session_core.proofs.ShownService.{written_back}
-use Rattle.session_core.proofs.Rooms.{carved_so, run_long, is_held, released_runs, released_words}
-use Rattle.session_core.proofs.NextStates.{is_first, level_next}
+use Rattle.session_core.proofs.Rooms.{carved_so, is_held, released_runs, released_words}
+use Rattle.session_core.proofs.NextStates.{is_first}
 use Rattle.session_core.proofs.desk.Desk.next_level.Goals as goal
 
 -- what is known of what lists the states

@@ -1,4 +1,4 @@
-use Rattle.std.proofs.Common.{◌≡◌, None, subst, arith}
+use Rattle.std.proofs.Common.{◌≡◌, None, subst}
 use Rattle.script_lang.specs.Script.{asked}
 use Rattle.session_rules.specs.declared.refusal.Refusal.TheVariants.{NoSession}
 use Rattle.session_rules.specs.Sessions.{entry_of}

@@ -7,7 +7,7 @@ use Rattle.session_rules.specs.Spelling.{Replies}
 use Rattle.session_core.specs.Services.{Shown, case_text}
 use Rattle.session_core.specs.inner.Obeying.{Obeys}
 use Rattle.session_core.specs.inner.Holding.{shown_of}
-use Rattle.session_core.proofs.ShownService.{known-there, case-there, there}
+use Rattle.session_core.proofs.ShownService.{case-there, there}
 use Rattle.session_core.proofs.OneMove.{obeys_one, asked_open}
 use Rattle.session_core.proofs.sessions.Sessions.ask_graph.Goals as goal
 

@@ -1,4 +1,4 @@
-use Rattle.std.proofs.Common.{◌∙◌, ap, subst, refl, arith}
+use Rattle.std.proofs.Common.{◌∙◌, ap, subst, refl}
 use Rattle.std.proofs.lemmas.Bool.{and_parts}
 use Rattle.text_rules.specs.Names.{is_short_name}
 use Rattle.script_lang.proofs.Asked.{is_well_named, is_well_asked}
@@ -7,7 +7,7 @@ use Rattle.script_lang.specs.Script.{asked, Line}
 use Rattle.session_core.specs.Services.{exact_moves}
 use Rattle.session_rules.specs.Carrying.{CarriesOut}
 use Rattle.session_rules.proofs.Broken.{carries_one}
-use Rattle.session_rules.proofs.Spellings.{writes_none, replies_one}
+use Rattle.session_rules.proofs.Spellings.{replies_one}
 use Rattle.session_core.proofs.sessions.Sessions.line.Goals as goal
 
 pub ask-requires : goal.ask-requires

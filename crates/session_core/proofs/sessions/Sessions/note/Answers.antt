@@ -5,7 +5,6 @@ use Rattle.session_rules.specs.GraphSystems.{Subject}
 use Rattle.session_rules.specs.Sessions.{Becomes}
 use Rattle.session_table.specs.Tables.{with_noted}
 use Rattle.session_core.specs.inner.Bases.{names_of}
-use Rattle.session_core.proofs.OneMove.{obeys_refusal}
 use Rattle.session_core.proofs.ShownService.{there, open_word}
 use Rattle.session_core.proofs.sessions.Sessions.note.Goals as goal
 

@@ -1,5 +1,4 @@
-use Rattle.std.proofs.Common.{◌≡◌, ◌∙◌, ◌∷◌, [], Bool, true, false, None, length, subst, refl, ap, sym, codes, arith}
-use Rattle.std.proofs.lemmas.Bool.Decides.{nat_tests}
+use Rattle.std.proofs.Common.{◌≡◌, ◌∙◌, ◌∷◌, [], Bool, true, false, None, length, subst, refl, ap, sym, codes}
 use Rattle.std.specs.Prelude.{nat_le, if◌then◌else◌}
 use Rattle.text_rules.specs.Names.{Name}
 use Rattle.state_rules.specs.Cases.{empty_case}
@@ -12,7 +11,7 @@ use Rattle.session_core.specs.Services.{Shown, outcome_of, served_system}
 use Rattle.session_core.specs.inner.Obeying.{Obeys}
 use Rattle.session_core.proofs.OneMove.{obeys_one, obeys_refusal}
 use Rattle.session_core.specs.inner.Holding.{shown_of}
-use Rattle.session_core.proofs.ShownService.{opened_with, holds_more}
+use Rattle.session_core.proofs.ShownService.{opened_with}
 use Rattle.session_core.proofs.sessions.Sessions.start.Goals as goal
 
 -- what opens a session comes to, if it is not open

@@ -1,4 +1,4 @@
-use Rattle.std.proofs.Common.{refl, codes, arith}
+use Rattle.std.proofs.Common.{refl, codes}
 use Rattle.script_lang.specs.Script.{Stop}
 use Rattle.session_rules.specs.Sessions.{Ends}
 use Rattle.session_core.proofs.ShownService.{there, open_word}

@@ -55,6 +55,7 @@ fn find<L: Ledger>(
 }
 
 // Shows what comes next of a listing of a session, and answers whether anything does. The point moves before the reply.
+#[tactic(auto, using(crate::proofs::ShownService::holds_more))]
 fn move_on<O: Sink>(
     desk: &mut Desk,
     opened: &mut OpenSessions,

@@ -1,14 +1,10 @@
-use Rattle.std.proofs.Common.{◌≡◌, ◌∷◌, [], Ok, ℕ, List, ap₂, sym, refl, subst, arith}
+use Rattle.std.proofs.Common.{◌∷◌, [], Ok, ℕ, List, ap₂, refl, subst, arith}
 use Rattle.text_rules.specs.Names.{Name}
 use Rattle.conditioner.specs.Evidence.{bits_of}
-use Rattle.session_rules.specs.GraphSystems.{Subject}
 use Rattle.session_rules.specs.Items.{line}
 use Rattle.session_rules.specs.Spelling.{Writes, WritesPart}
-use Rattle.session_table.specs.Tables.{Opened}
-use Rattle.session_core.specs.inner.Desks.{OnDesk}
-use Rattle.session_core.specs.inner.Holding.{HoldsTogether, shown_of}
+use Rattle.session_core.specs.inner.Holding.{shown_of}
 use Rattle.session_core.specs.inner.Texts.{next_text}
-use Rattle.session_core.proofs.ShownService.{opened_with, holds_more}
 use Rattle.session_core.proofs.Told.{writes_one, part_one}
 use Rattle.session_core.proofs.SessionMoves.{replies_part, if_failed, moves_on}
 use Rattle.session_core.proofs.listing.move_on.Goals as goal

@@ -17,3 +17,4 @@ pub mod ReplyTexts
 pub mod WrittenReplies
 pub mod OneText
 pub mod RefusedLines
+pub mod Rules

@@ -86,9 +86,6 @@ module _ (old : Shown) (listed : Listed) (place : ℕ) (session : Name) (entry :
   abbrev later_of : ℕ → Option (List Bool) → List Reply
   later_of left point = if (next point).more then listing next left (next point).point else []
 
-  none_left : (left : ℕ) (point : Option (List Bool)) → (next point).more ≡ false → listing next (suc left) point ≡ next point ∷ []
-  none_left left point e = ap (λ (b : Bool). next point ∷ (if b then listing next left (next point).point else [])) e
-
   -- the move that was made, or broke off
   module _ (now new : Shown) (counter : ℕ) (less : counter < count) (a b c : Option (List ℕ)) (lists : Lists old now listed place session entry count (count - counter) a b) where
     abbrev left : ℕ

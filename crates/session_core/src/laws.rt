@@ -20,6 +20,7 @@ pub fn one_text()
 /// What a service answers a session, byte for byte, is what it answers it alone: wherever it opens among some lines, its own lines
 /// from there to its end have the answers that they have alone, with room for one session and no other line before, between or after
 /// them.
+#[tactic(auto, using(session_rules::proofs::Alone::answered_alone))]
 pub fn written_alone()
     ensures { (shown : Shown) (table : Table) (lines : List (List ℕ))
         → AreAnsweredAlone (served_system shown.subject) shown.limit table lines }
@@ -27,6 +28,7 @@ pub fn written_alone()
 
 /// What a service writes spells the replies of its system: the moves of a script, from a table whose cases fit the system, are moves
 /// over the system, and if they break off, those do.
+#[tactic(auto, using(crate::proofs::WrittenReplies::spell_replies))]
 pub fn spells_replies()
     ensures { (shown : Shown) → IsSound shown → (table : Table) → HasCasesOf (system_of shown.subject) table
         → (lines : List (List ℕ)) → SpellReplies shown table lines }

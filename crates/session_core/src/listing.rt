@@ -25,6 +25,7 @@ use std::marker::Brand;
 use std::sync::ledger::{Blank, Ledger};
 
 // Finds what comes next of a listing of the session at a place, and moves its point there. The desk then has that state.
+#[tactic(auto, using(crate::proofs::Rules::move_steps))]
 fn find<L: Ledger>(
     desk: &mut Desk,
     opened: &mut OpenSessions,
@@ -54,6 +55,7 @@ fn find<L: Ledger>(
 }
 
 // Shows what comes next of a listing of a session, and answers whether anything does. The point moves before the reply.
+#[tactic(auto, using(crate::proofs::ShownService::holds_more))]
 fn move_on<O: Sink>(
     desk: &mut Desk,
     opened: &mut OpenSessions,
@@ -78,6 +80,7 @@ fn move_on<O: Sink>(
 }
 
 // Shows what comes next of a listing of a session, up to so many times.
+#[tactic(auto, using(crate::proofs::Rules::move_steps))]
 fn move_so_far<O: Sink>(
     desk: &mut Desk,
     opened: &mut OpenSessions,

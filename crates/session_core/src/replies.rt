@@ -67,6 +67,7 @@ fn text_of<'a>(refusal: Refusal) -> &'a [u8]
 }
 
 // The line of `min`: the least cost and the names of the faulty parts, or that no state agrees.
+#[tactic(auto, using(diag_edge::proofs::Added::adds_on))]
 pub(crate) fn put_min<O: Sink>(
     out: &mut O,
     session: &[u8],
@@ -93,6 +94,7 @@ pub(crate) fn put_min<O: Sink>(
 
 // The line of what comes next of a listing: the names of the faulty parts of a state, before them its cost if that is shown; or that
 // there is none.
+#[tactic(auto, using(diag_edge::proofs::Added::adds_on))]
 pub(crate) fn put_next<O: Sink>(
     out: &mut O,
     session: &[u8],

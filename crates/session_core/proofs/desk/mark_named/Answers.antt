@@ -1,17 +1,10 @@
-use Rattle.std.proofs.Common.{◌≡◌, ◌∙◌, true, ap, arith, sym, subst}
+use Rattle.std.proofs.Common.{◌≡◌, ◌∙◌, true, ap, arith, subst}
 use Rattle.std.specs.List.{list_all}
-use Rattle.std.proofs.lemmas.Bool.{and_left}
 use Rattle.std.proofs.lemmas.Grind.{common_steps}
 use Rattle.text_rules.specs.Names.{is_among}
 use Rattle.text_rules.specs.Tokens.{words, tokens_left}
-use Rattle.session_core.proofs.NamedParts.{AreMarked, is_among-at, is_among-nowhere, marked_more, marked_all}
+use Rattle.session_core.proofs.NamedParts.{AreMarked, is_among-at, marked_more}
 use Rattle.session_core.proofs.desk.mark_named.Goals as goal
-
-pub returns-in-None-find-clause-named : goal.returns-in-None-find-clause-named
-returns-in-None-find-clause-named c =
-    let parts = c.args.basis.now.parts in
-    sym (c.loop-name.invariant.named ∙ ap (list_all (is_among parts)) c.in-Some.ensures.steps
-    ∙ and_left _ _ (is_among-nowhere c.in-Some.name.now parts c.in-None-find.ensures.place))
 
 pub loop-name-preserved : goal.loop-name-preserved
 loop-name-preserved c =
@@ -29,9 +22,3 @@ loop-name-preserved c =
           (subst (AreMarked parts (words c.args.names.now) c.loop-name.state) c.in-Some.ensures.steps c.loop-name.invariant.marked);
       bits = grind (arith, common_steps);
     }
-
-pub returns-clause-state : goal.returns-clause-state
-returns-clause-state c e =
-    let parts = c.args.basis.now.parts in
-    marked_all parts (words c.args.names.now) c.loop-name.state (omega arith)
-    (subst (AreMarked parts (words c.args.names.now) c.loop-name.state) c.in-None.ensures.steps.0 c.loop-name.invariant.marked)

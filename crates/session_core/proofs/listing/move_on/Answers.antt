@@ -1,20 +1,13 @@
-use Rattle.std.proofs.Common.{◌≡◌, ◌∷◌, [], Ok, ℕ, List, ap₂, sym, refl, subst, arith}
+use Rattle.std.proofs.Common.{◌∷◌, [], Ok, ℕ, List, ap₂, refl, subst, arith}
 use Rattle.text_rules.specs.Names.{Name}
 use Rattle.conditioner.specs.Evidence.{bits_of}
-use Rattle.session_rules.specs.GraphSystems.{Subject}
 use Rattle.session_rules.specs.Items.{line}
 use Rattle.session_rules.specs.Spelling.{Writes, WritesPart}
-use Rattle.session_table.specs.Tables.{Opened}
-use Rattle.session_core.specs.inner.Desks.{OnDesk}
-use Rattle.session_core.specs.inner.Holding.{HoldsTogether, shown_of}
+use Rattle.session_core.specs.inner.Holding.{shown_of}
 use Rattle.session_core.specs.inner.Texts.{next_text}
-use Rattle.session_core.proofs.ShownService.{opened_with, holds_more}
 use Rattle.session_core.proofs.Told.{writes_one, part_one}
 use Rattle.session_core.proofs.SessionMoves.{replies_part, if_failed, moves_on}
 use Rattle.session_core.proofs.listing.move_on.Goals as goal
-
-together : (subject : Subject) (desk : OnDesk) (old new : Opened) → HoldsTogether subject old → desk.subject ≡ subject → new ≡ opened_with old new.table → HoldsTogether desk.subject new
-together subject desk old new h s e = subst (λ (u : Subject). HoldsTogether u new) (sym s) (holds_more subject old new new.table h e)
 
 pub returns-in_err-put_next-clause-moves : goal.returns-in_err-put_next-clause-moves
 returns-in_err-put_next-clause-moves g c = λ entry stands.
@@ -42,15 +35,3 @@ returns-clause-moves g c = λ entry stands.
     (subst (λ (ws : List (List ℕ)). Writes (g.O.Sink.got c.args.out.now) (g.O.Sink.got c.put_next.new.out) (line ws ∷ [])) words
     (writes_one _ _ (line (next_text s c.parts.result.now next (bits_of c.state.result.now))) _ refl c.in_ok-put_next.ensures.text))
     c.is_found.ensures
-
-pub returns-in_err-put_next-clause-together : goal.returns-in_err-put_next-clause-together
-returns-in_err-put_next-clause-together g c = grind arith
-
-pub returns-in_err-put_next-clause-stays : goal.returns-in_err-put_next-clause-stays
-returns-in_err-put_next-clause-stays g c = ap₂ shown_of c.find-next.ensures.subject c.find-next.ensures.stays
-
-pub returns-clause-together : goal.returns-clause-together
-returns-clause-together g c = grind arith
-
-pub returns-clause-stays : goal.returns-clause-stays
-returns-clause-stays g c = ap₂ shown_of c.find-next.ensures.subject c.find-next.ensures.stays

@@ -1,13 +1,7 @@
 use Rattle.std.proofs.Common.{◌∙◌, arith}
 use Rattle.session_core.specs.inner.Holding.{shown_of}
-use Rattle.session_core.proofs.SessionMoves.{lists_none, lists_more, lists_end, lists_broken, lists_all, carries_broken}
+use Rattle.session_core.proofs.SessionMoves.{lists_more, lists_end, lists_broken, carries_broken}
 use Rattle.session_core.proofs.listing.move_so_far.Goals as goal
-
-pub loop-init : goal.loop-init
-loop-init g c = grind (arith, lists_none)
-
-pub move_on-requires-clause-listed : goal.move_on-requires-clause-listed
-move_on-requires-clause-listed g c = grind arith
 
 pub returns-in_err-move_on-clause-moves : goal.returns-in_err-move_on-clause-moves
 returns-in_err-move_on-clause-moves g c = λ entry here.
@@ -17,18 +11,12 @@ returns-in_err-move_on-clause-moves g c = λ entry here.
     (shown_of c.loop.desk.subject c.loop.opened) (shown_of c.move_on.new.desk.subject c.move_on.new.opened) c.loop.counter c.loop-test.true _ _ _ lists _
     (c.in_err-move_on.ensures.moves (record entry { point = lists.point }) lists.stands))
 
-pub returns-in_err-move_on-clause-stays : goal.returns-in_err-move_on-clause-stays
-returns-in_err-move_on-clause-stays g c = grind arith
-
 pub returns-then-not-branch-clause-moves : goal.returns-then-not-branch-clause-moves
 returns-then-not-branch-clause-moves g c = λ entry here.
     let lists = c.loop.invariant.lists entry here in
     lists_end (shown_of c.args.desk.now.subject c.args.opened.now) c.args.listed c.args.session.place c.args.session.name.now entry c.args.count
     (shown_of c.loop.desk.subject c.loop.opened) (shown_of c.move_on.new.desk.subject c.move_on.new.opened) c.loop.counter c.loop-test.true _ _ _ lists c.in_ok-move_on.field-0
     (c.in_ok-move_on.ensures.moves (record entry { point = lists.point }) lists.stands) c.if-not-branch.true
-
-pub returns-then-not-branch-clause-stays : goal.returns-then-not-branch-clause-stays
-returns-then-not-branch-clause-stays g c = grind arith
 
 pub loop-preserved : goal.loop-preserved
 loop-preserved g c = record {
@@ -42,9 +30,3 @@ loop-preserved g c = record {
   still = c.in_ok-move_on.ensures.still;
   faults = c.in_ok-move_on.ensures.cause.stayed ∙ c.loop.invariant.faults;
 }
-
-pub returns-clause-moves : goal.returns-clause-moves
-returns-clause-moves g c = grind (arith, lists_all)
-
-pub returns-clause-stays : goal.returns-clause-stays
-returns-clause-stays g c = c.loop.invariant.stays

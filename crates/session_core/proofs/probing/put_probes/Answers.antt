@@ -4,7 +4,7 @@ use Rattle.session_rules.specs.Replies.{probe_lines}
 use Rattle.session_core.specs.Services.{served_system}
 use Rattle.session_core.specs.inner.Desks.{asked_case}
 use Rattle.session_core.specs.inner.Telling.{unseen_line}
-use Rattle.session_core.proofs.Told.{said_more, said_part}
+use Rattle.session_core.proofs.Told.{said_part}
 use Rattle.session_core.proofs.Questions.{lines-next}
 use Rattle.session_core.proofs.probing.put_probes.Goals as goal
 
@@ -19,6 +19,3 @@ returns-in_err-put_unseen-clause-reply g c =
     said_part _ _ _ _ (unseen_line system s known (get_or system.wires i []) i) (probe_lines system s known (i + 1) (drop (i + 1) system.wires)) _ _ c.from_residual.ensures.0
     (lines-next system s known system.wires i (omega (arith, c.loop-wire-test.true, wires)))
     c.loop-wire.invariant.said c.in_err-put_unseen.ensures.reply
-
-pub loop-wire-preserved : goal.loop-wire-preserved
-loop-wire-preserved g c = grind (arith, said_more, lines-next)

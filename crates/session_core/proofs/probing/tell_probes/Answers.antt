@@ -6,7 +6,7 @@ use Rattle.session_rules.specs.Spelling.{Replies}
 use Rattle.session_rules.proofs.Spellings.{replies_one}
 use Rattle.session_core.specs.Services.{served_system}
 use Rattle.session_core.specs.inner.Desks.{OnDesk, asked_case, agreeing, least_seen}
-use Rattle.session_core.proofs.Told.{lines_then, lines_broken}
+use Rattle.session_core.proofs.Told.{lines_then}
 use Rattle.session_core.proofs.Questions.{if_any-none}
 use Rattle.session_core.proofs.probing.tell_probes.Goals as goal
 
@@ -27,9 +27,6 @@ put_probes-requires g c = λ (wire : ℕ) (bit : Bool) (h : wire < length c.prob
     let stays = c.probe_all.ensures.stays in
     c.probe_all.ensures.probed wire bit (subst (λ (d : OnDesk). wire < length d.subject.wires) stays h)
     ∙ sym (ap (λ (d : OnDesk). least_seen d wire bit) stays)
-
-pub returns-in_err-put_probes-clause-reply : goal.returns-in_err-put_probes-clause-reply
-returns-in_err-put_probes-clause-reply g c = grind (arith, lines_broken)
 
 pub returns-clause-reply : goal.returns-clause-reply
 returns-clause-reply g c =

@@ -1,18 +1,10 @@
-use Rattle.std.proofs.Common.{◌≡◌, ◌∷◌, ℕ, List, Option, codes, decimal, sym, subst}
+use Rattle.std.proofs.Common.{ℕ, Option, sym, subst}
 use Rattle.diag_edge.specs.Edge.{Puts}
 use Rattle.text_rules.specs.Tokens.{spaced}
 use Rattle.conditioner.specs.Evidence.{bits_of}
-use Rattle.session_rules.specs.Replies.{faulty_names}
 use Rattle.session_core.specs.inner.Texts.{min_text}
 use Rattle.session_core.proofs.replies.put_min.Goals as goal
 
 pub returns-in-None-clause-text : goal.returns-in-None-clause-text
 returns-in-None-clause-text g c =
     subst (λ (fewest : Option ℕ). Puts (g.O.Sink.got c.args.out.now) (g.O.Sink.got c.put_line.new.out) c.put_line.result (spaced (min_text c.args.session.now c.args.parts.now fewest (bits_of c.args.state.now)))) (sym c.in-None.is) c.put_line.ensures.bytes
-
-pub returns-in-Some-clause-text : goal.returns-in-Some-clause-text
-returns-in-Some-clause-text g c =
-    let digits : c.as_bytes.result.now ≡ decimal c.in-Some.fewest = cc in
-    let told = c.put_faulty.ensures.text in
-    subst (λ (fewest : Option ℕ). Puts (g.O.Sink.got c.args.out.now) (g.O.Sink.got c.put_faulty.new.out) c.put_faulty.result (spaced (min_text c.args.session.now c.args.parts.now fewest (bits_of c.args.state.now)))) (sym c.in-Some.is)
-    (subst (λ (text : List ℕ). Puts (g.O.Sink.got c.args.out.now) (g.O.Sink.got c.put_faulty.new.out) c.put_faulty.result (spaced (c.args.session.now ∷ codes "min" ∷ text ∷ faulty_names c.args.parts.now (bits_of c.args.state.now)))) digits told)

@@ -13,7 +13,6 @@ use Rattle.session_rules.specs.Spelling.{Replies}
 use Rattle.session_rules.proofs.Spellings.{replies_one}
 use Rattle.session_core.specs.Services.{served_system}
 use Rattle.session_core.specs.inner.Desks.{OnDesk, asked_case, agreeing, least_seen}
-use Rattle.session_core.proofs.ShownService.{place-within}
 use Rattle.session_core.proofs.Questions.{if_any-none, if_any-some}
 use Rattle.session_core.proofs.telling.tell_probe.Goals as goal
 
@@ -23,13 +22,6 @@ told_at : {T E : Type 0} (desk : OnDesk) (s name : Name) (place : Option ℕ) (b
     (option_map_or (λ wire. if_any s (agreeing desk) (probe_line system s (asked_case desk) name wire ∷ [])) place ((s ∷ error_words (refusal_row NoWire)) ∷ []))))
     → Replies before after result (map line (told (served_system desk.subject) s (asked_case desk) (Probe name)))
 told_at desk s name place before after result same reply = grind arith
-
-pub returns-in_default-clause-reply : goal.returns-in_default-clause-reply
-returns-in_default-clause-reply g c =
-    let s = c.args.session.now in
-    let name = c.args.name.now in
-    told_at c.args.desk.now s name _ _ _ _ (c.in_default.ensures.place ∙ ap (λ (u : Subject). place_of name u.wires) c.basis.ensures)
-    (replies_one _ _ _ (line (s ∷ error_words (refusal_row NoWire))) _ refl c.put_refusal.ensures.text)
 
 pub returns-then-not-is_consistent-clause-reply : goal.returns-then-not-is_consistent-clause-reply
 returns-then-not-is_consistent-clause-reply g c =
@@ -41,9 +33,6 @@ returns-then-not-is_consistent-clause-reply g c =
     (subst (λ (lines : List (List (List ℕ))). Replies (g.O.Sink.got c.args.out.now) (g.O.Sink.got c.put_line.new.out) c.put_line.result (map line lines))
     (sym (if_any-none system.costs s (agreeing old) (probe_line system s (asked_case old) name c.in-Some.wire ∷ []) c.if-not-is_consistent.ensures.some))
     (replies_one _ _ _ (line (inconsistent s)) _ refl c.put_line.ensures.bytes))
-
-pub probe-zero-requires : goal.probe-zero-requires
-probe-zero-requires g c = grind (arith, place-within)
 
 pub returns-clause-reply : goal.returns-clause-reply
 returns-clause-reply g c =

@@ -1,7 +1,7 @@
-use Rattle.std.proofs.Common.{◌∙◌, ◌<◌, ℕ, List, Bool, All, get_or, length, ap, sym, subst}
+use Rattle.std.proofs.Common.{◌∙◌, List, Bool, get_or, ap, sym}
 use Rattle.conditioner.specs.Evidence.{bits_of}
 use Rattle.session_core.specs.inner.Desks.{OnDesk, least_asked, diagnoses_asked}
-use Rattle.session_core.proofs.Desks.{least-asked, diagnoses-asked, fits_after, stays_after}
+use Rattle.session_core.proofs.Desks.{least-asked, diagnoses-asked}
 use Rattle.session_core.proofs.ShownService.{written_back}
 use Rattle.session_core.proofs.NextStates.{is_first}
 use Rattle.session_core.proofs.desk.Desk.first.Goals as goal
@@ -19,18 +19,3 @@ returns-clause-first g c =
     ∙ ap (λ (d : OnDesk). diagnoses_asked d) c.self.view_is in
     let back = written_back c.fill.new.self.len c.first.new.state c.fill.new.self.items (sym (c.first.auto.state ∙ c.deref_mut-3.ensures.len)) in
     is_first _ old _ (ap bits_of back ∙ (c.first.ensures.first ∙ ap (λ (xs : List (List Bool)). get_or xs 0 old) ds))
-
-pub invariant_of-self : goal.invariant_of-self
-invariant_of-self g c =
-    let known = written_back c.self.inside.memory.known.len c.first.new.evidence c.self.inside.memory.known.items (sym (c.first.auto.evidence ∙ c.deref_mut.ensures.len)) in
-    let values = written_back c.self.inside.memory.values.len c.first.new.values c.self.inside.memory.values.items (sym (c.first.auto.values ∙ c.deref_mut-2.ensures.len)) in
-    let state = written_back c.fill.new.self.len c.first.new.state c.fill.new.self.items (sym (c.first.auto.state ∙ c.deref_mut-3.ensures.len)) in
-    fits_after _ _ _ _ c.self.invariant _ _ _ _ _ _ _ (known ∙ (c.first.ensures.evidence ∙ c.deref_mut.ensures.value))
-    (ap length state ∙ (c.first.auto.state ∙ (c.deref_mut-3.ensures.len ∙ (c.fill.ensures.len ∙ (c.self.inside.memory.state.ok.0 ∙ c.self.invariant.one_a_part)))))
-    (subst (λ (xs : List ℕ). All (λ s. s < 2) xs) (sym state) c.first.ensures.state) c.self.invariant.verdict_a_part
-    (ap length values ∙ (c.first.auto.values ∙ ap length c.deref_mut-2.ensures.value)) c.graph.ensures.graph c.costs.ensures c.first.ensures.serves
-
-pub returns-clause-stays : goal.returns-clause-stays
-returns-clause-stays g c =
-    let known = written_back c.self.inside.memory.known.len c.first.new.evidence c.self.inside.memory.known.items (sym (c.first.auto.evidence ∙ c.deref_mut.ensures.len)) in
-    stays_after _ _ _ _ c.self.view_is (known ∙ (c.first.ensures.evidence ∙ c.deref_mut.ensures.value))

@@ -1,4 +1,4 @@
-use Rattle.std.proofs.Common.{◌∙◌, ◌<◌, ℕ, List, Some, All, get_or, length, ap, sym, subst}
+use Rattle.std.proofs.Common.{◌∙◌, Some, get_or, ap, sym}
 use Rattle.state_rules.specs.Ranking.{rest}
 use Rattle.conditioner.specs.Evidence.{bits_of}
 use Rattle.diagnosis_lister.specs.Listing.{step_of}
@@ -6,7 +6,7 @@ use Rattle.session_core.specs.Services.{served_system}
 use Rattle.session_core.specs.declared.listed.Listed.TheVariants.{Diagnoses}
 use Rattle.session_core.specs.inner.Bases.{case_in}
 use Rattle.session_core.specs.inner.Desks.{OnDesk, asked_case, diagnoses_asked, next_after, of_step}
-use Rattle.session_core.proofs.Desks.{states-asked, diagnoses-asked, fits_after, stays_after}
+use Rattle.session_core.proofs.Desks.{states-asked, diagnoses-asked}
 use Rattle.session_core.proofs.ShownService.{written_back}
 use Rattle.session_core.proofs.NextStates.{is_first, diagnosis_next}
 use Rattle.session_core.proofs.desk.Desk.go_on.Goals as goal
@@ -33,18 +33,3 @@ returns-clause-state g c =
     ∙ (c.next.ensures.next
     ∙ ((λ i. get_or (rest (list i) (Some (bits_of (at i)))) 0 (bits_of (at i)))
     ∙ ap (λ (d : OnDesk). get_or (rest (diagnoses_asked d) (Some old)) 0 old) c.self.view_is)))
-
-pub invariant_of-self : goal.invariant_of-self
-invariant_of-self g c =
-    let known = written_back c.self.inside.memory.known.len c.next.new.evidence c.self.inside.memory.known.items (sym (c.next.auto.evidence ∙ c.deref_mut.ensures.len)) in
-    let values = written_back c.self.inside.memory.values.len c.next.new.values c.self.inside.memory.values.items (sym (c.next.auto.values ∙ c.deref_mut-2.ensures.len)) in
-    let state = written_back c.copy_from_slice.new.self.len c.next.new.state c.copy_from_slice.new.self.items (sym (c.next.auto.state ∙ c.deref_mut-3.ensures.len)) in
-    fits_after _ _ _ _ c.self.invariant _ _ _ _ _ _ _ (known ∙ (c.next.ensures.evidence ∙ c.deref_mut.ensures.value))
-    (ap length state ∙ (c.next.auto.state ∙ (c.deref_mut-3.ensures.len ∙ (c.copy_from_slice.ensures.len ∙ (c.self.inside.memory.state.ok.0 ∙ c.self.invariant.one_a_part)))))
-    (subst (λ (xs : List ℕ). All (λ s. s < 2) xs) (sym state) c.next.ensures.state) c.self.invariant.verdict_a_part
-    (ap length values ∙ (c.next.auto.values ∙ ap length c.deref_mut-2.ensures.value)) c.graph.ensures.graph c.costs.ensures c.next.ensures.serves
-
-pub returns-clause-stays : goal.returns-clause-stays
-returns-clause-stays g c =
-    let known = written_back c.self.inside.memory.known.len c.next.new.evidence c.self.inside.memory.known.items (sym (c.next.auto.evidence ∙ c.deref_mut.ensures.len)) in
-    stays_after _ _ _ _ c.self.view_is (known ∙ (c.next.ensures.evidence ∙ c.deref_mut.ensures.value))

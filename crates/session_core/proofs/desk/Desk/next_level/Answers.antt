@@ -1,18 +1,17 @@
-use Rattle.std.proofs.Common.{arith, ◌≡◌, ◌∙◌, ◌+◌, ◌*◌, ◌<◌, ◌≤◌, ℕ, List, Bor, Option, Some, All, get_or, length, sym, ap, subst}
+use Rattle.std.proofs.Common.{◌≡◌, ◌∙◌, ◌<◌, ℕ, List, Bor, Option, Some, All, get_or, length, sym, ap, subst}
 use Rattle.std.specs.Prelude.{IfSome}
 use Rattle.std.specs.Option.{option_map}
-use Rattle.state_rules.specs.Graphs.{Graph}
 use Rattle.state_rules.specs.Levels.{levels, levels_rest}
 use Rattle.conditioner.specs.Evidence.{bits_of}
-use Rattle.level_lister.specs.Listing.{Kept, IsFor, level_step, point_if, cost_words, step_words}
+use Rattle.level_lister.specs.Listing.{Kept, IsFor, point_if}
 use Rattle.session_rules.specs.GraphSystems.{Subject}
 use Rattle.session_core.specs.declared.listed.Listed.TheVariants.{Levels}
 use Rattle.session_core.specs.inner.Bases.{AreEnough, AreKnown}
-use Rattle.session_core.specs.inner.Desks.{OnDesk, asked_case, top_of, later_states, next_after, of_level_step}
-use Rattle.session_core.proofs.Desks.{states-asked, stays_after}
+use Rattle.session_core.specs.inner.Desks.{OnDesk, asked_case, top_of, later_states}
+use Rattle.session_core.proofs.Desks.{states-asked}
 use Rattle.session_core.proofs.ShownService.{written_back}
-use Rattle.session_core.proofs.Rooms.{carved_so, run_long, is_held, released_runs, released_words}
-use Rattle.session_core.proofs.NextStates.{is_first, level_next}
+use Rattle.session_core.proofs.Rooms.{carved_so, is_held, released_runs, released_words}
+use Rattle.session_core.proofs.NextStates.{is_first}
 use Rattle.session_core.proofs.desk.Desk.next_level.Goals as goal
 
 -- what is known of what lists the states
@@ -42,21 +41,6 @@ invariant_of-self g c =
       serves = c.self.invariant.serves;
     }
 
-pub returns-clause-next : goal.returns-clause-next
-returns-clause-next g c =
-    let basis = c.self.inside.basis in
-    let so = kept_so basis c.levels.result c.unwrap-levels.result c.unwrap-levels.ensures c.levels.ensures.some in
-    let point = option_map (λ (old : Bor (List ℕ)). bits_of old.now) c.args.point in
-    let states = states-asked basis c.self.inside.memory.known.items c.levels.ensures.basis c.self.invariant.known _ _ _ c.graph.ensures.graph c.deref_mut-2.ensures.value so.2 in
-    let start = written_back c.self.inside.memory.state.len c.start_at-pointed.new.state c.self.inside.memory.state.items (sym (c.start_at-pointed.auto.state ∙ c.deref_mut.ensures.len)) in
-    let from = ap (λ (xs : List ℕ). point_if c.start_at-pointed.result (bits_of xs)) (c.deref_mut-3.ensures.value ∙ start) ∙ c.start_at-pointed.ensures.point in
-    let top = ap top_of (sym so.0) in
-    c.of_level_step.ensures
-    ∙ (ap of_level_step (c.next_in-step.ensures.step
-    ∙ (λ i. level_step (so.2 i) (states i) (levels_rest (so.2 i) (levels (so.2 i) (top i) (states i)) (from i))))
-    ∙ (level_next basis _ _
-    ∙ ap (λ (d : OnDesk). next_after d.subject Levels (asked_case d) point) c.self.view_is))
-
 pub returns-clause-state : goal.returns-clause-state
 returns-clause-state g c =
     let basis = c.self.inside.basis in
@@ -77,27 +61,3 @@ pub run_mut-requires : goal.run_mut-requires
 run_mut-requires g c =
     let at = carved_so c.self.inside.memory.room c.carve.new.self c.level_room.result c.carve.result c.unwrap-run.result c.unwrap-run.ensures c.carve.ensures.run in
     is_held c.self.inside.memory.room c.carve.new.self c.unwrap-run.result c.self.invariant.unused at.1
-
-pub next_in-step-requires : goal.next_in-step-requires
-next_in-step-requires g c =
-    let basis = c.self.inside.basis in
-    let kept = c.unwrap-levels.result.now in
-    let so = kept_so basis c.levels.result c.unwrap-levels.result c.unwrap-levels.ensures c.levels.ensures.some in
-    let start = written_back c.self.inside.memory.state.len c.start_at-pointed.new.state c.self.inside.memory.state.items (sym (c.start_at-pointed.auto.state ∙ c.deref_mut.ensures.len)) in
-    let at = c.deref_mut-3.ensures.value ∙ start in
-    let room = ap length c.run_mut.ensures.value
-    ∙ (run_long c.carve.new.self c.level_room.result c.carve.result c.unwrap-run.result c.unwrap-run.ensures c.carve.ensures.zeros ∙ (c.level_room.ensures.room
-    ∙ (λ i. let nodes = length (sym c.graph.ensures.graph i).nodes in length (sym so.2 i) + nodes + (nodes + 2) * (2 * cost_words kept.top)))) in
-    record {
-      graph = subst (λ (h : Graph). IsFor h kept) (sym c.graph.ensures.graph) so.1;
-      long = ap length c.deref_mut-2.ensures.value ∙ (c.self.invariant.known.long ∙ ap (λ (h : Graph). h.vars) (sym c.graph.ensures.graph));
-      evidence = subst (λ (xs : List ℕ). All (λ w. w < 3) xs) (sym c.deref_mut-2.ensures.value) c.self.invariant.known.small;
-      state = ap length at ∙ (c.start_at-pointed.auto.state ∙ (ap length c.deref_mut.ensures.value ∙ (c.self.invariant.one_a_part ∙ (sym c.levels.ensures.basis.costs ∙ ap length (sym so.2)))));
-      state_words = subst (λ (xs : List ℕ). All (λ s. s < 2) xs) (sym at) c.start_at-pointed.ensures.bits;
-      room = subst (λ (n : ℕ). step_words c.graph.result.now kept ≤ n) (sym room) (omega arith);
-    }
-
-pub returns-clause-stays : goal.returns-clause-stays
-returns-clause-stays g c =
-    let known = written_back c.self.inside.memory.known.len c.next_in-step.new.evidence c.self.inside.memory.known.items (sym (c.next_in-step.auto.evidence ∙ c.deref_mut-2.ensures.len)) in
-    stays_after _ _ _ _ c.self.view_is (known ∙ (c.next_in-step.ensures.evidence ∙ c.deref_mut-2.ensures.value))

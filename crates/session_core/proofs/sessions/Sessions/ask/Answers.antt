@@ -1,16 +1,10 @@
-use Rattle.std.proofs.Common.{◌≡◌, None, subst, arith}
+use Rattle.std.proofs.Common.{◌≡◌, None, subst}
 use Rattle.script_lang.specs.Script.{asked}
 use Rattle.session_rules.specs.declared.refusal.Refusal.TheVariants.{NoSession}
 use Rattle.session_rules.specs.Sessions.{entry_of}
 use Rattle.session_core.specs.Services.{Shown}
 use Rattle.session_core.proofs.OneMove.{obeys_refusal, unopened}
 use Rattle.session_core.proofs.sessions.Sessions.ask.Goals as goal
-
-pub ask_open-requires : goal.ask_open-requires
-ask_open-requires g c = grind arith
-
-pub start-requires-clause-closed : goal.start-requires-clause-closed
-start-requires-clause-closed g c = subst (λ (v : Shown). entry_of c.args.name.now v.table ≡ None) c.self.view_is c.in-None.ensures.none
 
 pub returns-in_default-clause-obeys : goal.returns-in_default-clause-obeys
 returns-in_default-clause-obeys g c =

@@ -4,9 +4,6 @@ use Rattle.session_core.specs.inner.Desks.{OnDesk}
 use Rattle.session_core.proofs.ShownService.{case-there, there, open_one}
 use Rattle.session_core.proofs.sessions.Sessions.ask_case.Goals as goal
 
-pub take_up-requires : goal.take_up-requires
-take_up-requires g c = grind arith
-
 pub returns-clause-obeys : goal.returns-clause-obeys
 returns-clause-obeys g c =
     let desk = c.self.inside.desk in

@@ -7,16 +7,13 @@ use Rattle.session_rules.specs.Spelling.{Replies}
 use Rattle.session_core.specs.Services.{Shown, case_text}
 use Rattle.session_core.specs.inner.Obeying.{Obeys}
 use Rattle.session_core.specs.inner.Holding.{shown_of}
-use Rattle.session_core.proofs.ShownService.{known-there, case-there, there}
+use Rattle.session_core.proofs.ShownService.{case-there, there}
 use Rattle.session_core.proofs.OneMove.{obeys_one, asked_open}
 use Rattle.session_core.proofs.sessions.Sessions.ask_graph.Goals as goal
 
 -- what is answered of a case
 abbrev items : Subject → List ℕ → Case → List Item
 items subject session known = line (session ∷ codes "dnnf" ∷ []) ∷ Plain (case_text subject known) ∷ []
-
-pub tell_graph-requires : goal.tell_graph-requires
-tell_graph-requires g c = grind (arith, known-there)
 
 pub returns-clause-obeys : goal.returns-clause-obeys
 returns-clause-obeys g c =

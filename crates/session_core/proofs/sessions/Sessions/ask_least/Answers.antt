@@ -37,12 +37,6 @@ returns-then-not-tells_least-clause-obeys g c =
     subst (λ (v : Shown). Obeys v v s LeastNnf (g.O.Sink.got c.args.out.now) (g.O.Sink.got c.put_refusal.new.out) c.put_refusal.result) c.self.view_is
     (obeys_refusal shown s LeastNnf _ _ _ NoLeast (asked_open shown s LeastNnf here.entry here.stands.found ∙ told (served_system subject) s here.entry false off) c.put_refusal.ensures.text)
 
-pub take_up-requires : goal.take_up-requires
-take_up-requires g c = grind arith
-
-pub tell_least-requires : goal.tell_least-requires
-tell_least-requires g c = grind (arith, told)
-
 pub returns-clause-obeys : goal.returns-clause-obeys
 returns-clause-obeys g c =
     let desk = c.self.inside.desk in

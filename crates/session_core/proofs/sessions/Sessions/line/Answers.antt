@@ -1,4 +1,4 @@
-use Rattle.std.proofs.Common.{◌∙◌, ap, subst, refl, arith}
+use Rattle.std.proofs.Common.{◌∙◌, ap, subst, refl}
 use Rattle.std.proofs.lemmas.Bool.{and_parts}
 use Rattle.text_rules.specs.Names.{is_short_name}
 use Rattle.script_lang.proofs.Asked.{is_well_named, is_well_asked}
@@ -7,7 +7,7 @@ use Rattle.script_lang.specs.Script.{asked, Line}
 use Rattle.session_core.specs.Services.{exact_moves}
 use Rattle.session_rules.specs.Carrying.{CarriesOut}
 use Rattle.session_rules.proofs.Broken.{carries_one}
-use Rattle.session_rules.proofs.Spellings.{writes_none, replies_one}
+use Rattle.session_rules.proofs.Spellings.{replies_one}
 use Rattle.session_core.proofs.sessions.Sessions.line.Goals as goal
 
 pub ask-requires : goal.ask-requires
@@ -15,14 +15,8 @@ ask-requires g c =
     (and_parts (is_short_name c.in-Of.session.now) (is_well_named (asked c.in-Of.request))
     (ap is_well_asked (c.in-Of.ensures ∙ c.parse_line.ensures.means) ∙ well_asked c.args.line.now)).0
 
-pub returns-in-Nothing-clause-carried : goal.returns-in-Nothing-clause-carried
-returns-in-Nothing-clause-carried g c = grind (arith, writes_none)
-
 pub returns-in-Refused-clause-carried : goal.returns-in-Refused-clause-carried
 returns-in-Refused-clause-carried g c =
     let old = c.args.self.now in
     subst (λ (l : Line). CarriesOut old.table old.table (exact_moves old old.table l) (g.O.Sink.got c.args.out.now) (g.O.Sink.got c.put_line_refusal.new.out) c.put_line_refusal.result) (c.in-Refused.ensures ∙ c.parse_line.ensures.means)
     (carries_one _ _ _ _ _ _ (replies_one _ _ _ _ _ refl c.put_line_refusal.ensures.text) refl)
-
-pub returns-in-Of-clause-carried : goal.returns-in-Of-clause-carried
-returns-in-Of-clause-carried g c = grind arith

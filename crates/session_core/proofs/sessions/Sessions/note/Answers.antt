@@ -5,15 +5,8 @@ use Rattle.session_rules.specs.GraphSystems.{Subject}
 use Rattle.session_rules.specs.Sessions.{Becomes}
 use Rattle.session_table.specs.Tables.{with_noted}
 use Rattle.session_core.specs.inner.Bases.{names_of}
-use Rattle.session_core.proofs.OneMove.{obeys_refusal}
 use Rattle.session_core.proofs.ShownService.{there, open_word}
 use Rattle.session_core.proofs.sessions.Sessions.note.Goals as goal
-
-pub note-requires-clause-at : goal.note-requires-clause-at
-note-requires-clause-at g c = grind arith
-
-pub returns-in-None-clause-obeys : goal.returns-in-None-clause-obeys
-returns-in-None-clause-obeys g c = grind (arith, obeys_refusal)
 
 pub returns-in-Some-clause-obeys : goal.returns-in-Some-clause-obeys
 returns-in-Some-clause-obeys g c =
@@ -25,6 +18,3 @@ returns-in-Some-clause-obeys g c =
     open_word subject c.self.inside.open c.args.self.now c.self.view_is c.args.session c.requires (Note what c.args.name.now c.args.known) (Becomes (with_noted here.entry what c.in-Some.at c.args.known)) (codes "ok") _ _ _ _ _
     (grind arith)
     refl (c.note.ensures s here.entry here.stands) c.put_line.ensures.bytes
-
-pub invariant_of-self : goal.invariant_of-self
-invariant_of-self g c = grind arith

@@ -1,5 +1,4 @@
-use Rattle.std.proofs.Common.{◌≡◌, ◌∙◌, ◌∷◌, [], Bool, true, false, None, length, subst, refl, ap, sym, codes, arith}
-use Rattle.std.proofs.lemmas.Bool.Decides.{nat_tests}
+use Rattle.std.proofs.Common.{◌≡◌, ◌∙◌, ◌∷◌, [], Bool, true, false, None, length, subst, refl, ap, sym, codes}
 use Rattle.std.specs.Prelude.{nat_le, if◌then◌else◌}
 use Rattle.text_rules.specs.Names.{Name}
 use Rattle.state_rules.specs.Cases.{empty_case}
@@ -12,7 +11,7 @@ use Rattle.session_core.specs.Services.{Shown, outcome_of, served_system}
 use Rattle.session_core.specs.inner.Obeying.{Obeys}
 use Rattle.session_core.proofs.OneMove.{obeys_one, obeys_refusal}
 use Rattle.session_core.specs.inner.Holding.{shown_of}
-use Rattle.session_core.proofs.ShownService.{opened_with, holds_more}
+use Rattle.session_core.proofs.ShownService.{opened_with}
 use Rattle.session_core.proofs.sessions.Sessions.start.Goals as goal
 
 -- what opens a session comes to, if it is not open
@@ -39,12 +38,3 @@ returns-clause-obeys g c =
     subst (λ (v : Shown). Obeys v (shown_of subject c.start.new.self) s Start (g.O.Sink.got c.args.out.now) (g.O.Sink.got c.put_line.new.out) c.put_line.result) c.self.view_is
     (obeys_one shown (shown_of subject c.start.new.self) s Start _ _ _ _ (opened shown s false none c.if-is_full.ensures) (ap (shown_of subject) fresh)
     (replies_one _ _ _ (line (s ∷ codes "open" ∷ [])) _ refl c.put_line.ensures.bytes))
-
-pub start-requires-clause-room : goal.start-requires-clause-room
-start-requires-clause-room g c = grind (arith, nat_tests, c.if-is_full.ensures)
-
-pub start-requires-clause-closed : goal.start-requires-clause-closed
-start-requires-clause-closed g c = grind arith
-
-pub invariant_of-self : goal.invariant_of-self
-invariant_of-self g c = holds_more c.self.inside.desk.subject c.self.inside.open c.start.new.self _ c.self.invariant c.start.ensures

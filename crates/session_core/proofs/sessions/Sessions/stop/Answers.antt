@@ -1,4 +1,4 @@
-use Rattle.std.proofs.Common.{refl, codes, arith}
+use Rattle.std.proofs.Common.{refl, codes}
 use Rattle.script_lang.specs.Script.{Stop}
 use Rattle.session_rules.specs.Sessions.{Ends}
 use Rattle.session_core.proofs.ShownService.{there, open_word}
@@ -9,6 +9,3 @@ returns-clause-obeys g c =
     let here = there c.self.inside.desk.subject c.self.inside.open c.args.self.now c.self.view_is c.args.session c.requires in
     open_word c.self.inside.desk.subject c.self.inside.open c.args.self.now c.self.view_is c.args.session c.requires Stop Ends (codes "closed") _ _ _ _ _ refl refl
     (c.stop.ensures c.args.session.name.now here.entry here.stands) c.put_line.ensures.bytes
-
-pub invariant_of-self : goal.invariant_of-self
-invariant_of-self g c = grind arith

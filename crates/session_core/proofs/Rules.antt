@@ -1,0 +1,42 @@
+-- Lemmas by which the check finds the rest of what functions require and ensure.
+use Rattle.session_core.proofs.Desks.{diagnoses-asked, fits_after, judged_after, least-asked, seen-asked, states-asked, stays_after}
+use Rattle.session_core.proofs.FedBytes.{breaks_feed, carries_last, fed_feed}
+use Rattle.session_core.proofs.Lines.{kept-full, kept-room}
+use Rattle.session_core.proofs.NamedParts.{is_among-nowhere, marked_all}
+use Rattle.session_core.proofs.NextStates.{level_next}
+use Rattle.session_core.proofs.OneMove.{obeys_refusal}
+use Rattle.session_core.proofs.Questions.{lines-next, unseen-one}
+use Rattle.session_core.proofs.RefusedLines.{refused_stays}
+use Rattle.session_core.proofs.Rooms.{carved_so, is_held, released_runs, released_words, run_long}
+use Rattle.session_core.proofs.SessionMoves.{lists_all, lists_none}
+use Rattle.session_core.proofs.ShownService.{holds_more, known-there, place-within, written_back}
+use Rattle.session_core.proofs.Told.{lines_broken, said_more}
+use Rattle.session_rules.proofs.Spellings.{replies_one, writes_none}
+use Rattle.std.proofs.Math.Nat.{mul-le-mul_right}
+use Rattle.std.proofs.lemmas.Bool.{and_left}
+use Rattle.std.proofs.lemmas.Bool.Decides.{nat_tests}
+use Rattle.std.proofs.lemmas.Nat.{mul-le}
+
+pub ruleset pass_steps = (diagnoses-asked, fits_after, judged_after, seen-asked, stays_after, written_back)
+
+pub ruleset go_on_steps = (fits_after, stays_after, written_back)
+
+pub ruleset room_steps = (carved_so, is_held, least-asked, level_next, released_runs, released_words, run_long, seen-asked, states-asked, stays_after, written_back)
+
+pub ruleset mark_steps = (and_left, is_among-nowhere, marked_all)
+
+pub ruleset push_steps = (kept-full, kept-room)
+
+pub ruleset move_steps = (lists_all, lists_none)
+
+pub ruleset told_steps = (lines-next, lines_broken, place-within, replies_one, said_more, unseen-one, writes_none)
+
+pub ruleset service_steps = (mul-le, refused_stays)
+
+pub ruleset fed_steps = (breaks_feed, carries_last, fed_feed)
+
+pub ruleset session_steps = (holds_more, known-there, nat_tests, obeys_refusal)
+
+pub ruleset line_steps = (writes_none)
+
+pub ruleset few_steps = (mul-le-mul_right)

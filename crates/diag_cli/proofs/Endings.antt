@@ -68,19 +68,10 @@ described_plain path file = grind arith
 
 -- ---- behaviours
 
-if_within_plain : (options : ServeOptions) (clauses : Device → Result Weighed EncodeError) (found : Result Device Output) → Plain found → Plain (if_within options clauses found)
-if_within_plain options clauses found is = grind (arith, few_plain, within_plain)
-
-if_unrolled_plain : (frames : ℕ) (options : ServeOptions) (weigh : ClauseList → Weighed) (found : Result Sequential Output) → Plain found → Plain (if_unrolled frames options weigh found)
-if_unrolled_plain frames options weigh found is = grind (arith, few_plain, unrolled_plain)
-
-asked_plain : (health : ℕ) (found : Result Graph Output) → Plain found → Plain (asked health found)
-asked_plain health found is = grind arith
-
 command_plain : (choose : ClauseList → Option Forest) (path : List ℕ) (command : Command) (file : List ℕ) → IsPlainBehaviour true (behaviour_by choose path command file)
-command_plain choose path (Serve options) file = grind (arith, if_within_plain, described_plain)
-command_plain choose path (ServeFrames frames options) file = grind (arith, if_unrolled_plain)
-command_plain choose path (Ask health sessions) file = grind (arith, asked_plain)
+command_plain choose path (Serve options) file = grind (arith, few_plain, within_plain, described_plain)
+command_plain choose path (ServeFrames frames options) file = grind (arith, few_plain, unrolled_plain)
+command_plain choose path (Ask health sessions) file = grind arith
 command_plain choose path (Inspect (Plan narrow)) file = output_within_plain BUDGET_LIMIT (clauses_by narrow choose) planned (described path file) (described_plain path file) (λ device weighed. refl)
 command_plain choose path (Inspect Check) file = grind arith
 command_plain choose path (Compile budget narrow) file = output_within_plain budget (clauses_by narrow choose) graph_by (described path file) (described_plain path file) (λ device weighed. refl)
@@ -88,8 +79,7 @@ command_plain choose path (Compile budget narrow) file = output_within_plain bud
 form_plain : (choose : ClauseList → Option Forest) (form : Form) (file : List ℕ) → IsPlainBehaviour true (behaviour_of choose (Some form) file)
 form_plain choose (Load places) file =
     output_within_plain DEFAULT_BUDGET (clauses_by false (λ list. None)) (summary_by places) (or_line netlist_line (netlist (adder_text places))) (grind arith) (λ device weighed. refl)
-form_plain choose (Over path command) file =
-    grind (arith, command_plain)
+form_plain choose (Over path command) file = grind (arith, command_plain)
 
 pub plain_behaviour : (choose : ClauseList → Option Forest) (form : Option Form) (file : List ℕ) → IsPlainBehaviour (is_some form) (behaviour_of choose form file)
 plain_behaviour choose form file = grind (arith, form_plain)

@@ -54,6 +54,7 @@ pub(crate) fn compiled_within(
 }
 
 // Along a forest that was found for the clauses.
+#[tactic(auto, using(crate::proofs::GraphsBy::gives_graph))]
 fn compiled_along(alloc: Global, cnf: &Cnf, found: &Narrowed, budget: u32) -> Result<Graph, Refusal>
     requires budget { budget ≤ BUDGET_LIMIT }
     requires found { IsFound cnf.now found.now }
@@ -72,6 +73,7 @@ fn compiled_along(alloc: Global, cnf: &Cnf, found: &Narrowed, budget: u32) -> Re
 }
 
 /// The graph of clauses by the order of their names, if their sum is within a budget.
+#[tactic(auto, using(crate::proofs::GraphsBy::gives_graph))]
 pub(crate) fn compiled_by_names(alloc: Global, cnf: &Cnf, budget: u32) -> Result<Graph, Refusal>
     requires budget { budget ≤ BUDGET_LIMIT }
     ensures within { IfOk result (λ graph. sum_of cnf.now.clauses ≤ budget) }

@@ -21,6 +21,3 @@ returns-clause-behaviour c =
     let made = c.service_within.ensures in
     let options = c.args.options in
     by_same made.within (λ choose within. rw c.in_ok-device.ensures (service_for (served_device options) options.sessions _ (λ service. c.in_ok-device.device) c.service_within.result within made.service))
-
-pub returns-clause-none_open : goal.returns-clause-none_open
-returns-clause-none_open c = none_open (λ service. served_device c.args.options c.in_ok-device.device) c.args.options.sessions c.service_within.result c.service_within.ensures.service

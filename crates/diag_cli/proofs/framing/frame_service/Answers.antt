@@ -22,6 +22,3 @@ returns-clause-behaviour c =
     let made = c.service_within.ensures in
     let options = c.args.options in
     by_same made.within (λ choose within. rw c.in_ok-seq.ensures.read (service_for (served_frames c.args.frames options) options.sessions _ (λ service. c.in_ok-seq.seq) c.service_within.result within made.service))
-
-pub returns-clause-none_open : goal.returns-clause-none_open
-returns-clause-none_open c = none_open (λ service. served_frames c.args.frames c.args.options c.in_ok-seq.seq) c.args.options.sessions c.service_within.result c.service_within.ensures.service

@@ -3,9 +3,6 @@ use Rattle.diag_cli.specs.Words.{form_by_words}
 use Rattle.diag_cli.proofs.WordLemmas.{few_words, form_after, meant_within}
 use Rattle.diag_cli.proofs.words.form_of.Goals as goal
 
-pub returns-in_default-clause-form : goal.returns-in_default-clause-form
-returns-in_default-clause-form c = few_words string_bytes c.args.words.now c.in_default.len_below
-
 pub returns-clause-form : goal.returns-clause-form
 returns-clause-form c =
     let words = c.args.words.now in

@@ -1,6 +1,6 @@
 -- `HasDetails` follows from `IsRun`.
 use Rattle.std.proofs.Common.{◌≡◌, ◌≢◌, ◌⊎◌, ◌<◌, ◌≤◌, ◌+◌, ℕ, Bool, true, false, List, [], length, Option, Some, None, IfSome, inl, inr, refl, ◌∙◌, ap, subst, sym, arith, append-nil}
-use Rattle.std.specs.Prelude.{◌↔◌, is_some}
+use Rattle.std.specs.Prelude.{is_some}
 use Rattle.std.specs.Io.KnownBytes.{Consumes, IsAtEnd}
 use Rattle.text_rules.specs.TextLines.{whole_lines}
 use Rattle.diag_edge.specs.Edge.{Reading, Writing, Holding}
@@ -9,13 +9,13 @@ use Rattle.elimination_forests.specs.Forests.{Forest}
 use Rattle.session_rules.specs.Items.{Item}
 use Rattle.session_rules.specs.Spelling.{Writes}
 use Rattle.device_files.specs.declared.status.Status.{Status}
-use Rattle.device_files.specs.declared.status.Status.TheVariants.{Done, Usage, ReadFailed, WriteFailed, NoMemory, CutShort}
+use Rattle.device_files.specs.declared.status.Status.TheVariants.{Done, ReadFailed, WriteFailed, NoMemory, CutShort}
 use Rattle.device_files.specs.Output.{Output, FulfilsOutput, no_memory, says}
 use Rattle.device_files.proofs.FailedWrites.{gives_part}
 use Rattle.diag_cli.specs.declared.serving.TheConstants.{SCRIPT_LIMIT}
 use Rattle.diag_cli.specs.Words.{Form, named_file, known_file}
-use Rattle.diag_cli.specs.Behaviours.{End, Failed, Behaviour, Prints, AnswersScript, read_error, served, behaviour_of}
-use Rattle.diag_cli.specs.Fulfilled.{IsIdle, EndsAs, IsServed, WritesFirst, IsStopped, FulfilsBehaviour}
+use Rattle.diag_cli.specs.Behaviours.{Failed, Behaviour, Prints, AnswersScript, read_error, served, behaviour_of}
+use Rattle.diag_cli.specs.Fulfilled.{IsIdle, IsServed, WritesFirst, IsStopped, FulfilsBehaviour}
 use Rattle.diag_cli.specs.Runs.{IsDone, IsRun}
 use Rattle.diag_cli.specs.Details.{asks_script, wholly_served, whole_output, FulfilsOutputUnlessShort, HasDetails}
 use Rattle.diag_cli.proofs.Headline.{some_map}
@@ -34,13 +34,9 @@ module _ (input new_input : Reading) (out new_out : Writing) (status : Status) w
   idle_ending : (form : Bool) (output : Output) → is_plain form output.status ≡ true → IsIdle input new_input × FulfilsOutput output status out.got new_out.got → status ≢ WriteFailed → Ending form
   idle_ending form output plain done whole = inl (ap (is_plain form) (done.1.whole whole).0 ∙ plain, done.0.faults, omega (arith, done.0.taken))
 
-  script_ending : (answers : List (List ℕ) → List Item) (bytes : List ℕ) (end : End) → new_input.taken ≡ input.taken + length bytes → EndsAs end bytes input new_input
-      → FulfilsOutput (served answers bytes end) status out.got new_out.got → status ≢ WriteFailed → Ending true
-  script_ending answers bytes end counted ends gives whole = grind (arith, gives.whole whole)
-
   ending : (form : Bool) (behaviour : Behaviour) → IsPlainBehaviour form behaviour → FulfilsBehaviour behaviour input new_input out new_out status → status ≢ WriteFailed → Ending form
   ending form (Prints output) plain done whole = idle_ending form output plain done whole
-  ending form (AnswersScript answers) plain done whole = grind (arith, script_ending answers done.bytes)
+  ending form (AnswersScript answers) plain done whole = grind arith
 
   -- ---- what a behaviour that was followed did
 

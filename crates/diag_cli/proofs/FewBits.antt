@@ -32,14 +32,10 @@ module _ (graph : Graph) (parts sum vars : ℕ) (few : length graph.nodes ≤ mo
 pub few_pass : (bits : ℕ) (other : Result Weighed Output) → bits ≤ SERVED_BITS → if_few bits other ≡ other
 few_pass bits other few = grind (arith, nat_tests)
 
--- if they are not refused they are few
-passed : (bits : ℕ) (other : Result Weighed Output) (weighed : Weighed) → if_few bits other ≡ Ok weighed → (bits ≤ SERVED_BITS) × (other ≡ Ok weighed)
-passed bits other weighed is = grind (arith, nat_tests)
-
 -- what fits takes few bits
 few_of_all : (extras : Extras) (parts : ℕ) (weighed : Weighed) → in_few_bits extras parts (Ok weighed) ≡ Ok weighed
     → (levels_bits weighed.sum weighed.list.vars parts extras.levels ≤ SERVED_BITS) × (least_bits weighed.sum weighed.list.vars parts extras.least ≤ SERVED_BITS)
-few_of_all extras parts weighed fits = grind (arith, passed)
+few_of_all extras parts weighed fits = grind (arith, nat_tests)
 
 -- ---- what the calls answer
 

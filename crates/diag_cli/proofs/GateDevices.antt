@@ -12,13 +12,13 @@ use Rattle.state_rules.specs.Cases.{Case, agrees}
 use Rattle.state_rules.specs.Ranking.{cost}
 use Rattle.state_rules.specs.Systems.{least_cost}
 use Rattle.state_rules.proofs.Bits.{same_bit-refl}
-use Rattle.state_rules.proofs.Members.{In, bits_in, any_in, AtMost, least-below}
+use Rattle.state_rules.proofs.Members.{In, bits_in, any_in, least-below}
 use Rattle.device_model.specs.declared.gates.Rule.{Rule}
 use Rattle.device_model.specs.declared.gates.Rule.TheVariants.{Gate as OfGate, Table as OfTable}
 use Rattle.device_model.specs.declared.component.Component.{Component}
 use Rattle.device_model.specs.TruthTable.{TruthTable}
-use Rattle.device_model.specs.Gates.{rule, takes_inputs}
-use Rattle.device_model.specs.Devices.{Device, allows, parts_fit, fits, part_names, part_costs}
+use Rattle.device_model.specs.Gates.{rule}
+use Rattle.device_model.specs.Devices.{Device, parts_fit, fits, part_names, part_costs}
 use Rattle.device_model.specs.Diagnosis.{is_consistent, device_system}
 use Rattle.device_model.specs.Building.{NamedPart, joined}
 use Rattle.device_model.proofs.SortedDevices.{component_name, list_all-sorted_distinct}

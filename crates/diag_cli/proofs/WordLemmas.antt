@@ -5,7 +5,7 @@ use Rattle.std.specs.Bool.{then_some}
 use Rattle.std.specs.Option.{option_map}
 use Rattle.std.proofs.lemmas.Bool.Decides.{nat_tests}
 use Rattle.text_rules.specs.Names.{same_name}
-use Rattle.text_rules.specs.Numbers.{number_in, plain_number_in}
+use Rattle.text_rules.specs.Numbers.{plain_number_in}
 use Rattle.adder_load.specs.declared.adders.TheConstants.{PLACE_LIMIT}
 use Rattle.device_model.specs.declared.limits.TheConstants.{PART_LIMIT}
 use Rattle.branch_states.specs.declared.measuring.TheConstants.{BUDGET_LIMIT}

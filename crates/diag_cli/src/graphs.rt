@@ -20,6 +20,7 @@ use std::alloc::Global;
 use tree_finder::Narrowed;
 
 /// The graph of a device, if the sum of its clauses is within a budget.
+#[tactic(auto, using(device_files::proofs::ForestChoices::has_sum))]
 pub(crate) fn graph_within(
     alloc: Global,
     device: &Device,

@@ -5,7 +5,7 @@ use Rattle.device_files.specs.Refusals.{refusal_output}
 use Rattle.device_files.proofs.ForestChoices.{by_any, by_same}
 use Rattle.device_files.proofs.KeptRefusals.{refused_then}
 use Rattle.diag_cli.specs.Behaviours.{if_within, served_device}
-use Rattle.diag_cli.proofs.Services.{refused_for, service_for, none_open}
+use Rattle.diag_cli.proofs.Services.{refused_for, service_for}
 use Rattle.diag_cli.proofs.devices.device_service.Goals as goal
 
 pub returns-in_err-device-clause-behaviour : goal.returns-in_err-device-clause-behaviour

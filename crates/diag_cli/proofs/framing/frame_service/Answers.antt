@@ -5,7 +5,7 @@ use Rattle.device_files.proofs.ForestChoices.{by_any, by_same}
 use Rattle.device_files.proofs.KeptRefusals.{refused_then}
 use Rattle.diag_cli.specs.Behaviours.{served_frames}
 use Rattle.diag_cli.specs.Frames.{sequential_in, if_unrolled}
-use Rattle.diag_cli.proofs.Services.{refused_for, service_for, none_open}
+use Rattle.diag_cli.proofs.Services.{refused_for, service_for}
 use Rattle.diag_cli.proofs.framing.frame_service.Goals as goal
 
 pub returns-in_err-seq-clause-behaviour : goal.returns-in_err-seq-clause-behaviour

@@ -1,6 +1,6 @@
 use Rattle.std.proofs.Common.{◌-◌, length, take, drop, sym, ◌∙◌, map, string_bytes}
 use Rattle.diag_cli.specs.Words.{form_by_words}
-use Rattle.diag_cli.proofs.WordLemmas.{few_words, form_after, meant_within}
+use Rattle.diag_cli.proofs.WordLemmas.{form_after, meant_within}
 use Rattle.diag_cli.proofs.words.form_of.Goals as goal
 
 pub returns-clause-form : goal.returns-clause-form

@@ -72,50 +72,42 @@ module _ (shown : Shown) (sound : IsSound shown) where
   no_cases : (table : Table) → table ≡ [] → HasCasesOf system table
   no_cases table none = subst (HasCasesOf system) (sym none) (HasCases-empty system)
 
-  -- and then the replies to lines
-  pub ready_then : (old new : Table) (lines : List (List ℕ)) (parts wires : ℕ) (a b c : Option (List ℕ)) → old ≡ [] → parts ≡ length shown.subject.parts → wires ≡ length shown.subject.wires
-      → Appends a b (spaced (codes "ready" ∷ decimal parts ∷ decimal wires ∷ []))
-      → Makes old new (script_moves (moves_of shown) old lines) b c → Writes a c (answers_of (system_of shown.subject) shown.limit lines)
-  ready_then old new lines parts wires a b c none p w ready made = grind (arith, makes_over shown sound.valid sound.room sound.few sound.least old new lines b c (no_cases old none) made, writes_more a b c (ready_line system ∷ []) (replies system shown.limit [] lines) (ready_put system parts wires a b p w ready), said-replies system shown.limit old lines)
+  -- The line `ready` was written, and no session is open.
+  module _ (old : Table) (parts wires : ℕ) (a b : Option (List ℕ)) (none : old ≡ []) (p : parts ≡ length shown.subject.parts) (w : wires ≡ length shown.subject.wires)
+      (ready : Appends a b (spaced (codes "ready" ∷ decimal parts ∷ decimal wires ∷ []))) where
+    -- and then the replies to lines
+    pub ready_then : (new : Table) (lines : List (List ℕ)) (c : Option (List ℕ)) → Makes old new (script_moves (moves_of shown) old lines) b c → Writes a c (answers_of (system_of shown.subject) shown.limit lines)
+    ready_then new lines c made = grind (arith, makes_over shown sound.valid sound.room sound.few sound.least old new lines b c (no_cases old none) made, writes_more a b c (ready_line system ∷ []) (replies system shown.limit [] lines) (ready_put system parts wires a b p w ready), said-replies system shown.limit old lines)
 
-  -- if more lines were answered after some, these were answered first
-  pub answered_first : (old new : Table) (lines more : List (List ℕ)) (parts wires : ℕ) (a b c : Option (List ℕ)) → old ≡ [] → parts ≡ length shown.subject.parts → wires ≡ length shown.subject.wires
-      → Appends a b (spaced (codes "ready" ∷ decimal parts ∷ decimal wires ∷ []))
-      → Makes old new (script_moves (moves_of shown) old (lines ++ more)) b c → WritesFirst a c (answers_of (system_of shown.subject) shown.limit lines)
-  answered_first old new lines more parts wires a b c none p w ready made =
-      let first = first_of_all (moves_of shown) old new lines more b c made in
-      grind (arith, ready_then old (left_by old (script_moves (moves_of shown) old lines)) lines parts wires a b first.0 none p w ready first.1)
+    -- if more lines were answered after some, these were answered first
+    pub answered_first : (new : Table) (lines more : List (List ℕ)) (c : Option (List ℕ)) → Makes old new (script_moves (moves_of shown) old (lines ++ more)) b c → WritesFirst a c (answers_of (system_of shown.subject) shown.limit lines)
+    answered_first new lines more c made =
+        let first = first_of_all (moves_of shown) old new lines more b c made in
+        grind (arith, ready_then (left_by old (script_moves (moves_of shown) old lines)) lines first.0 first.1)
 
-  -- ---- a write failed
+    -- ---- a write failed
 
-  -- with the line `ready`: that begins the answers to any lines
+    -- with the replies to lines: what was written begins the answers to them and to any more
+    pub lines_begun : (new : Table) (lines : List (List ℕ)) (c : Option (List ℕ)) → BreaksOff new (script_moves (moves_of shown) old lines) b c
+        → (more : List (List ℕ)) → WritesPart a c (answers_of (system_of shown.subject) shown.limit (lines ++ more))
+    lines_begun new lines c broke more =
+        let over = breaks_over shown sound.valid sound.room sound.few sound.least old new lines b c (no_cases old none) broke in
+        part_after a b c (ready_line system ∷ []) (replies system shown.limit [] (lines ++ more)) (ready_put system parts wires a b p w ready)
+        (broken_begins_more shown.subject sound.valid sound.room sound.few sound.least shown.limit [] new lines more b c (HasCases-empty system)
+        (subst (λ (t : Table). BreaksOff new (script_moves (line_moves system shown.limit) t lines) b c) none over))
+
+    -- of bytes that are a front and a piece the front was answered, and a write failed in the lines after it
+    stopped_in : (new : Table) (bytes fed piece : List ℕ) (lines : List (List ℕ)) (c : Option (List ℕ)) → bytes ≡ fed ++ piece → length piece ≤ READ_LIMIT
+        → FailsBehind (moves_of shown) old new (whole_lines fed) lines b c → IsStopped (answers_of (system_of shown.subject) shown.limit) bytes a c
+    stopped_in new bytes fed piece lines c all few failed = grind (arith, broken_grows new (script_moves (moves_of shown) failed.table lines) failed.middle c failed.broke, ready_then failed.table (whole_lines fed) failed.middle failed.made)
+
+    pub stopped_at_once : (new : Table) (bytes : List ℕ) (c : Option (List ℕ)) → FailsAtOnce (moves_of shown) old new bytes b c → IsStopped (answers_of (system_of shown.subject) shown.limit) bytes a c
+    stopped_at_once new bytes c at = stopped_in new bytes at.fed at.piece at.lines c at.parts at.one_read at.failed
+
+    pub stopped_at_end : (new : Table) (bytes : List ℕ) (lines : List (List ℕ)) (c : Option (List ℕ)) → FailsBehind (moves_of shown) old new (whole_lines bytes) lines b c → IsStopped (answers_of (system_of shown.subject) shown.limit) bytes a c
+    stopped_at_end new bytes lines c failed = stopped_in new bytes bytes [] lines c (sym (append-nil bytes)) (omega arith) failed
+
+  -- a write failed with the line `ready`: that begins the answers to any lines
   pub ready_begun : (parts wires : ℕ) (a b : Option (List ℕ)) → parts ≡ length shown.subject.parts → wires ≡ length shown.subject.wires
       → AppendsPrefix a b (spaced (codes "ready" ∷ decimal parts ∷ decimal wires ∷ [])) → (lines : List (List ℕ)) → WritesPart a b (answers_of (system_of shown.subject) shown.limit lines)
   ready_begun parts wires a b p w (part, rest, all, grown) lines = grind (arith, part_more a b (ready_line system ∷ []) (replies system shown.limit [] lines), spells_one (ready_line system) (part ++ rest), replies-have shown.subject sound.valid sound.room sound.few sound.least shown.limit)
-
-  -- with the replies to lines: what was written begins the answers to them and to any more
-  pub lines_begun : (old new : Table) (lines : List (List ℕ)) (parts wires : ℕ) (a b c : Option (List ℕ)) → old ≡ [] → parts ≡ length shown.subject.parts → wires ≡ length shown.subject.wires
-      → Appends a b (spaced (codes "ready" ∷ decimal parts ∷ decimal wires ∷ []))
-      → BreaksOff new (script_moves (moves_of shown) old lines) b c → (more : List (List ℕ)) → WritesPart a c (answers_of (system_of shown.subject) shown.limit (lines ++ more))
-  lines_begun old new lines parts wires a b c none p w ready broke more =
-      let over = breaks_over shown sound.valid sound.room sound.few sound.least old new lines b c (no_cases old none) broke in
-      part_after a b c (ready_line system ∷ []) (replies system shown.limit [] (lines ++ more)) (ready_put system parts wires a b p w ready)
-      (broken_begins_more shown.subject sound.valid sound.room sound.few sound.least shown.limit [] new lines more b c (HasCases-empty system)
-      (subst (λ (t : Table). BreaksOff new (script_moves (line_moves system shown.limit) t lines) b c) none over))
-
-  -- of bytes that are a front and a piece the front was answered, and a write failed in the lines after it
-  stopped_in : (old new : Table) (bytes fed piece : List ℕ) (lines : List (List ℕ)) (parts wires : ℕ) (a b c : Option (List ℕ)) → old ≡ [] → parts ≡ length shown.subject.parts → wires ≡ length shown.subject.wires
-      → Appends a b (spaced (codes "ready" ∷ decimal parts ∷ decimal wires ∷ []))
-      → bytes ≡ fed ++ piece → length piece ≤ READ_LIMIT → FailsBehind (moves_of shown) old new (whole_lines fed) lines b c → IsStopped (answers_of (system_of shown.subject) shown.limit) bytes a c
-  stopped_in old new bytes fed piece lines parts wires a b c none p w ready all few failed = grind (arith, broken_grows new (script_moves (moves_of shown) failed.table lines) failed.middle c failed.broke, ready_then old failed.table (whole_lines fed) parts wires a b failed.middle none p w ready failed.made)
-
-  pub stopped_at_once : (old new : Table) (bytes : List ℕ) (parts wires : ℕ) (a b c : Option (List ℕ)) → old ≡ [] → parts ≡ length shown.subject.parts → wires ≡ length shown.subject.wires
-      → Appends a b (spaced (codes "ready" ∷ decimal parts ∷ decimal wires ∷ []))
-      → FailsAtOnce (moves_of shown) old new bytes b c → IsStopped (answers_of (system_of shown.subject) shown.limit) bytes a c
-  stopped_at_once old new bytes parts wires a b c none p w ready at = grind (arith, stopped_in old new bytes at.fed at.piece at.lines parts wires a b c none p w ready at.parts at.one_read at.failed)
-
-  pub stopped_at_end : (old new : Table) (bytes : List ℕ) (lines : List (List ℕ)) (parts wires : ℕ) (a b c : Option (List ℕ)) → old ≡ [] → parts ≡ length shown.subject.parts → wires ≡ length shown.subject.wires
-      → Appends a b (spaced (codes "ready" ∷ decimal parts ∷ decimal wires ∷ []))
-      → FailsBehind (moves_of shown) old new (whole_lines bytes) lines b c → IsStopped (answers_of (system_of shown.subject) shown.limit) bytes a c
-  stopped_at_end old new bytes lines parts wires a b c none p w ready failed =
-      stopped_in old new bytes bytes [] lines parts wires a b c none p w ready (sym (append-nil bytes)) (omega arith) failed

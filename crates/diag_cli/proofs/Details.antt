@@ -1,6 +1,6 @@
 -- `HasDetails` follows from `IsRun`.
 use Rattle.std.proofs.Common.{◌≡◌, ◌≢◌, ◌⊎◌, ◌<◌, ◌≤◌, ◌+◌, ℕ, Bool, true, false, List, [], length, Option, Some, None, IfSome, inl, inr, refl, ◌∙◌, ap, subst, sym, arith, append-nil}
-use Rattle.std.specs.Prelude.{◌↔◌, is_some}
+use Rattle.std.specs.Prelude.{is_some}
 use Rattle.std.specs.Io.KnownBytes.{Consumes, IsAtEnd}
 use Rattle.text_rules.specs.TextLines.{whole_lines}
 use Rattle.diag_edge.specs.Edge.{Reading, Writing, Holding}
@@ -9,13 +9,13 @@ use Rattle.elimination_forests.specs.Forests.{Forest}
 use Rattle.session_rules.specs.Items.{Item}
 use Rattle.session_rules.specs.Spelling.{Writes}
 use Rattle.device_files.specs.declared.status.Status.{Status}
-use Rattle.device_files.specs.declared.status.Status.TheVariants.{Done, Usage, ReadFailed, WriteFailed, NoMemory, CutShort}
+use Rattle.device_files.specs.declared.status.Status.TheVariants.{Done, ReadFailed, WriteFailed, NoMemory, CutShort}
 use Rattle.device_files.specs.Output.{Output, FulfilsOutput, no_memory, says}
 use Rattle.device_files.proofs.FailedWrites.{gives_part}
 use Rattle.diag_cli.specs.declared.serving.TheConstants.{SCRIPT_LIMIT}
 use Rattle.diag_cli.specs.Words.{Form, named_file, known_file}
-use Rattle.diag_cli.specs.Behaviours.{End, Failed, Behaviour, Prints, AnswersScript, read_error, served, behaviour_of}
-use Rattle.diag_cli.specs.Fulfilled.{IsIdle, EndsAs, IsServed, WritesFirst, IsStopped, FulfilsBehaviour}
+use Rattle.diag_cli.specs.Behaviours.{Failed, Behaviour, Prints, AnswersScript, read_error, served, behaviour_of}
+use Rattle.diag_cli.specs.Fulfilled.{IsIdle, IsServed, WritesFirst, IsStopped, FulfilsBehaviour}
 use Rattle.diag_cli.specs.Runs.{IsDone, IsRun}
 use Rattle.diag_cli.specs.Details.{asks_script, wholly_served, whole_output, FulfilsOutputUnlessShort, HasDetails}
 use Rattle.diag_cli.proofs.Headline.{some_map}
@@ -34,21 +34,14 @@ module _ (input new_input : Reading) (out new_out : Writing) (status : Status) w
   idle_ending : (form : Bool) (output : Output) → is_plain form output.status ≡ true → IsIdle input new_input × FulfilsOutput output status out.got new_out.got → status ≢ WriteFailed → Ending form
   idle_ending form output plain done whole = inl (ap (is_plain form) (done.1.whole whole).0 ∙ plain, done.0.faults, omega (arith, done.0.taken))
 
-  script_ending : (answers : List (List ℕ) → List Item) (bytes : List ℕ) (end : End) → new_input.taken ≡ input.taken + length bytes → EndsAs end bytes input new_input
-      → FulfilsOutput (served answers bytes end) status out.got new_out.got → status ≢ WriteFailed → Ending true
-  script_ending answers bytes end counted ends gives whole = grind (arith, gives.whole whole)
-
   ending : (form : Bool) (behaviour : Behaviour) → IsPlainBehaviour form behaviour → FulfilsBehaviour behaviour input new_input out new_out status → status ≢ WriteFailed → Ending form
   ending form (Prints output) plain done whole = idle_ending form output plain done whole
-  ending form (AnswersScript answers) plain done whole = grind (arith, script_ending answers done.bytes)
+  ending form (AnswersScript answers) plain done whole = grind arith
 
   -- ---- what a behaviour that was followed did
 
   told_idle : (behaviour : Behaviour) (output : Output) → behaviour ≡ Prints output → FulfilsBehaviour behaviour input new_input out new_out status → IsIdle input new_input
   told_idle behaviour output is done = let both : IsIdle input new_input × FulfilsOutput output status out.got new_out.got = subst (λ c. FulfilsBehaviour c input new_input out new_out status) is done in both.0
-
-  serves : (behaviour : Behaviour) (answers : List (List ℕ) → List Item) → behaviour ≡ AnswersScript answers → FulfilsBehaviour behaviour input new_input out new_out status → IsServed answers input new_input out new_out status
-  serves behaviour answers is done = subst (λ c. FulfilsBehaviour c input new_input out new_out status) is done
 
   -- from the bytes that were taken to the whole script
   whole_answer : (answers : List (List ℕ) → List Item) (script : List ℕ) → input.left ≡ Some script → IsServed answers input new_input out new_out status
@@ -74,9 +67,6 @@ module _ (input new_input : Reading) (out new_out : Writing) (status : Status) w
       (bytes : List ℕ) × (new_input.taken ≡ input.taken + length bytes) × Consumes input.left new_input.left bytes
       × WritesFirst out.got new_out.got (answers (whole_lines bytes)) × FulfilsOutput (served answers bytes Failed) status out.got new_out.got
 
-  fault_of : (answers : List (List ℕ) → List Item) → input.faults < new_input.faults → IsServed answers input new_input out new_out status → FaultAnswered answers
-  fault_of answers rises done = grind arith
-
   -- a write failed, after bytes were taken
   abbrev Stopped : (List (List ℕ) → List Item) → Type 0
   Stopped answers = (bytes : List ℕ) × (new_input.taken ≡ input.taken + length bytes) × Consumes input.left new_input.left bytes × IsStopped answers bytes out.got new_out.got
@@ -92,30 +82,18 @@ module _ (input new_input : Reading) (out new_out : Writing) (status : Status) w
     ],
   )
 
-  -- the script was read to its end
-  end_met : (answers : List (List ℕ) → List Item) → status ≡ Done → IsServed answers input new_input out new_out status → IsAtEnd new_input.left
-  end_met answers zero done = grind arith
-
   -- no more than the limit was taken
   few_taken : (behaviour : Behaviour) → FulfilsBehaviour behaviour input new_input out new_out status → new_input.taken ≤ input.taken + SCRIPT_LIMIT
-  few_taken (Prints output) done = omega (arith, done.0.taken)
-  few_taken (AnswersScript answers) done = grind arith
+  few_taken behaviour done = grind arith
 
   -- memory ran out before the script was begun
   idle_without_memory : status ≡ NoMemory → (behaviour : Behaviour) → FulfilsBehaviour behaviour input new_input out new_out status → IsIdle input new_input
-  idle_without_memory six (Prints output) done = done.0
-  idle_without_memory six (AnswersScript answers) done = grind arith
+  idle_without_memory six behaviour done = grind arith
 
 -- ---- runs
 
 some_all : {A : Type 0} {P : A → Type 0} (o : Option A) → ((a : A) → P a) → IfSome o P
 some_all o f = grind arith
-
-usage_only : (s : Status) → is_plain false s ≡ true → s ≡ Usage
-usage_only s is = grind arith
-
-formless : (form : Option Form) → is_plain (is_some form) Usage ≡ true → form ≡ None
-formless form is = grind arith
 
 not_done : (output : Output) (status : Status) (a b : Option (List ℕ)) → output.status ≢ Done → FulfilsOutput output status a b → status ≢ Done
 not_done output status a b other said zero = grind arith
@@ -150,18 +128,6 @@ module _ (choose : ClauseList → Option Forest) (form : Option Form) (held : Li
     | inr unread ↦ inr (unread.0, (unread.1.1.whole whole).0, unread.1.0)
   ]
 
-  read_ends : RunEnding → (status ≡ ReadFailed) ↔ ((shelf.faults < new_shelf.faults) ⊎ (input.faults < new_input.faults))
-  read_ends ends = grind arith
-
-  quiet_ends : status ≢ ReadFailed → RunEnding → (new_shelf.faults ≡ shelf.faults) × (new_input.faults ≡ input.faults)
-  quiet_ends other ends = grind arith
-
-  usage_ends : RunEnding → (status ≡ Usage) ↔ (form ≡ None)
-  usage_ends ends = grind (arith, usage_only, formless, run.no_name)
-
-  cut_ends : RunEnding → (status ≡ CutShort) ↔ (new_input.taken ≡ input.taken + SCRIPT_LIMIT)
-  cut_ends ends = grind arith
-
   -- ---- the script was not begun, or all was done by a file
 
   begun : (IsIdle input new_input × (status ≢ Done)) ⊎ ByFile
@@ -175,7 +141,7 @@ module _ (choose : ClauseList → Option Forest) (form : Option Form) (held : Li
       → ((answers : List (List ℕ) → List Item) → IsServed answers input new_input out new_out status → Holds answers) → IfServed Holds
   if_served Holds idle of = elim begun [
     | inl still ↦ some_all told (λ file answers is. idle still.0 still.1 answers)
-    | inr done ↦ some_map told (λ file same answers is. of answers (serves input new_input out new_out status (behaviour_of choose form done.file) answers (ap (behaviour_of choose form) same ∙ is) done.follows)) done.is_told
+    | inr done ↦ some_map told (λ file same answers is. of answers (subst (λ c. FulfilsBehaviour c input new_input out new_out status) (ap (behaviour_of choose form) same ∙ is) done.follows)) done.is_told
   ]
 
   -- ---- what is written
@@ -202,9 +168,9 @@ module _ (choose : ClauseList → Option Forest) (form : Option Form) (held : Li
 
   pub run_has_details : HasDetails choose form held shelf new_shelf input new_input out new_out status
   run_has_details = record {
-    read_fault = λ whole. read_ends (run_ending whole);
-    no_fault = λ other whole. quiet_ends other (run_ending whole);
-    usage = λ whole. usage_ends (run_ending whole);
+    read_fault = λ whole. grind (arith, run_ending whole);
+    no_fault = λ other whole. grind (arith, run_ending whole);
+    usage = λ whole. grind (arith, run_ending whole, run.no_name);
     no_file = λ moves. elim run.done [ inl same ↦ absurd (omega (arith, same.0, moves)) | inr unread ↦ unread.1 ];
     not_asked = λ asks. elim begun [ inl still ↦ still.0 | inr done ↦ idle_by choose form done.file input new_input out new_out status asks done.follows ];
     no_script = elim begun [
@@ -213,11 +179,10 @@ module _ (choose : ClauseList → Option Forest) (form : Option Form) (held : Li
     ];
     output = given;
     complete = some_map told (λ file. some_map (whole_output (behaviour_of choose form file) input.left) completes) given;
-    script_fault = if_served (λ answers. input.faults < new_input.faults → FaultAnswered input new_input out new_out status answers) (λ still other answers rises. absurd (omega (arith, still.faults, rises)))
-        (λ answers done rises. fault_of input new_input out new_out status answers rises done);
+    script_fault = if_served (λ answers. input.faults < new_input.faults → FaultAnswered input new_input out new_out status answers) (λ still other answers rises. absurd (omega (arith, still.faults, rises))) (λ answers done rises. grind arith);
     stopped = if_served (λ answers. status ≡ WriteFailed → input.taken < new_input.taken → Stopped input new_input out new_out status answers) (λ still other answers five moved. absurd (omega (arith, still.taken, moved))) (λ answers done five moved. stopped_of input new_input out new_out status answers moved done);
     memory = λ six. elim begun [ inl still ↦ still.0 | inr done ↦ idle_without_memory input new_input out new_out status six (behaviour_of choose form done.file) done.follows ];
-    all_read = if_served (λ answers. status ≡ Done → IsAtEnd new_input.left) (λ still other answers zero. absurd (other zero)) (λ answers done zero. end_met input new_input out new_out status answers zero done);
+    all_read = if_served (λ answers. status ≡ Done → IsAtEnd new_input.left) (λ still other answers zero. absurd (other zero)) (λ answers done zero. grind arith);
     script_taken = elim begun [ inl still ↦ omega (arith, still.0.taken) | inr done ↦ few_taken input new_input out new_out status (behaviour_of choose form done.file) done.follows ];
-    cut = λ whole. cut_ends (run_ending whole);
+    cut = λ whole. grind (arith, run_ending whole);
   }

@@ -2,15 +2,11 @@
 use Rattle.std.proofs.Common.{◌≡◌, ℕ, Bool, true, false, List, Option, Some, None, refl, arith}
 use Rattle.std.specs.Prelude.{Result, IfErr, not, is_some}
 use Rattle.state_rules.specs.declared.extras.Extras.{Extras}
-use Rattle.state_rules.specs.Graphs.{Graph}
 use Rattle.device_model.specs.Devices.{Device}
 use Rattle.bench_reader.specs.Netlists.{netlist}
-use Rattle.bench_reader.specs.declared.sequential.Sequential.{Sequential}
 use Rattle.clause_encoder.specs.Clauses.{ClauseList}
 use Rattle.clause_encoder.specs.declared.encoding.EncodeError.{EncodeError}
 use Rattle.branch_states.specs.declared.measuring.TheConstants.{BUDGET_LIMIT}
-use Rattle.frame_unroller.specs.declared.unrolling.Unrolled.{Unrolled}
-use Rattle.frame_unroller.specs.declared.unrolling.UnrollError.{UnrollError}
 use Rattle.elimination_forests.specs.Forests.{Forest}
 use Rattle.adder_load.specs.Adders.{adder_text}
 use Rattle.device_files.specs.declared.inspecting.Inspection.TheVariants.{Plan, Check}
@@ -22,15 +18,12 @@ use Rattle.device_files.specs.Choices.{Weighed, clauses_by}
 use Rattle.device_files.specs.Weighing.{within, output_within}
 use Rattle.device_files.specs.Inspecting.{planned}
 use Rattle.diag_cli.specs.declared.words.TheConstants.{DEFAULT_BUDGET}
-use Rattle.diag_cli.specs.declared.words.ServeOptions.{ServeOptions}
 use Rattle.diag_cli.specs.declared.words.Command.{Command}
 use Rattle.diag_cli.specs.declared.words.Command.TheVariants.{Serve, ServeFrames, Ask, Inspect, Compile}
 use Rattle.diag_cli.specs.Words.{Form, Load, Over}
 use Rattle.diag_cli.specs.Besides.{in_few_bits}
-use Rattle.diag_cli.specs.Frames.{unrolled_within, if_unrolled}
-use Rattle.diag_cli.specs.Asking.{asked}
 use Rattle.diag_cli.specs.Loads.{summary_by}
-use Rattle.diag_cli.specs.Behaviours.{Behaviour, Prints, AnswersScript, graph_by, if_within, behaviour_by, behaviour_of}
+use Rattle.diag_cli.specs.Behaviours.{Behaviour, Prints, AnswersScript, graph_by, behaviour_by, behaviour_of}
 
 -- No call failed and no script was cut, and it is `Usage` exactly if the words have no form.
 abbrev pub is_plain : Bool → Status → Bool
@@ -60,27 +53,15 @@ output_within_plain budget clauses told found is each = grind (arith, within_pla
 few_plain : (extras : Extras) (parts : ℕ) (found : Result Weighed Output) → Plain found → Plain (in_few_bits extras parts found)
 few_plain extras parts found is = grind arith
 
-unrolled_plain : (budget : ℕ) (weigh : ClauseList → Weighed) (made : Result Unrolled UnrollError) → Plain (unrolled_within budget weigh made)
-unrolled_plain budget weigh made = grind (arith, within_plain)
-
 described_plain : (path file : List ℕ) → Plain (described path file)
 described_plain path file = grind arith
 
 -- ---- behaviours
 
-if_within_plain : (options : ServeOptions) (clauses : Device → Result Weighed EncodeError) (found : Result Device Output) → Plain found → Plain (if_within options clauses found)
-if_within_plain options clauses found is = grind (arith, few_plain, within_plain)
-
-if_unrolled_plain : (frames : ℕ) (options : ServeOptions) (weigh : ClauseList → Weighed) (found : Result Sequential Output) → Plain found → Plain (if_unrolled frames options weigh found)
-if_unrolled_plain frames options weigh found is = grind (arith, few_plain, unrolled_plain)
-
-asked_plain : (health : ℕ) (found : Result Graph Output) → Plain found → Plain (asked health found)
-asked_plain health found is = grind arith
-
 command_plain : (choose : ClauseList → Option Forest) (path : List ℕ) (command : Command) (file : List ℕ) → IsPlainBehaviour true (behaviour_by choose path command file)
-command_plain choose path (Serve options) file = grind (arith, if_within_plain, described_plain)
-command_plain choose path (ServeFrames frames options) file = grind (arith, if_unrolled_plain)
-command_plain choose path (Ask health sessions) file = grind (arith, asked_plain)
+command_plain choose path (Serve options) file = grind (arith, few_plain, within_plain, described_plain)
+command_plain choose path (ServeFrames frames options) file = grind (arith, few_plain, within_plain)
+command_plain choose path (Ask health sessions) file = grind arith
 command_plain choose path (Inspect (Plan narrow)) file = output_within_plain BUDGET_LIMIT (clauses_by narrow choose) planned (described path file) (described_plain path file) (λ device weighed. refl)
 command_plain choose path (Inspect Check) file = grind arith
 command_plain choose path (Compile budget narrow) file = output_within_plain budget (clauses_by narrow choose) graph_by (described path file) (described_plain path file) (λ device weighed. refl)
@@ -88,8 +69,7 @@ command_plain choose path (Compile budget narrow) file = output_within_plain bud
 form_plain : (choose : ClauseList → Option Forest) (form : Form) (file : List ℕ) → IsPlainBehaviour true (behaviour_of choose (Some form) file)
 form_plain choose (Load places) file =
     output_within_plain DEFAULT_BUDGET (clauses_by false (λ list. None)) (summary_by places) (or_line netlist_line (netlist (adder_text places))) (grind arith) (λ device weighed. refl)
-form_plain choose (Over path command) file =
-    grind (arith, command_plain)
+form_plain choose (Over path command) file = grind (arith, command_plain)
 
 pub plain_behaviour : (choose : ClauseList → Option Forest) (form : Option Form) (file : List ℕ) → IsPlainBehaviour (is_some form) (behaviour_of choose form file)
 plain_behaviour choose form file = grind (arith, form_plain)

@@ -27,30 +27,24 @@ module _ (graph : Graph) (parts sum vars : ℕ) (few : length graph.nodes ≤ mo
   can_draw : (least : Bool) → (least ≡ true → length graph.nodes + edges graph.nodes + 2 * parts + 1 < 2 ^ 32) → least_bits sum vars parts least ≤ SERVED_BITS → least ≡ true → CanDraw graph parts
   can_draw least lines bits told = record { lines = lines told; few = grind (arith, few, mul-le-mul_right (32 * (2 + (parts + 31) / 32)) few) }
 
-  can_tell : (extras : Extras) → (extras.least ≡ true → length graph.nodes + edges graph.nodes + 2 * parts + 1 < 2 ^ 32)
-      → levels_bits sum vars parts extras.levels ≤ SERVED_BITS → least_bits sum vars parts extras.least ≤ SERVED_BITS → CanTell extras graph parts
-  can_tell extras lines listed drawn = record { levels = can_list extras.levels listed; least = can_draw extras.least lines drawn }
-
 -- ---- what is refused
 
 pub few_pass : (bits : ℕ) (other : Result Weighed Output) → bits ≤ SERVED_BITS → if_few bits other ≡ other
 few_pass bits other few = grind (arith, nat_tests)
 
--- if they are not refused they are few
-passed : (bits : ℕ) (other : Result Weighed Output) (weighed : Weighed) → if_few bits other ≡ Ok weighed → (bits ≤ SERVED_BITS) × (other ≡ Ok weighed)
-passed bits other weighed is = grind (arith, nat_tests)
-
 -- what fits takes few bits
 few_of_all : (extras : Extras) (parts : ℕ) (weighed : Weighed) → in_few_bits extras parts (Ok weighed) ≡ Ok weighed
     → (levels_bits weighed.sum weighed.list.vars parts extras.levels ≤ SERVED_BITS) × (least_bits weighed.sum weighed.list.vars parts extras.least ≤ SERVED_BITS)
-few_of_all extras parts weighed fits = grind (arith, passed)
+few_of_all extras parts weighed fits = grind (arith, nat_tests)
 
 -- ---- what the calls answer
 
 -- what is printed besides can be printed over a graph that was compiled, if that fits and lines can be numbered
 pub tells_in_few : (extras : Extras) (parts : ℕ) (weighed : Weighed) (graph : Graph)
     → in_few_bits extras parts (Ok weighed) ≡ Ok weighed → IsGraphBy weighed graph → (extras.least ≡ true → length graph.nodes + edges graph.nodes + 2 * parts + 1 < 2 ^ 32) → CanTell extras graph parts
-tells_in_few extras parts weighed graph fits by lines = grind (arith, few_of_all extras parts weighed fits, can_tell graph parts weighed.sum weighed.list.vars by.few_nodes extras lines)
+tells_in_few extras parts weighed graph fits by lines =
+    let few = few_of_all extras parts weighed fits in
+    record { levels = can_list graph parts _ _ by.few_nodes extras.levels few.0; least = can_draw graph parts _ _ by.few_nodes extras.least lines few.1 }
 
 pub if_ok_map : {T E : Type 0} {A B : T → Type 0} (result : Result T E) → ((t : T) → A t → B t) → IfOk result A → IfOk result B
 if_ok_map result f is = grind arith

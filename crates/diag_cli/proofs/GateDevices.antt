@@ -12,13 +12,13 @@ use Rattle.state_rules.specs.Cases.{Case, agrees}
 use Rattle.state_rules.specs.Ranking.{cost}
 use Rattle.state_rules.specs.Systems.{least_cost}
 use Rattle.state_rules.proofs.Bits.{same_bit-refl}
-use Rattle.state_rules.proofs.Members.{In, bits_in, any_in, AtMost, least-below}
+use Rattle.state_rules.proofs.Members.{In, bits_in, any_in, least-below}
 use Rattle.device_model.specs.declared.gates.Rule.{Rule}
 use Rattle.device_model.specs.declared.gates.Rule.TheVariants.{Gate as OfGate, Table as OfTable}
 use Rattle.device_model.specs.declared.component.Component.{Component}
 use Rattle.device_model.specs.TruthTable.{TruthTable}
-use Rattle.device_model.specs.Gates.{rule, takes_inputs}
-use Rattle.device_model.specs.Devices.{Device, allows, parts_fit, fits, part_names, part_costs}
+use Rattle.device_model.specs.Gates.{rule}
+use Rattle.device_model.specs.Devices.{Device, parts_fit, fits, part_names, part_costs}
 use Rattle.device_model.specs.Diagnosis.{is_consistent, device_system}
 use Rattle.device_model.specs.Building.{NamedPart, joined}
 use Rattle.device_model.proofs.SortedDevices.{component_name, list_all-sorted_distinct}
@@ -39,9 +39,6 @@ abbrev is_gate : Rule → Bool
 is_gate (OfTable t) = false
 is_gate (OfGate gate) = true
 
-taken_gate : (r : Rule) (inputs : ℕ) → takes_inputs r inputs ≡ true → is_gate r ≡ true
-taken_gate r inputs h = grind arith
-
 abbrev named_gate : NamedPart → Bool
 named_gate part = is_gate (rule part.kind)
 
@@ -51,7 +48,7 @@ gate_part part = is_gate (rule part.kind)
 of_statement : (s : Statement) → is_faultless s ≡ true → list_all named_gate (part_of s) ≡ true
 of_statement (Input signal) h = refl
 of_statement (Output signal) h = refl
-of_statement (Gate output kind inputs) h = let gate = faultless_gate output kind inputs h in grind (arith, gate.meant, taken_gate (rule gate.gate) (length inputs) gate.taken)
+of_statement (Gate output kind inputs) h = let gate = faultless_gate output kind inputs h in grind (arith, gate.meant, gate.taken)
 
 of_statements : (statements : List Statement) → list_all is_faultless statements ≡ true → list_all named_gate (flat_map part_of statements) ≡ true
 of_statements [] h = refl
@@ -78,16 +75,13 @@ netlist_of_gates text device is = by (filter_map fault_in (readings Refused text
 
 -- ---- faulty gates allow anything
 
-faulty_allows : (tables : List TruthTable) (r : Rule) (row : List Bool) → is_gate r ≡ true → allows tables r false row ≡ true
-faulty_allows tables r row h = grind arith
-
 all_faulty : List Component → List Bool
 all_faulty parts = map (λ (part : Component). false) parts
 
 faulty_fit : (tables : List TruthTable) (parts : List Component) (wires : List Bool) → list_all gate_part parts ≡ true → parts_fit tables parts (all_faulty parts) wires ≡ true
 unfolding all_faulty
 faulty_fit tables [] wires h = refl
-faulty_fit tables (part ∷ parts) wires h = grind (arith, faulty_allows, faulty_fit tables parts wires)
+faulty_fit tables (part ∷ parts) wires h = grind (arith, faulty_fit tables parts wires)
 
 -- any state agrees if nothing is held
 none_held : (parts : ℕ) (state : List Bool) → agrees (replicate parts None) state ≡ true
@@ -104,9 +98,6 @@ unfolding seen_bits
 seen_agree [] = refl
 seen_agree (o ∷ seen) = grind (arith, same_bit-refl, seen_agree seen)
 
-is_there : (o : Option ℕ) (n : ℕ) → AtMost o n → IsSome o
-is_there o n h = grind arith
-
 -- the case of these readings, if nothing is held
 abbrev pub seen_case : Device → List (Option Bool) → Case
 seen_case device seen = record { seen = seen; held = replicate (length device.parts) None }
@@ -122,8 +113,8 @@ gates_agree device seen gates long =
     let fit : (agrees seen wires && fits device state wires) ≡ true = grind (arith, seen_agree seen, faulty_fit device.tables device.parts wires gates) in
     let passes : is_consistent (fits device) (length device.wires) known state ≡ true =
     and_from _ _ (none_held (length device.parts) state) (any_in (λ bits. agrees seen bits && fits device state bits) wires (lists_of_bits (length device.wires)) are_wires fit) in
-    is_there (least_cost (device_system device) known) (cost (part_costs device) state)
-    (least-below (cost (part_costs device)) (is_consistent (fits device) (length device.wires) known) state (lists_of_bits (length (part_names device.parts))) is_state passes)
+    let found = least-below (cost (part_costs device)) (is_consistent (fits device) (length device.wires) known) state (lists_of_bits (length (part_names device.parts))) is_state passes in
+    grind (arith, found)
 
 pub netlists_agree : (text : List ℕ) (device : Device) (seen : List (Option Bool)) → netlist text ≡ Ok device → length seen ≡ length device.wires → IsSome (least_cost (device_system device) (seen_case device seen))
 netlists_agree text device seen is long = gates_agree device seen (netlist_of_gates text device is) long

@@ -26,6 +26,8 @@ graph_along list forest compiled is = grind arith
 pub graph_by_names : (list : ClauseList) (compiled : Compiled) → IsCompiled list compiled → IsGraphBy (record { list = list; sum = sum_of list.clauses }) compiled.graph
 graph_by_names list compiled is = grind arith
 
+pub ruleset gives_graph = (graph_along, graph_by_names)
+
 -- ---- by each sum that they have
 
 -- along a forest that was found

@@ -41,11 +41,8 @@ long_behaviour : (choose : ClauseList → Option Forest) (path : List ℕ) (comm
 long_behaviour choose path command file long = let many : nat_le (length file) TEXT_LIMIT ≡ false = grind arith in rw many
 
 -- some bytes are too many, those that are shown if any are
-too_many : (limit : ℕ) → (file : List ℕ) × (limit < length file)
-too_many limit = (replicate (limit + 1) 0, omega (arith, length-replicate {A = ℕ} (limit + 1) 0))
-
 long_file : (limit : ℕ) (told : Option (List ℕ)) → IfSome told (λ bytes. limit < length bytes) → (file : List ℕ) × IfSome told (λ bytes. file ≡ bytes) × (limit < length file)
-long_file limit None long = let some = too_many limit in (some.0, tt, some.1)
+long_file limit None long = (replicate (limit + 1) 0, tt, omega (arith, length-replicate {A = ℕ} (limit + 1) 0))
 long_file limit (Some file) long = (file, refl, long)
 
 -- ---- what was found is served, or refused

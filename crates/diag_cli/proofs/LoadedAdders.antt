@@ -99,3 +99,5 @@ gives_told fault output status a b is said = grind arith
 
 pub gives_summary : (output expected : Output) (status : Status) (a b : Option (List ℕ)) → expected ≡ output → FulfilsOutput output status a b → FulfilsOutputUnlessMemory expected status a b
 gives_summary output expected status a b is said = grind arith
+
+pub ruleset tells_load = (gives_told, gives_summary)

@@ -1,5 +1,5 @@
 -- From the bytes of a script that were taken to the whole script.
-use Rattle.std.proofs.Common.{◌≡◌, ◌⊎◌, ◌<◌, ◌≤◌, ◌-◌, ◌+◌, ℕ, false, List, [], ◌∷◌, ◌++◌, length, take, Option, Some, None, inl, inr, ◌∙◌, ap, subst, sym, arith, nat_lt, append-nil, take_all, codes, if◌then◌else◌}
+use Rattle.std.proofs.Common.{◌≡◌, ◌⊎◌, ◌<◌, ◌≤◌, ◌-◌, ◌+◌, ℕ, false, List, [], ◌∷◌, ◌++◌, length, take, Option, Some, None, inl, inr, ◌∙◌, ap, sym, arith, nat_lt, append-nil, take_all, codes, if◌then◌else◌}
 use Rattle.std.proofs.lemmas.Grind.{common_steps}
 use Rattle.std.specs.Io.KnownBytes.{Consumes, IsAtEnd}
 use Rattle.std.proofs.lemmas.Bool.{lt-ltb, cases_lt}
@@ -47,7 +47,7 @@ at_the_limit script bytes (Some left) took many = taken_to_limit SCRIPT_LIMIT sc
 pub taken_all : (script : List ℕ) (input new_input : Reading) (bytes : List ℕ) (end : End) → new_input.faults ≡ input.faults → Consumes (Some script) new_input.left bytes → EndsAs end bytes input new_input
     → (bytes ≡ take SCRIPT_LIMIT script) × (end ≡ end_of script)
 taken_all script input new_input bytes Ended same took is = at_the_end script bytes new_input.left took is.0 is.1
-taken_all script input new_input bytes Failed same took is = absurd (let never : ⊥ = omega (arith, is.1, same) in never)
+taken_all script input new_input bytes Failed same took is = absurd (omega (arith, is.1, same))
 taken_all script input new_input bytes Cut same took is = at_the_limit script bytes new_input.left took is.0
 
 -- ---- what begins the answers to lines and to any that follow begins the output of the whole script
@@ -56,10 +56,6 @@ module _ (limit : ℕ) (answers : List (List ℕ) → List Item) (script bytes r
     (is : script ≡ bytes ++ rest) (begun : (more : List (List ℕ)) → WritesPart a b (answers (lines ++ more))) where
   abbrev BeginsOutput : Type 0
   BeginsOutput = WritesPart a b (served answers (take limit script) (if nat_lt (length script) limit then Ended else Cut)).items
-
-  -- by how the script ends
-  begins_output : (end : End) → (if nat_lt (length script) limit then Ended else Cut) ≡ end → WritesPart a b (served answers (take limit script) end).items → BeginsOutput
-  begins_output end ends part = subst (λ (e : End). WritesPart a b (served answers (take limit script) e).items) (sym ends) part
 
   -- it is below the limit
   below : length script < limit → (more : List (List ℕ)) → lines ++ more ≡ all_lines script → BeginsOutput

@@ -1,4 +1,5 @@
 -- A service over a device's graph answers as the device's system does.
+use Rattle.device_files.proofs.ForestChoices.{has_sum}
 use Rattle.std.proofs.Common.{◌≡◌, ◌≤◌, ℕ, [], ◌∷◌, ap, ◌∙◌, arith}
 use Rattle.std.specs.Prelude.{Result, Ok, Err, IfOk}
 use Rattle.text_rules.specs.Expected.{Fulfils}
@@ -69,3 +70,5 @@ device_answers options device graph is service shown = record {
   none_open = ap (λ (s : Shown). s.table) shown;
   same = ap (λ (s : Shown). answers_of (system_of s.subject) s.limit) shown ∙ same_answers device graph is.meaning options.extras options.sessions;
 }
+
+pub ruleset listed_sizes = (has_sum, encoded-few_vars)

@@ -1,12 +1,14 @@
 -- A service that was made, or the refusal of one, is for a behaviour.
 use Rattle.std.proofs.Common.{◌≡◌, ℕ, [], Option, arith}
 use Rattle.std.specs.Prelude.{Result, IfOk, IfSome}
+use Rattle.std.proofs.lemmas.Result.{err_from_is_err_and}
 use Rattle.text_rules.specs.Expected.{IsExpectedFault, Fulfils}
 use Rattle.state_rules.specs.Systems.{System}
 use Rattle.session_core.specs.Services.{Shown}
 use Rattle.device_files.specs.declared.refusal.Refusal.{Refusal}
 use Rattle.device_files.specs.Output.{Output}
 use Rattle.device_files.specs.Refusals.{refusal_output}
+use Rattle.device_files.proofs.KeptRefusals.{refused_then}
 use Rattle.diag_cli.specs.Behaviours.{Prints, served_or_refused}
 use Rattle.diag_cli.specs.inner.Serving.{Answers, IsFor}
 
@@ -20,3 +22,5 @@ module _ {A : Type 0} (system : A → System) (sessions : ℕ) (expected : Resul
 
 pub none_open : (system : Shown → System) (sessions : ℕ) (result : Result Shown Refusal) → IfOk result (λ service. Answers (system service) sessions service) → IfOk result (λ service. service.table ≡ [])
 none_open system sessions result of = grind arith
+
+pub ruleset made_services = (err_from_is_err_and, refused_then, refused_for, service_for, none_open)

@@ -5,7 +5,7 @@ use Rattle.std.specs.Bool.{then_some}
 use Rattle.std.specs.Option.{option_map}
 use Rattle.std.proofs.lemmas.Bool.Decides.{nat_tests}
 use Rattle.text_rules.specs.Names.{same_name}
-use Rattle.text_rules.specs.Numbers.{number_in, plain_number_in}
+use Rattle.text_rules.specs.Numbers.{plain_number_in}
 use Rattle.adder_load.specs.declared.adders.TheConstants.{PLACE_LIMIT}
 use Rattle.device_model.specs.declared.limits.TheConstants.{PART_LIMIT}
 use Rattle.branch_states.specs.declared.measuring.TheConstants.{BUDGET_LIMIT}
@@ -41,11 +41,8 @@ few_words f (x ∷ y ∷ words) short = absurd (omega (arith, short))
 abbrev IsWithin : (low high n : ℕ) → Type 0
 IsWithin low high n = (low ≤ n) × (n ≤ high)
 
-number_in-range : (most low high : ℕ) (word : List ℕ) → IfSome (number_in most low high word) (IsWithin low high)
-number_in-range most low high word = grind (arith, nat_tests)
-
 plain_number_in-range : (most low high : ℕ) (word : List ℕ) → IfSome (plain_number_in most low high word) (IsWithin low high)
-plain_number_in-range most low high word = grind (arith, number_in-range most low high word)
+plain_number_in-range most low high word = grind (arith, nat_tests)
 
 number_within : (digits least most : ℕ) (found : Option (List (List ℕ))) → IfSome (option_and_then (first_number (Number digits least most)) found) (IsWithin least most)
 number_within digits least most found = grind (arith, plain_number_in-range digits least most)
@@ -70,9 +67,6 @@ sessions_within words = grind (arith, number_within 4 1 SESSION_LIMIT (words_aft
 budget_within : (words : List (List ℕ)) → IsWithin 1 BUDGET_LIMIT (unwrap_or (number_given (codes "serve") (codes "--budget") words) DEFAULT_BUDGET)
 budget_within words = grind (arith, number_within 7 1 BUDGET_LIMIT (words_after (codes "--budget") words))
 
-or_none : (are : Bool) (form : Option Form) → GivesWithin form → GivesWithin (if are then form else None)
-or_none are form is = grind arith
-
 form_by_within : (command path : List ℕ) (words : List (List ℕ)) → GivesWithin (form_by command path words)
 form_by_within command path words =
     let frames = number_given (codes "serve") (codes "--frames") words in
@@ -96,7 +90,7 @@ form_of_within (command ∷ []) = tt
 form_of_within (command ∷ next ∷ words) =
     (of_command (same_name command (codes "load")) (form_load next words) _ (form_load_within next words)
     (of_command (same_name command (codes "ask")) (form_ask next words) _ (form_ask_within next words)
-    (or_none (are_options command Nothing words) (form_by command next words) (form_by_within command next words)))).given
+    (of_command (are_options command Nothing words) (form_by command next words) None (form_by_within command next words).given (record { given = tt })))).given
 
 pub meant_within : (form : Option FormRead) (words : List (List ℕ)) → option_map meant form ≡ form_of words → IfSome form (λ f. IsWithinLimits (meant f))
 meant_within form words is = grind (arith, form_of_within words)

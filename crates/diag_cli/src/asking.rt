@@ -56,6 +56,7 @@ fn service_over(alloc: Global, graph: Graph, health: u32, sessions: u32) -> Resu
 }
 
 /// The service of the graph of a file, of whose variables the first are so many parts, or the refusal of one.
+#[tactic(auto, using(crate::proofs::Services::made_services))]
 pub(crate) fn graph_service(
     alloc: Global,
     file: &[u8],

@@ -30,6 +30,7 @@ use tree_finder::Narrowed;
 const NODE_LINE_LIMIT: u64 = 1 << 32;
 
 /// The graph of a device, if the sum of its clauses is within the budget and what is printed besides takes few bits.
+#[tactic(auto, using(crate::proofs::ServedDevices::listed_sizes))]
 pub(crate) fn graph_in_few_bits(
     alloc: Global,
     device: &Device,

@@ -58,6 +58,7 @@ fn service_within(alloc: Global, device: Device, options: ServeOptions) -> Resul
 }
 
 /// The service of the device of a file, or the refusal of one.
+#[tactic(auto, using(crate::proofs::Services::made_services))]
 pub(crate) fn device_service(
     alloc: Global,
     path: &str,

@@ -85,6 +85,7 @@ fn service_within(
 }
 
 /// The service of the netlist of a file over so many times, or the refusal of one.
+#[tactic(auto, using(crate::proofs::Services::made_services))]
 pub(crate) fn frame_service(
     alloc: Global,
     file: &[u8],

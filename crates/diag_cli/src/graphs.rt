@@ -20,6 +20,7 @@ use std::alloc::Global;
 use tree_finder::Narrowed;
 
 /// The graph of a device, if the sum of its clauses is within a budget.
+#[tactic(auto, using(device_files::proofs::ForestChoices::has_sum))]
 pub(crate) fn graph_within(
     alloc: Global,
     device: &Device,
@@ -54,6 +55,7 @@ pub(crate) fn compiled_within(
 }
 
 // Along a forest that was found for the clauses.
+#[tactic(auto, using(crate::proofs::GraphsBy::gives_graph))]
 fn compiled_along(alloc: Global, cnf: &Cnf, found: &Narrowed, budget: u32) -> Result<Graph, Refusal>
     requires budget { budget ≤ BUDGET_LIMIT }
     requires found { IsFound cnf.now found.now }
@@ -72,6 +74,7 @@ fn compiled_along(alloc: Global, cnf: &Cnf, found: &Narrowed, budget: u32) -> Re
 }
 
 /// The graph of clauses by the order of their names, if their sum is within a budget.
+#[tactic(auto, using(crate::proofs::GraphsBy::gives_graph))]
 pub(crate) fn compiled_by_names(alloc: Global, cnf: &Cnf, budget: u32) -> Result<Graph, Refusal>
     requires budget { budget ≤ BUDGET_LIMIT }
     ensures within { IfOk result (λ graph. sum_of cnf.now.clauses ≤ budget) }

@@ -156,6 +156,7 @@ fn tell_summary<O: Sink>(out: &mut O, summary: &Summary) -> Status
 }
 
 /// Prints what the adder of so many places comes to, or why that cannot be found, and answers the status.
+#[tactic(auto, using(crate::proofs::LoadedAdders::tells_load))]
 pub(crate) fn load_adder<O: Sink>(alloc: Global, places: u32, out: &mut O) -> Status
     requires places { places ≤ PLACE_LIMIT }
     requires faults { O.faults out.old < 2 ^ 64 - 1 }

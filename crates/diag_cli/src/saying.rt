@@ -9,6 +9,7 @@ use itoa::Buffer;
 use text_rules::TEXT_LIMIT;
 
 /// Writes a text and answers the status, `WriteFailed` if the write failed.
+#[tactic(auto, using(device_files::proofs::FailedWrites::gives_line))]
 pub fn say<O: Sink>(out: &mut O, text: &[u8], status: Status) -> Status
     requires faults { O.faults out.old < 2 ^ 64 - 1 }
     requires status { status ≢ Status.WriteFailed }

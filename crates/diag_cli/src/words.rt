@@ -265,6 +265,7 @@ fn form_by_words<'a>(command: &str, next: &'a str, words: &[String]) -> Option<F
 }
 
 /// The form of the words, if they have one.
+#[tactic(auto, using(crate::proofs::WordLemmas::few_words))]
 pub(crate) fn form_of(words: &[String]) -> Option<Form<'_>>
     ensures form { option_map meant result ≡ form_of (map string_bytes words.now) }
     ensures limits { IfSome result (λ form. IsWithinLimits (meant form)) }

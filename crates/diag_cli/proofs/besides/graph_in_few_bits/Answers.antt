@@ -1,8 +1,7 @@
-use Rattle.std.proofs.Common.{ℕ, Ok, ap, refl, subst, length, arith}
+use Rattle.std.proofs.Common.{ℕ, Ok, ap, refl, subst, length}
 use Rattle.std.specs.Result.{result_and}
 use Rattle.std.proofs.lemmas.Result.{err_from_is_err_and}
 use Rattle.text_rules.specs.Expected.{Fulfils}
-use Rattle.clause_encoder.proofs.Sizes.{encoded-few_vars}
 use Rattle.diag_cli.specs.Besides.{in_few_bits}
 use Rattle.device_files.specs.Choices.{Weighed, clauses_by}
 use Rattle.device_files.specs.Weighing.{within}
@@ -20,12 +19,6 @@ returns-in_err-cnf-clause-within c =
     rw (p.1, p.2) (by_any (λ choose.
     fault_through (λ clauses. result_and (in_few_bits options.extras (length device.parts) clauses) (Ok device)) (λ output. refl) (refusal_output c.in_err-cnf.field-0.0)
     (within options.budget (clauses_by options.narrow choose device)) (c.in_err-cnf.ensures.fault choose options.budget)))
-
-pub compile_in_few_bits-requires-clause-sum : goal.compile_in_few_bits-requires-clause-sum
-compile_in_few_bits-requires-clause-sum c = has_sum c.in_ok-cnf.cnf c.args.options.narrow c.in_ok-cnf.forest c.in_ok-cnf.ensures.forest
-
-pub compile_in_few_bits-requires-clause-vars : goal.compile_in_few_bits-requires-clause-vars
-compile_in_few_bits-requires-clause-vars c = omega (arith, encoded-few_vars c.args.device.now c.in_ok-cnf.cnf c.parts.ensures.valid c.in_ok-cnf.ensures.list.encoded)
 
 pub returns-clause-within : goal.returns-clause-within
 returns-clause-within c =

@@ -5,7 +5,7 @@ use Rattle.device_files.specs.Refusals.{refusal_output}
 use Rattle.device_files.proofs.ForestChoices.{by_any, by_same}
 use Rattle.device_files.proofs.KeptRefusals.{refused_then}
 use Rattle.diag_cli.specs.Behaviours.{if_within, served_device}
-use Rattle.diag_cli.proofs.Services.{refused_for, service_for, none_open}
+use Rattle.diag_cli.proofs.Services.{refused_for, service_for}
 use Rattle.diag_cli.proofs.devices.device_service.Goals as goal
 
 pub returns-in_err-device-clause-behaviour : goal.returns-in_err-device-clause-behaviour
@@ -21,6 +21,3 @@ returns-clause-behaviour c =
     let made = c.service_within.ensures in
     let options = c.args.options in
     by_same made.within (λ choose within. rw c.in_ok-device.ensures (service_for (served_device options) options.sessions _ (λ service. c.in_ok-device.device) c.service_within.result within made.service))
-
-pub returns-clause-none_open : goal.returns-clause-none_open
-returns-clause-none_open c = none_open (λ service. served_device c.args.options c.in_ok-device.device) c.args.options.sessions c.service_within.result c.service_within.ensures.service

@@ -5,7 +5,7 @@ use Rattle.device_files.proofs.ForestChoices.{by_any, by_same}
 use Rattle.device_files.proofs.KeptRefusals.{refused_then}
 use Rattle.diag_cli.specs.Behaviours.{served_frames}
 use Rattle.diag_cli.specs.Frames.{sequential_in, if_unrolled}
-use Rattle.diag_cli.proofs.Services.{refused_for, service_for, none_open}
+use Rattle.diag_cli.proofs.Services.{refused_for, service_for}
 use Rattle.diag_cli.proofs.framing.frame_service.Goals as goal
 
 pub returns-in_err-seq-clause-behaviour : goal.returns-in_err-seq-clause-behaviour
@@ -22,6 +22,3 @@ returns-clause-behaviour c =
     let made = c.service_within.ensures in
     let options = c.args.options in
     by_same made.within (λ choose within. rw c.in_ok-seq.ensures.read (service_for (served_frames c.args.frames options) options.sessions _ (λ service. c.in_ok-seq.seq) c.service_within.result within made.service))
-
-pub returns-clause-none_open : goal.returns-clause-none_open
-returns-clause-none_open c = none_open (λ service. served_frames c.args.frames c.args.options c.in_ok-seq.seq) c.args.options.sessions c.service_within.result c.service_within.ensures.service

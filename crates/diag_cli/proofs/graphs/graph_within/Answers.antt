@@ -1,6 +1,6 @@
 use Rattle.std.proofs.lemmas.Result.{err_from_is_err_and}
 use Rattle.device_files.specs.Weighing.{within}
-use Rattle.device_files.proofs.ForestChoices.{by_any, has_sum, list_gives}
+use Rattle.device_files.proofs.ForestChoices.{by_any, list_gives}
 use Rattle.diag_cli.specs.inner.Compiling.{FulfilsGraph}
 use Rattle.diag_cli.proofs.ServedDevices.{found_or_refused}
 use Rattle.diag_cli.proofs.graphs.graph_within.Goals as goal
@@ -9,9 +9,6 @@ pub returns-in_err-cnf : goal.returns-in_err-cnf
 returns-in_err-cnf c =
     let p = err_from_is_err_and c.from_residual.result c.from_residual.ensures.1 in
     rw (p.1, p.2) (by_any (λ choose. c.in_err-cnf.ensures.fault choose c.args.budget))
-
-pub compiled_within-requires-clause-sum : goal.compiled_within-requires-clause-sum
-compiled_within-requires-clause-sum c = has_sum c.in_ok-cnf.cnf c.args.is_narrow c.in_ok-cnf.forest c.in_ok-cnf.ensures.forest
 
 pub returns : goal.returns
 returns c =

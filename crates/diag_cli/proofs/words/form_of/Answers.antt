@@ -1,10 +1,7 @@
 use Rattle.std.proofs.Common.{◌-◌, length, take, drop, sym, ◌∙◌, map, string_bytes}
 use Rattle.diag_cli.specs.Words.{form_by_words}
-use Rattle.diag_cli.proofs.WordLemmas.{few_words, form_after, meant_within}
+use Rattle.diag_cli.proofs.WordLemmas.{form_after, meant_within}
 use Rattle.diag_cli.proofs.words.form_of.Goals as goal
-
-pub returns-in_default-clause-form : goal.returns-in_default-clause-form
-returns-in_default-clause-form c = few_words string_bytes c.args.words.now c.in_default.len_below
 
 pub returns-clause-form : goal.returns-clause-form
 returns-clause-form c =

@@ -9,9 +9,7 @@ use Rattle.node_costs.proofs.Conditions.{cost_among-le, cost_among-one, cost_amo
 use Rattle.minimiser.proofs.Costs.{fault, open_weights, only_parts, free, IsCost, Agrees, faults_in, all_faults, and_left, and_right}
 
 fault_most : (k : Option Bool) (w : ℕ) (b : Bool) → fault k w b ≤ w
-fault_most None w true = omega arith
-fault_most None w false = omega arith
-fault_most (Some x) w b = omega arith
+fault_most k w b = grind arith
 
 -- what is known of each variable, what it costs if it is false, and how many variables there are whose cost may not be 0
 module _ (known : ℕ → Option Bool) (cost : ℕ → ℕ) (parts : ℕ) where

@@ -1,9 +1,10 @@
 -- Marks that go down from the root.
-use Rattle.std.proofs.Common.{◌≡◌, ◌≢◌, ℕ, ◌+◌, ◌-◌, ◌<◌, ◌≤◌, true, cond, List, length, get_or, sym, ◌∙◌, subst, arith, inl, inr, ⊎_elim}
+use Rattle.std.proofs.Common.{◌≡◌, ◌≢◌, ℕ, ◌-◌, ◌<◌, ◌≤◌, true, cond, List, length, get_or, sym, ◌∙◌, subst, arith, inl, inr, ⊎_elim}
 use Rattle.std.specs.Prelude.{◌⊎◌}
 use Rattle.std.proofs.lemmas.Bool.{and_from, leb-true, le-leb, ltb-true, lt-ltb, cases_eq}
-use Rattle.state_rules.specs.Graphs.{Node, node_at}
+use Rattle.state_rules.specs.Graphs.{Node, Graph, node_at, IsGraph}
 use Rattle.minimiser.proofs.Costs.{and_left}
+use Rattle.minimiser.proofs.SpreadMarks.{child_before}
 use Rattle.minimiser.specs.inner.Swept.{is_child}
 use Rattle.fault_graph.specs.inner.Marks.{mark_of, HasMarkedParent, AreMarks}
 
@@ -18,17 +19,23 @@ mark-kept kids values cost j mark e = grind arith
 mark-child : (kids values : List ℕ) (cost j mark : ℕ) → is_child kids j ≡ true → 0 < get_or values j 0 → get_or values j 0 ≤ cost → mark_of kids values cost j mark ≡ 1
 mark-child kids values cost j mark i dear h = λ k. cond (and_from _ _ i (and_from _ _ (lt-ltb 0 (get_or values j 0) dear) (le-leb _ _ h)) k) 1 mark
 
-module _ (nodes : List Node) (values xs : List ℕ) (at : ℕ) (s : AreMarks nodes values xs (at + 1)) where
+module _ (graph : Graph) (ok : IsGraph graph) (values xs : List ℕ) (from : ℕ) (s : AreMarks graph.nodes values xs from) where
+  abbrev nodes : List Node
+  nodes = graph.nodes
+
+  abbrev at : ℕ
+  at = from - 1
+
   -- a marked node is met, and marks its children that cost something and no more
-  pub marks-met : (ys : List ℕ) → at < length nodes → ((k j : ℕ) → k < length nodes → is_child (node_at nodes k).kids j ≡ true → j < k) → get_or xs at 0 ≡ 1
-      → ((j : ℕ) → j < length nodes → get_or ys j 0 ≡ mark_of (node_at nodes at).kids values (get_or values at 0) j (get_or xs j 0)) → AreMarks nodes values ys at
-  marks-met ys lt before m spreads = record {
+  pub marks-met : (ys kids : List ℕ) → 0 < from → from ≤ length graph.nodes → length xs ≡ length graph.nodes → kids ≡ (node_at graph.nodes (from - 1)).kids → get_or xs (from - 1) 0 ≡ 1
+      → ((j : ℕ) → j < length xs → get_or ys j 0 ≡ mark_of kids values (get_or values (from - 1) 0) j (get_or xs j 0)) → AreMarks graph.nodes values ys (from - 1)
+  marks-met ys kids some few long same m spreads = record {
     root = kept (length nodes - 1) (omega arith) s.root;
     dear = λ k h e. ⊎_elim (λ p. s.dear k h p) (λ p. p.1) (new k h e);
     low = λ k h e. ⊎_elim (λ p. s.low k h p) (λ p. omega (arith, p.2, s.low at lt m)) (new k h e);
     down = λ k j h g e i d c.
         let l : j < length nodes = omega (arith, before k j g i) in ⊎_elim
-        (λ (q : k ≡ at). spreads j l ∙ mark-child (node_at nodes at).kids values (get_or values at 0) j (get_or xs j 0) (subst (λ n. is_child (node_at nodes n).kids j ≡ true) q i) d (subst (λ n. get_or values j 0 ≤ get_or values n 0) q c))
+        (λ (q : k ≡ at). spread j l ∙ mark-child (node_at nodes at).kids values (get_or values at 0) j (get_or xs j 0) (subst (λ n. is_child (node_at nodes n).kids j ≡ true) q i) d (subst (λ n. get_or values j 0 ≤ get_or values n 0) q c))
         (λ (q : k ≢ at). kept j l (s.down k j (omega arith) g (old k h g e) i d c))
         (cases_eq k at);
     up = λ k h e. ⊎_elim
@@ -36,11 +43,20 @@ module _ (nodes : List Node) (values xs : List ℕ) (at : ℕ) (s : AreMarks nod
         (λ p. inr (record { parent = at; within = lt; marked = kept at lt m; child = p.0; cheap = p.2 }))
         (new k h e);
   } where
+    lt : at < length nodes
+    lt = omega arith
+
+    before : (k j : ℕ) → k < length nodes → is_child (node_at nodes k).kids j ≡ true → j < k
+    before k j h i = child_before graph k j ok h i
+
+    spread : (j : ℕ) → j < length nodes → get_or ys j 0 ≡ mark_of (node_at nodes at).kids values (get_or values at 0) j (get_or xs j 0)
+    spread j h = rw (← same) (spreads j (omega (arith, long)))
+
     kept : (k : ℕ) → k < length nodes → get_or xs k 0 ≡ 1 → get_or ys k 0 ≡ 1
-    kept k h e = spreads k h ∙ mark-kept (node_at nodes at).kids values (get_or values at 0) k (get_or xs k 0) e
+    kept k h e = spread k h ∙ mark-kept (node_at nodes at).kids values (get_or values at 0) k (get_or xs k 0) e
 
     new : (k : ℕ) → k < length nodes → get_or ys k 0 ≡ 1 → (get_or xs k 0 ≡ 1) ⊎ ((is_child (node_at nodes at).kids k ≡ true) × (0 < get_or values k 0) × (get_or values k 0 ≤ get_or values at 0))
-    new k h e = mark-new (node_at nodes at).kids values (get_or values at 0) k (get_or xs k 0) (sym (spreads k h) ∙ e)
+    new k h e = mark-new (node_at nodes at).kids values (get_or values at 0) k (get_or xs k 0) (sym (spread k h) ∙ e)
 
     old : (k : ℕ) → at ≤ k → k < length nodes → get_or ys k 0 ≡ 1 → get_or xs k 0 ≡ 1
     old k h g e = ⊎_elim (λ p. p) (λ p. absurd (omega (arith, before at k lt p.0))) (new k g e)

@@ -4,7 +4,6 @@ use Rattle.std.specs.Prelude.{nat_le}
 use Rattle.std.specs.List.{filter}
 use Rattle.std.proofs.lemmas.Bool.{and_from, leb-true, cases_eq}
 use Rattle.std.proofs.lemmas.List.{ext_get_or}
-use Rattle.std.proofs.lemmas.Bool.Decides.{same_from_decides}
 use Rattle.state_rules.specs.Cases.{agrees_at}
 use Rattle.state_rules.specs.Ranking.{Test, cost, states, passing, is_at_most}
 use Rattle.state_rules.proofs.Lists.{filter-filter}
@@ -15,7 +14,7 @@ use Rattle.minimiser.specs.Costs.{part_cost, known_at, least_at}
 use Rattle.minimiser.specs.inner.Held.{held_cost}
 use Rattle.node_costs.specs.Costs.{total}
 use Rattle.node_costs.proofs.Totals.{total-le}
-use Rattle.minimiser.proofs.Costs.{fault, all_faults, and_left, and_right}
+use Rattle.minimiser.proofs.Costs.{fault, all_faults}
 use Rattle.minimiser.proofs.LeastOfModels.{AddHeld, least_is, state_of, assignment_of}
 use Rattle.fault_graph.proofs.LeastNodes.{StandsFor}
 use Rattle.fault_graph.proofs.PlaceCosts.{high, over, place-cost}
@@ -39,11 +38,7 @@ diagnoses-same : (costs : List ℕ) (n most : ℕ) (p q : Test) → ((h : List B
 diagnoses-same costs n most p q to from =
     filter-filter (λ h. nat_le (cost costs h) most) p (states n)
     ∙ filter_same (λ h. p h && nat_le (cost costs h) most) (λ h. q h && nat_le (cost costs h) most) (states n)
-    (λ h m. same_from_decides {P = (q h && nat_le (cost costs h) most) ≡ true} _ _ (
-      (λ e. and_from _ _ (to h (bits_length n h m) (and_left _ _ e) (leb-true _ _ (and_right (p h) _ e))) (and_right (p h) _ e)),
-      (λ e. and_from _ _ (from h (bits_length n h m) (and_left _ _ e) (leb-true _ _ (and_right (q h) _ e))) (and_right (q h) _ e)),
-    )
-    ((λ e. e), (λ e. e)))
+    (λ h m. let l : length h ≡ n = bits_length n h m in grind (arith, to, from, leb-true, and_from))
     ∙ sym (filter-filter (λ h. nat_le (cost costs h) most) q (states n))
 
 -- ---- the law

@@ -185,8 +185,7 @@ module _ (graph : Graph) (evidence costs : List ℕ) (ok : IsGraph graph) (long 
 
       by_kind : (what : NodeKind) → mention_by w what (map (mentions nodes w) row) ≡ true → mention_by w what (map (mentions graph.nodes w) kids) ≡ true
       by_kind (Literal positive var) h = h
-      by_kind And h = any h
-      by_kind Or h = any h
+      by_kind what h = any h
 
     below-all : are_below (length nodes) row ≡ true
     below-all = row-below keep place (length nodes) kids (λ j i k. (child-place j i k).there)
@@ -197,9 +196,8 @@ module _ (graph : Graph) (evidence costs : List ℕ) (ok : IsGraph graph) (long 
     apart : (w : ℕ) → apart_at (mentions nodes w) what row ≡ true
     apart w = by_kind what (apart-get (mentions graph.nodes w) graph.nodes at _ (ok.nodes.apart w) e) where
       by_kind : (what : NodeKind) → apart_at (mentions graph.nodes w) what kids ≡ true → apart_at (mentions nodes w) what row ≡ true
-      by_kind (Literal positive var) h = refl
       by_kind And h = narrower-apart keep place (mentions nodes w) (mentions graph.nodes w) kids (λ j i k s. (child-place j i k).inside w s) h
-      by_kind Or h = refl
+      by_kind what h = refl
 
     pub are-pushed : AreNodes graph.vars (nodes ++ record { what = what; kids = row } ∷ [])
     are-pushed = AreNodes-push graph.vars nodes (record { what = what; kids = row }) is.are fits apart
@@ -230,8 +228,7 @@ module _ (graph : Graph) (evidence costs : List ℕ) (ok : IsGraph graph) (long 
 
       mention-one : (w : ℕ) (what : NodeKind) → slice_get graph.nodes at ≡ Some (record { what = what; kids = kids }) → mentions nodes w p ≡ true → mention_by w what (map (mentions nodes w) (p ∷ [])) ≡ true
       mention-one w (Literal positive var) f h = absurd (no-literal var positive f)
-      mention-one w And f h = or-false (mentions nodes w p) ∙ h
-      mention-one w Or f h = or-false (mentions nodes w p) ∙ h
+      mention-one w what f h = or-false (mentions nodes w p) ∙ h
 
     -- ---- where it comes from, and what it is needed for
 
@@ -261,8 +258,7 @@ module _ (graph : Graph) (evidence costs : List ℕ) (ok : IsGraph graph) (long 
           costly (free-sum (least_at graph evidence costs) kids c sum
           (λ j d i f.
           let most = sum-child (least_at graph evidence costs) kids c j sum i in
-          let same : get_or values j 0 ≡ d = cost-value j d (omega (arith, earlier j i)) f in
-          ⊎_elim (λ (z : get_or values j 0 ≡ 0). omega (arith, z, same)) (λ (q : c < get_or values j 0). absurd (omega (arith, q, same, most.2, same_Some most.0 d (sym most.1 ∙ f)))) (keeps-not values c j (out none j i))))
+          grind (arith, most.2, same_Some most.0 d (sym most.1 ∙ f), cost-value j d (omega (arith, earlier j i)) f, keeps-not values c j (out none j i))))
 
       no-or : what ≡ Or → row ≡ [] → ⊥
       no-or o none =

@@ -86,11 +86,7 @@ joins-push nodes node all here p h = ⊎_elim
 -- ---- what is needed
 
 pub parent-more : (nodes : List Node) (node : Node) (p : ℕ) → HasParent nodes p → HasParent (nodes ++ node ∷ []) p
-parent-more nodes node p is = record {
-  parent = is.parent;
-  within = omega (arith, is.within, length-append nodes (node ∷ []));
-  child = subst (λ (x : Node). Contains x.kids p) (sym (node_at-before nodes node is.parent is.within)) is.child;
-}
+parent-more nodes node p is = grind (arith, length-append, node_at-before)
 
 pub parent-last : (nodes : List Node) (node : Node) (p : ℕ) → In p node.kids → HasParent (nodes ++ node ∷ []) p
 parent-last nodes node p m = record {

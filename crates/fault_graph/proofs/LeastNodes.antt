@@ -1,9 +1,8 @@
 -- What stands for a node that is true at its least cost: literal by literal, one of two, both of two.
-use Rattle.std.proofs.Common.{◌≡◌, ℕ, ◌+◌, ◌<◌, ◌≤◌, Bool, true, false, ◌&&◌, ◌||◌, Option, Some, None, refl, ap, sym, ◌∙◌, subst, arith, eqb, ⊎_elim}
+use Rattle.std.proofs.Common.{◌≡◌, ℕ, ◌+◌, ◌<◌, ◌≤◌, Bool, true, false, ◌&&◌, ◌||◌, Option, Some, refl, ap, sym, ◌∙◌, subst, arith, eqb, ⊎_elim}
 use Rattle.std.proofs.lemmas.Bool.{and_from, or_cases, or_left, or_right, eq-eqb}
 use Rattle.state_rules.specs.Bits.{same_bit}
 use Rattle.state_rules.specs.Assignments.{Assignment}
-use Rattle.state_rules.proofs.Members.{AtMost}
 use Rattle.node_costs.specs.Costs.{Weights}
 use Rattle.node_costs.proofs.Conditions.{cost_among-le, cost_among-one, cost_among-apart, join, joined-le, trim}
 use Rattle.minimiser.proofs.Costs.{fault, open_weights, only_parts, free, IsCost, Agrees, faults_in, all_faults, and_left, and_right}
@@ -89,14 +88,11 @@ module _ (known : ℕ → Option Bool) (cost : ℕ → ℕ) (parts : ℕ) where
     pub stands-other : (c : ℕ) (d : Option ℕ) (w : Assignment → Bool) → IsCost known cost parts t m d → ((n : ℕ) → d ≡ Some n → c < n) → StandsFor s o c w → StandsFor (λ a. t a || s a) (λ v. m v || o v) c w
     stands-other c d w is dear y = record {
       onto = λ a ag h few. ⊎_elim
-          (λ p. absurd (too_dear d dear (faults_in known cost parts m a) (is.bound a ag p) (omega (arith, few, left-le a))))
+          (λ p. let least = is.bound a ag p in grind (arith, least, dear, left-le a))
           (λ p. y.onto a ag p (omega (arith, few, right-le a)))
           (or_cases (t a) (s a) h);
       back = λ b ag h. let r = y.back b ag h in record { by = r.by; agrees = r.agrees; holds = or_right _ _ r.holds; cheap = r.cheap; fewer = r.fewer };
-    } where
-      too_dear : (d : Option ℕ) → ((n : ℕ) → d ≡ Some n → c < n) → (f : ℕ) → AtMost d f → f ≤ c → ⊥
-      too_dear None dear f h few = h
-      too_dear (Some n) dear f h few = omega (arith, dear n refl, h, few)
+    }
 
     -- both of two that share no variable
     pub stands-and : (c d : ℕ) (u w : Assignment → Bool) → ((v : ℕ) → (m v && o v) ≡ false) → IsCost known cost parts t m (Some c) → IsCost known cost parts s o (Some d)

@@ -1,5 +1,5 @@
 -- Marks that go down from the root.
-use Rattle.std.proofs.Common.{◌≡◌, ◌≢◌, ℕ, ◌-◌, ◌<◌, ◌≤◌, true, cond, List, length, get_or, sym, ◌∙◌, subst, arith, inl, inr, ⊎_elim}
+use Rattle.std.proofs.Common.{◌≡◌, ℕ, ◌-◌, ◌<◌, ◌≤◌, true, cond, List, length, get_or, sym, ◌∙◌, arith, inl, inr, ⊎_elim}
 use Rattle.std.specs.Prelude.{◌⊎◌}
 use Rattle.std.proofs.lemmas.Bool.{and_from, leb-true, le-leb, ltb-true, lt-ltb, cases_eq}
 use Rattle.state_rules.specs.Graphs.{Node, Graph, node_at, IsGraph}
@@ -33,11 +33,7 @@ module _ (graph : Graph) (ok : IsGraph graph) (values xs : List ℕ) (from : ℕ
     root = kept (length nodes - 1) (omega arith) s.root;
     dear = λ k h e. ⊎_elim (λ p. s.dear k h p) (λ p. p.1) (new k h e);
     low = λ k h e. ⊎_elim (λ p. s.low k h p) (λ p. omega (arith, p.2, s.low at lt m)) (new k h e);
-    down = λ k j h g e i d c.
-        let l : j < length nodes = omega (arith, before k j g i) in ⊎_elim
-        (λ (q : k ≡ at). spread j l ∙ mark-child (node_at nodes at).kids values (get_or values at 0) j (get_or xs j 0) (subst (λ n. is_child (node_at nodes n).kids j ≡ true) q i) d (subst (λ n. get_or values j 0 ≤ get_or values n 0) q c))
-        (λ (q : k ≢ at). kept j l (s.down k j (omega arith) g (old k h g e) i d c))
-        (cases_eq k at);
+    down = λ k j h g e i d c. grind (arith, cases_eq k at, s.down k j, child_before graph k j ok, old k h, kept j, spread j, mark-child (node_at nodes at).kids values (get_or values at 0) j (get_or xs j 0));
     up = λ k h e. ⊎_elim
         (λ p. ⊎_elim (λ r. inl r) (λ (x : HasMarkedParent nodes values xs k). inr (record { parent = x.parent; within = x.within; marked = kept x.parent x.within x.marked; child = x.child; cheap = x.cheap })) (s.up k h p))
         (λ p. inr (record { parent = at; within = lt; marked = kept at lt m; child = p.0; cheap = p.2 }))
@@ -45,9 +41,6 @@ module _ (graph : Graph) (ok : IsGraph graph) (values xs : List ℕ) (from : ℕ
   } where
     lt : at < length nodes
     lt = omega arith
-
-    before : (k j : ℕ) → k < length nodes → is_child (node_at nodes k).kids j ≡ true → j < k
-    before k j h i = child_before graph k j ok h i
 
     spread : (j : ℕ) → j < length nodes → get_or ys j 0 ≡ mark_of (node_at nodes at).kids values (get_or values at 0) j (get_or xs j 0)
     spread j h = rw (← same) (spreads j (omega (arith, long)))
@@ -59,4 +52,4 @@ module _ (graph : Graph) (ok : IsGraph graph) (values xs : List ℕ) (from : ℕ
     new k h e = mark-new (node_at nodes at).kids values (get_or values at 0) k (get_or xs k 0) (sym (spread k h) ∙ e)
 
     old : (k : ℕ) → at ≤ k → k < length nodes → get_or ys k 0 ≡ 1 → get_or xs k 0 ≡ 1
-    old k h g e = ⊎_elim (λ p. p) (λ p. absurd (omega (arith, before at k lt p.0))) (new k g e)
+    old k h g e = ⊎_elim (λ p. p) (λ p. absurd (omega (arith, child_before graph at k ok lt p.0))) (new k g e)

@@ -4,7 +4,7 @@ use Rattle.flat_lists.proofs.Pieces.{length-pieces}
 use Rattle.minimiser.proofs.SpreadMarks.{children_before}
 use Rattle.diagnosis_lister.proofs.Faults.{faults-few}
 use Rattle.fault_graph.proofs.AddedNodes.{sizes}
-use Rattle.fault_graph.proofs.LastMinimised.{known-some, last-minimised, no-models, step-same}
+use Rattle.fault_graph.proofs.LastMinimised.{known-some, last-minimised, no-models}
 
 -- how many nodes there are, and which come before one
 pub ruleset node_steps = (children_before, length-pieces, sizes)
@@ -13,4 +13,4 @@ pub ruleset node_steps = (children_before, length-pieces, sizes)
 pub ruleset fault_steps = (faults-few, sum_by-take-le)
 
 -- what was minimised last
-pub ruleset last_steps = (known-some, last-minimised, no-models, step-same)
+pub ruleset last_steps = (known-some, last-minimised, no-models)

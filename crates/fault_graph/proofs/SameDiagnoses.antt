@@ -46,23 +46,11 @@ diagnoses-same costs n most p q to from =
 module _ (graph small : Graph) (evidence costs : List ℕ) (ok : IsGraph graph) (sound : IsGraph small) (vars : small.vars ≡ graph.vars) (long : length evidence ≡ graph.vars) (within : length costs ≤ graph.vars)
     (dear : All (λ c. 0 < c) costs) (c : ℕ) (is : least_at graph evidence costs (length graph.nodes - 1) ≡ Some c)
     (stands : StandsFor (known_at evidence) (part_cost costs) (length costs) (λ a. is_true graph.nodes (length graph.nodes - 1) a) (λ v. mentions graph.nodes v (length graph.nodes - 1)) c (λ a. is_true small.nodes (length small.nodes - 1) a)) where
-  abbrev kn : ℕ → Option Bool
-  kn v = known_at evidence v
-
-  abbrev price : ℕ → ℕ
-  price v = part_cost costs v
-
   abbrev n : ℕ
   n = length costs
 
   abbrev held : ℕ
   held = held_cost costs evidence
-
-  abbrev root : ℕ
-  root = length graph.nodes - 1
-
-  abbrev end : ℕ
-  end = length small.nodes - 1
 
   long-small : length evidence ≡ small.vars
   long-small = long ∙ sym vars
@@ -74,13 +62,13 @@ module _ (graph small : Graph) (evidence costs : List ℕ) (ok : IsGraph graph) 
   graph-least = least_is graph evidence costs ok long within ∙ ap (AddHeld held) is
 
   pub small-least : least_under small evidence costs ≡ Some (held_cost costs evidence + c)
-  small-least = least_is small evidence costs sound long-small within-small ∙ ap (AddHeld held) (place-cost graph small evidence costs ok sound root end c is stands)
+  small-least = least_is small evidence costs sound long-small within-small ∙ ap (AddHeld held) (place-cost graph small evidence costs ok sound _ _ c is stands)
 
   -- a state that the graph allows at the least cost, the other allows too
   to : (h : List Bool) → length h ≡ n → has_model graph (fits_evidence evidence) n h ≡ true → cost costs h ≤ held + c → has_model small (fits_evidence evidence) n h ≡ true
   to h l m few =
       let a = assignment_of graph evidence costs ok long within h l m in
-      let t = over graph small evidence costs ok sound root end c is stands a.by a.agrees a.holds (omega (arith, few, a.cost_is)) in
+      let t = over graph small evidence costs ok sound _ _ c is stands a.by a.agrees a.holds (omega (arith, few, a.cost_is)) in
       let s = state_of small evidence costs sound long-small within-small a.by a.agrees t in
       let same : s.state ≡ h = ext_get_or false s.state h (s.long_state ∙ sym l) (λ i g. s.bits i (omega (arith, g, s.long_state)) ∙ sym (a.bits i (omega (arith, g, s.long_state)))) in
       subst (λ x. has_model small (fits_evidence evidence) n x ≡ true) same s.model
@@ -91,15 +79,15 @@ module _ (graph small : Graph) (evidence costs : List ℕ) (ok : IsGraph graph) 
       let b = assignment_of small evidence costs sound long-small within-small h l m in
       let w = stands.back b.by b.agrees b.holds in
       let s = state_of graph evidence costs ok long within w.by w.agrees w.holds in
-      let most : all_faults kn price n b.by ≤ c = omega (arith, few, b.cost_is) in
-      let equal : all_faults kn price n b.by ≤ all_faults kn price n w.by = omega (arith, most, high graph small evidence costs ok sound root end c is stands w.by w.agrees w.holds) in
-      let bit : (i : ℕ) → i < n → w.by (1 + i) ≡ b.by (1 + i) = λ i g. same_fault (kn (1 + i)) (price (1 + i)) (w.by (1 + i)) (b.by (1 + i)) (costly i g) (w.agrees (1 + i)) (b.agrees (1 + i)) (w.fewer (1 + i))
-      (total-same (λ v. fault (kn v) (price v) (w.by v)) (λ v. fault (kn v) (price v) (b.by v)) w.fewer 1 n equal (1 + i) (omega arith) (omega arith)) in
+      let most : all_faults (known_at evidence) (part_cost costs) n b.by ≤ c = omega (arith, few, b.cost_is) in
+      let equal : all_faults (known_at evidence) (part_cost costs) n b.by ≤ all_faults (known_at evidence) (part_cost costs) n w.by = omega (arith, most, high graph small evidence costs ok sound _ _ c is stands w.by w.agrees w.holds) in
+      let bit : (i : ℕ) → i < n → w.by (1 + i) ≡ b.by (1 + i) = λ i g. same_fault (known_at evidence (1 + i)) (part_cost costs (1 + i)) (w.by (1 + i)) (b.by (1 + i)) (costly i g) (w.agrees (1 + i)) (b.agrees (1 + i)) (w.fewer (1 + i))
+      (total-same (λ v. fault (known_at evidence v) (part_cost costs v) (w.by v)) (λ v. fault (known_at evidence v) (part_cost costs v) (b.by v)) w.fewer 1 n equal (1 + i) (omega arith) (omega arith)) in
       let same : s.state ≡ h = ext_get_or false s.state h (s.long_state ∙ sym l)
       (λ i g. s.bits i (omega (arith, g, s.long_state)) ∙ bit i (omega (arith, g, s.long_state)) ∙ sym (b.bits i (omega (arith, g, s.long_state)))) in
       subst (λ x. has_model graph (fits_evidence evidence) n x ≡ true) same s.model where
-        costly : (i : ℕ) → i < n → 0 < price (1 + i)
-        costly i g = let one_more : 1 + i ≡ suc i = omega arith in subst (λ v. 0 < price v) (sym one_more) (dear i 0 g)
+        costly : (i : ℕ) → i < n → 0 < part_cost costs (1 + i)
+        costly i g = let one_more : 1 + i ≡ suc i = omega arith in subst (λ v. 0 < part_cost costs v) (sym one_more) (dear i 0 g)
 
   pub same-diagnoses : diagnoses_under small evidence costs ≡ diagnoses_under graph evidence costs
   same-diagnoses =

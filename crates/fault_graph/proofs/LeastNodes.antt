@@ -40,10 +40,8 @@ module _ (known : ℕ → Option Bool) (cost : ℕ → ℕ) (parts : ℕ) where
   pub stands-free : (none : (v : ℕ) → ((1 ≤ v) → (v < 1 + parts) → ⊥) → cost v ≡ 0) (t : Assignment → Bool) (m : ℕ → Bool) → IsCost known cost parts t m (Some 0) → StandsFor t m 0 (λ a. true)
   stands-free none t m is = record {
     onto = λ a ag h few. refl;
-    back = λ b ag h. let r = is.reached 0 refl in record { by = r.by; agrees = r.agrees; holds = r.holds; cheap = r.cheap; fewer = λ v. omega (arith, no_fault r.by r.cheap v) };
-  } where
-    no_fault : (a : Assignment) → all_faults known cost parts a ≤ 0 → (v : ℕ) → fault (known v) (cost v) (a v) ≤ 0
-    no_fault a few v = omega (arith, few, cost_among-le g (λ u. eqb v u) (λ u. true) a (λ u h. refl), cost_among-one g (only_parts known cost parts none) v a)
+    back = λ b ag h. let r = is.reached 0 refl in record { by = r.by; agrees = r.agrees; holds = r.holds; cheap = r.cheap; fewer = λ v. omega (arith, r.cheap, cost_among-le g (λ u. eqb v u) (λ u. true) r.by (λ u h. refl), cost_among-one g (only_parts known cost parts none) v r.by) };
+  }
 
   -- an open literal that says faulty
   pub stands-literal : (none : (v : ℕ) → ((1 ≤ v) → (v < 1 + parts) → ⊥) → cost v ≡ 0) (var : ℕ) → StandsFor (λ a. same_bit false (a var)) (λ v. eqb var v) (cost var) (λ a. same_bit false (a var))

@@ -49,9 +49,6 @@ module _ (graph small : Graph) (evidence costs : List ℕ) (ok : IsGraph graph) 
   abbrev n : ℕ
   n = length costs
 
-  abbrev held : ℕ
-  held = held_cost costs evidence
-
   long-small : length evidence ≡ small.vars
   long-small = long ∙ sym vars
 
@@ -59,13 +56,13 @@ module _ (graph small : Graph) (evidence costs : List ℕ) (ok : IsGraph graph) 
   within-small = omega arith
 
   pub graph-least : least_under graph evidence costs ≡ Some (held_cost costs evidence + c)
-  graph-least = least_is graph evidence costs ok long within ∙ ap (AddHeld held) is
+  graph-least = least_is graph evidence costs ok long within ∙ ap (AddHeld (held_cost costs evidence)) is
 
   pub small-least : least_under small evidence costs ≡ Some (held_cost costs evidence + c)
-  small-least = least_is small evidence costs sound long-small within-small ∙ ap (AddHeld held) (place-cost graph small evidence costs ok sound _ _ c is stands)
+  small-least = least_is small evidence costs sound long-small within-small ∙ ap (AddHeld (held_cost costs evidence)) (place-cost graph small evidence costs ok sound _ _ c is stands)
 
   -- a state that the graph allows at the least cost, the other allows too
-  to : (h : List Bool) → length h ≡ n → has_model graph (fits_evidence evidence) n h ≡ true → cost costs h ≤ held + c → has_model small (fits_evidence evidence) n h ≡ true
+  to : (h : List Bool) → length h ≡ n → has_model graph (fits_evidence evidence) n h ≡ true → cost costs h ≤ held_cost costs evidence + c → has_model small (fits_evidence evidence) n h ≡ true
   to h l m few =
       let a = assignment_of graph evidence costs ok long within h l m in
       let t = over graph small evidence costs ok sound _ _ c is stands a.by a.agrees a.holds (omega (arith, few, a.cost_is)) in
@@ -74,7 +71,7 @@ module _ (graph small : Graph) (evidence costs : List ℕ) (ok : IsGraph graph) 
       subst (λ x. has_model small (fits_evidence evidence) n x ≡ true) same s.model
 
   -- and the other way round
-  back : (h : List Bool) → length h ≡ n → has_model small (fits_evidence evidence) n h ≡ true → cost costs h ≤ held + c → has_model graph (fits_evidence evidence) n h ≡ true
+  back : (h : List Bool) → length h ≡ n → has_model small (fits_evidence evidence) n h ≡ true → cost costs h ≤ held_cost costs evidence + c → has_model graph (fits_evidence evidence) n h ≡ true
   back h l m few =
       let b = assignment_of small evidence costs sound long-small within-small h l m in
       let w = stands.back b.by b.agrees b.holds in
@@ -92,5 +89,5 @@ module _ (graph small : Graph) (evidence costs : List ℕ) (ok : IsGraph graph) 
   pub same-diagnoses : diagnoses_under small evidence costs ≡ diagnoses_under graph evidence costs
   same-diagnoses =
       ap (λ (o : Option ℕ). filter (λ h. is_at_most (cost costs h) o) (models small evidence n)) small-least
-      ∙ diagnoses-same costs n (held + c) (has_model small (fits_evidence evidence) n) (has_model graph (fits_evidence evidence) n) back to
+      ∙ diagnoses-same costs n (held_cost costs evidence + c) (has_model small (fits_evidence evidence) n) (has_model graph (fits_evidence evidence) n) back to
       ∙ sym (ap (λ (o : Option ℕ). filter (λ h. is_at_most (cost costs h) o) (models graph evidence n)) graph-least)

@@ -2,7 +2,7 @@
 use Rattle.std.proofs.Common.{◌≡◌, ℕ, ◌-◌, ◌<◌, ◌≤◌, true, cond, List, length, get_or, sym, ◌∙◌, arith, inl, inr, ⊎_elim}
 use Rattle.std.specs.Prelude.{◌⊎◌}
 use Rattle.std.proofs.lemmas.Bool.{and_from, leb-true, le-leb, ltb-true, lt-ltb, cases_eq}
-use Rattle.state_rules.specs.Graphs.{Node, Graph, node_at, IsGraph}
+use Rattle.state_rules.specs.Graphs.{Graph, node_at, IsGraph}
 use Rattle.minimiser.proofs.Costs.{and_left}
 use Rattle.minimiser.proofs.SpreadMarks.{child_before}
 use Rattle.minimiser.specs.inner.Swept.{is_child}

@@ -4,7 +4,6 @@ use Rattle.std.specs.Prelude.{is_some, IsSomeAnd, IfSome}
 use Rattle.state_rules.specs.Ranking.{least}
 use Rattle.state_rules.specs.Graphs.{Graph}
 use Rattle.conditioner.specs.Models.{models, least_under}
-use Rattle.diagnosis_lister.specs.Listing.{step_of}
 use Rattle.fault_graph.specs.Minimised.{Last, Kept, IsOf, Serves, IsMinimised}
 
 -- if something was minimised under the evidence, some state agrees with it
@@ -17,14 +16,6 @@ last-minimised graph costs evidence kept small serves same is = by_last kept.las
   by_last : (o : Option Last) → kept.last ≡ o → IsSomeAnd o (λ (last : Last). last.evidence ≡ evidence) → IfSome o (λ (last : Last). small ≡ last.small) → IsMinimised graph evidence costs small
   by_last None e s i = absurd s
   by_last (Some last) e s i = subst (IsMinimised graph evidence costs) (sym i) (subst (λ ws. IsMinimised graph ws costs last.small) s (serves.minimised last e))
-
--- there is a state where there is a least cost
-no_least : (costs : List ℕ) (h : List Bool) (hs : List (List Bool)) → least costs (h ∷ hs) ≡ None → ⊥
-no_least costs h hs e = grind arith
-
--- what comes next is said alike where the least costs are the same
-pub step-same : (costs : List ℕ) (hs ks later : List (List Bool)) → least costs hs ≡ least costs ks → step_of hs later ≡ step_of ks later
-step-same costs hs ks later e = grind arith
 
 -- where no state agrees, there is no least cost, and no diagnosis
 none-is : (costs : List ℕ) (hs : List (List Bool)) → false ≡ is_some (least costs hs) → hs ≡ []

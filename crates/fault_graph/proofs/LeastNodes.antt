@@ -1,17 +1,14 @@
 -- What stands for a node that is true at its least cost: literal by literal, one of two, both of two.
-use Rattle.std.proofs.Common.{◌≡◌, ℕ, ◌+◌, ◌<◌, ◌≤◌, Bool, true, false, ◌&&◌, ◌||◌, Option, Some, None, refl, ap, sym, ◌∙◌, subst, arith, eqb, ⊎_elim}
+use Rattle.std.proofs.Common.{◌≡◌, ℕ, ◌+◌, ◌<◌, ◌≤◌, Bool, true, false, ◌&&◌, ◌||◌, Option, Some, refl, ap, sym, ◌∙◌, subst, arith, eqb, ⊎_elim}
 use Rattle.std.proofs.lemmas.Bool.{and_from, or_cases, or_left, or_right, eq-eqb}
 use Rattle.state_rules.specs.Bits.{same_bit}
 use Rattle.state_rules.specs.Assignments.{Assignment}
-use Rattle.state_rules.proofs.Members.{AtMost}
 use Rattle.node_costs.specs.Costs.{Weights}
 use Rattle.node_costs.proofs.Conditions.{cost_among-le, cost_among-one, cost_among-apart, join, joined-le, trim}
 use Rattle.minimiser.proofs.Costs.{fault, open_weights, only_parts, free, IsCost, Agrees, faults_in, all_faults, and_left, and_right}
 
 fault_most : (k : Option Bool) (w : ℕ) (b : Bool) → fault k w b ≤ w
-fault_most None w true = omega arith
-fault_most None w false = omega arith
-fault_most (Some x) w b = omega arith
+fault_most k w b = grind arith
 
 -- what is known of each variable, what it costs if it is false, and how many variables there are whose cost may not be 0
 module _ (known : ℕ → Option Bool) (cost : ℕ → ℕ) (parts : ℕ) where
@@ -43,10 +40,8 @@ module _ (known : ℕ → Option Bool) (cost : ℕ → ℕ) (parts : ℕ) where
   pub stands-free : (none : (v : ℕ) → ((1 ≤ v) → (v < 1 + parts) → ⊥) → cost v ≡ 0) (t : Assignment → Bool) (m : ℕ → Bool) → IsCost known cost parts t m (Some 0) → StandsFor t m 0 (λ a. true)
   stands-free none t m is = record {
     onto = λ a ag h few. refl;
-    back = λ b ag h. let r = is.reached 0 refl in record { by = r.by; agrees = r.agrees; holds = r.holds; cheap = r.cheap; fewer = λ v. omega (arith, no_fault r.by r.cheap v) };
-  } where
-    no_fault : (a : Assignment) → all_faults known cost parts a ≤ 0 → (v : ℕ) → fault (known v) (cost v) (a v) ≤ 0
-    no_fault a few v = omega (arith, few, cost_among-le g (λ u. eqb v u) (λ u. true) a (λ u h. refl), cost_among-one g (only_parts known cost parts none) v a)
+    back = λ b ag h. let r = is.reached 0 refl in record { by = r.by; agrees = r.agrees; holds = r.holds; cheap = r.cheap; fewer = λ v. omega (arith, r.cheap, cost_among-le g (λ u. eqb v u) (λ u. true) r.by (λ u h. refl), cost_among-one g (only_parts known cost parts none) v r.by) };
+  }
 
   -- an open literal that says faulty
   pub stands-literal : (none : (v : ℕ) → ((1 ≤ v) → (v < 1 + parts) → ⊥) → cost v ≡ 0) (var : ℕ) → StandsFor (λ a. same_bit false (a var)) (λ v. eqb var v) (cost var) (λ a. same_bit false (a var))
@@ -91,14 +86,11 @@ module _ (known : ℕ → Option Bool) (cost : ℕ → ℕ) (parts : ℕ) where
     pub stands-other : (c : ℕ) (d : Option ℕ) (w : Assignment → Bool) → IsCost known cost parts t m d → ((n : ℕ) → d ≡ Some n → c < n) → StandsFor s o c w → StandsFor (λ a. t a || s a) (λ v. m v || o v) c w
     stands-other c d w is dear y = record {
       onto = λ a ag h few. ⊎_elim
-          (λ p. absurd (too_dear d dear (faults_in known cost parts m a) (is.bound a ag p) (omega (arith, few, left-le a))))
+          (λ p. let least = is.bound a ag p in grind (arith, least, dear, left-le a))
           (λ p. y.onto a ag p (omega (arith, few, right-le a)))
           (or_cases (t a) (s a) h);
       back = λ b ag h. let r = y.back b ag h in record { by = r.by; agrees = r.agrees; holds = or_right _ _ r.holds; cheap = r.cheap; fewer = r.fewer };
-    } where
-      too_dear : (d : Option ℕ) → ((n : ℕ) → d ≡ Some n → c < n) → (f : ℕ) → AtMost d f → f ≤ c → ⊥
-      too_dear None dear f h few = h
-      too_dear (Some n) dear f h few = omega (arith, dear n refl, h, few)
+    }
 
     -- both of two that share no variable
     pub stands-and : (c d : ℕ) (u w : Assignment → Bool) → ((v : ℕ) → (m v && o v) ≡ false) → IsCost known cost parts t m (Some c) → IsCost known cost parts s o (Some d)

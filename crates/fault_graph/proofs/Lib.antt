@@ -11,3 +11,4 @@ pub mod SmallGraphs
 pub mod LastMinimised
 pub mod Written
 pub mod PresumedParts
+pub mod Rules

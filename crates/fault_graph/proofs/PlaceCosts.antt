@@ -16,35 +16,26 @@ faults_in-all known cost parts m a = faults_in-le known cost parts m (λ v. true
 
 module _ (graph small : Graph) (evidence costs : List ℕ) (ok : IsGraph graph) (sound : IsGraph small) (k p c : ℕ) (is : least_at graph evidence costs k ≡ Some c)
     (stands : StandsFor (known_at evidence) (part_cost costs) (length costs) (λ a. is_true graph.nodes k a) (λ v. mentions graph.nodes v k) c (λ a. is_true small.nodes p a)) where
-  abbrev kn : ℕ → Option Bool
-  kn v = known_at evidence v
-
-  abbrev price : ℕ → ℕ
-  price v = part_cost costs v
-
-  abbrev n : ℕ
-  n = length costs
-
   -- what makes the node true costs no less
   pub high : (a : Assignment) → Agrees (known_at evidence) (part_cost costs) (length costs) a → is_true graph.nodes k a ≡ true → c ≤ all_faults (known_at evidence) (part_cost costs) (length costs) a
   high a ag h =
-      let low : c ≤ faults_in kn price n (λ v. mentions graph.nodes v k) a = subst (λ o. AtMost o (faults_in kn price n (λ v. mentions graph.nodes v k) a)) is ((is_cost graph evidence costs ok k).bound a ag h) in
-      omega (arith, low, faults_in-all kn price n (λ v. mentions graph.nodes v k) a)
+      let low : c ≤ faults_in (known_at evidence) (part_cost costs) (length costs) (λ v. mentions graph.nodes v k) a = subst (λ o. AtMost o (faults_in (known_at evidence) (part_cost costs) (length costs) (λ v. mentions graph.nodes v k) a)) is ((is_cost graph evidence costs ok k).bound a ag h) in
+      omega (arith, low, faults_in-all (known_at evidence) (part_cost costs) (length costs) (λ v. mentions graph.nodes v k) a)
 
   -- what makes the node true at its least cost makes the other true
   pub over : (a : Assignment) → Agrees (known_at evidence) (part_cost costs) (length costs) a → is_true graph.nodes k a ≡ true → all_faults (known_at evidence) (part_cost costs) (length costs) a ≤ c → is_true small.nodes p a ≡ true
-  over a ag h few = stands.onto a ag h (omega (arith, few, faults_in-all kn price n (λ v. mentions graph.nodes v k) a))
+  over a ag h few = stands.onto a ag h (omega (arith, few, faults_in-all (known_at evidence) (part_cost costs) (length costs) (λ v. mentions graph.nodes v k) a))
 
   pub place-cost : least_at small evidence costs p ≡ Some c
   place-cost = from_bounds (least_at small evidence costs p) c most low where
     most : AtMost (least_at small evidence costs p) c
     most =
         let r = (is_cost graph evidence costs ok k).reached c is in
-        AtMost-le (least_at small evidence costs p) (faults_in kn price n (λ v. mentions small.nodes v p) r.by) c ((is_cost small evidence costs sound p).bound r.by r.agrees (over r.by r.agrees r.holds r.cheap))
-        (omega (arith, r.cheap, faults_in-all kn price n (λ v. mentions small.nodes v p) r.by))
+        AtMost-le (least_at small evidence costs p) (faults_in (known_at evidence) (part_cost costs) (length costs) (λ v. mentions small.nodes v p) r.by) c ((is_cost small evidence costs sound p).bound r.by r.agrees (over r.by r.agrees r.holds r.cheap))
+        (omega (arith, r.cheap, faults_in-all (known_at evidence) (part_cost costs) (length costs) (λ v. mentions small.nodes v p) r.by))
 
     low : (m : ℕ) → least_at small evidence costs p ≡ Some m → c ≤ m
     low m e =
         let b = (is_cost small evidence costs sound p).reached m e in
         let w = stands.back b.by b.agrees b.holds in
-        omega (arith, high w.by w.agrees w.holds, b.cheap, total-le (λ v. fault (kn v) (price v) (w.by v)) (λ v. fault (kn v) (price v) (b.by v)) w.fewer 1 n)
+        omega (arith, high w.by w.agrees w.holds, b.cheap, total-le (λ v. fault (known_at evidence v) (part_cost costs v) (w.by v)) (λ v. fault (known_at evidence v) (part_cost costs v) (b.by v)) w.fewer 1 (length costs))

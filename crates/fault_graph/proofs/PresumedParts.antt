@@ -2,8 +2,9 @@
 use Rattle.std.proofs.Common.{◌≡◌, ℕ, zero, suc, ◌<◌, ◌≤◌, Bool, true, false, cond, List, [], ◌∷◌, length, get_or, Some, refl, ap, sym, ◌∙◌, subst, inl, inr, arith}
 use Rattle.std.specs.Prelude.{◌↔◌, ◌==◌, slice_get}
 use Rattle.std.proofs.lemmas.Bool.{false≢true, eqb-true, eq-eqb, true_from_ne_false}
+use Rattle.std.proofs.lemmas.List.{get_or_default}
 use Rattle.state_rules.specs.Bits.{bit_in}
-use Rattle.state_rules.proofs.Members.{In}
+use Rattle.state_rules.proofs.Members.{In, In-at}
 use Rattle.state_rules.specs.Graphs.{Graph}
 use Rattle.conditioner.specs.Models.{diagnoses_under}
 use Rattle.minimiser.specs.LeastStates.{ModelWithin, Suspect}
@@ -18,22 +19,18 @@ module _ (graph : Graph) (evidence costs : List ℕ) (most : ℕ) (within : leng
   abbrev all : List (List Bool)
   all = diagnoses_under graph evidence costs
 
+  some : 0 < length all
+  some = let one = least-some graph costs within evidence most e in by_member all one.state (diagnosis-in graph evidence costs most e one.state one.passes) where
+    by_member : (ds : List (List Bool)) (h : List Bool) → In h ds → 0 < length ds
+    by_member [] h m = absurd m
+    by_member (d ∷ ds) h m = omega arith
+
   -- the first diagnosis
   pub first-passes-all : (d : List Bool) → ModelWithin graph evidence costs most (get_or (diagnoses_under graph evidence costs) 0 d)
-  first-passes-all d =
-      let some = least-some graph costs within evidence most e in
-      diagnosis-out graph evidence costs most e _ (first-in all some.state (diagnosis-in graph evidence costs most e some.state some.passes)) where
-        first-in : (ds : List (List Bool)) (h : List Bool) → In h ds → In (get_or ds 0 d) ds
-        first-in [] h m = absurd m
-        first-in (x ∷ ds) h m = inl refl
+  first-passes-all d = diagnosis-out graph evidence costs most e _ (In-at all 0 d some)
 
   pub first-same : (c d : List Bool) → get_or (diagnoses_under graph evidence costs) 0 c ≡ get_or (diagnoses_under graph evidence costs) 0 d
-  first-same c d =
-      let some = least-some graph costs within evidence most e in
-      same-first all some.state (diagnosis-in graph evidence costs most e some.state some.passes) where
-        same-first : (ds : List (List Bool)) (h : List Bool) → In h ds → get_or ds 0 c ≡ get_or ds 0 d
-        same-first [] h m = absurd m
-        same-first (x ∷ ds) h m = refl
+  first-same c d = get_or_default all 0 c d some
 
 module _ (graph : Graph) (evidence costs : List ℕ) (i most : ℕ) (lt : i < length costs) (within : length costs ≤ graph.vars) (long : length evidence ≡ graph.vars) (e : LeastIs graph costs evidence most) where
   -- what is presumed, of a part that is a suspect or not

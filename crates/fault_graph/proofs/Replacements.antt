@@ -1,8 +1,8 @@
 -- The node that replaces another, from those that replace its children.
 use Rattle.std.proofs.Common.{◌≡◌, ℕ, ◌+◌, ◌<◌, ◌≤◌, Bool, true, false, cond, ◌&&◌, List, [], ◌∷◌, map, length, Option, Some, refl, ap, sym, ◌∙◌, subst, arith, inl, inr, ⊎_elim}
-use Rattle.std.specs.Prelude.{◌⊎◌, not, slice_get}
+use Rattle.std.specs.Prelude.{◌⊎◌, slice_get}
 use Rattle.std.specs.List.{list_all, list_any, filter}
-use Rattle.std.proofs.lemmas.Bool.{false≢true, and_from, or_cases, or_left, or_right}
+use Rattle.std.proofs.lemmas.Bool.{and_from, or_cases, or_left, or_right}
 use Rattle.std.proofs.lemmas.Option.{same_Some}
 use Rattle.state_rules.specs.Bits.{same_bit}
 use Rattle.state_rules.specs.Assignments.{Assignment}
@@ -30,18 +30,7 @@ module _ (keep : ℕ → Bool) (place : ℕ → ℕ) (small large : ℕ → Bool
 
   pub narrower-apart : (kids : List ℕ) → Narrower kids → at_most_one (map large kids) ≡ true → at_most_one (map small (map place (filter keep kids))) ≡ true
   narrower-apart [] h e = refl
-  narrower-apart (j ∷ kids) h e = by_keep (narrower-apart kids (λ i m. h i (inr m)) (at_most_one-tail (large j) (map large kids) e)) (keep j) refl where
-    by_keep : at_most_one (map small (map place (filter keep kids))) ≡ true
-        → (b : Bool) → keep j ≡ b → at_most_one (map small (map place (cond b (j ∷ filter keep kids) (filter keep kids)))) ≡ true
-    by_keep more true k = by_first (small (place j)) refl where
-      none : large j ≡ true → (b : Bool) → list_any (λ x. x) (map small (map place (filter keep kids))) ≡ b → not b ≡ true
-      none l false q = refl
-      none l true q = absurd (false≢true (sym (not_both (large j) (map large kids) e) ∙ and_from _ _ l (narrower-any kids (λ i m. h i (inr m)) q)))
-
-      by_first : (b : Bool) → small (place j) ≡ b → at_most_one (b ∷ map small (map place (filter keep kids))) ≡ true
-      by_first true q = none (h j (inl refl) k q) (list_any (λ x. x) (map small (map place (filter keep kids)))) refl
-      by_first false q = more
-    by_keep more false k = more
+  narrower-apart (j ∷ kids) h e = grind (arith, keep, small, place, large, and_from, not_both, at_most_one-tail, narrower-any kids, narrower-apart kids)
 
 -- ---- their truth
 

@@ -21,9 +21,6 @@ module _ (graph : Graph) (evidence costs : List ℕ) (ok : IsGraph graph) (long 
   abbrev root : ℕ
   root = length graph.nodes - 1
 
-  end-is : (node : Node) (nodes : List Node) → length (nodes ++ node ∷ []) - 1 ≡ length nodes
-  end-is node nodes = omega (arith, length-append nodes (node ∷ []))
-
   -- the nodes are a graph, which is minimised and small
   pub record IsWhole (new : List Node) : Type 0 where
     pub graph_is : IsGraph (record { nodes = new; vars = graph.vars })
@@ -38,7 +35,8 @@ module _ (graph : Graph) (evidence costs : List ℕ) (ok : IsGraph graph) (long 
       let new : List Node = nodes ++ node ∷ [] in
       let long_new : length new ≡ length nodes + 1 = length-append nodes (node ∷ []) in
       let sound : IsGraph (record { nodes = new; vars = graph.vars }) = record { some = omega (arith, long_new); few = omega (arith, long_new, few, ok.some, ok.few); nodes = are } in
-      let at_end = subst (λ n. StandsFor (known_at evidence) (part_cost costs) (length costs) (λ a. is_true graph.nodes root a) (λ w. mentions graph.nodes w root) c (λ a. is_true new n a)) (sym (end-is node nodes)) stands in
+      let last : length nodes ≡ length new - 1 = omega (arith, long_new) in
+      let at_end = subst (λ n. StandsFor (known_at evidence) (part_cost costs) (length costs) (λ a. is_true graph.nodes root a) (λ w. mentions graph.nodes w root) c (λ a. is_true new n a)) last stands in
       record {
         graph_is = sound;
         minimised = record {

@@ -33,7 +33,7 @@ use Rattle.fault_graph.specs.inner.Rows.{keeps, kept_children, Adds, root_node}
 use Rattle.fault_graph.proofs.LeastNodes.{StandsFor, StandsFor-same}
 use Rattle.fault_graph.proofs.Replacements.{ChildrenStand, node-stands, narrower-any, narrower-apart}
 use Rattle.fault_graph.proofs.PlaceCosts.{faults_in-all}
-use Rattle.fault_graph.proofs.SmallPlaces.{IsPlace, place-more, IsFrom, AreFrom, from-push, AllJoin, joins-before, joins-push, parent-more, parent-last, Waits, IsNeeded}
+use Rattle.fault_graph.proofs.SmallPlaces.{IsPlace, place-more, IsFrom, AreFrom, from-push, AllJoin, joins-before, joins-push, parent-more, parent-last, Waits, IsNeeded, waits-on}
 use Rattle.fault_graph.proofs.Smallness.{small-from}
 use Rattle.fault_graph.proofs.Roots.{IsWhole, whole}
 
@@ -107,30 +107,17 @@ module _ (graph : Graph) (evidence costs : List ℕ) (ok : IsGraph graph) (long 
     few = omega (arith, is.few);
     few_edges = let e = slice_get-get_or graph.nodes at true_node lt in omega (arith, is.few_edges, ap edges (take-more graph.nodes at _ e), edges-push (take at graph.nodes) (node_at graph.nodes at));
     ahead = λ k h. is.ahead k (omega arith);
-    built = λ k c h e f dear. ⊎_elim
-        (λ (q : k ≡ at). absurd (none (is.ahead at (omega arith) ∙ ap (λ n. get_or marks n 0) (sym q) ∙ e)))
-        (λ (q : k ≢ at). is.built k c (omega arith) e f dear)
-        (cases_eq k at);
+    built = λ k c h e f dear. grind (arith, cases_eq k at, out, is.built k c);
     from = is.from;
     joins = is.joins;
     needed = λ p h. past p (is.needed p h);
   } where
+    out : get_or marks at 0 ≢ 1
+    out e = none (is.ahead at (omega arith) ∙ e)
+
     past : (p : ℕ) → IsNeeded graph values marks places nodes at p → IsNeeded graph values marks places nodes (at + 1) p
     past p (inl h) = inl h
-    past p (inr w) = inr (record {
-      parent = w.parent;
-      from = ⊎_elim
-          (λ (s : w.parent ≡ at). absurd (none (is.ahead at (omega arith) ∙ ap (λ n. get_or marks n 0) (sym s) ∙ w.marked)))
-          (λ (ne : w.parent ≢ at). omega (arith, ne, w.from))
-          (cases_eq w.parent at);
-      within = w.within;
-      marked = w.marked;
-      child = w.child;
-      met = omega (arith, w.met);
-      is_child = w.is_child;
-      stays = w.stays;
-      there = w.there;
-    })
+    past p (inr w) = inr (waits-on graph values marks places places at p w (λ s. out (ap (λ n. get_or marks n 0) (sym s) ∙ w.marked)) w.there)
 
   module _ (places : List ℕ) (nodes : List Node) (at : ℕ) (lt : at < length graph.nodes) (is : IsBuilt graph evidence costs values marks places nodes at) (mark : get_or places at 0 ≡ 1)
       (what : NodeKind) (kids : List ℕ) (e : slice_get graph.nodes at ≡ Some (record { what = what; kids = kids })) where
@@ -185,8 +172,7 @@ module _ (graph : Graph) (evidence costs : List ℕ) (ok : IsGraph graph) (long 
 
       by_kind : (what : NodeKind) → mention_by w what (map (mentions nodes w) row) ≡ true → mention_by w what (map (mentions graph.nodes w) kids) ≡ true
       by_kind (Literal positive var) h = h
-      by_kind And h = any h
-      by_kind Or h = any h
+      by_kind what h = any h
 
     below-all : are_below (length nodes) row ≡ true
     below-all = row-below keep place (length nodes) kids (λ j i k. (child-place j i k).there)
@@ -197,9 +183,8 @@ module _ (graph : Graph) (evidence costs : List ℕ) (ok : IsGraph graph) (long 
     apart : (w : ℕ) → apart_at (mentions nodes w) what row ≡ true
     apart w = by_kind what (apart-get (mentions graph.nodes w) graph.nodes at _ (ok.nodes.apart w) e) where
       by_kind : (what : NodeKind) → apart_at (mentions graph.nodes w) what kids ≡ true → apart_at (mentions nodes w) what row ≡ true
-      by_kind (Literal positive var) h = refl
       by_kind And h = narrower-apart keep place (mentions nodes w) (mentions graph.nodes w) kids (λ j i k s. (child-place j i k).inside w s) h
-      by_kind Or h = refl
+      by_kind what h = refl
 
     pub are-pushed : AreNodes graph.vars (nodes ++ record { what = what; kids = row } ∷ [])
     are-pushed = AreNodes-push graph.vars nodes (record { what = what; kids = row }) is.are fits apart
@@ -230,8 +215,7 @@ module _ (graph : Graph) (evidence costs : List ℕ) (ok : IsGraph graph) (long 
 
       mention-one : (w : ℕ) (what : NodeKind) → slice_get graph.nodes at ≡ Some (record { what = what; kids = kids }) → mentions nodes w p ≡ true → mention_by w what (map (mentions nodes w) (p ∷ [])) ≡ true
       mention-one w (Literal positive var) f h = absurd (no-literal var positive f)
-      mention-one w And f h = or-false (mentions nodes w p) ∙ h
-      mention-one w Or f h = or-false (mentions nodes w p) ∙ h
+      mention-one w what f h = or-false (mentions nodes w p) ∙ h
 
     -- ---- where it comes from, and what it is needed for
 
@@ -261,8 +245,7 @@ module _ (graph : Graph) (evidence costs : List ℕ) (ok : IsGraph graph) (long 
           costly (free-sum (least_at graph evidence costs) kids c sum
           (λ j d i f.
           let most = sum-child (least_at graph evidence costs) kids c j sum i in
-          let same : get_or values j 0 ≡ d = cost-value j d (omega (arith, earlier j i)) f in
-          ⊎_elim (λ (z : get_or values j 0 ≡ 0). omega (arith, z, same)) (λ (q : c < get_or values j 0). absurd (omega (arith, q, same, most.2, same_Some most.0 d (sym most.1 ∙ f)))) (keeps-not values c j (out none j i))))
+          grind (arith, most.2, same_Some most.0 d (sym most.1 ∙ f), cost-value j d (omega (arith, earlier j i)) f, keeps-not values c j (out none j i))))
 
       no-or : what ≡ Or → row ≡ [] → ⊥
       no-or o none =
@@ -285,10 +268,7 @@ module _ (graph : Graph) (evidence costs : List ℕ) (ok : IsGraph graph) (long 
     carry : (new : List Node) (p q : ℕ) → Waits graph values marks places at q → (In q row → IsNeeded graph values marks (set places at p) new (at + 1) q) → IsNeeded graph values marks (set places at p) new (at + 1) q
     carry new p q w met = ⊎_elim
         (λ (s : w.parent ≡ at). met (in-row q w s))
-        (λ (ne : w.parent ≢ at).
-        let other : w.child ≢ at = omega (arith, w.met) in
-        let same : get_or (set places at p) w.child 0 ≡ get_or places w.child 0 = rw get_or-set_other refl in
-        inr (record { parent = w.parent; from = omega (arith, ne, w.from); within = w.within; marked = w.marked; child = w.child; met = omega (arith, w.met); is_child = w.is_child; stays = w.stays; there = same ∙ w.there }))
+        (λ (ne : w.parent ≢ at). let other : w.child ≢ at = omega (arith, w.met) in inr (waits-on graph values marks places (set places at p) at q w ne ((rw get_or-set_other refl) ∙ w.there)))
         (cases_eq w.parent at)
 
     -- the node waits for a marked parent
@@ -330,13 +310,7 @@ module _ (graph : Graph) (evidence costs : List ℕ) (ok : IsGraph graph) (long 
       few = few;
       few_edges = few_edges;
       ahead = λ k h. let ne : k ≢ at = omega arith in (rw get_or-set_other refl) ∙ is.ahead k (omega arith);
-      built = λ k d h f g dear. ⊎_elim
-          (λ (q : k ≡ at).
-          let same : c ≡ d = same_Some c d (sym cost-is ∙ ap (λ x. least_at graph evidence costs x) (sym q) ∙ g) in
-          let at_place : get_or (set places at p) k 0 ≡ p = ap (λ n. get_or (set places at p) n 0) q ∙ (rw get_or-set_same refl) in
-          subst (λ x. IsPlace graph evidence costs new k d x) (sym at_place) (subst (λ x. IsPlace graph evidence costs new k x p) same (subst (λ n. IsPlace graph evidence costs new n c p) (sym q) here)))
-          (λ (q : k ≢ at). subst (λ x. IsPlace graph evidence costs new k d x) (sym (rw get_or-set_other refl)) (more k d (get_or places k 0) (is.built k d (omega arith) f g dear)))
-          (cases_eq k at);
+      built = λ k d h f g dear. grind (arith, cases_eq k at, more, is.built k d, here, cost-is, get_or-set_same {A = ℕ}, get_or-set_other {A = ℕ});
       from = from;
       joins = joins;
       needed = needed;

@@ -1,5 +1,5 @@
 -- What is at the places of the smaller graph: for which nodes, and for which parents these are needed.
-use Rattle.std.proofs.Common.{◌≡◌, ◌≢◌, ℕ, suc, ◌<◌, ◌≤◌, true, List, [], ◌∷◌, ◌++◌, length, get_or, Some, refl, ap, sym, ◌∙◌, subst, arith, inl, inr, ⊎_elim, length-append}
+use Rattle.std.proofs.Common.{◌≡◌, ◌≢◌, ℕ, suc, ◌+◌, ◌<◌, ◌≤◌, true, List, [], ◌∷◌, ◌++◌, length, get_or, Some, refl, ap, sym, ◌∙◌, subst, arith, inl, inr, ⊎_elim, length-append}
 use Rattle.std.specs.Prelude.{◌⊎◌, Contains}
 use Rattle.std.proofs.lemmas.List.{get_or_append_left}
 use Rattle.std.proofs.lemmas.Bool.{cases_eq}
@@ -86,11 +86,7 @@ joins-push nodes node all here p h = ⊎_elim
 -- ---- what is needed
 
 pub parent-more : (nodes : List Node) (node : Node) (p : ℕ) → HasParent nodes p → HasParent (nodes ++ node ∷ []) p
-parent-more nodes node p is = record {
-  parent = is.parent;
-  within = omega (arith, is.within, length-append nodes (node ∷ []));
-  child = subst (λ (x : Node). Contains x.kids p) (sym (node_at-before nodes node is.parent is.within)) is.child;
-}
+parent-more nodes node p is = grind (arith, length-append, node_at-before)
 
 pub parent-last : (nodes : List Node) (node : Node) (p : ℕ) → In p node.kids → HasParent (nodes ++ node ∷ []) p
 parent-last nodes node p m = record {
@@ -115,3 +111,17 @@ module _ (graph : Graph) (values marks : List ℕ) where
   -- a place is that of a child already, or of one whose parent comes
   abbrev pub IsNeeded : List ℕ → List Node → ℕ → ℕ → Type 0
   IsNeeded places nodes at p = HasParent nodes p ⊎ Waits places at p
+
+  -- what waits for another parent than the next goes on
+  pub waits-on : (places new : List ℕ) (at p : ℕ) (w : Waits places at p) → w.parent ≢ at → get_or new w.child 0 ≡ p → Waits new (at + 1) p
+  waits-on places new at p w ne there = record {
+    parent = w.parent;
+    from = omega (arith, w.from);
+    within = w.within;
+    marked = w.marked;
+    child = w.child;
+    met = omega (arith, w.met);
+    is_child = w.is_child;
+    stays = w.stays;
+    there = there;
+  }

@@ -1,11 +1,11 @@
 -- A graph whose places are all needed, and all of nodes that cost something, is small.
-use Rattle.std.proofs.Common.{◌≡◌, ℕ, zero, suc, ◌+◌, ◌-◌, ◌<◌, ◌≤◌, Bool, true, false, List, [], ◌∷◌, map, length, get_or, Option, Some, refl, sym, ◌∙◌, subst, arith}
+use Rattle.std.proofs.Common.{◌≡◌, ℕ, zero, suc, ◌+◌, ◌-◌, ◌<◌, ◌≤◌, Bool, false, List, [], ◌∷◌, map, length, get_or, Option, Some, refl, sym, ◌∙◌, subst, arith}
 use Rattle.std.specs.Prelude.{IsSomeAnd}
 use Rattle.std.proofs.lemmas.List.{get_or_past}
-use Rattle.std.proofs.lemmas.Option.{slice_get-get_or, same_Some}
+use Rattle.std.proofs.lemmas.Option.{slice_get-get_or}
 use Rattle.state_rules.proofs.Members.{In-at}
 use Rattle.state_rules.specs.declared.nodes.NodeKind.{NodeKind}
-use Rattle.state_rules.specs.declared.nodes.NodeKind.TheVariants.{Literal, And, Or}
+use Rattle.state_rules.specs.declared.nodes.NodeKind.TheVariants.{Literal}
 use Rattle.state_rules.specs.Graphs.{Graph, true_node, node_at, IsGraph}
 use Rattle.conditioner.specs.Evidence.{known_of, leaf_of}
 use Rattle.minimiser.specs.Costs.{part_cost, known_at, literal_cost, cost_by, least_at}
@@ -23,12 +23,9 @@ says : (evidence costs : List ℕ) (var c : ℕ) (positive : Bool) → literal_c
     → SaysFaulty evidence (length costs) (Literal positive var)
 says evidence costs var c positive e dear = by_word (get_or evidence (var - 1) 0) refl positive e where
   by_word : (w : ℕ) → get_or evidence (var - 1) 0 ≡ w → (b : Bool) → literal_cost (leaf_of b (known_of w)) (part_cost costs var) b ≡ Some c → (b ≡ false) × (var ≤ length costs) × (get_or evidence (var - 1) 0 ≡ 0)
-  by_word zero z true q = absurd (let free : 0 ≡ c = same_Some 0 c q in omega arith)
-  by_word zero z false q = (refl, paid costs var c (same_Some (part_cost costs var) c q) dear, z)
-  by_word (suc zero) z true q = absurd (let free : 0 ≡ c = same_Some 0 c q in omega arith)
-  by_word (suc zero) z false q = absurd (cc)
-  by_word (suc (suc n)) z true q = absurd (cc)
-  by_word (suc (suc n)) z false q = absurd (let free : 0 ≡ c = same_Some 0 c q in omega arith)
+  by_word zero z b q = grind (arith, paid costs var c)
+  by_word (suc zero) z b q = grind arith
+  by_word (suc (suc n)) z b q = grind arith
 
 module _ (graph small : Graph) (evidence costs : List ℕ) (ok : IsGraph graph) (sound : IsGraph small) where
   cost-is : (c p : ℕ) → IsFrom graph evidence costs small.nodes c p → least_at small evidence costs p ≡ Some c
@@ -51,8 +48,7 @@ module _ (graph small : Graph) (evidence costs : List ℕ) (ok : IsGraph graph) 
   } where
     by_kind : (c : ℕ) → 0 < c → (what : NodeKind) (kids : List ℕ) → cost_by (known_at evidence) (part_cost costs) what (map (least_at small evidence costs) kids) ≡ Some c → SaysFaulty evidence (length costs) what
     by_kind c dear (Literal positive var) kids e = says evidence costs var c positive e dear
-    by_kind c dear And kids e = tt
-    by_kind c dear Or kids e = tt
+    by_kind c dear what kids e = tt
 
 -- one true node
 pub small-true : (evidence costs : List ℕ) (vars : ℕ) → IsSmall evidence costs (record { nodes = true_node ∷ []; vars = vars })

@@ -1,0 +1,16 @@
+-- Lemmas by which the check finds the rest of what functions require and ensure.
+use Rattle.std.proofs.lemmas.List.Sums.{sum_by-take-le}
+use Rattle.flat_lists.proofs.Pieces.{length-pieces}
+use Rattle.minimiser.proofs.SpreadMarks.{children_before}
+use Rattle.diagnosis_lister.proofs.Faults.{faults-few}
+use Rattle.fault_graph.proofs.AddedNodes.{sizes}
+use Rattle.fault_graph.proofs.LastMinimised.{known-some, last-minimised, no-models}
+
+-- how many nodes there are, and which come before one
+pub ruleset node_steps = (children_before, length-pieces, sizes)
+
+-- how many faults there are
+pub ruleset fault_steps = (faults-few, sum_by-take-le)
+
+-- what was minimised last
+pub ruleset last_steps = (known-some, last-minimised, no-models)

@@ -47,18 +47,10 @@ module _ (now next start : List Clause) where
       → now ++ tidy (map f (filter keep (range_with_len r (n - r)))) ≡ start → next ++ tidy (map f (filter keep (range_with_len (r + 1) (n - (r + 1))))) ≡ start
   kept-skipped f keep r n lt k e h = grind (arith, nat_tests, rows-from)
 
--- clauses after those that were written before
-pub more-written : (start now next : List Clause) (front back : List Clause) → now ≡ start ++ tidy front → next ≡ now ++ tidy back → next ≡ start ++ tidy (front ++ back)
-more-written start now next front back e f = grind (arith, append_assoc, tidy-append)
-
--- three clauses, and four, one after the other
+-- three clauses, one after the other
 pub three-written : (start one two three : List Clause) (c d e : Clause) → one ≡ start ++ tidy (c ∷ []) → two ≡ one ++ tidy (d ∷ []) → three ≡ two ++ tidy (e ∷ [])
     → three ≡ start ++ tidy (c ∷ d ∷ e ∷ [])
-three-written start one two three c d e f g h = more-written start two three (c ∷ d ∷ []) (e ∷ []) (more-written start one two (c ∷ []) (d ∷ []) f g) h
-
-pub four-written : (start one two three four : List Clause) (c d e f : Clause)
-    → one ≡ start ++ tidy (c ∷ []) → two ≡ one ++ tidy (d ∷ []) → three ≡ two ++ tidy (e ∷ []) → four ≡ three ++ tidy (f ∷ []) → four ≡ start ++ tidy (c ∷ d ∷ e ∷ f ∷ [])
-four-written start one two three four c d e f g h k l = more-written start three four (c ∷ d ∷ e ∷ []) (f ∷ []) (three-written start one two three c d e g h k) l
+three-written start one two three c d e f g h = grind (arith, append_assoc, tidy-append)
 
 -- nothing is left
 pub all-written : (now start : List Clause) → now ++ tidy [] ≡ start → now ≡ start
@@ -129,13 +121,7 @@ pub parity-more : (odd : Bool) (h : ℕ) (xs : List ℕ) (y r n : ℕ) (now next
     → now ++ tidy (map (λ r. row_clause h xs y (row_bits r xs) (same_bit odd (has_odd_ones (row_bits r xs)))) (range_with_len r (2 ^ length xs - r))) ≡ start
     → next ++ tidy (map (λ r. row_clause h xs y (row_bits r xs) (same_bit odd (has_odd_ones (row_bits r xs)))) (range_with_len (r + 1) (2 ^ length xs - (r + 1)))) ≡ start
 parity-more odd h xs y r n now next start clause front first last value long lt a b v f g e inv =
-    row-written now next start (λ r. row_clause h xs y (row_bits r xs) (same_bit odd (has_odd_ones (row_bits r xs)))) r (2 ^ length xs) (omega arith)
-    (e ∙ ap (λ c. now ++ tidy (c ∷ [])) whole) inv where
-      value_is : value ≡ same_bit odd (has_odd_ones (row_bits r xs))
-      value_is = v ∙ ap (same_bit odd) (odd-row xs r (omega (arith, long, lt)))
-
-      whole : clause ≡ row_clause h xs y (row_bits r xs) (same_bit odd (has_odd_ones (row_bits r xs)))
-      whole = g ∙ (λ j. f j ++ (b ∙ ap (λ b. literal b y) value_is) j ∷ []) ∙ (λ j. (a j ∷ blocking_literals xs (row_bits r xs)) ++ literal (same_bit odd (has_odd_ones (row_bits r xs))) y ∷ [])
+    row-written now next start (λ r. row_clause h xs y (row_bits r xs) (same_bit odd (has_odd_ones (row_bits r xs)))) r (2 ^ length xs) (omega arith) (grind (arith, odd-row)) inv
 
 -- ---- tables
 
@@ -170,10 +156,7 @@ inner_vars-append (part ∷ parts) more = omega (arith, inner_vars-append parts 
 
 pub inner_at-more : (device : Device) (place : ℕ) (part : Component) → place < length device.parts → part ≡ get_or device.parts place part
     → inner_at device (place + 1) ≡ inner_at device place + inner_count (rule part.kind) (length part.ports)
-inner_at-more device place part lt is =
-    let more : inner_vars (take (place + 1) device.parts) ≡ inner_vars (take place device.parts ++ get_or device.parts place part ∷ []) = ap inner_vars (take_more device.parts place part lt) in
-    let last : inner_vars (get_or device.parts place part ∷ []) ≡ inner_vars (part ∷ []) = ap (λ p. inner_vars (p ∷ [])) (sym is) in
-    omega (arith, more, last, inner_vars-append (take place device.parts) (get_or device.parts place part ∷ []))
+inner_at-more device place part lt is = grind (arith, take_more device.parts place part lt, inner_vars-append)
 
 -- the clauses of a part, and of those after it
 pub split-at : (device : Device) (place : ℕ) (part : Component) → place < length device.parts → part ≡ get_or device.parts place part

@@ -19,14 +19,7 @@ loop-input-preserved c =
 pub returns : goal.returns
 returns c =
     let inputs = c.args.inputs.now in
-    let first = passed c.literal-faulty.result false c.args.health c.requires.health c.literal-faulty.ensures in
-    let second = passed c.literal-2.result c.args.output_as_is c.args.output c.requires.output c.literal-2.ensures in
-    let last : c.add_literals.new.writer.raw.items ≡ literal false c.args.health ∷ literal c.args.output_as_is c.args.output ∷ map (literal (not c.args.inputs_as_is)) inputs =
-    c.in_ok-add_literals.ensures.raw
-    ∙ (λ i. (c.in_ok-add-2.ensures.raw ∙ (λ j. (c.in_ok-add.ensures.raw ∙ (λ k. c.begin.ensures.raw k ++ first k ∷ [])) j ++ second j ∷ [])) i ++ map (literal (not c.args.inputs_as_is)) inputs) in
-    let same : c.add_literals.new.writer.clauses ≡ c.loop-input.writer.clauses =
-    cc (c.begin.ensures.clauses, c.in_ok-add.ensures.clauses, c.in_ok-add-2.ensures.clauses, c.in_ok-add_literals.ensures.clauses) in
+    let last : c.add_literals.new.writer.raw.items ≡ literal false c.args.health ∷ literal c.args.output_as_is c.args.output ∷ map (literal (not c.args.inputs_as_is)) inputs = grind (arith, passed) in
     on_ok_weaker c.end.result
-    (λ e. and-all c.args.health c.args.output c.args.output_as_is c.args.inputs_as_is inputs c.loop-input.input-index c.loop-input.writer.clauses c.end.new.self.clauses c.args.writer.now.clauses c.add_literals.new.writer.raw.items (omega arith) last c.loop-input.invariant
-    (e ∙ (λ i. same i ++ tidy (c.add_literals.new.writer.raw.items ∷ []))))
+    (λ e. and-all c.args.health c.args.output c.args.output_as_is c.args.inputs_as_is inputs c.loop-input.input-index c.loop-input.writer.clauses c.end.new.self.clauses c.args.writer.now.clauses c.add_literals.new.writer.raw.items (omega arith) last c.loop-input.invariant (grind arith))
     c.end.ensures

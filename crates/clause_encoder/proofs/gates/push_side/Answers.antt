@@ -7,9 +7,6 @@ use Rattle.clause_encoder.proofs.WrittenClauses.{passed, row_below, kept-written
 use Rattle.clause_encoder.proofs.gates.push_side.Goals as goal
 use Rattle.clause_encoder.proofs.gates.push_side.Goals.{then-not-allows+in_ok-begin_row+in_ok-end, else-not-allows}
 
-pub allows-requires : goal.allows-requires
-allows-requires c = row_below c.args.table.now c.loop-row.row c.ports.result c.ports.ensures.valid c.ports.ensures.ports c.loop-row-test.true
-
 pub loop-row-preserved : goal.loop-row-preserved
 loop-row-preserved c =
     let ports = c.args.ports.now in
@@ -22,8 +19,7 @@ loop-row-preserved c =
       | then-not-allows+in_ok-begin_row+in_ok-end w ↦
           kept-written c.loop-row.writer.clauses c.if-not-allows.writer.clauses _ (λ r. literal (not c.args.ok) c.args.health ∷ blocking_literals ports (row_bits r ports)) (λ r. not (has_bit allowed r)) row (2 ^ length ports) lt
           (ap not (sym c.allows.ensures ∙ w.if-not-allows.true))
-          (ap (λ v. v.clauses) w.writer-is ∙ w.in_ok-end.ensures
-          ∙ (λ i. w.in_ok-begin_row.ensures.clauses i ++ tidy ((w.in_ok-begin_row.ensures.raw ∙ (λ j. first j ∷ blocking_literals ports (row_bits row ports))) i ∷ [])))
+          (grind (arith, first))
           c.loop-row.invariant
       | else-not-allows w ↦
           kept-skipped c.loop-row.writer.clauses c.if-not-allows.writer.clauses _ (λ r. literal (not c.args.ok) c.args.health ∷ blocking_literals ports (row_bits r ports)) (λ r. not (has_bit allowed r)) row (2 ^ length ports) lt

@@ -1,0 +1,30 @@
+-- Lemmas by which the check finds the rest of what functions require and ensure.
+use Rattle.std.proofs.Common.{append_assoc}
+use Rattle.std.proofs.lemmas.Int.{to_z-of_z}
+use Rattle.std.proofs.lemmas.List.{take_all, length-map, get_or_read}
+use Rattle.clause_encoder.proofs.Literals.{tidy-append, length-tidy, with_literal-there, with_literal-absent}
+use Rattle.clause_encoder.proofs.OtherVariables.{list_from, clause-at, clause-some, clause-within, replaced-few, replaced-clauses, replaced-truth}
+use Rattle.clause_encoder.proofs.PartClauses.{takes-few}
+use Rattle.clause_encoder.proofs.WrittenClauses.{passed, bit-written, and-more, and-all, step-written, shifted, shifted_far, parity-more, taken, row_below, kept-written, kept-skipped, arity-taken, part-written, inner-next, small, low}
+use Rattle.clause_encoder.proofs.ClauseCounts.{part-counted, length-table, table-counts, length-parity, few-rows, length-any_gate}
+use Rattle.clause_encoder.proofs.DeviceClauses.{are_clauses, describes}
+
+pub ruleset replaced_steps = (list_from, clause-at, clause-within)
+
+pub ruleset written_steps = (passed, tidy-append, append_assoc)
+
+pub ruleset part_steps = (taken)
+
+pub ruleset side_steps = (row_below)
+
+pub ruleset count_steps = (arity-taken)
+
+pub ruleset device_steps = (arity-taken, length-map)
+
+pub ruleset table_steps = (shifted_far, table-counts, length-table)
+
+pub ruleset gate_steps = (length-parity, few-rows, length-any_gate)
+
+pub ruleset encoded_steps = (length-tidy, are_clauses, describes)
+
+pub ruleset insert_steps = (with_literal-there, with_literal-absent, to_z-of_z, get_or_read)

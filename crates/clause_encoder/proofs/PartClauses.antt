@@ -46,12 +46,12 @@ not_all x all = grind arith
 module _ (a : Assignment) (h y : ℕ) (t s : Bool) (hh : 1 ≤ h) (hy : 1 ≤ y) where
   fronts-hold : (xs : List ℕ) → AllPositive xs → all_hold a (map (λ x. literal false h ∷ literal (not t) y ∷ literal s x ∷ []) xs)
       ≡ (not (a h) || (not (same_bit t (a y)) || list_all (λ x. same_bit s (a x)) xs))
-  fronts-hold [] hs = always (a h) (same_bit t (a y))
+  fronts-hold [] hs = grind arith
   fronts-hold (x ∷ xs) hs = grind (arith, fronts-hold xs hs.1)
 
   any-negated : (xs : List ℕ) → AllPositive xs → list_any (lit a) (map (literal (not s)) xs) ≡ not (list_all (λ x. same_bit s (a x)) xs)
   any-negated [] hs = refl
-  any-negated (x ∷ xs) hs = (λ i. (lit-literal a (not s) x hs.0 ∙ same_bit-not s (a x)) i || any-negated xs hs.1 i) ∙ not_all (same_bit s (a x)) (list_all (λ x. same_bit s (a x)) xs)
+  any-negated (x ∷ xs) hs = grind (arith, lit-literal, any-negated xs hs.1)
 
   and-holds : (xs : List ℕ) → AllPositive xs → all_hold a (and_clauses (pos h) (literal t y) (map (literal s) xs))
       ≡ (not (a h) || same_bit (same_bit t (a y)) (list_all (λ x. same_bit s (a x)) xs))
@@ -117,10 +117,8 @@ table-holds a rows h ports hh hs = grind (arith, list_all-append, side-holds)
 module _ (a : Assignment) (h : ℕ) (xs : List ℕ) (y : ℕ) (hh : 1 ≤ h) (hy : 1 ≤ y) (hs : AllPositive xs) where
   reduction-holds : (reduction : Reduction) (positive : Bool) → all_hold a (reduction_clauses reduction positive h xs y)
       ≡ (not (a h) || same_bit (a y) (same_bit positive (reduced reduction (map a xs))))
-  reduction-holds AllOnes positive = and-holds a h y positive true hh hy xs hs
-      ∙ ap (λ b. not (a h) || b) (negated_output positive (a y) (list_all (λ x. a x) xs) ∙ ap (λ b. same_bit (a y) (same_bit positive b)) (all_bits a xs))
-  reduction-holds AnyOne positive = and-holds a h y (not positive) false hh hy xs hs
-      ∙ ap (λ b. not (a h) || b) (ap (same_bit (same_bit (not positive) (a y))) (all_not a xs) ∙ negated_both positive (a y) (list_any (λ b. b) (map a xs)))
+  reduction-holds AllOnes positive = grind (arith, and-holds a h y positive true hh hy xs hs, all_bits a xs)
+  reduction-holds AnyOne positive = grind (arith, and-holds a h y (not positive) false hh hy xs hs, all_not a xs)
   reduction-holds OddOnes positive = parity-holds a positive h xs y hh hy hs
 
   pub gate-holds : (gate : Gate) → all_hold a (gate_clauses gate h xs y) ≡ (not (a h) || same_bit (a y) (gate_value gate (map a xs)))

@@ -2,19 +2,13 @@ use Rattle.std.proofs.Common.{◌≡◌, ◌<◌, ◌++◌, [], ◌∷◌, false
 use Rattle.std.proofs.lemmas.Result.{on_ok_weaker}
 use Rattle.clause_encoder.specs.Clauses.{literal}
 use Rattle.clause_encoder.specs.Encoding.{tidy}
-use Rattle.clause_encoder.proofs.WrittenClauses.{passed, and-more, and-all}
+use Rattle.clause_encoder.proofs.WrittenClauses.{passed, item-written, and-all}
 use Rattle.clause_encoder.proofs.gates.push_and.Goals as goal
 
 pub loop-input-preserved : goal.loop-input-preserved
 loop-input-preserved c =
-    let inputs = c.args.inputs.now in
-    let i = c.loop-input.input-index in
-    let lt : i < length inputs = omega arith in
-    and-more c.args.health c.args.output c.args.output_as_is c.args.inputs_as_is inputs i c.loop-input.writer.clauses c.push.new.self.clauses _ _ _ _ lt
-    (passed c.literal-faulty.result false c.args.health c.requires.health c.literal-faulty.ensures)
-    (passed c.literal-no_output.result (not c.args.output_as_is) c.args.output c.requires.output c.literal-no_output.ensures)
-    (passed c.literal.result c.args.inputs_as_is (get_or inputs i 0) (c.requires.inputs i 0 lt) c.literal.ensures)
-    c.in_ok-push.ensures c.loop-input.invariant
+    item-written c.loop-input.writer.clauses c.push.new.self.clauses _ (λ x. literal false c.args.health ∷ literal (not c.args.output_as_is) c.args.output ∷ literal c.args.inputs_as_is x ∷ [])
+    c.args.inputs.now c.loop-input.input-index 0 (omega arith) (grind (arith, passed, c.requires.inputs c.loop-input.input-index 0)) c.loop-input.invariant
 
 pub returns : goal.returns
 returns c =

@@ -37,13 +37,9 @@ module _ (now next start : List Clause) where
       → now ++ tidy (map f (range_with_len r (n - r))) ≡ start → next ++ tidy (map f (range_with_len (r + 1) (n - (r + 1)))) ≡ start
   row-written f r n lt e h = written (f r ∷ []) (map f (range_with_len (r + 1) (n - (r + 1)))) e (ap (λ rs. now ++ tidy (map f rs)) (sym (rows-from r n lt)) ∙ h)
 
-  pub kept-written : (f : ℕ → Clause) (keep : ℕ → Bool) (r n : ℕ) → r < n → keep r ≡ true → next ≡ now ++ tidy (f r ∷ [])
+  pub kept-more : (f : ℕ → Clause) (keep : ℕ → Bool) (r n : ℕ) → r < n → next ≡ now ++ tidy (map f (cond (keep r) (r ∷ []) []))
       → now ++ tidy (map f (filter keep (range_with_len r (n - r)))) ≡ start → next ++ tidy (map f (filter keep (range_with_len (r + 1) (n - (r + 1))))) ≡ start
-  kept-written f keep r n lt k e h = grind (arith, nat_tests, rows-from r n lt, append_assoc)
-
-  pub kept-skipped : (f : ℕ → Clause) (keep : ℕ → Bool) (r n : ℕ) → r < n → keep r ≡ false → next ≡ now
-      → now ++ tidy (map f (filter keep (range_with_len r (n - r)))) ≡ start → next ++ tidy (map f (filter keep (range_with_len (r + 1) (n - (r + 1))))) ≡ start
-  kept-skipped f keep r n lt k e h = grind (arith, nat_tests, rows-from)
+  kept-more f keep r n lt e h = grind (arith, nat_tests, rows-from r n lt, append_assoc, append-nil)
 
 -- three clauses, one after the other
 pub three-written : (start one two three : List Clause) (c d e : Clause) → one ≡ start ++ tidy (c ∷ []) → two ≡ one ++ tidy (d ∷ []) → three ≡ two ++ tidy (e ∷ [])

@@ -13,19 +13,15 @@ push_replaced-requires-clause-some c =
     (clause-at c.args.cnf.now c.loop-at.at c.clause.result.now c.len-at-end.ensures.valid (omega (arith, c.loop-at-test.true, c.len-at-end.ensures.len)) c.clause.ensures)
 
 pub of_flat-requires-clause-few : goal.of_flat-requires-clause-few
-of_flat-requires-clause-few c =
-    let all = take_all c.loop-at.at c.args.cnf.now.clauses (omega (arith, c.loop-at-test.false, c.len-at-end.ensures.len)) in
-    grind (arith, all, replaced-few c.args.variables.now c.args.cnf.now.clauses, list_from c.args.cnf.now c.len-at-end.ensures.valid)
+of_flat-requires-clause-few c = grind (arith, take_all, replaced-few c.args.variables.now c.args.cnf.now.clauses, list_from)
 
 pub of_flat-requires-clause-each : goal.of_flat-requires-clause-each
 of_flat-requires-clause-each c =
-    let all = take_all c.loop-at.at c.args.cnf.now.clauses (omega (arith, c.loop-at-test.false, c.len-at-end.ensures.len)) in
-    grind (arith, all, replaced-clauses c.args.variables.now c.args.vars c.requires.some c.requires.within c.args.cnf.now.clauses, list_from c.args.cnf.now c.len-at-end.ensures.valid)
+    grind (arith, take_all, replaced-clauses c.args.variables.now c.args.vars c.requires.some c.requires.within c.args.cnf.now.clauses, list_from)
 
 pub returns-clause-truth : goal.returns-clause-truth
 returns-clause-truth c = λ a.
     let cnf = c.args.cnf.now in
-    let all = take_all c.loop-at.at cnf.clauses (omega (arith, c.loop-at-test.false, c.len-at-end.ensures.len)) in
-    let made : c.of_flat.result.clauses ≡ tidy (map (map (literal_for c.args.variables.now)) cnf.clauses) = grind (arith, all) in
+    let made : c.of_flat.result.clauses ≡ tidy (map (map (literal_for c.args.variables.now)) cnf.clauses) = grind (arith, take_all) in
     ap (all_hold a) made
     ∙ replaced-truth c.args.variables.now c.args.vars c.requires.some c.requires.within a cnf.clauses (ap (λ n. list_all (is_clause n) cnf.clauses) c.requires.all ∙ (list_from cnf c.len-at-end.ensures.valid).each)

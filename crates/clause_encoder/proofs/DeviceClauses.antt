@@ -97,16 +97,6 @@ module _ (device : Device) (a : Assignment) (wires : List Bool) (wire_is : (w : 
       let rest = parts-settle (h + 1) (z + inner_count (rule part.kind) (length part.ports)) parts state (omega arith) (omega arith) (omega arith) (λ k lt. grind (arith, bits (suc k))) in
       grind (arith, rest, bits 0, raw-settles, positive, wires-in, arity-at, ports-are, Settles-append, length-bits)
 
--- the bits of the variables: those of the parts' health, and then those of the wires
-health-bit : (state more : List Bool) (k : ℕ) → k < length state → assignment (state ++ more) (1 + k) ≡ get_or state k false
-health-bit state more k lt = grind (arith, get_or_append_left)
-
-wire-bit : (state wires : List Bool) (parts w : ℕ) → length state ≡ parts → assignment (state ++ wires) (parts + w + 1) ≡ bit_in wires w
-wire-bit state wires parts w long = grind (arith, get_or-append_right)
-
-front-bit : (front inner : List Bool) (v : ℕ) → 1 ≤ v → v ≤ length front → assignment (front ++ inner) v ≡ assignment front v
-front-bit front inner v some most = get_or_append_left front inner false (v - 1) (omega arith)
-
 pub describes : (device : Device) → IsDevice device → Describes (clause_list device) device
 describes device d state wires long wide =
     (λ i. list_any (λ inner. all_hold (assignment (front ++ inner)) (tidy (all_clauses device))) (lists_of_bits (counted i)))
@@ -131,6 +121,5 @@ describes device d state wires long wide =
       settles : (inner : List Bool) → Settles (assignment (front ++ inner)) (length front + 1) (all_clauses device) bits (fits device state wires)
       settles inner = subst (λ n. Settles (assignment (front ++ inner)) (n + 1) (all_clauses device) bits (fits device state wires)) (sym in_front)
           (parts-settle device (assignment (front ++ inner)) wires
-          (λ w lt. front-bit front inner (wire_variable device w) (omega arith) (omega (arith, in_front)) ∙ wire-bit state wires (length device.parts) w long)
-          1 (first_inner device) device.parts state (omega arith) (omega arith) long
-          (λ k lt. front-bit front inner (1 + k) (omega arith) (omega (arith, in_front)) ∙ health-bit state wires k (omega arith)) d.arities d.joined)
+          (λ w lt. grind (arith, get_or_append_left, get_or-append_right, in_front)) 1 (first_inner device) device.parts state (omega arith) (omega arith) long
+          (λ k lt. grind (arith, get_or_append_left, in_front)) d.arities d.joined)

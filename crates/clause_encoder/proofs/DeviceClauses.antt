@@ -1,21 +1,20 @@
 -- The clauses of a device: each is one, and together they say exactly what fits.
-use Rattle.std.proofs.Common.{◌≡◌, ℕ, suc, ◌+◌, ◌-◌, ◌<◌, ◌≤◌, Bool, true, false, ◌&&◌, List, [], ◌∷◌, ◌++◌, map, length, get_or, refl, ap, sym, ◌∙◌, subst, arith}
+use Rattle.std.proofs.Common.{◌≡◌, ℕ, suc, ◌+◌, ◌-◌, ◌<◌, ◌≤◌, Bool, true, false, List, [], ◌∷◌, ◌++◌, map, length, get_or, refl, ap, sym, ◌∙◌, subst, arith}
 use Rattle.std.specs.Prelude.{nat_lt}
 use Rattle.std.specs.List.{list_any, list_all}
-use Rattle.std.proofs.lemmas.Bool.{and_parts}
 use Rattle.std.proofs.lemmas.List.{length-append, length-map, get_or_append_left, get_or-append_right}
 use Rattle.state_rules.specs.Bits.{bit_in, lists_of_bits}
 use Rattle.state_rules.specs.Assignments.{Assignment, assignment}
 use Rattle.state_rules.proofs.Members.{any_same}
 use Rattle.device_model.specs.declared.component.Component.{Component}
 use Rattle.device_model.specs.Gates.{rule}
-use Rattle.device_model.specs.Devices.{Device, IsDevice, allows, parts_fit, fits, takes_ports, has_arity, has_wires}
+use Rattle.device_model.specs.Devices.{Device, IsDevice, parts_fit, fits, takes_ports, has_arity, has_wires}
 use Rattle.clause_encoder.specs.Clauses.{Clause, all_hold, is_clause}
-use Rattle.clause_encoder.specs.Encoding.{inner_count, raw_clauses, wire_variable, first_inner, inner_vars, clauses_from, all_clauses, clause_list, tidy, Describes}
+use Rattle.clause_encoder.specs.Encoding.{inner_count, wire_variable, first_inner, inner_vars, clauses_from, all_clauses, clause_list, tidy, Describes}
 use Rattle.clause_encoder.proofs.Literals.{AllIn, AllRaw, AllRaw-append, all_hold-tidy, are_clauses-tidy}
 use Rattle.clause_encoder.proofs.MentionedVariables.{Of, OfEach, Variables, Of-raw}
 use Rattle.clause_encoder.proofs.RowBits.{AllPositive}
-use Rattle.clause_encoder.proofs.Settled.{has_bits, Settles, Settles-append, some-hold}
+use Rattle.clause_encoder.proofs.Settled.{Settles, Settles-append, some-hold}
 use Rattle.clause_encoder.proofs.Chains.{inner_bits, length-inner_bits, raw-settles}
 
 -- ---- raw clauses have literals, of variables that are there

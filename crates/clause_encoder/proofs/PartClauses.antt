@@ -1,6 +1,6 @@
 -- The clauses of a part are true exactly if the part allows the bits of its ports.
-use Rattle.std.proofs.Common.{◌≡◌, ℕ, zero, suc, ◌^◌, ◌<◌, ◌≤◌, Bool, true, false, not, ◌&&◌, ◌||◌, List, [], ◌∷◌, ◌++◌, map, length, take, get_or, pos, neg_ℤ, Some, refl, ap, sym, ◌∙◌, arith}
-use Rattle.std.specs.Prelude.{◌==◌, nat_le, min}
+use Rattle.std.proofs.Common.{◌≡◌, ℕ, zero, suc, ◌<◌, ◌≤◌, Bool, true, false, not, ◌||◌, List, [], ◌∷◌, ◌++◌, map, length, take, get_or, pos, neg_ℤ, Some, refl, sym, ◌∙◌, arith}
+use Rattle.std.specs.Prelude.{nat_le, min}
 use Rattle.std.specs.List.{list_any, list_all}
 use Rattle.std.proofs.lemmas.Bool.{leb-true, and_parts}
 use Rattle.std.proofs.lemmas.List.{length-map}
@@ -15,7 +15,7 @@ use Rattle.device_model.specs.declared.limits.TheConstants.{INPUT_LIMIT}
 use Rattle.device_model.specs.TruthTable.{TruthTable}
 use Rattle.device_model.specs.Devices.{table_allows}
 use Rattle.device_model.specs.Gates.{takes, reduced, gate_value}
-use Rattle.clause_encoder.specs.Clauses.{Clause, literal, is_true_clause, all_hold}
+use Rattle.clause_encoder.specs.Clauses.{literal, is_true_clause, all_hold}
 use Rattle.clause_encoder.specs.Encoding.{parity_clauses, and_clauses, row_bits, rows_of, blocking_literals, row_clause, blocked_rows, table_clauses, reduction_clauses, gate_clauses}
 use Rattle.clause_encoder.proofs.Literals.{lit, lit-literal, neg-literal}
 use Rattle.clause_encoder.proofs.RowBits.{AllPositive, row_bits-number, row_number-below, blocking_literals-row, all-rows, all-filtered}

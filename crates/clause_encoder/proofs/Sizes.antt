@@ -1,8 +1,7 @@
 -- How many variables a device that is encoded has: each inner one comes with three clauses or more, of which there are few.
-use Rattle.std.proofs.Common.{◌≡◌, ℕ, ◌+◌, ◌-◌, ◌*◌, ◌<◌, ◌≤◌, Bool, true, false, List, [], ◌∷◌, map, length, take, get_or, Ok, refl, ap, sym, ◌∙◌, subst, arith}
+use Rattle.std.proofs.Common.{◌≡◌, ℕ, ◌+◌, ◌-◌, ◌*◌, ◌≤◌, true, List, [], ◌∷◌, length, take, get_or, Ok, arith}
 use Rattle.std.specs.Prelude.{if◌then◌else◌}
 use Rattle.std.specs.List.{list_all}
-use Rattle.std.proofs.lemmas.Bool.{ltb-true, and_parts}
 use Rattle.std.proofs.lemmas.Bool.Decides.{nat_tests}
 use Rattle.std.proofs.lemmas.List.{length-append, length-map, length-take-le}
 use Rattle.device_model.specs.declared.gates.Rule.{Rule}
@@ -13,9 +12,9 @@ use Rattle.device_model.specs.declared.component.Component.{Component}
 use Rattle.device_model.specs.TruthTable.{TruthTable}
 use Rattle.device_model.specs.Devices.{Device, IsDevice, takes_ports, has_arity}
 use Rattle.device_model.specs.Gates.{rule}
-use Rattle.clause_encoder.specs.declared.limits.TheConstants.{CLAUSE_LIMIT, NARROW_LIMIT}
+use Rattle.clause_encoder.specs.declared.limits.TheConstants.{CLAUSE_LIMIT}
 use Rattle.clause_encoder.specs.Clauses.{ClauseList}
-use Rattle.clause_encoder.specs.Encoding.{step_clauses, any_gate_clauses, is_wide, raw_clauses, inner_count, inner_vars, wire_variable, clauses_from, first_inner, raw_count, most_variables, encoded}
+use Rattle.clause_encoder.specs.Encoding.{step_clauses, any_gate_clauses, is_wide, raw_clauses, inner_count, inner_vars, clauses_from, first_inner, raw_count, most_variables, encoded}
 use Rattle.clause_encoder.proofs.ClauseCounts.{length-any_gate}
 
 -- ---- inner variables and clauses

@@ -1,5 +1,5 @@
 -- Clauses that are written one after the other: what a step of a loop adds to those that were there.
-use Rattle.std.proofs.Common.{◌≡◌, ℕ, zero, suc, ◌+◌, ◌-◌, ◌*◌, ◌/◌, ◌%◌, ◌^◌, ◌<◌, ◌≤◌, Bool, true, false, not, cond, List, [], ◌∷◌, ◌++◌, map, length, take, drop, get_or, ℤ, pos, count_ones, Some, ap, sym, ◌∙◌, arith, append_assoc, w32, to_z, of_z, FitsSigned}
+use Rattle.std.proofs.Common.{◌≡◌, ℕ, zero, suc, ◌+◌, ◌-◌, ◌*◌, ◌/◌, ◌%◌, ◌^◌, ◌<◌, ◌≤◌, Bool, true, false, not, cond, List, [], ◌∷◌, ◌++◌, map, length, take, drop, get_or, ℤ, pos, Some, ap, sym, ◌∙◌, arith, append_assoc, w32, to_z, of_z, FitsSigned}
 use Rattle.std.specs.List.{filter, range_with_len}
 use Rattle.std.proofs.lemmas.List.{append-nil, drop_more, drop_all, take_more, length-map, get_or-map}
 use Rattle.std.specs.Prelude.{◌==◌, slice_get}
@@ -7,7 +7,6 @@ use Rattle.std.proofs.Math.Pow.{pow_mono}
 use Rattle.std.proofs.lemmas.Bool.{eqb-true, ltb-true}
 use Rattle.std.proofs.lemmas.Bool.Decides.{nat_tests}
 use Rattle.std.proofs.lemmas.Int.{to_z-of_z}
-use Rattle.state_rules.specs.Bits.{same_bit, has_odd_ones, has_bit}
 use Rattle.state_rules.proofs.Lists.{list_all-at}
 use Rattle.device_model.specs.TruthTable.{TruthTable, is_table}
 use Rattle.device_model.specs.declared.gates.Gate.{Gate}
@@ -16,9 +15,9 @@ use Rattle.device_model.specs.Gates.{rule}
 use Rattle.device_model.specs.declared.component.Component.{Component}
 use Rattle.device_model.specs.Devices.{Device, IsDevice, rows_take, takes_ports}
 use Rattle.clause_encoder.specs.Clauses.{Clause, literal}
-use Rattle.clause_encoder.specs.Encoding.{tidy, and_clauses, row_bits, row_clause, blocking_literals, step_clauses, chain_clauses, raw_clauses, inner_count, inner_vars, first_inner, clauses_from, wire_variable}
+use Rattle.clause_encoder.specs.Encoding.{tidy, and_clauses, row_bits, blocking_literals, step_clauses, chain_clauses, raw_clauses, inner_count, inner_vars, first_inner, clauses_from, wire_variable}
 use Rattle.clause_encoder.proofs.Literals.{tidy-append}
-use Rattle.clause_encoder.proofs.RowBits.{row_bits-cons, has_bit-zero, odd-row}
+use Rattle.clause_encoder.proofs.RowBits.{row_bits-cons, has_bit-zero}
 use Rattle.clause_encoder.proofs.PartClauses.{and_clauses-literals}
 
 module _ (now next start : List Clause) where

@@ -1,8 +1,5 @@
-use Rattle.std.proofs.Common.{◌+◌, length, ap, ◌∙◌, refl, arith}
-use Rattle.std.proofs.lemmas.List.{length-map}
-use Rattle.device_model.specs.Gates.{rule}
-use Rattle.device_model.specs.Devices.{takes_ports}
-use Rattle.clause_encoder.proofs.WrittenClauses.{arity-taken, part-written, inner-next, small, low}
+use Rattle.std.proofs.Common.{length, ap, ◌∙◌, refl, arith}
+use Rattle.clause_encoder.proofs.WrittenClauses.{part-written, inner-next, small, low}
 use Rattle.clause_encoder.proofs.encoding.push_parts.Goals as goal
 
 pub push_part-requires-clause-ports : goal.push_part-requires-clause-ports

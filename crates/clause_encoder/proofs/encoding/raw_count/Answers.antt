@@ -1,6 +1,5 @@
 use Rattle.std.proofs.Common.{length, ap, arith}
 use Rattle.clause_encoder.specs.Encoding.{raw_count}
-use Rattle.clause_encoder.proofs.WrittenClauses.{arity-taken}
 use Rattle.clause_encoder.proofs.ClauseCounts.{part-counted}
 use Rattle.clause_encoder.proofs.encoding.raw_count.Goals as goal
 

@@ -1,5 +1,4 @@
-use Rattle.std.proofs.Common.{◌<◌, ◌%◌, length, get_or, arith}
-use Rattle.std.specs.Prelude.{◌==◌}
+use Rattle.std.proofs.Common.{arith}
 use Rattle.clause_encoder.proofs.WrittenClauses.{passed, bit-written}
 use Rattle.clause_encoder.proofs.gates.begin_row.Goals as goal
 

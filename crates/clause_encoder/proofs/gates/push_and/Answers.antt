@@ -1,7 +1,6 @@
-use Rattle.std.proofs.Common.{◌≡◌, ◌<◌, ◌++◌, [], ◌∷◌, false, not, map, length, get_or, arith, ◌∙◌}
+use Rattle.std.proofs.Common.{◌≡◌, [], ◌∷◌, false, not, map, arith}
 use Rattle.std.proofs.lemmas.Result.{on_ok_weaker}
 use Rattle.clause_encoder.specs.Clauses.{literal}
-use Rattle.clause_encoder.specs.Encoding.{tidy}
 use Rattle.clause_encoder.proofs.WrittenClauses.{passed, item-written, and-all}
 use Rattle.clause_encoder.proofs.gates.push_and.Goals as goal
 

@@ -1,5 +1,5 @@
 use Rattle.std.specs.Prelude.{if◌then◌else◌}
-use Rattle.std.proofs.Common.{◌≡◌, ℕ, ◌<◌, ◌^◌, ◌++◌, [], ◌∷◌, not, cond, map, length, arith, ap}
+use Rattle.std.proofs.Common.{◌≡◌, ℕ, ◌^◌, ◌++◌, [], ◌∷◌, not, cond, map, length, arith, ap}
 use Rattle.std.proofs.lemmas.List.{append-nil}
 use Rattle.state_rules.specs.Bits.{has_bit}
 use Rattle.clause_encoder.specs.Clauses.{literal}

@@ -1,10 +1,10 @@
-use Rattle.std.proofs.Common.{◌≡◌, map, length, take, ap, ◌∙◌, arith}
+use Rattle.std.proofs.Common.{◌≡◌, map, ap, ◌∙◌, arith}
 use Rattle.std.specs.List.{list_all}
 use Rattle.std.proofs.lemmas.List.{take_all}
-use Rattle.clause_encoder.specs.Clauses.{ClauseList, is_clause, all_hold}
+use Rattle.clause_encoder.specs.Clauses.{is_clause, all_hold}
 use Rattle.clause_encoder.specs.Encoding.{tidy}
 use Rattle.clause_encoder.specs.Replacing.{literal_for}
-use Rattle.clause_encoder.proofs.OtherVariables.{list_from, clause-at, clause-some, clause-within, replaced-few, replaced-clauses, replaced-truth}
+use Rattle.clause_encoder.proofs.OtherVariables.{list_from, clause-at, clause-some, replaced-few, replaced-clauses, replaced-truth}
 use Rattle.clause_encoder.proofs.replacement.replaced.Goals as goal
 
 pub push_replaced-requires-clause-some : goal.push_replaced-requires-clause-some

@@ -12,12 +12,6 @@ pub ruleset replaced_steps = (list_from, clause-at, clause-within)
 
 pub ruleset written_steps = (passed, tidy-append, append_assoc)
 
-pub ruleset part_steps = (taken)
-
-pub ruleset side_steps = (row_below)
-
-pub ruleset count_steps = (arity-taken)
-
 pub ruleset device_steps = (arity-taken, length-map)
 
 pub ruleset table_steps = (shifted_far, table-counts, length-table)

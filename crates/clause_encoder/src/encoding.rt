@@ -88,7 +88,7 @@ fn set_ports(ports: &mut Vec<u32>, parts: usize, wires: &[u32]) -> Result<(), Al
 }
 
 // How many clauses the parts have, before any is left out.
-#[tactic(auto, using(crate::proofs::Rules::count_steps))]
+#[tactic(auto, using(crate::proofs::Rules::device_steps))]
 fn raw_count(device: &Device) -> u64
     ensures count { result ≡ raw_count device.now }
     ensures valid { IsDevice device.now }

@@ -1,11 +1,11 @@
 -- Lemmas by which the check finds the rest of what functions require and ensure.
 use Rattle.std.proofs.Common.{append_assoc}
 use Rattle.std.proofs.lemmas.Int.{to_z-of_z}
-use Rattle.std.proofs.lemmas.List.{take_all, length-map, get_or_read}
+use Rattle.std.proofs.lemmas.List.{length-map, get_or_read}
 use Rattle.clause_encoder.proofs.Literals.{tidy-append, length-tidy, with_literal-there, with_literal-absent}
-use Rattle.clause_encoder.proofs.OtherVariables.{list_from, clause-at, clause-some, clause-within, replaced-few, replaced-clauses, replaced-truth}
-use Rattle.clause_encoder.proofs.WrittenClauses.{passed, bit-written, and-all, step-written, shifted, shifted_far, taken, row_below, arity-taken, part-written, inner-next, small, low}
-use Rattle.clause_encoder.proofs.ClauseCounts.{part-counted, length-table, table-counts, length-parity, few-rows, length-any_gate}
+use Rattle.clause_encoder.proofs.OtherVariables.{list_from, clause-at, clause-within}
+use Rattle.clause_encoder.proofs.WrittenClauses.{passed, shifted_far, arity-taken}
+use Rattle.clause_encoder.proofs.ClauseCounts.{length-table, table-counts, length-parity, few-rows, length-any_gate}
 use Rattle.clause_encoder.proofs.DeviceClauses.{are_clauses, describes}
 
 pub ruleset replaced_steps = (list_from, clause-at, clause-within)

@@ -1,8 +1,9 @@
 -- Gates of more than four inputs: each inner variable of the chain is settled, and what is left is the gate.
-use Rattle.std.proofs.Common.{◌≡◌, ℕ, suc, ◌+◌, ◌-◌, ◌%◌, ◌≤◌, Bool, true, false, not, ◌&&◌, ◌||◌, cond, count_by, List, [], ◌∷◌, ◌++◌, map, length, take, drop, get_or, refl, ap, sym, ◌∙◌, arith}
-use Rattle.std.specs.Prelude.{◌==◌, if◌then◌else◌}
+use Rattle.std.proofs.Common.{◌≡◌, ℕ, suc, ◌+◌, ◌-◌, ◌≤◌, Bool, true, not, ◌&&◌, ◌||◌, List, [], ◌∷◌, ◌++◌, map, length, take, drop, get_or, refl, ap, ◌∙◌, arith}
+use Rattle.std.specs.Prelude.{if◌then◌else◌}
 use Rattle.std.specs.List.{list_all, list_any}
 use Rattle.std.proofs.Math.Bool.{and_assoc, or_assoc}
+use Rattle.std.proofs.lemmas.Bool.Decides.{nat_tests}
 use Rattle.std.proofs.lemmas.List.{length-map, map-append, take-map, get_or-map, take_all, take_more, length-take-le}
 use Rattle.std.proofs.lemmas.List.Folds.{list_all-append}
 use Rattle.state_rules.specs.Bits.{same_bit, bit_in, has_odd_ones}
@@ -36,14 +37,7 @@ module _ (a : Assignment) (z before x : ℕ) (hz : 1 ≤ z) (hb : 1 ≤ before) 
 -- ---- the value of two inputs stands for both
 
 odd-two : (b c : Bool) (rest : List Bool) → has_odd_ones (not (same_bit b c) ∷ rest) ≡ has_odd_ones (b ∷ c ∷ rest)
-odd-two b c rest = ap (λ n. n % 2 == 1) (count-cons (not (same_bit b c)) rest)
-    ∙ ap (λ n. n == 1) (by_bits b c (count_by (λ b. b) rest))
-    ∙ ap (λ n. n % 2 == 1) (sym (count-cons b (c ∷ rest) ∙ ap (λ n. cond b 1 0 + n) (count-cons c rest))) where
-      by_bits : (b c : Bool) (n : ℕ) → (cond (not (same_bit b c)) 1 0 + n) % 2 ≡ (cond b 1 0 + (cond c 1 0 + n)) % 2
-      by_bits true true n = omega arith
-      by_bits true false n = omega arith
-      by_bits false true n = omega arith
-      by_bits false false n = omega arith
+odd-two b c rest = grind (arith, nat_tests, count-cons (not (same_bit b c)) rest, count-cons b (c ∷ rest), count-cons c rest)
 
 step-stands : (reduction : Reduction) (b c : Bool) (rest : List Bool) → reduced reduction (step_value reduction b c ∷ rest) ≡ reduced reduction (b ∷ c ∷ rest)
 step-stands AllOnes b c rest = and_assoc b c (list_all (λ b. b) rest)

@@ -1,5 +1,5 @@
 -- How many clauses a part has.
-use Rattle.std.proofs.Common.{◌≡◌, ℕ, ◌+◌, ◌-◌, ◌*◌, ◌%◌, ◌^◌, ◌<◌, ◌≤◌, Bool, true, List, [], ◌∷◌, map, length, take, drop, get_or, count_ones, Some, ap, sym, ◌∙◌, arith}
+use Rattle.std.proofs.Common.{◌≡◌, ℕ, ◌+◌, ◌-◌, ◌*◌, ◌%◌, ◌^◌, ◌<◌, ◌≤◌, Bool, true, List, [], ◌∷◌, map, length, take, drop, get_or, count_ones, Some, ap, ◌∙◌, arith}
 use Rattle.std.specs.Prelude.{if◌then◌else◌}
 use Rattle.std.proofs.Math.Pow.{pow_mono}
 use Rattle.std.proofs.lemmas.Bool.{lt-ltb}
@@ -27,14 +27,7 @@ pub record Counts (rows : TruthTable) : Type 0 where
   pub most : 2 ^ rows.ports ≤ 64
 
 pub table-counts : (rows : TruthTable) → is_table rows ≡ true → Counts rows
-table-counts rows e =
-    let t = IsTable-from rows e in
-    record {
-      few = t.few;
-      ok = ones-le (2 ^ rows.ports) rows.ok t.ok;
-      bad = ones-le (2 ^ rows.ports) rows.bad t.bad;
-      most = pow_mono {i = rows.ports} {j = 6} t.few;
-    }
+table-counts rows e = grind (arith, IsTable-from, ones-le, pow_mono {i = rows.ports} {j = 6})
 
 length-side : (ok : Bool) (allowed h : ℕ) (vs : List ℕ) → allowed < 2 ^ (2 ^ length vs) → length (blocked_rows ok allowed h vs) + count_ones allowed ≡ 2 ^ length vs
 length-side ok allowed h vs lt = grind (arith, length-map, ok, others)
@@ -69,26 +62,10 @@ module _ (gate : Gate) (h last y n : ℕ) (step : (z b x : ℕ) → length (step
 
 pub length-any_gate : (gate : Gate) (inputs n : ℕ) → ((z b x : ℕ) → length (step_clauses gate.reduction z b x) ≡ n) → 5 ≤ inputs → (h z y : ℕ) (xs : List ℕ) → length xs ≡ inputs → length (any_gate_clauses gate h z xs y) ≡ n * (inputs - 1)
 length-any_gate gate inputs n step wide h z y xs long =
-    ap (λ w. length (if w then wide_clauses gate h z xs y else gate_clauses gate h xs y)) (lt-ltb 4 (length xs) (omega arith))
-    ∙ length-chain gate h last y n step (λ b. length-two gate.reduction gate.positive h b last y z z z ∙ step z z z) between z (get_or xs 0 0)
-    ∙ count (length between) inputs wide (length-take-le (length xs - 1 - 1) (drop 1 xs) (omega (arith, length-drop 1 xs)) ∙ less (length xs) inputs long) where
-      last : ℕ
-      last = get_or xs (length xs - 1) 0
-
-      between : List ℕ
-      between = take (length xs - 1 - 1) (drop 1 xs)
-
-      less : (m inputs : ℕ) → m ≡ inputs → m - 1 - 1 ≡ inputs - 1 - 1
-      less m inputs e = omega arith
-
-      times : (m : ℕ) → n * m + n ≡ n * (m + 1)
-      times m = omega arith
-
-      one_more : (m inputs : ℕ) → 5 ≤ inputs → m ≡ inputs - 1 - 1 → m + 1 ≡ inputs - 1
-      one_more m inputs wide e = omega arith
-
-      count : (m inputs : ℕ) → 5 ≤ inputs → m ≡ inputs - 1 - 1 → n * m + n ≡ n * (inputs - 1)
-      count m inputs wide e = times m ∙ ap (λ k. n * k) (one_more m inputs wide e)
+    let between = take (length xs - 1 - 1) (drop 1 xs) in
+    let chain = length-chain gate h (get_or xs (length xs - 1) 0) y n step (λ b. length-two gate.reduction gate.positive h b (get_or xs (length xs - 1) 0) y z z z ∙ step z z z) between z (get_or xs 0 0) in
+    let one_less : length between + 1 ≡ inputs - 1 = omega (arith, length-take-le (length xs - 1 - 1) (drop 1 xs), length-drop 1 xs) in
+    ap (λ w. length (if w then wide_clauses gate h z xs y else gate_clauses gate h xs y)) (lt-ltb 4 (length xs) (omega arith)) ∙ omega (arith, chain, ap (λ k. n * k) one_less)
 
 -- ---- parts
 
@@ -99,14 +76,5 @@ pub part-counted : (device : Device) (place : ℕ) (parts : List Component) (par
     → count + length (clauses_from device (place + 1) (inner_at device place) (drop place device.parts)) ≡ total
     → count + n + length (clauses_from device ((place + 1) + 1) (inner_at device (place + 1)) (drop (place + 1) device.parts)) ≡ total
 part-counted device place parts part tables ports count n total same lt is t long counts inv =
-    let vs = map (wire_variable device) part.ports in
-    let raw = raw_clauses device.tables (rule part.kind) (place + 1) (inner_at device place) vs in
-    let rest = clauses_from device ((place + 1) + 1) (inner_at device (place + 1)) (drop (place + 1) device.parts) in
-    let one : length raw ≡ n = ap (λ ts. length (raw_clauses ts (rule part.kind) (place + 1) (inner_at device place) vs)) (sym t) ∙ counts (place + 1) (inner_at device place) vs (length-map part.ports (wire_variable device) ∙ sym long) in
-    omega (
-      arith,
-      one,
-      length-append raw rest,
-      ap length (split-at device place part (omega (arith, ap length same)) (is ∙ ap (λ ps. get_or ps place part) same)),
-      inv,
-    )
+    let split = split-at device place part (omega (arith, ap length same)) (is ∙ ap (λ ps. get_or ps place part) same) in
+    grind (arith, split, counts (place + 1) (inner_at device place) (map (wire_variable device) part.ports), length-append, length-map)

@@ -1,21 +1,20 @@
 -- The clauses of a device: each is one, and together they say exactly what fits.
-use Rattle.std.proofs.Common.{◌≡◌, ℕ, suc, ◌+◌, ◌-◌, ◌<◌, ◌≤◌, Bool, true, false, ◌&&◌, List, [], ◌∷◌, ◌++◌, map, length, get_or, refl, ap, sym, ◌∙◌, subst, arith}
+use Rattle.std.proofs.Common.{◌≡◌, ℕ, suc, ◌+◌, ◌-◌, ◌<◌, ◌≤◌, Bool, true, false, List, [], ◌∷◌, ◌++◌, map, length, get_or, refl, ap, sym, ◌∙◌, subst, arith}
 use Rattle.std.specs.Prelude.{nat_lt}
 use Rattle.std.specs.List.{list_any, list_all}
-use Rattle.std.proofs.lemmas.Bool.{and_parts}
 use Rattle.std.proofs.lemmas.List.{length-append, length-map, get_or_append_left, get_or-append_right}
 use Rattle.state_rules.specs.Bits.{bit_in, lists_of_bits}
 use Rattle.state_rules.specs.Assignments.{Assignment, assignment}
 use Rattle.state_rules.proofs.Members.{any_same}
 use Rattle.device_model.specs.declared.component.Component.{Component}
 use Rattle.device_model.specs.Gates.{rule}
-use Rattle.device_model.specs.Devices.{Device, IsDevice, allows, parts_fit, fits, takes_ports, has_arity, has_wires}
+use Rattle.device_model.specs.Devices.{Device, IsDevice, parts_fit, fits, takes_ports, has_arity, has_wires}
 use Rattle.clause_encoder.specs.Clauses.{Clause, all_hold, is_clause}
-use Rattle.clause_encoder.specs.Encoding.{inner_count, raw_clauses, wire_variable, first_inner, inner_vars, clauses_from, all_clauses, clause_list, tidy, Describes}
+use Rattle.clause_encoder.specs.Encoding.{inner_count, wire_variable, first_inner, inner_vars, clauses_from, all_clauses, clause_list, tidy, Describes}
 use Rattle.clause_encoder.proofs.Literals.{AllIn, AllRaw, AllRaw-append, all_hold-tidy, are_clauses-tidy}
 use Rattle.clause_encoder.proofs.MentionedVariables.{Of, OfEach, Variables, Of-raw}
 use Rattle.clause_encoder.proofs.RowBits.{AllPositive}
-use Rattle.clause_encoder.proofs.Settled.{has_bits, Settles, Settles-append, some-hold}
+use Rattle.clause_encoder.proofs.Settled.{Settles, Settles-append, some-hold}
 use Rattle.clause_encoder.proofs.Chains.{inner_bits, length-inner_bits, raw-settles}
 
 -- ---- raw clauses have literals, of variables that are there
@@ -42,10 +41,6 @@ all_raw vars (c ∷ cs) h = (h.0, all_in vars c h.1, all_raw vars cs h.2)
 
 -- ---- parts
 
-length-variables : (device : Device) (ports : List ℕ) → length (map (wire_variable device) ports) ≡ length ports
-length-variables device [] = refl
-length-variables device (port ∷ ports) = ap suc (length-variables device ports)
-
 wires-in : (device : Device) (ports : List ℕ) → list_all (λ port. nat_lt port (length device.wires)) ports ≡ true
     → Variables (InRange (length device.parts + length device.wires)) (map (wire_variable device) ports)
 wires-in device [] e = tt
@@ -53,7 +48,7 @@ wires-in device (port ∷ ports) e = grind (arith, wires-in device ports)
 
 -- the number of ports, as the part's kind takes it
 arity-at : (device : Device) (part : Component) → has_arity device.tables part ≡ true → takes_ports device.tables (rule part.kind) (length (map (wire_variable device) part.ports)) ≡ true
-arity-at device part e = ap (takes_ports device.tables (rule part.kind)) (length-variables device part.ports) ∙ e
+arity-at device part e = ap (takes_ports device.tables (rule part.kind)) (length-map part.ports (wire_variable device)) ∙ e
 
 module _ (device : Device) (vars : ℕ) (enough : length device.parts + length device.wires ≤ vars) where
   AllRaw-parts : (h z : ℕ) (parts : List Component) → 1 ≤ h → h + length parts ≤ length device.parts + 1 → 1 ≤ z → z + inner_vars parts ≤ vars + 1
@@ -61,16 +56,9 @@ module _ (device : Device) (vars : ℕ) (enough : length device.parts + length d
       → AllRaw vars (clauses_from device h z parts)
   AllRaw-parts h z [] hh hm hz zm arities joined = tt
   AllRaw-parts h z (part ∷ parts) hh hm hz zm arities joined =
-      let fit = and_parts (has_arity device.tables part) (list_all (has_arity device.tables) parts) arities in
-      let js = and_parts (has_wires (length device.wires) part) (list_all (has_wires (length device.wires)) parts) joined in
       let ports = map (wire_variable device) part.ports in
-      let inner = inner_count (rule part.kind) (length part.ports) in
-      let same : inner_count (rule part.kind) (length ports) ≡ inner = ap (inner_count (rule part.kind)) (length-variables device part.ports) in
-      AllRaw-append vars (raw_clauses device.tables (rule part.kind) h z ports) (clauses_from device (h + 1) (z + inner) parts)
-      (all_raw vars (raw_clauses device.tables (rule part.kind) h z ports)
-      (Of-raw (InRange vars) h (hh, omega arith) device.tables (rule part.kind) z ports (λ v le lt. (omega arith, omega (arith, same)))
-      (more (length device.parts + length device.wires) vars ports enough (wires-in device part.ports js.0)) (arity-at device part fit.0)))
-      (AllRaw-parts (h + 1) (z + inner) parts (omega arith) (omega arith) (omega arith) (omega arith) fit.1 js.1)
+      let raw = Of-raw (InRange vars) h (hh, omega arith) device.tables (rule part.kind) z ports (λ v le lt. (omega arith, omega (arith, ap (inner_count (rule part.kind)) (length-map part.ports (wire_variable device))))) in
+      grind (arith, raw, all_raw, AllRaw-append, more, wires-in, arity-at, AllRaw-parts (h + 1) (z + inner_count (rule part.kind) (length part.ports)) parts)
 
 AllRaw-device : (device : Device) → IsDevice device → AllRaw (length device.parts + length device.wires + inner_vars device.parts) (all_clauses device)
 AllRaw-device device d = grind (arith, AllRaw-parts)
@@ -105,35 +93,8 @@ module _ (device : Device) (a : Assignment) (wires : List Bool) (wire_is : (w : 
   parts-settle h z [] state hh hz long bits arities joined = refl
   parts-settle h z (part ∷ parts) [] hh hz long bits arities joined = absurd (omega arith)
   parts-settle h z (part ∷ parts) (ok ∷ state) hh hz long bits arities joined =
-      let fit = and_parts (has_arity device.tables part) (list_all (has_arity device.tables) parts) arities in
-      let js = and_parts (has_wires (length device.wires) part) (list_all (has_wires (length device.wires)) parts) joined in
-      let ports = map (wire_variable device) part.ports in
-      let row = map (bit_in wires) part.ports in
-      let vars = length device.parts + length device.wires in
-      let inner = inner_count (rule part.kind) (length part.ports) in
-      let health : a h ≡ ok = ap a (plus_zero h) ∙ bits 0 (omega arith) in
-      let one : Settles a z (raw_clauses device.tables (rule part.kind) h z ports) (inner_bits (rule part.kind) row) (allows device.tables (rule part.kind) ok row) =
-      raw-settles a device.tables (rule part.kind) h z ports hh hz (positive vars ports (wires-in device part.ports js.0)) (arity-at device part fit.0)
-      ∙ (λ i. has_bits a z (inner_bits (rule part.kind) (ports-are part.ports js.0 i)) && allows device.tables (rule part.kind) (health i) (ports-are part.ports js.0 i)) in
-      Settles-append a z (z + inner) (raw_clauses device.tables (rule part.kind) h z ports) (clauses_from device (h + 1) (z + inner) parts)
-      (inner_bits (rule part.kind) row) (part_bits parts wires) (allows device.tables (rule part.kind) ok row) (parts_fit device.tables parts state wires)
-      (ap (λ n. z + n) (sym (length-bits part wires))) one
-      (parts-settle (h + 1) (z + inner) parts state (omega arith) (omega arith) (omega arith) (λ k lt. ap a (one_more h k) ∙ bits (suc k) (omega arith)) fit.1 js.1) where
-        plus_zero : (n : ℕ) → n ≡ n + 0
-        plus_zero n = omega arith
-
-        one_more : (n k : ℕ) → (n + 1) + k ≡ n + suc k
-        one_more n k = omega arith
-
--- the bits of the variables: those of the parts' health, and then those of the wires
-health-bit : (state more : List Bool) (k : ℕ) → k < length state → assignment (state ++ more) (1 + k) ≡ get_or state k false
-health-bit state more k lt = grind (arith, get_or_append_left)
-
-wire-bit : (state wires : List Bool) (parts w : ℕ) → length state ≡ parts → assignment (state ++ wires) (parts + w + 1) ≡ bit_in wires w
-wire-bit state wires parts w long = grind (arith, get_or-append_right)
-
-front-bit : (front inner : List Bool) (v : ℕ) → 1 ≤ v → v ≤ length front → assignment (front ++ inner) v ≡ assignment front v
-front-bit front inner v some most = get_or_append_left front inner false (v - 1) (omega arith)
+      let rest = parts-settle (h + 1) (z + inner_count (rule part.kind) (length part.ports)) parts state (omega arith) (omega arith) (omega arith) (λ k lt. grind (arith, bits (suc k))) in
+      grind (arith, rest, bits 0, raw-settles, positive, wires-in, arity-at, ports-are, Settles-append, length-bits)
 
 pub describes : (device : Device) → IsDevice device → Describes (clause_list device) device
 describes device d state wires long wide =
@@ -159,6 +120,5 @@ describes device d state wires long wide =
       settles : (inner : List Bool) → Settles (assignment (front ++ inner)) (length front + 1) (all_clauses device) bits (fits device state wires)
       settles inner = subst (λ n. Settles (assignment (front ++ inner)) (n + 1) (all_clauses device) bits (fits device state wires)) (sym in_front)
           (parts-settle device (assignment (front ++ inner)) wires
-          (λ w lt. front-bit front inner (wire_variable device w) (omega arith) (omega (arith, in_front)) ∙ wire-bit state wires (length device.parts) w long)
-          1 (first_inner device) device.parts state (omega arith) (omega arith) long
-          (λ k lt. front-bit front inner (1 + k) (omega arith) (omega (arith, in_front)) ∙ health-bit state wires k (omega arith)) d.arities d.joined)
+          (λ w lt. grind (arith, get_or_append_left, get_or-append_right, in_front)) 1 (first_inner device) device.parts state (omega arith) (omega arith) long
+          (λ k lt. grind (arith, get_or_append_left, in_front)) d.arities d.joined)

@@ -9,4 +9,5 @@ pub mod OtherVariables
 pub mod WrittenClauses
 pub mod ClauseCounts
 pub mod Sizes
+pub mod Rules
 mod Examples

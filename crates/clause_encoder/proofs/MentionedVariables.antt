@@ -62,12 +62,6 @@ module _ (P : ℕ → Type 0) where
   Of-blocking (v ∷ vs) [] h = tt
   Of-blocking (v ∷ vs) (b ∷ bits) h = Of-cons (not b) v (blocking_literals vs bits) h.0 (Of-blocking vs bits h.1)
 
-  Of-two : (b c : Bool) (v w : ℕ) → P v → P w → Of (literal b v ∷ literal c w ∷ [])
-  Of-two b c v w hv hw = Of-cons b v (literal c w ∷ []) hv (Of-cons c w [] hw tt)
-
-  Of-three : (b c d : Bool) (u v w : ℕ) → P u → P v → P w → Of (literal b u ∷ literal c v ∷ literal d w ∷ [])
-  Of-three b c d u v w hu hv hw = Of-cons b u (literal c v ∷ literal d w ∷ []) hu (Of-two c d v w hv hw)
-
   module _ (h : ℕ) (hh : P h) where
     Of-and : (y : ℕ) (t s : Bool) (xs : List ℕ) → P y → Variables xs → OfEach (and_clauses (pos h) (literal t y) (map (literal s) xs))
     Of-and y t s xs hy hs = subst OfEach (sym (and_clauses-literals h y t s xs))
@@ -76,7 +70,7 @@ module _ (P : ℕ → Type 0) where
         (omega arith, Of-cons false h (literal t y ∷ map (literal (not s)) xs) hh (Of-cons t y (map (literal (not s)) xs) hy (Of-literals (not s) xs hs)), tt)) where
           fronts : (xs : List ℕ) → Variables xs → OfEach (map (λ x. literal false h ∷ literal (not t) y ∷ literal s x ∷ []) xs)
           fronts [] hs = tt
-          fronts (x ∷ xs) hs = (omega arith, Of-three false (not t) s h y x hh hy hs.0, fronts xs hs.1)
+          fronts (x ∷ xs) hs = (omega arith, Of-cons false h (literal (not t) y ∷ literal s x ∷ []) hh (Of-cons (not t) y (literal s x ∷ []) hy (Of-cons s x [] hs.0 tt)), fronts xs hs.1)
 
     Of-parity : (odd : Bool) (xs : List ℕ) (y : ℕ) → P y → Variables xs → OfEach (parity_clauses odd h xs y)
     Of-parity odd xs y hy hs = grind (arith, OfEach-map, Of-append, Of-blocking)

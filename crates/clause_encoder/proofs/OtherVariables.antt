@@ -36,29 +36,29 @@ clause-within vars c h k d lt = (AllIn-at vars c k d (raw_from vars c h).1 lt).1
 
 -- ---- replaced
 
-module _ (old : ℕ) (variables : List ℕ) (vars : ℕ) (all : length variables ≡ old) (some : All (λ v. 1 ≤ v) variables) (within : All (λ v. v ≤ vars) variables) where
-  AllIn-replaced : (c : Clause) → AllIn old c → AllIn vars (map (literal_for variables) c)
+module _ (variables : List ℕ) (vars : ℕ) (some : All (λ v. 1 ≤ v) variables) (within : All (λ v. v ≤ vars) variables) where
+  AllIn-replaced : (c : Clause) → AllIn (length variables) c → AllIn vars (map (literal_for variables) c)
   AllIn-replaced [] h = tt
   AllIn-replaced (l ∷ c) h = grind (arith, AllIn-replaced c h.2)
 
-  AllRaw-replaced : (cs : List Clause) → list_all (is_clause old) cs ≡ true → AllRaw vars (map (map (literal_for variables)) cs)
+  AllRaw-replaced : (cs : List Clause) → list_all (is_clause (length variables)) cs ≡ true → AllRaw vars (map (map (literal_for variables)) cs)
   AllRaw-replaced [] h = tt
   AllRaw-replaced (c ∷ cs) h = grind (arith, and_parts, raw_from, AllIn-replaced, AllRaw-replaced cs)
 
-  true-replaced : (a : Assignment) (c : Clause) → AllIn old c → is_true_clause a (map (literal_for variables) c) ≡ is_true_clause (λ v. a (variable_for variables v)) c
+  true-replaced : (a : Assignment) (c : Clause) → AllIn (length variables) c → is_true_clause a (map (literal_for variables) c) ≡ is_true_clause (λ v. a (variable_for variables v)) c
   true-replaced a [] h = refl
   true-replaced a (l ∷ c) h = grind (arith, true-replaced a c h.2)
 
-  all-replaced : (a : Assignment) (cs : List Clause) → list_all (is_clause old) cs ≡ true
+  all-replaced : (a : Assignment) (cs : List Clause) → list_all (is_clause (length variables)) cs ≡ true
       → all_hold a (map (map (literal_for variables)) cs) ≡ all_hold (λ v. a (variable_for variables v)) cs
   all-replaced a [] h = refl
   all-replaced a (c ∷ cs) h = grind (arith, true-replaced, raw_from, all-replaced a cs)
 
-  pub replaced-truth : (a : Assignment) (cs : List Clause) → list_all (is_clause old) cs ≡ true
+  pub replaced-truth : (a : Assignment) (cs : List Clause) → list_all (is_clause (length variables)) cs ≡ true
       → all_hold a (tidy (map (map (literal_for variables)) cs)) ≡ all_hold (λ v. a (variable_for variables v)) cs
   replaced-truth a cs h = all_hold-tidy a vars (map (map (literal_for variables)) cs) (AllRaw-replaced cs h) ∙ all-replaced a cs h
 
-  pub replaced-clauses : (cs : List Clause) → list_all (is_clause old) cs ≡ true → list_all (is_clause vars) (tidy (map (map (literal_for variables)) cs)) ≡ true
+  pub replaced-clauses : (cs : List Clause) → list_all (is_clause (length variables)) cs ≡ true → list_all (is_clause vars) (tidy (map (map (literal_for variables)) cs)) ≡ true
   replaced-clauses cs h = are_clauses-tidy vars (map (map (literal_for variables)) cs) (AllRaw-replaced cs h)
 
 pub replaced-few : (variables : List ℕ) (cs : List Clause) → length (tidy (map (map (literal_for variables)) cs)) ≤ length cs

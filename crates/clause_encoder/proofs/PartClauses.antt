@@ -1,6 +1,6 @@
 -- The clauses of a part are true exactly if the part allows the bits of its ports.
-use Rattle.std.proofs.Common.{◌≡◌, ℕ, zero, suc, ◌^◌, ◌<◌, ◌≤◌, Bool, true, false, not, ◌&&◌, ◌||◌, List, [], ◌∷◌, ◌++◌, map, length, take, get_or, pos, neg_ℤ, Some, refl, ap, sym, ◌∙◌, arith}
-use Rattle.std.specs.Prelude.{◌==◌, nat_le, min}
+use Rattle.std.proofs.Common.{◌≡◌, ℕ, zero, suc, ◌<◌, ◌≤◌, Bool, true, false, not, ◌||◌, List, [], ◌∷◌, ◌++◌, map, length, take, get_or, pos, neg_ℤ, Some, refl, sym, ◌∙◌, arith}
+use Rattle.std.specs.Prelude.{nat_le, min}
 use Rattle.std.specs.List.{list_any, list_all}
 use Rattle.std.proofs.lemmas.Bool.{leb-true, and_parts}
 use Rattle.std.proofs.lemmas.List.{length-map}
@@ -15,7 +15,7 @@ use Rattle.device_model.specs.declared.limits.TheConstants.{INPUT_LIMIT}
 use Rattle.device_model.specs.TruthTable.{TruthTable}
 use Rattle.device_model.specs.Devices.{table_allows}
 use Rattle.device_model.specs.Gates.{takes, reduced, gate_value}
-use Rattle.clause_encoder.specs.Clauses.{Clause, literal, is_true_clause, all_hold}
+use Rattle.clause_encoder.specs.Clauses.{literal, is_true_clause, all_hold}
 use Rattle.clause_encoder.specs.Encoding.{parity_clauses, and_clauses, row_bits, rows_of, blocking_literals, row_clause, blocked_rows, table_clauses, reduction_clauses, gate_clauses}
 use Rattle.clause_encoder.proofs.Literals.{lit, lit-literal, neg-literal}
 use Rattle.clause_encoder.proofs.RowBits.{AllPositive, row_bits-number, row_number-below, blocking_literals-row, all-rows, all-filtered}
@@ -34,24 +34,15 @@ and_clauses-literals h y t s xs = λ i. fronts xs i ++ (literal false h ∷ lite
   negated [] = refl
   negated (x ∷ xs) = λ i. neg-literal s x i ∷ negated xs i
 
-same_bit-not : (t b : Bool) → same_bit (not t) b ≡ not (same_bit t b)
-same_bit-not t b = grind arith
-
-always : (ok y : Bool) → true ≡ (not ok || (not y || true))
-always ok y = grind arith
-
-not_all : (x all : Bool) → (not x || not all) ≡ not (x && all)
-not_all x all = grind arith
-
 module _ (a : Assignment) (h y : ℕ) (t s : Bool) (hh : 1 ≤ h) (hy : 1 ≤ y) where
   fronts-hold : (xs : List ℕ) → AllPositive xs → all_hold a (map (λ x. literal false h ∷ literal (not t) y ∷ literal s x ∷ []) xs)
       ≡ (not (a h) || (not (same_bit t (a y)) || list_all (λ x. same_bit s (a x)) xs))
-  fronts-hold [] hs = always (a h) (same_bit t (a y))
+  fronts-hold [] hs = grind arith
   fronts-hold (x ∷ xs) hs = grind (arith, fronts-hold xs hs.1)
 
   any-negated : (xs : List ℕ) → AllPositive xs → list_any (lit a) (map (literal (not s)) xs) ≡ not (list_all (λ x. same_bit s (a x)) xs)
   any-negated [] hs = refl
-  any-negated (x ∷ xs) hs = (λ i. (lit-literal a (not s) x hs.0 ∙ same_bit-not s (a x)) i || any-negated xs hs.1 i) ∙ not_all (same_bit s (a x)) (list_all (λ x. same_bit s (a x)) xs)
+  any-negated (x ∷ xs) hs = grind (arith, lit-literal, any-negated xs hs.1)
 
   and-holds : (xs : List ℕ) → AllPositive xs → all_hold a (and_clauses (pos h) (literal t y) (map (literal s) xs))
       ≡ (not (a h) || same_bit (same_bit t (a y)) (list_all (λ x. same_bit s (a x)) xs))
@@ -64,49 +55,25 @@ all_not a (x ∷ xs) = grind (arith, all_not a xs)
 all_bits : (a : Assignment) (xs : List ℕ) → list_all (λ x. a x) xs ≡ list_all (λ b. b) (map a xs)
 all_bits a xs = sym (list_all-map (λ (b : Bool). b) a xs)
 
--- a negation may be on either side
-negated_output : (positive y b : Bool) → same_bit (same_bit positive y) b ≡ same_bit y (same_bit positive b)
-negated_output positive y b = grind arith
-
-negated_both : (positive y b : Bool) → same_bit (same_bit (not positive) y) (not b) ≡ same_bit y (same_bit positive b)
-negated_both positive y b = grind arith
-
 -- ---- the rows of an exclusive or
 
 parity-holds : (a : Assignment) (odd : Bool) (h : ℕ) (xs : List ℕ) (y : ℕ) → 1 ≤ h → 1 ≤ y → AllPositive xs
     → all_hold a (parity_clauses odd h xs y) ≡ (not (a h) || same_bit (a y) (same_bit odd (has_odd_ones (map a xs))))
-parity-holds a odd h xs y hh hy hs = list_all-map (is_true_clause a) clause_of (rows_of xs)
-    ∙ all-rows (λ r. is_true_clause a (clause_of r)) (λ r. not (a h) || same_bit (value_of r) (a y)) xs row
-    (row_number-below (map a xs) (length xs) (length-map xs a)) at_row
-    ∙ ap (λ bits. not (a h) || same_bit (same_bit odd (has_odd_ones bits)) (a y)) (row_bits-number (map a xs) xs (length-map xs a))
-    ∙ ap (λ b. not (a h) || b) (same_bit-swap (same_bit odd (has_odd_ones (map a xs))) (a y)) where
-      row : ℕ
-      row = row_number (map a xs)
-
-      value_of : ℕ → Bool
-      value_of r = same_bit odd (has_odd_ones (row_bits r xs))
-
-      clause_of : ℕ → Clause
-      clause_of r = row_clause h xs y (row_bits r xs) (value_of r)
-
-      at_row : (r : ℕ) → r < 2 ^ length xs → is_true_clause a (clause_of r) ≡ (not (r == row) || (not (a h) || same_bit (value_of r) (a y)))
-      at_row r lt = grind (arith, list_any-append, blocking_literals-row)
+parity-holds a odd h xs y hh hy hs =
+    let value = λ (r : ℕ). same_bit odd (has_odd_ones (row_bits r xs)) in
+    let clause = λ (r : ℕ). row_clause h xs y (row_bits r xs) (value r) in
+    let rows = all-rows (λ r. is_true_clause a (clause r)) (λ r. not (a h) || same_bit (value r) (a y)) xs (row_number (map a xs)) (row_number-below (map a xs) (length xs) (length-map xs a)) (λ r lt. grind (arith, list_any-append, blocking_literals-row)) in
+    grind (arith, list_all-map (is_true_clause a) clause (rows_of xs), rows, row_bits-number (map a xs) xs (length-map xs a), same_bit-swap)
 
 -- ---- the rows of a table
 
 side-holds : (a : Assignment) (ok : Bool) (allowed h : ℕ) (ports : List ℕ) → 1 ≤ h → AllPositive ports
     → all_hold a (blocked_rows ok allowed h ports) ≡ (has_bit allowed (row_number (map a ports)) || same_bit (not ok) (a h))
-side-holds a ok allowed h ports hh hs = all-filtered (is_true_clause a) clause_of (λ r. not (has_bit allowed r)) (rows_of ports)
-    ∙ all-rows (λ r. not (not (has_bit allowed r)) || is_true_clause a (clause_of r)) (λ r. has_bit allowed r || same_bit (not ok) (a h)) ports row
-    (row_number-below (map a ports) (length ports) (length-map ports a)) at_row where
-      row : ℕ
-      row = row_number (map a ports)
-
-      clause_of : ℕ → Clause
-      clause_of r = literal (not ok) h ∷ blocking_literals ports (row_bits r ports)
-
-      at_row : (r : ℕ) → r < 2 ^ length ports → (not (not (has_bit allowed r)) || is_true_clause a (clause_of r)) ≡ (not (r == row) || (has_bit allowed r || same_bit (not ok) (a h)))
-      at_row r lt = grind (arith, blocking_literals-row)
+side-holds a ok allowed h ports hh hs =
+    let clause = λ (r : ℕ). literal (not ok) h ∷ blocking_literals ports (row_bits r ports) in
+    all-filtered (is_true_clause a) clause (λ r. not (has_bit allowed r)) (rows_of ports)
+    ∙ all-rows (λ r. not (not (has_bit allowed r)) || is_true_clause a (clause r)) (λ r. has_bit allowed r || same_bit (not ok) (a h)) ports (row_number (map a ports))
+    (row_number-below (map a ports) (length ports) (length-map ports a)) (λ r lt. grind (arith, blocking_literals-row))
 
 pub table-holds : (a : Assignment) (rows : TruthTable) (h : ℕ) (ports : List ℕ) → 1 ≤ h → AllPositive ports
     → all_hold a (table_clauses (Some rows) h ports) ≡ table_allows rows (a h) (map a ports)
@@ -117,10 +84,8 @@ table-holds a rows h ports hh hs = grind (arith, list_all-append, side-holds)
 module _ (a : Assignment) (h : ℕ) (xs : List ℕ) (y : ℕ) (hh : 1 ≤ h) (hy : 1 ≤ y) (hs : AllPositive xs) where
   reduction-holds : (reduction : Reduction) (positive : Bool) → all_hold a (reduction_clauses reduction positive h xs y)
       ≡ (not (a h) || same_bit (a y) (same_bit positive (reduced reduction (map a xs))))
-  reduction-holds AllOnes positive = and-holds a h y positive true hh hy xs hs
-      ∙ ap (λ b. not (a h) || b) (negated_output positive (a y) (list_all (λ x. a x) xs) ∙ ap (λ b. same_bit (a y) (same_bit positive b)) (all_bits a xs))
-  reduction-holds AnyOne positive = and-holds a h y (not positive) false hh hy xs hs
-      ∙ ap (λ b. not (a h) || b) (ap (same_bit (same_bit (not positive) (a y))) (all_not a xs) ∙ negated_both positive (a y) (list_any (λ b. b) (map a xs)))
+  reduction-holds AllOnes positive = grind (arith, and-holds a h y positive true hh hy xs hs, all_bits a xs)
+  reduction-holds AnyOne positive = grind (arith, and-holds a h y (not positive) false hh hy xs hs, all_not a xs)
   reduction-holds OddOnes positive = parity-holds a positive h xs y hh hy hs
 
   pub gate-holds : (gate : Gate) → all_hold a (gate_clauses gate h xs y) ≡ (not (a h) || same_bit (a y) (gate_value gate (map a xs)))

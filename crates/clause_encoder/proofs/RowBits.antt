@@ -1,5 +1,5 @@
 -- The bits of a row number, and the clauses that are false in one row.
-use Rattle.std.proofs.Common.{◌≡◌, ℕ, zero, suc, ◌+◌, ◌*◌, ◌/◌, ◌%◌, ◌^◌, ◌<◌, ◌≤◌, Bool, true, false, not, ◌&&◌, ◌||◌, cond, List, [], ◌∷◌, map, length, count_by, refl, ap, sym, ◌∙◌, arith, add-one}
+use Rattle.std.proofs.Common.{◌≡◌, ℕ, zero, suc, ◌+◌, ◌*◌, ◌/◌, ◌%◌, ◌^◌, ◌<◌, ◌≤◌, Bool, true, not, ◌&&◌, ◌||◌, cond, List, [], ◌∷◌, map, length, count_by, refl, ap, sym, ◌∙◌, arith, add-one}
 use Rattle.std.specs.Prelude.{◌==◌, count_ones}
 use Rattle.std.specs.Int.{bit_at}
 use Rattle.std.specs.List.{list_any, list_all, filter, range_with_len}
@@ -41,9 +41,7 @@ bit-of b n = grind arith
 pub row_bits-number : (bits : List Bool) (vs : List ℕ) → length bits ≡ length vs → row_bits (row_number bits) vs ≡ bits
 row_bits-number [] vs h = grind arith
 row_bits-number (b ∷ bits) [] h = absurd (omega arith)
-row_bits-number (b ∷ bits) (v ∷ vs) h = row_bits-cons (row_number (b ∷ bits)) v vs
-    ∙ (λ i. bit-of b (row_number bits) i ∷ row_bits (row_number-half b (row_number bits) i) vs)
-    ∙ (λ i. b ∷ row_bits-number bits vs (omega arith) i)
+row_bits-number (b ∷ bits) (v ∷ vs) h = grind (arith, row_bits-cons (row_number (b ∷ bits)) v vs, bit-of b (row_number bits), row_number-half b (row_number bits), row_bits-number bits vs)
 
 pub row_number-below : (bits : List Bool) (n : ℕ) → length bits ≡ n → row_number bits < 2 ^ n
 row_number-below [] n h = grind arith
@@ -59,10 +57,7 @@ differs bit r n = grind arith
 pub blocking_literals-row : (a : Assignment) (vs : List ℕ) (r : ℕ) → AllPositive vs → r < 2 ^ length vs
     → list_any (lit a) (blocking_literals vs (row_bits r vs)) ≡ not (r == row_number (map a vs))
 blocking_literals-row a [] r h lt = grind (arith, nat_tests)
-blocking_literals-row a (v ∷ vs) r h lt = ap (λ bits. list_any (lit a) (blocking_literals (v ∷ vs) bits)) (row_bits-cons r v vs)
-    ∙ (λ i. lit-literal a (not (has_bit r 0)) v h.0 i || blocking_literals-row a vs (r / 2) h.1 (half-below r (length vs) lt) i)
-    ∙ ap (λ b. same_bit (not b) (a v) || not (r / 2 == row_number (map a vs))) (has_bit-zero r)
-    ∙ differs (a v) r (row_number (map a vs))
+blocking_literals-row a (v ∷ vs) r h lt = grind (arith, row_bits-cons r v vs, lit-literal a (not (has_bit r 0)) v h.0, blocking_literals-row a vs (r / 2) h.1 (half-below r (length vs) lt), has_bit-zero r, differs (a v) r (row_number (map a vs)))
 
 -- ---- tests of all rows, of which one counts
 
@@ -103,10 +98,7 @@ no_ones r e = ap count_ones (sym e)
 
 pub ones-set : (n r : ℕ) → r < 2 ^ n → count_by (λ b. b) (map (has_bit r) (range_with_len 0 n)) ≡ count_ones r
 ones-set zero r h = no_ones r (omega arith)
-ones-set (suc n) r h = (λ i. count_by (λ b. b) (has_bit r 0 ∷ sets-more r 0 n i)) ∙ count-cons (has_bit r 0) (map (has_bit (r / 2)) (range_with_len 0 n))
-    ∙ (λ i. cond (has_bit-zero r i) 1 0 + ones-set n (r / 2) (half-below r n h) i)
-    ∙ ap (λ n. n + count_ones (r / 2)) (odd-bit r)
-    ∙ sym (ones_step r)
+ones-set (suc n) r h = grind (arith, sets-more r 0 n, count-cons (has_bit r 0) (map (has_bit (r / 2)) (range_with_len 0 n)), has_bit-zero r, ones-set n (r / 2) (half-below r n h), odd-bit r, ones_step r)
 
 -- a row has an odd number of ones
 pub odd-row : (vs : List ℕ) (r : ℕ) → r < 2 ^ length vs → (count_ones r % 2 == 1) ≡ has_odd_ones (row_bits r vs)
@@ -114,17 +106,8 @@ odd-row vs r h = ap (λ n. n % 2 == 1) (sym (ones-set (length vs) r h))
 
 count-kept : (f : ℕ → Bool) (rs : List ℕ) → count_by (λ b. b) (map f rs) ≡ length (filter f rs)
 count-kept f [] = refl
-count-kept f (r ∷ rs) = count-cons (f r) (map f rs) ∙ by_test (f r) (count-kept f rs) where
-  by_test : (b : Bool) → count_by (λ b. b) (map f rs) ≡ length (filter f rs) → cond b 1 0 + count_by (λ b. b) (map f rs) ≡ length (cond b (r ∷ filter f rs) (filter f rs))
-  by_test true e = omega arith
-  by_test false e = omega arith
+count-kept f (r ∷ rs) = grind (arith, count-cons (f r) (map f rs), count-kept f rs)
 
 -- of all rows, those that are not in a set
 pub others : (set : ℕ) (n : ℕ) → set < 2 ^ n → length (filter (λ r. not (has_bit set r)) (range_with_len 0 n)) + count_ones set ≡ n
-others set n h = omega (
-  arith,
-  length-filter_both (has_bit set) (λ r. not (has_bit set r)) (λ r. refl) (range_with_len 0 n),
-  count-kept (has_bit set) (range_with_len 0 n),
-  ones-set n set h,
-  length-range_with_len 0 n,
-)
+others set n h = grind (arith, length-filter_both (has_bit set) (λ r. not (has_bit set r)) (λ r. refl) (range_with_len 0 n), count-kept (has_bit set), ones-set n set h, length-range_with_len 0 n)

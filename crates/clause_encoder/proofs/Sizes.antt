@@ -1,8 +1,8 @@
 -- How many variables a device that is encoded has: each inner one comes with three clauses or more, of which there are few.
-use Rattle.std.proofs.Common.{◌≡◌, ℕ, ◌+◌, ◌-◌, ◌*◌, ◌<◌, ◌≤◌, Bool, true, false, List, [], ◌∷◌, map, length, take, get_or, Ok, refl, ap, sym, ◌∙◌, subst, arith}
+use Rattle.std.proofs.Common.{◌≡◌, ℕ, ◌+◌, ◌-◌, ◌*◌, ◌≤◌, true, List, [], ◌∷◌, length, take, get_or, Ok, arith}
 use Rattle.std.specs.Prelude.{if◌then◌else◌}
 use Rattle.std.specs.List.{list_all}
-use Rattle.std.proofs.lemmas.Bool.{ltb-true, and_parts}
+use Rattle.std.proofs.lemmas.Bool.Decides.{nat_tests}
 use Rattle.std.proofs.lemmas.List.{length-append, length-map, length-take-le}
 use Rattle.device_model.specs.declared.gates.Rule.{Rule}
 use Rattle.device_model.specs.declared.gates.Gate.{Gate}
@@ -12,9 +12,9 @@ use Rattle.device_model.specs.declared.component.Component.{Component}
 use Rattle.device_model.specs.TruthTable.{TruthTable}
 use Rattle.device_model.specs.Devices.{Device, IsDevice, takes_ports, has_arity}
 use Rattle.device_model.specs.Gates.{rule}
-use Rattle.clause_encoder.specs.declared.limits.TheConstants.{CLAUSE_LIMIT, NARROW_LIMIT}
+use Rattle.clause_encoder.specs.declared.limits.TheConstants.{CLAUSE_LIMIT}
 use Rattle.clause_encoder.specs.Clauses.{ClauseList}
-use Rattle.clause_encoder.specs.Encoding.{step_clauses, any_gate_clauses, is_wide, raw_clauses, inner_count, inner_vars, wire_variable, clauses_from, first_inner, raw_count, most_variables, encoded}
+use Rattle.clause_encoder.specs.Encoding.{step_clauses, any_gate_clauses, is_wide, raw_clauses, inner_count, inner_vars, clauses_from, first_inner, raw_count, most_variables, encoded}
 use Rattle.clause_encoder.proofs.ClauseCounts.{length-any_gate}
 
 -- ---- inner variables and clauses
@@ -33,23 +33,12 @@ step-three reduction n = grind arith
 
 wide-inner : (gate : Gate) (h z y inputs : ℕ) (xs : List ℕ) → 5 ≤ inputs → length xs ≡ inputs → 3 * (inputs - 2) ≤ length (any_gate_clauses gate h z xs y)
 wide-inner gate h z y inputs xs wide long =
-    let reduction = gate.reduction in
-    let count : length (any_gate_clauses gate h z xs y) ≡ step-count reduction * (inputs - 1) = length-any_gate gate inputs (step-count reduction) (length-step reduction) wide h z y xs long in
-    let three : 3 * (inputs - 1) ≤ step-count reduction * (inputs - 1) = step-three reduction (inputs - 1) in
-    let all : 3 * (inputs - 1) ≤ length (any_gate_clauses gate h z xs y) = subst (λ n. 3 * (inputs - 1) ≤ n) (sym count) three in
-    omega (arith, all)
+    let count = length-any_gate gate inputs (step-count gate.reduction) (length-step gate.reduction) wide h z y xs long in
+    omega (arith, count, step-three gate.reduction (inputs - 1))
 
 gate-inner : (gate : Gate) (h z : ℕ) (ports : List ℕ) → 3 * (if is_wide (length ports - 1) then length ports - 3 else 0)
     ≤ length (any_gate_clauses gate h z (take (length ports - 1) ports) (get_or ports (length ports - 1) 0))
-gate-inner gate h z ports = by_width (is_wide (length ports - 1)) refl where
-  by_width : (w : Bool) → is_wide (length ports - 1) ≡ w
-      → 3 * (if w then length ports - 3 else 0) ≤ length (any_gate_clauses gate h z (take (length ports - 1) ports) (get_or ports (length ports - 1) 0))
-  by_width true wide =
-      let inputs = length ports - 1 in
-      let many : NARROW_LIMIT < inputs = ltb-true NARROW_LIMIT inputs wide in
-      let at_least = wide-inner gate h z (get_or ports inputs 0) inputs (take inputs ports) (omega (arith, many)) (length-take-le inputs ports (omega arith)) in
-      omega (arith, at_least)
-  by_width false narrow = omega arith
+gate-inner gate h z ports = grind (arith, nat_tests, length-take-le, wide-inner gate h z (get_or ports (length ports - 1) 0) (length ports - 1) (take (length ports - 1) ports))
 
 part-inner : (tables : List TruthTable) (rule : Rule) (h z : ℕ) (ports : List ℕ) → takes_ports tables rule (length ports) ≡ true
     → 3 * inner_count rule (length ports) ≤ length (raw_clauses tables rule h z ports)
@@ -58,16 +47,7 @@ part-inner tables rule h z ports e = grind (arith, gate-inner)
 parts-inner : (device : Device) (h z : ℕ) (parts : List Component) → list_all (has_arity device.tables) parts ≡ true
     → 3 * inner_vars parts ≤ length (clauses_from device h z parts)
 parts-inner device h z [] arities = omega arith
-parts-inner device h z (part ∷ parts) arities =
-    let fit = and_parts (has_arity device.tables part) (list_all (has_arity device.tables) parts) arities in
-    let ports = map (wire_variable device) part.ports in
-    let long : length ports ≡ length part.ports = length-map part.ports (wire_variable device) in
-    let inner = inner_count (rule part.kind) (length part.ports) in
-    let one : 3 * inner_count (rule part.kind) (length ports) ≤ length (raw_clauses device.tables (rule part.kind) h z ports) =
-    part-inner device.tables (rule part.kind) h z ports (ap (takes_ports device.tables (rule part.kind)) long ∙ fit.0) in
-    let same : inner_count (rule part.kind) (length ports) ≡ inner = ap (inner_count (rule part.kind)) long in
-    let rest = parts-inner device (h + 1) (z + inner) parts fit.1 in
-    omega (arith, length-append (raw_clauses device.tables (rule part.kind) h z ports) (clauses_from device (h + 1) (z + inner) parts), one, same, rest)
+parts-inner device h z (part ∷ parts) arities = grind (arith, part-inner, parts-inner device (h + 1) (z + inner_count (rule part.kind) (length part.ports)) parts, length-append, length-map)
 
 -- ---- what is encoded
 

@@ -1,5 +1,5 @@
 -- Clauses that are written one after the other: what a step of a loop adds to those that were there.
-use Rattle.std.proofs.Common.{◌≡◌, ℕ, zero, suc, ◌+◌, ◌-◌, ◌*◌, ◌/◌, ◌%◌, ◌^◌, ◌<◌, ◌≤◌, Bool, true, false, not, cond, List, [], ◌∷◌, ◌++◌, map, length, take, drop, get_or, ℤ, pos, count_ones, Some, ap, sym, ◌∙◌, arith, append_assoc, w32, to_z, of_z, FitsSigned}
+use Rattle.std.proofs.Common.{◌≡◌, ℕ, zero, suc, ◌+◌, ◌-◌, ◌*◌, ◌/◌, ◌%◌, ◌^◌, ◌<◌, ◌≤◌, Bool, true, false, not, cond, List, [], ◌∷◌, ◌++◌, map, length, take, drop, get_or, ℤ, pos, Some, ap, sym, ◌∙◌, arith, append_assoc, w32, to_z, of_z, FitsSigned}
 use Rattle.std.specs.List.{filter, range_with_len}
 use Rattle.std.proofs.lemmas.List.{append-nil, drop_more, drop_all, take_more, length-map, get_or-map}
 use Rattle.std.specs.Prelude.{◌==◌, slice_get}
@@ -7,7 +7,6 @@ use Rattle.std.proofs.Math.Pow.{pow_mono}
 use Rattle.std.proofs.lemmas.Bool.{eqb-true, ltb-true}
 use Rattle.std.proofs.lemmas.Bool.Decides.{nat_tests}
 use Rattle.std.proofs.lemmas.Int.{to_z-of_z}
-use Rattle.state_rules.specs.Bits.{same_bit, has_odd_ones, has_bit}
 use Rattle.state_rules.proofs.Lists.{list_all-at}
 use Rattle.device_model.specs.TruthTable.{TruthTable, is_table}
 use Rattle.device_model.specs.declared.gates.Gate.{Gate}
@@ -16,9 +15,9 @@ use Rattle.device_model.specs.Gates.{rule}
 use Rattle.device_model.specs.declared.component.Component.{Component}
 use Rattle.device_model.specs.Devices.{Device, IsDevice, rows_take, takes_ports}
 use Rattle.clause_encoder.specs.Clauses.{Clause, literal}
-use Rattle.clause_encoder.specs.Encoding.{tidy, and_clauses, row_bits, row_clause, blocking_literals, step_clauses, chain_clauses, raw_clauses, inner_count, inner_vars, first_inner, clauses_from, wire_variable}
+use Rattle.clause_encoder.specs.Encoding.{tidy, and_clauses, row_bits, blocking_literals, step_clauses, chain_clauses, raw_clauses, inner_count, inner_vars, first_inner, clauses_from, wire_variable}
 use Rattle.clause_encoder.proofs.Literals.{tidy-append}
-use Rattle.clause_encoder.proofs.RowBits.{row_bits-cons, has_bit-zero, odd-row}
+use Rattle.clause_encoder.proofs.RowBits.{row_bits-cons, has_bit-zero}
 use Rattle.clause_encoder.proofs.PartClauses.{and_clauses-literals}
 
 module _ (now next start : List Clause) where
@@ -37,35 +36,18 @@ module _ (now next start : List Clause) where
       → now ++ tidy (map f (range_with_len r (n - r))) ≡ start → next ++ tidy (map f (range_with_len (r + 1) (n - (r + 1)))) ≡ start
   row-written f r n lt e h = written (f r ∷ []) (map f (range_with_len (r + 1) (n - (r + 1)))) e (ap (λ rs. now ++ tidy (map f rs)) (sym (rows-from r n lt)) ∙ h)
 
-  pub kept-written : (f : ℕ → Clause) (keep : ℕ → Bool) (r n : ℕ) → r < n → keep r ≡ true → next ≡ now ++ tidy (f r ∷ [])
+  pub kept-more : (f : ℕ → Clause) (keep : ℕ → Bool) (r n : ℕ) → r < n → next ≡ now ++ tidy (map f (cond (keep r) (r ∷ []) []))
       → now ++ tidy (map f (filter keep (range_with_len r (n - r)))) ≡ start → next ++ tidy (map f (filter keep (range_with_len (r + 1) (n - (r + 1))))) ≡ start
-  kept-written f keep r n lt k e h = written (f r ∷ []) (map f (filter keep (range_with_len (r + 1) (n - (r + 1))))) e
-      ((λ i. now ++ tidy (map f (cond (sym k i) (r ∷ filter keep (range_with_len (r + 1) (n - (r + 1)))) (filter keep (range_with_len (r + 1) (n - (r + 1)))))))
-      ∙ ap (λ rs. now ++ tidy (map f (filter keep rs))) (sym (rows-from r n lt)) ∙ h)
+  kept-more f keep r n lt e h = grind (arith, nat_tests, rows-from r n lt, append_assoc, append-nil)
 
-  pub kept-skipped : (f : ℕ → Clause) (keep : ℕ → Bool) (r n : ℕ) → r < n → keep r ≡ false → next ≡ now
-      → now ++ tidy (map f (filter keep (range_with_len r (n - r)))) ≡ start → next ++ tidy (map f (filter keep (range_with_len (r + 1) (n - (r + 1))))) ≡ start
-  kept-skipped f keep r n lt k e h = grind (arith, nat_tests, rows-from)
-
--- clauses after those that were written before
-pub more-written : (start now next : List Clause) (front back : List Clause) → now ≡ start ++ tidy front → next ≡ now ++ tidy back → next ≡ start ++ tidy (front ++ back)
-more-written start now next front back e f = grind (arith, append_assoc, tidy-append)
-
--- three clauses, and four, one after the other
+-- three clauses, one after the other
 pub three-written : (start one two three : List Clause) (c d e : Clause) → one ≡ start ++ tidy (c ∷ []) → two ≡ one ++ tidy (d ∷ []) → three ≡ two ++ tidy (e ∷ [])
     → three ≡ start ++ tidy (c ∷ d ∷ e ∷ [])
-three-written start one two three c d e f g h = more-written start two three (c ∷ d ∷ []) (e ∷ []) (more-written start one two (c ∷ []) (d ∷ []) f g) h
-
-pub four-written : (start one two three four : List Clause) (c d e f : Clause)
-    → one ≡ start ++ tidy (c ∷ []) → two ≡ one ++ tidy (d ∷ []) → three ≡ two ++ tidy (e ∷ []) → four ≡ three ++ tidy (f ∷ []) → four ≡ start ++ tidy (c ∷ d ∷ e ∷ f ∷ [])
-four-written start one two three four c d e f g h k l = more-written start three four (c ∷ d ∷ e ∷ []) (f ∷ []) (three-written start one two three c d e g h k) l
+three-written start one two three c d e f g h = grind (arith, append_assoc, tidy-append)
 
 -- nothing is left
-pub all-written : (now start : List Clause) → now ++ tidy [] ≡ start → now ≡ start
-all-written now start h = sym (append-nil now) ∙ h
-
 pub items-written : {A : Type 0} (now start : List Clause) (f : A → Clause) (xs : List A) (i : ℕ) → length xs ≤ i → now ++ tidy (map f (drop i xs)) ≡ start → now ≡ start
-items-written now start f xs i past h = all-written now start (ap (λ ys. now ++ tidy (map f ys)) (sym (drop_all i xs past)) ∙ h)
+items-written now start f xs i past h = sym (append-nil now) ∙ ap (λ ys. now ++ tidy (map f ys)) (sym (drop_all i xs past)) ∙ h
 
 -- ---- literals as they are passed
 
@@ -77,24 +59,14 @@ passed x b v h e = ap (λ y. to_z w32 (of_z w32 y)) e ∙ to_z-of_z w32 (literal
 
 -- ---- the clauses of an and
 
-pub and-more : (h y : ℕ) (t s : Bool) (xs : List ℕ) (i : ℕ) (now next start : List Clause) (first second third : ℤ)
-    → i < length xs → first ≡ literal false h → second ≡ literal (not t) y → third ≡ literal s (get_or xs i 0)
-    → next ≡ now ++ tidy ((first ∷ second ∷ third ∷ []) ∷ [])
-    → now ++ tidy (map (λ x. literal false h ∷ literal (not t) y ∷ literal s x ∷ []) (drop i xs)) ≡ start
-    → next ++ tidy (map (λ x. literal false h ∷ literal (not t) y ∷ literal s x ∷ []) (drop (i + 1) xs)) ≡ start
-and-more h y t s xs i now next start first second third lt a b c e inv =
-    item-written now next start (λ x. literal false h ∷ literal (not t) y ∷ literal s x ∷ []) xs i 0 lt (e ∙ (λ j. now ++ tidy ((a j ∷ b j ∷ c j ∷ []) ∷ []))) inv
-
 pub and-all : (h y : ℕ) (t s : Bool) (xs : List ℕ) (i : ℕ) (now next start : List Clause) (last : Clause) → length xs ≤ i
     → last ≡ literal false h ∷ literal t y ∷ map (literal (not s)) xs
     → now ++ tidy (map (λ x. literal false h ∷ literal (not t) y ∷ literal s x ∷ []) (drop i xs)) ≡ start ++ tidy (map (λ x. literal false h ∷ literal (not t) y ∷ literal s x ∷ []) xs)
     → next ≡ now ++ tidy (last ∷ []) → next ≡ start ++ tidy (and_clauses (pos h) (literal t y) (map (literal s) xs))
 and-all h y t s xs i now next start last past e inv f =
     let front = λ (x : ℕ). literal false h ∷ literal (not t) y ∷ literal s x ∷ [] in
-    f ∙ (λ j. items-written now (start ++ tidy (map front xs)) front xs i past inv j ++ tidy (e j ∷ []))
-    ∙ append_assoc start (tidy (map front xs)) (tidy ((literal false h ∷ literal t y ∷ map (literal (not s)) xs) ∷ []))
-    ∙ ap (λ c. start ++ c) (sym (tidy-append (map front xs) ((literal false h ∷ literal t y ∷ map (literal (not s)) xs) ∷ [])))
-    ∙ ap (λ cs. start ++ tidy cs) (sym (and_clauses-literals h y t s xs))
+    let done = items-written now (start ++ tidy (map front xs)) front xs i past inv in
+    grind (arith, done, and_clauses-literals h y t s xs, append_assoc, tidy-append (map front xs) (last ∷ []))
 
 -- ---- rows
 
@@ -102,19 +74,7 @@ and-all h y t s xs i now next start last past e inv f =
 pub bit-written : (vs : List ℕ) (i rest : ℕ) (now next start : List ℤ) (l : ℤ) → i < length vs → l ≡ literal (rest % 2 == 0) (get_or vs i 0)
     → next ≡ now ++ l ∷ [] → now ++ blocking_literals (drop i vs) (row_bits rest (drop i vs)) ≡ start
     → next ++ blocking_literals (drop (i + 1) vs) (row_bits (rest / 2) (drop (i + 1) vs)) ≡ start
-bit-written vs i rest now next start l lt e f inv =
-    ap (λ ls. ls ++ more) f ∙ append_assoc now (l ∷ []) more ∙ (λ j. now ++ (same j ∷ more))
-    ∙ (λ j. now ++ blocking_literals (get_or vs i 0 ∷ drop (i + 1) vs) (sym (row_bits-cons rest (get_or vs i 0) (drop (i + 1) vs)) j))
-    ∙ (λ j. now ++ blocking_literals (sym (drop_more vs i 0 lt) j) (row_bits rest (sym (drop_more vs i 0 lt) j)))
-    ∙ inv where
-      more : List ℤ
-      more = blocking_literals (drop (i + 1) vs) (row_bits (rest / 2) (drop (i + 1) vs))
-
-      other : (r : ℕ) → (r % 2 == 0) ≡ not (r % 2 == 1)
-      other r = grind (arith, nat_tests)
-
-      same : l ≡ literal (not (has_bit rest 0)) (get_or vs i 0)
-      same = e ∙ ap (λ b. literal b (get_or vs i 0)) (other rest ∙ ap not (sym (has_bit-zero rest)))
+bit-written vs i rest now next start l lt e f inv = grind (arith, nat_tests, drop_more vs i 0 lt, row_bits-cons rest (get_or vs i 0) (drop (i + 1) vs), has_bit-zero rest, append_assoc)
 
 -- what `1 << n` is
 pub shifted : (n : ℕ) → n ≤ 8 → 1 * 2 ^ n % 4294967296 ≡ 2 ^ n
@@ -122,20 +82,6 @@ shifted n h = let most : 2 ^ n ≤ 2 ^ 8 = pow_mono h in omega arith
 
 pub shifted_far : (n : ℕ) → n ≤ 8 → 1 * 2 ^ n % 18446744073709551616 ≡ 2 ^ n
 shifted_far n h = let most : 2 ^ n ≤ 2 ^ 8 = pow_mono h in omega arith
-
-pub parity-more : (odd : Bool) (h : ℕ) (xs : List ℕ) (y r n : ℕ) (now next start : List Clause) (clause front : Clause) (first last : ℤ) (value : Bool)
-    → n ≡ 2 ^ length xs → r < n → first ≡ literal false h → last ≡ literal value y → value ≡ same_bit odd (count_ones r % 2 == 1)
-    → front ≡ first ∷ blocking_literals xs (row_bits r xs) → clause ≡ front ++ last ∷ [] → next ≡ now ++ tidy (clause ∷ [])
-    → now ++ tidy (map (λ r. row_clause h xs y (row_bits r xs) (same_bit odd (has_odd_ones (row_bits r xs)))) (range_with_len r (2 ^ length xs - r))) ≡ start
-    → next ++ tidy (map (λ r. row_clause h xs y (row_bits r xs) (same_bit odd (has_odd_ones (row_bits r xs)))) (range_with_len (r + 1) (2 ^ length xs - (r + 1)))) ≡ start
-parity-more odd h xs y r n now next start clause front first last value long lt a b v f g e inv =
-    row-written now next start (λ r. row_clause h xs y (row_bits r xs) (same_bit odd (has_odd_ones (row_bits r xs)))) r (2 ^ length xs) (omega arith)
-    (e ∙ ap (λ c. now ++ tidy (c ∷ [])) whole) inv where
-      value_is : value ≡ same_bit odd (has_odd_ones (row_bits r xs))
-      value_is = v ∙ ap (same_bit odd) (odd-row xs r (omega (arith, long, lt)))
-
-      whole : clause ≡ row_clause h xs y (row_bits r xs) (same_bit odd (has_odd_ones (row_bits r xs)))
-      whole = g ∙ (λ j. f j ++ (b ∙ ap (λ b. literal b y) value_is) j ∷ []) ∙ (λ j. (a j ∷ blocking_literals xs (row_bits r xs)) ++ literal (same_bit odd (has_odd_ones (row_bits r xs))) y ∷ [])
 
 -- ---- tables
 
@@ -170,10 +116,7 @@ inner_vars-append (part ∷ parts) more = omega (arith, inner_vars-append parts 
 
 pub inner_at-more : (device : Device) (place : ℕ) (part : Component) → place < length device.parts → part ≡ get_or device.parts place part
     → inner_at device (place + 1) ≡ inner_at device place + inner_count (rule part.kind) (length part.ports)
-inner_at-more device place part lt is =
-    let more : inner_vars (take (place + 1) device.parts) ≡ inner_vars (take place device.parts ++ get_or device.parts place part ∷ []) = ap inner_vars (take_more device.parts place part lt) in
-    let last : inner_vars (get_or device.parts place part ∷ []) ≡ inner_vars (part ∷ []) = ap (λ p. inner_vars (p ∷ [])) (sym is) in
-    omega (arith, more, last, inner_vars-append (take place device.parts) (get_or device.parts place part ∷ []))
+inner_at-more device place part lt is = grind (arith, take_more device.parts place part lt, inner_vars-append)
 
 -- the clauses of a part, and of those after it
 pub split-at : (device : Device) (place : ℕ) (part : Component) → place < length device.parts → part ≡ get_or device.parts place part
@@ -208,10 +151,7 @@ pub step-written : (gate : Gate) (reduction : Reduction) (h last y z before : �
     → reduction ≡ gate.reduction → next ≡ now ++ tidy (step_clauses reduction z before (get_or xs i 0))
     → now ++ tidy (chain_clauses gate h last y z before (drop i xs)) ≡ start
     → next ++ tidy (chain_clauses gate h last y (z + 1) z (drop (i + 1) xs)) ≡ start
-step-written gate reduction h last y z before xs i now next start lt is e inv =
-    written now next start (step_clauses gate.reduction z before (get_or xs i 0)) (chain_clauses gate h last y (z + 1) z (drop (i + 1) xs))
-    (e ∙ ap (λ r. now ++ tidy (step_clauses r z before (get_or xs i 0))) is)
-    (ap (λ ys. now ++ tidy (chain_clauses gate h last y z before ys)) (sym (drop_more xs i 0 lt)) ∙ inv)
+step-written gate reduction h last y z before xs i now next start lt is e inv = grind (arith, drop_more xs i 0 lt, append_assoc, tidy-append (step_clauses gate.reduction z before (get_or xs i 0)) (chain_clauses gate h last y (z + 1) z (drop (i + 1) xs)))
 
 -- the variables of wires are small
 pub small : (parts : ℕ) (wires ports items : List ℕ) → ports ≡ items → items ≡ map (λ wire. parts + wire + 1) wires → parts ≤ 4096 → ((k d : ℕ) → k < length wires → get_or wires k d < 16384)

@@ -12,6 +12,7 @@ use std::alloc::AllocError;
 
 // Writes the clauses of a part, by the variables of its health and of its ports. Its inner variables are `inner` and up; the
 // next one is returned.
+#[tactic(auto, using(crate::proofs::WrittenClauses::taken))]
 pub(crate) fn push_part(
     writer: &mut Writer,
     tables: &[Table],
@@ -140,6 +141,7 @@ fn push_and_step(
     ])
 }
 
+#[tactic(auto, using(crate::proofs::Rules::written_steps))]
 fn push_xor_step(writer: &mut Writer, inner: u32, before: u32, input: u32) -> Result<(), AllocError>
     requires inner { inner < VARIABLE_LIMIT }
     requires before { before < VARIABLE_LIMIT }
@@ -268,6 +270,7 @@ fn push_table(
 }
 
 // If the part is ok, or if it is faulty: the ports have none of the rows that it does not allow then.
+#[tactic(auto, using(crate::proofs::WrittenClauses::row_below))]
 fn push_side(
     writer: &mut Writer,
     table: &Table,

@@ -1,19 +1,6 @@
-use Rattle.std.proofs.Common.{◌+◌, length, ap, ◌∙◌, refl, arith}
-use Rattle.std.proofs.lemmas.List.{length-map}
-use Rattle.device_model.specs.Gates.{rule}
-use Rattle.device_model.specs.Devices.{takes_ports}
-use Rattle.clause_encoder.proofs.WrittenClauses.{arity-taken, part-written, inner-next, small, low}
+use Rattle.std.proofs.Common.{length, ap, ◌∙◌, refl, arith}
+use Rattle.clause_encoder.proofs.WrittenClauses.{part-written, inner-next, small, low}
 use Rattle.clause_encoder.proofs.encoding.push_parts.Goals as goal
-
-pub push_part-requires-clause-arity : goal.push_part-requires-clause-arity
-push_part-requires-clause-arity c =
-    let parts = c.parts-parts.result.now in
-    let part = c.index-parts-place.result in
-    let tables = c.tables.result.now in
-    let wires = c.as_slice.result.now in
-    ap (takes_ports tables (rule part.kind)) (ap length (c.deref.ensures.value ∙ c.in_ok-set_ports.ensures) ∙ length-map wires (λ wire. length parts + wire + 1))
-    ∙ arity-taken c.args.device.now parts c.loop-place.place part tables wires
-    c.parts-parts.ensures.valid c.parts-parts.ensures.parts (omega arith) c.index-parts-place.is c.tables.ensures.tables c.as_slice.ensures
 
 pub push_part-requires-clause-ports : goal.push_part-requires-clause-ports
 push_part-requires-clause-ports c =

@@ -1,12 +1,7 @@
 use Rattle.std.proofs.Common.{length, ap, arith}
 use Rattle.clause_encoder.specs.Encoding.{raw_count}
-use Rattle.clause_encoder.proofs.WrittenClauses.{arity-taken}
 use Rattle.clause_encoder.proofs.ClauseCounts.{part-counted}
 use Rattle.clause_encoder.proofs.encoding.raw_count.Goals as goal
-
-pub part_count-count-requires : goal.part_count-count-requires
-part_count-count-requires c = arity-taken c.args.device.now c.parts-part-items.result.now c.loop-part.part-index c.part-item.result c.tables.result.now c.as_slice.result.now
-    c.parts-part-items.ensures.valid c.parts-part-items.ensures.parts c.loop-part-test.true c.part-item.is c.tables.ensures.tables c.as_slice.ensures
 
 pub loop-part-preserved : goal.loop-part-preserved
 loop-part-preserved c = record {

@@ -1,31 +1,22 @@
 use Rattle.std.specs.Prelude.{if◌then◌else◌}
-use Rattle.std.proofs.Common.{◌<◌, ◌^◌, ◌++◌, [], ◌∷◌, not, length, arith, ap, sym, ◌∙◌}
+use Rattle.std.proofs.Common.{◌≡◌, ℕ, ◌^◌, ◌++◌, [], ◌∷◌, not, cond, map, length, arith, ap}
+use Rattle.std.proofs.lemmas.List.{append-nil}
 use Rattle.state_rules.specs.Bits.{has_bit}
 use Rattle.clause_encoder.specs.Clauses.{literal}
 use Rattle.clause_encoder.specs.Encoding.{tidy, row_bits, blocking_literals}
-use Rattle.clause_encoder.proofs.WrittenClauses.{passed, row_below, kept-written, kept-skipped}
+use Rattle.clause_encoder.proofs.WrittenClauses.{passed, row_below, kept-more}
 use Rattle.clause_encoder.proofs.gates.push_side.Goals as goal
 use Rattle.clause_encoder.proofs.gates.push_side.Goals.{then-not-allows+in_ok-begin_row+in_ok-end, else-not-allows}
-
-pub allows-requires : goal.allows-requires
-allows-requires c = row_below c.args.table.now c.loop-row.row c.ports.result c.ports.ensures.valid c.ports.ensures.ports c.loop-row-test.true
 
 pub loop-row-preserved : goal.loop-row-preserved
 loop-row-preserved c =
     let ports = c.args.ports.now in
     let row = c.loop-row.row in
-    let allowed = if c.args.ok then c.args.table.now.ok else c.args.table.now.bad in
     let few = row_below c.args.table.now row c.ports.result c.ports.ensures.valid c.ports.ensures.ports c.loop-row-test.true in
-    let lt : row < 2 ^ length ports = omega (arith, few, ap (λ n. 2 ^ n) c.requires.arity) in
-    let first = passed c.literal-other.result (not c.args.ok) c.args.health c.requires.health c.literal-other.ensures in
-    elim c.if-not-allows.branch [
-      | then-not-allows+in_ok-begin_row+in_ok-end w ↦
-          kept-written c.loop-row.writer.clauses c.if-not-allows.writer.clauses _ (λ r. literal (not c.args.ok) c.args.health ∷ blocking_literals ports (row_bits r ports)) (λ r. not (has_bit allowed r)) row (2 ^ length ports) lt
-          (ap not (sym c.allows.ensures ∙ w.if-not-allows.true))
-          (ap (λ v. v.clauses) w.writer-is ∙ w.in_ok-end.ensures
-          ∙ (λ i. w.in_ok-begin_row.ensures.clauses i ++ tidy ((w.in_ok-begin_row.ensures.raw ∙ (λ j. first j ∷ blocking_literals ports (row_bits row ports))) i ∷ [])))
-          c.loop-row.invariant
-      | else-not-allows w ↦
-          kept-skipped c.loop-row.writer.clauses c.if-not-allows.writer.clauses _ (λ r. literal (not c.args.ok) c.args.health ∷ blocking_literals ports (row_bits r ports)) (λ r. not (has_bit allowed r)) row (2 ^ length ports) lt
-          (ap not (sym c.allows.ensures ∙ w.if-not-allows.false)) (ap (λ v. v.clauses) w.writer-is) c.loop-row.invariant
-    ]
+    let keep = λ (r : ℕ). not (has_bit (if c.args.ok then c.args.table.now.ok else c.args.table.now.bad) r) in
+    let clause = λ (r : ℕ). literal (not c.args.ok) c.args.health ∷ blocking_literals ports (row_bits r ports) in
+    let more : c.if-not-allows.writer.clauses ≡ c.loop-row.writer.clauses ++ tidy (map clause (cond (keep row) (row ∷ []) [])) = elim c.if-not-allows.branch [
+      | then-not-allows+in_ok-begin_row+in_ok-end w ↦ grind (arith, passed)
+      | else-not-allows w ↦ grind (arith, append-nil)
+    ] in
+    kept-more c.loop-row.writer.clauses c.if-not-allows.writer.clauses _ clause keep row (2 ^ length ports) (omega (arith, few, ap (λ n. 2 ^ n) c.requires.arity)) more c.loop-row.invariant

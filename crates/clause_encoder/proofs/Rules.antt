@@ -8,16 +8,16 @@ use Rattle.clause_encoder.proofs.WrittenClauses.{passed, shifted_far, arity-take
 use Rattle.clause_encoder.proofs.ClauseCounts.{length-table, table-counts, length-parity, few-rows, length-any_gate}
 use Rattle.clause_encoder.proofs.DeviceClauses.{are_clauses, describes}
 
-pub ruleset replaced_steps = (list_from, clause-at, clause-within)
+pub ruleset replaced_clauses = (list_from, clause-at, clause-within)
 
-pub ruleset written_steps = (passed, tidy-append, append_assoc)
+pub ruleset written_clauses = (passed, tidy-append, append_assoc)
 
-pub ruleset device_steps = (arity-taken, length-map)
+pub ruleset device_arities = (arity-taken, length-map)
 
-pub ruleset table_steps = (shifted_far, table-counts, length-table)
+pub ruleset counted_tables = (shifted_far, table-counts, length-table)
 
-pub ruleset gate_steps = (length-parity, few-rows, length-any_gate)
+pub ruleset counted_gates = (length-parity, few-rows, length-any_gate)
 
-pub ruleset encoded_steps = (length-tidy, are_clauses, describes)
+pub ruleset encoded_clauses = (length-tidy, are_clauses, describes)
 
-pub ruleset insert_steps = (with_literal-there, with_literal-absent, to_z-of_z, get_or_read)
+pub ruleset inserted_literals = (with_literal-there, with_literal-absent, to_z-of_z, get_or_read)

@@ -34,7 +34,7 @@ impl From<AllocError> for EncodeError {
 ///
 /// All clauses are true, for some bits of the inner variables, exactly if the parts' health and the bits of the wires fit the
 /// device.
-#[tactic(auto, using(crate::proofs::Rules::encoded_steps))]
+#[tactic(auto, using(crate::proofs::Rules::encoded_clauses))]
 pub fn encode(alloc: Global, device: &Device) -> Result<Cnf, EncodeError>
     ensures encoded { Fulfils (λ cnf. cnf) reason (encoded device.now) result }
     ensures describes { IfOk result (λ cnf. Describes cnf device.now) }
@@ -50,7 +50,7 @@ pub fn encode(alloc: Global, device: &Device) -> Result<Cnf, EncodeError>
 }
 
 // Writes the clauses of all parts, and returns the greatest variable.
-#[tactic(auto, using(crate::proofs::Rules::device_steps))]
+#[tactic(auto, using(crate::proofs::Rules::device_arities))]
 fn push_parts(alloc: Global, writer: &mut Writer, device: &Device) -> Result<u32, AllocError>
     ensures clauses { OnOk result (writer.new.clauses ≡ writer.old.clauses ++ tidy (all_clauses device.now)) }
     ensures vars { IfOk result (λ vars. vars ≡ (clause_list device.now).vars) }
@@ -88,7 +88,7 @@ fn set_ports(ports: &mut Vec<u32>, parts: usize, wires: &[u32]) -> Result<(), Al
 }
 
 // How many clauses the parts have, before any is left out.
-#[tactic(auto, using(crate::proofs::Rules::device_steps))]
+#[tactic(auto, using(crate::proofs::Rules::device_arities))]
 fn raw_count(device: &Device) -> u64
     ensures count { result ≡ raw_count device.now }
     ensures valid { IsDevice device.now }
@@ -113,7 +113,7 @@ pub fn part_count(tables: &[Table], kind: Kind, ports: usize) -> u64
     }
 }
 
-#[tactic(auto, using(crate::proofs::Rules::gate_steps))]
+#[tactic(auto, using(crate::proofs::Rules::counted_gates))]
 fn gate_count(gate: Gate, inputs: usize) -> u64
     requires { takes gate inputs ≡ true }
     ensures count { (h z y : ℕ) (xs : List ℕ) → length xs ≡ inputs
@@ -127,7 +127,7 @@ fn gate_count(gate: Gate, inputs: usize) -> u64
 }
 
 // How many clauses a gate without a chain has.
-#[tactic(auto, using(crate::proofs::Rules::gate_steps))]
+#[tactic(auto, using(crate::proofs::Rules::counted_gates))]
 fn narrow_count(gate: Gate, inputs: usize) -> u64
     requires arity { takes gate inputs ≡ true }
     requires few { inputs ≤ NARROW_LIMIT }
@@ -153,7 +153,7 @@ fn step_count(reduction: Reduction) -> u64
 }
 
 // The rows that are not allowed, of both sides.
-#[tactic(auto, using(crate::proofs::Rules::table_steps))]
+#[tactic(auto, using(crate::proofs::Rules::counted_tables))]
 fn table_count(table: &Table) -> u64
     ensures count { (h : ℕ) (vs : List ℕ) → length vs ≡ table.now.ports
         → length (table_clauses (Some table.now) h vs) ≡ result }

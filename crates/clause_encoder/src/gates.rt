@@ -141,7 +141,7 @@ fn push_and_step(
     ])
 }
 
-#[tactic(auto, using(crate::proofs::Rules::written_steps))]
+#[tactic(auto, using(crate::proofs::Rules::written_clauses))]
 fn push_xor_step(writer: &mut Writer, inner: u32, before: u32, input: u32) -> Result<(), AllocError>
     requires inner { inner < VARIABLE_LIMIT }
     requires before { before < VARIABLE_LIMIT }

@@ -15,7 +15,7 @@ use std::alloc::Global;
 ///
 /// They are true under an assignment exactly if the clauses that were given are, each variable having the bit of the one that
 /// replaces it.
-#[tactic(auto, using(crate::proofs::Rules::replaced_steps))]
+#[tactic(auto, using(crate::proofs::Rules::replaced_clauses))]
 pub fn replaced(alloc: Global, cnf: &Cnf, variables: &[u32], vars: u32) -> Result<Cnf, Memory>
     requires all { length variables.now ≡ cnf.now.vars }
     requires some { All (λ v. 1 ≤ v) variables.now }

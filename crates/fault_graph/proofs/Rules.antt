@@ -7,10 +7,10 @@ use Rattle.fault_graph.proofs.AddedNodes.{sizes}
 use Rattle.fault_graph.proofs.LastMinimised.{known-some, last-minimised, no-models}
 
 -- how many nodes there are, and which come before one
-pub ruleset node_steps = (children_before, length-pieces, sizes)
+pub ruleset sizes_of_pieces = (children_before, length-pieces, sizes)
 
 -- how many faults there are
-pub ruleset fault_steps = (faults-few, sum_by-take-le)
+pub ruleset few_faults = (faults-few, sum_by-take-le)
 
 -- what was minimised last
-pub ruleset last_steps = (known-some, last-minimised, no-models)
+pub ruleset last_minimised_one = (known-some, last-minimised, no-models)

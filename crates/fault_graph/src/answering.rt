@@ -19,7 +19,7 @@ impl MinimisedGraph {
     ///
     /// It takes one pass over the graph, and none if what is kept is of this evidence, which then stays. The others are over what
     /// is kept.
-    #[tactic(auto, using(crate::proofs::Rules::last_steps))]
+    #[tactic(auto, using(crate::proofs::Rules::last_minimised_one))]
     pub fn first<L: Ledger>(
         &mut self,
         graph: &Graph,
@@ -64,7 +64,7 @@ impl MinimisedGraph {
     ///
     /// It takes one pass over the graph, and none if what is kept is of this evidence, which then stays. The others are over what
     /// is kept.
-    #[tactic(auto, using(crate::proofs::Rules::last_steps))]
+    #[tactic(auto, using(crate::proofs::Rules::last_minimised_one))]
     pub fn next<L: Ledger>(
         &mut self,
         graph: &Graph,
@@ -113,7 +113,7 @@ impl MinimisedGraph {
     ///
     /// It takes one pass over the graph, and none if what is kept is of this evidence, which then stays. The others are over what
     /// is kept.
-    #[tactic(auto, using(crate::proofs::Rules::last_steps))]
+    #[tactic(auto, using(crate::proofs::Rules::last_minimised_one))]
     pub fn blame_all<L: Ledger>(
         &mut self,
         graph: &Graph,

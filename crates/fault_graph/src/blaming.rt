@@ -17,7 +17,7 @@ use std::sync::ledger::Ledger;
 ///
 /// One pass and one sweep say which parts are faulty in no diagnosis, and only those of the first one can be faulty in all: a pass
 /// for each of them. The state is spoilt; the evidence is the same afterwards.
-#[tactic(auto, using(crate::proofs::Rules::fault_steps))]
+#[tactic(auto, using(crate::proofs::Rules::few_faults))]
 pub fn blame_all<L: Ledger>(
     graph: &GraphView<'_>,
     evidence: &mut [u32],
@@ -83,7 +83,7 @@ fn presumed(word: u32, suspect: u32) -> Blame
 
 // Asks for each open part that is faulty in one diagnosis whether it is so in all. The others, if they are faulty in some
 // diagnosis, are ok in this one.
-#[tactic(auto, using(crate::proofs::Rules::fault_steps))]
+#[tactic(auto, using(crate::proofs::Rules::few_faults))]
 fn confirm<L: Ledger>(
     graph: &GraphView<'_>,
     evidence: &mut [u32],

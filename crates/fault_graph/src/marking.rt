@@ -6,7 +6,7 @@ use node_store::Graph;
 
 // Marks the root, which costs something, and from each marked node on its children that cost something and no more: all such children of
 // an And, and those of an Or that make it true at its cost.
-#[tactic(auto, using(crate::proofs::Rules::node_steps))]
+#[tactic(auto, using(crate::proofs::Rules::sizes_of_pieces))]
 pub(crate) fn mark(graph: &Graph, values: &[u32], places: &mut [u32])
     requires values { length values.now ≡ length graph.now.nodes }
     requires room { length places.old ≡ length graph.now.nodes }

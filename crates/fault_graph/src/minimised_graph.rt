@@ -70,7 +70,7 @@ impl MinimisedGraph {
     /// Whether some state agrees with the evidence; and then the graph is minimised under it.
     ///
     /// It takes one pass over the graph, and none if what is kept is of this evidence, which then stays.
-    #[tactic(auto, using(crate::proofs::Rules::last_steps))]
+    #[tactic(auto, using(crate::proofs::Rules::last_minimised_one))]
     pub fn prepare<L: Ledger>(
         &mut self,
         graph: &Graph,

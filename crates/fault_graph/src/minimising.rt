@@ -15,7 +15,7 @@ use std::sync::ledger::Ledger;
 pub(crate) const MARKED: u32 = 1;
 
 // The least cost; the nodes are then those of the smaller graph. If nothing is wrong, that is one true node.
-#[tactic(auto, using(crate::proofs::Rules::node_steps))]
+#[tactic(auto, using(crate::proofs::Rules::sizes_of_pieces))]
 pub(crate) fn minimise<L: Ledger>(
     nodes: &mut SmallNodes,
     graph: &Graph,

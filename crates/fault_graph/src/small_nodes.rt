@@ -53,7 +53,7 @@ impl SmallNodes {
     }
 
     /// Walks the nodes in order.
-    #[tactic(auto, using(crate::proofs::Rules::node_steps))]
+    #[tactic(auto, using(crate::proofs::Rules::sizes_of_pieces))]
     pub(crate) fn walk(&self) -> Walk<'_>
         ensures { result ≡ self.now.nodes }
     {
@@ -71,7 +71,7 @@ impl SmallNodes {
 
     /// Adds a node over the places of the children that cost something, and no more than so much. If it need not stay a node of its own
     /// and one child is left, nothing is added. Gives the place of what stands for the node: itself, or that child.
-    #[tactic(auto, using(crate::proofs::Rules::node_steps))]
+    #[tactic(auto, using(crate::proofs::Rules::sizes_of_pieces))]
     pub(crate) fn add(
         &mut self,
         what: NodeKind,

@@ -153,7 +153,7 @@ impl FaultPass<'_> {
         ensures { IsNodeFaults self.now.graph.now self.now.skips.now self.now.evidence.now self.now.levels.now.costs self.now.groups at set.new }
     {
         clear(set);
-        // In most passes few nodes have a part of the group below them.
+        // If no child has a fault the And has none. So it is at many nodes, since groups soon have few parts.
         if !self.has_faulty_child(earlier, at) {
             return;
         }

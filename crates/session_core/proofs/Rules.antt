@@ -17,26 +17,26 @@ use Rattle.std.proofs.lemmas.Bool.{and_left}
 use Rattle.std.proofs.lemmas.Bool.Decides.{nat_tests}
 use Rattle.std.proofs.lemmas.Nat.{mul-le}
 
-pub ruleset pass_steps = (diagnoses-asked, fits_after, judged_after, seen-asked, stays_after, written_back)
+pub ruleset desk_after_pass = (diagnoses-asked, fits_after, judged_after, seen-asked, stays_after, written_back)
 
-pub ruleset go_on_steps = (fits_after, stays_after, written_back)
+pub ruleset desk_still_fits = (fits_after, stays_after, written_back)
 
-pub ruleset room_steps = (carved_so, is_held, least-asked, level_next, released_runs, released_words, run_long, seen-asked, states-asked, stays_after, written_back)
+pub ruleset lent_room = (carved_so, is_held, least-asked, level_next, released_runs, released_words, run_long, seen-asked, states-asked, stays_after, written_back)
 
-pub ruleset mark_steps = (and_left, is_among-nowhere, marked_all)
+pub ruleset marked_parts = (and_left, is_among-nowhere, marked_all)
 
-pub ruleset push_steps = (kept-full, kept-room)
+pub ruleset kept_bytes = (kept-full, kept-room)
 
-pub ruleset move_steps = (lists_all, lists_none)
+pub ruleset listed_moves = (lists_all, lists_none)
 
-pub ruleset told_steps = (lines-next, lines_broken, place-within, replies_one, said_more, unseen-one, writes_none)
+pub ruleset written_lines = (lines-next, lines_broken, place-within, replies_one, said_more, unseen-one, writes_none)
 
-pub ruleset service_steps = (mul-le, refused_stays)
+pub ruleset refused_lines = (mul-le, refused_stays)
 
-pub ruleset fed_steps = (breaks_feed, carries_last, fed_feed)
+pub ruleset fed_bytes = (breaks_feed, carries_last, fed_feed)
 
-pub ruleset session_steps = (holds_more, known-there, nat_tests, obeys_refusal)
+pub ruleset open_sessions = (holds_more, known-there, nat_tests, obeys_refusal)
 
-pub ruleset line_steps = (writes_none)
+pub ruleset nothing_written = (writes_none)
 
-pub ruleset few_steps = (mul-le-mul_right)
+pub ruleset products_within = (mul-le-mul_right)

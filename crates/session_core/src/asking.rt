@@ -23,7 +23,7 @@ use std::sync::ledger::Blank;
 
 impl Sessions {
     // Tells what is asked of a session's case.
-    #[tactic(auto, using(crate::proofs::Rules::session_steps))]
+    #[tactic(auto, using(crate::proofs::Rules::open_sessions))]
     pub(crate) fn ask_case<O: Sink>(
         &mut self,
         session: OpenSession<'_>,
@@ -40,7 +40,7 @@ impl Sessions {
     }
 
     // Tells the graph of the states that agree with a session's case.
-    #[tactic(auto, using(crate::proofs::Rules::session_steps))]
+    #[tactic(auto, using(crate::proofs::Rules::open_sessions))]
     pub(crate) fn ask_graph<O: Sink>(
         &self,
         session: OpenSession<'_>,
@@ -55,7 +55,7 @@ impl Sessions {
     }
 
     // Tells the graph of a session's diagnoses.
-    #[tactic(auto, using(crate::proofs::Rules::session_steps))]
+    #[tactic(auto, using(crate::proofs::Rules::open_sessions))]
     pub(crate) fn ask_least<O: Sink>(
         &mut self,
         session: OpenSession<'_>,

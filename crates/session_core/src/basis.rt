@@ -218,7 +218,7 @@ impl Basis {
     }
 
     /// How many words a step by rising cost works with.
-    #[tactic(auto, using(crate::proofs::Rules::few_steps))]
+    #[tactic(auto, using(crate::proofs::Rules::products_within))]
     pub(crate) fn level_room(&self, levels: &Levels) -> usize
         requires told { self.now.extras.levels ≡ Some levels.now.top }
         requires for_graph { IsFor self.now.graph levels.now }

@@ -129,7 +129,7 @@ impl Desk {
     }
 
     /// The least cost; the state is then the first diagnosis.
-    #[tactic(auto, using(crate::proofs::Rules::pass_steps))]
+    #[tactic(auto, using(crate::proofs::Rules::desk_after_pass))]
     pub(crate) fn first<L: Ledger>(&mut self, steps: &mut Steps<L>) -> Option<u32>
         ensures least { result ≡ least_asked self.old }
         ensures first { IsFirst (bits_of self.new.state) (diagnoses_asked self.old) }
@@ -147,7 +147,7 @@ impl Desk {
     }
 
     /// What comes next of a listing after a point, or first if there is no point. The state is then the one that is found.
-    #[tactic(auto, using(crate::proofs::Rules::pass_steps))]
+    #[tactic(auto, using(crate::proofs::Rules::desk_after_pass))]
     pub(crate) fn next<L: Ledger>(
         &mut self,
         listed: Listed,
@@ -183,7 +183,7 @@ impl Desk {
     }
 
     // The first diagnosis after a state.
-    #[tactic(auto, using(crate::proofs::Rules::go_on_steps))]
+    #[tactic(auto, using(crate::proofs::Rules::desk_still_fits))]
     fn go_on<L: Ledger>(&mut self, old: &[u32], steps: &mut Steps<L>) -> NextState
         requires long { length old.now ≡ length self.old.subject.parts }
         requires bits { All (λ s. s < 2) old.now }
@@ -205,7 +205,7 @@ impl Desk {
     }
 
     // What comes next of the states by rising cost.
-    #[tactic(auto, using(crate::proofs::Rules::room_steps))]
+    #[tactic(auto, using(crate::proofs::Rules::lent_room))]
     fn next_level<L: Ledger>(&mut self, point: Option<&[u32]>, steps: &mut Steps<L>) -> NextState
         requires listed { is_listed self.old.subject Listed.Levels ≡ true }
         requires point { IfSome point (λ old. (length old.now ≡ length self.old.subject.parts) × All (λ s. s < 2) old.now) }
@@ -252,7 +252,7 @@ impl Desk {
     }
 
     /// Of each part whether it is faulty in all diagnoses, in some or in none. The state is spoilt.
-    #[tactic(auto, using(crate::proofs::Rules::pass_steps))]
+    #[tactic(auto, using(crate::proofs::Rules::desk_after_pass))]
     pub(crate) fn blame<L: Ledger>(&mut self, steps: &mut Steps<L>)
         ensures blame { (part : ℕ) → part < length self.old.subject.parts
             → slice_get self.new.verdicts part ≡ Some (blame_asked self.old part) }
@@ -271,7 +271,7 @@ impl Desk {
     }
 
     /// The least cost if a wire is 0, and if it is 1.
-    #[tactic(auto, using(crate::proofs::Rules::pass_steps))]
+    #[tactic(auto, using(crate::proofs::Rules::desk_after_pass))]
     pub(crate) fn probe<L: Ledger>(
         &mut self,
         wire: u32,
@@ -293,7 +293,7 @@ impl Desk {
     }
 
     /// Whether some state agrees with the case; and the numbers of all wires.
-    #[tactic(auto, using(crate::proofs::Rules::room_steps))]
+    #[tactic(auto, using(crate::proofs::Rules::lent_room))]
     pub(crate) fn probe_all<L: Ledger>(&mut self, steps: &mut Steps<L>) -> bool
         ensures some { result ≡ is_some (least_asked self.old) }
         ensures probed { (wire : ℕ) (bit : Bool) → wire < length self.old.subject.wires
@@ -353,7 +353,7 @@ fn start_at(state: &mut [u32], point: Option<&[u32]>) -> bool
 }
 
 // Whether each name is a part's; and then the state in which these are faulty.
-#[tactic(auto, using(crate::proofs::Rules::mark_steps))]
+#[tactic(auto, using(crate::proofs::Rules::marked_parts))]
 fn mark_named(basis: &Basis, names: &[u8], state: &mut [u32]) -> bool
     requires { length state.old ≡ length basis.now.parts }
     ensures named { result ≡ list_all (is_among basis.now.parts) (words names.now) }

@@ -36,7 +36,7 @@ impl LineBuffer {
     }
 
     /// Adds a byte, or drops it where the line is past the longest.
-    #[tactic(auto, using(crate::proofs::Rules::push_steps))]
+    #[tactic(auto, using(crate::proofs::Rules::kept_bytes))]
     pub fn push(&mut self, byte: u8)
         ensures { self.new ≡ kept (self.old ++ byte ∷ []) }
     {

@@ -25,7 +25,7 @@ use std::marker::Brand;
 use std::sync::ledger::{Blank, Ledger};
 
 // Finds what comes next of a listing of the session at a place, and moves its point there. The desk then has that state.
-#[tactic(auto, using(crate::proofs::Rules::move_steps))]
+#[tactic(auto, using(crate::proofs::Rules::listed_moves))]
 fn find<L: Ledger>(
     desk: &mut Desk,
     opened: &mut OpenSessions,
@@ -80,7 +80,7 @@ fn move_on<O: Sink>(
 }
 
 // Shows what comes next of a listing of a session, up to so many times.
-#[tactic(auto, using(crate::proofs::Rules::move_steps))]
+#[tactic(auto, using(crate::proofs::Rules::listed_moves))]
 fn move_so_far<O: Sink>(
     desk: &mut Desk,
     opened: &mut OpenSessions,

@@ -15,7 +15,7 @@ use minimiser::Steps;
 use std::sync::ledger::Ledger;
 
 // The least costs of each wire that is not seen, if some state agrees.
-#[tactic(auto, using(crate::proofs::Rules::told_steps))]
+#[tactic(auto, using(crate::proofs::Rules::written_lines))]
 pub(crate) fn tell_probes<O: Sink, L: Ledger>(
     desk: &mut Desk,
     session: &[u8],
@@ -35,7 +35,7 @@ pub(crate) fn tell_probes<O: Sink, L: Ledger>(
 }
 
 // A line for each wire that is not seen.
-#[tactic(auto, using(crate::proofs::Rules::told_steps))]
+#[tactic(auto, using(crate::proofs::Rules::written_lines))]
 fn put_probes<O: Sink>(desk: &Desk, session: &[u8], out: &mut O) -> Result<(), WriteFailed>
     requires { AreProbed desk.now }
     ensures reply { let system = served_system desk.now.subject in
@@ -51,7 +51,7 @@ fn put_probes<O: Sink>(desk: &Desk, session: &[u8], out: &mut O) -> Result<(), W
 }
 
 // The line of one wire, unless it is seen.
-#[tactic(auto, using(crate::proofs::Rules::told_steps))]
+#[tactic(auto, using(crate::proofs::Rules::written_lines))]
 fn put_unseen<O: Sink>(
     desk: &Desk,
     session: &[u8],

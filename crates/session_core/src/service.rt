@@ -40,7 +40,7 @@ impl Service {
     /// A service over the names of parts and wires, what the failure of each part costs, and a graph whose variables are the
     /// parts, the wires, and inner ones. No session is open, and at most so many may be, from 1 to `SESSION_LIMIT`. States by
     /// rising cost and the graph of the diagnoses are answered if the extras say so. `Err` means that memory ran out.
-    #[tactic(auto, using(crate::proofs::Rules::service_steps))]
+    #[tactic(auto, using(crate::proofs::Rules::refused_lines))]
     pub fn over(
         alloc: Global,
         parts: Vec<Name>,
@@ -110,7 +110,7 @@ impl Service {
     /// Carries out one line, without its line feed, and writes its replies. `Err` means that a
     /// write failed: the line was carried out up to and with what one of its replies says, and the replies
     /// before it were written. Of that one a beginning was written, perhaps nothing, or all.
-    #[tactic(auto, using(crate::proofs::Rules::service_steps))]
+    #[tactic(auto, using(crate::proofs::Rules::refused_lines))]
     pub fn line<O: Sink>(&mut self, line: &[u8], out: &mut O) -> Result<(), WriteFailed>
         ensures carried { CarriesOut self.old.table self.new.table
             (moves_of self.old self.old.table line.now)

@@ -32,7 +32,7 @@ pub enum ServeEnd {
 }
 
 // Takes one byte of the script: a line feed has the line answered.
-#[tactic(auto, using(crate::proofs::Rules::fed_steps))]
+#[tactic(auto, using(crate::proofs::Rules::fed_bytes))]
 fn take_byte<O: Sink>(
     sessions: &mut Sessions,
     gathered: &mut LineBuffer,
@@ -82,7 +82,7 @@ fn feed<O: Sink>(
 }
 
 // A last line that no line feed ended, if there is one.
-#[tactic(auto, using(crate::proofs::Rules::fed_steps))]
+#[tactic(auto, using(crate::proofs::Rules::fed_bytes))]
 fn finish<O: Sink>(
     sessions: &mut Sessions,
     gathered: &LineBuffer,

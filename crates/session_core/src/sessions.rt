@@ -43,7 +43,7 @@ impl Model for Sessions {
 impl Sessions {
     /// Answers one line. If a write fails, the line is carried out up to and with what the reply says that
     /// met the failure.
-    #[tactic(auto, using(crate::proofs::Rules::line_steps))]
+    #[tactic(auto, using(crate::proofs::Rules::nothing_written))]
     pub(crate) fn line<O: Sink>(&mut self, line: &[u8], out: &mut O) -> Result<(), WriteFailed>
         ensures carried { CarriesOut self.old.table self.new.table
             (moves_of self.old self.old.table line.now)
@@ -59,7 +59,7 @@ impl Sessions {
     }
 
     // Does what is asked of a session, unless it has to be open and is not. Sessions are looked up here alone.
-    #[tactic(auto, using(crate::proofs::Rules::session_steps))]
+    #[tactic(auto, using(crate::proofs::Rules::open_sessions))]
     fn ask<O: Sink>(
         &mut self,
         name: &[u8],
@@ -80,7 +80,7 @@ impl Sessions {
     }
 
     // Opens a session that is not open, unless as many are open as may be.
-    #[tactic(auto, using(crate::proofs::Rules::session_steps))]
+    #[tactic(auto, using(crate::proofs::Rules::open_sessions))]
     fn start<O: Sink>(&mut self, name: &[u8], out: &mut O) -> Result<(), WriteFailed>
         requires short { is_short_name name.now ≡ true }
         requires closed { entry_of name.now self.old.table ≡ None }
@@ -122,7 +122,7 @@ impl Sessions {
     }
 
     // Closes a session.
-    #[tactic(auto, using(crate::proofs::Rules::session_steps))]
+    #[tactic(auto, using(crate::proofs::Rules::open_sessions))]
     fn stop<O: Sink>(&mut self, session: OpenSession<'_>, out: &mut O) -> Result<(), WriteFailed>
         requires { IsOpen self.old.table session }
         ensures obeys { Obeys self.old self.new session.entry.name.now Stop (O.got out.old) (O.got out.new) result }
@@ -133,7 +133,7 @@ impl Sessions {
     }
 
     // Notes what is known of a wire or a part, or that nothing is any more.
-    #[tactic(auto, using(crate::proofs::Rules::session_steps))]
+    #[tactic(auto, using(crate::proofs::Rules::open_sessions))]
     fn note<O: Sink>(
         &mut self,
         session: OpenSession<'_>,

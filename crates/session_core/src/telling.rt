@@ -60,7 +60,7 @@ fn tell_minimum<O: Sink, L: Ledger>(
 }
 
 // The least costs of the wire of a name, if there is one and some state agrees.
-#[tactic(auto, using(crate::proofs::Rules::told_steps))]
+#[tactic(auto, using(crate::proofs::Rules::written_lines))]
 fn tell_probe<O: Sink, L: Ledger>(
     desk: &mut Desk,
     session: &[u8],

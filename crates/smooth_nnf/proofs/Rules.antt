@@ -18,50 +18,50 @@ use Rattle.std.proofs.lemmas.List.FromFn.{length-enumerate_from}
 
 -- parts below nodes, as sets and words
 
-pub ruleset none_lacking_steps = (eqb-true, is-lacking, none-under)
+pub ruleset nothing_lacks = (eqb-true, is-lacking, none-under)
 
-pub ruleset missing_steps = (no-fillers, over-less)
+pub ruleset missing_parts = (no-fillers, over-less)
 
-pub ruleset set_steps = (block-below, node_parts, set-bit)
+pub ruleset parts_below_node = (block-below, node_parts, set-bit)
 
-pub ruleset bit_steps = (and-true, mask_bits, masked, part_ones)
+pub ruleset masked_bits = (and-true, mask_bits, masked, part_ones)
 
-pub ruleset count_steps = (count-le, count-more, length-take-le)
+pub ruleset counted_parts = (count-le, count-more, length-take-le)
 
-pub ruleset value_steps = (cost_at-map)
+pub ruleset stored_costs = (cost_at-map)
 
 -- edges and texts of lines
 
-pub ruleset edge_steps = (all-edges, edges-next, edges-up, length-enumerate_from, take_all)
+pub ruleset counted_edges = (all-edges, edges-next, edges-up, length-enumerate_from, take_all)
 
-pub ruleset last_steps = (extends_same, last-kids, last-text)
+pub ruleset last_line = (extends_same, last-kids, last-text)
 
-pub ruleset or_steps = (child-under, few-kids-of, or-edges)
+pub ruleset edges_of_or = (child-under, few-kids-of, or-edges)
 
-pub ruleset filled_steps = (extends_same, no-fillers)
+pub ruleset filled_lines = (extends_same, no-fillers)
 
-pub ruleset filling_steps = (extends_same, fillers-added, no-bits)
+pub ruleset added_fillers = (extends_same, fillers-added, no-bits)
 
-pub ruleset pair_steps = (append-nil)
+pub ruleset appended_nothing = (append-nil)
 
-pub ruleset node_steps = (length-enumerate_from)
+pub ruleset numbered_nodes = (length-enumerate_from)
 
-pub ruleset kind_steps = (extends_same, few-kids-of, line-room, or-lines-text)
+pub ruleset lines_of_kind = (extends_same, few-kids-of, line-room, or-lines-text)
 
-pub ruleset child_steps = (child-under)
+pub ruleset child_under = (child-under)
 
-pub ruleset or_text_steps = (extends_three, or-text)
+pub ruleset text_of_or = (extends_three, or-text)
 
 -- places of lines
 
-pub ruleset cheapest_steps = (none-cheapest, one-cheapest)
+pub ruleset cheapest_one = (none-cheapest, one-cheapest)
 
-pub ruleset place_steps = (cost_at-map, length-set, line-fits, lines_after-more, own_lines-more, take_more_set)
+pub ruleset placed_lines = (cost_at-map, length-set, line-fits, lines_after-more, own_lines-more, take_more_set)
 
 -- the whole text
 
-pub ruleset put_steps = (extends_on, extends_three, extends_whole)
+pub ruleset joined_texts = (extends_on, extends_three, extends_whole)
 
-pub ruleset layout_steps = (count-fits, counted, edges-fit)
+pub ruleset layout_sizes = (count-fits, counted, edges-fit)
 
-pub ruleset text_steps = (least_text-is_neat, least_text-means, length-written)
+pub ruleset written_text = (least_text-is_neat, least_text-means, length-written)

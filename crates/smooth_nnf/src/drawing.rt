@@ -65,7 +65,7 @@ impl<'a> Drawing<'a> {
     }
 
     // The least cost at a node, or what stands for none.
-    #[tactic(auto, using(crate::proofs::Rules::value_steps))]
+    #[tactic(auto, using(crate::proofs::Rules::stored_costs))]
     pub(crate) fn value(&self, node: u32) -> u32
         requires { node < length self.now.graph.nodes }
         ensures value { result ≡ slice_index self.now.values node }
@@ -98,7 +98,7 @@ impl<'a> Drawing<'a> {
     }
 
     // How many parts a node has below it.
-    #[tactic(auto, using(crate::proofs::Rules::set_steps))]
+    #[tactic(auto, using(crate::proofs::Rules::parts_below_node))]
     pub(crate) fn part_count(&self, node: u32) -> u32
         requires { node < length self.now.graph.nodes }
         ensures count { result ≡ part_count self.now node }
@@ -121,7 +121,7 @@ impl<'a> Drawing<'a> {
     }
 
     // Whether nothing is missing below the nodes whose lines are filled in up to the parts of an or, or up to all parts.
-    #[tactic(auto, using(crate::proofs::Rules::none_lacking_steps))]
+    #[tactic(auto, using(crate::proofs::Rules::nothing_lacks))]
     pub(crate) fn lacks_none(&self, over: Option<u32>) -> bool
         requires over { IsNodeOf self.now over }
         ensures { (node part : ℕ) → result ≡ true → IsUnder self.now over node → 1 ≤ part → part ≤ self.now.parts
@@ -146,7 +146,7 @@ impl<'a> Drawing<'a> {
     }
 
     // How many parts are missing below a node.
-    #[tactic(auto, using(crate::proofs::Rules::missing_steps))]
+    #[tactic(auto, using(crate::proofs::Rules::missing_parts))]
     pub(crate) fn missing_count(&self, over: Option<u32>, node: u32) -> u32
         requires node { node < length self.now.graph.nodes }
         requires over { IsNodeOf self.now over }
@@ -161,7 +161,7 @@ impl<'a> Drawing<'a> {
     }
 
     // The parts of a word that a line is to have below it.
-    #[tactic(auto, using(crate::proofs::Rules::bit_steps))]
+    #[tactic(auto, using(crate::proofs::Rules::masked_bits))]
     fn over_word(&self, over: Option<u32>, word: usize) -> u32
         requires over { IsNodeOf self.now over }
         requires word { word < part_words self.now.parts }
@@ -175,7 +175,7 @@ impl<'a> Drawing<'a> {
     }
 
     // The parts of a word that are below a node.
-    #[tactic(auto, using(crate::proofs::Rules::set_steps))]
+    #[tactic(auto, using(crate::proofs::Rules::parts_below_node))]
     fn node_word(&self, node: u32, word: usize) -> u32
         requires node { node < length self.now.graph.nodes }
         requires word { word < part_words self.now.parts }
@@ -186,7 +186,7 @@ impl<'a> Drawing<'a> {
     }
 
     // The parts of a word that are missing below a node.
-    #[tactic(auto, using(crate::proofs::Rules::bit_steps))]
+    #[tactic(auto, using(crate::proofs::Rules::masked_bits))]
     pub(crate) fn missing_word(&self, over: Option<u32>, node: u32, word: usize) -> u32
         requires node { node < length self.now.graph.nodes }
         requires over { IsNodeOf self.now over }
@@ -209,7 +209,7 @@ impl<'a> Drawing<'a> {
 }
 
 // How many parts a set has.
-#[tactic(auto, using(crate::proofs::Rules::count_steps))]
+#[tactic(auto, using(crate::proofs::Rules::counted_parts))]
 fn count_parts(set: &[u32]) -> u32
     requires { length set.now < 2 ^ 27 }
     ensures { result ≡ length (set_parts 0 set.now) }
@@ -222,7 +222,7 @@ fn count_parts(set: &[u32]) -> u32
 }
 
 // The bits of a word that are parts'.
-#[tactic(auto, using(crate::proofs::Rules::bit_steps))]
+#[tactic(auto, using(crate::proofs::Rules::masked_bits))]
 fn part_bits(parts: u32, word: usize) -> u32
     requires { word < part_words parts }
     ensures { (b : ℕ) → b < 32 → has_bit result b ≡ nat_le (part_at word b) parts }
@@ -232,7 +232,7 @@ fn part_bits(parts: u32, word: usize) -> u32
 }
 
 // The bits of a word that another does not have.
-#[tactic(auto, using(crate::proofs::Rules::bit_steps))]
+#[tactic(auto, using(crate::proofs::Rules::masked_bits))]
 fn without(all: u32, others: u32) -> u32
     ensures { (b : ℕ) → b < 32 → has_bit result b ≡ (has_bit all b && not (has_bit others b)) }
 {

@@ -11,7 +11,7 @@ use minimiser::NONE;
 use state_rules::NodeKind;
 
 // The number of children of all lines.
-#[tactic(auto, using(crate::proofs::Rules::edge_steps))]
+#[tactic(auto, using(crate::proofs::Rules::counted_edges))]
 pub(crate) fn edge_count(drawing: &Drawing<'_>) -> u64
     requires { edges (all_lines (shown drawing.now)) < 2 ^ 64 }
     ensures { result ≡ edges (all_lines (shown drawing.now)) }
@@ -24,7 +24,7 @@ pub(crate) fn edge_count(drawing: &Drawing<'_>) -> u64
 }
 
 // That of the last line.
-#[tactic(auto, using(crate::proofs::Rules::last_steps))]
+#[tactic(auto, using(crate::proofs::Rules::last_line))]
 fn last_edges(drawing: &Drawing<'_>) -> u64
     ensures { result ≡ length (last_line (shown drawing.now)).kids }
 {
@@ -49,7 +49,7 @@ fn node_edges(drawing: &Drawing<'_>, node: u32) -> u64
 }
 
 // That of the lines of a node that can be true.
-#[tactic(auto, using(crate::proofs::Rules::or_steps))]
+#[tactic(auto, using(crate::proofs::Rules::edges_of_or))]
 fn edges_by(drawing: &Drawing<'_>, node: u32, what: NodeKind, kids: &[u32], cost: u32) -> u64
     requires node { node < length drawing.now.graph.nodes }
     requires is { node_at drawing.now.graph.nodes node ≡ record { what = what; kids = kids.now } }
@@ -74,7 +74,7 @@ fn edges_by(drawing: &Drawing<'_>, node: u32, what: NodeKind, kids: &[u32], cost
 
 impl OrNode<'_> {
     // That of the lines of an or: each of its cheapest children has one, and is one of its own.
-    #[tactic(auto, using(crate::proofs::Rules::or_steps))]
+    #[tactic(auto, using(crate::proofs::Rules::edges_of_or))]
     fn edges(&self) -> u64
         ensures { result ≡ sum_by (child_edges self.now.drawing.now self.now.node self.now.cost) self.now.kids.now }
     {

@@ -17,7 +17,7 @@ use nnf_text::{GraphText, add_node};
 use state_rules::NodeKind;
 
 // Adds the line of a node, with the parts that are missing filled in.
-#[tactic(auto, using(crate::proofs::Rules::filled_steps))]
+#[tactic(auto, using(crate::proofs::Rules::filled_lines))]
 pub(crate) fn add_filled<O: Sink>(
     text: &mut GraphText,
     out: &mut O,
@@ -45,7 +45,7 @@ pub(crate) fn add_filled<O: Sink>(
 }
 
 // Adds the lines that fill in what is missing below a node, each after a space.
-#[tactic(auto, using(nnf_text::proofs::Extended::extending, crate::proofs::Rules::filling_steps))]
+#[tactic(auto, using(nnf_text::proofs::Extended::extending, crate::proofs::Rules::added_fillers))]
 fn add_fillers<O: Sink>(
     text: &mut GraphText,
     out: &mut O,
@@ -64,7 +64,7 @@ fn add_fillers<O: Sink>(
 }
 
 // Adds those of one word.
-#[tactic(auto, using(nnf_text::proofs::Extended::extending, crate::proofs::Rules::filling_steps))]
+#[tactic(auto, using(nnf_text::proofs::Extended::extending, crate::proofs::Rules::added_fillers))]
 fn add_word_fillers<O: Sink>(
     text: &mut GraphText,
     out: &mut O,

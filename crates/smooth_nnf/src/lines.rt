@@ -32,7 +32,7 @@ pub(crate) fn add_literals<O: Sink>(text: &mut GraphText, out: &mut O, parts: u3
 }
 
 // Adds the lines of one part's literals.
-#[tactic(auto, using(nnf_text::proofs::Extended::extending, crate::proofs::Rules::pair_steps))]
+#[tactic(auto, using(nnf_text::proofs::Extended::extending, crate::proofs::Rules::appended_nothing))]
 fn add_pair<O: Sink>(text: &mut GraphText, out: &mut O, var: u32)
     ensures { Extends (O.shown out.old) (O.shown out.new) text.old text.new
         (lines_text (literal_pair var)) }
@@ -50,7 +50,7 @@ fn add_pair<O: Sink>(text: &mut GraphText, out: &mut O, var: u32)
 }
 
 // Adds the lines of all nodes.
-#[tactic(auto, using(nnf_text::proofs::Extended::extending, crate::proofs::Rules::node_steps))]
+#[tactic(auto, using(nnf_text::proofs::Extended::extending, crate::proofs::Rules::numbered_nodes))]
 pub(crate) fn add_nodes<O: Sink>(text: &mut GraphText, out: &mut O, drawing: &Drawing<'_>)
     ensures { Extends (O.shown out.old) (O.shown out.new) text.old text.new
         (flat_map (λ x. lines_text (node_lines (shown drawing.now) x)) (enumerate_from 0 drawing.now.graph.nodes)) }
@@ -61,7 +61,7 @@ pub(crate) fn add_nodes<O: Sink>(text: &mut GraphText, out: &mut O, drawing: &Dr
 }
 
 // Adds the line of the root.
-#[tactic(auto, using(crate::proofs::Rules::last_steps))]
+#[tactic(auto, using(crate::proofs::Rules::last_line))]
 pub(crate) fn add_last<O: Sink>(text: &mut GraphText, out: &mut O, drawing: &Drawing<'_>)
     ensures { Extends (O.shown out.old) (O.shown out.new) text.old text.new
         (spaced (node_words (last_line (shown drawing.now)))) }
@@ -89,7 +89,7 @@ fn add_node_lines<O: Sink>(text: &mut GraphText, out: &mut O, drawing: &Drawing<
 }
 
 // Adds the lines of a node that can be true, by what it is and its children.
-#[tactic(auto, using(crate::proofs::Rules::kind_steps))]
+#[tactic(auto, using(crate::proofs::Rules::lines_of_kind))]
 fn add_lines_by<O: Sink>(
     text: &mut GraphText,
     out: &mut O,
@@ -154,7 +154,7 @@ fn add_and<O: Sink>(text: &mut GraphText, out: &mut O, drawing: &Drawing<'_>, ki
 
 impl OrNode<'_> {
     // Adds the lines of an or: one for each of its cheapest children, and its own over these.
-    #[tactic(auto, using(crate::proofs::Rules::or_text_steps))]
+    #[tactic(auto, using(crate::proofs::Rules::text_of_or))]
     fn add_lines<O: Sink>(&self, text: &mut GraphText, out: &mut O)
         requires { length (cheapest_children (map cost_in self.now.drawing.now.values) self.now.cost self.now.kids.now)
             ≤ slice_index self.now.drawing.now.lines self.now.node }
@@ -172,7 +172,7 @@ impl OrNode<'_> {
     }
 
     // Adds the lines of its cheapest children.
-    #[tactic(auto, using(nnf_text::proofs::Extended::extending, crate::proofs::Rules::child_steps))]
+    #[tactic(auto, using(nnf_text::proofs::Extended::extending, crate::proofs::Rules::child_under))]
     fn add_child_lines<O: Sink>(&self, text: &mut GraphText, out: &mut O)
         ensures { Extends (O.shown out.old) (O.shown out.new) text.old text.new
             (flat_map (child_text self.now.drawing.now self.now.node self.now.cost) self.now.kids.now) }

@@ -9,7 +9,7 @@ use node_store::Graph;
 use state_rules::NodeKind;
 
 // The own line of each node, and how many lines there are up to the last of them.
-#[tactic(auto, using(crate::proofs::Rules::place_steps))]
+#[tactic(auto, using(crate::proofs::Rules::placed_lines))]
 pub(crate) fn place_lines(graph: &Graph, parts: u32, values: &[u32], lines: &mut [u32]) -> u32
     requires values { length values.now ≡ length graph.now.nodes }
     requires room { length lines.old ≡ length graph.now.nodes }
@@ -42,7 +42,7 @@ fn lines_to(what: NodeKind, kids: &[u32], values: &[u32], cost: u32) -> u32
 }
 
 // How many children have a cost.
-#[tactic(auto, using(crate::proofs::Rules::cheapest_steps))]
+#[tactic(auto, using(crate::proofs::Rules::cheapest_one))]
 pub(crate) fn cheapest_count(kids: &[u32], values: &[u32], cost: u32) -> u32
     requires kids { All (λ child. child < length values.now) kids.now }
     requires few { length kids.now < 2 ^ 32 }

@@ -46,7 +46,7 @@ struct Asked<'a> {
 ///
 /// The text is smooth and decomposable, and has at most a line for each node of the graph and each of its edges, two for each part,
 /// and one more. The region lends 2 words for each node, and for each those of a set of parts. No memory is taken.
-#[tactic(auto, using(crate::proofs::Rules::text_steps))]
+#[tactic(auto, using(crate::proofs::Rules::written_text))]
 pub fn write_least<O: Sink>(
     graph: &Graph,
     evidence: &[u32],
@@ -88,7 +88,7 @@ pub fn write_least<O: Sink>(
 }
 
 /// What [`write_least`] writes, from sets of the parts below the nodes that are kept. The region lends 2 words for each node.
-#[tactic(auto, using(crate::proofs::Rules::text_steps))]
+#[tactic(auto, using(crate::proofs::Rules::written_text))]
 pub fn write_least_with<O: Sink>(
     graph: &Graph,
     sets: &PartSets,
@@ -161,7 +161,7 @@ fn write_fresh<O: Sink, L: Ledger>(
 }
 
 // Writes it, in scratch.
-#[tactic(auto, using(crate::proofs::Rules::layout_steps))]
+#[tactic(auto, using(crate::proofs::Rules::layout_sizes))]
 fn write_in<O: Sink, L: Ledger>(
     blank: Blank,
     asked: &Asked<'_>,
@@ -211,7 +211,7 @@ fn write_in<O: Sink, L: Ledger>(
 }
 
 // Puts all lines.
-#[tactic(auto, using(crate::proofs::Rules::put_steps))]
+#[tactic(auto, using(crate::proofs::Rules::joined_texts))]
 fn put_lines<O: Sink>(drawing: &Drawing<'_>, count: u32, out: &mut O) -> Result<(), WriteFailed>
     requires count { count ≡ length (all_lines (shown drawing.now)) }
     requires edges { edges (all_lines (shown drawing.now)) < 2 ^ 64 }

@@ -18,7 +18,7 @@ from .shell import BEST, MORE, Asked, Shell, _path, in_words
 MORE_PATTERNS = {
     "pattern": ("pattern NAME", "begins a test pattern of the same board, or goes back to one; see belongs to it, hold to the board"),
     "patterns": ("patterns", "the patterns: the present one has a star"),
-    "this": ("this COMMAND ..", "min, next, list, probe, probes, blame or best for the present pattern alone; without `this` they are for all together"),
+    "this": ("this COMMAND ..", "min, next, list, probe, probes, blame or best for the present pattern alone; without `this` they are for all together, and probes is slower"),
 }
 # What is asked for all patterns together once there are two, and what has an answer for one pattern alone.
 TOGETHER = ("min", "next", "list", "probe", "probes", "blame", "best")
@@ -38,7 +38,7 @@ class BoardShell(Shell):
         self._has_line = False
         # Whether a line is asked of the present pattern alone.
         self._is_one = False
-        # So many diagnoses of all patterns were told since the last of so many changes.
+        # How many diagnoses of all patterns were printed, and the number of changes when they were.
         self._told_since = (0, 0)
 
     def take(self, patterns: dict[str, Session]) -> None:
@@ -174,7 +174,8 @@ class BoardShell(Shell):
         for session in self.sessions.values():
             if session is not self.session:
                 session.unhold(*(session.held.keys() - held.keys()))
-                session.hold(held)
+                # A change begins the listing anew, so what is held already is not sent again.
+                session.hold(dict(held.items() - session.held.items()))
 
     def _together(self) -> Joint:
         """All patterns. What was found is kept as long as they are the same."""
@@ -211,7 +212,7 @@ class BoardShell(Shell):
         self._tell_diagnoses(int(words[0]) if words else LISTED)
 
     def _tell_diagnoses(self, most: int) -> None:
-        """Those after the last one that was told, as of one session: each change begins anew."""
+        """Those after the last one that was printed. A change begins anew, as in one session."""
         self.service.catch_up()
         changes = sum(session.changes for session in self.sessions.values())
         if self._told_since[1] != changes:
@@ -228,7 +229,11 @@ class BoardShell(Shell):
         if not words:
             raise ValueError("probe w: which wire?")
         for wire in words:
-            self._tell_costs(self.session.probe(wire))
+            try:
+                self._tell_costs(self.session.probe(wire))
+            except Refused as refused:
+                # The other wires are asked all the same.
+                self.refuse(f"refused: {self.why(refused)}")
 
     def _probes(self, _: list[str]) -> None:
         for alone in self.session.probes():

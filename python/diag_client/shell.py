@@ -52,7 +52,7 @@ COUNTED = {
 # What to do about a refusal of the program, by its text.
 CURES = {
     "line too long": "a line has at most 1048576 bytes", "no levels": "start the terminal with --levels C", "no least": "start the terminal with --least",
-    "full": f"each pattern is a session, and a search opens one more for each: at most {LIMITS['sessions'][1] // 2} patterns can be searched",
+    "full": f"each pattern is a session, and a search opens one more for each: at most {LIMITS['sessions'][1] // 2} patterns can be searched, and one fewer by probe",
 }
 # What is said of a name that is none.
 NAMES = "a name has up to 255 printable ASCII characters, that of a pattern up to 64, and none of ( ) , = #"
@@ -438,13 +438,13 @@ class Shell(cmd.Cmd):
             known = (*self.service.wires, *self.service.other_names) if text == "no wire" else self.service.parts
         except (Inconsistent, Refused):
             # The program names nothing, or has no room for a session in which it would.
-            return " ".join(names)
+            return shown(" ".join(names))
         missing = next((name for name in names if name not in known), "")
         same = [name for name in known if name.lower() == missing.lower()]
         # A wire over several times is named without its time.
         timed = [name for name in known if name.startswith(f"{missing}@")][:NEAR]
         near = same or timed or difflib.get_close_matches(missing, known, NEAR)
-        return missing + (f"; near it: {', '.join(near)}" if near else "")
+        return shown(missing) + (f"; near it: {', '.join(near)}" if near else "")
 
 
 def in_words(reply: str) -> str:

@@ -331,6 +331,13 @@ class Refusals(unittest.TestCase):
         self.assertEqual(numbers, set(range(1, len(numbers) + 1)))
         self.assertGreaterEqual(len(numbers), 10)
 
+    def test_the_others_are_carried_out(self):
+        with Service(C17) as served, served.session() as session:
+            with self.assertRaises(Refused) as caught:
+                session.see({"1": 0, "99": 1, "2": 1, "98": 1})
+            self.assertIn("99=1", caught.exception.line)
+            self.assertEqual(dict(session.seen), {"1": 0, "2": 1})
+
     def test_many_sessions(self):
         """There is room for as many as the program allows, unless its own default is asked for."""
         with Service(C17) as served:

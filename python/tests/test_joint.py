@@ -244,7 +244,7 @@ class Board(unittest.TestCase):
             table.write_text(TABLE)
             told, status, _ = self.told(
                 ["next", "next", "next", "list 1", "this next", "probe 16 22", "this probe 16", "probes", "level", "after 10", "level",
-                 "expect 22", "hold 10=ok", "next", "list 1", "probe", "probe 99", "best 10 99", "hold 16=ok", "probe 16",
+                 "expect 22", "hold 10=ok", "next", "hold 99=ok", "list 1", "probe", "probe 99 19", "best 10 99", "hold 16=ok", "probe 16",
                  "hold 22=ok", "probe 16"], "--patterns", table, "--levels", "2")
         alone = "pattern one alone:"
         self.assertEqual(told[1:], [
@@ -253,7 +253,8 @@ class Board(unittest.TestCase):
             "probe 16 3 1", "probe 22 - 1", alone, "probe 16 2 1",
             "probe 10 1 1", "probe 11 2 1", "probe 16 3 1", "probe 19 3 1", "end",
             alone, "level 1 22", alone, "ok", alone, "level 1 22", alone, "22 should be 0, and was seen as 1",
-            "ok", "diag 22", "end", "probe w: which wire?", *["refused: no wire (error 9): 99"] * 2, "ok",
+            "ok", "diag 22", "refused: no part (error 10): 99", "end", "probe w: which wire?", "refused: no wire (error 9): 99",
+            "probe 19 3 1", "refused: no wire (error 9): 99", "ok",
             "probe 16 - 1", "ok", "no set of faulty parts explains what was seen and held"])
         self.assertEqual(status, 1)
 

@@ -47,7 +47,7 @@ place-seen name es = position_or_len-map bytes (same_name name) (keys_of es) ∙
 pub driven-seen : (name : Name) (es : Entries) → is_some (lookup (λ (k : Bor Name). same_name name k.now) es) ≡ is_among (keys_of (seen es)) name
 driven-seen name es = ap is_some (lookup-seen name es) ∙ sym (among_keys name (seen es))
 
--- a place, or the end where there is none
+-- a place, or the end if there is none
 pub place_found : {A : Type 0} (p : A → Bool) (xs : List A) → unwrap_or (position p xs) (length xs) ≡ position_or_len p xs
 place_found p xs = by (nat_lt (position_or_len p xs) (length xs)) refl
   where

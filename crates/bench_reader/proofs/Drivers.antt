@@ -1,4 +1,4 @@
--- What drives the signals of statements.
+-- The drivers of signals.
 use Rattle.std.proofs.Common.{◌≡◌, Bool, true, false, cond, List, [], ◌∷◌, Option, Some, None, is_some, refl, sym, ap, ◌∙◌, arith}
 use Rattle.std.specs.Prelude.{◌||◌}
 use Rattle.std.specs.List.{flat_map}
@@ -24,21 +24,21 @@ is_gate (Some ByGate) = true
 abbrev pub driver_of : Signals → Name → Option Driver
 driver_of ds name = lookup (same_name name) ds
 
--- a name is among the keys where it has a driver
+-- a name is among the keys exactly if it has a driver
 pub among_keys : (name : Name) (ds : Signals) → is_among (keys_of ds) name ≡ is_some (driver_of ds name)
 among_keys name ds = sym (is_some-lookup (same_name name) ds)
 
--- the driver of a name after another is inserted
+-- the driver of `m` after `n` is inserted
 pub lookup-insert : (m n : Name) (driver : Driver) (ds : Signals) → driver_of (insert_entry same_name ds n driver) m ≡ cond (same_name m n) (Some driver) (driver_of ds m)
 lookup-insert m n driver [] = refl
 lookup-insert m n driver (d ∷ ds) = grind (arith, equal_if_same, same_if_equal, lookup-insert m n driver ds)
 
--- no name is inserted twice
+-- an insertion repeats no name
 pub repeated-insert : (n : Name) (driver : Driver) (ds : Signals) → repeated (keys_of ds) ≡ [] → repeated (keys_of (insert_entry same_name ds n driver)) ≡ []
 repeated-insert n driver [] h = refl
 repeated-insert n driver (d ∷ ds) h = grind (arith, among_keys, lookup-insert, same_name-other, repeated-insert n driver ds)
 
--- the drivers are those of the statements above
+-- `ds` are the drivers of the statements above
 pub record Drives (ds : Signals) (above : List Statement) : Type 0 where
   pub all : (m : Name) → is_among (flat_map driven above) m ≡ is_some (driver_of ds m)
   pub gates : (m : Name) → is_among (flat_map driven_by_gate above) m ≡ is_gate (driver_of ds m)

@@ -1,4 +1,4 @@
--- Worked rows: netlists of which a reader can say the device or the fault beforehand. Their check computes both sides.
+-- Worked rows: netlists whose device or fault a reader can say beforehand. The check computes both sides.
 use Rattle.std.proofs.Common.{◌≡◌, ℕ, zero, suc, List, [], ◌∷◌, ◌++◌, codes, refl}
 use Rattle.text_rules.specs.Names.{Name}
 use Rattle.device_model.specs.declared.gates.Kind.{Kind}
@@ -31,7 +31,7 @@ abbrev more_of_a : ℕ → List ℕ
 more_of_a zero = codes ")"
 more_of_a (suc n) = codes ",a" ++ more_of_a n
 
--- y is a gate of the signal a, which is its input once and then so many times more
+-- y is a gate whose inputs are the signal a, `more` + 1 times
 abbrev gate_of_a : List ℕ → ℕ → List ℕ
 gate_of_a kind more = codes "y = " ++ kind ++ codes "(a" ++ more_of_a more
 
@@ -50,7 +50,7 @@ c17 : netlist (text (codes "# c17" ∷ codes "INPUT(1)" ∷ codes "INPUT(2)" ∷
     (codes "1" ∷ codes "10" ∷ codes "11" ∷ codes "16" ∷ codes "19" ∷ codes "2" ∷ codes "22" ∷ codes "23" ∷ codes "3" ∷ codes "6" ∷ codes "7" ∷ []))
 c17 = refl
 
--- capital and small letters, blanks, a comment, a carriage return, lines in any order, and what may be said again
+-- capital and small letters, blanks, a comment, a carriage return, lines in any order, and lines that may repeat
 loosely : netlist (text (codes "  c=buf ( b )#kept" ∷ (codes "oUtPuT( c )" ++ 13 ∷ []) ∷ codes "b = Not(a)" ∷ codes "input(a)" ∷ codes "INPUT (a)" ∷ codes "OUTPUT(c)" ∷ []))
     ≡ Ok (device (part (codes "b") Not (0 ∷ 1 ∷ []) ∷ part (codes "c") Buff (1 ∷ 2 ∷ []) ∷ []) (codes "a" ∷ codes "b" ∷ codes "c" ∷ []))
 loosely = refl

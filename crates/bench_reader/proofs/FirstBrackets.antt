@@ -1,4 +1,4 @@
--- What is after the first opening bracket of a line, and the tokens after the first that is one.
+-- The tokens of the text after the first opening bracket of a line are the tokens after its first bracket token.
 use Rattle.std.proofs.Common.{◌≡◌, ℕ, ◌==◌, Bool, true, false, not, List, [], ◌∷◌, ◌++◌, codes, refl, sym, ap, ◌∙◌, arith}
 use Rattle.std.specs.List.{list_all, position_or_len}
 use Rattle.std.proofs.lemmas.Bool.{and_parts, and_from, not_from_false, false≢true}
@@ -22,11 +22,11 @@ place line = position_or_len (λ b. b == 40) line
 later : (b : ℕ) (line : List ℕ) → (b == 40) ≡ false → behind_bracket (b ∷ line) ≡ behind_bracket line
 later b line other = grind arith
 
--- a word that begins with another byte is no bracket
+-- a word that begins with another byte is no opening bracket
 word_is_other : (ends : Bool) (b : ℕ) (ts others : List (List ℕ)) (first : List ℕ) → (b == 40) ≡ false → before_tokens ends b ts ≡ first ∷ others → is_open first ≡ false
 word_is_other ends b ts others first other e = grind arith
 
--- nor is one that a word goes on with
+-- nor is the token with which a word goes on
 rest_is_other : (others : List (List ℕ)) (text first : List ℕ) → ends_word true text ≡ false → tokens true text ≡ first ∷ others → is_open first ≡ false
 rest_is_other others text first goes e = grind arith
 
@@ -59,7 +59,7 @@ tokens_behind [] [] after e none = absurd (let no : ⊥ = cc in no)
 tokens_behind [] (token ∷ before) after e none = absurd (let no : ⊥ = cc in no)
 tokens_behind (b ∷ line) before after e none = grind (arith, later, on_mark, on_byte, tokens_behind line)
 
--- a word without a mark is no bracket
+-- a word without a mark is no opening bracket
 unmarked_is_other : (word : List ℕ) → has_no_mark word ≡ true → is_open word ≡ false
 unmarked_is_other word h = by (is_open word) refl
   where
@@ -67,7 +67,7 @@ unmarked_is_other word h = by (is_open word) refl
     by false e = refl
     by true e = absurd (let bracket = equal_if_same word (codes "(") e in let no : false ≡ true = sym (ap has_no_mark bracket) ∙ h in cc)
 
--- what is after the bracket of a gate
+-- the tokens after the opening bracket of a gate
 pub tokens_of_inputs : (line output kind bracket : List ℕ) (left behind ts : List (List ℕ)) → tokens true line ≡ output ∷ codes "=" ∷ left → left ≡ kind ∷ behind → behind ≡ bracket ∷ ts
     → bracket ≡ codes "(" → has_no_mark output ≡ true → has_no_mark kind ≡ true → tokens true (behind_bracket line) ≡ ts
 tokens_of_inputs line output kind bracket left behind ts e f g b o k =

@@ -1,4 +1,4 @@
--- The netlist of a text, by what its lines say, what they drive and what they use.
+-- The netlist of a text, from what its lines say, drive and use.
 use Rattle.std.proofs.Common.{◌≡◌, ℕ, suc, inl, inr, Bool, true, false, List, [], ◌∷◌, ◌++◌, map, length, Option, Some, None, Ok, Err, nat_lt, refl, sym, ap, subst, ◌∙◌, arith}
 use Rattle.std.specs.Prelude.{Result, if◌then◌else◌}
 use Rattle.std.specs.List.{filter_map, flat_map, list_all}
@@ -39,7 +39,7 @@ use Rattle.bench_reader.proofs.Lines.{said, read_are_faultless}
 use Rattle.bench_reader.proofs.Twice.{Ends, Splits, splits, gates_once}
 use Rattle.bench_reader.proofs.Parts.{names-parts, names-joined, statements_fit, arities-joined, wired-joined, named_back}
 
--- ---- names that differ are as many in order
+-- ---- sorting keeps the number of different names
 
 length-placed_new : (x : Name) (ys : List Name) → (In x ys → ⊥) → length (placed itself x ys) ≡ suc (length ys)
 length-placed_new x [] h = refl
@@ -97,11 +97,11 @@ module _ (statements : List Statement) (signals : List Name) (fine : AreFaultles
     pub the_device : (device : Device) → built parts wires tables ≡ Ok device → device_of statements ≡ device
     the_device device e = let both = sym built-of_these ∙ e in cc
 
-    -- Nothing else can be wanting than memory.
+    -- The only error is lack of memory.
     pub only_memory : (error : BuildError) → IsExpectedFault (reason error) (built parts wires tables) → error ≡ NoMemory
     only_memory = only_memory_of parts wires tables _ built-of_these
 
--- ---- what is used
+-- ---- used signals
 
 there-said : (statements : List (ℕ × Statement)) → flat_map (λ (s : ℕ × Statement). driven s.1) statements ≡ flat_map driven (map said statements)
 there-said [] = refl
@@ -111,7 +111,7 @@ abbrev IsFirst : Option ℕ → List ℕ → Type 0
 IsFirst None lines = lines ≡ []
 IsFirst (Some line) lines = (rest : List ℕ) × (lines ≡ line ∷ rest)
 
--- The first line that uses what is not among the driven signals, if each of two lists has them.
+-- `first_undriven` finds the first such line if both lists have the same names.
 first_without : (there signals : List Name) → ((n : Name) → is_among there n ≡ is_among signals n) → (statements : List (ℕ × Statement))
     → IsFirst (first_undriven signals statements) (undriven there statements)
 first_without there signals alike [] = refl
@@ -123,7 +123,7 @@ all_used signals ((line, s) ∷ statements) h = grind (arith, all_used signals s
 
 -- ---- statements, from step to step
 
--- the device, if these are the faults that the statements have together
+-- the device, or the first of these faults of the statements together
 abbrev unless_together : List (ℕ × Statement) → List Fault → List Fault → List Fault → Result Device Fault
 unless_together statements twice without many = unless_fault (twice ++ without ++ many) (device_of (map said statements))
 
@@ -204,7 +204,7 @@ pub said-with_number : (statements : List NumberedStatement) → map said (map w
 said-with_number [] = refl
 said-with_number (s ∷ statements) = ap (λ (ss : List Statement). unnumbered s ∷ ss) (said-with_number statements)
 
--- ---- faults that are handed on
+-- ---- faults that are passed on
 
 pub handed_driven : (error : BenchError) (statements : List (ℕ × Statement)) → IsExpectedFault (told error) (signals_from [] statements) → IsExpectedFault (told error) (device_or_fault statements)
 handed_driven error statements h = grind (arith, fault_driven)

@@ -1,4 +1,4 @@
--- The flip-flops among statements, and the parts that they are.
+-- The flip-flops among statements, and their parts.
 use Rattle.std.proofs.Common.{◌≡◌, ℕ, ◌+◌, ◌<◌, ◌≤◌, Bool, true, false, List, [], ◌∷◌, ◌++◌, map, length, drop, get_or, Bor, Ok, refl, sym, ap, subst, ◌∙◌, append_assoc, arith}
 use Rattle.std.specs.Prelude.{◌||◌, if◌then◌else◌}
 use Rattle.std.specs.List.{list_any, list_all, filter, filter_map, flat_map, enumerate_from}
@@ -64,7 +64,7 @@ named_flip_flop statement output kind inputs name is keeps = grind arith
 
 -- ---- the places of parts
 
--- the places from one on, of the names that pass
+-- the places of the names that pass, counted from `at`
 abbrev pub places_from : (Name → Bool) → ℕ → List Name → List ℕ
 places_from test at names = map (λ (n : ℕ × Name). n.0) (filter (λ (n : ℕ × Name). test n.1) (enumerate_from at names))
 
@@ -84,7 +84,7 @@ module _ (test : Name → Bool) (parts : List Component) (i : ℕ) (part : Compo
       → whole ≡ done ++ places_from test (i + 1) (part_names (drop (i + 1) parts))
   places-left done whole e inv = inv ∙ ap (λ ps. done ++ ps) (places-next false e)
 
--- ---- names of a file
+-- ---- short names
 
 gates_named : (statements : List Statement) → list_all is_short_name (flat_map driven statements) ≡ true → list_all is_short_name (flat_map driven_by_gate statements) ≡ true
 gates_named [] h = refl
@@ -109,7 +109,7 @@ short_device statements h =
           (list_all-among is_short_name wires (list_all-sorted_distinct itself is_short_name (flat_map driven statements) named) (get_or wires k d) (In-at wires k d l));
     }
 
--- the names of what a netlist gives are those of a file
+-- the device of a netlist has short names
 pub netlist-short : (flip_flops : FlipFlops) (text : List ℕ) (device : Device) → netlist_with flip_flops text ≡ Ok device → HasShortNames device
 netlist-short flip_flops text device h = by (filter_map fault_in (readings flip_flops text) ++ faults_together statements) h
   where
@@ -123,7 +123,7 @@ netlist-short flip_flops text device h = by (filter_map fault_in (readings flip_
     by [] e = let same : device_of (map said statements) ≡ device = cc in subst HasShortNames same made
     by (f ∷ fs) e = cc
 
--- ---- what is read
+-- ---- reading
 
 module _ (text : List ℕ) where
   module _ (statements : List (ℕ × Statement)) (read : statements_or_fault (readings Taken text) ≡ Ok statements) where

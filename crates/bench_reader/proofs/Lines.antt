@@ -1,4 +1,4 @@
--- What lines say, from line to line.
+-- The readings of lines, line by line.
 use Rattle.std.proofs.Common.{◌≡◌, ℕ, ◌+◌, true, List, [], ◌∷◌, ◌++◌, map, drop, get_or, length, Option, Some, None, Ok, append_assoc, refl, subst, ◌<◌, drop-drop, arith}
 use Rattle.std.specs.Prelude.{Result}
 use Rattle.std.specs.List.{list_all, filter_map, enumerate_from, flat_map}
@@ -10,18 +10,18 @@ use Rattle.bench_reader.specs.Statements.{Statement, statement_fault, reading}
 use Rattle.bench_reader.specs.Netlists.{fault_in, statement_in}
 use Rattle.bench_reader.specs.inner.Steps.{is_faultless}
 
--- the readings of lines of which the first has a number
+-- the readings of lines, if the first has this number
 abbrev pub readings_from : FlipFlops → ℕ → List (List ℕ) → List (ℕ × Result (Option Statement) BenchFault)
 readings_from flip_flops number lines = enumerate_from number (map (reading flip_flops) lines)
 
--- The faults of all lines are those of what is left, and the statements are these and then those of what is left.
+-- the faults of all lines are those of the lines left, and the statements are `done` and those of the lines left
 pub record IsReadTo (flip_flops : FlipFlops) (number : ℕ) (lines left : List (List ℕ)) (done : List (ℕ × Statement)) : Type 0 where
   pub no_fault : filter_map fault_in (readings_from flip_flops 1 lines) ≡ filter_map fault_in (readings_from flip_flops number left)
   pub so_far : filter_map statement_in (readings_from flip_flops 1 lines) ≡ done ++ filter_map statement_in (readings_from flip_flops number left)
 
 -- ---- statements without a fault
 
--- where a statement has no fault, it has none with flip-flops taken either
+-- a statement without a fault has none either if flip-flops are taken
 taken_too : (flip_flops : FlipFlops) (s : Statement) → statement_fault flip_flops s ≡ None → is_faultless s ≡ true
 taken_too flip_flops s h = grind arith
 
@@ -32,14 +32,14 @@ read_is_faultless flip_flops line s e = grind (arith, taken_too)
 abbrev pub said : ℕ × Statement → Statement
 said s = s.1
 
--- each statement that lines make has no fault
+-- nor has any statement of the lines
 pub read_are_faultless : (flip_flops : FlipFlops) (n : ℕ) (lines : List (List ℕ)) → list_all is_faultless (map said (filter_map statement_in (readings_from flip_flops n lines))) ≡ true
 read_are_faultless flip_flops n [] = refl
 read_are_faultless flip_flops n (line ∷ lines) = grind (arith, and_from, read_is_faultless, read_are_faultless flip_flops (n + 1) lines)
 
 -- ---- statements one after the other
 
--- what is left of statements passes, so the next one does and those after it
+-- if the statements left have no fault, the next one has none, nor have those after it
 pub faultless_next : {S : Type 0} (means : S → Statement) (statements : List S) (i : ℕ) (default : S) → i < length statements → list_all is_faultless (map means (drop i statements)) ≡ true
     → is_faultless (means (get_or statements i default)) ≡ true
 faultless_next means statements i default l h = grind (arith, drop_more)

@@ -1,4 +1,4 @@
--- What tokens make.
+-- Statements from tokens.
 use Rattle.std.proofs.Common.{◌≡◌, ℕ, ◌<◌, ◌≤◌, Bool, true, false, List, [], ◌∷◌, length, get_or, Option, Some, None, codes, is_some, refl, ap, arith}
 use Rattle.std.specs.Prelude.{◌&&◌, option_map, if◌then◌else◌}
 use Rattle.std.specs.List.{filter}
@@ -27,7 +27,7 @@ pub listed_behind_comma : (x m y : Name) (left behind ts : List (List ℕ)) → 
     → is_some (listed_from (x ∷ left)) ≡ is_some (listed_from (y ∷ ts))
 listed_behind_comma x m y left behind ts w l c b = rw (l, b, c, w) (some_with_first x (listed_from (y ∷ ts)))
 
--- the names that are listed are the words among the tokens
+-- the listed names are the words among the tokens
 abbrev IsEvidence : List (List ℕ) → Option (List Name) → Type 0
 IsEvidence ts None = Unit {0}
 IsEvidence ts (Some names) = filter has_no_mark ts ≡ names
@@ -67,18 +67,18 @@ gate_behind : (output kind : Name) (ts : List (List ℕ)) → has_no_mark output
     → statement_of (output ∷ codes "=" ∷ kind ∷ codes "(" ∷ ts) ≡ Some (Gate output (kind_named kind) (filter has_no_mark ts))
 gate_behind output kind ts o k h = grind (arith, input_words)
 
--- A line of two words with an equals sign between them, a bracket and a list makes a gate.
+-- A gate is a word, an equals sign, a word, an opening bracket and a list.
 pub statement_of_gate : (output kind bracket : Name) (line left behind ts : List (List ℕ)) → line ≡ output ∷ codes "=" ∷ left → left ≡ kind ∷ behind → behind ≡ bracket ∷ ts
     → bracket ≡ codes "(" → has_no_mark output ≡ true → has_no_mark kind ≡ true → is_some (inputs_in ts) ≡ true
     → Some (Gate output (kind_named kind) (filter has_no_mark ts)) ≡ statement_of line
 statement_of_gate output kind bracket line left behind ts e f g b o k h = grind (arith, gate_behind)
 
--- What is wrong with a gate whose output and inputs are names is wrong with its kind.
+-- If the output and the inputs of a gate are names, its fault is that of its kind.
 pub fault_of_gate : (flip_flops : FlipFlops) (output : Name) (kind : NamedKind) (names : List Name) (count : ℕ) → Some count ≡ count_names names → is_short_name output ≡ true
     → statement_fault flip_flops (Gate output kind names) ≡ kind_fault flip_flops count kind
 fault_of_gate flip_flops output kind names count c o = grind arith
 
--- ---- so many inputs
+-- ---- the number of inputs
 
 -- A line has no more inputs than bytes.
 pub inputs_fit : (inputs : Inputs) → length (input_names inputs) ≤ length inputs.text.now

@@ -18,7 +18,7 @@ use Rattle.bench_reader.specs.Signals.{driven_by_gate, used}
 use Rattle.bench_reader.specs.Netlists.{part_of}
 use Rattle.bench_reader.specs.inner.Steps.{is_faultless}
 
--- ---- what a gate without a fault has
+-- ---- a gate without a fault
 
 pub record IsFaultlessGate (output : Name) (kind : NamedKind) (inputs : List Name) : Type 0 where
   pub named : is_short_name output ≡ true
@@ -31,12 +31,12 @@ faultless_gate output kind inputs h = grind arith
 
 -- ---- one part
 
--- its name is that of its output
+-- the names of `parts`
 abbrev pub named_names : List NamedPart → List Name
 named_names parts = map (λ (part : NamedPart). part.name) parts
 
 module _ (wires : List Name) where
-  -- a part of the right arity, over wires that are there
+  -- whether a part has the right arity, and its wires are in `wires`
   abbrev pub fits : NamedPart → Bool
   fits part = has_arity [] (joined wires part) && list_all (is_among wires) part.wires
 
@@ -57,7 +57,7 @@ module _ (wires : List Name) where
   statements_fit [] h drives uses = refl
   statements_fit (s ∷ statements) h drives uses = grind (arith, list_all-append, statement_fits, statements_fit statements)
 
-  -- parts that fit have their arities and their wires, and the names of these back
+  -- parts that fit, with places for wires, have their arities and wires, and can be named again
   pub arities-joined : (parts : List NamedPart) → list_all fits parts ≡ true → list_all (has_arity []) (map (joined wires) parts) ≡ true
   arities-joined [] h = refl
   arities-joined (part ∷ parts) h = grind (arith, arities-joined parts)

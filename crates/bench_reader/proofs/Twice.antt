@@ -1,4 +1,4 @@
--- The statements that drive a signal again: there are none exactly if the signals are found, and else the first is reported.
+-- The statements that drive a signal again: either there is none and the signals are found, or the first is reported.
 use Rattle.std.proofs.Common.{◌≡◌, ℕ, Bool, true, false, List, [], ◌∷◌, map, Option, Some, None, is_some, refl, sym, ap, subst, ◌∙◌, arith}
 use Rattle.std.specs.Prelude.{◌||◌, Result, Ok, Err, if◌then◌else◌}
 use Rattle.std.specs.List.{flat_map}
@@ -25,7 +25,7 @@ pub record Ends (ds : Signals) (above below : List Statement) : Type 0 where
   pub all : (m : Name) → (is_among (flat_map driven above) m || is_among (flat_map driven below) m) ≡ is_some (driver_of ds m)
   pub once : repeated (keys_of ds) ≡ []
 
--- no statement drives again what is driven above it, or the first that does is the fault
+-- no statement drives a signal that is driven above it, or the fault is the first that does
 abbrev pub Splits : Result Signals Fault → List (ℕ × Statement) → List Statement → Type 0
 Splits (Err fault) statements above = (lines : List ℕ) × (fault ≡ fault_at DrivenTwice fault.line) × (driven_twice above statements ≡ fault.line ∷ lines)
 Splits (Ok ds) statements above = (driven_twice above statements ≡ []) × Ends ds above (map said statements)
@@ -74,7 +74,7 @@ twice_parts f statements above h = grind arith
 still_above : (f : Statement) (above : List Statement) (m : Name) → is_among (flat_map driven above) m ≡ true → is_among (flat_map driven (f ∷ above)) m ≡ true
 still_above f above m e = list_any-append (same_name m) (driven f) (flat_map driven above) ∙ or_right (is_among (driven f) m) _ e
 
--- no gate drives again what is driven above
+-- no gate drives a signal that is driven above
 gates_apart : (statements : List (ℕ × Statement)) (above : List Statement) (m : Name) → driven_twice above statements ≡ [] → is_among (flat_map driven above) m ≡ true
     → is_among (flat_map driven_by_gate (map said statements)) m ≡ false
 gates_apart [] above m h e = refl

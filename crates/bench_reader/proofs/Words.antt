@@ -1,4 +1,4 @@
--- Words that may be written in capital or in small letters.
+-- Words in letters of any case.
 use Rattle.std.proofs.Common.{◌≡◌, ℕ, Bool, true, List, [], ◌∷◌, map, refl, arith, ◌↔◌, IsTrue}
 use Rattle.std.specs.List.{list_all}
 use Rattle.std.specs.Char.{to_ascii_lowercase}
@@ -20,7 +20,7 @@ lower_from_capitals [] keyword h e = grind arith
 lower_from_capitals (b ∷ word) [] h e = cc
 lower_from_capitals (b ∷ word) (k ∷ keyword) h e = grind (arith, lower_from_capitals word keyword)
 
--- words that are the same in small letters have the same capitals
+-- words with the same small letters have the same capitals
 pub spells_in_any_case-test : (test : Bool) (word keyword : List ℕ) → list_all is_capital keyword ≡ true
     → (IsTrue test ↔ (map to_ascii_lowercase word ≡ map to_ascii_lowercase keyword)) → test ≡ same_name (capitals word) keyword
 spells_in_any_case-test test word keyword h e = grind (arith, capitals_from_lower, lower_from_capitals, bytes_eq-Decides)

@@ -1,4 +1,4 @@
--- The faults of netlists: their numbers, their names, and which of them an error says.
+-- The faults of netlists: their numbers, their names, and the fault in an error.
 use Rattle.std.specs.Prelude.{ℕ, List, [], ◌∷◌, codes, Option, Some, None, Result, Ok, Err}
 use Rattle.bench_reader.specs.declared.fault.BenchFault.{BenchFault}
 use Rattle.bench_reader.specs.declared.fault.BenchFault.TheVariants.{Line, Name, Kind, Inputs, Sequential, DrivenTwice, Undriven, TooMany}
@@ -16,7 +16,7 @@ fault_row DrivenTwice = (6, codes "driven twice")
 fault_row Undriven = (7, codes "undriven")
 fault_row TooMany = (8, codes "too many")
 
--- what is wrong with a text, and in which line
+-- a fault of a text, and its line
 pub record Fault : Type 0 where
   pub line : ℕ
   pub what : BenchFault
@@ -24,12 +24,12 @@ pub record Fault : Type 0 where
 abbrev pub fault_at : BenchFault → ℕ → Fault
 fault_at what line = record { line = line; what = what }
 
--- An error is a fault, except lack of memory.
+-- the fault in an error; lack of memory is none
 abbrev pub told : BenchError → Option Fault
 told (Bad line what) = Some (fault_at what line)
 told Memory = None
 
--- what there is without a fault, or the first fault
+-- `a` if there is no fault, else the first fault
 abbrev pub unless_fault : {A : Type 0} → List Fault → A → Result A Fault
 unless_fault [] a = Ok a
 unless_fault (fault ∷ faults) a = Err fault

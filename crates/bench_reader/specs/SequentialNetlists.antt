@@ -18,22 +18,22 @@ abbrev pub flip_flop : Statement → List Name
 flip_flop (Gate output KeepsItsValue inputs) = output ∷ []
 flip_flop statement = []
 
--- the outputs of the flip-flops among some statements
+-- the outputs of the flip-flops among `statements`
 abbrev pub flip_flops : List (ℕ × Statement) → List Name
 flip_flops statements = flat_map (λ (s : ℕ × Statement). flip_flop s.1) statements
 
--- the places of the names that pass a test
+-- the places of the names that pass `test`
 abbrev pub places_where : (Name → Bool) → List Name → List ℕ
 places_where test names = map (λ (n : ℕ × Name). n.0) (filter (λ (n : ℕ × Name). test n.1) (enumerate_from 0 names))
 
--- The device of a text whose flip-flops are taken, and its delayed parts, which are named as their outputs; or the first fault.
+-- The device of `text` with flip-flops taken, and the places of its flip-flops (a part has the name of its output); or the first fault.
 abbrev pub sequential_netlist : List ℕ → Result Sequential Fault
 sequential_netlist text =
     let outputs = flip_flops (filter_map statement_in (readings Taken text)) in
     result_map_both (λ (device : Device). record { device = device; delayed = places_where (is_among outputs) (part_names device.parts) })
     (λ fault. fault) (netlist_with Taken text)
 
--- the names of parts and wires are not longer than those of a file
+-- no name of a part or wire is longer than a name in a file may be
 pub record HasShortNames (device : Device) : Type 0 where
   pub parts : All (λ (part : Component). length part.name ≤ SHORT_NAME_LIMIT) device.parts
   pub wires : All (λ (name : Name). length name ≤ SHORT_NAME_LIMIT) device.wires

@@ -1,4 +1,4 @@
--- What one line of a netlist says, or what is wrong with it.
+-- The statement of one line of a netlist, or its fault.
 use Rattle.std.specs.Prelude.{ℕ, Bool, true, not, ◌&&◌, List, [], ◌∷◌, map, length, Option, Some, None, option_map, Result, Ok, Err, codes, if◌then◌else◌}
 use Rattle.std.specs.Char.{to_ascii_uppercase}
 use Rattle.std.specs.List.{list_any, list_all}
@@ -25,8 +25,8 @@ has_no_mark token = not (list_any is_mark token)
 abbrev pub capitals : List ℕ → List ℕ
 capitals word = map to_ascii_uppercase word
 
--- What a word names, in capital or in small letters: the gate of that word, a buffer by another word, a flip-flop, which keeps its value
--- for a time, or nothing.
+-- What a word names, in letters of any case: the gate of that word; `BUF`, a second word for a buffer; `DFF`, a flip-flop, which keeps its
+-- value for a time; or nothing.
 abbrev pub kind_named : Name → NamedKind
 kind_named word =
     option_map_or Combinational (gate_named (capitals word))
@@ -41,14 +41,14 @@ pub data Statement : Type 0 where
   Output : (signal : Name) → Statement
   Gate : (output : Name) (kind : NamedKind) (inputs : List Name) → Statement
 
--- words with a comma between each two, and a closing bracket
+-- the words, if the tokens are words with commas between them and a closing bracket
 abbrev pub listed_from : List (List ℕ) → Option (List Name)
 listed_from (x ∷ mark ∷ []) = if has_no_mark x && same_name mark (codes ")") then Some (x ∷ []) else None
 listed_from (x ∷ mark ∷ y ∷ rest) =
     if has_no_mark x && same_name mark (codes ",") then option_map (λ names. x ∷ names) (listed_from (y ∷ rest)) else None
 listed_from tokens = None
 
--- what is after an opening bracket
+-- the inputs, if the tokens are what follows an opening bracket
 abbrev pub inputs_in : List (List ℕ) → Option (List Name)
 inputs_in (mark ∷ []) = if same_name mark (codes ")") then Some [] else None
 inputs_in tokens = listed_from tokens
@@ -66,20 +66,20 @@ statement_of tokens = None
 
 -- ---- faults
 
--- the gate that a part is: a flip-flop is a buffer
+-- the gate of a part: a flip-flop is a buffer
 abbrev pub part_gate : NamedKind → Option Kind
 part_gate (Combinational gate) = Some gate
 part_gate Sequential = Some Buff
 part_gate Unknown = None
 
--- A flip-flop that is refused is reported whatever its inputs; one that is taken has those of a buffer. A kind that is not known is
--- reported, or a number of inputs that it does not take.
+-- the fault of a kind with this number of inputs: a refused flip-flop, whatever its inputs; else an unknown kind; else a number of inputs
+-- that the kind does not take. A flip-flop that is taken has one input, as a buffer
 abbrev pub kind_fault : FlipFlops → ℕ → NamedKind → Option BenchFault
 kind_fault Refused inputs Sequential = Some KeepsItsValue
 kind_fault flip_flops inputs kind =
     option_map_or (λ gate. if takes_inputs (rule gate) inputs then None else Some WrongInputs) (part_gate kind) (Some NoKind)
 
--- A signal that is no name is reported before the kind, and a kind that is not known before its inputs.
+-- the fault of a statement: first a signal that is no name, then the fault of the kind
 abbrev pub statement_fault : FlipFlops → Statement → Option BenchFault
 statement_fault flip_flops (Input signal) = if is_short_name signal then None else Some NoName
 statement_fault flip_flops (Output signal) = if is_short_name signal then None else Some NoName
@@ -93,6 +93,6 @@ reading_of flip_flops [] = Ok None
 reading_of flip_flops (t ∷ ts) =
     option_map_or (λ s. option_map_or Err (statement_fault flip_flops s) (Ok (Some s))) (statement_of (t ∷ ts)) (Err NoForm)
 
--- A line says nothing or makes a statement, or has a fault.
+-- the statement of a line, nothing for a line without tokens, or its fault
 abbrev pub reading : FlipFlops → List ℕ → Result (Option Statement) BenchFault
 reading flip_flops line = reading_of flip_flops (tokens true (uncommented line))

@@ -16,7 +16,7 @@ use crate::statement::{Inputs, NumberedStatement, Statement, has_no_mark};
 use device_model::{BuildError, Component, Device, Name, WIRE_LIMIT, Wires};
 use std::alloc::{AllocError, Global};
 
-// The place of the wire of a driven signal.
+// Returns the place of a driven signal's wire.
 fn place_of(signals: &Signals<'_>, signal: &[u8]) -> u32
     requires { length signals.now.entries ≤ WIRE_LIMIT }
     ensures { result ≡ place_in (keys_of (signals_in signals.now)) signal.now }
@@ -24,7 +24,7 @@ fn place_of(signals: &Signals<'_>, signal: &[u8]) -> u32
     signals.get_index_of(&signal).unwrap_or(signals.len()) as u32
 }
 
-// The places of a gate's inputs and then of its output.
+// Returns the places of a gate's inputs, then of its output.
 fn ports_of(
     alloc: Global,
     signals: &Signals<'_>,
@@ -45,7 +45,7 @@ fn ports_of(
     Ok(Wires::of(ports))
 }
 
-// The part of a gate or of a flip-flop.
+// Makes the part of a gate or of a flip-flop.
 fn part_of(
     alloc: Global,
     signals: &Signals<'_>,
@@ -102,7 +102,7 @@ fn wires_of(alloc: Global, signals: &Signals<'_>) -> Result<Vec<Name>, AllocErro
     Ok(wires)
 }
 
-/// The device of statements that were tested, with their driven signals. Only memory can be wanting.
+/// Builds the device of statements without a fault and their driven signals. The only error is lack of memory.
 pub fn assemble(
     alloc: Global,
     signals: &Signals<'_>,
@@ -117,7 +117,7 @@ pub fn assemble(
         Ok(device) => Ok(device),
         Err(error) => match error {
             BuildError::Memory => Err(BenchError::Memory),
-            // The statements have no fault, so nothing else is wrong with their parts and wires.
+            // The statements have no fault, so their parts and wires have none.
             _ => unreachable!(),
         },
     }

@@ -4,8 +4,8 @@ ghost use Rattle.bench_reader.specs.declared.fault.BenchError.TheVariants.{Memor
 
 use std::alloc::{AllocError, AllocFailed};
 
-/// What is wrong in a netlist. The first line with one of the first five counts, with its first one; if no line has one,
-/// the first line with `DrivenTwice`, then the first with `Undriven`, and at last `TooMany`.
+/// The fault of a netlist. If lines have one of the first five, the first such line is reported, with its first fault. Else
+/// it is the first line with `DrivenTwice`, else the first with `Undriven`, else `TooMany`.
 #[derive(Clone, Copy, Debug, PartialEq, Eq)]
 pub enum BenchFault {
     /// The line has none of the forms.
@@ -14,11 +14,11 @@ pub enum BenchFault {
     Name,
     /// The kind of a gate is not known.
     Kind,
-    /// The kind does not take so many inputs.
+    /// The kind does not take this number of inputs.
     Inputs,
     /// The kind keeps its value from one time to the next: `DFF`.
     Sequential,
-    /// A line above drives the signal already; that it comes from outside may be said again.
+    /// A line above drives the signal already. `INPUT` may repeat an `INPUT`.
     DrivenTwice,
     /// No line drives a signal that is used.
     Undriven,
@@ -27,21 +27,20 @@ pub enum BenchFault {
 }
 
 impl BenchFault {
-    /// The number of the fault, 1 to 8.
+    /// Returns the number of the fault, 1 to 8.
     pub fn number(self) -> u32
         ensures { result ≡ (fault_row self).0 }
     {
         self.row().0
     }
 
-    /// The name of the fault, as it is printed.
+    /// Returns the name of the fault, as it is printed.
     pub fn name(self) -> &'static str
         ensures { result.now ≡ (fault_row self).1 }
     {
         self.row().1
     }
 
-    // Its number and its name.
     fn row(self) -> (u32, &'static str)
         ensures number { result.0 ≡ (fault_row self).0 }
         ensures name { result.1.now ≡ (fault_row self).1 }
@@ -64,7 +63,7 @@ impl BenchFault {
 pub enum BenchError {
     /// The text has a fault in this line, counted from 1; `TooMany` is of line 0.
     Bad { line: u32, what: BenchFault },
-    /// There was no memory.
+    /// Memory ran out.
     Memory,
 }
 

@@ -16,7 +16,7 @@ pub enum FlipFlops {
     Taken,
 }
 
-/// What the word of a kind names.
+/// The kind that a word names.
 #[derive(Clone, Copy, Debug, PartialEq, Eq)]
 pub enum NamedKind {
     /// A gate, whose output follows its inputs at once.
@@ -27,7 +27,7 @@ pub enum NamedKind {
 }
 
 impl NamedKind {
-    /// The gate that the part is: a flip-flop is a buffer.
+    /// Returns the gate of the part: a flip-flop is a buffer.
     pub fn part_gate(self) -> Option<Kind>
         ensures { result ≡ part_gate self }
     {
@@ -39,7 +39,7 @@ impl NamedKind {
     }
 }
 
-// Whether a word is a keyword of capital letters, which may be written in capital letters, small letters or both.
+// Whether a word, in letters of any case, is the keyword, which is in capital letters.
 pub fn spells_in_any_case(word: &[u8], keyword: &[u8]) -> bool
     requires { list_all is_capital keyword.now ≡ true }
     ensures { result ≡ same_name (capitals word.now) keyword.now }
@@ -47,7 +47,7 @@ pub fn spells_in_any_case(word: &[u8], keyword: &[u8]) -> bool
     word.eq_ignore_ascii_case(keyword)
 }
 
-// The gate that a word names, in capital letters, small letters or both.
+// Finds the gate that a word names, in letters of any case.
 fn gate_spelled(word: &[u8]) -> Option<Kind>
     ensures { result ≡ gate_named (capitals word.now) }
 {
@@ -59,7 +59,7 @@ fn gate_spelled(word: &[u8]) -> Option<Kind>
     None
 }
 
-/// The kind that a word names.
+/// Finds the kind that a word names, in letters of any case.
 pub fn kind_named(word: &[u8]) -> NamedKind
     ensures { result ≡ kind_named word.now }
 {

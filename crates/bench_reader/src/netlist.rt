@@ -16,7 +16,7 @@ use device_model::{Device, PART_LIMIT, WIRE_LIMIT};
 use std::alloc::Global;
 use text_rules::{Lines, TEXT_LIMIT};
 
-// The statements of the lines, or the first fault of a line.
+// Reads the statements of the lines; the error is the first fault of a single line.
 pub(crate) fn statements_in<'a>(
     alloc: Global,
     flip_flops: FlipFlops,
@@ -41,14 +41,13 @@ pub(crate) fn statements_in<'a>(
     Ok(statements)
 }
 
-// Whether there are too many gates or too many driven signals.
 fn is_too_large(signals: &Signals<'_>, statements: &[NumberedStatement<'_>]) -> bool
     ensures { result ≡ is_too_large (map unnumbered statements.now) (keys_of (signals_in signals.now)) }
 {
     gate_count(statements) > PART_LIMIT || signals.len() > WIRE_LIMIT
 }
 
-// The device of statements of which none has a fault alone, or the first fault that they have together.
+// Builds the device of statements that have no fault by themselves; the error is their first fault together.
 pub(crate) fn device_of(
     alloc: Global,
     statements: &[NumberedStatement<'_>],

@@ -16,16 +16,16 @@ use indexmap::IndexSet;
 use std::alloc::{AllocError, Global};
 use text_rules::TEXT_LIMIT;
 
-/// A netlist with flip-flops. Each puts out at a time what its input was at the time before.
+/// A netlist with flip-flops. The output of each at a time is its input at the time before.
 #[derive(Drop)]
 pub struct Sequential {
     /// Its parts are the gates and the flip-flops, which are buffers.
     pub device: Device,
-    /// The places of the parts that are flip-flops, upwards.
+    /// The places of the parts that are flip-flops, in rising order.
     pub delayed: Wires,
 }
 
-// Keeps the output of a flip-flop.
+// Adds the output of a flip-flop to the set.
 fn keep<'a>(outputs: &mut IndexSet<&'a [u8]>, statement: &Statement<'a>) -> Result<(), AllocError>
     ensures { OnOk result ((name : Bytes) → is_kept outputs.new name
         ≡ (is_kept outputs.old name || is_among (flip_flop (meaning statement.now)) name)) }
@@ -38,7 +38,6 @@ fn keep<'a>(outputs: &mut IndexSet<&'a [u8]>, statement: &Statement<'a>) -> Resu
     Ok(())
 }
 
-// The outputs of all flip-flops.
 fn flip_flops<'a>(
     alloc: Global,
     statements: &[NumberedStatement<'a>],
@@ -53,7 +52,7 @@ fn flip_flops<'a>(
     Ok(outputs)
 }
 
-// The places of the parts that have a name of a set.
+// Returns the places of the parts whose name is in the set.
 fn places_of<'a>(
     alloc: Global,
     outputs: &IndexSet<&'a [u8]>,
@@ -71,7 +70,6 @@ fn places_of<'a>(
     Ok(Wires::of(places))
 }
 
-// The places of the parts that are flip-flops.
 fn delayed_in<'a>(
     alloc: Global,
     parts: &'a [Component],
@@ -85,7 +83,7 @@ fn delayed_in<'a>(
     places_of(alloc, &outputs, parts)
 }
 
-/// Reads the netlist of a text of at most 16,777,216 bytes, in which there may be flip-flops.
+/// Reads the netlist of a text of at most 16,777,216 bytes, which may have flip-flops.
 ///
 /// The device has a part for each gate and each flip-flop, and a wire for each of them and for each signal from outside. Memory
 /// may run out at any time; any other error is the fault of the text.

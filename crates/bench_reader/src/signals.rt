@@ -20,10 +20,10 @@ pub enum Driver {
     Gate,
 }
 
-/// The driven signals, in the order in which the text drives them first. The place of a signal is that of its wire.
+/// The driven signals, in the order in which the text first drives them. A signal has the place of its wire.
 pub type Signals<'a> = IndexMap<&'a [u8], Driver>;
 
-// A gate drives what nothing above drives; what comes from outside may be said again, but no gate above drives it.
+// A gate may drive only a signal that is not driven above. An `INPUT` may repeat, but no gate above may drive it.
 fn drive<'a>(signals: &mut Signals<'a>, numbered: &NumberedStatement<'a>) -> Result<(), BenchError>
     ensures { Fulfils (λ _. signals_in signals.new) told (driven_more (signals_in signals.old) (with_number numbered.now)) result }
 {
@@ -45,7 +45,7 @@ fn drive<'a>(signals: &mut Signals<'a>, numbered: &NumberedStatement<'a>) -> Res
     }
 }
 
-/// All driven signals, or the first line that drives one again.
+/// Returns all driven signals, or the first line that drives one again.
 pub fn signals_of<'a>(
     alloc: Global,
     statements: &[NumberedStatement<'a>],
@@ -65,7 +65,6 @@ fn is_driven(signals: &Signals<'_>, signal: &[u8]) -> bool
     signals.contains_key(&signal)
 }
 
-// Whether all inputs of a gate are driven.
 fn are_driven(signals: &Signals<'_>, inputs: Inputs<'_>) -> bool
     ensures { result ≡ list_all (is_among (keys_of (signals_in signals.now))) (input_names inputs.entry) }
 {
@@ -77,7 +76,7 @@ fn are_driven(signals: &Signals<'_>, inputs: Inputs<'_>) -> bool
     true
 }
 
-// Whether all signals are driven that a line uses.
+// Whether each signal that a statement uses is driven.
 fn has_driven(signals: &Signals<'_>, statement: &Statement<'_>) -> bool
     ensures { result ≡ list_all (is_among (keys_of (signals_in signals.now))) (used (meaning statement.now)) }
 {
@@ -88,7 +87,7 @@ fn has_driven(signals: &Signals<'_>, statement: &Statement<'_>) -> bool
     }
 }
 
-/// The first line that uses a signal which no line drives.
+/// Finds the first line that uses a signal which no line drives.
 pub fn first_undriven(signals: &Signals<'_>, statements: &[NumberedStatement<'_>]) -> Option<u32>
     ensures { result ≡ first_undriven (keys_of (signals_in signals.now)) (map with_number statements.now) }
 {

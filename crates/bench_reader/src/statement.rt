@@ -25,8 +25,8 @@ pub enum Statement<'a> {
     },
 }
 
-/// The inputs of a gate: what follows the opening bracket in its line. It is cut again wherever they are read, so that a
-/// line takes no memory of its own.
+/// The inputs of a gate: the text of its line after the opening bracket. Each reader cuts it into tokens again, so that
+/// a line takes no memory of its own.
 #[derive(Clone, Copy)]
 pub struct Inputs<'a> {
     text: &'a [u8],
@@ -41,7 +41,7 @@ impl<'a> Inputs<'a> {
     }
 }
 
-// What is after the first opening bracket of a line.
+// Returns the text after the first opening bracket, or nothing if there is none.
 fn behind_bracket(line: &[u8]) -> &[u8]
     ensures { result.now ≡ behind_bracket line.now }
 {
@@ -58,7 +58,7 @@ pub struct NumberedStatement<'a> {
     pub statement: Statement<'a>,
 }
 
-/// How many of the statements are gates.
+/// Counts the gates and flip-flops.
 pub fn gate_count(statements: &[NumberedStatement<'_>]) -> usize
     ensures { result ≡ length (flat_map driven_by_gate (map unnumbered statements.now)) }
 {
@@ -71,14 +71,14 @@ pub fn gate_count(statements: &[NumberedStatement<'_>]) -> usize
     count
 }
 
-/// Whether a token is no mark.
+/// Whether no byte of a token is a mark.
 pub fn has_no_mark(token: &[u8]) -> bool
     ensures { result ≡ has_no_mark token.now }
 {
     !token.iter().any(|byte| is_mark(*byte))
 }
 
-// Whether a word and what is left are words with a comma between each two, and a closing bracket.
+// Whether `word` and the tokens left are words with commas between them and a closing bracket.
 fn are_listed<'a>(mut word: &'a [u8], mut tokens: Tokens<'a>) -> bool
     ensures { result ≡ is_some (listed_from (word.entry.now ∷ tokens_left tokens.entry)) }
 {
@@ -96,7 +96,7 @@ fn are_listed<'a>(mut word: &'a [u8], mut tokens: Tokens<'a>) -> bool
     false
 }
 
-// Whether words with a comma between each two, or none, and a closing bracket are all that is left.
+// Whether the tokens left are words with commas between them, or no word, and a closing bracket.
 fn is_list(mut tokens: Tokens<'_>) -> bool
     ensures { result ≡ is_some (inputs_in (tokens_left tokens.entry)) }
 {
@@ -107,7 +107,7 @@ fn is_list(mut tokens: Tokens<'_>) -> bool
     }
 }
 
-// Whether a closing bracket is all that is left.
+// Whether the tokens left are one closing bracket.
 fn closes(mut tokens: Tokens<'_>) -> bool
     ensures { result ≡ is_close (tokens_left tokens.entry) }
 {
@@ -117,7 +117,7 @@ fn closes(mut tokens: Tokens<'_>) -> bool
     }
 }
 
-// `signal )` after a keyword and the opening bracket.
+// Reads `signal )` after a keyword and the opening bracket.
 fn signal_of<'a>(keyword: &[u8], mut tokens: Tokens<'a>) -> Option<Statement<'a>>
     ensures { option_map meaning result ≡ statement_of (keyword.now ∷ codes "(" ∷ tokens_left tokens.entry) }
 {
@@ -134,7 +134,7 @@ fn signal_of<'a>(keyword: &[u8], mut tokens: Tokens<'a>) -> Option<Statement<'a>
     }
 }
 
-// `KIND ( inputs )` after the output and the equals sign of a line.
+// Reads `KIND ( inputs )` after the output and the equals sign of a line.
 fn gate_of<'a>(line: &'a [u8], output: &'a [u8], mut tokens: Tokens<'a>) -> Option<Statement<'a>>
     requires { line_tokens line.now ≡ output.now ∷ codes "=" ∷ tokens_left tokens }
     ensures { option_map meaning result ≡ statement_of (line_tokens line.now) }
@@ -157,7 +157,7 @@ fn gate_of<'a>(line: &'a [u8], output: &'a [u8], mut tokens: Tokens<'a>) -> Opti
     }
 }
 
-// What is after the first token of a line, if it makes a statement.
+// Reads the statement of a line from what follows its first token.
 fn statement_of<'a>(
     line: &'a [u8],
     first: &'a [u8],
@@ -173,7 +173,7 @@ fn statement_of<'a>(
     }
 }
 
-// How many inputs a gate has, if all of them are names of signals.
+// Counts the inputs of a gate, if each may name a signal.
 fn count_names(inputs: Inputs<'_>) -> Option<usize>
     ensures { result ≡ count_names (input_names inputs.entry) }
 {
@@ -189,7 +189,7 @@ fn count_names(inputs: Inputs<'_>) -> Option<usize>
     Some(count)
 }
 
-// What is wrong with the kind of a gate, or else with the number of its inputs.
+// Finds the fault of a gate's kind, or else of its number of inputs.
 fn kind_fault(flip_flops: FlipFlops, kind: NamedKind, inputs: usize) -> Option<BenchFault>
     ensures { result ≡ kind_fault flip_flops inputs kind }
 {
@@ -202,7 +202,7 @@ fn kind_fault(flip_flops: FlipFlops, kind: NamedKind, inputs: usize) -> Option<B
     }
 }
 
-// What is wrong with a statement: a name, or else its kind, or else the number of inputs.
+// Finds the fault of a statement: a name, else its kind, else its number of inputs.
 fn fault_of(flip_flops: FlipFlops, statement: &Statement<'_>) -> Option<BenchFault>
     ensures { result ≡ statement_fault flip_flops (meaning statement.now) }
 {
@@ -221,7 +221,7 @@ fn fault_of(flip_flops: FlipFlops, statement: &Statement<'_>) -> Option<BenchFau
     }
 }
 
-/// Reads one line.
+/// Reads one line: `None` if it has no tokens.
 pub fn read_line(flip_flops: FlipFlops, line: &[u8]) -> Result<Option<Statement<'_>>, BenchFault>
     ensures { meaning_of_line result ≡ reading flip_flops line.now }
 {

@@ -1,4 +1,4 @@
--- What the code's values of a line mean, and the tests of its parts.
+-- The meaning of the code's values for a line, and the tests of its parts.
 use Rattle.std.specs.Prelude.{ℕ, ◌+◌, ◌==◌, Bool, true, false, ◌&&◌, List, [], ◌∷◌, length, Option, Some, None, option_map, drop, codes, Result, nat_le, if◌then◌else◌}
 use Rattle.std.specs.List.{list_all, filter, position_or_len}
 use Rattle.std.specs.Result.{result_map_both}
@@ -18,7 +18,7 @@ is_capital b = nat_le 65 b && nat_le b 90
 abbrev pub line_tokens : List ℕ → List (List ℕ)
 line_tokens line = tokens true line
 
--- what is after the first opening bracket
+-- the text after the first opening bracket
 abbrev pub behind_bracket : List ℕ → List ℕ
 behind_bracket line = drop (position_or_len (λ b. b == 40) line + 1) line
 
@@ -44,12 +44,12 @@ unnumbered numbered = meaning numbered.statement
 abbrev pub with_number : NumberedStatement → ℕ × Statement
 with_number numbered = (numbered.line, unnumbered numbered)
 
--- a closing bracket alone
+-- whether the tokens are one closing bracket
 abbrev pub is_close : List (List ℕ) → Bool
 is_close [] = false
 is_close (mark ∷ []) = same_name mark (codes ")")
 is_close (mark ∷ next ∷ rest) = false
 
--- how many names there are, if all of them are names of signals
+-- the number of names, if each may name a signal
 abbrev pub count_names : List Name → Option ℕ
 count_names names = if list_all is_short_name names then Some (length names) else None

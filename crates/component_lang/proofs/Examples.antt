@@ -1,4 +1,4 @@
--- Worked rows: what the definitions make of small texts.
+-- Worked rows: small texts and their designs or faults.
 use Rattle.std.proofs.Common.{◌≡◌, ℕ, zero, suc, List, [], ◌∷◌, ◌++◌, Result, Ok, Err, refl}
 use Rattle.std.specs.Prelude.{codes, replicate}
 use Rattle.text_rules.specs.Names.{Name}
@@ -26,11 +26,11 @@ abbrev arguments_a : ℕ → List ℕ
 arguments_a zero = []
 arguments_a (suc n) = codes " a" ++ arguments_a n
 
--- a part u of a kind, of which all of so many ports are at the wire a
+-- a part u of this kind, with all of its `ports` ports at the wire a
 abbrev part_of_a : List ℕ → ℕ → List ℕ
 part_of_a kind ports = codes "part u " ++ kind ++ arguments_a ports
 
--- ---- refused, each for the first fault of its first line with one
+-- ---- refused for the first fault of the first line with one
 
 row_of_a_letter : design (text_of (codes "type U p" ∷ codes "bad x" ∷ codes "end" ∷ [])) ≡ bad 2 Row
 row_of_a_letter = refl
@@ -47,7 +47,7 @@ cost_of_1001 = refl
 cost_with_a_leading_zero : design (text_of (codes "type C a" ∷ codes "cost 01" ∷ codes "end" ∷ [])) ≡ bad 2 Cost
 cost_with_a_leading_zero = refl
 
--- that it is the second comes before that it is no number
+-- a second cost is reported before one that is no number
 twice_before_cost : design (text_of (codes "type C a" ∷ codes "cost 2" ∷ codes "cost x" ∷ codes "end" ∷ [])) ≡ bad 3 Twice
 twice_before_cost = refl
 
@@ -65,7 +65,7 @@ cost_outside = refl
 
 -- ---- read
 
--- Ok are the rows 00 and 11, and if it is faulty 01: its first port is 0 and its second 1. The block N is on M.
+-- An ok T allows the rows 00 and 11, a faulty one 01 (its first port is 0, its second 1). N has an instance of M.
 two_blocks : design (text_of (codes "# a design" ∷ codes "type T p q" ∷ codes "ok 00" ∷ codes "ok 11 # equal" ∷ codes "bad 01" ∷ codes "end" ∷ []
     ++ codes "block M a b" ∷ codes "wire c" ∷ codes "part u NOT a c" ∷ codes "part v T c b" ∷ codes "end" ∷ []
     ++ codes "block N x" ∷ codes "part m M x x" ∷ codes "end" ∷ codes "top N" ∷ codes "  # the end" ∷ []))

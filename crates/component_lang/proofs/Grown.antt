@@ -1,4 +1,4 @@
--- What stays sound where types, blocks and wires are added.
+-- What stays sound when types, blocks and wires are added.
 use Rattle.std.proofs.Common.{◌≡◌, ℕ, ◌≤◌, true, false, not, List, [], ◌∷◌, ◌++◌, length, refl, sym, ap, ◌∙◌, append_assoc, append-nil, length-append, arith}
 use Rattle.std.specs.Prelude.{◌||◌, nat_lt}
 use Rattle.std.specs.List.{list_any, list_all}
@@ -33,7 +33,7 @@ used_more types types' above n m used l h =
     let taken = ap (λ bs. takes_args (types ++ types') bs used.kind (length used.args)) (sym (append-nil above)) ∙ takes_more types types' above [] used.kind (length used.args) rest.0 in
     and_from _ _ named.0 (and_from _ _ taken (passes_too (λ wire. nat_lt wire n) (λ wire. nat_lt wire m) (λ wire g. below_more n m wire l g) used.args rest.1))
 
--- the parts of a block
+-- what `is_block` says
 pub record IsBlock (types : List Shape) (above : List Block) (block : Block) : Type 0 where
   pub named : list_all is_plain_name block.wires ≡ true
   pub once : are_distinct block.wires ≡ true
@@ -52,7 +52,7 @@ pub are_blocks-types : (types types' : List Shape) (above blocks : List Block) �
 are_blocks-types types types' above [] h = refl
 are_blocks-types types types' above (block ∷ blocks) h = grind (arith, are_blocks-types types types' (above ++ block ∷ []) blocks, passes_too, used_more)
 
--- one block more
+-- one more block
 pub are_blocks-more : (types : List Shape) (above blocks : List Block) (block : Block) → are_blocks types above blocks ≡ true → is_block types (above ++ blocks) block ≡ true
     → are_blocks types above (blocks ++ block ∷ []) ≡ true
 are_blocks-more types above [] block h g = and_from _ _ (ap (λ bs. is_block types bs block) (sym (append-nil above)) ∙ g) refl
@@ -60,7 +60,7 @@ are_blocks-more types above (b ∷ blocks) block h g = grind (arith, append_asso
 
 -- ---- names that differ
 
--- two lists whose names differ, and none of the second is in the first
+-- two lists of different names, if no name is in both
 pub are_distinct-append : (xs ys : List Name) → are_distinct xs ≡ true → are_distinct ys ≡ true → list_any (is_among xs) ys ≡ false → are_distinct (xs ++ ys) ≡ true
 are_distinct-append [] ys h g apart = g
 are_distinct-append (x ∷ xs) ys h g apart =
@@ -76,7 +76,7 @@ are_distinct-append (x ∷ xs) ys h g apart =
         let rest = any_first ns one.1 in
         (or_from _ _ (same_name-sym x n ∙ both.0) rest.0, or_from _ _ both.1 rest.1)
 
--- ---- one block with more wires, or with a part more
+-- ---- a block with more wires or one more part
 
 pub block-wires : (types : List Shape) (above : List Block) (block : Block) (names : List Name) → is_block types above block ≡ true → list_all is_plain_name names ≡ true
     → are_distinct names ≡ true → list_any (is_among block.wires) names ≡ false → is_block types above (record block { wires = block.wires ++ names }) ≡ true

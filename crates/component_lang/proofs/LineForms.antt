@@ -1,4 +1,4 @@
--- What the lines of types and blocks do, by the tests that the code makes.
+-- What the lines of types and blocks do, by the tests of the code.
 use Rattle.std.proofs.Common.{◌≡◌, ℕ, Bool, true, false, List, [], ◌∷◌, ◌++◌, length, codes, Option, None, Result, Ok, Err, Bor, is_some, refl, ap, ◌∙◌, arith}
 use Rattle.std.specs.Prelude.{if◌then◌else◌}
 use Rattle.std.specs.List.{list_all}
@@ -21,7 +21,7 @@ use Rattle.component_lang.proofs.NameLists.{if_plain, if_new, more_names}
 
 -- ---- words
 
--- where no word is left
+-- if no word is left
 pub no_more : (r : Option (Bor (List ℕ))) (left after : Uncut) → YieldsFirstBy (λ (token : Bor (List ℕ)). token.now) tokens_left left r after → is_some r ≡ false → tokens_left left ≡ []
 no_more r left after steps h = grind arith
 
@@ -33,7 +33,7 @@ type_begun reader name n = at reader (InType (record { name = name; ports = n; o
 abbrev pub type_with : Reader → Name → List Name → Result Reader LangFault
 type_with reader name ports = if has_few_ports (length ports) then Ok (type_begun reader name (length ports)) else Err Ports
 
--- by the number of ports, if it is tested
+-- by the test of the number of ports
 pub type_size : (reader : Reader) (name : Name) (ports : List Name) (size : ℕ) {few : Bool} → length ports ≡ size → has_few_ports size ≡ few
     → type_with reader name ports ≡ (if few then Ok (type_begun reader name size) else Err Ports)
 type_size reader name ports size {few} e t = grind arith
@@ -89,7 +89,7 @@ module _ (reader : Reader) (block : Block) (name kind : Name) (args : List Name)
   pub part-fault : (what : LangFault) → places_among part_words block.wires args ≡ Err what → part_line reader block name kind args ≡ Err what
   part-fault what h = grind arith
 
-  -- where all words are names, the line does what its name, its kind and its places say
+  -- if all words are names, the line depends on its name, its kind and its places
   pub part-named : (taken : Bool) (places : Option (List ℕ)) → places_among part_words block.wires args ≡ Ok places → is_among (used_names block.parts) name ≡ taken
       → part_line reader block name kind args ≡ part_after_names taken places
   part-named taken places h t = grind arith

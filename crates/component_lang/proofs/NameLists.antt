@@ -27,16 +27,16 @@ same_key a b = same_name a.now b.now
 pub keys-insert : (ks : List (Bor Name)) (k : Bor Name) → map bytes (insert_key same_key ks k) ≡ insert_key same_name (map bytes ks) k.now
 keys-insert ks k = grind (arith, list_any-map, map-append)
 
--- ---- names that are added
+-- ---- added names
 
 pub same_name-sym : (a b : Name) → same_name a b ≡ same_name b a
 same_name-sym a b = same_from_decides (same_name a b) (same_name b a) (same_name-Decides a b) (λ e. sym (equal_if_same b a e), λ e. same_if_equal b a (sym e))
 
--- a name before others that differ from one another has to differ from them
+-- names are distinct if the rest is distinct and the first is not among it
 pub are_distinct-cons : (n : Name) (names : List Name) → are_distinct (n ∷ names) ≡ (not (is_among names n) && are_distinct names)
 are_distinct-cons n names = grind arith
 
--- a name after those above is among them or is the last
+-- a name of `above ++ n ∷ []` is in `above` or is `n`
 any_after : (above : List Name) (n : Name) (names : List Name) → list_any (is_among (above ++ n ∷ [])) names ≡ (list_any (is_among above) names || is_among names n)
 any_after above n [] = refl
 any_after above n (m ∷ names) = grind (arith, list_any-append, same_name-sym, any_after above n names)
@@ -50,7 +50,7 @@ if_new n r = if n then r else Err Twice
 pub with_name-plain : (above : List Name) (n : Name) → is_plain_name n ≡ true → with_name above n ≡ Ok (insert_key same_name above n, not (is_among above n))
 with_name-plain above n h = grind arith
 
--- names of which a first one may not be new
+-- `above` with `names` after it, if earlier names were all `new`
 abbrev pub more_names : Bool → List Name → List Name → Result (List Name) LangFault
 more_names new above names = if list_all is_plain_name names then (if new && (are_distinct names && not (list_any (is_among above) names)) then Ok (above ++ names) else Err Twice) else Err NoName
 
@@ -59,7 +59,7 @@ pub more_names-first : (new : Bool) (above : List Name) (n : Name) (names added 
     → more_names new above (n ∷ names) ≡ more_names (new && is_new) added names
 more_names-first new above n names added is_new h = grind (arith, append_assoc, any_after)
 
--- a fault of the others is one of all
+-- a fault of the later names is one of all
 pub more_names-fault : (new : Bool) (above names : List Name) (what : LangFault) → more_names true above names ≡ Err what → more_names new above names ≡ Err what
 more_names-fault new above names what h = grind arith
 
@@ -74,7 +74,7 @@ with_name-length above n added new h = grind (arith, length-append)
 abbrev found_or : Bool → List ℕ → Option (List ℕ)
 found_or b xs = if b then Some xs else None
 
--- the places of names after those of names above, of which not all may be known
+-- the places `done`, then those of `names`; `known` is whether each earlier name has one
 abbrev pub more_places : Bool → List ℕ → List Name → List Name → Result (Option (List ℕ)) LangFault
 more_places known done wires names =
     if list_all is_plain_name names then Ok (if known && list_all (is_among wires) names then Some (done ++ map (place_in wires) names) else None) else Err NoName
@@ -93,7 +93,7 @@ more_places-unknown known done wires n names plain h = grind (arith, among_posit
 
 -- ---- names of a list
 
--- the names of a list and one more, which is not there yet
+-- the names of a list with a new one added
 pub keys-more : {A : Type 0} (name : A → Name) (ks more : List (Bor Name)) (k : Bor Name) (xs ys : List A) (x : A) → map bytes ks ≡ map name xs → more ≡ insert_key same_key ks k
     → is_among (map name xs) k.now ≡ false → name x ≡ k.now → ys ≡ xs ++ x ∷ [] → map bytes more ≡ map name ys
 keys-more name ks more k xs ys x before added free is behind = grind (arith, keys-insert, map-append)

@@ -50,7 +50,7 @@ blocks-placed : (place : ℕ) (blocks : List Block) → map (λ (b : ℕ × Bloc
 blocks-placed place [] = refl
 blocks-placed place (b ∷ blocks) = ap (λ ks. (b.name, OfBlock place) ∷ ks) (blocks-placed (place + 1) blocks)
 
--- a name is first that of a gate, then that of a type and then that of a block
+-- a name means a gate, else a type, else a block
 kind_named-split : (reader : Reader) (name : Name) → kind_named reader name
     ≡ option_or (option_map Gate (gate_named name)) (option_or (option_map OfShape (position (same_name name) (type_names reader.types))) (option_map OfBlock (position (same_name name) (block_names reader.blocks))))
 kind_named-split reader name =
@@ -77,12 +77,12 @@ pub record IsFree (reader : Reader) (name : Name) : Type 0 where
   pub no_type : is_among (type_names reader.types) name ≡ false
   pub no_block : is_among (block_names reader.blocks) name ≡ false
 
--- a name that has no meaning is neither that of a type nor that of a block
+-- a name without a meaning names neither a type nor a block
 pub free_names : (reader : Reader) (name : Name) → not (is_some (kind_named reader name)) ≡ true → IsFree reader name
 free_names reader name h = grind (arith, kind_named-split, among_position)
 
 -- ---- the place of a block
 
--- the place of a block that a name has is that of a block
+-- a name that means a block has the place of one
 pub kind_named-place : (reader : Reader) (name : Name) (place : ℕ) → kind_named reader name ≡ Some (OfBlock place) → place < length reader.blocks
 kind_named-place reader name place e = grind (arith, kind_named-split, length-map)

@@ -1,4 +1,4 @@
--- Faults that a callee gave, handed on.
+-- Faults of a callee, passed on.
 use Rattle.std.proofs.Common.{◌≡◌, Bool, true, false, Option, List, [], ◌∷◌, Result, Ok, Err, refl, sym, subst, arith}
 use Rattle.std.specs.Prelude.{if◌then◌else◌}
 use Rattle.std.specs.List.{list_any}
@@ -10,12 +10,12 @@ use Rattle.component_lang.specs.Designs.{is_plain_name}
 use Rattle.component_lang.specs.Kinds.{Reader}
 use Rattle.component_lang.specs.inner.Words.{with_names, new_ports}
 
--- a fault of a part of what is expected is one of the whole
+-- a fault expected of a step is expected of the whole
 pub fault-passed : {B D : Type 0} (o : Option LangFault) (one : Result B LangFault) (whole : Result D LangFault)
     → IsExpectedFault o one → ((what : LangFault) → one ≡ Err what → whole ≡ Err what) → IsExpectedFault o whole
 fault-passed o one whole h more = grind arith
 
--- a fault of what is expected under another name
+-- equal results have the same expected faults
 pub fault-same : {B : Type 0} (o : Option LangFault) (one whole : Result B LangFault) → IsExpectedFault o one → whole ≡ one → IsExpectedFault o whole
 fault-same o one whole h e = subst (IsExpectedFault o) (sym e) h
 
@@ -26,6 +26,6 @@ any_among_none (n ∷ names) = any_among_none names
 abbrev if_good : Bool → Bool → List Name → Result (List Name) LangFault
 if_good p b xs = if p then (if b then Ok xs else Err Twice) else Err NoName
 
--- ports that are refused on their own are refused
+-- if the ports alone are refused, so are they with the name
 pub ports-refused : (reader : Reader) (name : Name) (ports : List Name) (what : LangFault) → is_plain_name name ≡ true → with_names [] ports ≡ Err what → new_ports reader name ports ≡ Err what
 ports-refused reader name ports what plain h = grind (arith, any_among_none)

@@ -29,7 +29,7 @@ pub row_number-fits : (bits : List Bool) → row_number bits < 2 ^ length bits
 row_number-fits [] = omega arith
 row_number-fits (bit ∷ bits) = grind (arith, row_number-fits bits)
 
--- a power of a number below 64 fits in 64 bits
+-- 2 to a power below 64 fits 64 bits
 pub shifted : (row : ℕ) → row < 64 → 1 * 2 ^ row % 18446744073709551616 ≡ 2 ^ row
 shifted row l = let below = pow_below row 64 l in omega (arith, below)
 

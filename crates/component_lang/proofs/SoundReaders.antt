@@ -37,11 +37,11 @@ if-keeps n b what r h = grind arith
 unless-keeps : (n : ℕ) (b : Bool) (what : LangFault) (r : Result Reader LangFault) → (b ≡ false → Keeps n r) → Keeps n (if b then Err what else r)
 unless-keeps n b what r h = grind arith
 
--- one of two
+-- either of two results
 either-keeps : (n : ℕ) (b : Bool) (r s : Result Reader LangFault) → Keeps n r → Keeps n s → Keeps n (if b then r else s)
 either-keeps n b r s h g = grind arith
 
--- a cost that is read may be one
+-- a cost that is read is allowed
 cost-fits : (word : List ℕ) → is_cost (unwrap_or (plain_number_in 4 1 COST_LIMIT word) 1) ≡ true
 cost-fits word = grind arith
 

@@ -1,4 +1,4 @@
--- What each line of a design adds to what was read above it, or what its fault is.
+-- What each line of a design adds to what is read above it, or its fault.
 use Rattle.std.specs.Prelude.{ℕ, Bool, not, ◌&&◌, List, [], ◌∷◌, ◌++◌, map, length, ◌==◌, Option, Some, None, Result, Ok, Err, codes, is_some, unwrap_or, if◌then◌else◌}
 use Rattle.std.specs.List.{list_any, list_all}
 use Rattle.std.specs.Result.{result_map_both}
@@ -19,18 +19,18 @@ use Rattle.component_lang.specs.Designs.{is_plain_name, are_distinct, used_names
 use Rattle.component_lang.specs.Kinds.{OpenType, Section, Outside, InType, InBlock, AfterTop, Reader, kind_named}
 use Rattle.component_lang.specs.TypeRows.{is_row, row_in, with_row, shape_of}
 
--- Of the tests of a line the first that fails is its fault. If none does, the reader goes on.
+-- the fault of the first test that fails, or `reader` if none does
 abbrev pub tested : List (Bool × LangFault) → Reader → Result Reader LangFault
 tested [] reader = Ok reader
 tested (t ∷ tests) reader = if t.0 then tested tests reader else Err t.1
 
--- a reader whose next line is in another section
+-- `reader`, with its next line in another section
 abbrev pub at : Reader → Section → Reader
 at reader section = record reader { section = section }
 
 -- ---- outside of types and blocks
 
--- a name that is free for a type or a block, and ports that differ
+-- whether a name is free for a type or a block, and its ports have different names
 abbrev pub is_new : Reader → Name → List Name → Bool
 is_new reader name ports = not (is_some (kind_named reader name)) && are_distinct ports
 
@@ -55,7 +55,7 @@ top_of_kind reader kind = Err Unknown
 abbrev pub top_line : Reader → Name → Result Reader LangFault
 top_line reader name = if is_plain_name name then top_of_kind reader (kind_named reader name) else Err NoName
 
--- a line by its words
+-- a line outside, by its words
 abbrev pub outside : Reader → List (List ℕ) → Result Reader LangFault
 outside reader (word ∷ name ∷ ports) =
     if same_name word (codes "type") then type_line reader name ports
@@ -78,13 +78,13 @@ bad_line reader open_type row =
     tested ((is_row open_type.ports row, Row) ∷ [])
     (at reader (InType (record open_type { bad = Some (with_row (unwrap_or open_type.bad 0) (row_in row)) })))
 
--- `cost N`, which may be once, N from 1 to 1000
+-- `cost N`, at most once in a type, N from 1 to 1000
 abbrev pub cost_line : Reader → OpenType → List ℕ → Result Reader LangFault
 cost_line reader open_type word =
     let cost = plain_number_in 4 1 COST_LIMIT word in
     tested ((not (is_some open_type.cost), Twice) ∷ (is_some cost, Cost) ∷ []) (at reader (InType (record open_type { cost = cost })))
 
--- a line by its words, of which `end` closes the type
+-- a line by its words: `end` closes the type
 abbrev pub in_type : Reader → OpenType → List (List ℕ) → Result Reader LangFault
 in_type reader open_type (word ∷ []) =
     if same_name word (codes "end") then Ok (record reader { types = reader.types ++ shape_of open_type ∷ []; section = Outside })
@@ -104,11 +104,11 @@ wire_line reader block names =
     tested ((list_all is_plain_name names, NoName) ∷ (are_distinct names && not (list_any (is_among block.wires) names), Twice) ∷ [])
     (at reader (InBlock (record block { wires = block.wires ++ names })))
 
--- the places of names among the wires of a block, if all are there
+-- the places of `names` among the wires of a block, if all are there
 abbrev pub places_in : List Name → List Name → Option (List ℕ)
 places_in wires names = if list_all (is_among wires) names then Some (map (place_in wires) names) else None
 
--- The part of this name, kind and places. How many there are is asked only if all is known.
+-- the part of this name, kind and places; the number of places is tested last
 abbrev pub part_of : Reader → Name → Option UsedKind → Option (List ℕ) → Result Used LangFault
 part_of reader name None places = Err Unknown
 part_of reader name (Some kind) None = Err Unknown
@@ -124,7 +124,7 @@ part_line reader block name kind args =
     (part_of reader name (kind_named reader kind) (places_in block.wires args)))
     else Err NoName
 
--- a line by its words, of which `end` closes the block
+-- a line by its words: `end` closes the block
 abbrev pub in_block : Reader → Block → List (List ℕ) → Result Reader LangFault
 in_block reader block (word ∷ []) =
     if same_name word (codes "end") then Ok (record reader { blocks = reader.blocks ++ block ∷ []; section = Outside })
@@ -139,7 +139,7 @@ in_block reader block line = Err NotHere
 
 -- ---- any line
 
--- A line without words does nothing, and nothing may follow the top.
+-- A line without words adds nothing. No other line may follow the top.
 abbrev pub at_section : Reader → Section → List (List ℕ) → Result Reader LangFault
 at_section reader section [] = Ok reader
 at_section reader Outside line = outside reader line
@@ -147,6 +147,6 @@ at_section reader (InType open_type) line = in_type reader open_type line
 at_section reader (InBlock block) line = in_block reader block line
 at_section reader (AfterTop top) line = Err PastTop
 
--- what was read after a line
+-- what is read after `line`
 abbrev pub after_line : Reader → List ℕ → Result Reader LangFault
 after_line reader line = at_section reader reader.section (words (uncommented line))

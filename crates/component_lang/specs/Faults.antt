@@ -1,4 +1,4 @@
--- How the faults of designs are numbered and named.
+-- The numbers and names of the faults of designs.
 use Rattle.std.specs.Prelude.{ℕ, List, codes, Option, Some, None}
 use Rattle.component_lang.specs.declared.fault.LangFault.{LangFault}
 use Rattle.component_lang.specs.declared.fault.LangFault.TheVariants.{Line, Name, Twice, Unknown, Ports, Row, NoTop, AfterTop, Cost}
@@ -18,7 +18,7 @@ fault_row NoTop = (7, codes "no top")
 fault_row AfterTop = (8, codes "after top")
 fault_row Cost = (9, codes "cost")
 
--- An error is a fault, except lack of memory.
+-- the fault in an error; lack of memory is none
 abbrev pub told : LangError → Option Fault
 told (Bad line what) = Some (record { line = line; what = what })
 told Memory = None

@@ -1,4 +1,4 @@
--- What is closed above a line, and which kind of parts a name means there.
+-- What is closed above a line, and the kind of parts that a name means there.
 use Rattle.std.specs.Prelude.{ℕ, List, ◌++◌, map, Option}
 use Rattle.std.specs.List.{enumerate_from}
 use Rattle.std.specs.Map.{lookup}
@@ -9,8 +9,8 @@ use Rattle.component_lang.specs.declared.design.UsedKind.TheVariants.{Gate, Shap
 use Rattle.component_lang.specs.declared.design.Shape.{Shape}
 use Rattle.component_lang.specs.declared.design.Block.{Block}
 
--- A type while its lines are read. Without a line `bad` every row is allowed if the part is faulty, and without a line
--- `cost` a failure costs 1.
+-- A type while its lines are read. Without a `bad` line, a faulty part allows every row. Without a `cost` line, a
+-- failure costs 1.
 pub record OpenType : Type 0 where
   pub name : Name
   pub ports : ℕ
@@ -18,20 +18,20 @@ pub record OpenType : Type 0 where
   pub bad : Option ℕ
   pub cost : Option ℕ
 
--- where a line is: outside, in a type, in a block, or after the top
+-- the place of a line: outside, in a type, in a block, or after the top
 pub data Section : Type 0 where
   Outside : Section
   InType : (open_type : OpenType) → Section
   InBlock : (block : Block) → Section
   AfterTop : (top : ℕ) → Section
 
--- what was closed above a line, and where the line is
+-- what is closed above a line, and the place of the line
 pub record Reader : Type 0 where
   pub types : List Shape
   pub blocks : List Block
   pub section : Section
 
--- Gates, types and blocks share one set of names. Types and blocks are meant by their places.
+-- the kind that a name means: gates, types and blocks share one set of names
 abbrev pub kind_named : Reader → Name → Option UsedKind
 kind_named reader name = lookup (same_name name) (map (λ (word, gate). (word, Gate gate)) gate_words
     ++ (map (λ (t : ℕ × Shape). (t.1.name, OfShape t.0)) (enumerate_from 0 reader.types)

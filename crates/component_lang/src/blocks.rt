@@ -18,7 +18,7 @@ use indexmap::IndexSet;
 use std::alloc::Global;
 use text_rules::Tokens;
 
-/// A block while its lines are read. Its ports are the first of its wires.
+/// A block while its lines are read. Its ports are its first wires.
 #[derive(Drop)]
 pub struct OpenBlock<'a> {
     pub name: &'a [u8],
@@ -30,7 +30,7 @@ pub struct OpenBlock<'a> {
     ghost few: { length wires.keys ≤ TEXT_LIMIT },
 }
 
-// The places of a part's arguments, if each of them is a wire. First they, the part and its kind all have to be names.
+// Finds the places of a part's arguments, if each is a wire. The part, its kind and the arguments must all be names.
 fn part_places<'a>(
     alloc: Global,
     wires: &IndexSet<&'a [u8]>,
@@ -56,7 +56,7 @@ impl<'a> OpenBlock<'a> {
     ghost use Rattle.component_lang.specs.DesignLines.{at, wire_line, part_line};
     ghost use Rattle.component_lang.specs.inner.Views.{block_in, library_in};
 
-    /// A block without parts, whose wires are its ports.
+    /// Makes a block without parts, whose wires are its ports.
     pub fn new(alloc: Global, name: &'a [u8], ports: IndexSet<&'a [u8]>) -> Self
         requires { length ports.keys ≤ TEXT_LIMIT }
         ensures { block_in result ≡ record {
@@ -115,7 +115,7 @@ impl<'a> OpenBlock<'a> {
         Ok(self)
     }
 
-    /// The block whose lines have ended.
+    /// Returns the block after its last line.
     pub fn close(self, alloc: Global) -> Result<Block, LineError>
         requires named { is_plain_name self.name.now ≡ true }
         requires wires { list_all is_plain_name (names_in self.wires) ≡ true }

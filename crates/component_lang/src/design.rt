@@ -11,8 +11,8 @@ pub struct Shape {
     pub table: Table,
 }
 
-/// What a part of a block is: a gate, a part of a type or an instance of a block, by their places in the design. In a design no
-/// gate is of the kind `Table`, since no number of arguments is right for that.
+/// The kind of a part of a block: a gate, or the place of its type or block in the design. In a design no gate has the kind
+/// `Table`, since that takes no number of arguments.
 #[derive(Clone, Copy, Debug, PartialEq, Eq)]
 pub enum UsedKind {
     Gate(Kind),
@@ -20,7 +20,7 @@ pub enum UsedKind {
     Block(u32),
 }
 
-/// A part of a block. Its arguments are places of wires of the block.
+/// A part of a block. Its arguments are the places of wires of the block.
 #[derive(Debug, Drop)]
 pub struct Used {
     pub name: Name,
@@ -44,14 +44,14 @@ impl Model for Uses {
 }
 
 impl Uses {
-    /// The list that a vector holds.
+    /// Makes the list of a vector.
     pub fn of(items: Vec<Used>) -> Uses
         ensures { result ≡ items.items }
     {
         Uses { items }
     }
 
-    /// The parts, in the order in which the block has them.
+    /// Returns the parts, in their order in the block.
     pub fn as_slice(&self) -> &[Used]
         ensures { result.now ≡ self.now }
     {
@@ -59,7 +59,7 @@ impl Uses {
     }
 }
 
-/// A block: its ports are the first of its wires.
+/// A block. Its ports are its first wires.
 #[derive(Debug, Drop)]
 pub struct Block {
     pub name: Name,
@@ -95,14 +95,14 @@ impl Design {
         Design { types, blocks, top }
     }
 
-    /// The types, in the order of the text.
+    /// Returns the types, in the order of the text.
     pub fn types(&self) -> &[Shape]
         ensures { result.now ≡ self.now.types }
     {
         self.types.as_slice()
     }
 
-    /// The blocks, in the order of the text: each uses only blocks before it.
+    /// Returns the blocks, in the order of the text. Each uses only blocks before it.
     pub fn blocks(&self) -> &[Block]
         ensures blocks { result.now ≡ self.now.blocks }
         ensures valid { is_design self.now ≡ true }
@@ -110,7 +110,7 @@ impl Design {
         self.blocks.as_slice()
     }
 
-    /// The place of the top block.
+    /// Returns the place of the top block.
     pub fn top(&self) -> u32
         ensures { result ≡ self.now.top }
     {

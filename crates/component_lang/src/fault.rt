@@ -4,20 +4,20 @@ ghost use Rattle.component_lang.specs.declared.fault.LangError.TheVariants.{Memo
 
 use std::alloc::{AllocError, AllocFailed};
 
-/// What is wrong in a design. The first line with a fault counts, with its first one; `NoTop` comes last.
+/// The fault of a design. The first fault of the first line with one is reported; `NoTop` comes last.
 #[derive(Clone, Copy, Debug, PartialEq, Eq)]
 pub enum LangFault {
-    /// The first word may not be here, or has too few or too many words after it.
+    /// The first word is not allowed here, or too few or too many words follow it.
     Line,
-    /// A word that has to be a name is none: 1 to 64 bytes of names, without a dot.
+    /// A word must be a name, 1 to 64 name bytes without a dot, and is not.
     Name,
-    /// A type or block, a port, a wire or a part of this name is there already, or the cost of this type.
+    /// A gate, type, block, port, wire or part has this name already, or the type has a cost.
     Twice,
-    /// The kind is not closed above, an argument is no wire of the block, or the top is no block.
+    /// The kind is no gate and is not closed above, an argument is no wire of the block, or the top is no block.
     Unknown,
     /// A type has no port or more than 6, or a part has more or fewer arguments than its kind takes.
     Ports,
-    /// A row has not as many characters 0 and 1 as the type has ports.
+    /// A row is not a character 0 or 1 for each port of the type.
     Row,
     /// The text ends without a top.
     NoTop,
@@ -28,21 +28,20 @@ pub enum LangFault {
 }
 
 impl LangFault {
-    /// The number of the fault, 1 to 9.
+    /// Returns the number of the fault, 1 to 9.
     pub fn number(self) -> u32
         ensures { result ≡ (fault_row self).0 }
     {
         self.row().0
     }
 
-    /// The name of the fault, as it is printed.
+    /// Returns the name of the fault, as it is printed.
     pub fn name(self) -> &'static str
         ensures { result.now ≡ (fault_row self).1 }
     {
         self.row().1
     }
 
-    // Its number and its name.
     fn row(self) -> (u32, &'static str)
         ensures number { result.0 ≡ (fault_row self).0 }
         ensures name { result.1.now ≡ (fault_row self).1 }
@@ -66,7 +65,7 @@ impl LangFault {
 pub enum LangError {
     /// The text has a fault in this line, counted from 1; `NoTop` is of line 0.
     Bad { line: u32, what: LangFault },
-    /// There was no memory.
+    /// Memory ran out.
     Memory,
 }
 

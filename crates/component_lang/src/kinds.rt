@@ -37,7 +37,7 @@ impl<'a> Library<'a> {
     ghost use Rattle.component_lang.specs.inner.Words.{new_ports};
     ghost use Rattle.component_lang.specs.inner.Views.{library_in};
 
-    /// Nothing is closed above the first line.
+    /// Returns the library above the first line: nothing is closed.
     pub fn new(alloc: Global) -> Self
         ensures { library_in result ≡ record { types = []; blocks = []; section = Outside } }
     {
@@ -49,7 +49,7 @@ impl<'a> Library<'a> {
         }
     }
 
-    /// The gate, the type or the block of a name.
+    /// Finds the gate, type or block of a name.
     pub fn kind_named(&self, name: &[u8]) -> Option<UsedKind>
         ensures { result ≡ kind_named (library_in self.now) name.now }
     {
@@ -63,7 +63,7 @@ impl<'a> Library<'a> {
         Some(UsedKind::Block(place as u32))
     }
 
-    /// Whether a kind takes so many arguments. The last one of a gate is its output.
+    /// Whether a kind takes `args` arguments. The last one of a gate is its output.
     pub fn takes_args(&self, kind: UsedKind, args: usize) -> bool
         ensures { result ≡ takes_args self.now.types.items self.now.blocks.items kind args }
     {
@@ -80,7 +80,7 @@ impl<'a> Library<'a> {
         }
     }
 
-    /// The part of a kind, by the kind's name and the places of the wires at its ports, if all of these are known.
+    /// Makes a part from its name, its kind's name and the places of its wires, if all of these are known.
     pub fn part_of(
         &self,
         alloc: Global,
@@ -109,7 +109,7 @@ impl<'a> Library<'a> {
         })
     }
 
-    /// The ports that a line names after a new type or block.
+    /// Reads the ports that follow the name of a new type or block.
     pub fn ports_of(
         &self,
         alloc: Global,
@@ -137,7 +137,7 @@ impl<'a> Library<'a> {
         ensures { Fulfils (λ _. library_in self.new) fault_told
             (Ok (record (library_in self.old) { types = self.old.types.items ++ shape ∷ [] })) result }
     {
-        // No name is in the list without its type where memory runs out.
+        // If memory runs out, no name is in the list without its type.
         self.types.reserve(1)?;
         self.type_names.insert(name)?;
         self.types.push(shape)?;
@@ -152,14 +152,14 @@ impl<'a> Library<'a> {
         ensures { Fulfils (λ _. library_in self.new) fault_told
             (Ok (record (library_in self.old) { blocks = self.old.blocks.items ++ block ∷ [] })) result }
     {
-        // No name is in the list without its block where memory runs out.
+        // If memory runs out, no name is in the list without its block.
         self.blocks.reserve(1)?;
         self.block_names.insert(name)?;
         self.blocks.push(block)?;
         Ok(())
     }
 
-    /// The design with this top, if the text has ended.
+    /// Returns the design with this top, after the end of the text.
     pub fn into_design(self, top: u32) -> Design
         requires { is_design (record { types = self.types.items; blocks = self.blocks.items; top = top }) ≡ true }
         ensures { result ≡ record { types = self.entry.types.items; blocks = self.entry.blocks.items; top = top } }

@@ -1,4 +1,4 @@
-//! Designs in `.dev` text: types of parts, and blocks of parts, which may contain each other.
+//! Designs in `.dev` text: types of parts, and blocks of parts and of instances of blocks above.
 #![tactic(auto)]
 
 mod blocks;

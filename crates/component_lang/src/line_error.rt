@@ -5,17 +5,17 @@ ghost use Rattle.component_lang.specs.declared.line_error.LineError.TheVariants.
 use crate::fault::{LangError, LangFault};
 use std::alloc::{AllocError, AllocFailed};
 
-/// Why a line is not read.
+/// The error of a line.
 #[derive(Clone, Copy, Debug, PartialEq, Eq)]
 pub enum LineError {
     /// The line has this fault.
     Fault(LangFault),
-    /// There was no memory.
+    /// Memory ran out.
     Memory,
 }
 
 impl LineError {
-    /// The same of a text in which the line has this number.
+    /// Returns the error of the text in which the line has this number.
     pub fn in_line(self, line: u32) -> LangError
         ensures { result ≡ error_in line self }
     {

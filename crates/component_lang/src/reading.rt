@@ -22,7 +22,7 @@ use device_model::TYPE_PORT_LIMIT;
 use std::alloc::Global;
 use text_rules::{Lines, TEXT_LIMIT, Tokens, uncommented};
 
-/// Where a line is.
+/// The place of a line.
 #[derive(Drop)]
 enum Section<'a> {
     Outside,
@@ -32,14 +32,14 @@ enum Section<'a> {
     AfterTop(u32),
 }
 
-// Whether a type may have so many ports.
+// Whether a type may have `ports` ports.
 fn has_few_ports(ports: usize) -> bool
     ensures { result ≡ has_few_ports ports }
 {
     (1..=usize::from(TYPE_PORT_LIMIT)).contains(&ports)
 }
 
-// `type NAME PORT ..`
+// Reads `type NAME PORT ..`.
 fn start_type<'a>(
     alloc: Global,
     library: &Library<'a>,
@@ -62,7 +62,7 @@ fn start_type<'a>(
     })
 }
 
-// `top NAME`
+// Reads `top NAME`.
 fn top_of(library: &Library<'_>, name: &[u8]) -> Result<u32, LineError>
     ensures { Fulfils (λ top. at (library_in library.now) (AfterTop top)) fault_told
         (top_line (library_in library.now) name.now) result }
@@ -76,7 +76,7 @@ fn top_of(library: &Library<'_>, name: &[u8]) -> Result<u32, LineError>
     }
 }
 
-// A line outside of types and blocks: its first word and what follows.
+// Reads a line outside of types and blocks, from its first word and the rest.
 fn outside<'a>(
     alloc: Global,
     library: &Library<'a>,
@@ -102,7 +102,7 @@ fn outside<'a>(
     }
 }
 
-// A line in a type: its first word and what follows.
+// Reads a line in a type, from its first word and the rest.
 fn in_type<'a>(
     alloc: Global,
     library: &mut Library<'a>,
@@ -135,7 +135,7 @@ fn in_type<'a>(
     }
 }
 
-// A line in a block: its first word and what follows.
+// Reads a line in a block, from its first word and the rest.
 fn in_block<'a>(
     alloc: Global,
     library: &mut Library<'a>,
@@ -168,7 +168,7 @@ fn in_block<'a>(
     }
 }
 
-// Reads a line, and says where the next one stands.
+// Reads a line and returns the place of the next one.
 fn after_line<'a>(
     alloc: Global,
     library: &mut Library<'a>,

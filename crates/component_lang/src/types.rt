@@ -15,8 +15,8 @@ use device_model::{COST_LIMIT, Name, TYPE_PORT_LIMIT, Table};
 use std::alloc::Global;
 use text_rules::plain_number;
 
-/// A type while its lines are read. Without a line `bad` every row is allowed if the part is faulty, and without a line `cost`
-/// a failure costs 1.
+/// A type while its lines are read. Without a `bad` line, a faulty part allows every row. Without a `cost` line, a failure
+/// costs 1.
 #[derive(Clone, Copy)]
 pub struct OpenType<'a> {
     pub name: &'a [u8],
@@ -26,7 +26,7 @@ pub struct OpenType<'a> {
     pub cost: Option<u32>,
 }
 
-// The number of a row of so many characters 0 and 1.
+// Returns the number of the row, if the word is `ports` characters 0 and 1.
 fn row_in(ports: u8, word: &[u8]) -> Option<u64>
     requires { ports ≤ TYPE_PORT_LIMIT }
     ensures { result ≡ (if is_row ports word.now then Some (row_in word.now) else None) }
@@ -45,7 +45,7 @@ fn row_in(ports: u8, word: &[u8]) -> Option<u64>
     Some(row)
 }
 
-// A set of rows and a row.
+// Adds a row to a set of rows.
 fn with_row(rows: u64, row: u64) -> u64
     requires { row < 64 }
     ensures { result ≡ with_row rows row }
@@ -84,7 +84,7 @@ impl<'a> OpenType<'a> {
         })
     }
 
-    /// Says what a failure costs.
+    /// Sets the cost of a failure.
     pub fn with_cost(self, word: &[u8]) -> Result<OpenType<'a>, LineError>
         ensures { (reader : Reader) → Fulfils (λ open_type. at reader (InType (open_type_in open_type))) fault_told
             (cost_line reader (open_type_in self.entry) word.now) result }
@@ -101,7 +101,7 @@ impl<'a> OpenType<'a> {
         })
     }
 
-    /// The type whose lines have ended.
+    /// Returns the type after its last line.
     pub fn close(self, alloc: Global) -> Result<Shape, LineError>
         requires named { is_plain_name self.name.now ≡ true }
         requires rows { is_table (shape_of (open_type_in self)).table ≡ true }

@@ -14,21 +14,21 @@ use indexmap::IndexSet;
 use std::alloc::Global;
 use text_rules::{TEXT_LIMIT, Tokens, is_short_name};
 
-/// Whether a word is a name: 1 to 64 bytes of names, without a dot.
+/// Whether a word is a name: 1 to 64 name bytes without a dot.
 pub fn is_plain_name(word: &[u8]) -> bool
     ensures { result ≡ is_plain_name word.now }
 {
     is_short_name(word) && !word.contains(&b'.')
 }
 
-/// Whether a word is this one.
+/// Whether a word is this keyword.
 pub fn spells(word: &[u8], keyword: &[u8]) -> bool
     ensures { result ≡ same_name word.now keyword.now }
 {
     word == keyword
 }
 
-/// Puts a name at the end of a list, unless it is there already, and says whether it is new.
+/// Adds a name to the end of a list, unless it is there already; returns whether it is new.
 pub fn add_name<'a>(names: &mut IndexSet<&'a [u8]>, word: &'a [u8]) -> Result<bool, LineError>
     ensures { Fulfils (λ is_new. (names_in names.new, is_new)) fault_told (with_name (names_in names.old) word.now) result }
 {
@@ -38,7 +38,7 @@ pub fn add_name<'a>(names: &mut IndexSet<&'a [u8]>, word: &'a [u8]) -> Result<bo
     Ok(names.insert(word)?)
 }
 
-/// Puts the names that follow in a line at the end of a list. None of them may be there already, or occur twice.
+/// Adds the names left in a line to the end of a list. None of them may be there already or occur twice.
 pub fn add_names<'a>(names: &mut IndexSet<&'a [u8]>, words: Tokens<'a>) -> Result<(), LineError>
     ensures { Fulfils (λ _. names_in names.new) fault_told (with_names (names_in names.old) (tokens_left words.entry)) result }
 {
@@ -53,7 +53,7 @@ pub fn add_names<'a>(names: &mut IndexSet<&'a [u8]>, words: Tokens<'a>) -> Resul
     }
 }
 
-/// The places in a list of the names that follow in a line, if each of them is there.
+/// Finds the places in `names` of the names left in a line, if each is there.
 pub fn places_of<'a>(
     alloc: Global,
     names: &IndexSet<&'a [u8]>,

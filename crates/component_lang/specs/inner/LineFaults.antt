@@ -1,4 +1,4 @@
--- What is reported if a line is not read.
+-- The errors of lines.
 use Rattle.std.specs.Prelude.{ℕ, Option, Some, None}
 use Rattle.component_lang.specs.declared.fault.LangFault.{LangFault}
 use Rattle.component_lang.specs.declared.fault.LangError.{LangError}
@@ -6,12 +6,12 @@ use Rattle.component_lang.specs.declared.fault.LangError.TheVariants.{Bad, Memor
 use Rattle.component_lang.specs.declared.line_error.LineError.{LineError}
 use Rattle.component_lang.specs.declared.line_error.LineError.TheVariants.{Fault, Memory}
 
--- An error of a line is its fault, except lack of memory.
+-- the fault in an error of a line; lack of memory is none
 abbrev pub fault_told : LineError → Option LangFault
 fault_told (Fault what) = Some what
 fault_told Memory = None
 
--- the error of a text, by the number of the line
+-- the error of a text, from that of its line `line`
 abbrev pub error_in : ℕ → LineError → LangError
 error_in line (Fault what) = Bad line what
 error_in line Memory = NoMemory

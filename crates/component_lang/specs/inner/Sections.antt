@@ -1,4 +1,4 @@
--- What a section in the code means.
+-- The meaning of the code's sections.
 use Rattle.component_lang.specs.declared.kinds.Library.{Library}
 use Rattle.component_lang.specs.declared.reading.Section.{Section as SectionRead}
 use Rattle.component_lang.specs.declared.reading.Section.TheVariants.{Outside as ReadOutside, InType as ReadInType, InBlock as ReadInBlock, AfterTop as ReadAfterTop}

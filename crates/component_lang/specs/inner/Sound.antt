@@ -1,4 +1,4 @@
--- What holds of a reader between two lines.
+-- What is true of a reader between two lines.
 use Rattle.std.specs.Prelude.{ℕ, ◌+◌, Bool, true, not, ◌&&◌, [], length, is_some, nat_lt}
 use Rattle.text_rules.specs.Names.{Name}
 use Rattle.device_model.specs.TruthTable.{is_table}
@@ -7,7 +7,7 @@ use Rattle.component_lang.specs.Designs.{is_plain_name, is_block, are_blocks}
 use Rattle.component_lang.specs.Kinds.{OpenType, Section, Outside, InType, InBlock, AfterTop, Reader, kind_named}
 use Rattle.component_lang.specs.TypeRows.{shape_of}
 
--- a name that neither a gate nor a type nor a block has
+-- whether a plain name means no gate, type or block
 abbrev pub is_free : Reader → Name → Bool
 is_free reader name = is_plain_name name && not (is_some (kind_named reader name))
 
@@ -23,7 +23,7 @@ is_sound_section reader (InType open_type) = is_sound_type reader open_type
 is_sound_section reader (InBlock block) = is_sound_block reader block
 is_sound_section reader (AfterTop top) = nat_lt top (length reader.blocks)
 
--- The blocks that are closed are those of a design, and so is the one that is open.
+-- whether the closed blocks are as in a design, and the section is sound
 abbrev pub is_sound : Reader → Bool
 is_sound reader = are_blocks reader.types [] reader.blocks && is_sound_section reader reader.section
 
@@ -33,6 +33,6 @@ open_wires (InType open_type) = 0
 open_wires (InBlock block) = length block.wires
 open_wires (AfterTop top) = 0
 
--- how many types and blocks are closed, and how many wires the open block has
+-- the number of closed types and blocks and of wires of the open block
 abbrev pub reader_size : Reader → ℕ
 reader_size reader = length reader.types + length reader.blocks + open_wires reader.section

@@ -1,4 +1,4 @@
--- What a reader in the code means.
+-- The meaning of the code's readers.
 use Rattle.component_lang.specs.declared.types.OpenType.{OpenType as OpenTypeRead}
 use Rattle.component_lang.specs.declared.blocks.OpenBlock.{OpenBlock}
 use Rattle.component_lang.specs.declared.kinds.Library.{Library}
@@ -12,6 +12,6 @@ open_type_in open_type = record { name = open_type.name.now; ports = open_type.p
 abbrev pub block_in : OpenBlock → Block
 block_in block = record { name = block.name.now; ports = block.ports; wires = names_in block.wires; parts = block.parts.items }
 
--- what is closed above a line that is outside
+-- what is closed above a line outside
 abbrev pub library_in : Library → Reader
 library_in library = record { types = library.types.items; blocks = library.blocks.items; section = Outside }

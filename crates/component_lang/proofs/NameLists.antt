@@ -50,7 +50,7 @@ if_new n r = if n then r else Err Twice
 pub with_name-plain : (above : List Name) (n : Name) → is_plain_name n ≡ true → with_name above n ≡ Ok (insert_key same_name above n, not (is_among above n))
 with_name-plain above n h = grind arith
 
--- `above` with `names` after it, if earlier names were all `new`
+-- `above` with `names` after it, if these are new and earlier ones were (`new`)
 abbrev pub more_names : Bool → List Name → List Name → Result (List Name) LangFault
 more_names new above names = if list_all is_plain_name names then (if new && (are_distinct names && not (list_any (is_among above) names)) then Ok (above ++ names) else Err Twice) else Err NoName
 

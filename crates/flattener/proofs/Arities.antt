@@ -29,7 +29,7 @@ tables_of types = map (λ (s : Shape). s.table) types
 abbrev pub is_fed : List TruthTable → NamedPart → Bool
 is_fed tables part = takes_ports tables (rule part.kind) (length part.wires)
 
--- a gate takes its ports beside any tables
+-- a gate takes its ports whatever the tables are
 gate_fed : (tables : List TruthTable) (r : Rule) (ports : ℕ) → takes_inputs r (ports - 1) ≡ true → takes_ports tables r ports ≡ true
 gate_fed tables r ports h = grind arith
 

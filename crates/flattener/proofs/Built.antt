@@ -69,10 +69,10 @@ module _ (design : Design) (valid : is_design design ≡ true) (passed : refusal
     pub device_made : (device : Device) → built parts wires tables ≡ Ok device → flattened design ≡ Ok device
     device_made device h = grind (arith, built-here, flattened-by_counts)
 
-    -- Nothing else can be wanting than memory.
+    -- The only error is lack of memory.
     pub only_memory : (error : BuildError) → IsExpectedFault (reason error) (built parts wires tables) → error ≡ NoMemory
     only_memory = only_memory_of parts wires tables _ built-here
 
--- a reason of the design's is reported
+-- an error of `flattened` is expected
 pub told-refusal : (design : Design) (error : FlattenError) → flattened design ≡ Err error → IsExpectedFault (told error) (flattened design)
 told-refusal design error h = grind arith

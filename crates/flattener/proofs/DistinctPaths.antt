@@ -1,4 +1,4 @@
--- No two parts and no two wires of an instance have one path.
+-- No two parts and no two wires of an instance have the same path.
 use Rattle.std.proofs.Common.{◌≡◌, ℕ, inl, inr, true, List, [], ◌∷◌, ◌++◌, length, get_or, take, drop, refl, sym, ap, subst, ◌∙◌, arith}
 use Rattle.std.specs.Prelude.{◌==◌}
 use Rattle.std.specs.List.{flat_map, list_any}
@@ -54,7 +54,7 @@ module _ (inners : List Inner) (h : (j : ℕ) → Differ (get_or inners j no_nam
     inside-parts : Different (flat_map (λ u. names_used inners u Parts) block.parts)
     inside-parts = grind (arith, Different-headed, headed, plain, parts-differ, Different-from_test)
 
-    -- all wires of a block, with those that are passed to it
+    -- all wires of a block, those passed to it included
     pub all-wires : Different (block.wires ++ flat_map (λ u. names_used inners u Wires) block.parts)
     all-wires = grind (arith, Different-append, Different-from_test, all-dotted, list_all-among, Different-headed, headed, plain, wires-differ)
 

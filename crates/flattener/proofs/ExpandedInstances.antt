@@ -46,12 +46,12 @@ joined_stay : (wires more : List Name) (parts : List Component) → are_joined w
 joined_stay wires more [] h = refl
 joined_stay wires more (p ∷ ps) h = grind (arith, within_more, length-append, joined_stay wires more ps)
 
--- what is added in two steps
+-- two additions in a row
 pub Grows-more : (parts : List Component) (wires : List Name) (c : Content) (parts1 : List Component) (wires1 : List Name) (d : Content) (parts2 : List Component) (wires2 : List Name) (e : Content)
     → Grows parts wires c parts1 wires1 → Grows parts1 wires1 d parts2 wires2 → e.wires ≡ c.wires ++ d.wires → e.parts ≡ c.parts ++ d.parts → Grows parts wires e parts2 wires2
 Grows-more parts wires c parts1 wires1 d parts2 wires2 e h g ws ps = grind (arith, append_assoc)
 
--- one part more
+-- one more part
 pub Grows-part : (parts : List Component) (wires : List Name) (name : Name) (kind : Kind) (ports : List ℕ) → are_joined wires parts ≡ true → are_within (length wires) ports ≡ true
     → Grows parts wires (one_part name kind (map (wire_at wires) ports)) (parts ++ record { name = name; kind = kind; ports = ports } ∷ []) wires
 Grows-part parts wires name kind ports h g = grind (arith, append-nil, map-append, list_all-both)
@@ -88,7 +88,7 @@ short_each c h which = grind (arith, all_parts)
 pub short_all : (c : Content) → ((which : Which) → are_short (names_of which c) ≡ true) → are_short (paths_of c) ≡ true
 short_all c h = list_all-both is_short (names_of Parts c) (c.wires ++ c.instances) (h Parts) (list_all-both is_short c.wires c.instances (h Wires) (h Instances))
 
--- the path of a part of a block is one of its paths
+-- the path of a part is short if all names in it are
 name_short : (above : List Instance) (kind : UsedKind) (path : Name) (passed : List Name) → ((which : Which) → are_short (names_of which (kind_content above kind path passed)) ≡ true) → length path ≤ NAME_LIMIT
 name_short above (Gate gate) path passed h = leb-true (length path) NAME_LIMIT (and_parts (is_short path) true (h Parts)).0
 name_short above (OfShape shape) path passed h = leb-true (length path) NAME_LIMIT (and_parts (is_short path) true (h Parts)).0
@@ -114,7 +114,7 @@ got (b ∷ bs) (suc k) l = got bs k (omega arith)
 pub ports_there : (blocks : List Block) (place : ℕ) → place < length blocks → slice_index (map (λ (b : Block). b.ports) blocks) place ≡ (get_or blocks place no_block).ports
 ports_there blocks place l = get_or-map (λ (b : Block). b.ports) blocks place no_block 0 l
 
--- a block before another, which has so many ports
+-- the block at `inner` comes before `place` and has `ports` ports
 pub record IsBefore (blocks : List Block) (place inner ports : ℕ) : Type 0 where
   pub before : inner < place
   pub takes : ports ≡ (get_or blocks inner no_block).ports
@@ -160,12 +160,12 @@ top_within design h = ltb-true design.top (length design.blocks) (and_parts (are
 abbrev pub block_at : Design → ℕ → Block
 block_at design place = get_or design.blocks place no_block
 
--- what an instance has of its first parts
+-- the content of an instance up to its first `count` parts
 abbrev pub so_far : Design → ℕ → ℕ → Instance
 so_far design place count =
     let block = block_at design place in instance (record block { parts = take count block.parts }) (values instance design.blocks)
 
--- the part at a place of a block's list
+-- `used` is part `i` of the block at `place`
 pub record IsPart (design : Design) (place i : ℕ) (used : Used) : Type 0 where
   pub inside : i < length (block_at design place).parts
   pub is : used ≡ get_or (block_at design place).parts i used
@@ -257,11 +257,11 @@ module _ {design : Design} {place : ℕ} {path : Name} {passed : List ℕ} {old 
     pub wires-more : (so_far design place (i + 1) path names).wires ≡ (so_far design place i path names).wires ++ (content used).wires
     wires-more = ap (λ ns. own ++ ns) (more (λ (c : Content). c.wires)) ∙ sym (append_assoc own (flat_map (λ (c : Content). c.wires) (map content done)) (content used).wires)
 
-    -- the wires of the parts up to this one are some of all
+    -- the parts up to this one have at most all the wires
     pub few-wires : length (so_far design place i path names).wires + length (content used).wires ≤ length whole.wires
     few-wires = grind (arith, length-append, cut, map-append, flat_map-append, append_assoc)
 
-    -- its paths are short where all are
+    -- its paths are short if all are
     pub short-used : (which : Which) → are_short (names_of which whole) ≡ true → are_short (names_of which (content used)) ≡ true
     short-used which h =
         let g = λ (u : Used). names_of which (content u) in
@@ -336,7 +336,7 @@ module _ {design : Design} {place : ℕ} {path : Name} {passed : List ℕ} {old 
         inner_there : inner < length design.blocks
         inner_there = let b = inner_before.before in let c = can.there in omega arith
 
-        -- what it has is the same wherever its wires stand
+        -- its content does not depend on its wires' positions
         inner_is : instance_at design inner path_now (map (wire_at wires) ports_now) ≡ instance_at design inner (below path used.name) (map (wire_at (names ++ own)) used.args)
         inner_is = λ k. instance_at design inner (path_is k) ((ap (map (wire_at wires)) ports_are ∙ ports_named) k)
 
@@ -346,7 +346,7 @@ module _ {design : Design} {place : ℕ} {path : Name} {passed : List ℕ} {old 
         pub before_here : inner < place
         before_here = inner_before.before
 
-        -- so it can be expanded in its turn
+        -- so it can be expanded too
         pub CanExpand-inner : CanExpand design inner path_now ports_now wires
         CanExpand-inner = record {
           valid = can.valid;
@@ -373,7 +373,7 @@ module _ {design : Design} {place : ℕ} {path : Name} {passed : List ℕ} {old 
             (wires-more ∙ ap (λ (ns : List Name). (so_far design place i path names).wires ++ ns) (ap (λ (d : Content). d.wires) as_content ∙ ap (λ (d : Content). d.wires) (sym inner_is)))
             (parts-more ∙ ap (λ (ns : List NamedPart). (so_far design place i path names).parts ++ ns) (ap (λ (d : Content). d.parts) as_content ∙ ap (λ (d : Content). d.parts) (sym inner_is)))
 
--- the wires of an instance after what was there, as the code writes them
+-- the paths of an instance's own wires, as the code writes them
 pub own_behind : (block there : Block) (path prefix : Name) (ns : List Name) → block ≡ there → prefix ≡ prefix_of path → ns ≡ drop block.ports block.wires
     → map (behind prefix) ns ≡ map (below path) (drop there.ports there.wires)
 own_behind block there path prefix ns b e h = grind (arith, map-behind)

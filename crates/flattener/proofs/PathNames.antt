@@ -1,4 +1,4 @@
--- Paths: a name in an instance, and names of which no two are the same.
+-- Paths: names in an instance, and lists of different names.
 use Rattle.std.proofs.Common.{◌≡◌, ℕ, ◌+◌, ◌≤◌, inl, inr, true, false, List, [], ◌∷◌, ◌++◌, map, length, refl, ap, subst, ◌∙◌, arith}
 use Rattle.std.specs.Prelude.{◌==◌, max, nat_eq, if◌then◌else◌}
 use Rattle.std.specs.List.{list_all, list_any, flat_map}
@@ -16,7 +16,7 @@ use Rattle.flattener.specs.inner.Expanding.{prefix_of, behind}
 
 -- ---- names of blocks
 
--- what a plain name is
+-- what a plain name has
 pub record Plain (name : Name) : Type 0 where
   pub some : 1 ≤ length name
   pub few : length name ≤ 64
@@ -37,7 +37,7 @@ pub map-behind : (path : Name) (names : List Name) → map (behind (prefix_of pa
 map-behind path [] = refl
 map-behind path (n ∷ names) = λ i. behind-prefix path n i ∷ map-behind path names i
 
--- a path goes on
+-- `below` is associative
 pub below-below : (path name more : Name) → 1 ≤ length name → below (below path name) more ≡ below path (below name more)
 below-below path name more h = grind (arith, append_assoc)
 
@@ -80,7 +80,7 @@ Different-from_test (n ∷ ns) h = grind (arith, is_among-among, Different-from_
 pub Different-below : (path : Name) (ns : List Name) → Different ns → Different (map (below path) ns)
 Different-below path ns h = Different-made (below path) (below-same path) ns h
 
--- names whose heads say which of several lists they are in
+-- names whose heads identify the list that they are in
 module _ {A : Type 0} (name : A → Name) (g : A → List Name) where
   abbrev pub Headed : A → Type 0
   Headed u = (n : Name) → In n (g u) → head_of n ≡ name u
@@ -104,7 +104,7 @@ pub longest-append : (xs ys : List Name) → longest_of (xs ++ ys) ≡ max (long
 longest-append [] ys = omega arith
 longest-append (x ∷ xs) ys = let rest = longest-append xs ys in omega arith
 
--- the longest below a name of so many bytes
+-- the longest path below a name of `name` bytes
 abbrev pub lift : ℕ → ℕ → ℕ
 lift name longest = if nat_eq longest 0 then 0 else name + 1 + longest
 

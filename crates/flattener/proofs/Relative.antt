@@ -1,4 +1,4 @@
--- What an instance has, by names that do not say where it stands: the paths in an instance are these names below its path.
+-- The content of an instance by names without its path: the paths in an instance are these names below its path.
 use Rattle.std.proofs.Common.{◌≡◌, ℕ, ◌≤◌, true, List, [], ◌∷◌, ◌++◌, map, length, get_or, drop, refl, sym, ap, ◌∙◌, arith}
 use Rattle.std.specs.Prelude.{nat_lt, slice_index_or}
 use Rattle.std.specs.List.{flat_map, list_all}
@@ -46,7 +46,7 @@ wires_only wires Instances = []
 abbrev pub own_names : Block → Inner
 own_names block = wires_only (drop block.ports block.wires)
 
--- a part is a name
+-- the names in one part
 abbrev pub part_named : Name → Inner
 part_named name Parts = name ∷ []
 part_named name Wires = []
@@ -77,7 +77,7 @@ pub record GoodUsed (types : List Shape) (above : List Block) (wires : ℕ) (use
 pub GoodUsed-from_test : (types : List Shape) (above : List Block) (wires : ℕ) (used : Used) → is_used types above wires used ≡ true → GoodUsed types above wires used
 GoodUsed-from_test types above wires used h = grind (arith, and_parts)
 
--- The names in an instance of any path, to which any wires are passed.
+-- The names in an instance are `inner` below its path, whatever is passed.
 abbrev pub Shows : Inner → Instance → Type 0
 Shows inner made = (which : Which) (path : Name) (passed : List Name) → names_of which (made path passed) ≡ map (below path) (inner which)
 
@@ -116,7 +116,7 @@ pub record GoodBlock (types : List Shape) (above : List Block) (block : Block) :
 pub GoodBlock-from_test : (types : List Shape) (above : List Block) (block : Block) → is_block types above block ≡ true → GoodBlock types above block
 GoodBlock-from_test types above block h = grind arith
 
--- what an instance has is its own wires and what its parts have
+-- the names in an instance are its own wires and those in its parts
 pub names-instance : (which : Which) (block : Block) (mades : List Instance) (path : Name) (passed : List Name)
     → names_of which (instance block mades path passed)
     ≡ map (below path) (own_names block which) ++ flat_map (λ used. names_of which (used_content mades path (passed ++ map (below path) (drop block.ports block.wires)) used)) block.parts

@@ -1,4 +1,4 @@
--- What the top has, and which limit it passes first.
+-- The content of the top, and the first limit that it exceeds.
 use Rattle.std.proofs.Common.{◌≡◌, ℕ, zero, suc, ◌+◌, ◌≤◌, true, List, [], ◌∷◌, ◌++◌, map, length, get_or, take, drop, Option, Some, None, Result, Ok, Err, refl, sym, ap, subst, ◌∙◌, arith}
 use Rattle.std.specs.Prelude.{max, nat_lt, nat_le}
 use Rattle.std.specs.List.{range_with_len}
@@ -116,7 +116,7 @@ module _ (design : Design) (valid : is_design design ≡ true) where
       ∙ longest-append (inner Parts) ((top_ports design ++ inner Wires) ++ inner Instances)
       ∙ ap (max (longest_of (inner Parts))) (longest-append (top_ports design ++ inner Wires) (inner Instances))
 
-  -- The answer is the first limit that the counts pass, or the device.
+  -- The result is the first limit that the counts exceed, or the device.
   pub flattened-by_counts : flattened design ≡ unless_refused (flat_device design) (refusal (counts_of_design design))
   flattened-by_counts =
       limits (flat_device design) (counts_of_design design) (length (top_content design).parts) (length (flat_wires design)) (length (top_content design).instances) (longest_path design)

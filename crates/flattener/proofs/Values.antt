@@ -1,4 +1,4 @@
--- Values of blocks, each by the values of the blocks before.
+-- Values of blocks, each from the values of the blocks before.
 use Rattle.std.proofs.Common.{◌≡◌, ℕ, zero, suc, ◌<◌, true, List, [], ◌∷◌, ◌++◌, length, get_or, take, refl, sym, ap, ◌∙◌, arith}
 use Rattle.std.proofs.lemmas.Bool.{and_parts}
 use Rattle.std.proofs.lemmas.List.{append_assoc, append-nil, length_push}
@@ -7,7 +7,7 @@ use Rattle.component_lang.specs.declared.design.Shape.{Shape}
 use Rattle.component_lang.specs.declared.design.Block.{Block}
 use Rattle.component_lang.specs.Designs.{is_block, are_blocks}
 
--- what holds of a value where it holds of those before, holds of all
+-- a property that each value has if those before have it, all have
 module _ {A : Type 0} (types : List Shape) (f : Block → List A → A) (d : A) (P : A → Type 0) (start : P d)
     (step : (above : List Block) (block : Block) (es : List A) → is_block types above block ≡ true → ((j : ℕ) → P (get_or es j d)) → P (f block es)) where
   pushed : (es : List A) (x : A) → ((j : ℕ) → P (get_or es j d)) → P x → (j : ℕ) → P (get_or (es ++ x ∷ []) j d)
@@ -23,7 +23,7 @@ module _ {A : Type 0} (types : List Shape) (f : Block → List A → A) (d : A) 
   pub values-hold : (blocks : List Block) → are_blocks types [] blocks ≡ true → (j : ℕ) → P (get_or (values f blocks) j d)
   values-hold blocks a j = holds_after [] blocks [] a (λ i. start) j
 
--- the same of two lists of values
+-- the same for two lists of values
 module _ {A B : Type 0} (types : List Shape) (f : Block → List A → A) (g : Block → List B → B) (d : A) (e : B) (R : A → B → Type 0) (start : R d e)
     (step : (above : List Block) (block : Block) (vs : List A) (bs : List B) → is_block types above block ≡ true → ((j : ℕ) → R (get_or vs j d) (get_or bs j e)) → R (f block vs) (g block bs)) where
   pushed_both : (vs : List A) (bs : List B) (x : A) (y : B) → length vs ≡ length bs → ((j : ℕ) → R (get_or vs j d) (get_or bs j e)) → R x y
@@ -51,7 +51,7 @@ block_among types above (b ∷ bs) (suc k) d a l =
     ap (λ (cs : List Block). is_block types cs (get_or bs k d)) (sym (append_assoc above (b ∷ []) (take k bs)))
     ∙ block_among types (above ++ b ∷ []) bs k d (and_parts (is_block types above b) (are_blocks types (above ++ b ∷ []) bs) a).1 (omega arith)
 
--- and so does each front of the blocks
+-- and so do the first `k` blocks
 pub front_fits : (types : List Shape) (above blocks : List Block) (k : ℕ) → are_blocks types above blocks ≡ true → are_blocks types above (take k blocks) ≡ true
 front_fits types above blocks zero a = grind arith
 front_fits types above [] (suc k) a = refl

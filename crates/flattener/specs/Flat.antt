@@ -1,4 +1,4 @@
--- The device of a design. Its parts, wires and instances of blocks are named by paths.
+-- The device of a design. Its parts, wires and instances of blocks have paths as names.
 use Rattle.std.specs.Prelude.{ℕ, ◌-◌, ◌^◌, min, max, List, [], ◌∷◌, ◌++◌, map, length, take, drop, Option, Some, None, Result, Ok, Err, nat_lt, slice_get, slice_index_or, if◌then◌else◌}
 use Rattle.std.specs.List.{flat_map}
 use Rattle.std.specs.Option.{option_map_or}
@@ -19,20 +19,20 @@ use Rattle.flattener.specs.declared.flattening.FlattenError.{FlattenError}
 use Rattle.flattener.specs.declared.flattening.FlattenError.TheVariants.{TooManyParts, TooManyWires, TooManyBlocks, PathTooLong, Memory}
 use Rattle.flattener.specs.declared.flattening.TheConstants.{INSTANCE_LIMIT}
 
--- the parts below an instance, the wires that are not passed to it or to one below it, and the instances below it
+-- what is in an instance, at any depth: parts, wires that are not passed from above, and instances
 pub record Content : Type 0 where
   pub parts : List NamedPart
   pub wires : List Name
   pub instances : List Name
 
--- what an instance has, by its path and by the wires that are passed to it
+-- the content of an instance, from its path and the wires that are passed to it
 abbrev pub Instance : Type 0
 Instance = Name → List Name → Content
 
 abbrev pub nothing : Instance
 nothing path passed = record { parts = []; wires = []; instances = [] }
 
--- a name in the instance of a path: the top's path is empty
+-- a name in the instance at `path`; the path of the top is empty
 abbrev pub below : Name → Name → Name
 below [] name = name
 below (b ∷ path) name = (b ∷ path) ++ 46 ∷ name
@@ -40,7 +40,7 @@ below (b ∷ path) name = (b ∷ path) ++ 46 ∷ name
 abbrev pub one_part : Name → Kind → List Name → Content
 one_part path kind wires = record { parts = record { name = path; kind = kind; wires = wires } ∷ []; wires = []; instances = [] }
 
--- what a part of a block is, by the instances of the blocks before
+-- the content of a part of a block; `above` are the instances of the blocks before
 abbrev pub kind_content : List Instance → UsedKind → Instance
 kind_content above (Gate gate) path passed = one_part path gate passed
 kind_content above (OfShape place) path passed = one_part path (Table place) passed
@@ -51,7 +51,7 @@ abbrev pub used_content : List Instance → Name → List Name → Used → Cont
 used_content above path wires used =
     kind_content above used.kind (below path used.name) (map (λ wire. slice_index_or wires wire []) used.args)
 
--- A block's wires are those that are passed to it and then its own.
+-- an instance of a block: its wires are those passed to it, then its own
 abbrev pub instance : Block → List Instance → Instance
 instance block above path passed =
     let own = map (below path) (drop block.ports block.wires) in
@@ -65,11 +65,11 @@ instance block above path passed =
 abbrev pub top_ports : Design → List Name
 top_ports design = option_map_or (λ (block : Block). take block.ports block.wires) (slice_get design.blocks design.top) []
 
--- what the top has
+-- the content of the top
 abbrev pub top_content : Design → Content
 top_content design = slice_index_or (values instance design.blocks) design.top nothing [] (top_ports design)
 
--- All ports and wires of the top are wires of the device.
+-- the wires of the device: the ports of the top and the wires of its content
 abbrev pub flat_wires : Design → List Name
 flat_wires design = top_ports design ++ (top_content design).wires
 
@@ -80,20 +80,20 @@ abbrev pub greatest : List ℕ → ℕ
 greatest [] = 0
 greatest (n ∷ ns) = max n (greatest ns)
 
--- the longest path of a part, a wire or an instance, in bytes
+-- the bytes of the longest path of a part, a wire or an instance
 abbrev pub longest_path : Design → ℕ
 longest_path design =
     let parts = map (λ (part : NamedPart). part.name) (top_content design).parts in
     greatest (map (λ (path : Name). length path) (parts ++ (flat_wires design ++ (top_content design).instances)))
 
--- a count stops at the greatest number of 64 bits
+-- a count stops at 2 ^ 64 - 1
 abbrev pub saturated : ℕ → ℕ
 saturated n = min n (2 ^ 64 - 1)
 
 abbrev pub unless_over : ℕ → ℕ → (ℕ → FlattenError) → Result Device FlattenError → Result Device FlattenError
 unless_over limit count error otherwise = if nat_lt limit count then Err (error (saturated count)) else otherwise
 
--- The device of a design, or the first of these counts that is above its limit.
+-- The device of a design, or the first of these counts that exceeds its limit.
 abbrev pub flattened : Design → Result Device FlattenError
 flattened design =
     unless_over PART_LIMIT (length (top_content design).parts) TooManyParts
@@ -102,7 +102,7 @@ flattened design =
     (unless_over NAME_LIMIT (longest_path design) PathTooLong
     (Ok (flat_device design)))))
 
--- An error is a refusal, except lack of memory.
+-- the refusal of an error; lack of memory is none
 abbrev pub told : FlattenError → Option FlattenError
 told Memory = None
 told error = Some error

@@ -9,8 +9,8 @@ use component_lang::{Block, Design, Used, UsedKind};
 use device_model::{NAME_LIMIT, Name, PART_LIMIT, WIRE_LIMIT};
 use std::alloc::{AllocError, Global};
 
-/// How much an instance of a block has, and its longest path, counted from the instance on. A count stops at the
-/// greatest number of 64 bits.
+/// The counts of an instance of a block, and the bytes of its longest path, measured from the instance on. They stop at
+/// 2^64 - 1.
 #[derive(Clone, Copy, Debug, PartialEq, Eq)]
 pub(crate) struct Counts {
     parts: u64,
@@ -49,7 +49,7 @@ impl Counts {
         }
     }
 
-    // What an instance of this name adds, of a block that has so much.
+    // Returns the counts that an instance of this name adds; `inner` are those of its block.
     fn of_instance(name: &Name, inner: Counts) -> Counts
         ensures { result ≡ counts_of_instance name.now inner }
     {
@@ -105,7 +105,7 @@ impl Counts {
         }
     }
 
-    /// Counts what the device of a design has, block by block and not instance by instance.
+    /// Counts the content of a design's device, block by block and not instance by instance.
     pub(crate) fn of_design(alloc: Global, design: &Design) -> Result<Counts, AllocError>
         ensures counts { IfOk result (λ counts. counts ≡ counts_of_design design.now) }
         ensures valid { is_design design.now ≡ true }
@@ -115,7 +115,7 @@ impl Counts {
         Ok(Counts::of_wires(top_ports(design)).and(top))
     }
 
-    /// The first limit that is passed.
+    /// Finds the first limit that is exceeded.
     pub(crate) fn refusal(self) -> Option<FlattenError>
         ensures { result ≡ refusal self }
     {
@@ -139,7 +139,6 @@ impl Counts {
     }
 }
 
-// The counts of each block.
 fn counts_of(alloc: Global, blocks: &[Block]) -> Result<Vec<Counts>, AllocError>
     ensures { IfOk result (λ counts. counts.items ≡ values counts_of_block blocks.now) }
 {
@@ -151,7 +150,7 @@ fn counts_of(alloc: Global, blocks: &[Block]) -> Result<Vec<Counts>, AllocError>
     Ok(counts)
 }
 
-// The most bytes of a name.
+// Returns the bytes of the longest name.
 fn longest_of(names: &[Name]) -> u64
     ensures { result ≡ longest_of names.now }
 {
@@ -162,7 +161,7 @@ fn longest_of(names: &[Name]) -> u64
     longest
 }
 
-/// The wires of a block that are not passed to it.
+/// Returns the wires of a block that are not passed to it.
 pub(crate) fn own_wires(block: &Block) -> &[Name]
     ensures { result.now ≡ drop block.now.ports block.now.wires }
 {
@@ -170,7 +169,7 @@ pub(crate) fn own_wires(block: &Block) -> &[Name]
     &wires[wires.len().min(block.ports as usize)..]
 }
 
-/// The ports of the top.
+/// Returns the ports of the top.
 pub(crate) fn top_ports(design: &Design) -> &[Name]
     ensures ports { result.now ≡ top_ports design.now }
     ensures valid { is_design design.now ≡ true }

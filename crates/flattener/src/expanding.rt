@@ -6,17 +6,17 @@ use component_lang::{Design, UsedKind};
 use device_model::{Component, Kind, NAME_LIMIT, Name, WIRE_LIMIT, Wires};
 use std::alloc::{AllocError, Global};
 
-/// Parts and wires that were made so far. A port is a position among the wires.
+/// The parts and wires made so far. A port is a position among the wires.
 #[derive(Debug, Drop)]
 pub(crate) struct Flat {
     pub(crate) parts: Vec<Component>,
     pub(crate) wires: Vec<Name>,
 }
 
-/// Adds what an instance of a block has: its own wires, and then what its parts have, in their order.
+/// Adds the content of an instance of a block: its own wires, then the content of its parts, in their order.
 ///
-/// Wires are only added, so a position stays that of its wire. The path of an instance has at most 255 bytes, and below the
-/// top two more at least than that of the instance around it, so calls are at most 129 deep.
+/// Wires are only added, so each wire keeps its position. The path of an instance has at most 255 bytes, and each level
+/// below the first adds at least two, so calls are at most 129 deep.
 pub(crate) fn expand(
     alloc: Global,
     design: &Design,
@@ -51,7 +51,7 @@ pub(crate) fn expand(
     Ok(())
 }
 
-// What is before each name in the instance of a path.
+// Returns what precedes each name in the instance at a path.
 fn prefix_of(alloc: Global, path: &[u8]) -> Result<Vec<u8>, AllocError>
     ensures { IfOk result (λ prefix. prefix.items ≡ prefix_of path.now) }
 {
@@ -63,7 +63,7 @@ fn prefix_of(alloc: Global, path: &[u8]) -> Result<Vec<u8>, AllocError>
     Ok(prefix)
 }
 
-// A name after a prefix, which is written and taken away again.
+// Joins a prefix and a name: adds the name to `prefix` and takes it off again.
 fn with_prefix(alloc: Global, prefix: &mut Vec<u8>, name: &[u8]) -> Result<Name, AllocError>
     requires some { 1 ≤ length name.now }
     requires short { length (behind prefix.old.items name.now) ≤ NAME_LIMIT }
@@ -94,7 +94,7 @@ fn push_wires(
     Ok(())
 }
 
-// Puts the positions of a block's wires in place of what a list held.
+// Replaces the items of a list by the positions of a block's wires.
 fn read_positions(
     args: &[u32],
     passed: &[u32],
@@ -112,7 +112,7 @@ fn read_positions(
     Ok(())
 }
 
-// The passed wires are the first of a block, and its own are from `start` on.
+// The first wires of a block are passed to it; its own are from `start` on.
 fn position_of(wire: u32, passed: &[u32], start: u32) -> u32
     requires start { start ≤ WIRE_LIMIT }
     requires wire { wire < length passed.now + WIRE_LIMIT }

@@ -13,10 +13,10 @@ use component_lang::{Design, Shape};
 use device_model::{BuildError, Device, Name, Table, WIRE_LIMIT};
 use std::alloc::{AllocError, Global};
 
-/// The most instances of blocks below the top.
+/// The limit on instances of blocks below the top.
 pub const INSTANCE_LIMIT: usize = 4096;
 
-/// Why a design has no flat device. A count stops at the greatest number of 64 bits.
+/// Why a design has no flat device. A count stops at 2^64 - 1.
 #[derive(Clone, Copy, Debug, PartialEq, Eq)]
 pub enum FlattenError {
     /// More than 4,096 parts.
@@ -25,9 +25,9 @@ pub enum FlattenError {
     TooManyWires { count: u64 },
     /// More than 4,096 instances of blocks below the top.
     TooManyBlocks { count: u64 },
-    /// A path of a part, a wire or an instance has more than 255 bytes; the longest.
+    /// The longest path of a part, a wire or an instance has more than 255 bytes.
     PathTooLong { length: u64 },
-    /// There was no memory.
+    /// Memory ran out.
     Memory,
 }
 
@@ -39,11 +39,11 @@ impl From<AllocError> for FlattenError {
     }
 }
 
-/// Makes the device of a design: each part, wire and instance of a block is named by its path, and each port of an instance
-/// is the wire that is passed to it.
+/// Makes the device of a design: each part, wire and instance of a block has its path as its name, and each port of an
+/// instance is the wire that is passed to it.
 ///
-/// The first reason of `FlattenError` that applies is the answer, in their order there. As it is
-/// written, all counts are taken before anything is made.
+/// Memory may run out at any time. Any other error is the first in the order of `FlattenError` that applies. In the
+/// present code, all counts are taken before anything is made.
 pub fn flatten(alloc: Global, design: &Design) -> Result<Device, FlattenError>
     ensures { Fulfils (λ device. device) told (flattened design.now) result }
 {
@@ -57,13 +57,13 @@ pub fn flatten(alloc: Global, design: &Design) -> Result<Device, FlattenError>
         Ok(device) => Ok(device),
         Err(error) => match error {
             BuildError::Memory => Err(FlattenError::Memory),
-            // Paths differ and ports fit their parts, as names and arguments do in each block.
+            // In each block names differ and arguments fit, so paths differ and ports fit.
             _ => unreachable!(),
         },
     }
 }
 
-// All parts and wires, if no limit is passed.
+// Makes all parts and wires. No limit is exceeded.
 fn flat_of(alloc: Global, design: &Design) -> Result<Flat, AllocError>
     requires { refusal (counts_of_design design.now) ≡ None }
     ensures { IfOk result (λ flat. IsFlat design.now flat.parts.items flat.wires.items) }
@@ -95,7 +95,7 @@ fn names_of(alloc: Global, names: &[Name]) -> Result<Vec<Name>, AllocError>
     Ok(copies)
 }
 
-// The places from 0 on.
+// Returns the first `count` places, from 0 on.
 fn first_places(alloc: Global, count: usize) -> Result<Vec<u32>, AllocError>
     requires { count ≤ WIRE_LIMIT }
     ensures { IfOk result (λ places. places.items ≡ range_with_len 0 count) }

@@ -1,5 +1,5 @@
--- How much an instance of each block has, whatever its path is and whatever is passed to it. Counts stop at the greatest
--- number of 64 bits.
+-- The counts of an instance of each block. They do not depend on its path or on the wires passed to it. They stop at
+-- 2 ^ 64 - 1.
 use Rattle.std.specs.Prelude.{ℕ, ◌+◌, max, List, map, length, drop, Option, Some, None, fold, nat_lt, nat_eq, slice_index_or, if◌then◌else◌}
 use Rattle.text_rules.specs.Names.{Name}
 use Rattle.state_rules.specs.Values.{values}
@@ -18,7 +18,7 @@ use Rattle.flattener.specs.Flat.{saturated, greatest, top_ports}
 abbrev pub no_counts : Counts
 no_counts = record { parts = 0; wires = 0; instances = 0; longest = 0 }
 
--- the longest of some names, in bytes
+-- the bytes of the longest name
 abbrev pub longest_of : List Name → ℕ
 longest_of names = greatest (map (λ (name : Name). length name) names)
 
@@ -37,7 +37,7 @@ added a b = record {
 abbrev pub counts_of_part : Name → Counts
 counts_of_part name = record { parts = 1; wires = 0; instances = 0; longest = length name }
 
--- the longest path below a name of so many bytes, if the longest below has so many, or has none
+-- the longest path from a name of `name` bytes on, if the longest below it is `longest` (0 if none)
 abbrev pub below_name : ℕ → ℕ → ℕ
 below_name name longest = if nat_eq longest 0 then name else saturated (name + 1 + longest)
 
@@ -57,17 +57,17 @@ counts_of_kind above name (OfBlock place) = counts_of_instance name (slice_index
 abbrev pub counts_of_used : List Counts → Used → Counts
 counts_of_used above used = counts_of_kind above used.name used.kind
 
--- what an instance of a block has, by the counts of the blocks before
+-- the counts of an instance of a block, from those of the blocks before
 abbrev pub counts_of_block : Block → List Counts → Counts
 counts_of_block block above =
     fold (λ counts used. added counts (counts_of_used above used)) (counts_of_wires (drop block.ports block.wires)) block.parts
 
--- what the device has: the ports of the top are wires too
+-- the counts of the device: the ports of the top are wires too
 abbrev pub counts_of_design : Design → Counts
 counts_of_design design =
     added (counts_of_wires (top_ports design)) (slice_index_or (values counts_of_block design.blocks) design.top no_counts)
 
--- the first limit that is passed
+-- the first limit that is exceeded
 abbrev pub refusal : Counts → Option FlattenError
 refusal counts =
     if nat_lt PART_LIMIT counts.parts then Some (TooManyParts counts.parts)

@@ -3,6 +3,6 @@ use Rattle.std.specs.Prelude.{max}
 use Rattle.flattener.specs.inner.Counting.{longest_of}
 use Rattle.flattener.proofs.counting.longest_of.Given as goal
 
--- what is left decides
+-- the rest completes it
 abbrev pub invariant-loop-name : goal.invariant-loop-name
 invariant-loop-name l = max l.longest (longest_of (drop l.name-index l.names)) ≡ longest_of l.names

@@ -1,4 +1,4 @@
--- Names of which no two are the same.
+-- Lists of different names.
 use Rattle.std.proofs.Common.{◌≡◌, inl, inr, Bool, false, List, [], ◌∷◌, ◌++◌, map, refl, sym, ap, subst, ◌∙◌, arith}
 use Rattle.std.specs.Prelude.{if◌then◌else◌}
 use Rattle.text_rules.specs.Names.{Name, is_among}
@@ -35,7 +35,7 @@ pub Different-right : (xs ys : List Name) → Different (xs ++ ys) → Different
 Different-right [] ys h = h
 Different-right (x ∷ xs) ys h = Different-right xs ys h.1
 
--- names that are made of others, which they tell
+-- an injective map keeps names different
 pub Different-made : (make : Name → Name) → ((m n : Name) → make m ≡ make n → m ≡ n) → (ns : List Name) → Different ns → Different (map make ns)
 Different-made make tells [] h = tt
 Different-made make tells (n ∷ ns) h = (

@@ -1,4 +1,4 @@
--- Which answer `built` gives, one equation for each reason.
+-- The results of `built`, one equation for each reason.
 use Rattle.std.proofs.Common.{◌≡◌, ℕ, ◌≤◌, true, not, List, [], length, Option, Some, None, Ok, Err, refl, sym, ◌∙◌}
 use Rattle.std.specs.Prelude.{position}
 use Rattle.std.specs.List.{list_all}
@@ -23,7 +23,7 @@ module _ (parts : List Component) (wires : List Name) (tables : List TruthTable)
     pub built-device : None ≡ position (λ part. not (has_wires (length wires) part)) parts → built parts wires tables ≡ Ok (device_of parts wires tables)
     built-device h = rw (le-ltb 4096 (length parts) few_parts, le-ltb 16384 (length wires) few_wires, parts_differ, wires_differ, sym arities, sym h) refl
 
--- the same searches over lists that are the same
+-- the same searches over equal lists
 pub arity_at : (r : Option ℕ) (ts tables : List TruthTable) (ps parts : List Component) → ts ≡ tables → ps ≡ parts → r ≡ position (λ part. not (has_arity ts part)) ps → r ≡ position (λ part. not (has_arity tables part)) parts
 arity_at r ts tables ps parts e g h = h ∙ (λ j. position (λ part. not (has_arity (e j) part)) (g j))
 

@@ -1,4 +1,4 @@
--- If nothing is wrong with parts and wires, what is built is the device of these parts over the names of their wires.
+-- If parts and wires have no fault, the result is the device of these parts over the names of their wires.
 use Rattle.std.proofs.Common.{◌≡◌, ℕ, ◌+◌, ◌≤◌, Bool, true, cond, not, nat_lt, List, [], ◌∷◌, map, length, get_or, Some, None, Ok, refl, sym, ap, ◌∙◌, arith}
 use Rattle.std.specs.Prelude.{position}
 use Rattle.std.specs.List.{list_all, position_or_len}
@@ -17,7 +17,7 @@ use Rattle.device_model.proofs.SortedDevices.{component_name, position_or_len-am
 use Rattle.device_model.proofs.Repeats.{among_from_test}
 use Rattle.device_model.proofs.SortedLists.{itself}
 
--- where each item passes a test, none fails it
+-- if each item passes a test, none fails it
 pub none_fails : {A : Type 0} (p : A → Bool) (xs : List A) → list_all p xs ≡ true → None ≡ position (λ x. not (p x)) xs
 none_fails p xs h = sym (ap (λ n. cond (nat_lt n (length xs)) (Some n) None) (past xs h)
     ∙ ap (λ b. cond b (Some (length xs)) None) (le-ltb (length xs) (length xs) (omega arith)))
@@ -36,7 +36,7 @@ wire_at wires place = get_or wires place []
 abbrev pub named : List Name → Component → NamedPart
 named wires part = record { name = part.name; kind = part.kind; wires = map (wire_at wires) part.ports }
 
--- nothing is wrong with these parts and wires
+-- these parts and wires have no fault
 pub record CanBeBuilt (parts : List Component) (wires : List Name) (tables : List TruthTable) : Type 0 where
   pub few_parts : length parts ≤ PART_LIMIT
   pub few_wires : length wires ≤ WIRE_LIMIT
@@ -64,11 +64,11 @@ names_back : (wires names : List Name) → list_all (is_among wires) names ≡ t
 names_back wires [] h = refl
 names_back wires (n ∷ names) h = grind (arith, get_or-place_in, among_from_test, names_back wires names)
 
--- a part over wires that are there has their names back
+-- a part over wires of the list has the names of its wires back
 pub named-joined : (wires : List Name) (part : NamedPart) → list_all (is_among wires) part.wires ≡ true → named wires (joined wires part) ≡ part
 named-joined wires part h = ap (λ (names : List Name). record part { wires = names }) (names_back wires part.wires h)
 
--- and its ports are places of wires
+-- and each port is the place of a wire
 pub joined-wired : (wires : List Name) (part : NamedPart) → list_all (is_among wires) part.wires ≡ true → has_wires (length wires) (joined wires part) ≡ true
 joined-wired wires part h = over part.wires h
   where

@@ -1,4 +1,4 @@
--- What a caller cites of lists in the order of names, and of the devices that they make.
+-- Lemmas for callers about lists in the order of names, and about their devices.
 use Rattle.std.proofs.Common.{◌≡◌, ℕ, ◌<◌, true, List, [], length, get_or, Ok, sym, subst, arith}
 use Rattle.std.proofs.lemmas.List.Sums.{passes_at_first}
 use Rattle.text_rules.specs.Expected.{IsExpectedFault}
@@ -25,7 +25,7 @@ In-sorted_distinct names n m = let r = sorted_distinct-has itself names n m in s
 pub In-from_sorted_distinct : (names : List Name) (n : Name) → In n (sorted_distinct itself names) → In n names
 In-from_sorted_distinct names n m = among_sorted_distinct itself names n m
 
--- the order depends on which names there are, and not on how often or in which order they stand
+-- the result depends on the set of names, not on their order or repetition
 pub sorted_distinct-same_names : (xs ys : List Name) → ((n : Name) → In n xs → In n ys) → ((n : Name) → In n ys → In n xs) → sorted_distinct itself xs ≡ sorted_distinct itself ys
 sorted_distinct-same_names xs ys to back = grind (arith, sorted_distinct-is, Rises-sorted_distinct, In-sorted_distinct, In-from_sorted_distinct)
 
@@ -35,7 +35,7 @@ sorted_distinct-same_tests xs ys same_test = grind (arith, sorted_distinct-same_
 
 -- ---- places
 
--- a name of a rising list is at no other place
+-- a name of a rising list is at this place only
 pub place_in-names_rise : (names : List Name) (k : ℕ) → names_rise names ≡ true → k < length names → place_in names (get_or names k []) ≡ k
 place_in-names_rise names k h l = place_in-rising names k (Rises-from_names_rise names h) l
 
@@ -46,12 +46,12 @@ get_or-place_in names n m =
 
 -- ---- devices
 
--- what is built where nothing is refused, which is a device
+-- `d` is built from these without a refusal
 pub record IsBuilt (parts : List Component) (wires : List Name) (tables : List TruthTable) (d : Device) : Type 0 where
   pub made : d ≡ device_of parts wires tables
   pub valid : IsDevice d
 
--- Where parts and wires make a device, nothing else can be wanting than memory.
+-- If parts and wires make a device, the only error is lack of memory.
 pub only_memory : (parts : List Component) (wires : List Name) (tables : List TruthTable) (device : Device) → built parts wires tables ≡ Ok device
     → (error : BuildError) → IsExpectedFault (reason error) (built parts wires tables) → error ≡ Memory
 only_memory parts wires tables device made error h = grind arith

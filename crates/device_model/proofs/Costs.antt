@@ -1,4 +1,4 @@
--- What a failure of each part of a device costs.
+-- The cost of a failure of each part of a device.
 use Rattle.std.proofs.Common.{◌≡◌, ℕ, ◌<◌, true, List, length, get_or, ap, subst, ◌∙◌, arith}
 use Rattle.std.specs.Prelude.{slice_get, slice_index}
 use Rattle.std.proofs.lemmas.List.{get_or-map}
@@ -18,14 +18,14 @@ module _ (device : Device) (place : ℕ) (part : Component) (within : place < le
   pub cost-at : slice_index (part_costs device) place ≡ rule_cost device.tables (rule part.kind)
   cost-at = grind (arith, get_or-map)
 
-  -- the table of a part of a type is there
+  -- the table of a part of a type exists
   pub has_table : (t : ℕ) → IsDevice device → rule part.kind ≡ Table t → t < length device.tables
   has_table t valid e =
       let arity = ap (has_arity device.tables) is
       ∙ list_all-among (has_arity device.tables) device.parts valid.arities (get_or device.parts place part) (In-at device.parts place part within) in
       table_there device.tables t (length part.ports) (subst (λ r. takes_ports device.tables r (length part.ports) ≡ true) e arity)
 
-  -- and such a part costs what its table says
+  -- and the part has its table's cost
   pub table-cost : (t : ℕ) (rows : TruthTable) → IsDevice device → rule part.kind ≡ Table t → rows ≡ get_or device.tables t rows
       → rows.cost ≡ slice_index (part_costs device) place
   table-cost t rows valid e there = grind (arith, cost-at, slice_get_read, has_table)

@@ -1,4 +1,4 @@
--- Worked rows: what the definitions compute.
+-- Worked rows: values of the definitions.
 use Rattle.std.proofs.Common.{◌≡◌, ℕ, Bool, true, false, List, [], ◌∷◌, Some, None, Err, refl, map, ◌++◌}
 use Rattle.std.specs.Prelude.{codes}
 use Rattle.text_rules.specs.Names.{names_rise}
@@ -33,7 +33,7 @@ c17 = record {
 c17_names : names_rise c17.wires ≡ true
 c17_names = refl
 
--- the inputs 1, 2, 3, 6 and 7 are seen as 0, and the outputs 22 and 23
+-- the inputs 1, 2, 3, 6 and 7 are seen as 0, the outputs 22 and 23 as given
 abbrev zeros_with : Bool → Bool → Case
 zeros_with out22 out23 = record {
   seen = Some false ∷ None ∷ None ∷ None ∷ None ∷ Some false ∷ Some out22 ∷ Some out23 ∷ Some false ∷ Some false ∷ Some false ∷ [];
@@ -43,12 +43,12 @@ zeros_with out22 out23 = record {
 c17_one_output_least : least_cost (device_system c17) (zeros_with true false) ≡ Some 1
 c17_one_output_least = refl
 
--- 10, or 22
+-- 10 or 22 is faulty
 c17_one_output : all_diagnoses (device_system c17) (zeros_with true false)
     ≡ (false ∷ true ∷ true ∷ true ∷ true ∷ true ∷ []) ∷ (true ∷ true ∷ true ∷ true ∷ false ∷ true ∷ []) ∷ []
 c17_one_output = refl
 
--- 16
+-- 16 is faulty
 c17_both_outputs : all_diagnoses (device_system c17) (zeros_with true true) ≡ (true ∷ true ∷ false ∷ true ∷ true ∷ true ∷ []) ∷ []
 c17_both_outputs = refl
 
@@ -66,7 +66,7 @@ of_xors = refl
 a_buffer_takes_one : map (takes_inputs (rule Buff)) (0 ∷ 1 ∷ 2 ∷ []) ≡ false ∷ true ∷ false ∷ []
 a_buffer_takes_one = refl
 
--- ---- a part of a type that is not there
+-- ---- a part of a type that is missing
 
 arity_of_no_table : built (part (codes "b") (Table 0) (0 ∷ 0 ∷ []) ∷ []) (codes "a" ∷ []) [] ≡ Err (Arity 0)
 arity_of_no_table = refl

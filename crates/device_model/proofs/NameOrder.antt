@@ -24,7 +24,7 @@ Below-irreflexive a h = let e = tied_itself nat_list_cmp_total a in cc
 pub Below-asymmetric : (a b : Name) → Below a b → Below b a → ⊥
 Below-asymmetric a b h g = Below-irreflexive a (Below-trans a b a h g)
 
--- how two names stand to each other
+-- the order of two names
 pub data Compared (a b : Name) : Type 0 where
   same : a ≡ b → Compared a b
   below : Below a b → Compared a b

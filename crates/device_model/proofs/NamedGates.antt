@@ -10,7 +10,7 @@ use Rattle.device_model.specs.Gates.{word}
 abbrev pub first_named : (Name → Bool) → List Kind → Option Kind
 first_named test gates = lookup test (map (λ gate. (word gate, gate)) gates)
 
--- a gate that does not pass is left out
+-- a gate that does not pass is skipped
 pub first_named-later : (test : Name → Bool) (gates : List Kind) (i : ℕ) (default : Kind) → i < length gates → test (word (get_or gates i default)) ≡ false
     → first_named test (drop i gates) ≡ first_named test (drop (i + 1) gates)
 first_named-later test gates i default l t = rw (drop_more gates i default l) (rw t)

@@ -1,4 +1,4 @@
--- Lists of items by rising name, and that `sorted_distinct` makes the only one that has the same items.
+-- Lists of items by rising name: `sorted_distinct` makes the only one with the same items.
 use Rattle.std.proofs.Common.{◌≡◌, ◌⊎◌, inl, inr, List, [], ◌∷◌, refl, sym, ap, subst, ◌∙◌, arith}
 use Rattle.text_rules.specs.Names.{Name}
 use Rattle.text_rules.proofs.NameLemmas.{same_if_equal}
@@ -12,7 +12,7 @@ module _ {A : Type 0} (name : A → Name) where
   BelowAll n [] = Unit {0}
   BelowAll n (y ∷ ys) = Below n (name y) × BelowAll n ys
 
-  -- each item's name is before those of all items after it
+  -- each item's name is before those of all later items
   abbrev pub Rises : List A → Type 0
   Rises [] = Unit {0}
   Rises (x ∷ xs) = BelowAll (name x) xs × Rises xs
@@ -55,7 +55,7 @@ module _ {A : Type 0} (name : A → Name) where
   placed-keeps x [] z m = absurd m
   placed-keeps x (y ∷ ys) z m = grind (arith, placed-keeps x ys z)
 
-  -- an item of the list that has the name
+  -- an item of the list with the name
   abbrev Named : Name → List A → Type 0
   Named n ys = (z : A) × In z ys × (name z ≡ n)
 
@@ -67,12 +67,12 @@ module _ {A : Type 0} (name : A → Name) where
     | above l ↦ subst (Named (name x)) (sym (placed-above x y ys l)) (let r = placed-has x ys in (r.0, inr r.1, r.2))
   ]
 
-  -- what is in order was there
+  -- each item of the result is in the list
   pub among_sorted_distinct : (xs : List A) (z : A) → In z (sorted_distinct name xs) → In z xs
   among_sorted_distinct [] z m = m
   among_sorted_distinct (x ∷ xs) z m = elim (among_placed x (sorted_distinct name xs) z m) [ inl e ↦ inl e | inr n ↦ inr (among_sorted_distinct xs z n) ]
 
-  -- and each name of what was there is in order
+  -- and each name of the list is in the result
   pub sorted_distinct-has : (xs : List A) (x : A) → In x xs → Named (name x) (sorted_distinct name xs)
   sorted_distinct-has [] x m = absurd m
   sorted_distinct-has (y ∷ ys) x (inl e) = subst (λ (z : A). Named (name z) (sorted_distinct name (y ∷ ys))) (sym e) (placed-has y (sorted_distinct name ys))
@@ -95,7 +95,7 @@ module _ {A : Type 0} (name : A → Name) where
   abbrev pub Within : List A → List A → Type 0
   Within xs ys = (z : A) → In z xs → In z ys
 
-  -- the heads of two rising lists of the same items are the same
+  -- two rising lists of the same items have equal heads
   same_heads : (x : A) (xs : List A) (y : A) (ys : List A) → Rises (x ∷ xs) → Rises (y ∷ ys) → Within (x ∷ xs) (y ∷ ys) → Within (y ∷ ys) (x ∷ xs) → x ≡ y
   same_heads x xs y ys r s to back = elim (to x (inl refl)) [
     | inl e ↦ e
@@ -114,6 +114,6 @@ module _ {A : Type 0} (name : A → Name) where
   Rises-unique (x ∷ xs) [] r s to back = absurd (to x (inl refl))
   Rises-unique (x ∷ xs) (y ∷ ys) r s to back = grind (arith, same_heads, tail_within, Rises-unique xs ys r.1 s.1)
 
-  -- the rising list of the same items is what `sorted_distinct` makes
+  -- a rising list of the same items is `sorted_distinct` of them
   pub sorted_distinct-is : (xs ys : List A) → Rises ys → Within xs ys → Within ys xs → sorted_distinct name xs ≡ ys
   sorted_distinct-is xs ys r to back = grind (arith, NamesTell-rising, Rises-unique, Rises-sorted_distinct, among_sorted_distinct, sorted_distinct-keeps)

@@ -1,4 +1,4 @@
--- The names that are twice in a list, and the least of them.
+-- The names that occur twice in a list, and the least of them.
 use Rattle.std.proofs.Common.{◌≡◌, ℕ, zero, suc, ◌+◌, ◌<◌, ◌≤◌, ◌⊎◌, inl, inr, Bool, true, false, List, [], ◌∷◌, length, get_or, Result, Err, refl, sym, ap, subst, ◌∙◌, arith}
 use Rattle.std.specs.Prelude.{if◌then◌else◌}
 use Rattle.std.specs.List.{sum_by}
@@ -16,7 +16,7 @@ use Rattle.device_model.proofs.NameOrder.{Below, Below-trans, Below-irreflexive,
 use Rattle.device_model.proofs.Ordered.{BelowAll, Below-among, Rises, Rises-sorted_distinct, among_sorted_distinct, sorted_distinct-has}
 use Rattle.device_model.proofs.SortedLists.{itself, AtMost, AtMostAll, AtMost-among, Ascends}
 
--- how often a name is in a list
+-- the number of times that a name is in a list
 abbrev pub one_if : Bool → ℕ
 one_if true = 1
 one_if false = 0
@@ -38,7 +38,7 @@ count-same m n ns e = rw (same_if_equal m n e) refl
 count-other : (m n : Name) (ns : List Name) → (m ≡ n → ⊥) → count m (n ∷ ns) ≡ count m ns
 count-other m n ns h = rw (same_name-other m n h) (omega arith)
 
--- two names are the same or not
+-- two names are equal or not
 pub same_or_other : (m n : Name) → (m ≡ n) ⊎ (m ≡ n → ⊥)
 same_or_other m n = elim (compared m n) [
   | same e ↦ inl e
@@ -71,7 +71,7 @@ among_from_test n (m ∷ ms) h = grind (arith, equal_if_same, among_from_test n 
 in_repeated : (n : Name) (ns : List Name) (b : Bool) → is_among ns n ≡ b → (m : Name) → In m (repeated (n ∷ ns)) → ((m ≡ n) × In n ns) ⊎ In m (repeated ns)
 in_repeated n ns b e m h = grind (arith, among_from_test)
 
--- a repeated name is twice
+-- a repeated name occurs twice
 pub twice_from_repeated : (ns : List Name) (m : Name) → In m (repeated ns) → 2 ≤ count m ns
 twice_from_repeated [] m h = absurd h
 twice_from_repeated (n ∷ ns) m h = grind (arith, in_repeated, count-same, count-among, twice_from_repeated ns m)
@@ -82,7 +82,7 @@ repeated-more n ns b e m h = grind arith
 repeated-first : (n : Name) (ns : List Name) → In n ns → In n (repeated (n ∷ ns))
 repeated-first n ns h = subst (λ (c : Bool). In n (if c then n ∷ repeated ns else repeated ns)) (sym (is_among-among n ns h)) (inl refl)
 
--- and a name that is twice is repeated
+-- a name that occurs twice is repeated
 pub repeated_from_twice : (ns : List Name) (m : Name) → 2 ≤ count m ns → In m (repeated ns)
 repeated_from_twice [] m h = absurd (omega arith)
 repeated_from_twice (n ∷ ns) m h = elim (same_or_other m n) [
@@ -90,7 +90,7 @@ repeated_from_twice (n ∷ ns) m h = elim (same_or_other m n) [
   | inr o ↦ repeated-more n ns (is_among ns n) refl m (repeated_from_twice ns m (omega (arith, count-other m n ns o)))
 ]
 
--- a name that is twice, and is at most each such name
+-- the least name that occurs twice
 pub record IsLeastTwice (ns : List Name) (n : Name) : Type 0 where
   twice : 2 ≤ count n ns
   least : (m : Name) → 2 ≤ count m ns → AtMost n m
@@ -104,7 +104,7 @@ least_first x y ns h e = record {
   ];
 }
 
--- a head that differs from its neighbour in an ascending list stands nowhere else
+-- in an ascending list, a head that differs from its neighbour occurs nowhere else
 head_alone : (x y : Name) (ns : List Name) → Ascends itself (x ∷ y ∷ ns) → (x ≡ y → ⊥) → BelowAll itself x (y ∷ ns)
 head_alone x y ns h o = elim h.0.0 [
   | inl e ↦ absurd (o e)
@@ -124,7 +124,7 @@ least_later x y ns alone n h = record {
   ];
 }
 
--- the first two neighbours of one name in an ascending list have the least name that is twice
+-- the first two equal neighbours in an ascending list are the least name that occurs twice
 pub first_repeat_is_least : (ns : List Name) (i : ℕ) → Ascends itself ns → suc i < length ns → get_or ns i [] ≡ get_or ns (suc i) []
     → ((k : ℕ) → k < i → get_or ns k [] ≡ get_or ns (suc k) [] → ⊥) → IsLeastTwice ns (get_or ns i [])
 first_repeat_is_least [] i h l e before = absurd (omega arith)
@@ -134,7 +134,7 @@ first_repeat_is_least (x ∷ y ∷ ns) (suc i) h l e before =
     least_later x y ns (head_alone x y ns h (before 0 (omega arith))) (get_or (y ∷ ns) i [])
     (first_repeat_is_least (y ∷ ns) i h.1 (omega arith) e (λ k b. before (suc k) (omega arith)))
 
--- an ascending list rises where no two neighbours are the same
+-- an ascending list rises if no two neighbours are equal
 pub Rises-from_neighbours : (ns : List Name) → Ascends itself ns → ((k : ℕ) → suc k < length ns → get_or ns k [] ≡ get_or ns (suc k) [] → ⊥) → Rises itself ns
 Rises-from_neighbours [] h o = tt
 Rises-from_neighbours (x ∷ []) h o = (tt, tt)
@@ -151,7 +151,7 @@ once_in_rising (n ∷ ns) h m = elim (same_or_other m n) [
     alone e zero g = omega (arith, count-same m n ns e)
     alone e (suc c) g = absurd (Below-irreflexive n (subst (Below n) e (Below-among itself n ns m h.0 (among_from_count m ns (omega arith)))))
 
--- no name is repeated where the names can be put in rising order
+-- no name is repeated if a permutation of the names rises
 pub repeated-rising : (xs ys : List Name) → IsPermutation xs ys → Rises itself ys → repeated xs ≡ []
 repeated-rising xs ys p h = empty-none (repeated xs) (λ m k. omega (arith, twice_from_repeated xs m k, count-permutation m xs ys p, once_in_rising ys h m))
 
@@ -176,7 +176,7 @@ sorted_distinct-first ns n there least = by (sorted_distinct itself ns) refl
           ],
         )
 
--- the reason that two neighbours of one name are, wherever the names were given
+-- the error of the least name that occurs twice, if `ys` is a permutation of `xs`
 pub unless_name-repeated : (xs ys : List Name) (i : ℕ) → IsPermutation xs ys → IsLeastTwice ys (get_or ys i [])
     → (error : Name → BuildError) (otherwise : Result Device BuildError) → unless_name error (sorted_distinct itself (repeated xs)) otherwise ≡ Err (error (get_or ys i []))
 unless_name-repeated xs ys i p h error otherwise =

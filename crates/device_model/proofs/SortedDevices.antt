@@ -1,4 +1,4 @@
--- The device that sorted parts and wires make: that it is one, and that it is the one of the parts and wires as they were given.
+-- Sorted parts and wires make a device, and it is the device of the parts and wires as they were given.
 use Rattle.std.proofs.Common.{◌≡◌, ℕ, ◌+◌, ◌<◌, ◌≤◌, inl, inr, Bool, true, false, cond, not, nat_lt, List, [], ◌∷◌, map, length, get_or, Some, None, refl, ap, subst, ◌∙◌, arith}
 use Rattle.std.specs.Prelude.{position}
 use Rattle.std.specs.List.{list_all, position_or_len}
@@ -34,7 +34,7 @@ none_given b i h = grind arith
 among_place : {A : Type 0} (xs : List A) (x : A) → In x xs → (k : ℕ) × (k < length xs) × (get_or xs k x ≡ x)
 among_place xs x m = Contains-from_among xs x m
 
--- where no item fails a test, each passes
+-- if no item fails a test, each passes
 pub list_all-from_position : {A : Type 0} (p : A → Bool) (xs : List A) → position (λ x. not (p x)) xs ≡ None → list_all p xs ≡ true
 list_all-from_position p xs h = grind (arith, list_all-from_among, among_place, fails_before_first)
 
@@ -69,7 +69,7 @@ position_or_len-among [] n m = absurd m
 position_or_len-among (x ∷ ns) n (inl e) = rw (same_if_equal n x e) (omega arith)
 position_or_len-among (x ∷ ns) n (inr m) = grind (arith, position_or_len-among ns n m)
 
--- each port of a part that has its wires is the place of a wire
+-- the place of a port's wire in the sorted wires is below their number
 place_in-fits : (wires : List Name) (port : ℕ) → port < length wires → place_in (sorted_distinct itself wires) (get_or wires port []) < length (sorted_distinct itself wires)
 place_in-fits wires port l =
     let r = sorted_distinct-has itself wires (get_or wires port []) (In-at wires port [] l) in
@@ -94,7 +94,7 @@ renumbered-has_wires wires part h = over part.ports h
 abbrev pub component_name : Component → Name
 component_name part = part.name
 
--- what parts and wires of the right arity and number make is a device
+-- parts and wires of the right arities and numbers make a device
 pub IsDevice-device_of : (parts : List Component) (wires : List Name) (tables : List TruthTable) → length parts ≤ 4096 → length wires ≤ 16384
     → list_all (has_arity tables) parts ≡ true → list_all (has_wires (length wires)) parts ≡ true → IsDevice (device_of parts wires tables)
 IsDevice-device_of parts wires tables few_parts few_wires arities joined = grind (arith, names_rise-Rises, Rises-map, Rises-sorted_distinct, list_all-sorted_distinct, list_all-map, list_all-from_among, list_all-among, renumbered-has_wires, length-sorted_distinct, length-map)

@@ -1,4 +1,4 @@
--- Lists that a sort by name left: neighbours, and what permutations keep.
+-- Lists sorted by name: neighbours, and what permutations keep.
 use Rattle.std.proofs.Common.{◌≡◌, ℕ, zero, suc, ◌+◌, ◌<◌, ◌≤◌, ◌⊎◌, inl, inr, true, false, List, [], ◌∷◌, map, length, get_or, Contains, add-one, refl, sym, subst, arith}
 use Rattle.std.specs.List.Sorted.{IsPermutation}
 use Rattle.std.proofs.lemmas.List.Sorted.{Contains-permutation}
@@ -23,7 +23,7 @@ among_from_Contains xs x h = by xs h.0 h.1 h.2
 pub among_permutation : {A : Type 0} (xs ys : List A) → IsPermutation xs ys → (x : A) → In x xs → In x ys
 among_permutation xs ys h x m = among_from_Contains ys x (Contains-permutation xs ys x h (Contains-from_among xs x m))
 
--- a name is before another or is the same
+-- a name is before another or equal to it
 abbrev pub AtMost : Name → Name → Type 0
 AtMost a b = (a ≡ b) ⊎ Below a b
 

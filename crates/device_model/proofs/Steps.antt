@@ -1,4 +1,4 @@
--- What the loops and sorts of a device's making keep.
+-- What the loops and sorts that build a device keep.
 use Rattle.std.proofs.Common.{◌≡◌, ◌≢◌, ℕ, zero, suc, ◌+◌, ◌-◌, ◌<◌, ◌≤◌, inl, inr, true, false, List, [], ◌∷◌, ◌++◌, map, length, get_or, set, Some, Err, slice_index, add-one, refl, sym, ap, subst, ◌∙◌, arith}
 use Rattle.std.specs.List.{All, AllPairs}
 use Rattle.std.specs.List.Sorted.{IsPermutation}
@@ -33,7 +33,7 @@ module _ {A : Type 0} (name : A → Name) (xs : List A) (place : ℕ) (d e : A) 
     | inr n ↦ before k (omega arith) same_names
   ]
 
--- a sort of names, where neighbours differ or not
+-- a sort of names, if neighbours differ and if not
 module _ (ns ms : List Name) (moved : IsPermutation ns ms) (up : Ascends itself ms) where
   pub Rises-sorted : NeighboursDiffer ms (length ms) → Rises itself ms
   Rises-sorted h = Rises-from_neighbours ms up (λ k l e. h k (omega arith) (subst (λ (j : ℕ). get_or ms k [] ≡ get_or ms j []) (sym (add-one k)) e))

@@ -1,4 +1,4 @@
--- Tables whose keys are names: a look-up gives a name's place.
+-- Tables whose keys are names: a look-up finds a name's place.
 use Rattle.std.proofs.Common.{◌≡◌, ◌+◌, Bool, cond, not, List, [], ◌∷◌, map, refl, ap, arith}
 use Rattle.std.specs.Prelude.{position}
 use Rattle.std.specs.List.{position_or_len}
@@ -10,6 +10,6 @@ module _ {K : Type 0} (bytes : K → Name) where
   position_or_len-map p [] = refl
   position_or_len-map p (k ∷ ks) = ap (λ n. cond (not (p (bytes k))) (1 + n) 0) (position_or_len-map p ks)
 
-  -- a look-up by a key's bytes is a look-up among the bytes of the keys
+  -- a look-up by a key's bytes searches the bytes of the keys
   pub position-map : (p : Name → Bool) (ks : List K) → position (λ k. p (bytes k)) ks ≡ position p (map bytes ks)
   position-map p ks = grind (arith, position_or_len-map, length-map)

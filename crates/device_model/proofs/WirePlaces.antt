@@ -1,4 +1,4 @@
--- The places of the wires: sorted wires beside their positions give each position its wire's place in order.
+-- The places of the wires: from sorted wires with their positions, the place in order of the wire of each position.
 use Rattle.std.proofs.Common.{◌≡◌, ◌≢◌, ℕ, zero, suc, ◌+◌, ◌<◌, inl, inr, true, List, [], ◌∷◌, ◌++◌, map, length, take, get_or, slice_index, refl, sym, ap, subst, ◌∙◌, arith}
 use Rattle.std.specs.Prelude.{nat_lt}
 use Rattle.std.specs.List.{All, AllPairs, list_all, position_or_len}
@@ -56,7 +56,7 @@ place_in-rising (n ∷ ns) (suc k) h l =
 abbrev pub wire_name : Name × ℕ → Name
 wire_name w = w.0
 
--- what is known of sorted wires beside their positions
+-- what is known of sorted wires with their positions
 module _ (wires : List Name) (ss : List (Name × ℕ)) (moved : IsPermutation (numbered_from 0 wires) ss) (named : map wire_name ss ≡ sorted_distinct itself wires) where
   pub length-wires : length ss ≡ length wires
   length-wires = length_permutation (numbered_from 0 wires) ss moved ∙ length-numbered_from 0 wires
@@ -83,7 +83,7 @@ module _ (wires : List Name) (ss : List (Name × ℕ)) (moved : IsPermutation (n
       Below-irreflexive b.0 (subst (λ (n : Name). Below n b.0) same_names (Rises-get_or wire_name ss i j d rising l k))
 
   module _ (places : List ℕ) (filled : (k : ℕ) (w : Name × ℕ) → k < length ss → slice_index places (get_or ss k w).1 ≡ k) where
-    -- a position's place is that of its wire's name in order
+    -- the place of a position is that of its wire in the sorted wires
     place_of_position : (port : ℕ) → port < length wires → slice_index places port ≡ place_in (sorted_distinct itself wires) (get_or wires port [])
     place_of_position port l =
         let name = get_or wires port [] in
@@ -127,11 +127,11 @@ ports_fit parts n m e h k d l i f b =
     let port = get_or p.ports i f in
     omega (arith, ltb-true port n (list_all-among (λ q. nat_lt q n) p.ports one port (In-at p.ports i f b)))
 
--- what is left of a list that was written back over its first items
+-- the first items, after a write over them
 pub written_back : {A : Type 0} (n : ℕ) (xs zs : List A) → n ≡ length xs → take n (xs ++ zs) ≡ xs
 written_back n xs zs e = ap (λ (k : ℕ). take k (xs ++ zs)) e ∙ take-append_seam xs zs
 
--- the device that the last steps put together is that of the parts and wires as they were given
+-- the device that the last steps make is that of the parts and wires as they were given
 pub assembled : (parts : List Component) (wires : List Name) (tables : List TruthTable) (new : List Component) (names : List Name) (ss : List (Name × ℕ)) (places : List ℕ)
     → IsPermutation (numbered_from 0 wires) ss → map wire_name ss ≡ sorted_distinct itself wires
     → ((k : ℕ) (w : Name × ℕ) → k < length ss → slice_index places (get_or ss k w).1 ≡ k)

@@ -1,4 +1,4 @@
--- The device that parts and wires in any order make, or the reason why they make none.
+-- The device of parts and wires in any order, or the reason why there is none.
 use Rattle.std.specs.Prelude.{ℕ, not, List, [], ◌∷◌, map, length, Option, Some, None, Result, Ok, Err, slice_index_or, nat_lt, position, if◌then◌else◌}
 use Rattle.std.specs.List.{position_or_len}
 use Rattle.text_rules.specs.Names.{Name, same_name, is_among}
@@ -11,11 +11,11 @@ use Rattle.device_model.specs.TruthTable.{TruthTable}
 use Rattle.device_model.specs.Order.{sorted_distinct}
 use Rattle.device_model.specs.Devices.{Device, part_names, has_arity, has_wires}
 
--- where a name is
+-- the place of a name
 abbrev pub place_in : List Name → Name → ℕ
 place_in names name = position_or_len (same_name name) names
 
--- a part whose ports are places among the wires as they were given, among the wires in order
+-- a part whose ports are places in the given `wires`, with their places in the sorted wires instead
 abbrev pub renumbered : List Name → Component → Component
 renumbered wires part =
     record part { ports = map (λ port. place_in (sorted_distinct (λ n. n) wires) (slice_index_or wires port [])) part.ports }
@@ -33,7 +33,7 @@ pub record NamedPart : Type 0 where
   pub kind : Kind
   pub wires : List Name
 
--- its ports are the places of these wires
+-- the part with the places of its wires in `wires` as ports
 abbrev pub joined : List Name → NamedPart → Component
 joined wires part = record { name = part.name; kind = part.kind; ports = map (place_in wires) part.wires }
 
@@ -43,17 +43,17 @@ device_over parts wires tables =
     let sorted = sorted_distinct (λ n. n) wires in
     record { parts = sorted_distinct (λ (part : Component). part.name) (map (joined sorted) parts); wires = sorted; tables = tables }
 
--- the names that are again after themselves
+-- each name that occurs again later
 abbrev pub repeated : List Name → List Name
 repeated [] = []
 repeated (name ∷ names) = if is_among names name then name ∷ repeated names else repeated names
 
--- an error is a reason, except lack of memory
+-- the reason of an error; lack of memory is none
 abbrev pub reason : BuildError → Option BuildError
 reason Memory = None
 reason error = Some error
 
--- the first of some reasons, or the device
+-- the error of the first name, or `otherwise`
 abbrev pub unless_name : (Name → BuildError) → List Name → Result Device BuildError → Result Device BuildError
 unless_name error [] otherwise = otherwise
 unless_name error (name ∷ names) otherwise = Err (error name)
@@ -62,8 +62,8 @@ abbrev pub unless_place : (ℕ → BuildError) → Option ℕ → Result Device 
 unless_place error None otherwise = otherwise
 unless_place error (Some place) otherwise = Err (error place)
 
--- The first of these reasons, in this order: too many parts, too many wires, the least name of two parts, that of two
--- wires, the first part whose number of ports its kind does not take, the first with a port at no wire.
+-- The device, or the first of these reasons: too many parts, too many wires, the least name that two parts have, the least
+-- that two wires have, the first part whose kind takes another number of ports, the first with a port at no wire.
 abbrev pub built : List Component → List Name → List TruthTable → Result Device BuildError
 built parts wires tables =
     if nat_lt PART_LIMIT (length parts) then Err (TooMany (length parts))

@@ -1,4 +1,4 @@
--- Devices, and which bits of the wires fit which health state.
+-- Devices, and the bits of the wires that fit a health state.
 use Rattle.std.specs.Prelude.{◌≡◌, ℕ, ◌-◌, ◌≤◌, Bool, true, false, ◌&&◌, List, [], ◌∷◌, map, length, take, ◌==◌, Option, Some, None, slice_get, nat_lt, position}
 use Rattle.std.specs.List.{list_all}
 use Rattle.text_rules.specs.Names.{Name, same_name, names_rise}
@@ -20,11 +20,11 @@ pub record Device : Type 0 where
 abbrev pub part_names : List Component → List Name
 part_names parts = map (λ (part : Component). part.name) parts
 
--- the place of a name in a list
+-- the place of `name` in `names`
 abbrev pub place_of : Name → List Name → Option ℕ
 place_of name names = position (same_name name) names
 
--- A faulty gate allows every row, and one that is ok those whose last bit is the value of the others.
+-- A faulty gate allows every row, an ok one each row whose last bit is the gate's value of the others.
 abbrev pub gate_allows : Gate → Bool → List Bool → Bool
 gate_allows gate false row = true
 gate_allows gate true row =
@@ -34,7 +34,7 @@ abbrev pub table_allows : TruthTable → Bool → List Bool → Bool
 table_allows rows true row = has_bit rows.ok (row_number row)
 table_allows rows false row = has_bit rows.bad (row_number row)
 
--- a part of no table allows nothing
+-- a part whose table is missing allows nothing
 abbrev pub any_table_allows : Option TruthTable → Bool → List Bool → Bool
 any_table_allows None ok row = false
 any_table_allows (Some rows) ok row = table_allows rows ok row
@@ -47,7 +47,7 @@ allows tables (OfGate gate) ok row = gate_allows gate ok row
 abbrev pub part_allows : List TruthTable → Component → Bool → List Bool → Bool
 part_allows tables part ok wires = allows tables (rule part.kind) ok (map (bit_in wires) part.ports)
 
--- each part allows the bits of its wires
+-- whether each part allows the bits of its wires
 abbrev pub parts_fit : List TruthTable → List Component → List Bool → List Bool → Bool
 parts_fit tables [] state wires = true
 parts_fit tables (part ∷ parts) [] wires = false
@@ -60,7 +60,7 @@ abbrev pub table_cost : Option TruthTable → ℕ
 table_cost None = 1
 table_cost (Some rows) = rows.cost
 
--- What a failure of a part of this rule costs: 1 of a gate, and what its table says of a part of a type.
+-- the cost of a failure of a part of this rule: 1 for a gate, the cost of its table for a part of a type
 abbrev pub rule_cost : List TruthTable → Rule → ℕ
 rule_cost tables (OfTable t) = table_cost (slice_get tables t)
 rule_cost tables (OfGate gate) = 1
@@ -72,7 +72,7 @@ abbrev pub rows_take : Option TruthTable → ℕ → Bool
 rows_take None ports = false
 rows_take (Some rows) ports = rows.ports == ports
 
--- whether a part of this rule has so many ports, of which a gate's last is its output
+-- whether a part of this rule takes `ports` ports; the last port of a gate is its output
 abbrev pub takes_ports : List TruthTable → Rule → ℕ → Bool
 takes_ports tables (OfTable t) ports = rows_take (slice_get tables t) ports
 takes_ports tables (OfGate gate) ports = takes gate (ports - 1)
@@ -80,11 +80,11 @@ takes_ports tables (OfGate gate) ports = takes gate (ports - 1)
 abbrev pub has_arity : List TruthTable → Component → Bool
 has_arity tables part = takes_ports tables (rule part.kind) (length part.ports)
 
--- each port is the place of one of so many wires
+-- whether each port is the place of one of `wires` wires
 abbrev pub has_wires : ℕ → Component → Bool
 has_wires wires part = list_all (λ port. nat_lt port wires) part.ports
 
--- what holds of every device
+-- what is true of every device
 pub record IsDevice (device : Device) : Type 0 where
   pub parts_rise : names_rise (part_names device.parts) ≡ true
   pub wires_rise : names_rise device.wires ≡ true

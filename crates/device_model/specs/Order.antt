@@ -2,7 +2,7 @@
 use Rattle.std.specs.Prelude.{List, [], ◌∷◌, if◌then◌else◌}
 use Rattle.text_rules.specs.Names.{Name, name_below, same_name}
 
--- an item in its place by name, if no other has the name
+-- `x` inserted by its name, unless an item has the name
 abbrev pub placed : {A : Type 0} → (A → Name) → A → List A → List A
 placed name x [] = x ∷ []
 placed name x (y ∷ ys) =
@@ -10,7 +10,7 @@ placed name x (y ∷ ys) =
     else if name_below (name x) (name y) then x ∷ y ∷ ys
     else y ∷ placed name x ys
 
--- the items by rising name, one of each
+-- the items by rising name, one for each name
 abbrev pub sorted_distinct : {A : Type 0} → (A → Name) → List A → List A
 sorted_distinct name [] = []
 sorted_distinct name (x ∷ xs) = placed name x (sorted_distinct name xs)

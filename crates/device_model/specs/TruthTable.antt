@@ -1,8 +1,8 @@
--- The rows that a part of a type allows, and what its failure costs.
+-- The rows that a part of a type allows, and the cost of its failure.
 use Rattle.std.specs.Prelude.{ℕ, ◌-◌, ◌^◌, Bool, ◌&&◌, Option, Some, None, nat_le, nat_lt, if◌then◌else◌}
 use Rattle.device_model.specs.declared.limits.TheConstants.{TYPE_PORT_LIMIT, COST_LIMIT}
 
--- The numbers of the rows that a part allows are the bits that are set: if it is ok, and if it is faulty.
+-- Bit r of `ok` (of `bad`) is set if an ok (a faulty) part allows row r.
 pub record TruthTable : Type 0 where
   pub ports : ℕ
   pub ok : ℕ
@@ -12,15 +12,15 @@ pub record TruthTable : Type 0 where
 abbrev pub has_few_ports : ℕ → Bool
 has_few_ports ports = nat_le 1 ports && nat_le ports TYPE_PORT_LIMIT
 
--- So many ports have 2 ^ ports rows, and this number has a bit for each.
+-- the set of all 2 ^ `ports` rows, a bit for each
 abbrev pub set_of_all : ℕ → Option ℕ
 set_of_all ports = if has_few_ports ports then Some (2 ^ (2 ^ ports) - 1) else None
 
--- what a failure may cost
+-- whether a failure may have this cost
 abbrev pub is_cost : ℕ → Bool
 is_cost cost = nat_le 1 cost && nat_le cost COST_LIMIT
 
--- 1 to 6 ports, no row but those of so many ports, and a cost that a failure may have
+-- 1 to 6 ports, only rows of that many ports, and a cost that a failure may have
 abbrev pub is_table : TruthTable → Bool
 is_table rows =
     has_few_ports rows.ports

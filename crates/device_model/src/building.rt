@@ -16,20 +16,20 @@ use crate::limits::{PART_LIMIT, WIRE_LIMIT};
 use crate::names::Name;
 use std::alloc::{AllocError, Global};
 
-/// Why parts and wires make no device. A position is a place in the given list of parts, counted from 0.
+/// Why parts and wires make no device. A part is given by its place in the given list, counted from 0.
 #[derive(Debug, Drop)]
 pub enum BuildError {
-    /// More than 4,096 parts, or else more than 16,384 wires; the number of them.
+    /// `count` is more than 4,096 parts, or else more than 16,384 wires.
     TooMany { count: u64 },
-    /// Two parts have this name, the least such.
+    /// This is the least name that two parts have.
     TwoParts { name: Name },
-    /// Two wires have this name, the least such.
+    /// This is the least name that two wires have.
     TwoWires { name: Name },
-    /// The kind of this part does not take its number of ports, or its table is not there.
+    /// The kind of this part does not take its number of ports, or its table is missing.
     Arity { part: u32 },
-    /// A port of this part is no place of a wire.
+    /// A port of this part is not the place of a wire.
     NoWire { part: u32 },
-    /// There was no memory.
+    /// Memory ran out.
     Memory,
 }
 
@@ -41,7 +41,7 @@ impl From<AllocError> for BuildError {
     }
 }
 
-// Whether a part of a rule has so many ports.
+// Whether a part of this rule has `ports` ports.
 fn takes_ports(rule: Rule, tables: &[Table], ports: usize) -> bool
     ensures { result ≡ takes_ports tables.now rule ports }
 {
@@ -84,9 +84,9 @@ fn first_without_wires(wires: usize, parts: &[Component]) -> Option<usize>
 }
 
 impl Device {
-    /// Sorts parts and wires by name. A port is a position in the given `wires`, and becomes that wire's place in order.
+    /// Sorts parts and wires by name. A port is a place in the given `wires` and becomes the wire's place in order.
     ///
-    /// The first reason of `BuildError` that applies is the answer, in their order there.
+    /// Memory may run out at any time. Any other error is the first in the order of `BuildError` that applies.
     pub fn build(
         alloc: Global,
         parts: Vec<Component>,
@@ -123,7 +123,7 @@ impl Device {
     }
 }
 
-// The parts by rising name, or the least name of two parts.
+// Sorts the parts by name. The error is the least name that two parts have.
 fn sorted_parts(parts: Vec<Component>) -> Result<Vec<Component>, BuildError>
     ensures sorted { IfOk result (λ s. s.items ≡ sorted_distinct (λ p. p.name) parts.items) }
     ensures same { IfOk result (λ s. IsPermutation parts.items s.items) }
@@ -140,7 +140,7 @@ fn sorted_parts(parts: Vec<Component>) -> Result<Vec<Component>, BuildError>
     Ok(parts)
 }
 
-// The wires by rising name, each beside its position among the given ones, or the least name of two wires.
+// Sorts the wires by name, each with its position in `wires`. The error is the least name that two wires have.
 fn sorted_wires(alloc: Global, wires: Vec<Name>) -> Result<Vec<(Name, u32)>, BuildError>
     requires { length wires.items ≤ WIRE_LIMIT }
     ensures sorted { IfOk result
@@ -158,7 +158,7 @@ fn sorted_wires(alloc: Global, wires: Vec<Name>) -> Result<Vec<(Name, u32)>, Bui
     Ok(wires)
 }
 
-// The first place of a part after one of the same name.
+// Finds the first part that follows one of the same name.
 fn repeated_part(parts: &[Component]) -> Option<usize>
     ensures { IsFirstRepeat (part_names parts.now) result }
 {
@@ -181,7 +181,7 @@ fn repeated_wire(wires: &[(Name, u32)]) -> Option<usize>
     None
 }
 
-// Each wire beside its position.
+// Pairs each wire with its position.
 fn numbered(alloc: Global, wires: Vec<Name>) -> Result<Vec<(Name, u32)>, AllocError>
     requires { length wires.items ≤ WIRE_LIMIT }
     ensures { IfOk result (λ pairs. pairs.items ≡ numbered_from 0 wires.items) }
@@ -195,7 +195,7 @@ fn numbered(alloc: Global, wires: Vec<Name>) -> Result<Vec<(Name, u32)>, AllocEr
     Ok(numbered)
 }
 
-// For each position the place among the sorted wires.
+// Returns the place in `wires` of each position.
 fn places_of(alloc: Global, wires: &[(Name, u32)]) -> Result<Vec<u32>, AllocError>
     requires few { length wires.now ≤ WIRE_LIMIT }
     requires within { All (λ w. w.1 < length wires.now) wires.now }
@@ -211,7 +211,7 @@ fn places_of(alloc: Global, wires: &[(Name, u32)]) -> Result<Vec<u32>, AllocErro
     Ok(places)
 }
 
-// Each port becomes the place that `places` has for it.
+// Replaces each port by `places` at that port.
 fn renumber_all(parts: &mut [Component], places: &[u32])
     requires { All (λ p. All (λ port. port < length places.now) p.ports) parts.old }
     ensures { parts.new ≡ map (with_places places.now) parts.old }

@@ -32,21 +32,21 @@ impl Wires {
         Ok(Wires { items })
     }
 
-    /// The list that a vector holds.
+    /// Makes the list of a vector.
     pub fn of(items: Vec<u32>) -> Wires
         ensures { result ≡ items.items }
     {
         Wires { items }
     }
 
-    /// The places, in the order of the ports.
+    /// Returns the places, in the order of the ports.
     pub fn as_slice(&self) -> &[u32]
         ensures { result.now ≡ self.now }
     {
         self.items.as_slice()
     }
 
-    // Each place becomes the one that `places` has for it.
+    // Replaces each place by `places` at that place.
     pub(crate) fn renumber(&mut self, places: &[u32])
         requires { All (λ place. place < length places.now) self.old }
         ensures { self.new ≡ map (λ place. slice_index places.now place) self.old }
@@ -57,7 +57,7 @@ impl Wires {
     }
 }
 
-/// A part: its name, its kind and the wires at its ports. The ports of a gate are its inputs and then its output.
+/// A part: its name, its kind and the wires at its ports. The ports of a gate are its inputs, then its output.
 #[derive(Debug, Drop)]
 pub struct Component {
     pub name: Name,
@@ -65,8 +65,8 @@ pub struct Component {
     pub ports: Wires,
 }
 
-/// What the parts of a type allow, and what a failure of one of them costs. Bit r of `ok` and of `bad` is for the row whose
-/// port i has bit i of r.
+/// The rows that the parts of a type allow, and the cost of a failure. Bit r of `ok` and of `bad` is for the row whose port i
+/// has bit i of r.
 #[derive(Clone, Copy, Debug)]
 pub struct Table {
     ports: u8,
@@ -89,8 +89,8 @@ impl Model for Table {
 }
 
 impl Table {
-    /// The rows of a type and what a failure costs. There is none if the number of ports is not 1 to 6, a row is not one of so
-    /// many ports, or the cost is not 1 to 1,000.
+    /// Makes the table of a type. Returns `None` if the number of ports is not 1 to 6, a row is not one of that many ports, or
+    /// the cost is not 1 to 1,000.
     pub fn new(ports: u8, ok: u64, bad: u64, cost: u32) -> Option<Table>
         ensures { result ≡ (if is_table (record { ports = ports; ok = ok; bad = bad; cost = cost })
             then Some (record { ports = ports; ok = ok; bad = bad; cost = cost }) else None) }
@@ -108,7 +108,7 @@ impl Table {
         }
     }
 
-    /// The set of all rows of so many ports, if they are 1 to 6.
+    /// Returns the set of all rows of 1 to 6 ports, else `None`.
     pub fn all_rows(ports: u8) -> Option<u64>
         ensures { result ≡ set_of_all ports }
     {
@@ -123,7 +123,7 @@ impl Table {
         }
     }
 
-    /// The number of ports, 1 to 6.
+    /// Returns the number of ports, 1 to 6.
     pub fn ports(&self) -> u8
         ensures ports { result ≡ self.now.ports }
         ensures valid { is_table self.now ≡ true }
@@ -131,14 +131,14 @@ impl Table {
         self.ports
     }
 
-    /// The rows that a part allows if it is ok.
+    /// Returns the rows that an ok part allows.
     pub fn ok(&self) -> u64
         ensures { result ≡ self.now.ok }
     {
         self.ok
     }
 
-    /// The rows that a part allows if it is faulty.
+    /// Returns the rows that a faulty part allows.
     pub fn bad(&self) -> u64
         ensures { result ≡ self.now.bad }
     {
@@ -154,7 +154,7 @@ impl Table {
         (rows >> row) & 1 == 1
     }
 
-    /// What a failure of a part costs, 1 to 1,000.
+    /// Returns the cost of a failure, 1 to 1,000.
     pub fn cost(&self) -> u32
         ensures cost { result ≡ self.now.cost }
         ensures valid { is_table self.now ≡ true }

@@ -41,7 +41,7 @@ impl Device {
         }
     }
 
-    /// The parts, in the order of their names.
+    /// Returns the parts, in the order of their names.
     pub fn parts(&self) -> &[Component]
         ensures parts { result.now ≡ self.now.parts }
         ensures valid { IsDevice self.now }
@@ -49,7 +49,7 @@ impl Device {
         &self.parts
     }
 
-    /// The wires, in the order of their names.
+    /// Returns the wires, in the order of their names.
     pub fn wires(&self) -> &[Name]
         ensures wires { result.now ≡ self.now.wires }
         ensures valid { IsDevice self.now }
@@ -57,7 +57,7 @@ impl Device {
         &self.wires
     }
 
-    /// The tables, by the places that kinds of parts name.
+    /// Returns the tables, at the places that `Kind::Table` gives.
     pub fn tables(&self) -> &[Table]
         ensures tables { result.now ≡ self.now.tables }
         ensures valid { IsDevice self.now }
@@ -65,7 +65,7 @@ impl Device {
         &self.tables
     }
 
-    /// What a failure of a part costs, 1 to 1,000: 1 of a gate, and what its table says of a part of a type.
+    /// Returns the cost of a failure of a part, 1 to 1,000: 1 for a gate, else the cost of its table.
     pub fn cost(&self, part: u32) -> u32
         requires { part < length self.now.parts }
         ensures cost { result ≡ slice_index (part_costs self.now) part }
@@ -77,7 +77,7 @@ impl Device {
         }
     }
 
-    /// The place of the part of a name. There is none exactly if no part has the name.
+    /// Finds the place of the part with a name; `None` exactly if no part has the name.
     pub fn find_part(&self, name: &[u8]) -> Option<u32>
         ensures { result ≡ place_of name.now (part_names self.now.parts) }
     {
@@ -90,14 +90,14 @@ impl Device {
         }
     }
 
-    /// The place of the wire of a name. There is none exactly if no wire has the name.
+    /// Finds the place of the wire with a name; `None` exactly if no wire has the name.
     pub fn find_wire(&self, name: &[u8]) -> Option<u32>
         ensures { result ≡ place_of name.now self.now.wires }
     {
         place_of(&self.wires, name)
     }
 
-    /// The names of the parts and of the wires, each in order.
+    /// Returns the names of the parts and of the wires, each in order.
     pub fn take_names(self, alloc: Global) -> Result<(Vec<Name>, Vec<Name>), Memory>
         ensures parts { IfOk result (λ names. names.0.items ≡ part_names self.parts) }
         ensures wires { IfOk result (λ names. names.1.items ≡ self.wires) }
@@ -115,7 +115,7 @@ impl Device {
     }
 }
 
-/// The place of a name among names that rise. There is none exactly if it is not there.
+/// Finds the place of a name among rising names; `None` exactly if it is not there.
 pub fn place_of(names: &[Name], name: &[u8]) -> Option<u32>
     requires rising { names_rise names.now ≡ true }
     requires few { length names.now ≤ WIRE_LIMIT }

@@ -3,7 +3,7 @@ ghost use Rattle.device_model.specs.Gates.{kind_row, gate_rule, word, rule, gate
 
 use crate::limits::INPUT_LIMIT;
 
-/// What a part is: a gate, or a part of a type, by the place of its table in the device's list of tables.
+/// The kind of a part: a gate, or the place of its type's table in the device's list of tables.
 #[derive(Clone, Copy, Debug, PartialEq, Eq)]
 pub enum Kind {
     And,
@@ -17,22 +17,22 @@ pub enum Kind {
     Table(u32),
 }
 
-/// What is asked of the inputs of a gate.
+/// The question about the inputs of a gate.
 #[derive(Clone, Copy, Debug, PartialEq, Eq)]
 pub enum Reduction {
-    /// Whether all are 1.
+    /// Are all 1?
     AllOnes,
-    /// Whether one or more are 1.
+    /// Are one or more 1?
     AnyOne,
-    /// Whether an odd number of them is 1.
+    /// Is an odd number of them 1?
     OddOnes,
 }
 
-/// What a gate computes of its inputs.
+/// What a gate computes from its inputs.
 #[derive(Clone, Copy, Debug, PartialEq, Eq)]
 pub struct Gate {
     pub reduction: Reduction,
-    /// Whether the output is what is asked, and not its opposite.
+    /// Whether the output is the answer, and not its opposite.
     pub positive: bool,
     pub most_inputs: usize,
 }
@@ -57,7 +57,6 @@ impl Kind {
         Kind::Buff,
     ];
 
-    // The word and the rule.
     fn row(self) -> (&'static [u8], Rule)
         ensures word { result.0.now ≡ (kind_row self).0 }
         ensures rule { result.1 ≡ (kind_row self).1 }
@@ -75,21 +74,21 @@ impl Kind {
         }
     }
 
-    /// The word of a gate, in capital letters. A part of a type has none.
+    /// Returns the word of a gate, in capital letters, or an empty one for a part of a type.
     pub fn word(self) -> &'static [u8]
         ensures { result.now ≡ word self }
     {
         self.row().0
     }
 
-    /// The rule of the parts of this kind.
+    /// Returns the rule of the parts of this kind.
     pub fn rule(self) -> Rule
         ensures { result ≡ rule self }
     {
         self.row().1
     }
 
-    /// Whether this is a gate that takes so many inputs.
+    /// Whether this is a gate that takes `inputs` inputs.
     pub fn takes_inputs(self, inputs: usize) -> bool
         ensures { result ≡ takes_inputs (rule self) inputs }
     {
@@ -111,7 +110,7 @@ fn gate_rule(reduction: Reduction, positive: bool, most_inputs: usize) -> Rule
 }
 
 impl Gate {
-    /// Whether a gate takes so many inputs.
+    /// Whether a gate takes `inputs` inputs.
     pub fn takes(self, inputs: usize) -> bool
         ensures { result ≡ takes self inputs }
     {
@@ -119,7 +118,7 @@ impl Gate {
     }
 }
 
-/// The gate that a word names, in just these letters.
+/// Finds the gate that a word names, in exactly these letters.
 pub fn gate_named(word: &[u8]) -> Option<Kind>
     ensures { result ≡ gate_named word.now }
 {

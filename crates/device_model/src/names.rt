@@ -12,7 +12,7 @@ use std::alloc::Global;
 use std::cmp::Ordering;
 use std::marker::Model;
 
-/// The name of a part or of a wire: 1 to 255 bytes. Names are ordered byte by byte, and a front of a name comes first.
+/// The name of a part or of a wire: 1 to 255 bytes. Names are ordered byte by byte; a prefix of a name comes before it.
 #[derive(Debug, Drop)]
 pub struct Name {
     bytes: Vec<u8>,
@@ -40,7 +40,7 @@ impl Name {
         Ok(Name { bytes })
     }
 
-    /// Its bytes, at least one.
+    /// Returns its bytes, 1 to 255.
     pub fn as_slice(&self) -> &[u8]
         ensures bytes { result.now ≡ self.now }
         ensures some { 1 ≤ length self.now }
@@ -65,21 +65,21 @@ impl Model for Names {
 }
 
 impl Names {
-    /// The list that a vector holds.
+    /// Makes the list of a vector.
     pub fn of(items: Vec<Name>) -> Names
         ensures { result ≡ items.items }
     {
         Names { items }
     }
 
-    /// The names, in their order.
+    /// Returns the names, in their order.
     pub fn as_slice(&self) -> &[Name]
         ensures { result.now ≡ self.now }
     {
         self.items.as_slice()
     }
 
-    /// The vector that holds them.
+    /// Returns the vector of the names.
     pub fn into_vec(self) -> Vec<Name>
         ensures { result.items ≡ self }
     {

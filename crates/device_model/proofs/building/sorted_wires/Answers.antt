@@ -17,7 +17,7 @@ name_of w = w.0
 abbrev names_of : List (Name × ℕ) → List Name
 names_of ws = map name_of ws
 
--- the sort moves the names as they were given
+-- the sort permutes the given names
 moved_names : (given : List Name) (xs ys : List (Name × ℕ)) → xs ≡ numbered_from 0 given → IsPermutation xs ys → IsPermutation given (names_of ys)
 moved_names given xs ys is moved = subst (λ ns. IsPermutation ns (names_of ys)) (ap names_of is ∙ map-numbered_from 0 given) (IsPermutation-map name_of xs ys moved)
 

@@ -5,7 +5,7 @@ use Rattle.std.proofs.lemmas.Bool.{and_parts, leb-true}
 use Rattle.device_model.specs.TruthTable.{has_few_ports, is_table}
 use Rattle.device_model.proofs.component.Table.allows.Goals as goal
 
--- a table of 6 ports at most has 64 rows at most
+-- a table of at most 6 ports has at most 64 rows
 pub overflow_shr-result : goal.overflow_shr-result
 overflow_shr-result c =
     let table = c.args.self.now in

@@ -1,4 +1,4 @@
--- Each answer is the one that `built` gives, by the equation of its reason.
+-- Each result is that of `built`, by the equation of its reason.
 use Rattle.std.proofs.Common.{◌≡◌, ◌<◌, length, map, Some, None, Ok, sym, ap, subst, ◌∙◌, arith}
 use Rattle.std.specs.List.{All}
 use Rattle.std.specs.List.Sorted.{IsPermutation}

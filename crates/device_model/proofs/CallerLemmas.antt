@@ -46,7 +46,7 @@ get_or-place_in names n m =
 
 -- ---- devices
 
--- `d` is built from these without a refusal
+-- `d` is `device_of` these, and is a device
 pub record IsBuilt (parts : List Component) (wires : List Name) (tables : List TruthTable) (d : Device) : Type 0 where
   pub made : d ≡ device_of parts wires tables
   pub valid : IsDevice d

@@ -1,4 +1,4 @@
--- How many clauses the copies have: they are counted part by part for the first time and for any later one.
+-- The number of clauses of the copies, counted part by part for the first time and for any later one.
 use Rattle.std.proofs.Common.{◌≡◌, ℕ, zero, suc, ◌+◌, ◌-◌, ◌*◌, ◌<◌, ◌≤◌, Bool, true, false, List, [], ◌∷◌, ◌++◌, map, length, drop, get_or, refl, sym, ap, subst, ◌∙◌, append_assoc, arith}
 use Rattle.std.specs.Prelude.{nat_lt, if◌then◌else◌}
 use Rattle.std.specs.List.{flat_map, enumerate_from, range_with_len}
@@ -29,7 +29,7 @@ module _ (device : Device) where
       ∙ sym (append_assoc raw (clauses_from device (h + 1) (z + inner) xs) (clauses_from device (h + 1 + length xs) (z + inner + inner_vars xs) ys))
       ∙ (λ i. (raw ++ clauses_from device (h + 1) (z + inner) xs) ++ clauses_from device (health i) (next i) ys)
 
-  -- so many clauses, whatever variables they begin with
+  -- `n` clauses, whatever variables they begin with
   abbrev pub Have : List Component → ℕ → Type 0
   Have parts n = (h z : ℕ) → length (clauses_from device h z parts) ≡ n
 
@@ -69,11 +69,11 @@ module _ (seq : Sequential) (frames : ℕ) where
         ap length (take-append-drop (length c.part.ports - 1) c.part.ports),
       )
 
-  -- a part has so many clauses
+  -- a part has `n` clauses
   abbrev pub Has : Component → ℕ → Type 0
   Has part n = (h z : ℕ) (vs : List ℕ) → length vs ≡ length part.ports → length (raw_clauses seq.device.tables (rule part.kind) h z vs) ≡ n
 
-  -- and its copies for a time
+  -- its copies for time `t` have `n`
   abbrev pub HasAt : ℕ → ℕ × Component → ℕ → Type 0
   HasAt t p n = Have over (map made (copies_of seq t p)) n
 
@@ -84,7 +84,7 @@ module _ (seq : Sequential) (frames : ℕ) where
       subst (λ (b : Bool). Have over (map made (if b then copy ∷ [] else [])) n) (sym (lt-ltb 0 before some))
       (have_one over (made copy) n (λ h z vs long. has h z vs (long ∙ made_long copy)))
 
-  -- at a later time each part has one
+  -- at a later time each part has one copy
   pub at_later : (t : ℕ) → 2 ≤ t → (place : ℕ) (part : Component) (n : ℕ) → Has part n → HasAt t (place, part) n
   at_later t later place part n has = by (is_delayed seq place)
     where
@@ -92,7 +92,7 @@ module _ (seq : Sequential) (frames : ℕ) where
       by true = one_copy t place part n (t - 1) has (omega arith)
       by false = one_copy t place part n t has (omega arith)
 
-  -- at the first each has one that is not delayed
+  -- at the first, each that is not delayed has one
   pub at_first : (place : ℕ) (part : Component) (n : ℕ) → is_delayed seq place ≡ false → Has part n → HasAt 1 (place, part) n
   at_first place part n is has =
       subst (λ (b : Bool). Have over (map made (if nat_lt 0 (if b then 1 - 1 else 1) then record { place = place; part = part; before = if b then 1 - 1 else 1; now = 1 } ∷ [] else [])) n)
@@ -106,7 +106,7 @@ module _ (seq : Sequential) (frames : ℕ) where
   abbrev left_at : ℕ → ℕ → List Component
   left_at t place = map made (flat_map (copies_of seq t) (enumerate_from place (drop place seq.device.parts)))
 
-  -- whatever the parts from a place on have at a time, all together have so many more
+  -- all parts at time `t` have `count` clauses more than those from `place` on
   abbrev pub Counted : ℕ → ℕ → ℕ → Type 0
   Counted t place count = (rest : ℕ) → Have over (left_at t place) rest → Have over (map made (copies_for seq t)) (count + rest)
 

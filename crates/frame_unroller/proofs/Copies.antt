@@ -1,4 +1,4 @@
--- The copies of parts: what each is, and that they are in the order of their names.
+-- The copies of parts: what each is, and that their names rise.
 use Rattle.std.proofs.Common.{◌≡◌, ℕ, zero, suc, ◌+◌, ◌<◌, ◌≤◌, List, [], ◌∷◌, length, sym, subst, arith}
 use Rattle.std.specs.List.{flat_map, enumerate_from, range_with_len}
 use Rattle.text_rules.specs.Names.{Name}

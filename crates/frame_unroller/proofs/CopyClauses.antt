@@ -1,4 +1,4 @@
--- The clauses of the copies, over the health of the parts, say what fits over the times.
+-- The clauses of the copies, over the health of the parts, mean what fits over the times.
 use Rattle.std.proofs.Common.{◌≡◌, ℕ, ◌+◌, ◌-◌, ◌<◌, ◌≤◌, inl, inr, Bool, true, false, List, [], ◌∷◌, ◌++◌, map, length, get_or, refl, sym, ap, ◌∙◌, append_assoc, arith}
 use Rattle.std.specs.Prelude.{◌&&◌, nat_lt, if◌then◌else◌}
 use Rattle.std.specs.List.{list_all, list_any, enumerate_from, range_with_len}
@@ -47,7 +47,7 @@ module _ (seq : Sequential) (frames : ℕ) (valid : IsDevice seq.device) (state 
   abbrev waves : ℕ → List Bool
   waves t = map (λ wire. bit_in bits (place_in (frame_wires seq frames) (wire_at t wire))) names
 
-  -- a part that is made allows the row of its wires' bits
+  -- whether a copy allows the row of its wires' bits
   abbrev allowed : Copy → Bool
   allowed c = part_allows tables (joined (frame_wires seq frames) (named_copy names c)) (bit_in state c.place) bits
 
@@ -81,7 +81,7 @@ module _ (seq : Sequential) (frames : ℕ) (valid : IsDevice seq.device) (state 
     one_copy : (before now : ℕ) → 1 ≤ before → list_all allowed (if nat_lt 0 before then copy before now ∷ [] else []) ≡ allowed (copy before now)
     one_copy before now some = ap (λ (b : Bool). list_all allowed (if b then copy before now ∷ [] else [])) (lt-ltb 0 before (omega arith)) ∙ and-true (allowed (copy before now))
 
-    -- the copies of a part for a time allow their rows where the part fits then
+    -- the copies of a part for a time allow their rows exactly if it fits then
     copies-fit : (t : ℕ) → 1 ≤ t → list_all allowed (copies_of seq t (place, part)) ≡ fits_at tables (is_delayed seq place) part (bit_in state place) waves t
     copies-fit t some = by (is_delayed seq place)
       where
@@ -107,7 +107,7 @@ module _ (state rest : List Bool) (places : List ℕ) (vars : ℕ) (owned : list
   owner : (k : ℕ) → k < length places → get_or places k 0 < length state
   owner k lt = ltb-true (get_or places k 0) (length state) (list_all-among (λ place. nat_lt place (length state)) places owned (get_or places k 0) (In-at places k 0 lt))
 
-  -- the bits of the variables are those of the ones that stand for them
+  -- each variable has the bit of the one that replaces it
   pub same_bits : (v : ℕ) → 1 ≤ v → v ≤ vars → assignment (state ++ rest) (variable_for (shared_variables (length state) places vars) v) ≡ assignment (map (bit_in state) places ++ rest) v
   same_bits v some most = elim (cases_lt (v - 1) (length places)) [
     | inl l ↦ (

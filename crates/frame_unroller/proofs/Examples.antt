@@ -27,13 +27,13 @@ abbrev over : {A : Type 0} → Result Sequential Fault → (Sequential → A) �
 over (Ok seq) f = Some (f seq)
 over (Err fault) f = None
 
--- ---- names are sorted whole
+-- ---- whole names are sorted
 
 digits_before_the_sign : over (sequential_netlist (text (codes "INPUT(a)" ∷ codes "INPUT(a1)" ∷ []))) (λ seq. frame_wires seq 1) ≡ Some (codes "a1@0001" ∷ codes "a@0001" ∷ [])
 unfolding text
 digits_before_the_sign = refl
 
--- ---- copies, of a loop that changes its value each time
+-- ---- copies of a loop that changes its value each time
 
 toggle : List ℕ
 toggle = text (codes "q = DFF(n)" ∷ codes "n = NOT(q)" ∷ [])

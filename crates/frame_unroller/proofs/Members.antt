@@ -1,4 +1,4 @@
--- What is in lists that are made of others.
+-- Members of lists that are made of others.
 use Rattle.std.proofs.Common.{◌≡◌, ℕ, zero, suc, ◌+◌, ◌*◌, ◌<◌, ◌≤◌, inl, inr, Bool, true, List, [], ◌∷◌, length, take, drop, get_or, refl, sym, ap, ◌∙◌, arith}
 use Rattle.std.specs.Prelude.{◌&&◌}
 use Rattle.std.specs.List.{list_all, flat_map, enumerate_from, range_with_len}
@@ -36,13 +36,13 @@ pub list_all-same : {A : Type 0} (p q : A → Bool) (xs : List A) → ((x : A) �
 list_all-same p q [] h = refl
 list_all-same p q (x ∷ xs) h = λ i. h x (inl refl) i && list_all-same p q xs (λ y m. h y (inr m)) i
 
--- what all items pass, those before a place and those after it do
+-- if all items pass, those before a place and from it on do
 pub both_pass : {A : Type 0} (p : A → Bool) (n : ℕ) (xs : List A) → list_all p xs ≡ true → (list_all p (take n xs) ≡ true) × (list_all p (drop n xs) ≡ true)
 both_pass p n xs h =
     and_parts (list_all p (take n xs)) (list_all p (drop n xs))
     (sym (list_all-append p (take n xs) (drop n xs)) ∙ ap (list_all p) (take-append-drop n xs) ∙ h)
 
--- ---- lists of one length after one another
+-- ---- joined lists of one length
 
 module _ {A : Type 0} (f : ℕ → List A) (w : ℕ) (each : (t : ℕ) → length (f t) ≡ w) where
   pub length-chunks : (a n : ℕ) → length (flat_map f (range_with_len a n)) ≡ n * w

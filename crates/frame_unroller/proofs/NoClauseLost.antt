@@ -1,5 +1,5 @@
--- No clause of the copies is left out where the health of a part stands for that of its copies: a clause names the health of one copy
--- at most, and all other variables stay apart.
+-- No clause of the copies is left out when the health of a part replaces that of its copies: a clause has the health of at most one
+-- copy, and all other variables stay different.
 use Rattle.std.proofs.Common.{◌≡◌, ℕ, ◌+◌, ◌-◌, ◌<◌, ◌≤◌, ◌⊎◌, inl, inr, true, false, not, List, [], ◌∷◌, ◌++◌, map, length, ℤ, neg_ℤ, Ok, refl, sym, ap, ◌∙◌, arith}
 use Rattle.std.specs.Prelude.{◌==◌, nat_lt}
 use Rattle.std.specs.List.{All, list_any, list_all, range_with_len}
@@ -17,7 +17,7 @@ use Rattle.clause_encoder.proofs.MentionedVariables.{Of, OfEach, Variables, Of-r
 use Rattle.clause_encoder.proofs.OtherVariables.{raw_from}
 use Rattle.frame_unroller.specs.Unrolling.{shared_variables}
 
--- ---- what holds of all variables of a clause holds of it in order
+-- ---- what is true of all variables of a clause is true of it sorted
 
 module _ (P : ℕ → Type 0) where
   Of-with_literal : (l : ℤ) (c : Clause) → P (var_of l) → Of P c → Of P (with_literal l c)
@@ -28,9 +28,9 @@ module _ (P : ℕ → Type 0) where
   Of-sorted [] h = tt
   Of-sorted (l ∷ c) h = Of-with_literal l (sorted c) h.0 (Of-sorted c h.1)
 
--- ---- a clause names the health of one part at most
+-- ---- a clause has the health of at most one part
 
--- the health of a part, or no health, if there are so many parts
+-- `v` is the health `h`, or is above that of all parts
 abbrev pub Names : ℕ → ℕ → ℕ → Type 0
 Names parts h v = (v ≡ h) ⊎ (parts < v)
 
@@ -120,6 +120,6 @@ module _ (parts vars : ℕ) (places : List ℕ) (many : length places ≤ vars) 
       let kept = no_tautology each.0.0 0 c (rising c two.0) (raw_from vars c two.0).1 each.0.1 in
       grind (arith, all_kept cs two.1 each.1)
 
--- what is encoded
+-- the encoded clauses
 pub encoded-list : (device : Device) (cnf : ClauseList) → encoded device ≡ Ok cnf → cnf ≡ clause_list device
 encoded-list device cnf is = grind arith

@@ -42,7 +42,7 @@ module _ {A : Type 0} (name : A → Name) where
   Rises-append [] ys h g apart = g
   Rises-append (x ∷ xs) ys h g apart = grind (arith, BelowAll-append, BelowAll-from, Rises-append xs ys h.1 g)
 
-  -- items that are made of others have their names
+  -- a map keeps the order of the names
   module _ {B : Type 0} (make : B → A) where
     BelowAll-made : (n : Name) (xs : List B) → BelowAll (λ x. name (make x)) n xs → BelowAll name n (map make xs)
     BelowAll-made n [] h = tt

@@ -1,4 +1,4 @@
--- The variables that stand for those of copies.
+-- The variables that replace those of copies.
 use Rattle.std.proofs.Common.{◌≡◌, ℕ, ◌+◌, ◌-◌, ◌<◌, ◌≤◌, inl, inr, List, [], ◌∷◌, ◌++◌, map, length, get_or, sym, ap, ◌∙◌, arith}
 use Rattle.std.specs.List.{All, range_with_len}
 use Rattle.std.proofs.lemmas.Bool.{cases_lt}
@@ -7,7 +7,7 @@ use Rattle.std.proofs.lemmas.List.FromFn.{length-range_with_len, get_or-range_wi
 use Rattle.state_rules.proofs.Lists.{range_more}
 use Rattle.frame_unroller.specs.Unrolling.{shared_variables}
 
--- one of the other variables more
+-- one more of the other variables
 pub other_more : (fronts : List ℕ) (parts other : ℕ) → (fronts ++ range_with_len (parts + 1) other) ++ (parts + 1 + other) ∷ [] ≡ fronts ++ range_with_len (parts + 1) (other + 1)
 other_more fronts parts other = append_assoc fronts (range_with_len (parts + 1) other) ((parts + 1 + other) ∷ []) ∙ ap (λ ks. fronts ++ ks) (sym (range_more (parts + 1) other))
 

@@ -20,7 +20,7 @@ module _ (seq : Sequential) (t : ℕ) where
   none : (place : ℕ) (part : Component) (before : ℕ) → before ≡ (if is_delayed seq place then t - 1 else t) → before ≤ 0 → copies_of seq t (place, part) ≡ []
   none place part before is low = grind arith
 
-  -- ---- a part more
+  -- ---- one more part
 
   module _ {B : Type 0} (shown : Copy → B) (parts : List Component) (place : ℕ) (part : Component) (lt : place < length parts) (is : part ≡ get_or parts place part)
       (whole done : List B) (inv : whole ≡ done ++ map shown (flat_map (copies_of seq t) (enumerate_from place (drop place parts)))) where
@@ -36,7 +36,7 @@ module _ (seq : Sequential) (t : ℕ) where
     pub left_out : (before : ℕ) → before ≡ (if is_delayed seq place then t - 1 else t) → before ≤ 0 → whole ≡ done ++ rest
     left_out before same low = next ∙ ap (λ (cs : List Copy). done ++ (map shown cs ++ rest)) (none place part before same low)
 
--- ---- how many copies there are
+-- ---- the number of copies
 
 module _ (seq : Sequential) where
   length-later : (t a : ℕ) (parts : List Component) → 2 ≤ t → length (flat_map (copies_of seq t) (enumerate_from a parts)) ≡ length parts
@@ -89,7 +89,7 @@ module _ (seq : Sequential) where
       let counted = length-filter not delays in
       grind (arith, length-append, length-times)
 
--- ---- a time more
+-- ---- one more time
 
 time_more : {A : Type 0} (f : ℕ → List A) (n : ℕ) → flat_map f (range_with_len 1 n) ++ f (n + 1) ≡ flat_map f (range_with_len 1 (n + 1))
 time_more f n =

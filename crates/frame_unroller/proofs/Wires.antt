@@ -1,4 +1,4 @@
--- The wires at all times: their names differ, and where each stands.
+-- The wires at all times: their names differ, and their positions.
 use Rattle.std.proofs.Common.{◌≡◌, ℕ, zero, suc, ◌+◌, ◌-◌, ◌*◌, ◌<◌, ◌≤◌, true, List, [], ◌∷◌, map, length, drop, get_or, refl, sym, ap, ◌∙◌, arith}
 use Rattle.std.specs.Prelude.{nat_lt}
 use Rattle.std.specs.List.{list_all, flat_map, range_with_len}
@@ -18,7 +18,7 @@ use Rattle.frame_unroller.proofs.Members.{among-flat_map, among-range, length-ch
 
 -- ---- names
 
--- the last five bytes say the time
+-- the last five bytes, which give the time
 abbrev last_five : Name → Name
 last_five n = drop (length n - 5) n
 
@@ -28,7 +28,7 @@ tells_time t w = grind (arith, length-append, drop_at)
 tells_wire : (t : ℕ) (v w : Name) → wire_at t v ≡ wire_at t w → v ≡ w
 tells_wire t v w e = append_cancel_right v w (64 ∷ four_digits t) e
 
--- digits of a lower time are others
+-- a lower time has other digits
 times_differ : (t u : ℕ) → t < u → 64 ∷ four_digits t ≡ 64 ∷ four_digits u → ⊥
 times_differ t u lt e = grind arith
 

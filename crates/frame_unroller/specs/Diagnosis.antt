@@ -22,7 +22,7 @@ abbrev pub fits_over : Sequential → ℕ → List Bool → List Bool → Bool
 fits_over seq frames state bits =
     frame_fits seq frames state (λ t. map (λ wire. bit_in bits (place_in (frame_wires seq frames) (wire_at t wire))) seq.device.wires)
 
--- Parts keep their names, and each failure costs 1.
+-- the system: parts keep their names, and each failure costs 1
 abbrev pub frame_system : Sequential → ℕ → System
 frame_system seq frames =
     fitting_system (part_names seq.device.parts) (frame_wires seq frames) (plain_costs (length seq.device.parts)) (fits_over seq frames)

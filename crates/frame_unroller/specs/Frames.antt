@@ -1,4 +1,4 @@
--- A netlist with flip-flops over several times, with one health state: which bits of the wires fit.
+-- A netlist with flip-flops over several times, with one health state: the bits of the wires that fit.
 use Rattle.std.specs.Prelude.{ℕ, ◌-◌, Bool, true, false, ◌||◌, List, ◌++◌, map, length, take, drop, ◌==◌, nat_le}
 use Rattle.std.specs.List.{list_all, list_any, enumerate_from}
 use Rattle.state_rules.specs.Bits.{bit_in}
@@ -17,21 +17,21 @@ Waves = ℕ → List Bool
 abbrev pub is_delayed : Sequential → ℕ → Bool
 is_delayed seq place = list_any (λ d. d == place) seq.delayed
 
--- the ports before the last one, which is the output, and the output
+-- all ports except the last one, and the last one, which is the output
 abbrev pub inputs : Component → List ℕ
 inputs part = take (length part.ports - 1) part.ports
 
 abbrev pub output : Component → List ℕ
 output part = drop (length part.ports - 1) part.ports
 
--- A part allows the bits of its wires at a time. One that is delayed allows those of its inputs at the time before and of its
--- output at the time; at the first time its output is free.
+-- Whether a part allows the bits of its wires at time `t`. For a delayed part these are its inputs at the time before and its
+-- output at `t`; at the first time it allows any bits.
 abbrev pub fits_at : List TruthTable → Bool → Component → Bool → Waves → ℕ → Bool
 fits_at tables false part ok waves t = part_allows tables part ok (waves t)
 fits_at tables true part ok waves t =
     nat_le t 1 || allows tables (rule part.kind) ok (map (bit_in (waves (t - 1))) (inputs part) ++ map (bit_in (waves t)) (output part))
 
--- At each time each part fits, and each is ok, or faulty, at all times alike.
+-- whether each part fits at each time; it is ok at all times or faulty at all
 abbrev pub frame_fits : Sequential → ℕ → List Bool → Waves → Bool
 frame_fits seq frames state waves =
     list_all (λ t. list_all (λ (p : ℕ × Component). fits_at seq.device.tables (is_delayed seq p.0) p.1 (bit_in state p.0) waves t)

@@ -1,9 +1,9 @@
--- Times, and the names of what is at a time.
+-- Times, and the names of wires and copies at a time.
 use Rattle.std.specs.Prelude.{ℕ, ◌+◌, ◌/◌, ◌%◌, List, [], ◌∷◌, ◌++◌}
 use Rattle.std.specs.List.{range_with_len}
 use Rattle.text_rules.specs.Names.{Name}
 
--- the times of so many frames, counted from 1
+-- the times of `frames` frames, from 1 on
 abbrev pub times : ℕ → List ℕ
 times frames = range_with_len 1 frames
 

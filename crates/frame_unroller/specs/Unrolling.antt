@@ -1,4 +1,4 @@
--- A netlist over several times as clauses: those of a device that has a copy of each part for each time.
+-- A netlist over several times as clauses: those of a device with a copy of each part for each time.
 use Rattle.std.specs.Prelude.{◌≡◌, ℕ, ◌≤◌, true, ◌+◌, ◌-◌, ◌*◌, List, [], ◌∷◌, ◌++◌, map, length, Option, Some, None, Result, Ok, Err, slice_index_or, nat_lt, if◌then◌else◌}
 use Rattle.std.specs.List.{flat_map, enumerate_from, range_with_len}
 use Rattle.text_rules.specs.Names.{Name, names_rise}
@@ -21,28 +21,28 @@ use Rattle.frame_unroller.specs.Diagnosis.{frame_wires}
 
 -- ---- copies
 
--- the copy of a part, which is at a place, for a time, and the time that its inputs are of
+-- the copy of the part at `place` for time `now`; its inputs are of time `before`
 pub record Copy : Type 0 where
   pub place : ℕ
   pub part : Component
   pub before : ℕ
   pub now : ℕ
 
--- The inputs of a delayed part are of the time before. There is none before the first, and no copy of a delayed part for it.
+-- The copies of a part for a time. The inputs of a delayed part are of the time before, so it has no copy for the first time.
 abbrev pub copies_of : Sequential → ℕ → ℕ × Component → List Copy
 copies_of seq t p =
     let before = if is_delayed seq p.0 then t - 1 else t in
     if nat_lt 0 before then record { place = p.0; part = p.1; before = before; now = t } ∷ [] else []
 
--- all copies for a time, as the parts stand
+-- all copies for a time, in the order of the parts
 abbrev pub copies_for : Sequential → ℕ → List Copy
 copies_for seq t = flat_map (copies_of seq t) (enumerate_from 0 seq.device.parts)
 
--- All copies, by time: so they are in the order of their names.
+-- all copies, by time, which is the order of their names
 abbrev pub copies : Sequential → ℕ → List Copy
 copies seq frames = flat_map (copies_for seq) (times frames)
 
--- the wires of some ports at a time
+-- the wires of these ports at a time
 abbrev pub wires_at : List Name → ℕ → List ℕ → List Name
 wires_at wires t ports = map (λ port. wire_at t (slice_index_or wires port [])) ports
 
@@ -64,15 +64,15 @@ frame_device seq frames =
 
 -- ---- clauses
 
--- the places of the parts that these are copies of
+-- the place of the part of each copy
 abbrev pub owners : Sequential → ℕ → List ℕ
 owners seq frames = map (λ (copy : Copy). copy.place) (copies seq frames)
 
--- For the health of each copy stands that of its part, and all other variables follow those of so many parts.
+-- The health of each copy becomes that of its part; all other variables follow those of the `parts` parts.
 abbrev pub shared_variables : ℕ → List ℕ → ℕ → List ℕ
 shared_variables parts places vars = map (λ place. place + 1) places ++ range_with_len (parts + 1) (vars - length places)
 
--- the clauses of copies of parts, over the health of the parts
+-- the clauses of copies, over the health of their parts
 abbrev pub shared : ℕ → List ℕ → ClauseList → ClauseList
 shared parts places list = replaced (shared_variables parts places list.vars) (parts + (list.vars - length places)) list
 
@@ -84,19 +84,19 @@ unrolled_by seq frames (Err NoMemory) = Err Memory
 
 -- ---- refusals
 
--- an error is a reason, except lack of memory
+-- the reason of an error; lack of memory is none
 abbrev pub reason : UnrollError → Option UnrollError
 reason Memory = None
 reason error = Some error
 
--- The first of these reasons, in this order: too many copies, too many wires, too many clauses of the copies.
+-- The clauses, or the first of these reasons: too many copies, too many wires, too many clauses of the copies.
 abbrev pub unrolled : Sequential → ℕ → Result Unrolled UnrollError
 unrolled seq frames =
     if nat_lt PART_LIMIT (length (copies seq frames)) then Err (TooManyParts (length (copies seq frames)))
     else if nat_lt WIRE_LIMIT (frames * length seq.device.wires) then Err (TooManyWires (frames * length seq.device.wires))
     else unrolled_by seq frames (encoded (frame_device seq frames))
 
--- what holds of all that is unrolled, whatever the netlist: the names rise, and there are few variables
+-- what is true of every unrolled netlist: the names rise, and there are few variables
 pub record IsUnrolled (made : Unrolled) : Type 0 where
   pub parts_rise : names_rise made.parts ≡ true
   pub wires_rise : names_rise made.wires ≡ true

@@ -15,8 +15,8 @@ use bench_reader::Sequential;
 use device_model::{Component, Name, Wires};
 use std::alloc::{AllocError, Global};
 
-/// The copies of all parts for so many frames, the places of these parts, and the wires at all times. A port is a position among
-/// these wires.
+/// The copies of all parts for `frames` frames, the places of their parts, and the wires at all times. A port is a position
+/// among these wires.
 #[derive(Debug, Drop)]
 pub(crate) struct Copies {
     pub(crate) frames: u32,
@@ -25,7 +25,7 @@ pub(crate) struct Copies {
     pub(crate) wires: Vec<Name>,
 }
 
-/// All copies for so many frames, which were counted: there are not too many copies, wires or clauses.
+/// Makes all copies for `frames` frames. Their numbers of copies, wires and clauses are within the limits.
 pub(crate) fn copies_over(
     alloc: Global,
     seq: &Sequential,
@@ -84,7 +84,7 @@ fn push_copies(
     Ok(())
 }
 
-// The copy of a part whose inputs are of one time and its output of another.
+// Makes the copy of a part, with inputs at `before` and the output at `now`.
 fn copy_of(
     alloc: Global,
     part: &Component,
@@ -114,7 +114,7 @@ fn copy_of(
     })
 }
 
-// Adds wires, which are from a position on.
+// Adds wires as positions counted from `from`.
 fn push_ports(ports: &mut Vec<u32>, wires: &[u32], from: u32) -> Result<(), AllocError>
     requires from { from ≤ FRAME_LIMIT * WIRE_LIMIT }
     requires wires { All (λ wire. wire < WIRE_LIMIT) wires.now }
@@ -126,7 +126,7 @@ fn push_ports(ports: &mut Vec<u32>, wires: &[u32], from: u32) -> Result<(), Allo
     Ok(())
 }
 
-// Adds wires at a time.
+// Adds the names of wires at a time.
 fn push_wires(
     alloc: Global,
     wires: &[Name],

@@ -7,8 +7,8 @@ ghost use Rattle.frame_unroller.specs.inner.Delays.{AreDelays};
 use bench_reader::Sequential;
 use clause_encoder::part_count;
 
-/// How many clauses the copies for so many frames have, before any is left out: as many as the parts at each time, but none of
-/// those that are delayed at the first.
+/// Counts the clauses of the copies for `frames` frames, before any is left out: those of each part at each time, except of
+/// delayed parts at the first.
 pub(crate) fn clause_count(seq: &Sequential, delays: &[bool], frames: u32) -> u64
     requires some { 1 ≤ frames }
     requires few { frames ≤ FRAME_LIMIT }

@@ -6,7 +6,7 @@ ghost use Rattle.frame_unroller.specs.inner.Delays.{AreDelays};
 use bench_reader::Sequential;
 use std::alloc::{AllocError, Global};
 
-/// For each part whether it is delayed.
+/// Returns for each part whether it is delayed.
 pub(crate) fn delays_of(alloc: Global, seq: &Sequential) -> Result<Vec<bool>, AllocError>
     ensures { IfOk result (λ delays. AreDelays seq.now delays.items) }
 {
@@ -19,14 +19,14 @@ pub(crate) fn delays_of(alloc: Global, seq: &Sequential) -> Result<Vec<bool>, Al
     Ok(delays)
 }
 
-/// How many copies there are in so many frames: one for each part and each time, but none for a delayed one at the first.
+/// Counts the copies in `frames` frames: one for each part and each time, except a delayed part at the first.
 pub(crate) fn copy_count(seq: &Sequential, delays: &[bool], frames: u32) -> u64
     requires some { 1 ≤ frames }
     requires few { frames ≤ FRAME_LIMIT }
     requires delays { AreDelays seq.now delays.now }
     ensures { result ≡ length (copies seq.now frames) }
 {
-    // Its contract says that a device has few parts.
+    // The contract of `parts` says that they are few.
     let parts = seq.device.parts().len() as u64;
     let mut first = 0;
     for delayed in delays {

@@ -6,7 +6,7 @@ ghost use Rattle.frame_unroller.specs.Times.{four_digits, wire_at, copy_at};
 use device_model::Name;
 use std::alloc::{AllocError, Global};
 
-// A time in four digits.
+// Writes a time in four digits.
 fn four_digits(time: u32) -> [u8; 4]
     requires { time < 10000 }
     ensures { result ≡ four_digits time }
@@ -19,7 +19,7 @@ fn four_digits(time: u32) -> [u8; 4]
     ]
 }
 
-/// The name of a wire at a time.
+/// Makes the name of a wire at a time.
 pub(crate) fn wire_at(alloc: Global, time: u32, wire: &[u8]) -> Result<Name, AllocError>
     requires time { time ≤ FRAME_LIMIT }
     requires short { length wire.now ≤ SHORT_NAME_LIMIT }
@@ -32,7 +32,7 @@ pub(crate) fn wire_at(alloc: Global, time: u32, wire: &[u8]) -> Result<Name, All
     Name::new(alloc, &bytes)
 }
 
-/// The name of the copy of a part at a time.
+/// Makes the name of the copy of a part at a time.
 pub(crate) fn copy_at(alloc: Global, time: u32, part: &[u8]) -> Result<Name, AllocError>
     requires time { time ≤ FRAME_LIMIT }
     requires short { length part.now ≤ SHORT_NAME_LIMIT }

@@ -4,7 +4,7 @@ ghost use Rattle.std.specs.Prelude.{◌≡◌, IfOk};
 use device_model::Table;
 use std::alloc::{AllocError, Global};
 
-/// The same tables once more.
+/// Copies the tables.
 pub(crate) fn tables_of(alloc: Global, tables: &[Table]) -> Result<Vec<Table>, AllocError>
     ensures { IfOk result (λ copies. copies.items ≡ tables.now) }
 {

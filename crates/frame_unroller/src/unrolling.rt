@@ -23,8 +23,8 @@ use std::alloc::{AllocError, Global};
 /// The most frames of a netlist.
 pub const FRAME_LIMIT: u32 = 64;
 
-/// A netlist over several times: the names of its parts, the wires at all times by their names, and the clauses. The variables
-/// are the parts, then these wires, then inner ones.
+/// A netlist over several times: the names of its parts, the wires at all times in the order of their names, and the clauses.
+/// The variables are the parts, then these wires, then inner ones.
 #[derive(Debug, Drop)]
 pub struct Unrolled {
     pub parts: Names,
@@ -32,16 +32,16 @@ pub struct Unrolled {
     pub cnf: Cnf,
 }
 
-/// Why a netlist is not unrolled. The first one that applies counts.
+/// Why a netlist is not unrolled. The first that applies is reported.
 #[derive(Clone, Copy, Debug, PartialEq, Eq)]
 pub enum UnrollError {
-    /// More than 4,096 copies of parts; the number of them.
+    /// More than 4,096 copies of parts: `count`.
     TooManyParts { count: u64 },
-    /// More than 16,384 wires at all times; the number of them.
+    /// More than 16,384 wires at all times: `count`.
     TooManyWires { count: u64 },
-    /// More than 262,144 clauses of the copies, before any is left out; the number of them.
+    /// More than 262,144 clauses of the copies, before any is left out: `count`.
     TooManyClauses { count: u64 },
-    /// There was no memory.
+    /// Memory ran out.
     Memory,
 }
 
@@ -53,11 +53,11 @@ impl From<AllocError> for UnrollError {
     }
 }
 
-/// The clauses of a netlist over so many frames, with one health state. Wire w at time t, counted from 1, is named `w@t`, with t
-/// in four digits.
+/// Returns the clauses of a netlist over `frames` frames, with one health state. Wire w at time t, counted from 1, is named
+/// `w@t`, with t in four digits.
 ///
-/// All clauses are true, for some bits of the inner variables, exactly if the parts' health and the bits of the wires at all
-/// times fit, frame by frame. None of the copies' clauses is left out for the health that they share.
+/// All clauses are true for some bits of the inner variables exactly if the health of the parts and the bits of the wires at
+/// all times fit, frame by frame. Sharing the health leaves out none of the copies' clauses.
 pub fn unroll(alloc: Global, seq: &Sequential, frames: u32) -> Result<Unrolled, UnrollError>
     requires some { 1 ≤ frames }
     requires few { frames ≤ FRAME_LIMIT }
@@ -86,7 +86,7 @@ pub fn unroll(alloc: Global, seq: &Sequential, frames: u32) -> Result<Unrolled, 
     unroll_by(alloc, seq, copies)
 }
 
-// The clauses of the copies. There are not too many of any of these.
+// Returns the clauses of the copies. All counts are within the limits.
 fn unroll_by(alloc: Global, seq: &Sequential, copies: Copies) -> Result<Unrolled, UnrollError>
     requires copies { AreCopies seq.now copies.frames copies.parts.items copies.places.items copies.wires.items }
     requires some { 1 ≤ copies.frames }
@@ -106,7 +106,7 @@ fn unroll_by(alloc: Global, seq: &Sequential, copies: Copies) -> Result<Unrolled
     let list = match encode(alloc, &device) {
         Ok(list) => list,
         Err(EncodeError::Memory) => return Err(UnrollError::Memory),
-        // They were counted before a copy was made.
+        // The clauses were counted before a copy was made.
         Err(EncodeError::TooManyClauses { .. }) => unreachable!(),
     };
     let cnf = shared(alloc, &list, &places, seq.device.parts().len() as u32)?;
@@ -118,7 +118,7 @@ fn unroll_by(alloc: Global, seq: &Sequential, copies: Copies) -> Result<Unrolled
     })
 }
 
-// The device of copies, and the places of their parts.
+// Builds the device of copies; returns the places of their parts too.
 fn device_of(
     alloc: Global,
     seq: &Sequential,
@@ -144,13 +144,13 @@ fn device_of(
         Ok(device) => Ok((device, places)),
         Err(error) => match error {
             BuildError::Memory => Err(AllocError),
-            // Copies have names of their own, and as many ports as their parts, at wires that are there.
+            // Copies have different names, and as many ports as their parts, at existing wires.
             _ => unreachable!(),
         },
     }
 }
 
-// The clauses in which the health of its part stands for that of each copy. The parts are so many.
+// Replaces the health of each copy by that of its part. There are `parts` parts.
 fn shared(alloc: Global, list: &Cnf, places: &[u32], parts: u32) -> Result<Cnf, AllocError>
     requires many { length places.now ≤ list.now.vars }
     requires places { All (λ place. place < parts) places.now }

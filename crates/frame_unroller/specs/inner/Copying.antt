@@ -1,4 +1,4 @@
--- Copies as they are given to the device: a port is a position among the wires by time.
+-- Copies as the device is built from them: a port is a position among the wires by time.
 use Rattle.std.specs.Prelude.{◌≡◌, ℕ, ◌+◌, ◌-◌, ◌*◌, List, ◌++◌, map, length}
 use Rattle.std.specs.List.{flat_map}
 use Rattle.device_model.specs.declared.component.Component.{Component}
@@ -8,7 +8,7 @@ use Rattle.text_rules.specs.Names.{Name}
 use Rattle.bench_reader.specs.declared.sequential.Sequential.{Sequential}
 use Rattle.frame_unroller.specs.Unrolling.{Copy, copies, owners}
 
--- where a wire stands at a time, of so many wires
+-- the position of a wire at a time, of `wires` wires
 abbrev pub position_at : ℕ → ℕ → ℕ → ℕ
 position_at wires t wire = (t - 1) * wires + wire
 
@@ -19,7 +19,7 @@ given_copy wires copy = record {
   ports = map (position_at wires copy.before) (inputs copy.part) ++ map (position_at wires copy.now) (output copy.part);
 }
 
--- the copies for so many frames, the places of their parts, and the wires at all times
+-- the copies for `frames` frames, the places of their parts, and the wires at all times
 pub record AreCopies (seq : Sequential) (frames : ℕ) (parts : List Component) (places : List ℕ) (wires : List Name) : Type 0 where
   pub parts_are : parts ≡ map (given_copy (length seq.device.wires)) (copies seq frames)
   pub places_are : places ≡ owners seq frames

@@ -1,4 +1,4 @@
--- Which parts are delayed, as the code keeps it.
+-- The delayed parts, as the code keeps them.
 use Rattle.std.specs.Prelude.{◌≡◌, ℕ, ◌<◌, Bool, false, List, length, slice_index_or}
 use Rattle.bench_reader.specs.declared.sequential.Sequential.{Sequential}
 use Rattle.frame_unroller.specs.Frames.{is_delayed}

@@ -4,7 +4,7 @@ use Rattle.frame_unroller.specs.Unrolling.{Copy, copies_of, copies_for}
 use Rattle.frame_unroller.specs.inner.Copying.{given_copy}
 use Rattle.frame_unroller.proofs.copying.push_copies.Given as goal
 
--- the copies so far, and those of the parts that are left
+-- the copies so far, and those of the parts left
 abbrev pub invariant-loop-place : goal.invariant-loop-place
 invariant-loop-place l = record {
   copies : l.initial.copies.items ++ map (given_copy (length l.seq.device.wires)) (copies_for l.seq l.time)

@@ -2,7 +2,7 @@ use Rattle.std.proofs.Common.{ℕ, ◌≤◌, ◌*◌}
 use Rattle.frame_unroller.proofs.ClauseCounts.{Counted}
 use Rattle.frame_unroller.proofs.counting.clause_count.Given as goal
 
--- what the parts so far have at the first time, and at any later one
+-- the clauses of the parts so far at the first time and at any later one
 abbrev pub invariant-loop-place : goal.invariant-loop-place
 invariant-loop-place l = record {
   at_first : Counted l.seq l.frames 1 l.place l.first;

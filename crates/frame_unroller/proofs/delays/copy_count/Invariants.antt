@@ -2,7 +2,7 @@ use Rattle.std.proofs.Common.{◌≡◌, ◌≤◌, take, not}
 use Rattle.std.specs.Prelude.{count_by}
 use Rattle.frame_unroller.proofs.delays.copy_count.Given as goal
 
--- how many of the parts so far are not delayed
+-- the number of parts so far that are not delayed
 abbrev pub invariant-loop-delayed : goal.invariant-loop-delayed
 invariant-loop-delayed l = record {
   counted : l.first ≡ count_by not (take l.delayed-index l.delays);

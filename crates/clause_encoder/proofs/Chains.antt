@@ -1,4 +1,4 @@
--- Gates of more than four inputs: each inner variable of the chain is settled, and what is left is the gate.
+-- Gates of more than four inputs: each inner variable of the chain is settled, and the rest is the gate.
 use Rattle.std.proofs.Common.{◌≡◌, ℕ, suc, ◌+◌, ◌-◌, ◌≤◌, Bool, true, not, ◌&&◌, ◌||◌, List, [], ◌∷◌, ◌++◌, map, length, take, drop, get_or, refl, ap, ◌∙◌, arith}
 use Rattle.std.specs.Prelude.{if◌then◌else◌}
 use Rattle.std.specs.List.{list_all, list_any}
@@ -24,7 +24,7 @@ use Rattle.clause_encoder.proofs.Settled.{has_bits, Settles}
 
 -- ---- one step
 
--- what an inner variable is
+-- the value of an inner variable
 abbrev pub step_value : Reduction → Bool → Bool → Bool
 step_value AllOnes b c = b && c
 step_value AnyOne b c = b || c
@@ -34,7 +34,7 @@ module _ (a : Assignment) (z before x : ℕ) (hz : 1 ≤ z) (hb : 1 ≤ before) 
   step-holds : (reduction : Reduction) → all_hold a (step_clauses reduction z before x) ≡ same_bit (step_value reduction (a before) (a x)) (a z)
   step-holds reduction = grind arith
 
--- ---- the value of two inputs stands for both
+-- ---- the value of two inputs replaces both
 
 odd-two : (b c : Bool) (rest : List Bool) → has_odd_ones (not (same_bit b c) ∷ rest) ≡ has_odd_ones (b ∷ c ∷ rest)
 odd-two b c rest = grind (arith, nat_tests, count-cons (not (same_bit b c)) rest, count-cons b (c ∷ rest), count-cons c rest)
@@ -60,11 +60,11 @@ pub length-chain_bits : (reduction : Reduction) (b : Bool) (bits : List Bool) �
 length-chain_bits reduction b [] = refl
 length-chain_bits reduction b (c ∷ bits) = ap suc (length-chain_bits reduction (step_value reduction b c) bits)
 
--- a bit that is settled may be put for the variable
+-- a settled bit may replace the variable
 settled : (b c : Bool) (f : Bool → Bool) → (same_bit b c && f c) ≡ (same_bit b c && f b)
 settled b c f = grind arith
 
--- what a gate that is ok says of its output
+-- whether the output is `value` if the gate is ok
 abbrev output_is : Assignment → ℕ → ℕ → Bool → Bool
 output_is a h y value = not (a h) || same_bit (a y) value
 
@@ -103,13 +103,13 @@ pub any_gate-settles : (a : Assignment) (gate : Gate) (h z : ℕ) (xs : List ℕ
     → Settles a z (any_gate_clauses gate h z xs y) (gate_bits gate.reduction (map a xs)) (output_is a h y (gate_value gate (map a xs)))
 any_gate-settles a gate h z xs y hh hz hy hs = grind (arith, length-map, wide-settles, gate-holds)
 
--- ---- how many
+-- ---- their number
 
 length-gate_bits : (reduction : Reduction) (bits : List Bool) (ports : ℕ) → length bits ≡ ports - 1
     → length (gate_bits reduction bits) ≡ (if is_wide (ports - 1) then ports - 3 else 0)
 length-gate_bits reduction bits ports long = grind (arith, length-chain_bits, length-take-le)
 
--- the bits of the inner variables of a part, by those of its ports
+-- the bits of the inner variables of a part, from those of its ports
 abbrev pub inner_bits : Rule → List Bool → List Bool
 inner_bits (OfTable t) row = []
 inner_bits (OfGate gate) row = gate_bits gate.reduction (take (length row - 1) row)
@@ -125,7 +125,7 @@ ports-settle : (a : Assignment) (gate : Gate) (h z : ℕ) (ports : List ℕ) →
     (gate_bits gate.reduction (take (length (map a ports) - 1) (map a ports))) (gate_allows gate (a h) (map a ports))
 ports-settle a gate h z ports hh hz hs e = grind (arith, any_gate-settles, AllPositive-at, AllPositive-take, take-map, length-map, get_or-map)
 
--- The clauses of a part settle its inner variables, and are true besides exactly if the part allows the bits of its ports.
+-- The clauses of a part settle its inner variables, and the rest is true exactly if the part allows the bits of its ports.
 pub raw-settles : (a : Assignment) (tables : List TruthTable) (rule : Rule) (h z : ℕ) (ports : List ℕ) → 1 ≤ h → 1 ≤ z → AllPositive ports
     → takes_ports tables rule (length ports) ≡ true
     → Settles a z (raw_clauses tables rule h z ports) (inner_bits rule (map a ports)) (allows tables rule (a h) (map a ports))

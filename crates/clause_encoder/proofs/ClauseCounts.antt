@@ -1,4 +1,4 @@
--- How many clauses a part has.
+-- The number of clauses of a part.
 use Rattle.std.proofs.Common.{◌≡◌, ℕ, ◌+◌, ◌-◌, ◌*◌, ◌%◌, ◌^◌, ◌<◌, ◌≤◌, Bool, true, List, [], ◌∷◌, map, length, take, drop, get_or, count_ones, Some, ap, ◌∙◌, arith}
 use Rattle.std.specs.Prelude.{if◌then◌else◌}
 use Rattle.std.proofs.Math.Pow.{pow_mono}
@@ -69,7 +69,7 @@ length-any_gate gate inputs n step wide h z y xs long =
 
 -- ---- parts
 
--- what one part more adds
+-- what one more part adds
 pub part-counted : (device : Device) (place : ℕ) (parts : List Component) (part : Component) (tables : List TruthTable) (ports count n total : ℕ)
     → parts ≡ device.parts → place < length parts → part ≡ get_or parts place part → tables ≡ device.tables → ports ≡ length part.ports
     → ((h z : ℕ) (vs : List ℕ) → length vs ≡ ports → length (raw_clauses tables (rule part.kind) h z vs) ≡ n)

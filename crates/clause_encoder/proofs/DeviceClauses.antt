@@ -1,4 +1,4 @@
--- The clauses of a device: each is one, and together they say exactly what fits.
+-- The clauses of a device: each passes `is_clause`, and together they mean what fits.
 use Rattle.std.proofs.Common.{◌≡◌, ℕ, suc, ◌+◌, ◌-◌, ◌<◌, ◌≤◌, Bool, true, false, List, [], ◌∷◌, ◌++◌, map, length, get_or, refl, ap, sym, ◌∙◌, subst, arith}
 use Rattle.std.specs.Prelude.{nat_lt}
 use Rattle.std.specs.List.{list_any, list_all}
@@ -17,9 +17,9 @@ use Rattle.clause_encoder.proofs.RowBits.{AllPositive}
 use Rattle.clause_encoder.proofs.Settled.{Settles, Settles-append, some-hold}
 use Rattle.clause_encoder.proofs.Chains.{inner_bits, length-inner_bits, raw-settles}
 
--- ---- raw clauses have literals, of variables that are there
+-- ---- raw clauses have literals, with variables in range
 
--- a variable is from 1 to a greatest one
+-- a variable is from 1 to `vars`
 abbrev InRange : ℕ → ℕ → Type 0
 InRange vars v = (1 ≤ v) × (v ≤ vars)
 
@@ -67,7 +67,7 @@ pub are_clauses : (device : Device) → IsDevice device
     → list_all (is_clause (length device.parts + length device.wires + inner_vars device.parts)) (tidy (all_clauses device)) ≡ true
 are_clauses device d = are_clauses-tidy (length device.parts + length device.wires + inner_vars device.parts) (all_clauses device) (AllRaw-device device d)
 
--- ---- what the clauses say
+-- ---- what the clauses mean
 
 -- the bits of the inner variables of parts
 abbrev part_bits : List Component → List Bool → List Bool

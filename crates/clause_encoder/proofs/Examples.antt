@@ -36,7 +36,7 @@ and = refl
 or : (clause_list (of_a_and_b Or)).clauses ≡ (n 1 ∷ n 2 ∷ p 4 ∷ []) ∷ (n 1 ∷ n 3 ∷ p 4 ∷ []) ∷ (n 1 ∷ p 2 ∷ p 3 ∷ n 4 ∷ []) ∷ []
 or = refl
 
--- ok allows 00 and 11, and faulty 10
+-- ok allows 00 and 11, faulty allows 10
 abbrev tabled : Device
 tabled = one_part (Table 0) (0 ∷ 1 ∷ []) (codes "a" ∷ codes "b" ∷ []) (record { ports = 2; ok = 9; bad = 2; cost = 1 } ∷ [])
 
@@ -113,6 +113,6 @@ two_chains_clauses = refl
 two_chains_count : raw_count two_of_five ≡ 28
 two_chains_count = refl
 
--- by variable, a literal once
+-- sorted by variable, each literal once
 sorted_distinct : tidy ((n 4 ∷ p 2 ∷ n 4 ∷ p 3 ∷ []) ∷ []) ≡ (p 2 ∷ p 3 ∷ n 4 ∷ []) ∷ []
 sorted_distinct = refl

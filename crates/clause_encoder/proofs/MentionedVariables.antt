@@ -1,4 +1,4 @@
--- What holds of the variables of a part's ports, of its health and of its inner ones holds of all in its clauses.
+-- What is true of the variables of a part's ports, of its health and of its inner ones is true of all in its clauses.
 use Rattle.std.proofs.Common.{◌≡◌, ℕ, zero, suc, ◌+◌, ◌-◌, ◌<◌, ◌≤◌, Bool, true, false, not, List, [], ◌∷◌, ◌++◌, map, length, take, get_or, pos, sym, subst, arith}
 use Rattle.std.specs.Prelude.{if◌then◌else◌}
 use Rattle.std.proofs.lemmas.List.{length-take-le}

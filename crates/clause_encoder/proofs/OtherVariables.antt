@@ -1,4 +1,4 @@
--- Clauses in which other variables stand for those that were there are true where these are.
+-- Clauses with their variables replaced are true exactly if the given ones are.
 use Rattle.std.proofs.Common.{◌≡◌, ℕ, zero, suc, ◌<◌, ◌≤◌, true, ◌&&◌, ◌||◌, List, [], ◌∷◌, map, length, get_or, ℤ, refl, ap, ◌∙◌, arith}
 use Rattle.std.specs.Prelude.{nat_le}
 use Rattle.std.specs.List.{All, list_all}
@@ -19,7 +19,7 @@ AllIn-from : (vars below : ℕ) (c : Clause) → vars_rise below c ≡ true → 
 AllIn-from vars below [] h k = tt
 AllIn-from vars below (l ∷ c) h k = grind (arith, AllIn-from vars (var_of l) c)
 
--- a clause has a literal, and each is of a variable from 1 to the greatest
+-- a clause has a literal, and each has a variable from 1 to `vars`
 pub raw_from : (vars : ℕ) (c : Clause) → is_clause vars c ≡ true → (1 ≤ length c) × AllIn vars c
 raw_from vars c h = grind (arith, AllIn-from)
 
@@ -64,7 +64,7 @@ module _ (variables : List ℕ) (vars : ℕ) (some : All (λ v. 1 ≤ v) variabl
 pub replaced-few : (variables : List ℕ) (cs : List Clause) → length (tidy (map (map (literal_for variables)) cs)) ≤ length cs
 replaced-few variables cs = omega (arith, length-tidy (map (map (literal_for variables)) cs), length-map cs (map (literal_for variables)))
 
--- variables that have the same bits
+-- assignments with the same bits
 pub all_hold-same : (vars : ℕ) (a b : Assignment) (cs : List Clause) → list_all (is_clause vars) cs ≡ true
     → ((v : ℕ) → 1 ≤ v → v ≤ vars → a v ≡ b v) → all_hold a cs ≡ all_hold b cs
 all_hold-same vars a b [] h same = refl

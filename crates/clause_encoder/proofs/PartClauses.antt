@@ -20,9 +20,9 @@ use Rattle.clause_encoder.specs.Encoding.{parity_clauses, and_clauses, row_bits,
 use Rattle.clause_encoder.proofs.Literals.{lit, lit-literal, neg-literal}
 use Rattle.clause_encoder.proofs.RowBits.{AllPositive, row_bits-number, row_number-below, blocking_literals-row, all-rows, all-filtered}
 
--- ---- ands, of literals on either side
+-- ---- conjunctions of literals
 
--- the clauses of an and, with no literal negated
+-- the clauses of a conjunction, without negations
 pub and_clauses-literals : (h y : ℕ) (t s : Bool) (xs : List ℕ) → and_clauses (pos h) (literal t y) (map (literal s) xs)
     ≡ map (λ x. literal false h ∷ literal (not t) y ∷ literal s x ∷ []) xs ++ (literal false h ∷ literal t y ∷ map (literal (not s)) xs) ∷ []
 and_clauses-literals h y t s xs = λ i. fronts xs i ++ (literal false h ∷ literal t y ∷ negated xs i) ∷ [] where

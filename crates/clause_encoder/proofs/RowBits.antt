@@ -48,7 +48,7 @@ row_number-below [] n h = grind arith
 row_number-below (b ∷ bits) zero h = absurd (omega arith)
 row_number-below (bit ∷ bits) (suc n) h = grind (arith, row_number-below bits n)
 
--- ---- a row differs from that of the variables, or is it
+-- ---- whether a row differs from that of the variables
 
 differs : (bit : Bool) (r n : ℕ) → (same_bit (not (r % 2 == 1)) bit || not (r / 2 == n)) ≡ not (r == number_of_bit bit + 2 * n)
 differs bit r n = grind arith
@@ -59,7 +59,7 @@ pub blocking_literals-row : (a : Assignment) (vs : List ℕ) (r : ℕ) → AllPo
 blocking_literals-row a [] r h lt = grind (arith, nat_tests)
 blocking_literals-row a (v ∷ vs) r h lt = grind (arith, row_bits-cons r v vs, lit-literal a (not (has_bit r 0)) v h.0, blocking_literals-row a vs (r / 2) h.1 (half-below r (length vs) lt), has_bit-zero r, differs (a v) r (row_number (map a vs)))
 
--- ---- tests of all rows, of which one counts
+-- ---- tests of all rows, of which one decides
 
 all-past : (q : ℕ → Bool) (n k row : ℕ) → row < k → list_all (λ r. not (r == row) || q r) (range_with_len k n) ≡ true
 all-past q zero k row h = refl
@@ -73,7 +73,7 @@ all-same : (p q : ℕ → Bool) (n k : ℕ) → ((r : ℕ) → r < k + n → p r
 all-same p q zero k h = refl
 all-same p q (suc n) k h = λ i. h k (omega arith) i && all-same p q n (k + 1) (λ r lt. h r (omega arith)) i
 
--- each row passes that is not the one, and so the one decides
+-- every other row passes, so this one decides
 pub all-rows : (p q : ℕ → Bool) (vs : List ℕ) (row : ℕ) → row < 2 ^ length vs → ((r : ℕ) → r < 2 ^ length vs → p r ≡ (not (r == row) || q r))
     → list_all p (rows_of vs) ≡ q row
 all-rows p q vs row lt h = all-same p (λ r. not (r == row) || q r) (2 ^ length vs) 0 (λ r k. h r (omega (arith, k)))
@@ -84,7 +84,7 @@ pub all-filtered : {A : Type 0} (p : A → Bool) (f : ℕ → A) (keep : ℕ →
 all-filtered p f keep [] = refl
 all-filtered p f keep (r ∷ rs) = grind (arith, nat_tests, all-filtered p f keep rs)
 
--- ---- how many bits are set
+-- ---- the number of set bits
 
 pub count-cons : (b : Bool) (bits : List Bool) → count_by (λ b. b) (b ∷ bits) ≡ cond b 1 0 + count_by (λ b. b) bits
 count-cons b bits = sum_by-cons (λ (b : Bool). cond b 1 0) b bits
@@ -108,6 +108,6 @@ count-kept : (f : ℕ → Bool) (rs : List ℕ) → count_by (λ b. b) (map f rs
 count-kept f [] = refl
 count-kept f (r ∷ rs) = grind (arith, count-cons (f r) (map f rs), count-kept f rs)
 
--- of all rows, those that are not in a set
+-- the number of rows outside a set
 pub others : (set : ℕ) (n : ℕ) → set < 2 ^ n → length (filter (λ r. not (has_bit set r)) (range_with_len 0 n)) + count_ones set ≡ n
 others set n h = grind (arith, length-filter_both (has_bit set) (λ r. not (has_bit set r)) (λ r. refl) (range_with_len 0 n), count-kept (has_bit set), ones-set n set h, length-range_with_len 0 n)

@@ -1,5 +1,5 @@
--- Inner variables whose bits are settled by the others: some bits of them make all clauses true exactly if what is
--- left of the clauses is true.
+-- Inner variables whose bits the others settle: some bits of them make all clauses true exactly if the rest of the
+-- clauses is true.
 use Rattle.std.proofs.Common.{◌≡◌, ℕ, ◌+◌, Bool, true, false, ◌&&◌, ◌||◌, List, [], ◌∷◌, ◌++◌, map, length, ap, ◌∙◌, arith, append_assoc}
 use Rattle.std.specs.List.{list_any}
 use Rattle.std.proofs.lemmas.List.{get_or-append_right, length-append}
@@ -11,7 +11,7 @@ use Rattle.state_rules.proofs.Lists.{list_any-map, any-never}
 use Rattle.state_rules.proofs.Members.{any_same}
 use Rattle.clause_encoder.specs.Clauses.{Clause, all_hold}
 
--- the variables from one on have these bits
+-- whether the variables from z on have these bits
 abbrev pub has_bits : Assignment → ℕ → List Bool → Bool
 has_bits a z [] = true
 has_bits a z (b ∷ bits) = same_bit b (a z) && has_bits a (z + 1) bits
@@ -68,7 +68,7 @@ some-settled (b ∷ bits) front rest =
       half shorter c = any_same (λ inner. test (c ∷ inner)) (λ inner. (same_bit b c && below c inner) && rest) tails (λ inner _. ap (λ t. t && rest) (front-bits front c inner bits b))
           ∙ by_bit (same_bit b c) c (shorter c)
 
--- What clauses settle, some bits of their inner variables give.
+-- for some bits of the inner variables, the clauses hold exactly if the rest does
 pub some-hold : (clauses : List Clause) (bits front : List Bool) (rest : Bool)
     → ((inner : List Bool) → Settles (assignment (front ++ inner)) (length front + 1) clauses bits rest)
     → list_any (λ inner. all_hold (assignment (front ++ inner)) clauses) (lists_of_bits (length bits)) ≡ rest

@@ -1,4 +1,4 @@
--- How many variables a device that is encoded has: each inner one comes with three clauses or more, of which there are few.
+-- The number of variables of an encoded device: each inner one comes with three clauses or more, and these are few.
 use Rattle.std.proofs.Common.{◌≡◌, ℕ, ◌+◌, ◌-◌, ◌*◌, ◌≤◌, true, List, [], ◌∷◌, length, take, get_or, Ok, arith}
 use Rattle.std.specs.Prelude.{if◌then◌else◌}
 use Rattle.std.specs.List.{list_all}
@@ -19,7 +19,7 @@ use Rattle.clause_encoder.proofs.ClauseCounts.{length-any_gate}
 
 -- ---- inner variables and clauses
 
--- how many clauses a step has: three, or four
+-- the number of clauses of a step
 abbrev step-count : Reduction → ℕ
 step-count AllOnes = 3
 step-count AnyOne = 3
@@ -49,9 +49,9 @@ parts-inner : (device : Device) (h z : ℕ) (parts : List Component) → list_al
 parts-inner device h z [] arities = omega arith
 parts-inner device h z (part ∷ parts) arities = grind (arith, part-inner, parts-inner device (h + 1) (z + inner_count (rule part.kind) (length part.ports)) parts, length-append, length-map)
 
--- ---- what is encoded
+-- ---- encoded devices
 
--- the device's clauses, of which there are not too many
+-- `cnf` are the device's clauses, which are few enough
 pub record IsEncoded (device : Device) (cnf : ClauseList) : Type 0 where
   pub vars : cnf.vars ≡ length device.parts + length device.wires + inner_vars device.parts
   pub few : raw_count device ≤ CLAUSE_LIMIT
@@ -62,6 +62,6 @@ encoded-is device cnf is = grind arith
 pub few_inner : (device : Device) (cnf : ClauseList) → IsDevice device → encoded device ≡ Ok cnf → 3 * inner_vars device.parts ≤ CLAUSE_LIMIT
 few_inner device cnf valid is = omega (arith, parts-inner device 1 (first_inner device) device.parts valid.arities, (encoded-is device cnf is).few)
 
--- 4,096 parts, 16,384 wires and 87,381 inner variables at most
+-- at most 4,096 parts, 16,384 wires and 87,381 inner variables
 pub encoded-few_vars : (device : Device) (cnf : ClauseList) → IsDevice device → encoded device ≡ Ok cnf → cnf.vars ≤ most_variables
 encoded-few_vars device cnf valid is = omega (arith, (encoded-is device cnf is).vars, few_inner device cnf valid is, valid.few_parts, valid.few_wires)

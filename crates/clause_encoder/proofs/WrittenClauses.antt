@@ -1,4 +1,4 @@
--- Clauses that are written one after the other: what a step of a loop adds to those that were there.
+-- Clauses written one after the other: what a step of a loop adds to the clauses before it.
 use Rattle.std.proofs.Common.{◌≡◌, ℕ, zero, suc, ◌+◌, ◌-◌, ◌*◌, ◌/◌, ◌%◌, ◌^◌, ◌<◌, ◌≤◌, Bool, true, false, not, cond, List, [], ◌∷◌, ◌++◌, map, length, take, drop, get_or, ℤ, pos, Some, ap, sym, ◌∙◌, arith, append_assoc, w32, to_z, of_z, FitsSigned}
 use Rattle.std.specs.List.{filter, range_with_len}
 use Rattle.std.proofs.lemmas.List.{append-nil, drop_more, drop_all, take_more, length-map, get_or-map}
@@ -21,7 +21,7 @@ use Rattle.clause_encoder.proofs.RowBits.{row_bits-cons, has_bit-zero}
 use Rattle.clause_encoder.proofs.PartClauses.{and_clauses-literals}
 
 module _ (now next start : List Clause) where
-  -- some were written, and some are left
+  -- some are written, and some are left
   pub written : (front rest : List Clause) → next ≡ now ++ tidy front → now ++ tidy (front ++ rest) ≡ start → next ++ tidy rest ≡ start
   written front rest e h = ap (λ w. w ++ tidy rest) e ∙ append_assoc now (tidy front) (tidy rest) ∙ ap (λ c. now ++ c) (sym (tidy-append front rest)) ∙ h
 
@@ -57,7 +57,7 @@ literal-fits b v h = grind arith
 pub passed : (x : ℤ) (b : Bool) (v : ℕ) → v < 2 ^ 29 → x ≡ literal b v → to_z w32 (of_z w32 x) ≡ literal b v
 passed x b v h e = ap (λ y. to_z w32 (of_z w32 y)) e ∙ to_z-of_z w32 (literal b v) (literal-fits b v h)
 
--- ---- the clauses of an and
+-- ---- conjunctions
 
 pub and-all : (h y : ℕ) (t s : Bool) (xs : List ℕ) (i : ℕ) (now next start : List Clause) (last : Clause) → length xs ≤ i
     → last ≡ literal false h ∷ literal t y ∷ map (literal (not s)) xs
@@ -70,7 +70,7 @@ and-all h y t s xs i now next start last past e inv f =
 
 -- ---- rows
 
--- the literal of one variable more
+-- the literal of one more variable
 pub bit-written : (vs : List ℕ) (i rest : ℕ) (now next start : List ℤ) (l : ℤ) → i < length vs → l ≡ literal (rest % 2 == 0) (get_or vs i 0)
     → next ≡ now ++ l ∷ [] → now ++ blocking_literals (drop i vs) (row_bits rest (drop i vs)) ≡ start
     → next ++ blocking_literals (drop (i + 1) vs) (row_bits (rest / 2) (drop (i + 1) vs)) ≡ start
@@ -125,7 +125,7 @@ pub split-at : (device : Device) (place : ℕ) (part : Component) → place < le
     ++ clauses_from device ((place + 1) + 1) (inner_at device (place + 1)) (drop (place + 1) device.parts)
 split-at device place part lt is = grind (arith, nat_tests, drop_more, inner_at-more)
 
--- the clauses of one part more
+-- the clauses of one more part
 pub part-written : (device : Device) (place : ℕ) (parts : List Component) (part : Component) (tables : List TruthTable) (h z : ℕ) (ports wires : List ℕ) (now next start : List Clause)
     → parts ≡ device.parts → place < length parts → part ≡ get_or parts place part → tables ≡ device.tables → h ≡ place + 1 → z ≡ inner_at device place
     → ports ≡ map (λ wire. length parts + wire + 1) wires → wires ≡ part.ports
@@ -138,7 +138,7 @@ part-written device place parts part tables h z ports wires now next start same 
     (e ∙ (λ i. now ++ tidy (raw_clauses (t i) (rule part.kind) (height i) (first i) ((p ∙ (λ j. map (λ wire. length (same j) + wire + 1) (w j))) i))))
     (ap (λ cs. now ++ tidy cs) (sym (split-at device place part (omega (arith, ap length same)) (is ∙ ap (λ ps. get_or ps place part) same))) ∙ inv)
 
--- where the inner variables of the next part begin
+-- the first inner variable of the next part
 pub inner-next : (device : Device) (place : ℕ) (parts : List Component) (part : Component) (inner next : ℕ) (ports wires : List ℕ)
     → parts ≡ device.parts → place < length parts → part ≡ get_or parts place part → inner ≡ inner_at device place
     → ports ≡ map (λ wire. length parts + wire + 1) wires → wires ≡ part.ports → next ≡ inner + inner_count (rule part.kind) (length ports) → next ≡ inner_at device (place + 1)
@@ -146,7 +146,7 @@ inner-next device place parts part inner next ports wires same lt is first p w e
 
 -- ---- chains
 
--- the step of one input more
+-- the step of one more input
 pub step-written : (gate : Gate) (reduction : Reduction) (h last y z before : ℕ) (xs : List ℕ) (i : ℕ) (now next start : List Clause) → i < length xs
     → reduction ≡ gate.reduction → next ≡ now ++ tidy (step_clauses reduction z before (get_or xs i 0))
     → now ++ tidy (chain_clauses gate h last y z before (drop i xs)) ≡ start

@@ -1,11 +1,11 @@
--- Clauses over numbered variables: what a clause list is, and which bits make all its clauses true.
+-- Clauses over numbered variables: clause lists, and the bits that make all clauses true.
 use Rattle.std.specs.Prelude.{ℕ, ◌+◌, Bool, true, false, ◌&&◌, List, [], ◌∷◌, length, ℤ, pos, negsuc, neg_ℤ, nat_lt, nat_le}
 use Rattle.std.specs.List.{list_any, list_all}
 use Rattle.state_rules.specs.Bits.{same_bit}
 use Rattle.state_rules.specs.Assignments.{Assignment}
 use Rattle.clause_encoder.specs.declared.limits.TheConstants.{CLAUSE_LIMIT, VARIABLE_LIMIT}
 
--- a literal is a variable, or below 0 if it is negated
+-- the variable of a literal; a negated literal is below 0
 abbrev pub var_of : ℤ → ℕ
 var_of (pos n) = n
 var_of (negsuc n) = n + 1
@@ -27,19 +27,19 @@ pub record ClauseList : Type 0 where
   pub vars : ℕ
   pub clauses : List Clause
 
--- a clause is true if one of its literals is
+-- whether one of the literals of a clause is true
 abbrev pub is_true_clause : Assignment → Clause → Bool
 is_true_clause a clause = list_any (λ l. same_bit (is_positive l) (a (var_of l))) clause
 
 abbrev pub all_hold : Assignment → List Clause → Bool
 all_hold a clauses = list_all (is_true_clause a) clauses
 
--- each variable is above the one before
+-- whether each variable is above the one before
 abbrev pub vars_rise : ℕ → Clause → Bool
 vars_rise below [] = true
 vars_rise below (l ∷ clause) = nat_lt below (var_of l) && vars_rise (var_of l) clause
 
--- one literal or more, of rising variables that are 1 to `vars`
+-- one literal or more, with rising variables from 1 to `vars`
 abbrev pub is_clause : ℕ → Clause → Bool
 is_clause vars [] = false
 is_clause vars (l ∷ clause) = vars_rise 0 (l ∷ clause) && list_all (λ k. nat_le (var_of k) vars) (l ∷ clause)

@@ -8,7 +8,7 @@ use flat_lists::FlatLists;
 use std::alloc::Global;
 use std::marker::Model;
 
-/// A clause made outside the encoder: literals, at least one of them true. Variable v is the literal v, or -v if it is negated.
+/// A clause made outside the encoder: literals, at least one of them true. The literal of variable v is v, or -v if negated.
 #[derive(Debug, Drop)]
 pub struct Clause {
     literals: Vec<i32>,
@@ -38,7 +38,7 @@ impl Clause {
     }
 }
 
-/// Clauses over the variables 1 to a greatest one.
+/// Clauses over the variables 1 to `vars`.
 #[derive(Debug, Drop)]
 pub struct Cnf {
     vars: u32,
@@ -57,9 +57,9 @@ impl Model for Cnf {
 }
 
 impl Cnf {
-    /// The clauses in their order.
+    /// Makes a list of clauses in this order.
     ///
-    /// The variables are fewer than 2^29 and the clauses at most 262,144. Each has a literal, and its variables rise.
+    /// There are fewer than 2^29 variables and at most 262,144 clauses. Each clause has a literal, and its variables rise.
     pub fn of(alloc: Global, vars: u32, clauses: Vec<Clause>) -> Result<Cnf, Memory>
         requires vars { vars < VARIABLE_LIMIT }
         requires few { length clauses.items ≤ CLAUSE_LIMIT }
@@ -85,7 +85,7 @@ impl Cnf {
         Cnf { vars, clauses }
     }
 
-    /// The greatest variable, which is the number of variables.
+    /// Returns the greatest variable, which is the number of variables.
     pub fn vars(&self) -> u32
         ensures vars { result ≡ self.now.vars }
         ensures valid { is_clause_list self.now ≡ true }
@@ -93,7 +93,7 @@ impl Cnf {
         self.vars
     }
 
-    /// The number of clauses.
+    /// Returns the number of clauses.
     pub fn len(&self) -> u32
         ensures len { result ≡ length self.now.clauses }
         ensures valid { is_clause_list self.now ≡ true }
@@ -101,7 +101,7 @@ impl Cnf {
         self.clauses.len() as u32
     }
 
-    /// The literals of the clause at a place, by rising variable.
+    /// Returns the literals of the clause at a place, by rising variable.
     pub fn clause(&self, at: u32) -> &[i32]
         requires { at < length self.now.clauses }
         ensures { result.now ≡ slice_index_or self.now.clauses at [] }

@@ -15,9 +15,9 @@ use std::alloc::{AllocError, Global};
 /// Why a device has no list of clauses.
 #[derive(Clone, Copy, Debug, PartialEq, Eq)]
 pub enum EncodeError {
-    /// More than 262,144 clauses, before any is left out; the number of them.
+    /// More than 262,144 clauses, before any is left out: `count`.
     TooManyClauses { count: u64 },
-    /// There was no memory.
+    /// Memory ran out.
     Memory,
 }
 
@@ -29,11 +29,11 @@ impl From<AllocError> for EncodeError {
     }
 }
 
-/// The clauses of a device. Its parts' health variables are 1 and up, in the order of the parts, and the wires' follow. Then come
-/// the inner variables of the gates of more than four inputs.
+/// Returns the clauses of a device. Its health variables are 1 and up, in the order of the parts, and the wires follow. Then
+/// come the inner variables of the gates of more than four inputs.
 ///
-/// All clauses are true, for some bits of the inner variables, exactly if the parts' health and the bits of the wires fit the
-/// device.
+/// All clauses are true for some bits of the inner variables exactly if the health of the parts and the bits of the wires fit
+/// the device.
 #[tactic(auto, using(crate::proofs::Rules::encoded_clauses))]
 pub fn encode(alloc: Global, device: &Device) -> Result<Cnf, EncodeError>
     ensures encoded { Fulfils (λ cnf. cnf) reason (encoded device.now) result }
@@ -74,7 +74,7 @@ fn push_parts(alloc: Global, writer: &mut Writer, device: &Device) -> Result<u32
     Ok(inner - 1)
 }
 
-// Makes `ports` the variables of wires, which follow those of so many parts.
+// Sets `ports` to the variables of these wires, which follow those of the parts.
 fn set_ports(ports: &mut Vec<u32>, parts: usize, wires: &[u32]) -> Result<(), AllocError>
     requires few { parts ≤ 4096 }
     requires wires { All (λ wire. wire < 16384) wires.now }
@@ -87,7 +87,7 @@ fn set_ports(ports: &mut Vec<u32>, parts: usize, wires: &[u32]) -> Result<(), Al
     Ok(())
 }
 
-// How many clauses the parts have, before any is left out.
+// Counts the clauses of the parts, before any is left out.
 #[tactic(auto, using(crate::proofs::Rules::device_arities))]
 fn raw_count(device: &Device) -> u64
     ensures count { result ≡ raw_count device.now }
@@ -100,7 +100,7 @@ fn raw_count(device: &Device) -> u64
     count
 }
 
-/// How many clauses a part of so many ports has, before any is left out.
+/// Counts the clauses of a part with `ports` ports, before any is left out.
 pub fn part_count(tables: &[Table], kind: Kind, ports: usize) -> u64
     requires { takes_ports tables.now (rule kind) ports ≡ true }
     ensures count { (h z : ℕ) (vs : List ℕ) → length vs ≡ ports
@@ -126,7 +126,7 @@ fn gate_count(gate: Gate, inputs: usize) -> u64
     narrow_count(gate, inputs)
 }
 
-// How many clauses a gate without a chain has.
+// Counts the clauses of a gate without a chain.
 #[tactic(auto, using(crate::proofs::Rules::counted_gates))]
 fn narrow_count(gate: Gate, inputs: usize) -> u64
     requires arity { takes gate inputs ≡ true }
@@ -141,7 +141,7 @@ fn narrow_count(gate: Gate, inputs: usize) -> u64
     }
 }
 
-// How many clauses a step of a chain has.
+// Counts the clauses of a step of a chain.
 fn step_count(reduction: Reduction) -> u64
     ensures count { (z before x : ℕ) → length (step_clauses reduction z before x) ≡ result }
     ensures few { result ≤ 4 }
@@ -152,7 +152,7 @@ fn step_count(reduction: Reduction) -> u64
     }
 }
 
-// The rows that are not allowed, of both sides.
+// Counts the rows that are not allowed, ok and faulty.
 #[tactic(auto, using(crate::proofs::Rules::counted_tables))]
 fn table_count(table: &Table) -> u64
     ensures count { (h : ℕ) (vs : List ℕ) → length vs ≡ table.now.ports

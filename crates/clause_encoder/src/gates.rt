@@ -10,8 +10,8 @@ use crate::writer::Writer;
 use device_model::{Gate, INPUT_LIMIT, Kind, Reduction, Rule, Table};
 use std::alloc::AllocError;
 
-// Writes the clauses of a part, by the variables of its health and of its ports. Its inner variables are `inner` and up; the
-// next one is returned.
+// Writes the clauses of a part, from the variables of its health and ports. Its inner variables are `inner` and up. Returns
+// the next one.
 #[tactic(auto, using(crate::proofs::WrittenClauses::taken))]
 pub(crate) fn push_part(
     writer: &mut Writer,
@@ -67,7 +67,7 @@ fn push_gate(
     Ok(inner)
 }
 
-// The chain of a gate of more than four inputs.
+// Writes the chain of a gate of more than four inputs.
 fn push_chain(
     writer: &mut Writer,
     gate: Gate,
@@ -99,7 +99,7 @@ fn push_chain(
     Ok(next)
 }
 
-// What an inner variable is, by the one before it and the next input.
+// Writes the clauses of an inner variable: the one before it and the next input give it.
 fn push_step(
     writer: &mut Writer,
     reduction: Reduction,
@@ -160,7 +160,7 @@ fn push_xor_step(writer: &mut Writer, inner: u32, before: u32, input: u32) -> Re
     writer.push(&[inner_set, before_clear, input_set])
 }
 
-// The clauses of a gate without a chain.
+// Writes the clauses of a gate without a chain.
 fn push_narrow(
     writer: &mut Writer,
     gate: Gate,
@@ -182,7 +182,7 @@ fn push_narrow(
     }
 }
 
-// If the part is ok, the output is the and of the inputs; what is not to be taken as it is stands negated.
+// If the part is ok, the output is the conjunction of the inputs. What is not `as_is` is negated.
 fn push_and(
     writer: &mut Writer,
     health: u32,
@@ -222,7 +222,7 @@ fn add_literals(writer: &mut Writer, positive: bool, variables: &[u32]) -> Resul
     Ok(())
 }
 
-// If the part is ok, the output says whether the number of ones is odd, or whether it is even.
+// If the part is ok, the output is 1 exactly if the number of ones is odd (if `odd`) or even (if not).
 fn push_parity(
     writer: &mut Writer,
     health: u32,
@@ -246,7 +246,7 @@ fn push_parity(
     Ok(())
 }
 
-// Whether the number of ones is odd, or whether it is even.
+// Whether the number of ones is odd (if `odd`) or even (if not).
 fn parity(odd: bool, row: u32) -> bool
     ensures { result ≡ same_bit odd (count_ones row % 2 == 1) }
 {
@@ -269,7 +269,7 @@ fn push_table(
     push_side(writer, table, false, health, ports)
 }
 
-// If the part is ok, or if it is faulty: the ports have none of the rows that it does not allow then.
+// If the part is ok, or if it is faulty, its ports have no row that it does not allow then.
 #[tactic(auto, using(crate::proofs::WrittenClauses::row_below))]
 fn push_side(
     writer: &mut Writer,
@@ -294,7 +294,7 @@ fn push_side(
     Ok(())
 }
 
-// Opens a clause of a literal and of those that are false in a row.
+// Opens a clause of `first` and of the literals that are false in a row.
 fn begin_row(writer: &mut Writer, first: i32, variables: &[u32], row: u32) -> Result<(), AllocError>
     requires { All (λ v. v < VARIABLE_LIMIT) variables.now }
     ensures clauses { OnOk result (writer.new.clauses ≡ writer.old.clauses) }
@@ -311,7 +311,7 @@ fn begin_row(writer: &mut Writer, first: i32, variables: &[u32], row: u32) -> Re
     Ok(())
 }
 
-// The literal that is true if the variable has the bit.
+// Returns the literal that is true if the variable has the bit.
 fn literal(positive: bool, variable: u32) -> i32
     requires { variable < VARIABLE_LIMIT }
     ensures { result ≡ literal positive variable }

@@ -1,4 +1,4 @@
-//! The clauses of a device: what its parts say of their health and of the wires, as a list of clauses.
+//! The clauses of a device: a list of clauses over the health of its parts and its wires.
 #![tactic(auto)]
 
 mod cnf;

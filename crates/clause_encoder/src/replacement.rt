@@ -10,10 +10,10 @@ use crate::limits::VARIABLE_LIMIT;
 use crate::writer::Writer;
 use std::alloc::Global;
 
-/// The clauses with `variables[v - 1]` in place of variable v. One variable may replace several: so each clause is sorted
-/// again, and one that has both literals of a variable then is left out.
+/// Returns the clauses with `variables[v - 1]` in place of variable v. One variable may replace several, so each clause is
+/// sorted again, and one that then has both literals of a variable is left out.
 ///
-/// They are true under an assignment exactly if the clauses that were given are, each variable having the bit of the one that
+/// They are true under an assignment exactly if the given clauses are true when each variable has the bit of the one that
 /// replaces it.
 #[tactic(auto, using(crate::proofs::Rules::replaced_clauses))]
 pub fn replaced(alloc: Global, cnf: &Cnf, variables: &[u32], vars: u32) -> Result<Cnf, Memory>
@@ -32,7 +32,7 @@ pub fn replaced(alloc: Global, cnf: &Cnf, variables: &[u32], vars: u32) -> Resul
     Ok(Cnf::of_flat(vars, writer.into_clauses()))
 }
 
-// Writes a clause in which other variables stand for its own.
+// Writes a clause with its variables replaced.
 fn push_replaced(writer: &mut Writer, clause: &[i32], variables: &[u32]) -> Result<(), Memory>
     requires some { All (λ l. 1 ≤ var_of l) clause.now }
     requires within { All (λ l. var_of l ≤ length variables.now) clause.now }

@@ -3,7 +3,7 @@ use Rattle.clause_encoder.specs.Encoding.{tidy, clauses_from, all_clauses}
 use Rattle.clause_encoder.proofs.WrittenClauses.{inner_at}
 use Rattle.clause_encoder.proofs.encoding.push_parts.Given as goal
 
--- what was written and what the parts that are left give
+-- what is written, and what the parts left add
 abbrev pub invariant-loop-place : goal.invariant-loop-place
 invariant-loop-place l = record {
   clauses : l.writer.clauses ++ tidy (clauses_from l.device (l.place + 1) (inner_at l.device l.place) (drop l.place l.device.parts)) ≡ l.fn.writer.clauses ++ tidy (all_clauses l.device);

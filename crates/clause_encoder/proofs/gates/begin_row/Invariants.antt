@@ -2,7 +2,7 @@ use Rattle.std.proofs.Common.{◌≡◌, ◌++◌, ◌∷◌, drop}
 use Rattle.clause_encoder.specs.Encoding.{blocking_literals, row_bits}
 use Rattle.clause_encoder.proofs.gates.begin_row.Given as goal
 
--- the bits that are left are those of the variables that are left
+-- the bits left are those of the variables left
 abbrev pub invariant-loop-variable : goal.invariant-loop-variable
 invariant-loop-variable l = record {
   clauses : l.writer.clauses ≡ l.fn.writer.clauses;

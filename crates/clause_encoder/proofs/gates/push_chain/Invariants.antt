@@ -2,7 +2,7 @@ use Rattle.std.proofs.Common.{◌≡◌, ◌<◌, ◌+◌, ◌^◌, ◌++◌, dr
 use Rattle.clause_encoder.specs.Encoding.{tidy, chain_clauses, wide_clauses}
 use Rattle.clause_encoder.proofs.gates.push_chain.Given as goal
 
--- what was written and what the inputs that are left give
+-- what is written, and what the inputs left add
 abbrev pub invariant-loop-input : goal.invariant-loop-input
 invariant-loop-input l = record {
   clauses : l.writer.clauses ++ tidy (chain_clauses l.gate l.health (get_or l.inputs l.last 0) l.output l.next l.before (drop l.input-index l.between))

@@ -1,4 +1,4 @@
--- Words joined one after the other, and the bit of a variable among some that rise.
+-- Words joined one after the other, and the bit of a variable in a rising list.
 use Rattle.std.proofs.Common.{◌≡◌, ℕ, ◌+◌, ◌*◌, ◌%◌, ◌^◌, ◌<◌, ◌≤◌, Bool, false, not, ◌&&◌, ◌||◌, ◌==◌, List, [], ◌∷◌, ◌++◌, map, length, take, get_or, sym, ap, ◌∙◌, arith, inl, inr}
 use Rattle.std.proofs.lemmas.Bool.Decides.{nat_tests}
 use Rattle.std.specs.Prelude.{bit_and, bit_or, ◌⊎◌}
@@ -19,7 +19,7 @@ more-than-one : (bs : List Bool) (x : Bool) → not (at_most_one (bs ++ x ∷ []
 more-than-one [] x = grind (arith, nat_tests)
 more-than-one (bit ∷ bs) x = grind (arith, nat_tests, any-push, more-than-one bs x)
 
--- the words of the children before a place were joined, and then one more
+-- the words of the children before a place are joined, then one more
 pub both_more : (column kids : List ℕ) (i any twice word : ℕ) → i < length kids → word ≡ get_or column (get_or kids i 0) 0 → IsJoined column (take i kids) any twice
     → IsJoined column (take (i + 1) kids) (bit_or any word) (bit_or twice (bit_and any word))
 both_more column kids i any twice word lt is joined = record {
@@ -32,7 +32,7 @@ both_more column kids i any twice word lt is joined = record {
   longer : (b : ℕ) → map (has column b) (take (i + 1) kids) ≡ map (has column b) (take i kids) ++ has column b (get_or kids i 0) ∷ []
   longer b = ap (map (has column b)) (take_more kids i 0 lt) ∙ map-append (has column b) (take i kids) (get_or kids i 0 ∷ [])
 
--- ---- the bit of a variable among some that rise
+-- ---- the bit of a variable in a rising list
 
 pub in_order : (xs : List ℕ) → IsStrictlyIncreasing xs → (i j : ℕ) → i ≤ j → j < length xs → get_or xs i 0 ≤ get_or xs j 0
 in_order xs rise i j le h = grind (arith, nat_tests, cases_lt, AllPairs-from_increasing)

@@ -1,4 +1,4 @@
--- What the words of a column say of the nodes.
+-- What the words of a column mean.
 use Rattle.std.proofs.Common.{◌≡◌, ℕ, ◌+◌, ◌-◌, ◌^◌, ◌<◌, ◌≤◌, Bool, true, false, not, ◌==◌, List, ◌++◌, min, length, take, drop, Option, Some, None, get_or, set, w64, All, sym, ap, ◌∙◌, subst, arith, inl, inr}
 use Rattle.std.proofs.lemmas.Bool.Decides.{nat_tests}
 use Rattle.std.specs.Prelude.{◌⊎◌}
@@ -19,11 +19,11 @@ use Rattle.state_rules.specs.Bits.{has_bit}
 use Rattle.nnf_text.specs.inner.Sharing.{has, IsWord, first_of, IsFirstOf, FirstOf, earlier}
 use Rattle.nnf_text.proofs.Sparse.{find-none_at, find-first_at}
 
--- children of the node of a number share a variable
+-- whether children of node `k` share variable `v`
 abbrev pub share : List Node → ℕ → ℕ → Bool
 share nodes k v = shares nodes (node_at nodes k) v
 
--- the nodes before a number have their words, and none of them has children that share
+-- the nodes before `i` have their words, and none of them has children that share
 pub record IsMarked (nodes : List Node) (variables : List ℕ) (i : ℕ) (column : List ℕ) : Type 0 where
   pub words : (k b : ℕ) → k < i → b < 64 → has column b k ≡ mentions nodes (get_or variables b 0) k
   pub none : (k b : ℕ) → k < i → b < 64 → share nodes k (get_or variables b 0) ≡ false
@@ -34,7 +34,7 @@ have_words vars nodes i len kids fit inside le is k d h =
     let below = below-each i (node_at nodes i).kids (fits-at vars nodes i fit inside).below in
     omega (arith, subst (All (λ child. child < i)) (sym is) below k d h)
 
--- the word of a node, by what it is and its children
+-- the word of a node, from its kind and its children
 pub IsWord-of : (column kids : List ℕ) (what : NodeKind) (node : Node) (variables : List ℕ) (word twice : ℕ) → what ≡ node.what → kids ≡ node.kids → IsWord column what kids variables word twice → IsWord column node.what node.kids variables word twice
 IsWord-of column kids what node variables word twice e f is = subst (λ ks. IsWord column node.what ks variables word twice) f (subst (λ w. IsWord column w kids variables word twice) e is)
 

@@ -103,7 +103,7 @@ most_variables = refl
 accepted_false : read_graph (text (map codes ("nnf 1 0 0" ∷ "O 0 0" ∷ []))) ≡ Ok (record { nodes = false_node ∷ []; vars = 0 })
 accepted_false = refl
 
--- zeros before a number, and what is after O
+-- zeros before a number, and the number after O
 accepted_spellings : read_graph (text (map codes ("nnf 02 0000000000000000001 01" ∷ "L 0000000001" ∷ "O 4294967295 1 00" ∷ [])))
     ≡ Ok (record { nodes = literal_node 1 true ∷ record { what = Or; kids = 0 ∷ [] } ∷ []; vars = 1 })
 accepted_spellings = refl

@@ -1,4 +1,4 @@
--- How a text that is added to grows by one text and then another.
+-- How a text grows by one text and then another.
 use Rattle.std.proofs.Common.{◌≡◌, ℕ, zero, suc, ◌+◌, ◌<◌, ◌≤◌, List, [], ◌++◌, refl, arith, length, take, get_or, Option, Some, None, Result, Ok, Err, sym, ap, ◌∙◌, subst, append_assoc, append-nil}
 use Rattle.std.specs.List.{flat_map, range_with_len}
 use Rattle.std.proofs.lemmas.List.{take_more, flat_map_more, take_all}
@@ -32,7 +32,7 @@ extends_on a b c p q s xs ys zs g h e = subst (Extends a c p s) e (record { grow
 pub extends_three : (a b c d : Writing) (p q s t : Option (List ℕ)) (xs ys zs all : List ℕ) → Extends a b p q xs → Extends b c q s ys → Extends c d s t zs → xs ++ (ys ++ zs) ≡ all → Extends a d p t all
 extends_three a b c d p q s t xs ys zs all g h k e = extends_on a b d p q t xs (ys ++ zs) all g (extends_on b c d q s t ys zs _ h k refl) e
 
--- the same text, said otherwise
+-- an equal text
 pub extends_same : (a b : Writing) (p q : Option (List ℕ)) (xs ys : List ℕ) → Extends a b p q xs → xs ≡ ys → Extends a b p q ys
 extends_same a b p q xs ys h e = subst (Extends a b p q) e h
 
@@ -46,7 +46,7 @@ extends_each f xs i d a b c p q s text g h is lt =
 pub extends_all : {X : Type 0} (f : X → List ℕ) (xs : List X) (i : ℕ) (a b : Writing) (p q : Option (List ℕ)) → Extends a b p q (flat_map f (take i xs)) → length xs ≤ i → Extends a b p q (flat_map f xs)
 extends_all f xs i a b p q g past = subst (λ ys. Extends a b p q (flat_map f ys)) (take_all i xs past) g
 
--- of numbers from a first one on
+-- the texts of numbers from `first` on
 range_more : (f : ℕ → List ℕ) (first i n : ℕ) → first + i ≡ n → flat_map f (range_with_len first i) ++ f n ≡ flat_map f (range_with_len first (suc i))
 range_more f first zero n e = let is : n ≡ first = omega arith in ap f is ∙ sym (append-nil (f first))
 range_more f first (suc i) n e = append_assoc (f first) (flat_map f (range_with_len (first + 1) i)) (f n) ∙ ap (λ t. f first ++ t) (range_more f (first + 1) i n (omega arith))

@@ -37,7 +37,7 @@ module _ (vars : ℕ) (nodes : List Node) (variables : List ℕ) (fit : nodes_fi
     before = λ k h. sym (first_of-all k) ∙ first.before k h;
   }
 
--- ---- the reasons against a graph
+-- ---- the refusals of a graph
 
 none-shared : (graph : Graph) (own : ℕ) (nodes : List Node) → ((k : ℕ) → k < length nodes → find (shares graph.nodes (node_at nodes k)) (range_with_len 1 graph.vars) ≡ None) → filter_map (node_shared graph) (enumerate_from own nodes) ≡ []
 none-shared graph own [] none = refl

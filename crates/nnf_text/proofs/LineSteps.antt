@@ -13,7 +13,7 @@ use Rattle.nnf_text.proofs.Options.{none≢some}
 
 -- ---- one line
 
--- what a line gives by its node
+-- the result of a line, from its node
 abbrev by_node : ℕ → ℕ → List Node → Option Node → Parsed
 by_node vars line done o = read_unless (record { nodes = done ++ cons_option o []; vars = vars }) (cons_option (fault_at line (node_fault vars (length done) o)) [])
 
@@ -39,7 +39,7 @@ module _ (vars number : ℕ) (done : List Node) (lines : List (List ℕ)) where
   abbrev graph_of : List Node → Graph
   graph_of nodes = record { nodes = nodes; vars = vars }
 
-  -- what all these lines give, by the node of the first and its fault
+  -- the result of all lines, from the node of the first and its fault
   abbrev whole_by : Option Node → Option LineFault → Parsed
   whole_by o fault = read_unless (record { nodes = done ++ cons_option o (filter_map node_at_line rest); vars = vars }) (cons_option (fault_at number fault) (filter_map (line_fault vars) (enumerate_from (length done + 1) rest)))
 
@@ -55,18 +55,18 @@ module _ (vars number : ℕ) (done : List Node) (lines : List (List ℕ)) where
   no_form : (o : Option Node) → o ≡ None → node_fault vars (length done) o ≡ Some WrongLine
   no_form o e = ap (node_fault vars (length done)) e
 
-  -- a line that was read goes to the nodes
+  -- a line that is read adds its node
   pub line-more : (line : List ℕ) (more : List Node) → nodes_behind vars done (filled_from number (line ∷ [])) ≡ Ok (record { nodes = more; vars = vars })
       → nodes_behind vars done (filled_from number (line ∷ lines)) ≡ nodes_behind vars more rest
   line-more line more e = grind (arith, nat_tests, append-nil, right_first, no_form)
 
-  -- a line that is refused is the first one
+  -- a refusal of the first line is that of all
   pub line-refused : (line : List ℕ) (r : Refusal) → nodes_behind vars done (filled_from number (line ∷ [])) ≡ Err r → nodes_behind vars done (filled_from number (line ∷ lines)) ≡ Err r
   line-refused line r e = grind (arith, nat_tests, wrong_first)
 
 -- ---- refusals
 
--- what refuses the one refuses the other
+-- if each refusal of `a` is one of `b`
 pub refused-too : (fault : Option Refusal) (a b : Parsed) → ((r : Refusal) → a ≡ Err r → b ≡ Err r) → IsExpectedFault fault a → IsExpectedFault fault b
 refused-too fault a b more h = grind (arith, nat_tests)
 

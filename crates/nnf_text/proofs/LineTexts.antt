@@ -10,7 +10,7 @@ use Rattle.state_rules.specs.declared.nodes.NodeKind.TheVariants.{And, Or}
 use Rattle.diag_edge.proofs.Added.{spaced-first}
 use Rattle.nnf_text.specs.WrittenGraphs.{child_words, kind_words, node_words, graph_text}
 
--- a word, numbers that are after a space each, and a line feed
+-- a word, numbers each after a space, and a line feed
 pub listed-spaced : (w : List ℕ) (ns : List ℕ) → w ++ (flat_map (λ n. 32 ∷ decimal n) ns ++ 10 ∷ []) ≡ spaced (w ∷ map decimal ns)
 listed-spaced w ns = ap (λ t. w ++ (t ++ 10 ∷ [])) (sym (flat_map-map (λ word. 32 ∷ word) decimal ns)) ∙ spaced-first w (map decimal ns)
 

@@ -1,4 +1,4 @@
--- Which way a choice went, and what cannot be.
+-- The two cases of a choice, and an absurd one.
 use Rattle.std.proofs.Common.{◌≡◌, Bool, true, false, cond, Some, None, arith}
 use Rattle.std.proofs.lemmas.Bool.Decides.{nat_tests}
 use Rattle.std.specs.Prelude.{◌⊎◌}

@@ -1,4 +1,4 @@
--- What is known of the graph that a text is read as.
+-- What is known of the graph of a text.
 use Rattle.std.proofs.Common.{◌≡◌, ℕ, ◌+◌, ◌-◌, ◌^◌, ◌<◌, ◌≤◌, Bool, true, List, [], ◌∷◌, ◌++◌, length, Option, Some, None, Ok, refl, arith}
 use Rattle.std.proofs.lemmas.Bool.Decides.{nat_tests}
 use Rattle.std.specs.List.{filter_map, cons_option, enumerate_from}
@@ -17,7 +17,7 @@ use Rattle.nnf_text.proofs.Options.{none≢some}
 
 -- ---- the node of a line
 
--- a literal has no children, and no node has more than a count can say
+-- a literal has no children, and a node has fewer than the limit
 record IsShaped (node : Node) : Type 0 where
   few : length node.kids < CHILD_LIMIT
   literal : (v : ℕ) (positive : Bool) → node.what ≡ Literal positive v → node.kids ≡ []
@@ -59,7 +59,7 @@ kind-from vars kind kids shaped fits = grind (arith, nat_tests, and_from, eq-eqb
 node-from : (vars own : ℕ) (node : Node) → IsShaped node → node_fault vars own (Some node) ≡ None → node_fits vars own node ≡ true
 node-from vars own node shaped e = grind (arith, nat_tests, none≢some, and_from, not-false, kind-from)
 
--- what a list with one more option lacks
+-- an option and a list that are both empty
 pub record NothingFirst {A : Type 0} (o : Option A) (xs : List A) : Type 0 where
   pub first : o ≡ None
   pub rest : xs ≡ []
@@ -80,7 +80,7 @@ length-filter_map : {A B : Type 0} (h : A → Option B) (xs : List A) → length
 length-filter_map h [] = omega arith
 length-filter_map h (x ∷ xs) = grind (arith, nat_tests, h, length-filter_map h xs)
 
--- a graph was read, and no reason against it
+-- a graph is read, without a refusal
 record IsRead (given graph : Graph) (reasons : List Refusal) : Type 0 where
   none : reasons ≡ []
   same : given ≡ graph

@@ -148,7 +148,7 @@ filled-all n (ws ∷ lines) all = grind (arith, nat_tests, and_parts, cond-true,
 differs-none : (n : ℕ) → differs n n ≡ []
 differs-none n = cond-true _ _ _ (eq-eqb n n refl)
 
--- nodes that a text can be written of, over so many variables
+-- nodes over `vars` variables of which a text can be written
 pub record IsList (vars : ℕ) (nodes : List Node) : Type 0 where
   pub some : 0 < length nodes
   pub few : length nodes < 2 ^ 32

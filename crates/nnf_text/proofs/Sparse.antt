@@ -17,9 +17,9 @@ find-first_at p [] place inside is before = absurd (omega arith)
 find-first_at p (x ∷ xs) zero inside is before = cond-true _ _ _ is
 find-first_at p (x ∷ xs) (suc place) inside is before = cond-false _ _ _ (before 0 (omega arith)) ∙ find-first_at p xs place (omega arith) is (λ b h. before (suc b) (omega arith))
 
--- ---- a list that rises, and has all that pass: the search finds what it finds in a whole range
+-- ---- a rising list that has all that pass: a search finds the same as in the whole range
 
--- from a number on, each is above the one before it
+-- from `low` on, each is above the one before it
 abbrev pub Rises : ℕ → List ℕ → Type 0
 Rises low [] = Unit {0}
 Rises low (x ∷ xs) = (low ≤ x) × Rises (x + 1) xs
@@ -42,7 +42,7 @@ none_above : (p : ℕ → Bool) (low : ℕ) (xs : List ℕ) → Rises low xs →
 none_above p low [] rising none = refl
 none_above p low (x ∷ xs) rising none = cond-false _ _ _ (none x rising.0) ∙ none_above p low xs (Rises-lower (x + 1) low xs (omega (arith, rising.0)) rising.1) none
 
--- what a rising list has is no less
+-- no item of a rising list is below `low`
 at_least : (low : ℕ) (xs : List ℕ) (v : ℕ) → Rises low xs → Contains xs v → low ≤ v
 at_least low [] v rising (k, inside, is) = absurd (omega arith)
 at_least low (x ∷ xs) v rising bit = grind (arith, nat_tests, at_least (x + 1) xs v rising.1)

@@ -1,4 +1,4 @@
--- Graphs in `.nnf` text: the graph that a text gives, or the first reason why it gives none.
+-- Graphs in `.nnf` text: the graph of a text, or the first reason why there is none.
 use Rattle.std.specs.Prelude.{ℕ, zero, suc, ◌-◌, ◌*◌, ◌^◌, Bool, true, false, not, ◌&&◌, List, [], ◌∷◌, ◌++◌, map, length, Option, Some, None, Result, Ok, Err, codes, ◌==◌, nat_lt, nat_le, if◌then◌else◌}
 use Rattle.std.specs.List.{list_all, find, filter, filter_map, enumerate_from, range_with_len}
 use Rattle.std.specs.Option.{option_map}
@@ -11,14 +11,14 @@ use Rattle.state_rules.specs.declared.nodes.NodeKind.TheVariants.{Literal, And, 
 use Rattle.state_rules.specs.Graphs.{Node, Graph, edges, shares}
 use Rattle.nnf_text.specs.declared.checking.TheConstants.{BITS_LIMIT}
 
--- up to ten digits, and up to twenty
+-- numbers of up to ten digits, and of up to twenty
 abbrev pub small_number : List ℕ → Option ℕ
 small_number word = number_in 10 0 (2 ^ 32 - 1) word
 
 abbrev pub great_number : List ℕ → Option ℕ
 great_number word = number_in 20 0 (2 ^ 64 - 1) word
 
--- what the first line says: numbers of nodes, edges and variables
+-- the numbers of nodes, edges and variables in the header
 pub record Header : Type 0 where
   pub nodes : ℕ
   pub edges : ℕ
@@ -43,7 +43,7 @@ abbrev pub numbers : List (List ℕ) → Option (List ℕ)
 numbers [] = Some []
 numbers (w ∷ ws) = number_before (small_number w) (numbers ws)
 
--- a minus sign before a literal's number
+-- a literal, with a minus sign before its number if negated
 abbrev pub literal_with : Bool → Option ℕ → Option Node
 literal_with positive None = None
 literal_with positive (Some v) = Some (record { what = Literal positive v; kids = [] })
@@ -52,13 +52,13 @@ abbrev pub literal_of : List ℕ → Option Node
 literal_of [] = None
 literal_of (b ∷ bytes) = if b == 45 then literal_with false (small_number bytes) else literal_with true (small_number (b ∷ bytes))
 
--- the first number counts the others
+-- a node of this kind, if the first number counts the others
 abbrev pub counted : NodeKind → Option (List ℕ) → Option Node
 counted kind None = None
 counted kind (Some []) = None
 counted kind (Some (c ∷ kids)) = if c == length kids then Some (record { what = kind; kids = kids }) else None
 
--- nothing is drawn from the number after O
+-- the number after O means nothing
 abbrev pub or_of : Option ℕ → List (List ℕ) → Option Node
 or_of None ws = None
 or_of (Some j) ws = counted Or (numbers ws)
@@ -73,13 +73,13 @@ node_of (word ∷ first ∷ second ∷ rest) =
     if same_name word (codes "A") then counted And (numbers (first ∷ second ∷ rest))
     else (if same_name word (codes "O") then or_of (small_number first) (second ∷ rest) else None)
 
--- a variable is from 1 to the greatest
+-- whether a literal's variable is from 1 to `vars`
 abbrev pub variable_fits : ℕ → NodeKind → Bool
 variable_fits vars (Literal positive var) = nat_le 1 var && nat_le var vars
 variable_fits vars And = true
 variable_fits vars Or = true
 
--- what is wrong with a line: it has no form, a child of it is no earlier node, or its variable is not there
+-- the fault of a line: it has none of the forms, a child is no earlier node, or its variable is out of range
 pub data LineFault : Type 0 where
   WrongLine : LineFault
   WrongChild : LineFault
@@ -91,8 +91,8 @@ node_fault vars own (Some node) =
     if not (list_all (λ child. nat_lt child own) node.kids) then Some WrongChild
     else (if variable_fits vars node.what then None else Some WrongVariable)
 
--- Refusals: no header, a line with its fault, numbers that are not those said, too many bits, and a variable shared by
--- children of an and. Reading a text alone gives the first three.
+-- Refusals: no header, a line with its fault, a number that differs from the header's, too many bits, and a variable
+-- shared by children of an And node. `parsed` gives only the first three.
 pub data Refusal : Type 0 where
   NoHeader : Refusal
   AtLine : (line : ℕ) (fault : LineFault) → Refusal
@@ -104,7 +104,7 @@ abbrev pub has_words : ℕ × List (List ℕ) → Bool
 has_words (line, []) = false
 has_words (line, (w ∷ ws)) = true
 
--- the lines that have words, as words, each with its number
+-- the words of each line that has any, with its number
 abbrev pub filled_lines : List ℕ → List (ℕ × List (List ℕ))
 filled_lines text = filter has_words (enumerate_from 1 (map words (all_lines text)))
 
@@ -112,11 +112,11 @@ abbrev pub fault_at : ℕ → Option LineFault → Option Refusal
 fault_at line None = None
 fault_at line (Some fault) = Some (AtLine line fault)
 
--- each node line with the node's own number
+-- the refusal of a node line, given with the node's number
 abbrev pub line_fault : ℕ → ℕ × (ℕ × List (List ℕ)) → Option Refusal
 line_fault vars l = fault_at l.1.0 (node_fault vars l.0 (node_of l.1.1))
 
--- where the numbers differ: of nodes, or else of edges
+-- a refusal if the two numbers differ
 abbrev pub differs : ℕ → ℕ → List Refusal
 differs said found = if said == found then [] else Counts said found ∷ []
 
@@ -145,20 +145,20 @@ parsed_lines (first ∷ rest) = parsed_below rest (header_of first.1)
 abbrev pub parsed : List ℕ → Parsed
 parsed text = parsed_lines (filled_lines text)
 
--- the node of this number, if its children share this variable
+-- the refusal of a node whose children share this variable
 abbrev pub shared_at : ℕ → Option ℕ → Option Refusal
 shared_at own None = None
 shared_at own (Some v) = Some (Shared own v)
 
--- the least variable that children of a node share
+-- the refusal of the least variable that a node's children share
 abbrev pub node_shared : Graph → ℕ × Node → Option Refusal
 node_shared graph n = shared_at n.0 (find (shares graph.nodes n.1) (range_with_len 1 graph.vars))
 
--- of each node that has one
+-- the refusals of all nodes
 abbrev pub all_shared : Graph → List Refusal
 all_shared graph = filter_map (node_shared graph) (enumerate_from 0 graph.nodes)
 
--- Nodes times variables are to be few, since a check takes so long, and the graph is to be decomposable.
+-- The graph, if nodes times variables, the time of the check, are few, and it is decomposable.
 abbrev pub checked : Graph → Parsed
 checked graph =
     let bits = length graph.nodes * graph.vars in
@@ -168,6 +168,6 @@ abbrev pub checked_if : Parsed → Parsed
 checked_if (Err refusal) = Err refusal
 checked_if (Ok graph) = checked graph
 
--- the graph of a text, or the first reason why it gives none or its graph is not decomposable
+-- the graph of a text, or the first reason why there is none or it is not decomposable
 abbrev pub read_graph : List ℕ → Parsed
 read_graph text = checked_if (parsed text)

@@ -1,4 +1,4 @@
--- Which refusal of a text an error says.
+-- The refusal in an error.
 use Rattle.std.specs.Prelude.{Option, Some, None}
 use Rattle.nnf_text.specs.GraphTexts as refusals
 use Rattle.nnf_text.specs.GraphTexts.{Refusal}

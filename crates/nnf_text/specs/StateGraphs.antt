@@ -1,4 +1,4 @@
--- Texts that are those of graphs of given health states, and when such a graph is smooth.
+-- Texts of graphs of given health states, and of smooth graphs of them.
 use Rattle.std.specs.Prelude.{◌≡◌, ℕ, ◌-◌, ◌<◌, ◌≤◌, Bool, true, List, [], ◌∷◌, map, length, Ok, Err}
 use Rattle.std.specs.List.{list_any, list_all, AllByRecursion}
 use Rattle.std.specs.Cmp.Lexicographic.{pointwise}
@@ -8,19 +8,19 @@ use Rattle.state_rules.specs.declared.nodes.NodeKind.TheVariants.{Literal, And, 
 use Rattle.state_rules.specs.Graphs.{Node, Decomposable, holds, mentions}
 use Rattle.nnf_text.specs.GraphTexts.{Parsed}
 
--- a graph over so many parts, decomposable, and true for these states alone
+-- a decomposable graph over `parts` parts that is true for exactly these states
 abbrev pub IsGraphOfStates : ℕ → List (List Bool) → Parsed → Type 0
 IsGraphOfStates parts states (Err refusal) = ⊥
 IsGraphOfStates parts states (Ok graph) =
     (graph.vars ≡ parts) × Decomposable graph.nodes
     × ((h : List Bool) → length h ≡ parts → holds graph h ≡ list_any (pointwise same_bit h) states)
 
--- each bit is as the first
+-- whether all bits are equal
 abbrev pub all_same : List Bool → Bool
 all_same [] = true
 all_same (b ∷ bs) = list_all (same_bit b) bs
 
--- an or has a variable below all of its children or below none
+-- whether an Or node has a variable below all its children or none
 abbrev pub smooth_at : (ℕ → Bool) → NodeKind → List ℕ → Bool
 smooth_at mentioned (Literal positive var) kids = true
 smooth_at mentioned And kids = true
@@ -29,7 +29,7 @@ smooth_at mentioned Or kids = all_same (map mentioned kids)
 abbrev pub Smooth : List Node → Type 0
 Smooth nodes = (v : ℕ) → AllByRecursion (λ node. smooth_at (mentions nodes v) node.what node.kids ≡ true) nodes
 
--- a graph of these states that is smooth, and if there is a state has each part below its last node
+-- a smooth graph of these states whose root mentions each part, if there is a state
 abbrev pub IsSmoothGraphOfStates : ℕ → List (List Bool) → Parsed → Type 0
 IsSmoothGraphOfStates parts states (Err refusal) = ⊥
 IsSmoothGraphOfStates parts states (Ok graph) =

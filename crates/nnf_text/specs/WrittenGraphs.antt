@@ -1,4 +1,4 @@
--- The one text that a graph is written as.
+-- The text of a graph.
 use Rattle.std.specs.Prelude.{ℕ, Bool, true, false, List, [], ◌∷◌, map, length, codes, decimal}
 use Rattle.std.specs.List.{flat_map}
 use Rattle.text_rules.specs.Tokens.{spaced}
@@ -6,12 +6,12 @@ use Rattle.state_rules.specs.declared.nodes.NodeKind.{NodeKind}
 use Rattle.state_rules.specs.declared.nodes.NodeKind.TheVariants.{Literal, And, Or}
 use Rattle.state_rules.specs.Graphs.{Node, Graph, edges}
 
--- a variable, after a minus sign where it is negated
+-- a variable, after a minus sign if it is negated
 abbrev pub literal_word : Bool → ℕ → List ℕ
 literal_word true var = decimal var
 literal_word false var = 45 ∷ decimal var
 
--- how many children there are, and then each
+-- the number of children, then each child
 abbrev pub child_words : List ℕ → List (List ℕ)
 child_words kids = decimal (length kids) ∷ map decimal kids
 

@@ -13,7 +13,7 @@ use text_rules::TEXT_LIMIT;
 /// The most nodes times variables of a graph that is read from text.
 pub const BITS_LIMIT: u64 = 2_147_483_648;
 
-// Nodes as a graph, if no two children of an And share a variable.
+// Makes a graph of nodes, if no two children of an And node share a variable.
 pub(crate) fn graph_of(alloc: Global, vars: u32, nodes: Nodes) -> Result<Graph, NnfError>
     requires some { 0 < length nodes }
     requires few { length nodes ≤ TEXT_LIMIT }

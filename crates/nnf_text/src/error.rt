@@ -7,17 +7,17 @@ pub enum NnfError {
     Header,
     /// The first line with a fault has none of the forms.
     Line { line: u32 },
-    /// It has a child that is no earlier node.
+    /// That line has a child that is no earlier node.
     Child { line: u32 },
-    /// It has a variable that is not there.
+    /// That line has a variable that is out of range.
     Variable { line: u32 },
-    /// The header says another number of nodes, or else of edges.
+    /// The header has another number of nodes, or else of edges.
     Counts { said: u64, found: u64 },
     /// Nodes times variables are above 2,147,483,648.
     TooLarge { bits: u64 },
-    /// Two children of an And share a variable; the first such node, and the least such variable.
+    /// Children of an And node share a variable: the first such node, and its least such variable.
     Shared { node: u32, var: u32 },
-    /// There was no memory.
+    /// Memory ran out.
     Memory,
 }
 

@@ -7,7 +7,7 @@ use diag_edge::{Chunk, Sink, WriteFailed};
 use itoa::{Buffer, Integer};
 use std::marker::Model;
 
-/// A text that is added to, and put in chunks. A failed write is kept until the end: after it nothing more is put.
+/// A text that is put in chunks. A failed write is reported at the end; after it nothing more is put.
 #[derive(Drop)]
 pub struct GraphText {
     chunk: Chunk,
@@ -23,7 +23,7 @@ impl Model for GraphText {
 }
 
 impl GraphText {
-    /// Nothing is added yet.
+    /// Makes an empty text.
     pub fn new() -> GraphText
         ensures { result ≡ Some [] }
     {
@@ -58,7 +58,7 @@ impl GraphText {
         }
     }
 
-    /// Puts what is not put yet. It fails if a write failed, now or before.
+    /// Puts what is not yet put. Fails if a write failed, now or before.
     pub fn finish<O: Sink>(self, out: &mut O) -> Result<(), WriteFailed>
         ensures { Ends (O.shown out.old) (O.shown out.new) self result }
     {

@@ -7,7 +7,7 @@ ghost use Rattle.nnf_text.specs.inner.Reading.{said_by};
 use crate::numbers::{great_number, small_number};
 use text_rules::Tokens;
 
-/// What the first line that is not blank says.
+/// The numbers in the first line that is not blank.
 #[derive(Clone, Copy, Debug, PartialEq, Eq)]
 pub(crate) struct Header {
     pub(crate) nodes: u32,
@@ -15,7 +15,7 @@ pub(crate) struct Header {
     pub(crate) vars: u32,
 }
 
-// What three numbers say, if each is one and there is a node.
+// Makes a header of three numbers, if all are there and there is a node.
 fn header_from(nodes: Option<u32>, edges: Option<u64>, vars: Option<u32>) -> Option<Header>
     ensures { option_map said_by result ≡ header_from nodes edges vars }
 {
@@ -25,7 +25,7 @@ fn header_from(nodes: Option<u32>, edges: Option<u64>, vars: Option<u32>) -> Opt
     (nodes > 0).then_some(Header { nodes, edges, vars })
 }
 
-// `nnf NODES EDGES VARIABLES`
+// Reads `nnf NODES EDGES VARIABLES`.
 pub(crate) fn header_of(mut words: Tokens<'_>) -> Option<Header>
     ensures { option_map said_by result ≡ header_of (tokens_left words.entry) }
 {

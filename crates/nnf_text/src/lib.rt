@@ -1,4 +1,4 @@
-//! Graphs as `.nnf` text: read from it, and written as it.
+//! Graphs as `.nnf` text: reading and writing.
 #![tactic(auto)]
 
 mod checking;

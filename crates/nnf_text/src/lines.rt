@@ -48,7 +48,7 @@ fn add_literal<O: Sink>(text: &mut GraphText, out: &mut O, word: &[u8], number: 
     text.add(out, b"\n");
 }
 
-// Adds a line: a word, how many children there are, and each of them.
+// Adds a line: a word, the number of children, and each child.
 #[tactic(auto, using(crate::proofs::Extended::extending))]
 fn add_children<O: Sink>(text: &mut GraphText, out: &mut O, word: &[u8], kids: &[u32])
     ensures { Extends (O.shown out.old) (O.shown out.new) text.old text.new

@@ -14,7 +14,7 @@ use state_rules::NodeKind;
 use std::alloc::AllocError;
 use text_rules::Tokens;
 
-// The literal of a number in digits.
+// Reads a literal from its digits.
 fn literal_with(positive: bool, digits: &[u8]) -> Option<NodeKind>
     ensures { option_map childless result ≡ literal_with positive (small_number digits.now) }
 {
@@ -22,7 +22,7 @@ fn literal_with(positive: bool, digits: &[u8]) -> Option<NodeKind>
     Some(NodeKind::Literal { var, positive })
 }
 
-// The literal of a word, which has a minus sign where it is negated.
+// Reads a literal from its word, which has a minus sign if it is negated.
 fn literal_of(word: &[u8]) -> Option<NodeKind>
     ensures { option_map childless result ≡ literal_of word.now }
 {
@@ -32,7 +32,7 @@ fn literal_of(word: &[u8]) -> Option<NodeKind>
     }
 }
 
-// The literal of what is after `L`.
+// Reads the literal after `L`.
 fn read_literal(mut words: Tokens<'_>) -> Option<NodeKind>
     ensures { option_map childless result ≡ node_of (codes "L" ∷ tokens_left words.entry) }
 {
@@ -43,7 +43,7 @@ fn read_literal(mut words: Tokens<'_>) -> Option<NodeKind>
     literal_of(word)
 }
 
-// The or of what is after `O`, over `kids`.
+// Reads the Or node after `O`; its children become `kids`.
 fn read_or(kids: &mut Vec<u32>, mut words: Tokens<'_>) -> Result<Option<NodeKind>, AllocError>
     ensures { IfOk result (λ kind. option_map (node_with kids.new.items) kind
         ≡ node_of (codes "O" ∷ tokens_left words.entry)) }
@@ -57,7 +57,7 @@ fn read_or(kids: &mut Vec<u32>, mut words: Tokens<'_>) -> Result<Option<NodeKind
     }
 }
 
-// The node of a line, over `kids`, if its words have one of the forms.
+// Reads a node, if the words have one of the forms; its children become `kids`.
 fn node_of(kids: &mut Vec<u32>, mut words: Tokens<'_>) -> Result<Option<NodeKind>, AllocError>
     ensures { IfOk result (λ kind. option_map (node_with kids.new.items) kind
         ≡ node_of (tokens_left words.entry)) }
@@ -80,7 +80,7 @@ fn are_earlier(own: u32, kids: &[u32]) -> bool
     kids.iter().all(|child| *child < own)
 }
 
-// Whether the variable of a literal is there.
+// Whether the variable of a literal is in range.
 fn variable_fits(vars: u32, kind: NodeKind) -> bool
     ensures { result ≡ variable_fits vars kind }
 {
@@ -90,7 +90,7 @@ fn variable_fits(vars: u32, kind: NodeKind) -> bool
     }
 }
 
-// Adds the node of the words of a line. Its children are gathered in `kids`.
+// Adds the node of a line's words. Its children are gathered in `kids`.
 fn read_node(
     nodes: &mut Nodes,
     kids: &mut Vec<u32>,
@@ -123,7 +123,7 @@ pub(crate) fn is_filled(line: &[u8]) -> bool
     Tokens::words(line).next().is_some()
 }
 
-// Reads a line: adds a node, or nothing where it is blank.
+// Reads a line: adds a node, or nothing if it is blank.
 pub(crate) fn read_line(
     nodes: &mut Nodes,
     kids: &mut Vec<u32>,

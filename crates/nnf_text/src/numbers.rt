@@ -8,16 +8,16 @@ use state_rules::NodeKind;
 use std::alloc::AllocError;
 use text_rules::{Tokens, number};
 
-/// The most digits of a number that is to fit 32 bits.
+/// The most digits of a number that must fit 32 bits.
 const SMALL_DIGITS: usize = 10;
 
 /// The greatest number that fits 32 bits.
 const SMALL_LIMIT: u64 = 4_294_967_295;
 
-/// The most digits of a number that is to fit 64 bits.
+/// The most digits of a number that must fit 64 bits.
 const GREAT_DIGITS: usize = 20;
 
-// The number that a word spells, if it fits 32 bits.
+// Reads a number, if it fits 32 bits.
 pub(crate) fn small_number(word: &[u8]) -> Option<u32>
     ensures { result ≡ small_number word.now }
 {
@@ -25,14 +25,14 @@ pub(crate) fn small_number(word: &[u8]) -> Option<u32>
     Some(number as u32)
 }
 
-// The number that a word spells, if it fits 64 bits.
+// Reads a number, if it fits 64 bits.
 pub(crate) fn great_number(word: &[u8]) -> Option<u64>
     ensures { result ≡ great_number word.now }
 {
     number(GREAT_DIGITS, 0, u64::MAX, word)
 }
 
-// Makes `kids` the numbers of words up to the first word that is none, and says whether there is none such.
+// Sets `kids` to the numbers up to the first word that is none; returns whether all words are numbers.
 fn read_numbers(kids: &mut Vec<u32>, words: Tokens<'_>) -> Result<bool, AllocError>
     ensures { IfOk result (λ all. numbers (tokens_left words.entry)
         ≡ (if all then Some kids.new.items else None)) }
@@ -47,7 +47,7 @@ fn read_numbers(kids: &mut Vec<u32>, words: Tokens<'_>) -> Result<bool, AllocErr
     Ok(true)
 }
 
-// What is said to be over children, where words say how many there are and then each; these are then `kids`.
+// Returns `what` if the words are the number of children, then each child; these become `kids`.
 pub(crate) fn over_children(
     what: NodeKind,
     kids: &mut Vec<u32>,

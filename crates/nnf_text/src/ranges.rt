@@ -5,7 +5,7 @@ ghost use Rattle.nnf_text.specs.Extending.{Extends};
 use crate::GraphText;
 use diag_edge::Sink;
 
-/// Adds how many numbers there are from a first one on and each of them, each after a space, and a line feed.
+/// Adds `count` and then `count` numbers from `first` on, each after a space, and a line feed.
 #[tactic(auto, using(crate::proofs::Extended::extending))]
 pub fn add_counted_range<O: Sink>(text: &mut GraphText, out: &mut O, first: u32, count: u32)
     requires { first + count < 2 ^ 32 }

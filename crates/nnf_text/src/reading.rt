@@ -13,7 +13,7 @@ use node_store::{Graph, Nodes};
 use std::alloc::Global;
 use text_rules::{Lines, TEXT_LIMIT, Tokens};
 
-// The header, and how many lines there are up to it.
+// Reads the header, and returns the number of its line too.
 fn first_header(lines: &mut Lines<'_>) -> Option<(Header, u32)>
     requires { length (all_lines lines.old) ≤ TEXT_LIMIT }
     ensures header { let read = parsed_lines (filled_from 1 (all_lines lines.old)) in
@@ -32,7 +32,7 @@ fn first_header(lines: &mut Lines<'_>) -> Option<(Header, u32)>
     None
 }
 
-// The nodes of the lines after so many others.
+// Reads the nodes of the lines after the first `above`.
 fn nodes_in(alloc: Global, vars: u32, above: u32, lines: Lines<'_>) -> Result<Nodes, NnfError>
     requires { above + length (all_lines lines) ≤ TEXT_LIMIT }
     ensures { Fulfils (λ nodes. record { nodes = nodes; vars = vars }) told
@@ -48,7 +48,7 @@ fn nodes_in(alloc: Global, vars: u32, above: u32, lines: Lines<'_>) -> Result<No
     Ok(nodes)
 }
 
-// Whether there are as many nodes and edges as the header says.
+// Checks that there are as many nodes and edges as the header says.
 fn check_counts(header: &Header, nodes: &Nodes) -> Result<(), NnfError>
     ensures { Fulfils (λ _. record { nodes = nodes.now; vars = header.now.vars }) told
         (if_counted (said_by header.now) nodes.now) result }
@@ -57,7 +57,7 @@ fn check_counts(header: &Header, nodes: &Nodes) -> Result<(), NnfError>
     check_count(header.edges, nodes.edges() as u64)
 }
 
-// Whether so many were found as are said.
+// Checks that two numbers are equal.
 fn check_count(said: u64, found: u64) -> Result<(), NnfError>
     ensures { MatchResult result (λ _. said ≡ found)
         (λ e. (e ≡ NnfError.Counts said found) × (said ≢ found)) }
@@ -69,7 +69,7 @@ fn check_count(said: u64, found: u64) -> Result<(), NnfError>
     }
 }
 
-/// Reads a text of at most 16,777,216 bytes as a graph, and how many variables it has.
+/// Reads a graph and its number of variables from a text of at most 16,777,216 bytes.
 ///
 /// The nodes of the graph are those of the text, one to one. Memory may run out at any time; any other error is the first
 /// reason why the text gives no graph, or why its graph is not decomposable.

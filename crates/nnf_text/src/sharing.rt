@@ -10,13 +10,13 @@ use state_rules::NodeKind;
 use std::alloc::{AllocError, Global};
 use text_rules::TEXT_LIMIT;
 
-/// How many variables have a bit in a word.
+/// The number of variables that have a bit in a word.
 const WIDTH: usize = 64;
 
-// The first node of which two children share a variable, and the least such variable.
+// Finds the first And node whose children share a variable, and the least such variable.
 //
-// Each pass over the nodes looks at the next 64 of the variables that literals have, so there are few passes also where
-// the variables are great.
+// Each pass over the nodes handles the next 64 of the variables that literals have, so there are few passes even if the
+// variables are great.
 pub(crate) fn first_shared(
     alloc: Global,
     vars: u32,
@@ -37,7 +37,7 @@ pub(crate) fn first_shared(
     Ok(first)
 }
 
-// The variables of literals, in order and each once.
+// Returns the variables of literals, in order and each once.
 fn variables_of(alloc: Global, nodes: &Nodes) -> Result<Vec<u32>, AllocError>
     ensures { IfOk result (λ variables. AreVariables nodes.now variables.items) }
 {
@@ -60,7 +60,7 @@ fn push_variable(variables: &mut Vec<u32>, what: NodeKind) -> Result<(), AllocEr
     }
 }
 
-// The one of two that has the lower node, and the first where neither has.
+// Returns the one with the lower node; the first one if the nodes are equal.
 fn earlier(first: Option<(u32, u32)>, second: Option<(u32, u32)>) -> Option<(u32, u32)>
     ensures { result ≡ earlier first second }
 {
@@ -71,7 +71,7 @@ fn earlier(first: Option<(u32, u32)>, second: Option<(u32, u32)>) -> Option<(u32
     }
 }
 
-// Gives each node the word of the variables that it mentions, up to the first node of which two children share one.
+// Gives each node the word of the variables that it mentions, up to the first And node whose children share one.
 fn mark(nodes: &Nodes, variables: &[u32], column: &mut [u64]) -> Option<(u32, u32)>
     requires long { length column.old ≡ length nodes.now }
     requires fit { (vars : ℕ) × (nodes_fit vars 0 nodes.now ≡ true) }
@@ -90,7 +90,7 @@ fn mark(nodes: &Nodes, variables: &[u32], column: &mut [u64]) -> Option<(u32, u3
     None
 }
 
-// The variables that a node mentions, and those that two of its children do.
+// Returns the variables that a node mentions, and those that children of an And node share.
 fn word_of(what: NodeKind, kids: &[u32], variables: &[u32], column: &[u64]) -> (u64, u64)
     requires kids { All (λ child. child < length column.now) kids.now }
     requires fits { (vars : ℕ) × (kind_fits vars what kids.now ≡ true) }
@@ -105,7 +105,7 @@ fn word_of(what: NodeKind, kids: &[u32], variables: &[u32], column: &[u64]) -> (
     }
 }
 
-// The bit of a variable, if it has one.
+// Returns the bit of a variable, or 0 if it has none.
 fn literal_word(var: u32, variables: &[u32]) -> u64
     requires some { 0 < var }
     requires rise { IsStrictlyIncreasing variables.now }
@@ -118,7 +118,7 @@ fn literal_word(var: u32, variables: &[u32]) -> u64
     }
 }
 
-// The bits that some word of the children has, and those that two of them have.
+// Returns the bits that the word of any child has, and those that two have.
 fn joined(column: &[u64], kids: &[u32]) -> (u64, u64)
     requires { All (λ child. child < length column.now) kids.now }
     ensures { IsJoined column.now kids.now result.0 result.1 }

@@ -12,8 +12,8 @@ use crate::lines::{add_header, add_node};
 use diag_edge::{Sink, WriteFailed};
 use node_store::Graph;
 
-/// Writes a graph as text: a line of its numbers of nodes, edges and variables, and a line for each node. The number of
-/// variables may be greater than that of the graph.
+/// Writes a graph as text: a line of its numbers of nodes, edges and variables, and a line for each node. `vars` may be
+/// greater than the number of variables of the graph.
 pub fn write_nnf<O: Sink>(graph: &Graph, vars: u32, out: &mut O) -> Result<(), WriteFailed>
     requires { graph.now.vars ≤ vars }
 
@@ -21,7 +21,7 @@ pub fn write_nnf<O: Sink>(graph: &Graph, vars: u32, out: &mut O) -> Result<(), W
         (graph_text (record graph.now { vars = vars })) }
     ensures cause { HasCause (O.faults out.old) (O.faults out.new) result }
 
-    // The text has no blank line, and is read back as this graph over so many variables.
+    // The text has no blank line, and is read back as this graph over `vars` variables.
     ensures neat { is_neat (graph_text (record graph.now { vars = vars })) ≡ true }
     ensures read { let written = record graph.now { vars = vars } in
         parsed (graph_text written) ≡ Ok written }

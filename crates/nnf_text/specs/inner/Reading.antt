@@ -17,15 +17,15 @@ childless kind = node_with [] kind
 abbrev pub said_by : DeclaredHeader → Header
 said_by header = record { nodes = header.nodes; edges = header.edges; vars = header.vars }
 
--- of lines, the first of which has this number, those that have words, as words, each with its number
+-- the words of each line that has any, with its number; the first line has number `number`
 abbrev pub filled_from : ℕ → List (List ℕ) → List (ℕ × List (List ℕ))
 filled_from number lines = filter has_words (enumerate_from number (map words lines))
 
--- these nodes and those of lines after them, or the first refusal of such a line
+-- these nodes, then those of the lines, or the first refusal of a line
 abbrev pub nodes_behind : ℕ → List Node → List (ℕ × List (List ℕ)) → Parsed
 nodes_behind vars nodes lines =
     read_unless (record { nodes = nodes ++ filter_map node_at_line lines; vars = vars }) (filter_map (line_fault vars) (enumerate_from (length nodes) lines))
 
--- the graph of these nodes, or the first number that is another than the header says
+-- the graph of these nodes, or the first number that differs from the header's
 abbrev pub if_counted : Header → List Node → Parsed
 if_counted header nodes = read_unless (record { nodes = nodes; vars = header.vars }) (differs header.nodes (length nodes) ++ differs header.edges (edges nodes))

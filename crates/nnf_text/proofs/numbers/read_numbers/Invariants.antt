@@ -4,7 +4,7 @@ use Rattle.text_rules.specs.Tokens.{tokens_left}
 use Rattle.nnf_text.specs.GraphTexts.{numbers}
 use Rattle.nnf_text.proofs.numbers.read_numbers.Given as goal
 
--- the numbers of all words are those so far, and then those of the words that are left
+-- the numbers of all words are those so far, then those of the words left
 abbrev pub invariant-loop-word : goal.invariant-loop-word
 invariant-loop-word l = record {
   can_next : goal.iterator-loop-word.can_next l.word-iterator;

@@ -4,7 +4,7 @@ use Rattle.text_rules.specs.TextLines.{all_lines}
 use Rattle.nnf_text.specs.inner.Reading.{filled_from, nodes_behind}
 use Rattle.nnf_text.proofs.reading.nodes_in.Given as goal
 
--- what all lines give is what those that are left give after the nodes so far
+-- the result of all lines is that of the lines left after the nodes so far
 abbrev pub invariant-loop-line : goal.invariant-loop-line
 invariant-loop-line l = record {
   can_next : goal.iterator-loop-line.can_next l.line-iterator;

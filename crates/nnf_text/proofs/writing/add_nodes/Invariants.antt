@@ -5,7 +5,7 @@ use Rattle.nnf_text.specs.Extending.{Extends}
 use Rattle.nnf_text.specs.WrittenGraphs.{node_words}
 use Rattle.nnf_text.proofs.writing.add_nodes.Given as goal
 
--- the lines of the nodes before this one were added
+-- the lines of the nodes before this one are added
 abbrev pub invariant-loop-node : goal.invariant-loop-node
 invariant-loop-node g l =
     let O = g.O.Sink in

@@ -21,13 +21,13 @@ use Rattle.nnf_ask.specs.Asking.{asked_system}
 use Rattle.nnf_ask.specs.Alike.{case_among, AreAlike}
 use Rattle.nnf_ask.proofs.VariableNames.{length-variable_names}
 
--- a text that spells the whole graph of a device gives a graph that means it
+-- if a text spells the whole graph of a device, its graph means the device
 pub graph_meant : (device : Device) (vars most : ℕ) (text : List ℕ) (graph : Graph) → Spelled (Whole device vars most) text → parsed text ≡ Ok graph → IsGraphOf device graph
 graph_meant device vars most text graph spelled read =
     let is : IsWholeOf device vars most (Ok graph) = subst (λ (p : Parsed). IsWholeOf device vars most p) read spelled.1 in
     is.3
 
--- what a case says of the variables, it says among them
+-- a case has the same evidence over more variables
 same_words : (vars : ℕ) (known : Case) → case_evidence vars (case_among vars known) ≡ case_evidence vars known
 same_words vars known =
     let count : ℕ = vars - (length known.held + length known.seen) in
@@ -47,7 +47,7 @@ module _ (device : Device) (graph : Graph) (is : IsGraphOf device graph) (known 
   abbrev parts : ℕ
   parts = length device.parts
 
-  -- it is a case of what is asked
+  -- it is a case of the asked system
   pub case_fits : IsCaseOf (asked_system parts graph) (case_among graph.vars known)
   case_fits =
       let count : ℕ = graph.vars - (length known.held + length known.seen) in

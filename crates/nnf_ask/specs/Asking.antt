@@ -19,7 +19,7 @@ five_digits n = (48 + n / 10000) ∷ (48 + n / 1000 % 10) ∷ (48 + n / 100 % 10
 abbrev pub variable_names : ℕ → ℕ → List Name
 variable_names first count = map five_digits (range_with_len first count)
 
--- the names of so many parts and of the wires, among so many variables, or why they are not given
+-- the names of `health` parts and of the wires among `vars` variables, or the refusal
 abbrev pub asked_names : ℕ → ℕ → Result (List Name × List Name) AskError
 asked_names health vars =
     if nat_lt vars health then Err (Health health vars)
@@ -31,7 +31,7 @@ abbrev pub told : AskError → Option AskError
 told Memory = None
 told error = Some error
 
--- what is asked over a graph, so many of whose variables are parts; nothing is answered besides
+-- what sessions over a graph need if its first `health` variables are parts; without extras
 abbrev pub asked_subject : ℕ → Graph → Subject
 asked_subject health graph = record {
   parts = variable_names 1 health;

@@ -12,11 +12,11 @@ ghost use Rattle.session_rules.specs.Spelling.{Spelled};
 ghost use Rattle.nnf_ask.specs.Asking.{asked_system};
 ghost use Rattle.nnf_ask.specs.Alike.{AreAlike, case_among};
 
-/// A text that spells the whole graph of a device may be asked for the device, if every failure costs 1. Asked with as many
-/// parts as the device has, its graph has for each case of the device the same consistent states, the same least cost, the same
-/// diagnoses, and the same of these after any point, position by position.
+/// A text that spells the whole graph of a device answers for the device, if every failure costs 1. Asked with as many parts
+/// as the device has, its graph has for each case of the device the same consistent states, the same least cost, the same
+/// diagnoses, and the same diagnoses after any point, position by position.
 ///
-/// The variables are the parts, then the wires, then those of which the device knows nothing and a case says nothing.
+/// The variables are the parts, then the wires, then others that are not in the device and that a case leaves open.
 pub fn answers_for_device()
     ensures case { (device : Device) (vars most : ℕ) (text : List ℕ) → Spelled (Whole device vars most) text
         → (graph : Graph) → parsed text ≡ Ok graph

@@ -13,11 +13,11 @@ use std::alloc::Global;
 /// Why the variables of a graph have no names.
 #[derive(Clone, Copy, Debug, PartialEq, Eq)]
 pub enum AskError {
-    /// There are to be more parts than variables.
+    /// More parts are given than variables.
     Health { health: u64, vars: u64 },
-    /// More than 16,384 variables are left for wires; the number of them.
+    /// More than 16,384 variables are left for wires: `count`.
     Wires { count: u64 },
-    /// There was no memory.
+    /// Memory ran out.
     Memory,
 }
 
@@ -29,10 +29,9 @@ impl From<Memory> for AskError {
     }
 }
 
-/// The names of a graph's variables, first so many parts and then wires: their numbers in five digits.
-/// The names of the parts come first, then those of the wires.
+/// Returns the names of a graph's variables, first `health` parts and then wires: their numbers in five digits.
 ///
-/// The first reason of `AskError` that applies is the answer, in their order there.
+/// Memory may run out. Any other error is the first in the order of `AskError` that applies.
 pub fn ask_names(alloc: Global, health: u32, vars: u32) -> Result<(Vec<Name>, Vec<Name>), AskError>
     requires few { health ≤ PART_LIMIT }
     ensures names { Fulfils (λ names. (names.0.items, names.1.items)) told (asked_names health vars) result }
@@ -59,7 +58,7 @@ pub fn ask_names(alloc: Global, health: u32, vars: u32) -> Result<(Vec<Name>, Ve
     Ok((parts, wires))
 }
 
-// A number in five digits.
+// Writes a number in five digits.
 fn five_digits(number: u32) -> [u8; 5]
     requires { number < 100000 }
     ensures { result ≡ five_digits number }
@@ -73,7 +72,7 @@ fn five_digits(number: u32) -> [u8; 5]
     ]
 }
 
-// The names of so many variables from one on.
+// Returns the names of `count` variables from `first` on.
 fn variable_names(alloc: Global, first: u32, count: u32) -> Result<Vec<Name>, Memory>
     requires { first + count ≤ 100000 }
     ensures names { IfOk result (λ names. names.items ≡ variable_names first count) }
@@ -87,7 +86,7 @@ fn variable_names(alloc: Global, first: u32, count: u32) -> Result<Vec<Name>, Me
     Ok(names)
 }
 
-/// What the failure of each part costs: 1.
+/// Returns the cost of each part's failure: 1.
 pub fn ask_costs(alloc: Global, health: u32) -> Result<Vec<u32>, Memory>
     requires few { health ≤ PART_LIMIT }
     ensures costs { IfOk result (λ costs. costs.items ≡ plain_costs health) }

@@ -1,4 +1,4 @@
-//! Clauses that are given, and those of gates.
+//! Given clauses, and the clauses of gates.
 use crate::texts::clauses_of;
 use clause_encoder::{Clause, Cnf};
 use std::process::Abort;
@@ -6,7 +6,7 @@ use std::test::Fail;
 
 const NAND: [&[i32]; 3] = [&[-1, 2, 3], &[-1, 2, 3], &[-1, -2, -3]];
 
-// An And of five inputs has three inner variables.
+// An AND of five inputs has three inner variables.
 const WIDE: [&[i32]; 12] = [
     &[2, -8],
     &[3, -8],
@@ -30,7 +30,7 @@ fn assert_clauses(rt: &impl Abort, cnf: &Cnf, vars: u32, expected: &[&[i32]]) {
     }
 }
 
-/// A list keeps the clauses that it is made of. A gate has those of its table without those that are always true, and a wide one a
+/// A list keeps the clauses that it is made of. A gate has those of its table except those that are always true; a wide gate has a
 /// chain of small ones.
 #[test]
 fn writes_clauses(rt: HostRuntime) -> Result<(), Fail> {

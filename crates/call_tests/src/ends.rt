@@ -1,9 +1,9 @@
-//! The ends in memory: files and sinks, and the calls of them that fail.
+//! Files and sinks in memory, and their calls that fail.
 use diag_edge::{LoadError, MemShelf, MemSink, Sink, TallySink, WriteFailed, load, put_line};
 use std::alloc::{AllocError, Global};
 use std::test::Fail;
 
-// A name, the limit, the number of the call that fails, which is 0 if none does, and the file.
+// A name, the limit, the number of the call that fails (0 if none does), and the file.
 const LOADS: [(&str, usize, u64, Result<&str, LoadError>); 6] = [
     ("a", 3, 0, Ok("abc")),
     ("empty", 0, 0, Ok("")),
@@ -13,7 +13,7 @@ const LOADS: [(&str, usize, u64, Result<&str, LoadError>); 6] = [
     ("b", 3, 0, Err(LoadError::Failed)),
 ];
 
-/// Of two files of one name the first is loaded. A file that is too long, or a call that fails, is an error.
+/// Of two files with one name, the first is loaded. A file that is too long or a call that fails is an error.
 #[test]
 fn loads_files(rt: HostRuntime) -> Result<(), Fail> {
     let alloc = rt.alloc();
@@ -34,12 +34,12 @@ fn loads_files(rt: HostRuntime) -> Result<(), Fail> {
     Ok(())
 }
 
-// So many letters x.
+// Returns `count` letters x.
 fn letters(alloc: Global, count: usize) -> Result<Vec<u8>, AllocError> {
     vec![in alloc; b'x'; count]
 }
 
-/// A sink keeps what fits, also of a write that fails. A line is put whole, also if its words are longer than a chunk.
+/// A sink keeps what fits, even of a write that fails. A line is put whole, even if its words are longer than a chunk.
 #[test]
 fn puts_lines(rt: HostRuntime) -> Result<(), Fail> {
     let alloc = rt.alloc();

@@ -1,4 +1,4 @@
-//! Graphs that are built node by node.
+//! Graphs built node by node.
 use node_store::GraphBuilder;
 use state_rules::NodeKind;
 use std::test::Fail;

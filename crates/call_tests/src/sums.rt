@@ -1,9 +1,9 @@
-//! The levels of a clause list, and what is left at the first of them.
+//! The levels of a clause list, and what is left at the first.
 use crate::texts::clauses_of;
 use branch_states::Branches;
 use std::test::Fail;
 
-/// An inverter has three variables, and after the first its health leaves all clauses done, or both of them open.
+/// An inverter has three variables. After the first, its health, all clauses are done or both are open.
 #[test]
 fn walks_the_levels(rt: HostRuntime) -> Result<(), Fail> {
     let alloc = rt.alloc();

@@ -5,7 +5,7 @@ use std::alloc::Global;
 use std::test::Fail;
 use text_rules::TEXT_LIMIT;
 
-/// The clauses of a netlist.
+/// Returns the clauses of a netlist.
 pub fn clauses_of(alloc: Global, text: &str) -> Result<Cnf, Fail> {
     if TEXT_LIMIT < text.len() {
         return Err("the text is too long".into());

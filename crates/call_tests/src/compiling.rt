@@ -20,7 +20,8 @@ fn chain(alloc: Global, count: u32) -> Result<Cnf, Fail> {
 fn compiles_within_a_sum(rt: HostRuntime) -> Result<(), Fail> {
     let alloc = rt.alloc();
     // The variables come in this order: part 1, wire 0, wire 1, then each next part and its output. Nodes are made from the last
-    // variable to the first. A state is what a wire may be: 0, 1 or anything. An "Or" here is an Or node over two And nodes.
+    // variable to the first. The state at a wire after wire 0 is what it may be: 0, 1 or anything. An "Or" is an Or node over two
+    // And nodes.
     // - 2 at the beginning: the constants true and false.
     // - 1 at the last wire, if it may be anything. If it must be 0 or must be 1, that is a literal.
     // - 5 at each wire between two parts: an And node for 0, an And node for 1, and an Or for anything.

@@ -94,7 +94,7 @@ gate_clauses gate h xs y = reduction_clauses gate.reduction gate.positive h xs y
 
 -- ---- a gate with more inputs than the limit: a chain of inner variables
 
--- z is the conjunction of a and b; or, unless `as_is`, their disjunction
+-- z is the conjunction of a and b (if `as_is`) or their disjunction (if not)
 abbrev pub and_step : Bool → ℕ → ℕ → ℕ → List Clause
 and_step as_is z a b =
     (literal (not as_is) z ∷ literal as_is a ∷ [])
@@ -109,7 +109,7 @@ xor_step z a b =
     ∷ (literal true z ∷ literal true a ∷ literal false b ∷ [])
     ∷ (literal true z ∷ literal false a ∷ literal true b ∷ []) ∷ []
 
--- the clauses of an inner variable: the one before it and the next input give it
+-- the clauses that define an inner variable by the one before it and the next input
 abbrev pub step_clauses : Reduction → ℕ → ℕ → ℕ → List Clause
 step_clauses AllOnes z a b = and_step true z a b
 step_clauses AnyOne z a b = and_step false z a b

@@ -152,7 +152,7 @@ fn step_count(reduction: Reduction) -> u64
     }
 }
 
-// Counts the rows that are not allowed, ok and faulty.
+// Counts the rows not allowed if ok, plus those not allowed if faulty.
 #[tactic(auto, using(crate::proofs::Rules::counted_tables))]
 fn table_count(table: &Table) -> u64
     ensures count { (h : ℕ) (vs : List ℕ) → length vs ≡ table.now.ports

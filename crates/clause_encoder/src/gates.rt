@@ -99,7 +99,7 @@ fn push_chain(
     Ok(next)
 }
 
-// Writes the clauses of an inner variable: the one before it and the next input give it.
+// Writes the clauses that define an inner variable by the one before it and the next input.
 fn push_step(
     writer: &mut Writer,
     reduction: Reduction,

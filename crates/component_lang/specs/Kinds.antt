@@ -31,7 +31,7 @@ pub record Reader : Type 0 where
   pub blocks : List Block
   pub section : Section
 
--- the kind that a name means: gates, types and blocks share one set of names
+-- The kind that a name means. Gates, types and blocks share one set of names; types and blocks are given by their places.
 abbrev pub kind_named : Reader → Name → Option UsedKind
 kind_named reader name = lookup (same_name name) (map (λ (word, gate). (word, Gate gate)) gate_words
     ++ (map (λ (t : ℕ × Shape). (t.1.name, OfShape t.0)) (enumerate_from 0 reader.types)

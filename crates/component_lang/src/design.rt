@@ -44,7 +44,7 @@ impl Model for Uses {
 }
 
 impl Uses {
-    /// Makes the list of a vector.
+    /// Wraps a vector of parts.
     pub fn of(items: Vec<Used>) -> Uses
         ensures { result ≡ items.items }
     {

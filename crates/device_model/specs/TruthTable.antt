@@ -20,7 +20,7 @@ set_of_all ports = if has_few_ports ports then Some (2 ^ (2 ^ ports) - 1) else N
 abbrev pub is_cost : ℕ → Bool
 is_cost cost = nat_le 1 cost && nat_le cost COST_LIMIT
 
--- 1 to 6 ports, only rows of that many ports, and a cost that a failure may have
+-- whether a table has 1 to 6 ports, only rows of that many ports, and a cost that a failure may have
 abbrev pub is_table : TruthTable → Bool
 is_table rows =
     has_few_ports rows.ports

@@ -19,7 +19,7 @@ use std::alloc::{AllocError, Global};
 /// Why parts and wires make no device. A part is given by its place in the given list, counted from 0.
 #[derive(Debug, Drop)]
 pub enum BuildError {
-    /// `count` is more than 4,096 parts, or else more than 16,384 wires.
+    /// More than 4,096 parts, or else more than 16,384 wires: `count`.
     TooMany { count: u64 },
     /// This is the least name that two parts have.
     TwoParts { name: Name },

@@ -32,7 +32,7 @@ impl Wires {
         Ok(Wires { items })
     }
 
-    /// Makes the list of a vector.
+    /// Wraps a vector of places.
     pub fn of(items: Vec<u32>) -> Wires
         ensures { result ≡ items.items }
     {

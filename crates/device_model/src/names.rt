@@ -65,7 +65,7 @@ impl Model for Names {
 }
 
 impl Names {
-    /// Makes the list of a vector.
+    /// Wraps a vector of names.
     pub fn of(items: Vec<Name>) -> Names
         ensures { result ≡ items.items }
     {

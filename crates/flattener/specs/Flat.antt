@@ -80,7 +80,7 @@ abbrev pub greatest : List ℕ → ℕ
 greatest [] = 0
 greatest (n ∷ ns) = max n (greatest ns)
 
--- the bytes of the longest path of a part, a wire or an instance
+-- the length in bytes of the longest path of a part, a wire or an instance
 abbrev pub longest_path : Design → ℕ
 longest_path design =
     let parts = map (λ (part : NamedPart). part.name) (top_content design).parts in

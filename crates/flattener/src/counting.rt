@@ -9,8 +9,8 @@ use component_lang::{Block, Design, Used, UsedKind};
 use device_model::{NAME_LIMIT, Name, PART_LIMIT, WIRE_LIMIT};
 use std::alloc::{AllocError, Global};
 
-/// The counts of an instance of a block, and the bytes of its longest path, measured from the instance on. They stop at
-/// 2^64 - 1.
+/// The counts of an instance of a block, and the length of its longest path in bytes, measured from the instance on. They
+/// stop at 2^64 - 1.
 #[derive(Clone, Copy, Debug, PartialEq, Eq)]
 pub(crate) struct Counts {
     parts: u64,
@@ -150,7 +150,7 @@ fn counts_of(alloc: Global, blocks: &[Block]) -> Result<Vec<Counts>, AllocError>
     Ok(counts)
 }
 
-// Returns the bytes of the longest name.
+// Returns the length in bytes of the longest name.
 fn longest_of(names: &[Name]) -> u64
     ensures { result ≡ longest_of names.now }
 {

@@ -89,7 +89,7 @@ abbrev pub reason : UnrollError → Option UnrollError
 reason Memory = None
 reason error = Some error
 
--- The clauses, or the first of these reasons: too many copies, too many wires, too many clauses of the copies.
+-- The names and clauses, or the first of these reasons: too many copies, too many wires, too many clauses of the copies.
 abbrev pub unrolled : Sequential → ℕ → Result Unrolled UnrollError
 unrolled seq frames =
     if nat_lt PART_LIMIT (length (copies seq frames)) then Err (TooManyParts (length (copies seq frames)))

@@ -31,7 +31,7 @@ abbrev pub told : AskError → Option AskError
 told Memory = None
 told error = Some error
 
--- what sessions over a graph need if its first `health` variables are parts; without extras
+-- the subject of sessions over a graph whose first `health` variables are parts; it has no extras
 abbrev pub asked_subject : ℕ → Graph → Subject
 asked_subject health graph = record {
   parts = variable_names 1 health;

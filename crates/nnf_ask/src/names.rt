@@ -13,7 +13,7 @@ use std::alloc::Global;
 /// Why the variables of a graph have no names.
 #[derive(Clone, Copy, Debug, PartialEq, Eq)]
 pub enum AskError {
-    /// More parts are given than variables.
+    /// The `health` parts are more than the `vars` variables.
     Health { health: u64, vars: u64 },
     /// More than 16,384 variables are left for wires: `count`.
     Wires { count: u64 },

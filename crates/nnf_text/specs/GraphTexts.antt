@@ -158,7 +158,7 @@ node_shared graph n = shared_at n.0 (find (shares graph.nodes n.1) (range_with_l
 abbrev pub all_shared : Graph → List Refusal
 all_shared graph = filter_map (node_shared graph) (enumerate_from 0 graph.nodes)
 
--- The graph, if nodes times variables, the time of the check, are few, and it is decomposable.
+-- The graph, if nodes times variables are within the limit (a check takes that long) and it is decomposable.
 abbrev pub checked : Graph → Parsed
 checked graph =
     let bits = length graph.nodes * graph.vars in

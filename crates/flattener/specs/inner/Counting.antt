@@ -18,7 +18,7 @@ use Rattle.flattener.specs.Flat.{saturated, greatest, top_ports}
 abbrev pub no_counts : Counts
 no_counts = record { parts = 0; wires = 0; instances = 0; longest = 0 }
 
--- the bytes of the longest name
+-- the length in bytes of the longest name
 abbrev pub longest_of : List Name → ℕ
 longest_of names = greatest (map (λ (name : Name). length name) names)
 

@@ -66,7 +66,7 @@ module _ (vars number : ℕ) (done : List Node) (lines : List (List ℕ)) where
 
 -- ---- refusals
 
--- if each refusal of `a` is one of `b`
+-- a fault expected of `a` is expected of `b`, if `b` has its refusals
 pub refused-too : (fault : Option Refusal) (a b : Parsed) → ((r : Refusal) → a ≡ Err r → b ≡ Err r) → IsExpectedFault fault a → IsExpectedFault fault b
 refused-too fault a b more h = grind (arith, nat_tests)
 

@@ -11,7 +11,7 @@ abbrev pub fault_told : LineError → Option LangFault
 fault_told (Fault what) = Some what
 fault_told Memory = None
 
--- the error of a text, from that of its line `line`
+-- the error of a text, from that of its line
 abbrev pub error_in : ℕ → LineError → LangError
 error_in line (Fault what) = Bad line what
 error_in line Memory = NoMemory

@@ -16,7 +16,7 @@ use std::alloc::Global;
 #[derive(Debug, Drop)]
 pub struct Levels {
     pub steps: Vec<Step>,
-    /// Where the lists of each level except the last lead.
+    /// Where the lists of each level lead, except those of the last one.
     pub forks: Vec<Forks>,
 }
 

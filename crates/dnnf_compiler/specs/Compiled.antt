@@ -11,7 +11,7 @@ use Rattle.dnnf_compiler.specs.declared.compiling.Compiled.{Compiled}
 abbrev pub SaysAll : List Clause → Graph → Type 0
 SaysAll clauses graph = (a : Assignment) → is_true graph.nodes (length graph.nodes - 1) a ≡ all_hold a clauses
 
--- the most nodes in the graph of clauses with this sum and this number of variables
+-- a bound on the nodes of the graph of clauses with this sum and this number of variables
 abbrev pub most_nodes : (sum vars : ℕ) → ℕ
 most_nodes sum vars = 3 * sum + 2 * vars + 2
 

@@ -13,7 +13,7 @@ use elimination_forests::{Forks, Step};
 use node_store::Store;
 use std::alloc::Global;
 
-/// Compiles clauses to the decomposable graph that is true exactly if all of them are, from the steps of a forest of them and the forks
+/// Compiles clauses to a decomposable graph that is true exactly if all of them are, from the steps of a forest of them and the forks
 /// along it.
 ///
 /// The lists along the forest are at most `BUDGET_LIMIT`. They bound how many nodes are made, and so the size of the graph.

@@ -18,14 +18,14 @@ pub struct Compiled {
     pub made: u64,
 }
 
-/// Returns the most nodes that the graph of clauses has, by their sum and their number of variables.
+/// Returns a bound on the nodes of the graph of clauses, by their sum and their number of variables.
 pub fn most_nodes(sum: u32, vars: u32) -> u64
     ensures { result ≡ most_nodes sum vars }
 {
     3 * u64::from(sum) + 2 * u64::from(vars) + 2
 }
 
-/// Compiles clauses to the decomposable graph that is true exactly if all of them are.
+/// Compiles clauses to a decomposable graph that is true exactly if all of them are.
 ///
 /// The sum of the clause list is at most `BUDGET_LIMIT`. It bounds how many nodes are made, and so the size of the graph.
 pub fn compile(alloc: Global, cnf: &Cnf) -> Result<Compiled, Memory>

@@ -152,7 +152,7 @@ impl Maker {
     }
 }
 
-/// Adds to children the node of each level that has the number for it.
+/// Adds to children the nodes that have these numbers, one of each level.
 pub(crate) fn taken(
     kids: Children,
     numbers: &[u32],

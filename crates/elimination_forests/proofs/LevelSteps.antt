@@ -64,7 +64,7 @@ living_lists-next clauses i h = grind (arith, left-lists, filter-flat_map, flat_
 pub living_are_living : (clauses : List Clause) (i : ℕ) (list : List Bool) → In list (living clauses i) → IsLiving clauses i list
 living_are_living clauses i list m = grind (arith, In-filter, met-In, pointwise-equal, from_map, bits_length)
 
--- Each living list is a member.
+-- Each living list of a level is in `living`.
 pub living-in : (clauses : List Clause) (i : ℕ) (list : List Bool) → IsLiving clauses i list → In list (living clauses i)
 living-in clauses i list is = grind (arith, In-map, bits_in, In-met, pointwise-equal, In-filtered)
 

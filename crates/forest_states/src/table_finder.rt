@@ -45,7 +45,7 @@ pub(crate) fn find_table(
     Ok((table, kept))
 }
 
-// Counts the first of rising numbers that are below another.
+// Counts the numbers at the front that are below another.
 fn count_below(numbers: &[u32], number: u32) -> usize
     ensures { result ≡ prefix_len (λ n. nat_lt n number) numbers.now }
 {

@@ -34,7 +34,7 @@ pub record IsMeet (old new : Maker) (kids : List ℕ) (node : ℕ) : Type 0 wher
 
 -- ---- a way
 
--- the node of each level that has the number for it
+-- the nodes that have these numbers, one of each level
 abbrev pub taken : List (Vec ℕ Global) → List ℕ → List ℕ
 taken [] numbers = []
 taken (level ∷ levels) [] = []

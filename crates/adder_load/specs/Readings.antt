@@ -16,7 +16,7 @@ abbrev pub readings_at : ℕ → List Reading
 readings_at place =
     (signal place (codes "a"), false) ∷ (signal place (codes "b"), false) ∷ (signal place (codes "s"), place % 16 == 0) ∷ []
 
--- and so are the first carry and the last
+-- all readings; the first carry and the last are 0 too
 abbrev pub readings : ℕ → List Reading
 readings places =
     (signal 0 (codes "c"), false) ∷ (signal places (codes "c"), false) ∷ flat_map readings_at (range_with_len 0 places)

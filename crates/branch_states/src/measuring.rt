@@ -16,7 +16,7 @@ pub const BUDGET_LIMIT: u32 = 8_388_608;
 pub enum MeasureError {
     /// It is above the limit.
     Above,
-    /// There was no memory.
+    /// Memory ran out.
     Memory,
 }
 

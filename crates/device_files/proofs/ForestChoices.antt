@@ -21,7 +21,7 @@ use Rattle.device_files.specs.Refusals.{refusal_output}
 use Rattle.device_files.specs.Choices.{Weighed, weighed_by, ByForest, ByClauses, IsChosen, HasSum, IsListOf}
 use Rattle.device_files.specs.Weighing.{within, sum_line}
 
--- what holds by every choice holds by the order of the names
+-- what holds by every choice of forests holds by some
 pub by_any : {Holds : (ClauseList → Option Forest) → Type 0} → ((choose : ClauseList → Option Forest) → Holds choose) → ByForest Holds
 by_any each = record { choose = λ list. None; narrows = λ list. tt; holds = each (λ list. None) }
 

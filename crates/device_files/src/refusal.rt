@@ -25,7 +25,7 @@ pub enum Refusal {
     },
     /// A graph's text has no header.
     Header,
-    /// The header says another number of nodes, or else of edges.
+    /// The header has a wrong number of nodes, or else of edges.
     Counts {
         said: u64,
         found: u64,

@@ -69,7 +69,7 @@ along_within : (forest : Forest) (bound : List ℕ) (c : Clause) → is_along fo
 along_within none bound c e f = e
 along_within (tree v below beside) bound c e f = grind (arith, nat_tests, along_within beside bound c, or_parts (meets (v ∷ variables below) c) (meets (variables beside) c) (sym (meets-append (v ∷ variables below) (variables beside) c) ∙ f))
 
--- All its clauses meet the trees.
+-- A list that goes down a forest holds exactly if its parts hold on all trees.
 pub down_holds : (forest : Forest) (base : Place) (a : Assignment) (list : List Bool) → IsDown forest base list → left_by base a list ≡ trees_hold forest base a list
 down_holds forest base a list is = grind (
   arith,

@@ -22,7 +22,7 @@ filter-mapped : (f : ℕ → Clause) (test : Clause → Bool) (ns : List ℕ) �
 filter-mapped f test [] = refl
 filter-mapped f test (n ∷ ns) = grind (arith, filter-mapped f test ns)
 
--- those that pass
+-- the clauses that pass, by their numbers
 pub passing : (clauses : List Clause) (test : Clause → Bool) → filter test clauses ≡ map (λ n. get_or clauses n []) (filter (λ n. test (get_or clauses n [])) (range_with_len 0 (length clauses)))
 passing clauses test =
     let at = λ (n : ℕ). get_or clauses n [] in

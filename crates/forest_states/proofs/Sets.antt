@@ -62,7 +62,7 @@ module _ (f g : List Bool → Option (List Bool)) (states : List (List Bool)) wh
   abbrev pub both : List Bool → List (List Bool)
   both s = option_to_list (f s) ++ option_to_list (g s)
 
-  -- what the first states give
+  -- what the first `k` states give
   abbrev pub reached : ℕ → List (List Bool)
   reached k = flat_map both (take k states)
 

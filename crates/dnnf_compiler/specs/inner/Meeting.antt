@@ -62,7 +62,7 @@ abbrev pub way_mentions : List Node → ℕ → List (Vec ℕ Global) → Option
 way_mentions nodes v below None = false
 way_mentions nodes v below (Some numbers) = list_any (mentions nodes v) (taken below numbers)
 
--- the way of a bit
+-- the way by a bit
 abbrev pub bit_way : Option (List ℕ) → Option (List ℕ) → Bool → Option (List ℕ)
 bit_way zero one false = zero
 bit_way zero one true = one

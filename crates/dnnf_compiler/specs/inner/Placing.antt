@@ -38,7 +38,7 @@ abbrev pub spots_on : Forest → Place → List Spot
 spots_on none base = []
 spots_on (tree v below beside) base = record { v = v; below = below; place = part (v ∷ variables below) base } ∷ spots_on beside base
 
--- those right below a variable
+-- the places right below a variable
 abbrev pub spots_below : Spot → List Spot
 spots_below spot = spots_on spot.below (decided spot.v spot.place)
 

@@ -1,4 +1,4 @@
--- Diagnoses one after the other are those of the list, in its order.
+-- The diagnoses that are found in turn are those of the list, in its order.
 use Rattle.std.proofs.Common.{◌≡◌, ℕ, zero, suc, ◌+◌, ◌-◌, ◌<◌, ◌≤◌, Bool, true, false, List, [], ◌∷◌, map, length, get_or, take, drop, Some, refl, ap, sym, ◌∙◌, subst, arith, inl, inr}
 use Rattle.std.specs.Prelude.{◌⊎◌}
 use Rattle.std.specs.List.{filter}
@@ -41,7 +41,7 @@ drop_first n [] d e below = absurd (omega (arith, below))
 drop_first zero (x ∷ xs) d e below = refl
 drop_first (suc n) (x ∷ xs) d e below = drop_first n xs d e (omega (arith, below))
 
--- there is a first, whatever stands for it if there is none
+-- a list that is not empty has the same first item for each default
 pub same_first : {A : Type 0} (xs : List A) (d e : A) → 0 < length xs → get_or xs 0 d ≡ get_or xs 0 e
 same_first [] d e some = absurd (omega (arith, some))
 same_first (x ∷ xs) d e some = refl
@@ -70,7 +70,7 @@ module _ (graph : Graph) (evidence costs : List ℕ) where
       let low : is_at_most (cost costs one.item) (least_under graph evidence costs) ≡ true = (let at : is_at_most fewest (Some fewest) ≡ true = grind arith in ap (λ n. is_at_most n (least_under graph evidence costs)) one.is_size ∙ ap (is_at_most fewest) (sym is) ∙ at) in
       some_in one.item ds (In-filtered (λ h. is_at_most (cost costs h) (least_under graph evidence costs)) one.item ms one.is_in low)
 
-  -- the point is the last of so many
+  -- the point is the last of `count`
   module _ (count : ℕ) (point : List Bool) (some : 1 ≤ count) (there : count ≤ length (diagnoses_under graph evidence costs)) (is : point ≡ get_or (diagnoses_under graph evidence costs) (count - 1) []) where
     behind : rest (diagnoses_under graph evidence costs) (Some point) ≡ drop count (diagnoses_under graph evidence costs)
     behind =
@@ -128,6 +128,6 @@ module _ (graph : Graph) (evidence costs : List ℕ) where
           of_none [] e = refl
           of_none (d ∷ later) e = absurd (omega (arith, e))
 
--- so many were asked for
+-- all are taken if they are at most as many as were asked for
 pub taken_all : {A : Type 0} (most count : ℕ) (xs : List A) → length xs ≡ count → count ≤ most → count ≡ length (take most xs)
 taken_all most count xs long few = let is = length-take most xs in grind (arith, long, few, is)

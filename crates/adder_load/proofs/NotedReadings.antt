@@ -1,4 +1,4 @@
--- What readings say, one after the other.
+-- What readings say in turn.
 use Rattle.std.proofs.Common.{◌≡◌, ℕ, ◌+◌, ◌-◌, ◌<◌, ◌≤◌, Bool, List, [], ◌∷◌, ◌++◌, length, replicate, set, refl, ap, sym, ◌∙◌, subst, Some, arith}
 use Rattle.std.specs.Prelude.{◌↔◌, ◌==◌, true, false, slice_set, IsTrue, fold}
 use Rattle.std.specs.Option.{option_map_or}
@@ -19,7 +19,7 @@ pub is_zero : (test : Bool) (n : ℕ) → (IsTrue test ↔ (n ≡ 0)) → test �
 is_zero true n decides = sym (eq-eqb n 0 (decides.0 refl))
 is_zero false n decides = sym (ne_eqb n 0 (λ zero. let never = decides.1 zero in cc))
 
--- one after the other
+-- some readings, and then others
 pub notes-append : (device : Device) (old between new : List ℕ) (xs ys : List Reading) → Notes device old between xs → Notes device between new ys → Notes device old new (xs ++ ys)
 notes-append device old between new xs ys first then = record {
   evidence = subst (λ n. IsEvidence (length device.parts) (length device.wires) n new) first.evidence.long then.evidence;

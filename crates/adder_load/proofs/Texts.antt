@@ -1,14 +1,14 @@
--- Texts that grow piece by piece, and how long that of an adder is.
+-- Texts that grow piece by piece, and the length of an adder's text.
 use Rattle.std.proofs.Common.{◌≡◌, ℕ, zero, suc, ◌+◌, ◌*◌, ◌-◌, ◌<◌, List, ◌++◌, length, refl, ◌∙◌, ap, arith, append_assoc, length-append, if◌then◌else◌}
 use Rattle.std.specs.Prelude.{Result, Ok, Err, OnOk, is_ok}
 use Rattle.std.specs.List.{flat_map, range_with_len}
 use Rattle.adder_load.specs.Adders.{place_lines, adder_text}
 
--- what is after one piece is after the text that the piece was added to
+-- a piece and then more are added as one piece
 pub behind : (before between after piece more : List ℕ) → between ≡ before ++ piece → after ≡ between ++ more → after ≡ before ++ (piece ++ more)
 behind before between after piece more one rest = rest ∙ ap (λ text. text ++ more) one ∙ append_assoc before piece more
 
--- what is left of so many things that are numbered, after the first of them
+-- what is left of numbered things is the first of them, and then the others
 pub left_more : {A : Type 0} (f : ℕ → List A) (all place : ℕ) → place < all
     → flat_map f (range_with_len place (all - place)) ≡ f place ++ flat_map f (range_with_len (place + 1) (all - (place + 1)))
 left_more f all place below =

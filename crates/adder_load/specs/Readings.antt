@@ -11,21 +11,21 @@ use Rattle.adder_load.specs.Adders.{signal}
 abbrev pub Reading : Type 0
 Reading = Name × Bool
 
--- The bits that are added are 0, and so is each sum, but at every sixteenth place.
+-- The bits that are added are 0, and so is each sum, except at every sixteenth place.
 abbrev pub readings_at : ℕ → List Reading
 readings_at place =
     (signal place (codes "a"), false) ∷ (signal place (codes "b"), false) ∷ (signal place (codes "s"), place % 16 == 0) ∷ []
 
--- and so are the first carry and the last
+-- all readings; the first carry and the last are 0 too
 abbrev pub readings : ℕ → List Reading
 readings places =
     (signal 0 (codes "c"), false) ∷ (signal places (codes "c"), false) ∷ flat_map readings_at (range_with_len 0 places)
 
--- one more is seen, if there is such a wire
+-- what is seen with one more reading, if there is such a wire
 abbrev pub with_reading : List Name → List (Option Bool) → Reading → List (Option Bool)
 with_reading wires seen reading = option_map_or (λ wire. set seen wire (Some reading.1)) (place_of reading.0 wires) seen
 
--- the case of a device of which this was seen, and nothing is held
+-- the case of a device with these readings, in which nothing is held
 abbrev pub adder_case : Device → ℕ → Case
 adder_case device places = record {
   seen = fold (with_reading device.wires) (replicate (length device.wires) None) (readings places);

@@ -22,7 +22,6 @@ pub(crate) fn signal(place: u32, letter: u8) -> [u8; 5]
     ]
 }
 
-// Adds the line of an input.
 #[tactic(auto, using(crate::proofs::Texts::behind))]
 fn add_input(text: &mut Vec<u8>, input: &[u8]) -> Result<(), Memory>
     ensures { OnOk result (text.new.items ≡ text.old.items ++ input_line input.now) }
@@ -53,7 +52,6 @@ fn add_gate(
     text.extend_from_slice(b")\n")
 }
 
-// Adds the lines of a place.
 #[tactic(auto, using(crate::proofs::Texts::behind))]
 fn add_place(text: &mut Vec<u8>, place: u32) -> Result<(), Memory>
     requires { place < PLACE_LIMIT }
@@ -75,7 +73,7 @@ fn add_place(text: &mut Vec<u8>, place: u32) -> Result<(), Memory>
     add_gate(text, &signal(place + 1, b'c'), b"OR", &g, &p)
 }
 
-/// The netlist of an adder of so many places. The only error is that there is no memory.
+/// Returns the netlist of an adder of `places` places. The only error is lack of memory.
 pub fn adder_text(alloc: Global, places: u32) -> Result<Vec<u8>, Memory>
     requires { places ≤ PLACE_LIMIT }
     ensures text { IfOk result (λ text. text.items ≡ adder_text places) }

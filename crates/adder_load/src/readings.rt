@@ -19,7 +19,6 @@ fn note(evidence: &mut [u32], device: &Device, name: &[u8], bit: bool)
     }
 }
 
-// Notes what was seen at a place.
 fn note_place(evidence: &mut [u32], device: &Device, place: u32)
     requires evidence { IsEvidence (length device.now.parts) (length device.now.wires) (length evidence.old) evidence.old }
     requires place { place < PLACE_LIMIT }
@@ -35,8 +34,8 @@ fn note_place(evidence: &mut [u32], device: &Device, place: u32)
     );
 }
 
-/// Notes what was seen of the adder of so many places, in evidence that is all 0: on the parts of its device, on its wires, and on
-/// inner variables.
+/// Notes what was seen of the adder of `places` places in evidence that is all 0. The evidence is on the parts of its device, on its wires,
+/// and on inner variables.
 pub fn note_readings(evidence: &mut [u32], device: &Device, places: u32)
     requires none { evidence.old ≡ replicate (length evidence.old) 0 }
     requires room { length device.now.parts + length device.now.wires ≤ length evidence.old }

@@ -10,16 +10,16 @@ use minimiser::{Steps, TOTAL_LIMIT};
 use node_store::Graph;
 use std::sync::ledger::Ledger;
 
-/// What the first diagnoses of a graph are like.
+/// What is found of the first diagnoses of a graph.
 #[derive(Clone, Copy, Debug, PartialEq, Eq)]
 pub struct Found {
     /// The cost of each of them.
     pub fewest: u32,
-    /// How many were listed.
+    /// The number that were listed.
     pub listed: u32,
 }
 
-// Lists the diagnoses after the first one, up to so many in all, and gives how many there are then. The last one is in the state.
+// Lists the diagnoses after the first one, up to `most` in all, and returns how many are listed then. The last one is in the state.
 fn list_on<L: Ledger>(
     minimised_graph: &mut MinimisedGraph,
     graph: &Graph,
@@ -57,8 +57,8 @@ fn list_on<L: Ledger>(
     most
 }
 
-/// The least cost over a graph, and how many diagnoses there are, up to `most`. The first one and the last one are written
-/// into the states: 0 if a part is ok, and 1 if it is faulty. `None` if the graph allows no state.
+/// Finds the least cost over a graph, and the number of diagnoses, up to `most`. Writes the first and the last of these into the states: 0
+/// if a part is ok, and 1 if it is faulty. Returns `None` if the graph allows no state.
 ///
 /// The evidence is the same afterwards.
 pub fn sample<L: Ledger>(

@@ -9,7 +9,7 @@ use Rattle.state_rules.proofs.Lists.{range_more}
 use Rattle.elimination_forests.specs.declared.steps.Step.{Step}
 use Rattle.elimination_forests.specs.Forests.{trees, steps_of, chain}
 
--- one tree is below each variable but the last
+-- one tree is below each variable except the last
 pub trees_are : (vs : List ℕ) (i : ℕ) → bool_byte (nat_lt (i + 1) (length vs)) ≡ trees (chain (drop (i + 1) vs))
 trees_are vs i = grind (arith, nat_tests, drop_all (i + 1) vs, drop_more vs (i + 1) 0)
 
@@ -23,6 +23,5 @@ steps_along vs (suc n) i e = grind (arith, drop_more, append-nil, steps_along vs
 pub chain_steps : (vs : List ℕ) → steps_of (chain vs) ≡ map (chain_step vs) (range_with_len 0 (length vs))
 chain_steps vs = steps_along vs (length vs) 0 (omega arith)
 
--- one more item along a range
 pub range_next : {X : Type 0} (f : ℕ → X) (k : ℕ) (xs : List X) (x : X) → xs ≡ map f (range_with_len 0 k) → x ≡ f k → xs ++ x ∷ [] ≡ map f (range_with_len 0 (k + 1))
 range_next f k xs x e g = grind (arith, range_more, map-append)

@@ -16,11 +16,9 @@ use Rattle.elimination_forests.proofs.VariableOrder.{AllOnce, first_met-once}
 
 -- ---- the order as it is found
 
--- a variable more
 pub met : (old vs : List ℕ) (v : ℕ) → old ≡ first_met same_variable vs → insert_key nat_eq old v ≡ first_met same_variable (vs ++ v ∷ [])
 met old vs v e = grind (arith, among-first_met, first_met-push, append-nil)
 
--- where it stands
 place-absent : (vs : List ℕ) (v : ℕ) → among vs v ≡ false → place vs v ≡ length vs
 place-absent [] v e = refl
 place-absent (u ∷ vs) v e = grind (arith, place-absent vs v)

@@ -10,7 +10,7 @@ use Rattle.clause_encoder.specs.Clauses.{Clause}
 use Rattle.elimination_forests.specs.Branches.{order, has_true, is_touched, is_covered, is_active, some_passes, is_dead, size, bits_of, words_of, state_of, without, branch, IsLiving}
 use Rattle.elimination_forests.proofs.LevelSteps.{Known, known, length-known, length-bits_of}
 
--- ---- one clause more
+-- ---- one more clause
 
 some-more : (test : Clause → Bool) (cs : List Clause) (list : List Bool) (k : ℕ) → k < length cs → length list ≡ length cs
     → some_passes test (take (suc k) cs) list ≡ (some_passes test (take k cs) list || (get_or list k false && test (get_or cs k [])))
@@ -24,7 +24,7 @@ bits-more test [] list k h e = absurd (omega arith)
 bits-more test (c ∷ cs) [] k h e = absurd (omega arith)
 bits-more test (c ∷ cs) (b ∷ list) k h e = grind (arith, bits-more test cs list)
 
--- what comes later does not bring a list back
+-- if clause `k` is in the list and passes, the list has a clause that passes
 some-whole : (test : Clause → Bool) (cs : List Clause) (list : List Bool) (k : ℕ) → k < length cs → test (get_or cs k []) ≡ true → get_or list k false ≡ true → some_passes test cs list ≡ true
 some-whole test [] list k h e f = absurd (omega arith)
 some-whole test (c ∷ cs) [] k h e f = absurd (false≢true f)
@@ -41,7 +41,7 @@ without-at test [] list k h e = absurd (omega arith)
 without-at test (c ∷ cs) [] k h e = absurd (omega arith)
 without-at test (c ∷ cs) (b ∷ list) k h e = grind (arith, without-at test cs list)
 
--- Whether a clause is in the list of a state: what has no bit is, what has all bits is not, and the others' bits are one after the other.
+-- Whether a clause is in the list of a state: yes if no variable of it is assigned, no if all are, and otherwise as its bit says.
 in-list : (vs : List ℕ) (i : ℕ) (cs : List Clause) (list : List Bool) (k : ℕ) → Known vs i cs list → k < length cs
     → (not (is_covered vs i (get_or cs k [])) && (not (is_touched vs i (get_or cs k [])) || bit_in (bits_of (is_active vs i) cs list) (length (filter (is_active vs i) (take k cs))))) ≡ get_or list k false
 in-list vs i [] list k h low = absurd (omega arith)
@@ -56,12 +56,11 @@ filter-room test (c ∷ cs) k h e = grind (arith, filter-room test cs)
 byte-one : (b : Bool) → bool_byte b ≡ cond {A = ℕ} b 1 0
 byte-one b = grind arith
 
--- what is counted with one clause more
 pub count-more : (test : Clause → Bool) (cs : List Clause) (k count r : ℕ) (b : Bool) → k < length cs → count ≡ length (filter test (take k cs)) → r ≡ bool_byte b → b ≡ test (get_or cs k [])
     → count + r ≡ length (filter test (take (k + 1) cs))
 count-more test cs k count r b low e is t = grind (arith, byte-one, length-filter_more)
 
--- ---- what a step has done with the first so many clauses
+-- ---- what a step has done with the first `k` clauses
 
 pub record Told (cs : List Clause) (i : ℕ) (bit : Bool) (next : List ℕ) (k : ℕ) (list : List Bool) : Type 0 where
   pub alive : some_passes (is_covered (order cs) (i + 1)) (take k cs) (branch cs i list bit) ≡ false
@@ -72,7 +71,7 @@ pub record IsStepped (cs : List Clause) (i : ℕ) (bit : Bool) (state next : Lis
   pub writes : written ≡ length (filter (is_active (order cs) (i + 1)) (take k cs))
   pub told : (list : List Bool) → IsLiving cs i list → state ≡ state_of cs i list → Told cs i bit next k list
 
--- whether the next clause is left is known
+-- `left` says whether clause `k` is left
 abbrev pub IsLeft : List Clause → ℕ → Bool → List ℕ → ℕ → Bool → Type 0
 IsLeft cs i bit state k left = (list : List Bool) → IsLiving cs i list → state ≡ state_of cs i list → left ≡ get_or (branch cs i list bit) k false
 
@@ -91,7 +90,7 @@ left-at cs vs i v bit state k read d was_in left low ordered e is many reads was
 pub stepped-none : (cs : List Clause) (i : ℕ) (bit : Bool) (state next : List ℕ) → next ≡ words_of (length next) [] → IsStepped cs i bit state next 0 0 0
 stepped-none cs i bit state next e = grind arith
 
--- a clause that is covered and left: the list is dead
+-- if a covered clause is left, the list is dead
 pub stepped-dead : (cs : List Clause) (i : ℕ) (bit : Bool) (state : List ℕ) (k : ℕ) (left : Bool) → k < length cs → IsLeft cs i bit state k left → left ≡ true → is_covered (order cs) (i + 1) (get_or cs k []) ≡ true
     → (list : List Bool) → IsLiving cs i list → state ≡ state_of cs i list → is_dead cs (i + 1) (branch cs i list bit) ≡ true
 stepped-dead cs i bit state k left low is e c list lives s = grind (arith, some-whole)
@@ -115,7 +114,7 @@ module _ (cs : List Clause) (i : ℕ) (bit : Bool) (state next : List ℕ) (k re
   writes-more : (t : Bool) → is_active (order cs) (i + 1) here ≡ t → written + cond {A = ℕ} t 1 0 ≡ length (filter (is_active (order cs) (i + 1)) (take (k + 1) cs))
   writes-more t e = grind (arith, h.writes, length-filter_more (is_active (order cs) (i + 1)) cs k [] low)
 
-  -- a clause that goes on
+  -- a clause that is active at the next level
   pub stepped-on : (after : List ℕ) → is_active (order cs) (i + 1) here ≡ true → length after ≡ length next
       → ((bits : List Bool) → length bits ≡ written → next ≡ words_of (length next) bits → after ≡ words_of (length next) (bits ++ left ∷ []))
       → IsStepped cs i bit state after (k + 1) more (written + 1)
@@ -125,11 +124,11 @@ module _ (cs : List Clause) (i : ℕ) (bit : Bool) (state next : List ℕ) (k re
     told = λ list lives s. grind (arith, is list lives s, h.told list lives s, alive-more list lives s, put (bits_of (is_active (order cs) (i + 1)) (take k cs) (branch cs i list bit)), length-bits_of, long-branch, length-take-le, bits-next list lives true e);
   }
 
-  -- one that does not, and leaves the list alive
+  -- one that is not, and leaves the list living
   pub stepped-off : is_active (order cs) (i + 1) here ≡ false → (left && is_covered (order cs) (i + 1) here) ≡ false → IsStepped cs i bit state next (k + 1) more written
   stepped-off e rest = record { reads = reads; writes = grind (arith, writes-more false e); told = λ list lives s. grind (arith, h.told list lives s, alive-more list lives s rest, append-nil, bits-next list lives false e) }
 
--- all clauses
+-- after all clauses
 pub stepped-all : (cs : List Clause) (i : ℕ) (bit : Bool) (state next : List ℕ) (k read written : ℕ) → length cs ≤ k → IsStepped cs i bit state next k read written
     → (list : List Bool) → IsLiving cs i list → state ≡ state_of cs i list → (is_dead cs (i + 1) (branch cs i list bit) ≡ false) × (next ≡ words_of (length next) (bits_of (is_active (order cs) (i + 1)) cs (branch cs i list bit)))
 stepped-all cs i bit state next k read written all h list lives s = grind (arith, take_all)

@@ -1,4 +1,4 @@
--- The sum of the levels, by that along the forest that is their order.
+-- The sum of the levels, from that along the forest that is their order.
 use Rattle.std.proofs.Common.{◌≡◌, ℕ, ◌+◌, Bool, true, List, arith}
 use Rattle.std.specs.Prelude.{if◌then◌else◌}
 use Rattle.clause_encoder.specs.Clauses.{ClauseList, is_clause_list}

@@ -12,7 +12,7 @@ use indexmap::IndexSet;
 use std::alloc::Global;
 use std::marker::Model;
 
-/// A clause list and a level of it: at level i the first i variables of the order have bits.
+/// A clause list and a level of it: at level i the first i variables of the order are assigned.
 #[derive(Drop)]
 pub struct Branches {
     cnf: Cnf,
@@ -32,7 +32,7 @@ impl Model for Branches {
 }
 
 impl Branches {
-    /// The order of a clause list's variables; level 0.
+    /// Finds the order of a clause list's variables, and begins at level 0.
     pub fn of(alloc: Global, cnf: &Cnf) -> Result<Branches, Memory>
         ensures start { IfOk result (λ b. b ≡ record { cnf = cnf.now; level = 0 }) }
         ensures valid { IfOk result (λ _. is_clause_list cnf.now ≡ true) }
@@ -45,7 +45,7 @@ impl Branches {
         })
     }
 
-    /// The number of variables in the order.
+    /// Returns the number of variables in the order.
     pub fn len(&self) -> u32
         ensures len { result ≡ length (order self.now.cnf.clauses) }
         ensures few { result ≤ self.now.cnf.vars }
@@ -54,7 +54,7 @@ impl Branches {
         self.variables.len() as u32
     }
 
-    /// The present level.
+    /// Returns the present level.
     pub fn level(&self) -> u32
         ensures level { result ≡ self.now.level }
         ensures within { self.now.level ≤ length (order self.now.cnf.clauses) }
@@ -62,7 +62,7 @@ impl Branches {
         self.level
     }
 
-    /// The variable that gets a bit next.
+    /// Returns the variable that is assigned next.
     pub fn var(&self) -> u32
         requires { self.now.level < length (order self.now.cnf.clauses) }
         ensures { result ≡ slice_index (order self.now.cnf.clauses) self.now.level }
@@ -70,7 +70,7 @@ impl Branches {
         self.variables.as_slice()[self.level as usize]
     }
 
-    /// How many words of 64 bits a state of the present level has.
+    /// Returns the number of words of 64 bits in a state of the present level.
     pub fn words(&self) -> u32
         ensures words { result ≡ size self.now.cnf.clauses self.now.level }
         ensures few { result ≤ CLAUSE_LIMIT / 64 + 1 }
@@ -78,7 +78,7 @@ impl Branches {
         words_for(count_active(&self.cnf, &self.variables, self.level))
     }
 
-    /// How many a state of the next level has.
+    /// Returns that number for the next level.
     pub fn after(&self) -> u32
         requires { self.now.level < length (order self.now.cnf.clauses) }
         ensures words { result ≡ size self.now.cnf.clauses (self.now.level + 1) }
@@ -103,10 +103,10 @@ impl Branches {
         self.level -= 1;
     }
 
-    /// What is left when the next variable has a bit: `next` becomes the state of that list, unless the list is dead.
+    /// Writes to `next` the state of the list that is left when the next variable has this bit, or returns false if that list is dead.
     ///
-    /// The clauses are those of `of`, and the state is that of a living list of the present level. If the list that is left is dead,
-    /// `next` may be anything.
+    /// The clauses are those of `of`, and the state is that of a living list of the present level. If the list that is left is dead, `next`
+    /// may be anything.
     pub fn step(&self, cnf: &Cnf, state: &[u64], bit: bool, next: &mut [u64]) -> bool
         requires cnf { cnf.now ≡ self.now.cnf }
         requires level { self.now.level < length (order self.now.cnf.clauses) }
@@ -133,7 +133,6 @@ impl Branches {
     }
 }
 
-// The same clauses.
 fn copy_of(alloc: Global, cnf: &Cnf) -> Result<Cnf, Memory>
     ensures { IfOk result (λ copy. copy ≡ cnf.now) }
 {
@@ -144,7 +143,6 @@ fn copy_of(alloc: Global, cnf: &Cnf) -> Result<Cnf, Memory>
     Cnf::of(alloc, cnf.vars(), clauses)
 }
 
-// How many words hold so many bits.
 fn words_for(bits: u32) -> u32
     requires { bits ≤ CLAUSE_LIMIT }
     ensures words { result ≡ bits / 64 + 1 }

@@ -6,14 +6,14 @@ ghost use Rattle.elimination_forests.specs.Branches.{place, words_of, is_true_by
 use crate::bits::bit_at;
 use indexmap::IndexSet;
 
-// The place of a variable in an order, and the length if it has none.
+// The place of a variable in an order, or the order's length if it is not there.
 fn place(variables: &IndexSet<u32>, variable: u32) -> usize
     ensures { result ≡ place variables.now.keys variable }
 {
     variables.get_index_of(&variable).unwrap_or(variables.len())
 }
 
-// Whether a literal's variable has a bit at a level.
+// Whether a literal's variable is assigned at a level.
 fn has_bit(variables: &IndexSet<u32>, level: u32, literal: &i32) -> bool
     ensures { result ≡ nat_lt (place variables.now.keys (var_of literal.now)) level }
 {
@@ -31,7 +31,7 @@ fn is_touched(variables: &IndexSet<u32>, level: u32, clause: &[i32]) -> bool
     false
 }
 
-// Whether all variables of the clause have bits at a level.
+// Whether all variables of the clause are assigned at a level.
 pub(crate) fn is_covered(variables: &IndexSet<u32>, level: u32, clause: &[i32]) -> bool
     ensures { result ≡ is_covered variables.now.keys level clause.now }
 {
@@ -43,7 +43,7 @@ pub(crate) fn is_covered(variables: &IndexSet<u32>, level: u32, clause: &[i32]) 
     true
 }
 
-// Whether some of them have bits, and some have none.
+// Whether some of them are assigned, and some are not.
 pub(crate) fn is_active(variables: &IndexSet<u32>, level: u32, clause: &[i32]) -> bool
     ensures { result ≡ is_active variables.now.keys level clause.now }
 {
@@ -56,7 +56,7 @@ fn is_true_by(literal: i32, variable: u32, bit: bool) -> bool
     literal.unsigned_abs() == variable && (literal >= 0) == bit
 }
 
-// Whether a literal of the clause is true when the variable has the bit.
+// Whether this bit of the variable makes a literal of the clause true.
 pub(crate) fn has_true(clause: &[i32], variable: u32, bit: bool) -> bool
     ensures { result ≡ has_true variable bit clause.now }
 {
@@ -65,7 +65,7 @@ pub(crate) fn has_true(clause: &[i32], variable: u32, bit: bool) -> bool
         .any(|literal| is_true_by(*literal, variable, bit))
 }
 
-// Whether the clause is in the list of a state of a level. If it is active, its own bit is at this place.
+// Whether the clause is in the list of a state of a level. If it is active, its bit is at this place.
 pub(crate) fn is_in(
     variables: &IndexSet<u32>,
     level: u32,

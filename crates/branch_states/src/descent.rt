@@ -12,17 +12,17 @@ use elimination_forests::{Forks, Step, Weight};
 use forest_states::descend;
 use std::alloc::Global;
 
-/// What is found from level to level of a clause list, along the forest that is its order.
+/// The steps and forks of a clause list's levels, along the chain of its order.
 #[derive(Debug, Drop)]
 pub struct Levels {
     pub steps: Vec<Step>,
-    /// Where the lists of each level lead to, except those of the last one.
+    /// Where the lists of each level lead, except those of the last one.
     pub forks: Vec<Forks>,
 }
 
 /// Goes down all levels of a clause list, if its sum is within a limit.
 ///
-/// Each level's states are found once, and counted as they are. It stops as soon as the sum is above the limit.
+/// It finds the states of each level once and counts them meanwhile. It stops as soon as the sum is above the limit.
 pub fn descend_levels(alloc: Global, cnf: &Cnf, top: u32) -> Result<Levels, MeasureError>
     requires { top ≤ BUDGET_LIMIT }
     ensures steps { IfOk result (λ levels. levels.steps.items ≡ steps_of (chain (order cnf.now.clauses))) }

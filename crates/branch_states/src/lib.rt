@@ -1,4 +1,4 @@
-//! What is left of clauses when their variables get bits one after the other, by the order of the names: the states, and how many there are.
+//! What is left of clauses when their variables are assigned in the order of the names: the states, and how many there are.
 #![tactic(auto)]
 
 mod bits;

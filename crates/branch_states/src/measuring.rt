@@ -11,12 +11,12 @@ use std::alloc::{AllocError, Global};
 /// The largest budget: no greater sum is ever printed.
 pub const BUDGET_LIMIT: u32 = 8_388_608;
 
-/// Why the sum of a clause list is not given.
+/// Why the sum of a clause list is not returned.
 #[derive(Clone, Copy, Debug, PartialEq, Eq)]
 pub enum MeasureError {
     /// It is above the limit.
     Above,
-    /// There was no memory.
+    /// Memory ran out.
     Memory,
 }
 
@@ -28,14 +28,14 @@ impl From<AllocError> for MeasureError {
     }
 }
 
-/// The sum of a clause list: how many words the states of its living lists have, over all levels.
+/// Computes the sum of a clause list: the words of the states of its living lists, over all levels.
 ///
-/// It goes from level to level, keeps the states of two levels at most, and stops as soon as the sum is above the limit.
+/// It goes from level to level, keeps the states of at most two levels, and stops as soon as the sum is above the limit.
 pub fn measure(alloc: Global, cnf: &Cnf, top: u32) -> Result<u32, MeasureError>
     requires { top ≤ BUDGET_LIMIT }
     ensures sum { IfOk result (λ sum. sum ≡ sum_of cnf.now.clauses) }
 
-    // If the sum is above the limit, the answer is an error, and only then the error says so.
+    // If the sum is above the limit, the result is an error, and only then the error is `Above`.
     ensures within { IfOk result (λ sum. sum ≤ top) }
     ensures above { result ≡ Err Above → top < sum_of cnf.now.clauses }
 {
@@ -49,8 +49,8 @@ pub fn measure(alloc: Global, cnf: &Cnf, top: u32) -> Result<u32, MeasureError>
     }
 }
 
-// The sum of the levels, if it is within the limit, by that along their forest. This counts one list for the last level, whether there is
-// one or not.
+// Computes the sum of the levels from that along their forest, which counts a list for the last level even if there is none. Returns none
+// above the limit.
 pub(crate) fn sum_within(found: Measured, top: u32) -> Option<u32>
     requires some { 1 ≤ found.sum }
     requires few { found.sum < 2 ^ 31 }

@@ -8,7 +8,7 @@ use elimination_forests::Step;
 use indexmap::IndexSet;
 use std::alloc::{AllocError, Global};
 
-// The variables of a clause list in the order in which they are first met.
+// Finds the variables of a clause list in the order in which they first occur.
 pub(crate) fn find_order(alloc: Global, cnf: &Cnf) -> Result<IndexSet<u32>, AllocError>
     ensures order { IfOk result (λ found. found.keys ≡ order cnf.now.clauses) }
     ensures valid { is_clause_list cnf.now ≡ true }
@@ -39,7 +39,7 @@ fn meet(variables: &mut IndexSet<u32>, variable: u32) -> Result<(), AllocError>
     Ok(())
 }
 
-/// The steps of the forest that is the order.
+/// Finds the steps of the chain of the order.
 pub(crate) fn find_steps(alloc: Global, cnf: &Cnf) -> Result<Vec<Step>, AllocError>
     ensures steps { IfOk result (λ steps. steps.items ≡ steps_of (chain (order cnf.now.clauses))) }
     ensures valid { is_clause_list cnf.now ≡ true }

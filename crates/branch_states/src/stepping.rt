@@ -9,7 +9,6 @@ use crate::clauses::{has_true, is_active, is_covered, is_in};
 use clause_encoder::Cnf;
 use indexmap::IndexSet;
 
-// How many clauses are active at a level.
 pub(crate) fn count_active(cnf: &Cnf, variables: &IndexSet<u32>, level: u32) -> u32
     requires order { variables.now.keys ≡ order cnf.now.clauses }
     requires most { length cnf.now.clauses ≤ CLAUSE_LIMIT }
@@ -23,7 +22,7 @@ pub(crate) fn count_active(cnf: &Cnf, variables: &IndexSet<u32>, level: u32) -> 
     count
 }
 
-// Makes `next` the state of what is left when the variable of a level has the bit, or answers that it is dead.
+// Writes to `next` the state of what is left when the variable of a level has the bit, or returns false if that is dead.
 pub(crate) fn step_over(
     cnf: &Cnf,
     variables: &IndexSet<u32>,

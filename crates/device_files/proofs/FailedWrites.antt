@@ -1,4 +1,4 @@
--- What was given, if all of it was put or a write failed.
+-- What a run gave, if all of it was written or a write failed.
 use Rattle.std.proofs.Common.{◌≡◌, ◌≢◌, ◌≤◌, ◌-◌, ℕ, List, [], ◌∷◌, ◌++◌, map, length, take, drop, get_or, take_all, Option, Result, Ok, Err, IsErr, refl, sym, ap, ◌∙◌, subst, arith}
 use Rattle.std.specs.Prelude.{MatchResult}
 use Rattle.std.specs.Io.KnownBytes.{Appends}
@@ -66,7 +66,7 @@ refusal_begun refusal s a b five part =
 
 pub ruleset gives_refusal = (refusal_given, refusal_begun)
 
--- ---- lines, one after the other
+-- ---- lines in turn
 
 pub line_replies : {T E : Type 0} (text : List ℕ) (a b : Option (List ℕ)) (r : Result T E) → Puts a b r text → Replies a b r (Plain text ∷ [])
 line_replies text a b r put = replies_one a b r (Plain text) text refl put
@@ -76,7 +76,7 @@ pub replies_then : {T E : Type 0} (xs ys : List Item) (a b c : Option (List ℕ)
 replies_then xs ys a b c (Ok v) first rest = writes_more a b c xs ys first rest
 replies_then xs ys a b c (Err e) first rest = part_after a b c xs ys first rest
 
--- while the first ones were put a write failed
+-- a write failed during the first ones
 pub replies_cut : {T E : Type 0} (xs ys : List Item) (a b : Option (List ℕ)) (r : Result T E) → IsErr r → HaveSpellings ys → WritesPart a b xs → Replies a b r (xs ++ ys)
 replies_cut xs ys a b (Ok v) is have first = absurd (let no : ⊥ = cc in no)
 replies_cut xs ys a b (Err e) is have first = part_more a b xs ys first have
@@ -90,7 +90,7 @@ counts-have : (counts : List Count) → HaveSpellings (map line_of counts)
 counts-have [] = tt
 counts-have (count ∷ counts) = ((_, refl), counts-have counts)
 
--- what is first, and what is after it
+-- the first item, and the others
 first_and_rest : {A B : Type 0} (f : A → B) (xs : List A) (x : A) → 1 ≤ length xs → f (get_or xs 0 x) ∷ map f (take (length xs - 1) (drop 1 xs)) ≡ map f xs
 first_and_rest f [] x some = absurd (omega (arith, some))
 first_and_rest f (y ∷ xs) x some = ap (λ ys. f y ∷ map f ys) (take_all (length (y ∷ xs) - 1) xs (omega arith))

@@ -1,4 +1,4 @@
--- By which choice of forests a run goes.
+-- The choice of forests that a run uses.
 use Rattle.std.proofs.Common.{◌≡◌, ◌<◌, ◌≤◌, ℕ, Bool, true, false, Option, None, Some, Result, Ok, Err, nat_lt, refl, sym, ap, subst, arith}
 use Rattle.std.specs.Prelude.{IfOk, IfErr}
 use Rattle.std.specs.Option.{option_map_or}
@@ -21,7 +21,7 @@ use Rattle.device_files.specs.Refusals.{refusal_output}
 use Rattle.device_files.specs.Choices.{Weighed, weighed_by, ByForest, ByClauses, IsChosen, HasSum, IsListOf}
 use Rattle.device_files.specs.Weighing.{within, sum_line}
 
--- what holds by every choice holds by the order of the names
+-- what holds by every choice of forests holds by some
 pub by_any : {Holds : (ClauseList → Option Forest) → Type 0} → ((choose : ClauseList → Option Forest) → Holds choose) → ByForest Holds
 by_any each = record { choose = λ list. None; narrows = λ list. tt; holds = each (λ list. None) }
 
@@ -50,7 +50,7 @@ module _ (list : ClauseList) where
         holds = subst (λ chosen. FulfilsOutput (record { list = list; sum = option_map_or (λ f. forest_sum Lists f list.clauses) chosen (sum_of list.clauses) })) (sym (choice_finds list forest is.1.narrow)) (given (forest_sum Lists forest list.clauses) (is.1, refl));
       }
 
--- the same of the clauses of a device
+-- the same for the clauses of a device
 pub list_gives : (narrow : Bool) (device : Device) (list : ClauseList) (chosen : Option Narrowed) → IsListOf device list → IsChosen narrow list chosen → (FulfilsOutput : Result Weighed EncodeError → Type 0)
     → ((sum : ℕ) → HasSum list chosen sum → FulfilsOutput (Ok (record { list = list; sum = sum }))) → ByClauses narrow (λ clauses. FulfilsOutput (clauses device))
 list_gives narrow device list chosen of is FulfilsOutput given =

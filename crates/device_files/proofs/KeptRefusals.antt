@@ -9,7 +9,7 @@ use Rattle.device_files.specs.Choices.{Weighed}
 use Rattle.device_files.specs.Weighing.{within, output_within}
 use Rattle.device_files.specs.Refusals.{or_memory}
 
--- what is not found is not gone on with
+-- a refusal stays if more is to follow
 pub refused_then : {A B : Type 0} (next : A → Result B Output) (found : Result A Output) (fault : Option Output) → IsExpectedFault fault found → IsExpectedFault fault (result_and_then next found)
 refused_then next found None is = tt
 refused_then next found (Some output) is = ap (result_and_then next) is

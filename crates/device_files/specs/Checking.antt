@@ -1,4 +1,4 @@
--- The graph that an `.nnf` text writes, or what is said of a text that gives none.
+-- The graph that an `.nnf` text writes, or the output that refuses a text that writes none.
 use Rattle.std.specs.Prelude.{ℕ, List, [], ◌∷◌, Result, codes}
 use Rattle.std.specs.Fmt.{decimal}
 use Rattle.text_rules.specs.Tokens.{spaced}

@@ -1,4 +1,4 @@
--- Which sum of clauses a budget limits: that by the order of their names, or that along a forest.
+-- Which sum of clauses a budget limits: by the order of their names, or along a forest.
 use Rattle.std.specs.Prelude.{◌≡◌, ℕ, Bool, true, Option, None, Some, Result, Ok, if◌then◌else◌}
 use Rattle.std.specs.Option.{option_map_or}
 use Rattle.std.specs.Result.{result_map_both}
@@ -17,30 +17,30 @@ pub record Weighed : Type 0 where
   pub list : ClauseList
   pub sum : ℕ
 
--- along the forest that is chosen for them, if that is asked for and one is; otherwise by the order of their names
+-- clauses and their sum: along the forest that is chosen for them, if that is asked for and one is; otherwise by the order of their names
 abbrev pub weighed_by : Bool → (ClauseList → Option Forest) → ClauseList → Weighed
 weighed_by narrow choose cnf = record {
   list = cnf;
   sum = option_map_or (λ forest. forest_sum Lists forest cnf.clauses) (if narrow then choose cnf else None) (sum_of cnf.clauses);
 }
 
--- and those of a device
+-- the clauses of a device and their sum
 abbrev pub clauses_by : Bool → (ClauseList → Option Forest) → Device → Result Weighed EncodeError
 clauses_by narrow choose device = result_map_both (weighed_by narrow choose) (λ error. error) (encoded device)
 
--- Something holds by some choice of forests, along which no sum is greater than by the order of the names.
+-- `Holds` is true for some choice of forests, along which no sum is greater than by the order of the names.
 pub record ByForest (Holds : (ClauseList → Option Forest) → Type 0) : Type 0 where
   pub choose : ClauseList → Option Forest
   pub narrows : Narrows choose
   pub holds : Holds choose
 
--- or by the clauses of devices, weighed by such a choice if that is asked for
+-- `Holds` is true for the clauses of devices, weighed by such a choice if that is asked for
 abbrev pub ByClauses : Bool → ((Device → Result Weighed EncodeError) → Type 0) → Type 0
 ByClauses narrow Holds = ByForest (λ choose. Holds (clauses_by narrow choose))
 
 -- ---- what is found
 
--- such a forest or none, and none if none is asked for
+-- such a forest, or none; none if none is asked for
 abbrev pub IsChosen : Bool → ClauseList → Option Narrowed → Type 0
 IsChosen narrow list None = Unit {0}
 IsChosen narrow list (Some found) = (narrow ≡ true) × IsFound list found

@@ -1,4 +1,4 @@
--- The device that a file describes, or what is said of a file that gives none.
+-- The device that a file describes, or the output that refuses a file that describes none.
 use Rattle.std.specs.Prelude.{ℕ, List, Result, codes, if◌then◌else◌}
 use Rattle.std.specs.Result.{result_map_both}
 use Rattle.device_model.specs.declared.limits.TheConstants.{NAME_LIMIT, PART_LIMIT, WIRE_LIMIT}

@@ -1,4 +1,4 @@
--- What is printed of a file alone, with no script: how large a device is, and that a text is a decomposable graph.
+-- What is printed of a file alone, without a script: the size of a device, and that a text is a decomposable graph.
 use Rattle.std.specs.Prelude.{ℕ, Bool, List, [], ◌∷◌, length, Option, None, codes, if◌then◌else◌}
 use Rattle.std.specs.Bool.{then_some}
 use Rattle.std.specs.Fmt.{decimal}
@@ -22,7 +22,7 @@ use Rattle.device_files.specs.Weighing.{output_within}
 
 -- ---- words
 
--- the inspection that a word asks for, of a file with this path, and along a forest if that is asked for
+-- the inspection that a word asks for, if it is for files with this path; `narrow` asks for a forest
 abbrev pub inspection_named : List ℕ → List ℕ → Bool → Option Inspection
 inspection_named word path narrow =
     if same_name word (codes "plan") then then_some (is_device_path path) (Plan narrow)
@@ -35,7 +35,7 @@ inspection_named word path narrow =
 abbrev pub count_line : List ℕ → ℕ → Item
 count_line what count = line (what ∷ decimal count ∷ [])
 
--- how many parts, wires and clauses there are, and the sum of the clauses
+-- the numbers of parts, wires and clauses, and the sum of the clauses
 abbrev pub planned : Device → Weighed → Output
 planned device weighed = record {
   items = count_line (codes "parts") (length device.parts) ∷ count_line (codes "wires") (length device.wires)
@@ -45,13 +45,13 @@ planned device weighed = record {
 
 -- ---- a graph is checked
 
--- how many nodes, children and variables a decomposable graph has
+-- the numbers of nodes, children and variables of a decomposable graph
 abbrev pub decomposable_output : Graph → Output
 decomposable_output graph = says (spaced (codes "decomposable" ∷ decimal (length graph.nodes) ∷ decimal (edges graph.nodes) ∷ decimal graph.vars ∷ [])) Done
 
 -- ---- all inspections
 
--- what each prints of a file, by the choice of forests, if one is asked for
+-- what each prints of a file; `choose` chooses forests, if one is asked for
 abbrev pub inspected : (ClauseList → Option Forest) → List ℕ → Inspection → List ℕ → Output
 inspected choose path (Plan narrow) file = output_within BUDGET_LIMIT (clauses_by narrow choose) planned (described path file)
 inspected choose path Check file = output_or_refusal decomposable_output (graph_in file)

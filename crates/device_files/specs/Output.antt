@@ -15,7 +15,7 @@ pub record Output : Type 0 where
 abbrev pub says : List ℕ → Status → Output
 says text status = record { items = Plain text ∷ []; status = status }
 
--- the line saying that something has more bytes than it may have
+-- the line of something that has more bytes than it may have
 abbrev pub too_long_line : List ℕ → ℕ → List ℕ
 too_long_line what limit = spaced (codes "error:" ∷ what ∷ codes "above" ∷ decimal limit ∷ codes "bytes" ∷ [])
 
@@ -40,8 +40,8 @@ output_or_refusal told (Err output) = output
 
 -- ---- what a run gives
 
--- A run that is to give an output ends with its status, and what it writes, if the sink shows it, spells the items of the
--- output. If a write failed, what it wrote begins such a text.
+-- A run fulfils an output if it ends with its status and, if the sink shows what it writes, this spells the items of the output. If a write
+-- failed, what it wrote begins such a text.
 pub record FulfilsOutput (output : Output) (status : Status) (before after : Option (List ℕ)) : Type 0 where
   pub whole : status ≢ WriteFailed → (status ≡ output.status) × Writes before after output.items
   pub broken : status ≡ WriteFailed → WritesPart before after output.items

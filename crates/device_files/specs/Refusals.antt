@@ -1,4 +1,4 @@
--- Why a file gives nothing of what the words ask for, and what is printed of it.
+-- Why a file does not give what the words ask for, and what is printed then.
 use Rattle.std.specs.Prelude.{ℕ, List, Option, Some, None, Result, unwrap_or}
 use Rattle.text_rules.specs.Expected.{Fulfils}
 use Rattle.diag_edge.specs.ErrorLines.{fault_line, above_line}
@@ -22,7 +22,7 @@ refusal_line (Above what count limit) = above_line what.now count limit
 refusal_line (Sum budget) = sum_line budget
 refusal_line Memory = no_memory_line
 
--- and the status that goes with it
+-- the status of a refusal
 abbrev pub refusal_status : Refusal → Status
 refusal_status (Sum budget) = AboveBudget
 refusal_status Memory = NoMemory
@@ -36,6 +36,6 @@ refusal_output refusal = Some (says (refusal_line refusal) (refusal_status refus
 abbrev pub or_memory : Option Output → Output
 or_memory told = unwrap_or told no_memory
 
--- An `Ok` is what is expected, or a refusal has the output that is.
+-- An `Ok` is what is expected, or a refusal has the expected output.
 abbrev pub FulfilsOrRefuses : {A : Type 0} → Result A Output → Result A Refusal → Type 0
 FulfilsOrRefuses expected result = Fulfils (λ found. found) refusal_output expected result

@@ -13,7 +13,7 @@ use node_store::Graph;
 use std::alloc::Global;
 use text_rules::TEXT_LIMIT;
 
-// The refusal of a fault of a line.
+// The refusal of a faulty line.
 fn at_line(line: u32, number: u32, name: &'static str) -> Refusal
     ensures { refusal_output result ≡ Some (says (fault_line line number name.now) Status.Refused) }
 {
@@ -39,7 +39,7 @@ fn refused(error: NnfError) -> Refusal
     }
 }
 
-/// The decomposable graph that the text of a file writes. An error says why there is none.
+/// Reads the decomposable graph that the text of a file writes. An error says why there is none.
 pub fn graph_in(alloc: Global, file: &[u8]) -> Result<Graph, Refusal>
     requires { length file.now ≤ TEXT_LIMIT }
     ensures graph { FulfilsOrRefuses (graph_in file.now) result }

@@ -18,7 +18,7 @@ use flattener::{FlattenError, INSTANCE_LIMIT, flatten};
 use std::alloc::Global;
 use text_rules::TEXT_LIMIT;
 
-/// The refusal of a netlist that has a fault, or for which there was no memory.
+/// Returns the refusal of a netlist that has a fault, or for which memory ran out.
 pub fn netlist_refusal(error: BenchError) -> Refusal
     ensures { refusal_output result ≡ option_map (λ fault. says (netlist_line fault) Status.Refused) (told error) }
 {
@@ -32,7 +32,7 @@ pub fn netlist_refusal(error: BenchError) -> Refusal
     }
 }
 
-/// The device that the text of a netlist describes. An error says why there is none.
+/// Reads the device that the text of a netlist describes. An error says why there is none.
 pub fn netlist_device(alloc: Global, text: &[u8]) -> Result<Device, Refusal>
     requires { length text.now ≤ TEXT_LIMIT }
     ensures { FulfilsOrRefuses (or_line netlist_line (netlist text.now)) result }
@@ -71,8 +71,8 @@ fn design_device(alloc: Global, text: &[u8]) -> Result<Device, Refusal>
     }
 }
 
-/// The device that a text describes, by the ending of its file's path: a design if this is `.dev`, else a netlist. An error says
-/// why there is none.
+/// Reads the device that a text describes: a design if the path of its file ends in `.dev`, otherwise a netlist. An error says why there is
+/// none.
 pub fn described(alloc: Global, path: &str, text: &[u8]) -> Result<Device, Refusal>
     requires { length text.now ≤ TEXT_LIMIT }
     ensures { FulfilsOrRefuses (described path.now text.now) result }

@@ -1,4 +1,4 @@
-//! What is printed about a file alone, with no script.
+//! What is printed about a file alone, without a script.
 ghost use Rattle.std.specs.Prelude.{◌≡◌, ◌≢◌, ◌⊎◌, ◌-◌, ◌^◌, ◌<◌, ◌≤◌, [], ◌∷◌, map, length};
 ghost use Rattle.diag_edge.specs.Edge.{HasCause, RoseExactly};
 ghost use Rattle.session_rules.specs.Spelling.{Replies};
@@ -24,24 +24,24 @@ use text_rules::TEXT_LIMIT;
 /// What is printed about a file alone.
 #[derive(Clone, Copy, Debug)]
 pub enum Inspection {
-    /// `plan`: how large a device is, and the sum that the budget limits.
+    /// `plan`: the size of a device, and the sum that the budget limits.
     Plan { narrow: bool },
-    /// `check`: whether the text of a graph is decomposable, and how large it is.
+    /// `check`: whether the text of a graph is decomposable, and its size.
     Check,
 }
 
 /// A number, and what it counts.
 #[derive(Clone, Copy, Debug)]
 pub struct Count<'a> {
-    /// The word for that, as it is put.
+    /// The word for that, as it is written.
     pub what: &'a [u8],
-    /// The number, which is put in decimal digits.
+    /// The number, which is written in decimal digits.
     pub number: u64,
 }
 
 impl Inspection {
-    /// The inspection of this word, if there is one and it is for files with such an ending. `narrow` asks `plan` to go along a forest;
-    /// `check` does not.
+    /// Returns the inspection that a word names, if it is for files with the ending of this path. `narrow` asks `plan` to use a forest;
+    /// `check` ignores it.
     pub fn named(word: &str, path: &str, narrow: bool) -> Option<Inspection>
         ensures { result ≡ inspection_named word.now path.now narrow }
     {
@@ -53,7 +53,7 @@ impl Inspection {
     }
 }
 
-/// Puts a line of a word and a number. An error says that a write failed.
+/// Writes a line of a word and a number. An error says that a write failed.
 #[tactic(auto, using(crate::proofs::FailedWrites::line_replies))]
 pub fn put_count<O: Sink>(out: &mut O, what: &[u8], count: u64) -> Result<(), WriteFailed>
     ensures text { Replies (O.got out.old) (O.got out.new) result (count_line what.now count ∷ []) }
@@ -62,7 +62,7 @@ pub fn put_count<O: Sink>(out: &mut O, what: &[u8], count: u64) -> Result<(), Wr
     put_line(out, &[what, Buffer::new().format(count).as_bytes()])
 }
 
-/// Puts a line for each count, in their order. An error says that a write failed, and that a beginning of these lines was written.
+/// Writes a line for each count, in their order. An error says that a write failed, and that a beginning of these lines was written.
 pub fn put_counts<O: Sink>(out: &mut O, counts: &[Count<'_>]) -> Result<(), WriteFailed>
     ensures text { Replies (O.got out.old) (O.got out.new) result (map (λ count. count_line count.what.now count.number) counts.now) }
     ensures cause { HasCause (O.faults out.old) (O.faults out.new) result }
@@ -74,7 +74,7 @@ pub fn put_counts<O: Sink>(out: &mut O, counts: &[Count<'_>]) -> Result<(), Writ
     put_counts(out, rest)
 }
 
-// Prints the sizes of a device, of its clauses and their sum, and answers `Done`, or `WriteFailed`.
+// Writes the sizes of a device, of its clauses and their sum, and returns `Done`, or `WriteFailed`.
 #[tactic(auto, using(crate::proofs::FailedWrites::gives_items))]
 fn tell_sizes<O: Sink>(out: &mut O, device: &Device, cnf: &Cnf, sum: u32) -> Status
     requires faults { O.faults out.old < 2 ^ 64 - 1 }
@@ -106,7 +106,7 @@ fn tell_sizes<O: Sink>(out: &mut O, device: &Device, cnf: &Cnf, sum: u32) -> Sta
     }
 }
 
-// Prints the sizes of a decomposable graph and answers `Done`, or `WriteFailed`.
+// Writes the sizes of a decomposable graph and returns `Done`, or `WriteFailed`.
 #[tactic(auto, using(crate::proofs::FailedWrites::gives_line))]
 fn tell_graph<O: Sink>(out: &mut O, graph: &Graph) -> Status
     requires faults { O.faults out.old < 2 ^ 64 - 1 }
@@ -128,7 +128,7 @@ fn tell_graph<O: Sink>(out: &mut O, graph: &Graph) -> Status
     }
 }
 
-// Prints how large the device of a file is, or why that cannot be found, and answers the status.
+// Writes how large the device of a file is, or why that cannot be found, and returns the status.
 fn plan_file<O: Sink>(alloc: Global, path: &str, file: &[u8], narrow: bool, out: &mut O) -> Status
     requires short { length file.now ≤ TEXT_LIMIT }
     requires faults { O.faults out.old < 2 ^ 64 - 1 }
@@ -149,7 +149,7 @@ fn plan_file<O: Sink>(alloc: Global, path: &str, file: &[u8], narrow: bool, out:
     }
 }
 
-// Prints whether the text of a file is a decomposable graph, and answers the status.
+// Writes whether the text of a file is a decomposable graph, and returns the status.
 fn check_file<O: Sink>(alloc: Global, path: &str, file: &[u8], out: &mut O) -> Status
     requires short { length file.now ≤ TEXT_LIMIT }
     requires faults { O.faults out.old < 2 ^ 64 - 1 }
@@ -166,8 +166,8 @@ fn check_file<O: Sink>(alloc: Global, path: &str, file: &[u8], out: &mut O) -> S
     }
 }
 
-/// Prints what an inspection of a file, of at most `TEXT_LIMIT` bytes, gives: `Done`; or why it gives nothing: `Refused`,
-/// `AboveBudget` or `NoMemory`; or `WriteFailed`.
+/// Writes what an inspection of a file, of at most `TEXT_LIMIT` bytes, gives, and returns `Done`; or writes why it gives nothing, and
+/// returns `Refused`, `AboveBudget` or `NoMemory`. Returns `WriteFailed` if a write failed.
 pub fn inspect_file<O: Sink>(
     alloc: Global,
     path: &str,

@@ -1,4 +1,4 @@
-//! What a file is: the device that it describes, its clauses and their sum, or a graph; else the line that refuses it.
+//! What a file is: the device that it describes, its clauses and their sum, or a graph; or the line that refuses it.
 #![tactic(auto)]
 
 mod checking;

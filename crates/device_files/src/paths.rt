@@ -1,8 +1,8 @@
-//! What a file is by the ending of its path.
+//! What a file is, by the ending of its path.
 ghost use Rattle.std.specs.Prelude.{◌≡◌, codes};
 ghost use Rattle.device_files.specs.Paths.{ends_in, is_device_path};
 
-// Whether something is before an ending.
+// Whether a path ends with `ending`, after at least one more byte.
 fn ends_in(ending: &[u8], path: &str) -> bool
     ensures { result ≡ ends_in ending.now path.now }
 {
@@ -23,7 +23,7 @@ pub fn is_netlist_path(path: &str) -> bool
     ends_in(b".bench", path)
 }
 
-/// Whether a file is of a device, as a netlist or as a design.
+/// Whether a file describes a device, as a netlist or as a design.
 pub fn is_device_path(path: &str) -> bool
     ensures { result ≡ is_device_path path.now }
 {

@@ -14,7 +14,7 @@ use itoa::Buffer;
 use nnf_text::BITS_LIMIT;
 use std::alloc::AllocError;
 
-/// Why a file gives nothing of what the words ask for.
+/// Why a file does not give what the words ask for.
 #[derive(Clone, Copy, Debug, PartialEq, Eq)]
 pub enum Refusal {
     /// The text has a fault: its line, its number and its name.
@@ -25,16 +25,16 @@ pub enum Refusal {
     },
     /// A graph's text has no header.
     Header,
-    /// The header says another number of nodes, or else of edges.
+    /// The header has a wrong number of nodes, or else of edges.
     Counts {
         said: u64,
         found: u64,
     },
-    /// A graph has more nodes times variables than may be.
+    /// Nodes times variables of a graph are above the limit.
     Bits {
         bits: u64,
     },
-    /// Two children of an and share a variable.
+    /// Two children of an And node share a variable.
     Shared {
         node: u32,
         variable: u32,
@@ -49,7 +49,7 @@ pub enum Refusal {
     Sum {
         budget: u32,
     },
-    /// There was no memory.
+    /// Memory ran out.
     Memory,
 }
 
@@ -62,7 +62,6 @@ impl From<AllocError> for Refusal {
 }
 
 impl Refusal {
-    // The status that goes with it.
     fn status(self) -> Status
         ensures { result ≡ refusal_status self }
     {
@@ -74,7 +73,7 @@ impl Refusal {
     }
 }
 
-/// The refusal of a count above its limit.
+/// Returns the refusal of a count above its limit.
 pub fn above(what: &'static str, count: u64, limit: usize) -> Refusal
     ensures { refusal_output result ≡ Some (says (above_line what.now count limit) Status.Refused) }
 {
@@ -85,7 +84,6 @@ pub fn above(what: &'static str, count: u64, limit: usize) -> Refusal
     }
 }
 
-// The line of numbers that are not those said.
 fn put_counts<O: Sink>(out: &mut O, said: u64, found: u64) -> Result<(), WriteFailed>
     ensures text { Puts (O.got out.old) (O.got out.new) result (graph_fault_line (Counts said found)) }
     ensures cause { HasCause (O.faults out.old) (O.faults out.new) result }
@@ -100,7 +98,6 @@ fn put_counts<O: Sink>(out: &mut O, said: u64, found: u64) -> Result<(), WriteFa
     )
 }
 
-// The line of a graph that is too large.
 fn put_bits<O: Sink>(out: &mut O, bits: u64) -> Result<(), WriteFailed>
     ensures text { Puts (O.got out.old) (O.got out.new) result (graph_fault_line (TooLarge bits)) }
     ensures cause { HasCause (O.faults out.old) (O.faults out.new) result }
@@ -116,7 +113,6 @@ fn put_bits<O: Sink>(out: &mut O, bits: u64) -> Result<(), WriteFailed>
     )
 }
 
-// The line of a shared variable.
 fn put_shared<O: Sink>(out: &mut O, node: u32, variable: u32) -> Result<(), WriteFailed>
     ensures text { Puts (O.got out.old) (O.got out.new) result (graph_fault_line (Shared node variable)) }
     ensures cause { HasCause (O.faults out.old) (O.faults out.new) result }
@@ -132,7 +128,6 @@ fn put_shared<O: Sink>(out: &mut O, node: u32, variable: u32) -> Result<(), Writ
     )
 }
 
-// The line of a sum above the budget.
 fn put_sum<O: Sink>(out: &mut O, budget: u32) -> Result<(), WriteFailed>
     ensures text { Puts (O.got out.old) (O.got out.new) result (sum_line budget) }
     ensures cause { HasCause (O.faults out.old) (O.faults out.new) result }
@@ -143,7 +138,6 @@ fn put_sum<O: Sink>(out: &mut O, budget: u32) -> Result<(), WriteFailed>
     )
 }
 
-// The line of a refusal.
 fn put_refusal<O: Sink>(out: &mut O, refusal: Refusal) -> Result<(), WriteFailed>
     ensures text { Puts (O.got out.old) (O.got out.new) result (refusal_line refusal) }
     ensures cause { HasCause (O.faults out.old) (O.faults out.new) result }
@@ -160,7 +154,7 @@ fn put_refusal<O: Sink>(out: &mut O, refusal: Refusal) -> Result<(), WriteFailed
     }
 }
 
-/// Prints a refusal and answers the status, `WriteFailed` if the write failed.
+/// Writes a refusal and returns its status, or `WriteFailed` if the write failed.
 #[tactic(auto, using(crate::proofs::FailedWrites::gives_refusal))]
 pub fn tell<O: Sink>(out: &mut O, refusal: Refusal) -> Status
     requires faults { O.faults out.old < 2 ^ 64 - 1 }

@@ -16,14 +16,14 @@ pub enum Status {
     ReadFailed,
     /// A write failed.
     WriteFailed,
-    /// There was no memory.
+    /// Memory ran out.
     NoMemory,
-    /// The script was cut if it had as many bytes as may be.
+    /// The script had as many bytes as may be, and was cut if it had more.
     CutShort,
 }
 
 impl Status {
-    /// The number that a process ends with.
+    /// Returns the number that a process ends with.
     pub fn number(self) -> u8
         ensures { result ≡ number_of self }
     {

@@ -15,7 +15,7 @@ use device_model::Device;
 use std::alloc::Global;
 use tree_finder::{Narrowed, narrow};
 
-/// The clauses of a device. An error says that there are too many, whatever the budget, or that memory ran out.
+/// Returns the clauses of a device. An error says that there are too many, whatever the budget, or that memory ran out.
 pub fn clauses_of(alloc: Global, device: &Device) -> Result<Cnf, Refusal>
     ensures list { IfOk result (IsListOf device.now) }
     ensures fault { IfErr result (λ refusal. (is_narrow : Bool) (choose : ClauseList → Option Forest) (budget : ℕ)
@@ -30,7 +30,7 @@ pub fn clauses_of(alloc: Global, device: &Device) -> Result<Cnf, Refusal>
     }
 }
 
-/// The forest along which clauses are compiled, if one is asked for and found; otherwise that is by the order of their names.
+/// Returns the forest along which clauses are compiled, if one is asked for and found; otherwise the order of their names is used.
 pub fn forest_of(alloc: Global, cnf: &Cnf, is_narrow: bool) -> Result<Option<Narrowed>, Memory>
     ensures { IfOk result (IsChosen is_narrow cnf.now) }
 {
@@ -40,7 +40,7 @@ pub fn forest_of(alloc: Global, cnf: &Cnf, is_narrow: bool) -> Result<Option<Nar
     narrow(alloc, cnf)
 }
 
-/// The clauses of a device, and the forest along which they are compiled, if one is asked for and found. An error says that there
+/// Returns the clauses of a device, and the forest along which they are compiled, if one is asked for and found. An error says that there
 /// are too many clauses, whatever the budget, or that memory ran out.
 pub fn clauses_along(
     alloc: Global,
@@ -57,7 +57,7 @@ pub fn clauses_along(
     Ok((cnf, forest))
 }
 
-/// The clauses of a device and their sum, if it is within a budget.
+/// Returns the clauses of a device and their sum, if it is within a budget.
 pub(crate) fn clauses_within(
     alloc: Global,
     device: &Device,
@@ -73,7 +73,7 @@ pub(crate) fn clauses_within(
     Ok((cnf, sum))
 }
 
-/// The sum of clauses by the order of their names, or along a forest that was found for them, if it is within a budget.
+/// Returns the sum of clauses by the order of their names, or along a forest that was found for them, if it is within a budget.
 pub fn sum_within(
     alloc: Global,
     cnf: &Cnf,
@@ -92,7 +92,7 @@ pub fn sum_within(
     }
 }
 
-/// The sum along a forest that was found, if it is within a budget.
+/// Returns the sum along a forest that was found, if it is within a budget.
 pub fn found_within(found: &Narrowed, budget: u32) -> Result<u32, Refusal>
     ensures sum { IfOk result (λ sum. sum ≡ found.now.sum) }
     ensures few { IfOk result (λ sum. sum ≤ budget) }

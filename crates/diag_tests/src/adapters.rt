@@ -4,7 +4,7 @@ use std::io::{ErrorKind, Read, Write};
 use std::test::Fail;
 use system_edge::{StdSink, StdSource};
 
-/// Moves at most three bytes a call, and is interrupted at each second call.
+/// Moves at most three bytes a call. Every other call is interrupted.
 #[derive(Drop)]
 struct Slow<T> {
     inner: T,

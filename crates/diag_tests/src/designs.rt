@@ -3,7 +3,7 @@ use crate::files::{DEAR, EQUAL, FREE, VALVE};
 use crate::rows::Row;
 
 pub static DESIGNS: [Row<'static>; 19] = [
-    // No clause has the part, whose failure costs 1 all the same.
+    // No clause has the part, but its failure still costs 1.
     Row {
         name: "f.dev",
         text: FREE,
@@ -22,7 +22,7 @@ pub static DESIGNS: [Row<'static>; 19] = [
                  S inconsistent\nS inconsistent\nS ok\nS min 0\nS ok\nS ok\nS min 1 u\n",
         status: 0,
     },
-    // One failure of p costs as much as those of q and r together, so there are two diagnoses at the cost 2.
+    // The failure of p costs as much as those of q and r together, so there are two diagnoses at the cost 2.
     Row {
         name: "f.dev",
         text: b"type C a y\nok 00\nok 11\ncost 2\nend\ntype D a y\nok 00\nok 11\nend\nblock M a c d\nwire b\n\
@@ -34,7 +34,7 @@ pub static DESIGNS: [Row<'static>; 19] = [
                  S min 2 q r\nS ok\nS min 1 q\n",
         status: 0,
     },
-    // A part of which no clause says anything may be faulty too.
+    // A part that is in no clause may be faulty too.
     Row {
         name: "f.dev",
         text: FREE,
@@ -57,7 +57,7 @@ pub static DESIGNS: [Row<'static>; 19] = [
                  S diag m.u w\nS end\nS ok\nS ok\nS diag m.v\nS end\nS ok\nS inconsistent\n",
         status: 0,
     },
-    // A full adder of two half adders. One and one carry, which was not seen.
+    // A full adder of two half adders. One and one should carry, but no carry is seen.
     Row {
         name: "f.dev",
         text: b"block HALF a b sum carry\npart x XOR a b sum\npart g AND a b carry\nend\n\
@@ -72,8 +72,8 @@ pub static DESIGNS: [Row<'static>; 19] = [
                  S end\n",
         status: 0,
     },
-    // One of p and q is faulty, which come one after the other, and nothing is said of r. Where both cost as much there are
-    // two diagnoses, after any state.
+    // One of p and q, which are in a row, is faulty, and r may be anything. Both cost the same, so there are two diagnoses. The listing
+    // goes on after any state.
     Row {
         name: "f.dev",
         text: EQUAL,
@@ -87,7 +87,7 @@ pub static DESIGNS: [Row<'static>; 19] = [
                  S inconsistent\nS ok\nS probe y 0 -\nS blame p never\nS blame q never\nS blame r never\nS end\n",
         status: 0,
     },
-    // The cheaper one of both is the diagnosis, and a part that is held to be faulty costs all the same.
+    // The cheaper of both is the diagnosis, and a part that is held to be faulty still has its cost.
     Row {
         name: "f.dev",
         text: DEAR,
@@ -102,7 +102,7 @@ pub static DESIGNS: [Row<'static>; 19] = [
                  S probe b 12 9\nS blame p always\nS blame q never\nS blame r always\nS end\n",
         status: 0,
     },
-    // Both are faulty if the wire between them is seen too. If the end is not seen it has a cost by each of its values.
+    // Both are faulty if the wire between them is seen too. If the end is not seen, each of its values has a cost.
     Row {
         name: "f.dev",
         text: DEAR,
@@ -136,7 +136,7 @@ pub static DESIGNS: [Row<'static>; 19] = [
                  S min 4 q\nS blame p never\nS blame q always\nS blame r never\nS end\nS probe y - 4\n",
         status: 0,
     },
-    // By rising cost r may be faulty too. Of states that cost as much the one comes first in which the first part is faulty.
+    // By rising cost r may be faulty too. Of states with the same cost, the one in which the first part is faulty comes first.
     Row {
         name: "f.dev",
         text: EQUAL,
@@ -182,7 +182,7 @@ pub static DESIGNS: [Row<'static>; 19] = [
         out: b"ready 3 4\nS open\nS ok\nS ok\nS ok\nS ok\nS level 6 q r\nS end\n",
         status: 0,
     },
-    // The first part alone costs more than what is listed.
+    // The first part alone costs more than the greatest cost that is listed.
     Row {
         name: "f.dev",
         text: b"type P a y\nok 00\nok 11\ncost 5\nend\ntype Q a y\nok 00\nok 11\nend\ntype R d\nok 0\nok 1\nend\n\
@@ -192,7 +192,7 @@ pub static DESIGNS: [Row<'static>; 19] = [
         out: b"ready 3 4\nS open\nS ok\nS ok\nS ok\nS level 2 q r\nS end\n",
         status: 0,
     },
-    // The costs that a part of the graph may have take several words.
+    // The possible costs of a node take several words.
     Row {
         name: "f.dev",
         text: b"type P a y\nok 00\nok 11\ncost 40\nend\ntype Q a y\nok 00\nok 11\ncost 70\nend\ntype R d\nok 0\n\

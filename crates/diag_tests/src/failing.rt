@@ -11,7 +11,7 @@ pub const WORDS: [&str; 2] = ["serve", "f.bench"];
 
 // Calls that fail, and what is written.
 static STOPPED: [(Meeting, &[u8]); 4] = [
-    // the calls of the shelf: the pick, the read that brings the file, and the one that meets its end
+    // the calls of the shelf: the pick, the read that returns the file, and the one that finds its end
     (
         Meeting {
             failing_pick_or_load: 1,
@@ -62,7 +62,7 @@ fn stops_where_a_read_fails(rt: HostRuntime) -> Result<(), Fail> {
     Ok(())
 }
 
-// Each write in turn, until those past the last leave the run whole. Of the first one the sink keeps so many bytes at most.
+// Each write fails in turn; a number past the last leaves the run whole. If the first one fails, the sink keeps at most `keep` bytes.
 fn writes_fail(
     rt: &impl Abort,
     alloc: Global,
@@ -94,7 +94,7 @@ fn writes_fail(
     Ok(())
 }
 
-// The bytes of a graph's text are not known before, so that those of a run in which nothing fails stand for them.
+// The bytes of a graph's text are not known here, so those of a run in which nothing fails are used.
 #[test]
 fn each_write_fails_in_turn(rt: HostRuntime) -> Result<(), Fail> {
     for script in [TURNS, REPORTS, b"open S\ndnnf S\n".as_slice()] {
@@ -110,8 +110,7 @@ fn lines_in(bytes: &[u8]) -> usize {
     bytes.iter().filter(|byte| **byte == b'\n').count()
 }
 
-// The lines in what the reads before it brought are answered. The read that meets the end of the script may fail too, and after it
-// there is none.
+// The lines in what earlier reads returned are answered. The read that finds the end of the script may fail too, and no read is after it.
 #[test]
 fn each_read_fails_in_turn(rt: HostRuntime) -> Result<(), Fail> {
     for piece in [1, 7, 4096] {

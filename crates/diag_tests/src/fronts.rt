@@ -1,4 +1,4 @@
-//! Every front of a text is answered, up to the whole of it.
+//! Every prefix of a text is answered, and so is the whole.
 use crate::files::{ANY, C17, FALSE, VALVE};
 use crate::rows::{Row, answer};
 use crate::running::NOTHING_FAILS;
@@ -6,10 +6,10 @@ use std::alloc::Global;
 use std::process::Abort;
 use std::test::Fail;
 
-// What is written, from a front of so many bytes on.
+// What is written, from a prefix of this many bytes on.
 type Written = &'static [(usize, &'static [u8])];
 
-// The line that is cut off is refused, or else the first output whose gate is.
+// The line that is cut off is refused, or else the first output whose gate is missing.
 static OF_C17: [(usize, &[u8]); 27] = [
     (0, b"ready 0 0\n"),
     (7, b"error: line 2: fault 1 line\n"),
@@ -40,7 +40,7 @@ static OF_C17: [(usize, &[u8]); 27] = [
     (175, b"ready 6 11\n"),
 ];
 
-// A line that is cut off is refused, or a design without a top. It is read with its last line feed or without it.
+// A line that is cut off is refused, or a design without a top. The last line feed may be missing.
 static OF_VALVE: [(usize, &[u8]); 27] = [
     (0, b"error: line 0: fault 7 no top\n"),
     (1, b"error: line 1: fault 1 line\n"),

@@ -19,7 +19,7 @@ pub static GRAPHS: [Row<'static>; 21] = [
         out: b"decomposable 1 0 0\n",
         status: 0,
     },
-    // One of two parts is faulty, and no wire is there.
+    // One of two parts is faulty, and there is no wire.
     Row {
         name: "f.nnf",
         text: EITHER_FAULTY,
@@ -63,7 +63,7 @@ pub static GRAPHS: [Row<'static>; 21] = [
         out: b"error: fault 7 shared node 2 variable 1\n",
         status: 1,
     },
-    // There are more parts than variables too, but the text is refused first.
+    // There are also more parts than variables, but the text is refused first.
     Row {
         name: "f.nnf",
         text: SHARED,
@@ -89,7 +89,7 @@ pub static GRAPHS: [Row<'static>; 21] = [
         out: b"ready 0 2\nS open\nS min 0\nS diag\nS end\nS probe 00001 0 0\nS probe 00002 0 0\nS end\n",
         status: 0,
     },
-    // No node has the part, whose failure costs 1 all the same.
+    // No node mentions the part, but its failure still costs 1.
     Row {
         name: "f.nnf",
         text: b"nnf 1 0 1\nA 0\n",
@@ -106,7 +106,7 @@ pub static GRAPHS: [Row<'static>; 21] = [
         out: b"error: read\n",
         status: 4,
     },
-    // A graph of a file says neither.
+    // Over a graph both are refused.
     Row {
         name: "f.nnf",
         text: EITHER_FAULTY,
@@ -115,7 +115,7 @@ pub static GRAPHS: [Row<'static>; 21] = [
         out: b"ready 2 0\nS open\nS error 11 no levels\nS error 12 no least\n",
         status: 0,
     },
-    // No node has the third part.
+    // No node mentions the third part.
     Row {
         name: "f.nnf",
         text: EITHER_OF_THREE,
@@ -145,8 +145,8 @@ pub static GRAPHS: [Row<'static>; 21] = [
                  S probe 00004 2 -\nS blame 00001 sometimes\nS blame 00002 sometimes\nS blame 00003 always\nS end\n",
         status: 0,
     },
-    // A buffer: the first variable is its health, the second its input and the third its output. 0 is seen after 1; then 1,
-    // and it is held to be ok; then nothing is seen, and it is held to be faulty.
+    // A buffer: the first variable is its health, the second its input and the third its output. First its input is 1 and its output 0;
+    // then the output alone is seen as 1, and it is held to be ok; then nothing is seen, and it is held to be faulty.
     Row {
         name: "f.nnf",
         text: b"nnf 11 10 3\nL 1\nL -1\nL 2\nL -2\nL 3\nL -3\nA 2 2 4\nA 2 3 5\nO 0 2 6 7\nA 2 0 8\nO 0 2 1 9\n",
@@ -160,7 +160,7 @@ pub static GRAPHS: [Row<'static>; 21] = [
                  O 0 2 1 9\nL -1\nA 2 10 11\n",
         status: 0,
     },
-    // Parts that are held are written after the nodes.
+    // Held parts are written after the nodes.
     Row {
         name: "f.nnf",
         text: b"nnf 1 0 2\nA 0\n",
@@ -178,7 +178,7 @@ pub static GRAPHS: [Row<'static>; 21] = [
         out: b"ready 2 0\nS open\nS dnnf\nnnf 2 1 2\nO 0 0\nA 1 0\n",
         status: 0,
     },
-    // Blanks, leading zeros and the first number of an or are read and not written.
+    // Blanks, leading zeros and the first number of an Or node are read and not written.
     Row {
         name: "f.nnf",
         text: b"\nnnf 03 2 01\n\tL 1\n L -1\r\n \nO 9 2 00 1",

@@ -1,4 +1,4 @@
-//! Long texts, in which a piece stands many times.
+//! Long texts, in which a piece is repeated.
 use crate::long_netlists::LONG_NETLISTS;
 use crate::long_others::LONG_OTHERS;
 use crate::rows::{Row, answer};
@@ -7,8 +7,8 @@ use std::alloc::{AllocError, Global};
 use std::process::Abort;
 use std::test::Fail;
 
-/// What is before the copies of a piece, the piece, how many there are of it, and what is after them. In a piece `%` is the number of
-/// the copy, from 1 and in four digits, and `^` is the number before it.
+/// What is before the copies of a piece, the piece, the number of copies, and what is after them. In a piece `%` is the number of the copy,
+/// from 1 and in four digits, and `^` is the number before it.
 #[derive(Clone, Copy)]
 pub struct Long {
     pub before: &'static [u8],
@@ -36,7 +36,7 @@ fn put_number(alloc: Global, text: &mut Vec<u8>, number: u32) -> Result<(), Allo
     text.extend_from_slice(format!(in alloc; "{number:04}")?.as_bytes())
 }
 
-/// Nothing at all.
+/// The empty text.
 pub const NOTHING: Long = Long {
     before: b"",
     each: b"",
@@ -44,7 +44,7 @@ pub const NOTHING: Long = Long {
     after: b"",
 };
 
-/// A row of which the file and the script may be long.
+/// A row whose file and script may be long.
 pub struct LongRow {
     pub name: &'static str,
     pub text: Long,

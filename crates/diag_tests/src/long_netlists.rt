@@ -16,7 +16,7 @@ const ROW_OF_40: Long = Long {
     ..NOTHING
 };
 
-// Gates that share an input with the next one.
+// Gates, each of which shares an input with the next one.
 const FIELD: Long = Long {
     each: b"INPUT(a^)\nINPUT(b%)\nINPUT(c%)\ny% = XOR(a^, a%, b%, c%)\n",
     count: 4095,
@@ -33,7 +33,7 @@ const WIDE: Long = Long {
 };
 
 pub static LONG_NETLISTS: [LongRow; 25] = [
-    // Buffers in a row, of which the sum is five for each and two more.
+    // Buffers in a row: the sum is five for each, and two more.
     LongRow {
         name: "f.bench",
         text: ROW_OF_1000,
@@ -85,9 +85,9 @@ pub static LONG_NETLISTS: [LongRow; 25] = [
         out: b"ready 40 41\n",
         status: 0,
     },
-    // Of gates that have one input the clauses that it is in are active from its level on, up to the level of each gate's output. With
-    // m gates still to come, what the input gave leaves 2 lists of 2m clauses. The health of the next gate makes them 4, or 3 for the
-    // last one. With s(m) = 2m / 64 + 1 words the sum is 1 + 2 + 4 s(n), and 6 s(m) for each m from n - 1 down to 2, and 5 + 1.
+    // Gates with one input in common. The clauses of this input are active from its level on, up to the level of each gate's output. With m
+    // gates still to come, what the input gave leaves 2 lists of 2m clauses. The health of the next gate makes them 4, or 3 for the last
+    // one. With s(m) = 2m / 64 + 1 words the sum is 1 + 2 + 4 s(n), and 6 s(m) for each m from n - 1 down to 2, and 5 + 1.
     LongRow {
         name: "f.bench",
         text: Long {
@@ -114,7 +114,7 @@ pub static LONG_NETLISTS: [LongRow; 25] = [
         out: b"clauses 1000\nsum 25021\n",
         status: 0,
     },
-    // An adder of 800 bits has 107 for the first one and 135 for each further one.
+    // An adder of 800 bits has a sum of 107 for the first bit and 135 for each further one.
     LongRow {
         name: "f.bench",
         text: Long {
@@ -129,7 +129,7 @@ pub static LONG_NETLISTS: [LongRow; 25] = [
         out: b"clauses 13600\nsum 107972\n",
         status: 0,
     },
-    // A field of gates that share an input with the next one.
+    // A field of gates, each of which shares an input with the next one.
     LongRow {
         name: "f.bench",
         text: FIELD,
@@ -154,7 +154,7 @@ pub static LONG_NETLISTS: [LongRow; 25] = [
         out: b"error: bits 2163474560 above 2147483648\n",
         status: 1,
     },
-    // 64 ones are even, so that y is to be 0.
+    // 64 ones are even, so y should be 0.
     LongRow {
         name: "f.bench",
         text: Long {
@@ -210,7 +210,7 @@ pub static LONG_NETLISTS: [LongRow; 25] = [
         out: b"error: parts 4160 above 4096\n",
         status: 1,
     },
-    // Of 257 wires at 64 times there are too many. Of parts and wires the parts are reported.
+    // 257 wires at 64 times are too many. If parts and wires are too many, the parts are reported.
     LongRow {
         name: "f.bench",
         text: Long {
@@ -236,7 +236,7 @@ pub static LONG_NETLISTS: [LongRow; 25] = [
         out: b"error: parts 8256 above 4096\n",
         status: 1,
     },
-    // A limit is met too: the refusal is of the sum.
+    // Counts within their limits are taken: the refusal is of the sum.
     LongRow {
         name: "f.bench",
         text: Long {

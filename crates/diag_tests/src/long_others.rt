@@ -2,7 +2,7 @@
 use crate::files::CHAIN;
 use crate::long::{Long, LongRow, NOTHING};
 
-// Blocks that have two of the one before each.
+// Blocks, each of which has two of the one before.
 const DOUBLED_60_TIMES: Long = Long {
     before: b"type U p\nok 0\nend\nblock B0000 p\npart u U p\nend\n",
     each: b"block B% p\npart l B^ p\npart r B^ p\nend\n",
@@ -23,7 +23,7 @@ const ONE_CHAIN: Long = Long {
 };
 
 pub static LONG_OTHERS: [LongRow; 17] = [
-    // Blocks that have two of the one before each. A number that would be above 64 bits is reported as the greatest one.
+    // Each block has two of the one before. A number above 64 bits is reported as the greatest one.
     LongRow {
         name: "f.dev",
         text: Long {
@@ -124,7 +124,7 @@ pub static LONG_OTHERS: [LongRow; 17] = [
         out: b"ready 0 1\n",
         status: 0,
     },
-    // The first node that shares a variable comes before the least variable.
+    // The first node that shares a variable is reported, even if a later one shares a smaller variable.
     LongRow {
         name: "f.nnf",
         text: Long {
@@ -139,7 +139,7 @@ pub static LONG_OTHERS: [LongRow; 17] = [
         out: b"error: fault 7 shared node 69 variable 660\n",
         status: 1,
     },
-    // As many lines as a file has room for, and as many children.
+    // About as many lines as a file has room for, and as many children.
     LongRow {
         name: "f.nnf",
         text: Long {
@@ -166,7 +166,7 @@ pub static LONG_OTHERS: [LongRow; 17] = [
         out: b"decomposable 2 8000000 1073741824\n",
         status: 0,
     },
-    // A line of the greatest length is read, and one that has one byte more is dropped.
+    // A line of the greatest length is read, and one with one byte more is dropped.
     LongRow {
         name: "f.bench",
         text: ONE_CHAIN,

@@ -1,9 +1,9 @@
-//! Rows over netlists. The last ones go along a forest.
+//! Rows over netlists. The last ones use a forest.
 use crate::files::{BY_KIND, C17, CHAIN, INPUT, NOT, SAME, SCRAMBLED};
 use crate::rows::Row;
 
 pub static NETLISTS: [Row<'static>; 23] = [
-    // The inputs are 0, so 22 and 23 are to be 0.
+    // The inputs are 0, so 22 and 23 should be 0.
     Row {
         name: "f.bench",
         text: C17,
@@ -13,8 +13,8 @@ pub static NETLISTS: [Row<'static>; 23] = [
         out: b"ready 6 11\nS open\nS ok\nS ok\nS ok\nS ok\nS ok\nS ok\nS ok\nS min 0\nS diag\nS end\n",
         status: 0,
     },
-    // One of 10 and 22 explains the 1, and the first of them is named. A list that is full has no end. Where both are held to
-    // be ok it takes two.
+    // Part 10 or 22 explains the 1, and the first of them is named. A list that is full has no end. If both are held to be ok, it takes
+    // two.
     Row {
         name: "f.bench",
         text: C17,
@@ -49,7 +49,7 @@ pub static NETLISTS: [Row<'static>; 23] = [
         out: b"ready 2 3\nS open\nS ok\nS ok\nS min 1 b\nT open\nT min 0\n",
         status: 0,
     },
-    // No line feed ends the last line.
+    // The last line has no line feed.
     Row {
         name: "f.bench",
         text: CHAIN,
@@ -58,7 +58,7 @@ pub static NETLISTS: [Row<'static>; 23] = [
         out: b"ready 2 3\nS open\nS min 0\n",
         status: 0,
     },
-    // A flip-flop put out 1 if its input had been 0.
+    // A flip-flop put out 1 after its input was 0.
     Row {
         name: "f.bench",
         text: b"INPUT(d)\nq = DFF(d)\n",
@@ -67,7 +67,7 @@ pub static NETLISTS: [Row<'static>; 23] = [
         out: b"ready 1 4\nS open\nS ok\nS ok\nS ok\nS min 1 q\n",
         status: 0,
     },
-    // A loop that is to change its value each time did not.
+    // A loop that should change its value each time did not.
     Row {
         name: "f.bench",
         text: b"q = DFF(n)\nn = NOT(q)\n",
@@ -85,7 +85,7 @@ pub static NETLISTS: [Row<'static>; 23] = [
         out: b"ready 2 6\nS open\nS ok\nS ok\nS diag n\nS diag q\nS end\n",
         status: 0,
     },
-    // At one time alone a flip-flop is in no clause, and its wires are still named by the time.
+    // At one time alone a flip-flop is in no clause, but its wires still have the time in their names.
     Row {
         name: "f.bench",
         text: b"INPUT(d)\nq = DFF(d)\n",
@@ -103,7 +103,7 @@ pub static NETLISTS: [Row<'static>; 23] = [
         out: b"error: sum above 3\n",
         status: 3,
     },
-    // A part that is faulty is so at all times, and costs 1.
+    // A faulty part is faulty at all times, and costs 1.
     Row {
         name: "f.bench",
         text: b"INPUT(a)\nb = BUFF(a)\n",
@@ -136,7 +136,7 @@ pub static NETLISTS: [Row<'static>; 23] = [
         out: b"clauses 0\nsum 1\n",
         status: 0,
     },
-    // Three ones are odd, so y is to be 1.
+    // Three ones are odd, so y should be 1.
     Row {
         name: "f.bench",
         text: b"INPUT(a)\nINPUT(b)\nINPUT(c)\ny = xor(a, b, c)\n",
@@ -161,7 +161,7 @@ pub static NETLISTS: [Row<'static>; 23] = [
         out: b"ready 1 2\nS open\nS ok\nS ok\nS min 1 y\n",
         status: 0,
     },
-    // Nothing is asked of the wires, which are in no clause.
+    // No clause has the wires, so each may have any value.
     Row {
         name: "f.bench",
         text: b"INPUT(a)\nINPUT(b)\nINPUT(c)\nINPUT(d)\nINPUT(e)\nINPUT(f)\nINPUT(g)\nINPUT(h)\nINPUT(i)\nINPUT(j)\n\
@@ -180,7 +180,7 @@ pub static NETLISTS: [Row<'static>; 23] = [
         out: b"error: read\n",
         status: 4,
     },
-    // Of the states of its levels one, two, three and one are living, of one word each.
+    // Its levels have one, two, three and one living lists, of one word each.
     Row {
         name: "f.bench",
         text: NOT,
@@ -223,9 +223,9 @@ pub static NETLISTS: [Row<'static>; 23] = [
     },
 ];
 
-/// The same with options, and netlists that are large.
+/// Rows with options, and rows over large netlists.
 pub static WITH_OPTIONS: [Row<'static>; 27] = [
-    // States by rising cost: one of the buffers is faulty, or both are. The listing goes on from any state.
+    // States by rising cost: one of the buffers is faulty, or both are. The listing goes on after any state.
     Row {
         name: "f.bench",
         text: CHAIN,
@@ -243,7 +243,7 @@ pub static WITH_OPTIONS: [Row<'static>; 27] = [
         out: b"ready 2 3\nS open\nS ok\nS ok\nS level 1 b\nS level 1 c\nS end\n",
         status: 0,
     },
-    // Neither is reported if it is not asked for.
+    // Both are refused without their options.
     Row {
         name: "f.bench",
         text: CHAIN,
@@ -263,7 +263,7 @@ pub static WITH_OPTIONS: [Row<'static>; 27] = [
         out: b"error: bits 2565577090 above 2147483648\n",
         status: 1,
     },
-    // The sum is 1 if all that is added is 0: its own gate is faulty, or the one that it reads.
+    // The sum is seen as 1, but all that is added is 0: its own gate is faulty, or the one that it reads.
     Row {
         name: "f.bench",
         text: CHAIN,
@@ -272,7 +272,7 @@ pub static WITH_OPTIONS: [Row<'static>; 27] = [
         out: b"parts 5\nwires 8\nclauses 17\nminimum 1\nfirst 0000s\nlisted 2\nlast 0000x\n",
         status: 0,
     },
-    // Of 64 sums every sixteenth is 1, the first among them: that takes four faults. Twenty of the diagnoses are listed.
+    // Every sixteenth of 64 sums is 1, from the first on: that takes four faults. Twenty of the diagnoses are listed.
     Row {
         name: "f.bench",
         text: CHAIN,
@@ -282,7 +282,7 @@ pub static WITH_OPTIONS: [Row<'static>; 27] = [
                  last 0000s 0015g 0032s 0048x\n",
         status: 0,
     },
-    // Parts and wires are put into the order of their names.
+    // Parts and wires are sorted by their names.
     Row {
         name: "f.bench",
         text: b"c = BUFF(b)\nb = BUFF(a)\nINPUT(a)\n",
@@ -300,7 +300,7 @@ pub static WITH_OPTIONS: [Row<'static>; 27] = [
         out: b"ready 1 3\nS open\nS ok\nS ok\nS probe y 0 1\n",
         status: 0,
     },
-    // All 64 inputs are one wire, so that the number of ones is even.
+    // All 64 inputs are one wire, so the number of ones is even.
     Row {
         name: "f.bench",
         text: b"INPUT(a)\n\
@@ -310,7 +310,7 @@ pub static WITH_OPTIONS: [Row<'static>; 27] = [
         out: b"ready 1 2\nS open\nS ok\nS probe y 0 1\n",
         status: 0,
     },
-    // The output of a flip-flop is the input of one time before, and an inverter is none.
+    // A flip-flop puts out its input of one time before, and an inverter has no delay.
     Row {
         name: "f.bench",
         text: b"INPUT(d)\nq = dff(d)\ny = NOT(q)\n",
@@ -320,7 +320,7 @@ pub static WITH_OPTIONS: [Row<'static>; 27] = [
                  S probe q@0002 1 1\nS probe y@0001 1 1\nS end\nS blame q sometimes\nS blame y sometimes\nS end\n",
         status: 0,
     },
-    // What a flip-flop puts out first is not said.
+    // The first output of a flip-flop is not determined.
     Row {
         name: "f.bench",
         text: b"q = DFF(n)\nn = NOT(q)\n",
@@ -347,7 +347,7 @@ pub static WITH_OPTIONS: [Row<'static>; 27] = [
         out: b"clauses 4\nsum 12\n",
         status: 0,
     },
-    // An adder of which the names go up from bit to bit has 107 for the first one and 135 for each further one.
+    // An adder whose names rise from bit to bit has a sum of 107 for the first bit and 135 for each further one.
     Row {
         name: "f.bench",
         text: b"INPUT(b00)\nINPUT(b01)\nINPUT(b02)\nb03 = XOR(b01, b02)\nb04 = AND(b01, b02)\nb05 = AND(b00, b03)\n\
@@ -367,7 +367,7 @@ pub static WITH_OPTIONS: [Row<'static>; 27] = [
         out: b"clauses 34\nsum 242\n",
         status: 0,
     },
-    // A wire of which no clause says anything may have both values.
+    // A wire that is in no clause may have both values.
     Row {
         name: "f.bench",
         text: b"INPUT(a)\nINPUT(z)\nb = BUFF(a)\n",
@@ -376,7 +376,7 @@ pub static WITH_OPTIONS: [Row<'static>; 27] = [
         out: b"ready 1 3\nS open\nS ok\nS ok\nS probe z 1 1\n",
         status: 0,
     },
-    // Wires come in the order of their whole names.
+    // Wires are in the order of their whole names.
     Row {
         name: "f.bench",
         text: b"INPUT(a)\na1 = BUFF(a)\naA = BUFF(a)\n",
@@ -386,7 +386,7 @@ pub static WITH_OPTIONS: [Row<'static>; 27] = [
                  S probe aA@0001 0 0\nS probe aA@0002 0 0\nS end\n",
         status: 0,
     },
-    // The same along a forest.
+    // The same loop along a forest.
     Row {
         name: "f.bench",
         text: b"q = DFF(n)\nn = NOT(q)\n",
@@ -395,8 +395,8 @@ pub static WITH_OPTIONS: [Row<'static>; 27] = [
         out: b"ready 2 6\nS open\nS ok\nS ok\nS diag n\nS diag q\nS end\n",
         status: 0,
     },
-    // Along a forest it is no greater than by names that rise from bit to bit. All that is added is 0, so the upper sum is to be 0: a diagnosis is its own gate,
-    // its half sum, or one of those that carry. They are reported in the order of the names.
+    // Along a forest the sum is no greater than by names that rise from bit to bit. All that is added is 0, so the upper sum should be 0: a
+    // diagnosis is its own gate, its half sum, or one of the gates that carry. They are reported in the order of the names.
     Row {
         name: "f.bench",
         text: BY_KIND,
@@ -417,7 +417,7 @@ pub static WITH_OPTIONS: [Row<'static>; 27] = [
                  S end\n",
         status: 0,
     },
-    // In the order of a row the sum is five for each buffer, and two more.
+    // In the order of the row the sum is five for each buffer, and two more.
     Row {
         name: "f.bench",
         text: SCRAMBLED,
@@ -442,7 +442,7 @@ pub static WITH_OPTIONS: [Row<'static>; 27] = [
         out: b"clauses 0\nsum 1\n",
         status: 0,
     },
-    // Both of its clauses have all of its variables, so that each way through them has the same sum.
+    // Both clauses have all variables, so each order has the same sum.
     Row {
         name: "f.bench",
         text: NOT,
@@ -459,7 +459,7 @@ pub static WITH_OPTIONS: [Row<'static>; 27] = [
         out: b"error: sum above 6\n",
         status: 3,
     },
-    // By rising cost both may be faulty too.
+    // At the cost 2 both may be faulty.
     Row {
         name: "f.bench",
         text: b"q = DFF(n)\nn = NOT(q)\n",

@@ -1,4 +1,4 @@
-//! The call of the program. Only its status is answered, since the tests compare what it writes.
+//! The call of the program. It returns only the status, since the tests compare what is written.
 ghost use Rattle.std.specs.Prelude.{◌-◌, ◌^◌, ◌<◌, map, string_bytes, IfSome};
 ghost use Rattle.diag_cli.specs.Words.{form_of, named_file};
 
@@ -6,7 +6,7 @@ use diag_cli::diag;
 use diag_edge::{Shelf, Sink, Source};
 use std::alloc::Global;
 
-/// The status of a run over any ends.
+/// Returns the status of a run over any ends.
 pub fn status_of<H: Shelf, I: Source, O: Sink>(
     alloc: Global,
     words: &[String],

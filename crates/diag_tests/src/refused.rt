@@ -1,4 +1,4 @@
-//! Files that are refused: what the file holds, and the line that is written.
+//! Files that are refused, and the line that is written.
 
 pub static REFUSED_NETLISTS: [(&[u8], &[u8]); 16] = [
     (b"INPUT(a)\ny = AND(a", b"error: line 2: fault 1 line\n"),
@@ -155,7 +155,7 @@ pub static REFUSED_GRAPHS: [(&[u8], &[u8]); 27] = [
         b"nnf 3 2 1\nL 1\nL -1\nA 2 0 1\n",
         b"error: fault 7 shared node 2 variable 1\n",
     ),
-    // both children of the and are the literal of variable 1
+    // both children of the And node are the literal of variable 1
     (
         b"nnf 2 2 1\nL 1\nA 2 0 0\n",
         b"error: fault 7 shared node 1 variable 1\n",

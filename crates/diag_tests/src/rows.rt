@@ -13,8 +13,8 @@ use std::alloc::Global;
 use std::process::Abort;
 use std::test::Fail;
 
-/// The one file of the shelf, the words and the script of a run, and what it writes and ends with. Of what `plan` prints a row has the
-/// last lines, so that a further line changes no row; the whole is in `examples/inspected`.
+/// The one file of the shelf, the words and the script of a run, and what it writes and ends with. For `plan` a row has only the last
+/// lines, so that a further line changes no row; the whole is in `examples/inspected`.
 #[derive(Clone, Copy)]
 pub struct Row<'a> {
     pub name: &'a str,
@@ -41,7 +41,7 @@ pub fn answer(rt: &impl Abort, alloc: Global, row: &Row<'_>, meeting: &Meeting) 
     Ok(())
 }
 
-// Each row, with the script in one piece, in pieces of 7 bytes, and byte by byte.
+// Runs each row with the script in one piece, in pieces of 7 bytes, and byte by byte.
 fn answer_rows(rt: &impl Abort, alloc: Global, rows: &[Row<'_>]) -> Result<(), Fail> {
     for row in rows {
         for piece in [1, 7, 4096] {
@@ -89,7 +89,7 @@ fn refuses_words(rt: HostRuntime) -> Result<(), Fail> {
     Ok(())
 }
 
-// Each file that is refused, as the file of a command.
+// Runs a command on each file that is refused.
 fn refuse(
     rt: &impl Abort,
     alloc: Global,

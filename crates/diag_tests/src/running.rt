@@ -9,14 +9,14 @@ use std::test::Fail;
 /// More room than any output here needs.
 const ROOM: usize = 8192;
 
-/// What a run meets: how the script comes, and which calls fail. The number of a call that fails is 0 if none does.
+/// What a run meets: how the script comes, and the number of each call that fails, or 0 if none does.
 #[derive(Clone, Copy)]
 pub struct Meeting {
     pub piece: usize,
     pub failing_pick_or_load: u64,
     pub failing_read: u64,
     pub failing_write: u64,
-    /// How many bytes a write that fails keeps.
+    /// How many bytes a failing write keeps.
     pub keep: usize,
 }
 
@@ -29,14 +29,14 @@ pub const NOTHING_FAILS: Meeting = Meeting {
     keep: 0,
 };
 
-/// What a run ended with.
+/// The status and the output of a run.
 #[derive(Drop)]
 pub struct Ran {
     pub status: u8,
     pub out: MemSink,
 }
 
-/// The words of a command line.
+/// Copies the words of a command line.
 pub fn owned(alloc: Global, words: &[&str]) -> Result<Vec<String>, AllocError> {
     let mut owned = Vec::new(alloc);
     for word in words {
@@ -54,7 +54,7 @@ fn shelf_of(alloc: Global, name: &str, text: &[u8], failing: u64) -> Result<MemS
     Ok(MemShelf::new(files, vec![in alloc; failing]?))
 }
 
-/// Runs the program on these words and this script, over a shelf that has this one file.
+/// Runs the program on these words and this script, over a shelf that has only this file.
 pub fn run(
     alloc: Global,
     name: &str,

@@ -2,8 +2,8 @@
 use crate::files::CHAIN;
 use crate::rows::Row;
 
-/// Three sessions that take turns. The chain puts out a 1 for a 0 in A, nothing is wrong in B, and in C part b is held to be faulty.
-/// Each line has one reply.
+/// Three sessions that take turns. In A the chain puts out 1 for 0, in B nothing is wrong, and in C part b is held to be faulty. Each line
+/// has one reply.
 pub const TURNS: &[u8] =
     b"open A\nopen B\nopen C\nsee A a=0\nsee B a=0\nhold C b=bad\nsee A c=1\nsee B c=0\nmin A\nmin B\nmin C\n\
       next A\nnext C\nnext B\nnext A\nnext C\nnext B\n";
@@ -20,7 +20,7 @@ pub const REPORTS_OUT: &[u8] =
     S blame b never\nS blame c never\nS end\n";
 
 pub static SCRIPTS: [Row<'static>; 13] = [
-    // Two sessions side by side, and no third. In S the end of the chain is wrong, in T nothing is.
+    // Two sessions side by side, and no room for a third. In S the end of the chain is wrong, in T nothing is.
     Row {
         name: "f.bench",
         text: CHAIN,
@@ -44,8 +44,8 @@ pub static SCRIPTS: [Row<'static>; 13] = [
                  S probe b 0 0\nS probe c 0 0\nS end\nS diag\nT error 6 no session\nU diag\n",
         status: 0,
     },
-    // The diagnoses are b and then c. That both are faulty is none, and comes before them. What is asked leaves the point,
-    // what is reported forgets it, also if nothing changes, and what is refused leaves it.
+    // The diagnoses are b and then c. The state in which both are faulty is none, and comes before them. A question leaves the point,
+    // seeing or holding forgets it, even if nothing changes, and a refused line leaves it.
     Row {
         name: "f.bench",
         text: CHAIN,
@@ -69,7 +69,7 @@ pub static SCRIPTS: [Row<'static>; 13] = [
                  B min 0\n",
         status: 0,
     },
-    // Sessions whose names are fronts of one another. What is noted in one changes it alone, and one that is closed leaves room.
+    // Sessions whose names are prefixes of one another. A line changes its own session alone, and a closed session leaves room.
     Row {
         name: "f.bench",
         text: CHAIN,
@@ -81,7 +81,7 @@ pub static SCRIPTS: [Row<'static>; 13] = [
                  m min 0\nab min 0\n",
         status: 0,
     },
-    // Lines that are refused before any session is looked for, and lines that have no reply.
+    // Lines that are refused before any session is looked up, and lines without a reply.
     Row {
         name: "f.bench",
         text: CHAIN,
@@ -96,7 +96,7 @@ pub static SCRIPTS: [Row<'static>; 13] = [
                  error 2 bad words\nS diag\nS end\n",
         status: 0,
     },
-    // A block has a wire of its own in each instance, and the parts of an instance have its path in their names.
+    // Each instance of a block has a wire of its own, and its parts have its path in their names.
     Row {
         name: "f.dev",
         text: b"block I a y\nwire w\npart p BUFF a w\npart q BUFF w y\nend\nblock M a b c\npart u I a b\n\
@@ -108,7 +108,7 @@ pub static SCRIPTS: [Row<'static>; 13] = [
                  S error 10 no part\n",
         status: 0,
     },
-    // What is noted in one session says nothing of another.
+    // What is seen in one session does not affect another.
     Row {
         name: "f.bench",
         text: CHAIN,
@@ -119,7 +119,7 @@ pub static SCRIPTS: [Row<'static>; 13] = [
                  B end\n",
         status: 0,
     },
-    // Paths come in the order of all their bytes, the dot among them.
+    // Paths are in the order of all their bytes, the dot among them.
     Row {
         name: "f.dev",
         text: b"block I a y\nwire w\npart p BUFF a w\npart q BUFF w y\nend\nblock M a b c u-w\npart u I a b\n\
@@ -131,7 +131,7 @@ pub static SCRIPTS: [Row<'static>; 13] = [
                  S probe u.w 2 4\nS end\n",
         status: 0,
     },
-    // What is seen once more forgets the point.
+    // Seeing the same once more forgets the point.
     Row {
         name: "f.bench",
         text: CHAIN,
@@ -154,7 +154,7 @@ pub static SCRIPTS: [Row<'static>; 13] = [
                  S ok\nS diag\nerror 4 bad value\nerror 4 bad value\nS end\n",
         status: 0,
     },
-    // Blanks may be anywhere in a netlist, and words in any letters.
+    // Blanks may be anywhere in a netlist, and keywords in small or capital letters.
     Row {
         name: "f.bench",
         text: b"\tinput ( a )\r\n OutPut(INPUT)# y = \nINPUT=buf(\ta)\nInput(a)",

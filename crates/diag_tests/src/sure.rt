@@ -6,7 +6,7 @@ use crate::running::owned;
 use diag_edge::{SureShelf, SureSource, TallySink};
 use std::test::Fail;
 
-// Of each `min S` the reply has eight bytes, and the two lines before them have ten and seven.
+// Each reply to `min S` has eight bytes, and the two lines before them have ten and seven.
 #[test]
 fn answers_a_long_script(rt: HostRuntime) -> Result<(), Fail> {
     let alloc = rt.alloc();

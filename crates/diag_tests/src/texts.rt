@@ -9,8 +9,8 @@ use std::alloc::Global;
 use std::process::Abort;
 use std::test::Fail;
 
-// A run, and what it writes before a text, which comes last; its variables, how many nodes it has at most, the bits for the variables
-// under which it is true, that for the first being the lowest, and its end. A part's bit is 1 if it is ok.
+// A run, and what it writes before the text of a graph, which comes last. The graph's variables, the most nodes that it has, the bits for
+// the variables that make it true (the first variable has the lowest), and the end of the text. A part's bit is 1 if it is ok.
 struct Written {
     name: &'static str,
     text: &'static [u8],
@@ -23,12 +23,12 @@ struct Written {
     end: &'static [u8],
 }
 
-// The sums are 7 of the inverter and the buffer, 12 of the chain and of an XOR, 10 of the other gates of two inputs, 1 where there is
-// no clause, and 8 of the valve. A graph that is compiled has at most three nodes for each of the sum, two for each
-// variable and two, and the text of what a session allows one more for each part that is held, and one. The text of the diagnoses has
-// at most as many nodes as a graph has nodes and edges, two for each part, and one.
+// The sums are 7 for the inverter and the buffer, 12 for the chain and an XOR, 10 for the other gates of two inputs, 1 without clauses, and
+// 8 for the valve. A compiled graph has at most three nodes for each of the sum, two for each variable, and two. The text of what a session
+// allows has one more for each part that is held, and one. The text of the diagnoses has at most as many nodes as the graph has nodes and
+// edges, two for each part, and one.
 static WRITTEN: [Written; 18] = [
-    // if the inverter is faulty each row is allowed, and if it is ok those in which its wires differ
+    // a faulty inverter allows each row, and one that is ok those in which its wires differ
     Written {
         name: "f.bench",
         text: NOT,
@@ -117,7 +117,7 @@ static WRITTEN: [Written; 18] = [
         allowed: &[],
         end: b"\n",
     },
-    // the diagnoses alone, and not both buffers faulty; a graph within a sum of 12 has at most 48 nodes and 78 edges.
+    // only the diagnoses, and not both buffers faulty; a graph within a sum of 12 has at most 48 nodes and 78 edges
     Written {
         name: "f.bench",
         text: CHAIN,
@@ -129,7 +129,7 @@ static WRITTEN: [Written; 18] = [
         allowed: &[0b01, 0b10],
         end: b"\n",
     },
-    // where no state agrees, the text of the diagnoses ends with an or of nothing
+    // if no state agrees, the text of the diagnoses ends with an Or node without children
     Written {
         name: "f.dev",
         text: VALVE,
@@ -141,8 +141,8 @@ static WRITTEN: [Written; 18] = [
         allowed: &[],
         end: b"\nO 0 0\n",
     },
-    // one of two parts is faulty: with a third that is held so; the cheaper one alone; and the one that is held so. A sum of 12 over 7
-    // variables allows 52 nodes and 78 edges.
+    // one of two parts is faulty: with a third that is held to be faulty; the cheaper one alone; and the one that is held to be faulty. A
+    // sum of 12 over 7 variables allows 52 nodes and 78 edges.
     Written {
         name: "f.dev",
         text: EQUAL,
@@ -176,7 +176,7 @@ static WRITTEN: [Written; 18] = [
         allowed: &[0b101],
         end: b"\n",
     },
-    // if a gate is faulty each row is allowed, and if it is ok those in which its output is what it is to be
+    // a faulty gate allows each row, and one that is ok those in which its output is right
     Written {
         name: "f.bench",
         text: b"INPUT(a)\nINPUT(b)\ny = AND(a, b)\n",
@@ -246,7 +246,7 @@ static WRITTEN: [Written; 18] = [
     },
 ];
 
-// The bit for a variable, that for the first being the lowest.
+// The bit of a variable. The first variable has the lowest bit.
 fn bit_of(bits: u32, var: u32) -> bool {
     let mut rest = bits;
     for _ in 1..var {
@@ -255,7 +255,7 @@ fn bit_of(bits: u32, var: u32) -> bool {
     rest % 2 == 1
 }
 
-// Whether the root of a graph is true under bits for its variables.
+// Whether the root of a graph is true under these bits.
 fn is_true(alloc: Global, graph: &Graph, bits: u32) -> Result<bool, Fail> {
     let mut values = Vec::new(alloc);
     for node in 0..graph.len() {
@@ -307,7 +307,7 @@ fn writes_what_is_allowed(rt: HostRuntime) -> Result<(), Fail> {
     Ok(())
 }
 
-// A netlist that is compiled, and what is asked of what was written: the words, the script and what is written.
+// A netlist that is compiled, and a run over the graph: its words, its script, and what it writes.
 static ASKED: [(&[u8], [&str; 3], &[u8], &[u8]); 2] = [
     // The parts b and c of the chain are the variables 1 and 2, and its wires a, b and c the next three.
     (

@@ -1,6 +1,6 @@
-//! Words that ask for nothing that the program does.
+//! Words that have no form.
 
-/// A line for each run: its words, with a blank between each two. The empty line has none, and `\x20` ends in an empty word.
+/// A line for each run: its words, with a blank between. The empty line has no word, and `\x20` ends in an empty word.
 pub const WRONG: &str = "
 serve
 --help

@@ -16,7 +16,7 @@ use Rattle.dnnf_compiler.specs.inner.Joining.{IsPlain}
 use Rattle.dnnf_compiler.specs.inner.Making.{IsMaker, IsJoin}
 use Rattle.dnnf_compiler.proofs.MadeNodes.{grows_by, kept_in, adds_store, get-push}
 
--- ---- what mentions a variable is none
+-- ---- a node that mentions a variable is no constant
 
 filled : (x : ℕ) (ks : List ℕ) → (length (x ∷ ks) == 0) ≡ false
 filled x ks = grind arith
@@ -27,7 +27,7 @@ silent nodes v what ks e = grind (arith, nil_from_length)
 pub named_plain : (vars : ℕ) (nodes : List Node) (k v : ℕ) → AreNodes vars nodes → mentions nodes v k ≡ true → IsPlain nodes k
 named_plain vars nodes k v are named = grind (arith, value_of-get (mention_by v) nodes k, fits-get vars nodes k, silent nodes v)
 
--- any node but the two that are kept is none
+-- each node except `yes` and `no` is no constant
 pub other_plain : (m : Maker) → IsMaker m → (k : ℕ) → k ≢ m.yes → k ≢ m.no → IsPlain m.store.nodes k
 other_plain m is k not_yes not_no node there = grind (arith, is.store.once k m.yes true_node, is.store.once k m.no false_node, is.yes_node, is.no_node, nil_from_length)
 

@@ -20,13 +20,13 @@ use Rattle.elimination_forests.proofs.PassedClauses.{fail_by, passes_by, passes_
 use Rattle.dnnf_compiler.proofs.Conjunctions.{each_more}
 use Rattle.dnnf_compiler.specs.inner.Placing.{rest_by, left_by, Spot, spots_on, IsSpot}
 
--- ---- a variable gets a bit
+-- ---- a variable is assigned
 
 clause-next : (bound : List ℕ) (v : ℕ) (a : Assignment) (clause : Clause) → is_among bound v ≡ false → not (rest_by bound a clause) ≡ (not (has_true v (a v) clause) && not (rest_by (v ∷ bound) a clause))
 clause-next bound v a [] free = refl
 clause-next bound v a (l ∷ clause) free = grind (arith, nat_tests, clause-next bound v a clause free)
 
--- What is left holds if it does by the variable's bit.
+-- What is left holds exactly if it does after the variable is assigned.
 pub expand_by : (v : ℕ) (place : Place) (a : Assignment) (list : List Bool) → is_among place.bound v ≡ false → left_by place a list ≡ left_by (decided v place) a (next_by v place list (a v))
 expand_by v place a list free =
     ap not ((λ j. some_passes (λ c. clause-next place.bound v a c free j) place.clauses list) ∙ sym (passes_without (λ c. not (rest_by (v ∷ place.bound) a c)) (has_true v (a v)) place.clauses list))
@@ -38,13 +38,13 @@ dead_left place a list e = ap not (passes_by (is_within place.bound) (λ c. not 
 
 -- ---- variables
 
--- what has no bit has none after another variable
+-- what is not assigned stays so after another variable
 free_next : (v : ℕ) (bound vs : List ℕ) → is_among vs v ≡ false → list_all (λ u. not (is_among bound u)) vs ≡ true → list_all (λ u. not (is_among (v ∷ bound) u)) vs ≡ true
 free_next v bound vs apart e = grind (arith, nat_tests, all-in, ne_eqb, eqb-false, none-in, all-at)
 
 -- ---- what is left holds if it does on all trees of a base
 
--- what the parts of a list say on all trees
+-- whether the parts of a list hold on all trees
 abbrev pub trees_hold : Forest → Place → Assignment → List Bool → Bool
 trees_hold none base a list = true
 trees_hold (tree v below beside) base a list = left_by (part (v ∷ variables below) base) a (part_of (v ∷ variables below) base list) && trees_hold beside base a list
@@ -69,7 +69,7 @@ along_within : (forest : Forest) (bound : List ℕ) (c : Clause) → is_along fo
 along_within none bound c e f = e
 along_within (tree v below beside) bound c e f = grind (arith, nat_tests, along_within beside bound c, or_parts (meets (v ∷ variables below) c) (meets (variables beside) c) (sym (meets-append (v ∷ variables below) (variables beside) c) ∙ f))
 
--- All its clauses meet the trees.
+-- A list that goes down a forest holds exactly if its parts hold on all trees.
 pub down_holds : (forest : Forest) (base : Place) (a : Assignment) (list : List Bool) → IsDown forest base list → left_by base a list ≡ trees_hold forest base a list
 down_holds forest base a list is = grind (
   arith,
@@ -117,7 +117,7 @@ down_base vars forest base once free fit down = grind (arith, each_more (IsDown 
   along : (list : List Bool) → IsDown forest base list → some_passes (λ c. meets (variables forest) c && not (is_along forest base.bound c)) base.clauses list ≡ false
   along list is = fail_by (λ c. not (is_along forest base.bound c)) (λ c. meets (variables forest) c && not (is_along forest base.bound c)) (λ c e. grind arith) base.clauses list is.along
 
--- ---- after a variable's bit
+-- ---- after a variable is assigned
 
 each_flat : (P Q : List Bool → Type 0) (f : List Bool → List (List Bool)) → ((x : List Bool) → P x → AllByRecursion Q (f x)) → (xs : List (List Bool)) → AllByRecursion P xs → AllByRecursion Q (flat_map f xs)
 each_flat P Q f h [] each = tt
@@ -151,11 +151,9 @@ root_base cnf forest e valid = grind (arith, nat_tests, down_base cnf.vars fores
 
 -- ---- the number of a list
 
--- a list is at its number
 pub number_at : (lists : List (List Bool)) (x : List Bool) → In x lists → slice_get lists (number_in lists x) ≡ Some x
 number_at lists x there = grind (arith, position-Some (λ other. same_list other x) lists (number_in lists x) [], found-at (λ other. same_list other x) lists, any_in (λ other. same_list other x) x lists there, pointwise-refl x, slice_get-get_or lists (number_in lists x) [], pointwise-equal (get_or lists (number_in lists x) []) x)
 
--- the part of a list is at a tree
 pub part_in : (vs : List ℕ) (base : Place) (list : List Bool) → In list base.lists → In (part_of vs base list) (part vs base).lists
 part_in vs base list there = In-met same_list pointwise-equal (part_of vs base list) (map (part_of vs base) base.lists) (In-map (part_of vs base) list base.lists there)
 
@@ -163,7 +161,7 @@ In-flat : (f : List Bool → List (List Bool)) (x y : List Bool) (xs : List (Lis
 In-flat f x y [] there given = absurd there
 In-flat f x y (z ∷ xs) there given = grind (arith, In-append_left y (f z) (flat_map f xs), In-append_right y (f z) (flat_map f xs), In-flat f x y xs)
 
--- what a bit leaves is on the base after it
+-- what a bit leaves is on the base after the bit
 pub next_in : (v : ℕ) (place : Place) (list : List Bool) (bit : Bool) → In list place.lists → is_dead_by (v ∷ place.bound) place.clauses (next_by v place list bit) ≡ false
     → In (next_by v place list bit) (decided v place).lists
 next_in v place list false there alive = In-met same_list pointwise-equal _ _ (In-flat (λ l. followed_by v place l false ++ followed_by v place l true) list (next_by v place list false) place.lists there (grind (arith, alive)))

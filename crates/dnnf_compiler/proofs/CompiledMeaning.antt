@@ -12,7 +12,7 @@ use Rattle.clause_encoder.specs.Encoding.{encoded, DescribesBy, Describes}
 use Rattle.clause_encoder.proofs.Sizes.{encoded-is}
 use Rattle.dnnf_compiler.specs.Compiled.{SaysAll}
 
--- With what is said of clauses and of their graph, the graph is true if they describe that bits fit.
+-- If clauses describe which bits fit, and a graph says all of them, it is the graph of what fits.
 pub graph_over : (parts wires : ℕ) (fits_by : List Bool → List Bool → Bool) (cnf : ClauseList) (graph : Graph) → parts + wires ≤ cnf.vars → DescribesBy cnf parts wires fits_by
     → graph.vars ≡ cnf.vars → SaysAll cnf.clauses graph → IsGraphOver parts wires fits_by graph
 graph_over parts wires fits_by cnf graph enough describes vars says = record {
@@ -24,7 +24,7 @@ graph_over parts wires fits_by cnf graph enough describes vars says = record {
       ∙ describes state bits states all;
 }
 
--- With what the encoder says of a device's clauses, it is the graph of the device.
+-- If the encoder's clauses describe a device, their graph is the graph of the device.
 pub graph_of_device : (device : Device) (cnf : ClauseList) (graph : Graph) → encoded device ≡ Ok cnf → Describes cnf device
     → graph.vars ≡ cnf.vars → SaysAll cnf.clauses graph → IsGraphOver (length device.parts) (length device.wires) (fits device) graph
 graph_of_device device cnf graph is describes vars says =

@@ -1,4 +1,4 @@
--- What is made of nodes that are all to be true.
+-- Conjunctions of nodes.
 use Rattle.std.proofs.Common.{◌≡◌, ◌≢◌, ℕ, ◌+◌, ◌<◌, ◌≤◌, Bool, not, ◌&&◌, List, [], ◌∷◌, ◌++◌, map, length, drop, get_or, refl, arith, inl, inr}
 use Rattle.std.specs.Prelude.{◌==◌}
 use Rattle.std.specs.List.{list_any, list_all, filter, AllByRecursion}
@@ -30,7 +30,7 @@ pub all_same : {X : Type 0} (f g : X → Bool) (xs : List X) → ((x : X) → In
 all_same f g [] h = refl
 all_same f g (x ∷ xs) h = λ j. h x (inl refl) j && all_same f g xs (λ y m. h y (inr m)) j
 
--- ---- those that are always true are left out
+-- ---- nodes that are always true are left out
 
 abbrev pub keeps_of : Maker → ℕ → Bool
 keeps_of m k = not (k == m.yes)
@@ -51,7 +51,7 @@ module _ (m : Maker) (is : IsMaker m) where
   one_kept v [] = refl
   one_kept v (k ∷ kids) = grind (arith, nat_tests, one_kept v kids, any_kept v kids, list_any-map, is.yes.variables v)
 
-  -- ---- while children are gone over
+  -- ---- while children are read
 
   pub kept_more : (kids kept : List ℕ) (i k : ℕ) → i < length kids → k ≡ get_or kids i 0 → k ≢ m.yes → kept ++ filter (keeps_of m) (drop i kids) ≡ filter (keeps_of m) kids → (kept ++ k ∷ []) ++ filter (keeps_of m) (drop (i + 1) kids) ≡ filter (keeps_of m) kids
   kept_more kids kept i k low at e so_far = grind (arith, nat_tests, append_assoc, drop_more kids i 0 low)
@@ -65,7 +65,7 @@ module _ (m : Maker) (is : IsMaker m) where
     pub kept_few : length kept ≤ length kids
     kept_few = grind (arith, e, length-filter-le (keeps_of m) kids)
 
-    -- what is made says what those that are kept say
+    -- what is made says what the kept nodes say
     meet_by : (new : Maker) (node : ℕ) → Adds m new 1 (length kids) → node < length new.store.nodes → (length kids ≤ 1 → Adds m new 0 0)
         → ((a : Assignment) → is_true new.store.nodes node a ≡ list_all (λ k. is_true its k a) kept) → ((v : ℕ) → mentions new.store.nodes v node ≡ list_any (mentions its v) kept) → IsMeet m new kids node
     meet_by new node adds within alone truth variables =

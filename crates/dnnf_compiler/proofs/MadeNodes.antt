@@ -24,7 +24,7 @@ pub new_maker : (s s' : Stored) (s0 : Stored) (top bottom : ℕ) → Makes s0 s 
     → IsMaker (record { store = s'; yes = top; no = bottom })
 new_maker s s' s0 top bottom make_yes mean_yes make_no mean_no store bare = grind (arith, grows_by, slice_get_within, kept_in)
 
--- ---- nodes come
+-- ---- nodes are added
 
 pub adds_not : (m : Maker) (more kids : ℕ) → IsMaker m → Adds m m more kids
 adds_not m more kids is = grind arith

@@ -69,7 +69,7 @@ begun nodes (tree v below beside) base (level ∷ levels) list once there are = 
   node : (k < length level.items) × IsNodeAt (record { v = v; below = below; place = part (v ∷ variables below) base }) (part_of (v ∷ variables below) base list) nodes (slice_index level.items k)
   node = grind (arith, are.0, number_at (part (v ∷ variables below) base).lists (part_of (v ∷ variables below) base list) (part_in (v ∷ variables below) base list there), slice_get_within, slice_get-get_or level.items k 0)
 
--- ---- if a list is there, there are no more trees than lists
+-- ---- if there is a list, there are no more trees than lists
 
 pub trees_few : (forest : Forest) (base : Place) (list : List Bool) → In list base.lists → trees forest ≤ sum_on Lists forest base
 trees_few none base list there = omega arith

@@ -52,7 +52,7 @@ abbrev pub all_sum : List Spot → ℕ
 all_sum [] = 0
 all_sum (spot ∷ spots) = (length spot.place.lists + sum_on Lists spot.below (decided spot.v spot.place)) + all_sum spots
 
--- those of the trees of a base
+-- the places of the trees of a base
 record AreOn (most : ℕ) (forest : Forest) (base : Place) : Type 0 where
   steps : flat_map its_steps (spots_on forest base) ≡ steps_of forest
   forks : flat_map its_forks (spots_on forest base) ≡ forks_on forest base
@@ -71,7 +71,7 @@ all_sum-append (x ∷ xs) ys = omega (arith, all_sum-append xs ys)
 sum_next : (s : Spot) (rest : List Spot) → length s.place.lists + all_sum (spots_below s ++ rest) ≡ all_sum (s ∷ rest)
 sum_next s rest = grind (arith, all_sum-append (spots_below s) rest, are_on 0 s.below (decided s.v s.place))
 
--- what is known of the places when so many steps are left out
+-- what is known of the places when the first `i` steps are left out
 record IsAfter (vars most sum i : ℕ) (steps : List Step) (forks : List Forks) (spots : List Spot) : Type 0 where
   steps_are : flat_map its_steps spots ≡ drop i steps
   forks_are : flat_map its_forks spots ≡ drop i forks
@@ -127,7 +127,7 @@ pub record IsClimbing (cnf : ClauseList) (most : ℕ) (m : Maker) (stack : List 
   pub made : m.store.made ≤ 2 + 3 * all_sum spots
   pub handed : m.store.handed ≤ (4 + 2 * most) * all_sum spots
 
--- The nodes at the base of all may be met, and the graph of what they meet in is right.
+-- The conjunction of the nodes on the root of the forest may be made, and its graph is right.
 pub record IsRoot (cnf : ClauseList) (forest : Forest) (m : Maker) (kids : List ℕ) : Type 0 where
   pub meetable : AreMeetable m kids
   pub right : (new : Maker) (node : ℕ) (compiled : Compiled) → IsMeet m new kids node → IsGraph compiled.graph → IsFrozen new.store node compiled.graph → compiled.made ≡ new.store.made
@@ -177,7 +177,7 @@ module _ (cnf : ClauseList) (steps : List Step) (forks : List Forks) (forest : F
         → IsClimbing cnf (width forest) new (under ++ numbers ∷ []) (spots_at (start cnf forest) i)
     climb_more new under numbers raised = grind (arith, next.are, raised, climbing, climbed, known, sum_next next.spot next.rest, are_on 0 next.spot.below (decided next.spot.v next.spot.place), children_few m.store.handed new.store.handed (trees next.spot.below) (width forest), reverse-append under (numbers ∷ []))
 
-  -- ---- the base of all
+  -- ---- the root of the forest
 
   module _ (valid : is_clause_list cnf ≡ true) (m : Maker) (stack : List (Vec ℕ Global)) (climbing : IsClimbing cnf (width forest) m stack (spots_at (start cnf forest) 0)) where
     abbrev all : List Bool

@@ -13,9 +13,10 @@ use elimination_forests::{Forks, Step};
 use node_store::Store;
 use std::alloc::Global;
 
-/// The decomposable graph that is true exactly if all clauses are, from the steps of a forest of them and the forks along it.
+/// Compiles clauses to a decomposable graph that is true exactly if all of them are, from the steps of a forest of them and the forks
+/// along it.
 ///
-/// The lists along the forest are at most `BUDGET_LIMIT`. They bound how often a node is made, and so the size of the graph.
+/// The lists along the forest are at most `BUDGET_LIMIT`. They bound how many nodes are made, and so the size of the graph.
 pub fn compile_along(
     alloc: Global,
     cnf: &Cnf,
@@ -41,7 +42,6 @@ pub fn compile_along(
     Ok(compiled)
 }
 
-// The graph of a node.
 fn graph_of(store: Store, root: u32) -> Result<Compiled, Memory>
     requires { root < length store.nodes }
     ensures graph { IfOk result (λ compiled. IsFrozen store root compiled.graph) }
@@ -55,7 +55,7 @@ fn graph_of(store: Store, root: u32) -> Result<Compiled, Memory>
     }
 }
 
-// Makes the nodes of one place of the forest. It takes those of the places right below from the stack.
+// Makes the nodes of one place of the forest. Takes those of the places right below from the stack.
 fn make_step(
     alloc: Global,
     maker: &mut Maker,
@@ -73,7 +73,7 @@ fn make_step(
     Ok(nodes)
 }
 
-// Takes so many from the end of a stack. The last one comes first.
+// Takes `count` items from the end of a stack. The last one comes first.
 fn take_top(alloc: Global, stack: &mut Vec<Vec<u32>>, count: usize) -> Result<Vec<Vec<u32>>, Memory>
     requires { count ≤ length stack.old.items }
     ensures taken { IfOk result (λ top. reverse stack.old.items ≡ top.items ++ reverse stack.new.items) }
@@ -86,7 +86,6 @@ fn take_top(alloc: Global, stack: &mut Vec<Vec<u32>>, count: usize) -> Result<Ve
     Ok(top)
 }
 
-// How many lists all places have.
 fn count_lists(forks: &[Forks]) -> usize
     ensures { result ≡ min (sum_by (λ fork. length fork.zero.ways) forks.now) usize.MAX }
 {

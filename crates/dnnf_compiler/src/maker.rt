@@ -9,7 +9,7 @@ use node_store::Store;
 use smallvec::SmallVec;
 use std::alloc::{AllocError, Global};
 
-/// Children: mostly two.
+/// The children of a node, mostly two.
 pub(crate) type Children = SmallVec<u32, 2>;
 
 /// Makes nodes. `yes` is always true, and `no` never.
@@ -21,7 +21,7 @@ pub(crate) struct Maker {
 }
 
 impl Maker {
-    /// A maker over so many variables, with room for so many nodes.
+    /// Creates a maker over `vars` variables, with room for `room` nodes.
     pub(crate) fn new(alloc: Global, vars: u32, room: usize) -> Result<Maker, AllocError>
         requires { vars < VARIABLE_LIMIT }
         ensures maker { IfOk result IsMaker }
@@ -76,8 +76,8 @@ impl Maker {
         Ok(node)
     }
 
-    // Makes the node that is true if the variable has the bit, and all nodes to which the way leads are true. There is none for
-    // what is never true.
+    // Makes the node that is true if the variable has the bit, and all nodes to which the way leads are true. Returns none only if that is
+    // never true.
     fn take(
         &mut self,
         alloc: Global,
@@ -104,8 +104,7 @@ impl Maker {
         Ok(Some(node))
     }
 
-    /// The node that is true if all of these are. It leaves out those that are always true, and makes none if one is never true, or
-    /// if one alone is left.
+    /// Makes the node that is true if all of these are. Leaves out `yes`, and makes no node if one is `no`, or if at most one is left.
     pub(crate) fn meet(&mut self, alloc: Global, kids: &[u32]) -> Result<u32, AllocError>
         requires { AreMeetable self.old kids.now }
         ensures { IfOk result (IsMeet self.old self.new kids.now) }
@@ -131,7 +130,7 @@ impl Maker {
         }
     }
 
-    // The node that is true if one of two is.
+    // Makes the node that is true if one of two is.
     fn join(&mut self, zero: Option<u32>, one: Option<u32>) -> Result<u32, AllocError>
         requires maker { IsMaker self.old }
         requires zero { IfSome zero (λ node. node < length self.old.store.nodes) }
@@ -153,7 +152,7 @@ impl Maker {
     }
 }
 
-/// Adds to children the nodes to which numbers lead, one of each level.
+/// Adds to children the nodes that have these numbers, one of each level.
 pub(crate) fn taken(
     kids: Children,
     numbers: &[u32],

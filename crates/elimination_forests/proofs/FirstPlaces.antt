@@ -6,18 +6,16 @@ use Rattle.std.proofs.lemmas.Bool.{false≢true, le-ltb}
 use Rattle.std.proofs.lemmas.Bool.Decides.{nat_tests}
 use Rattle.std.proofs.lemmas.List.{take_all}
 
--- what is in a front has the same place in the whole
+-- an item found in the front has the same place in the whole
 pub place-front : {X : Type 0} (p : X → Bool) (xs ys : List X) → list_any p xs ≡ true → position_or_len p (xs ++ ys) ≡ position_or_len p xs
 place-front p [] ys e = absurd (false≢true e)
 place-front p (x ∷ xs) ys e = grind (arith, place-front p xs ys)
 
--- It is among the first so many if it is one of them.
 pub place-low : {X : Type 0} (p : X → Bool) (i : ℕ) (xs : List X) → i ≤ length xs → nat_lt (position_or_len p xs) i ≡ list_any p (take i xs)
 place-low p zero xs h = le-ltb (position_or_len p xs) 0 (omega arith)
 place-low p (suc i) [] h = absurd (omega arith)
 place-low p (suc i) (x ∷ xs) h = grind (arith, nat_tests, place-low p i xs)
 
--- It is somewhere if one is there.
 pub place-there : {X : Type 0} (p : X → Bool) (xs : List X) → nat_lt (position_or_len p xs) (length xs) ≡ list_any p xs
 place-there p xs = grind (arith, place-low, take_all)
 

@@ -1,4 +1,4 @@
--- At the last level of an order all variables have bits: there is one living list, or none if no bits make all clauses true.
+-- At the last level of an order all variables are assigned: it has one living list, or none if no bits make all clauses true.
 use Rattle.std.proofs.Common.{◌≡◌, ℕ, ◌*◌, ◌<◌, ◌≤◌, inl, inr, Bool, true, false, not, List, [], ◌∷◌, map, length, refl, ap, sym, ◌∙◌, arith}
 use Rattle.std.specs.List.{list_all, filter}
 use Rattle.std.proofs.lemmas.Bool.{both_ways, false≢true, not-true}
@@ -42,7 +42,7 @@ module _ (clauses : List Clause) where
   pub last-size : size clauses (length its_order) ≡ 1
   last-size = grind (arith, filter-within clauses (is_active its_order (length its_order)), covered-last its_order, filter-never clauses)
 
-  -- all living lists of the last level are one, which has no clause
+  -- the only living list of the last level, if there is one, has no clause
   pub last-one : length (living clauses (length its_order)) ≤ 1
   last-one =
       let lists = map (left clauses) (lists_of_bits (length its_order)) in
@@ -60,7 +60,7 @@ module _ (a : Assignment) where
   left-gone [] c v e f = absurd (false≢true e)
   left-gone (u ∷ vs) c v e f = grind (arith, nat_tests, left-gone vs c v)
 
-  -- one of its literals is true, by its variable's bit
+  -- a true clause is not left: its variable's bit makes a literal of it true
   gone : (vs : List ℕ) (c : Clause) → is_within vs c ≡ true → is_true_clause a c ≡ true → is_left vs (map a vs) c ≡ false
   gone vs c within holds =
       let found = any_from (λ l. same_bit (is_positive l) (a (var_of l))) c holds in

@@ -1,4 +1,4 @@
--- Whether a list is left at the last level: one is if some list of the level before leads on.
+-- Whether the last level has a list: it does if some list of the level before leads on.
 use Rattle.std.proofs.Common.{◌≡◌, ℕ, zero, suc, ◌+◌, ◌<◌, ◌≤◌, Bool, true, false, ◌||◌, List, [], ◌∷◌, ◌++◌, map, length, take, drop, get_or, refl, ap, sym, ◌∙◌, arith}
 use Rattle.std.specs.Prelude.{is_some, if◌then◌else◌}
 use Rattle.std.specs.List.{list_any, flat_map, range_with_len}

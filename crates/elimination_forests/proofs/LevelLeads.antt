@@ -1,4 +1,4 @@
--- What the living lists of a level lead to.
+-- Where the living lists of a level lead.
 use Rattle.std.proofs.Common.{◌≡◌, ℕ, ◌+◌, ◌<◌, Bool, true, false, List, length, Some, None, refl, ap, sym, ◌∙◌, arith}
 use Rattle.std.specs.Prelude.{if◌then◌else◌}
 use Rattle.std.proofs.lemmas.Bool.{both_ways, false_from_ne_true}
@@ -12,7 +12,6 @@ use Rattle.elimination_forests.proofs.FirstPlaces.{found-at, not-found}
 use Rattle.elimination_forests.proofs.Lists.{is_among}
 use Rattle.elimination_forests.proofs.LevelSteps.{living_are_living, living-in, living-next}
 
--- What a bit leaves of a living list is at a place of the next level, unless it is dead.
 pub leads : (clauses : List Clause) (i : ℕ) (list : List Bool) (bit : Bool) → i < length (order clauses) → IsLiving clauses i list
     → leads_to clauses i list bit ≡ (if is_dead clauses (i + 1) (branch clauses i list bit) then None else Some (number_in (living clauses (i + 1)) (branch clauses i list bit)))
 leads clauses i list bit low is = by (is_dead clauses (i + 1) next) refl where

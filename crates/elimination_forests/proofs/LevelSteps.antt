@@ -1,4 +1,4 @@
--- Steps from one level to the next, and lists of one state: what the laws and the sum are on.
+-- Steps from one level to the next, and lists with the same state: the base of the laws and of the sum.
 use Rattle.std.proofs.Common.{◌≡◌, ℕ, zero, suc, ◌+◌, ◌*◌, ◌<◌, ◌≤◌, Bool, true, false, not, ◌&&◌, List, [], ◌∷◌, ◌++◌, map, length, take, drop, get_or, refl, ap, arith}
 use Rattle.std.specs.List.{filter, flat_map}
 use Rattle.std.proofs.lemmas.List.Folds.{flat_map-map}
@@ -13,7 +13,7 @@ use Rattle.elimination_forests.proofs.Lists.{longer, lists_of_bits-more, flat_ma
 use Rattle.elimination_forests.proofs.VariableOrder.{AllOnce, first_met-once, untouched-left, covered-without, covered-more}
 use Rattle.elimination_forests.proofs.PassedClauses.{passes_by, passes_without}
 
--- the living lists that a list leaves, for the bit 0 and then for 1
+-- the living lists that a list leads to, by the bit 0 and then by 1
 abbrev pub branches : List Clause → ℕ → List Bool → List (List Bool)
 branches clauses i list =
     filter (λ next. not (is_dead clauses (i + 1) next)) (branch clauses i list false ∷ branch clauses i list true ∷ [])
@@ -24,7 +24,7 @@ pub no_bits : (vs : List ℕ) (c : Clause) → is_left vs [] c ≡ true
 no_bits [] c = refl
 no_bits (v ∷ vs) c = refl
 
--- A clause is left if it was, unless the next bit makes it true.
+-- A clause is left if it was, and the next bit does not make it true.
 pub is_left-more : (vs : List ℕ) (bits : List Bool) (bit : Bool) (c : Clause) → length bits < length vs
     → is_left vs (bits ++ bit ∷ []) c ≡ (is_left vs bits c && not (has_true (get_or vs (length bits) 0) bit c))
 is_left-more [] bits bit c h = absurd (omega arith)
@@ -35,7 +35,6 @@ without-map : (f g test : Clause → Bool) → ((c : Clause) → f c ≡ (g c &&
 without-map f g test h [] = refl
 without-map f g test h (c ∷ cs) = λ i. h c i ∷ without-map f g test h cs i
 
--- What is left under one further bit is what was left, without the clauses in which the next variable's literal is true.
 pub left-next : (clauses : List Clause) (bits : List Bool) (bit : Bool) → length bits < length (order clauses)
     → left clauses (bits ++ bit ∷ []) ≡ branch clauses (length bits) (left clauses bits) bit
 left-next clauses bits bit h = grind (arith, without-map, is_left-more)
@@ -43,13 +42,12 @@ left-next clauses bits bit h = grind (arith, without-map, is_left-more)
 pub order-once : (clauses : List Clause) → AllOnce (order clauses)
 order-once clauses = first_met-once _
 
--- What a bit leaves of a dead list is dead.
 pub dead-next : (clauses : List Clause) (i : ℕ) (list : List Bool) (bit : Bool) → i < length (order clauses) → is_dead clauses i list ≡ true → is_dead clauses (i + 1) (branch clauses i list bit) ≡ true
 dead-next clauses i list bit h e = grind (arith, passes_without, passes_by (is_covered (order clauses) i), covered-without (order clauses) i bit, covered-more (order clauses) i, order-once clauses)
 
 -- ---- the living lists of the next level
 
--- what both bits leave of a list
+-- what each bit leaves of a list
 abbrev both : List Clause → ℕ → List Bool → List (List Bool)
 both clauses i list = branch clauses i list false ∷ branch clauses i list true ∷ []
 
@@ -60,26 +58,24 @@ left-lists clauses i h = grind (arith, lists_of_bits-more i, map-flat_map (left 
 abbrev pub is_alive : List Clause → ℕ → List Bool → Bool
 is_alive clauses i list = not (is_dead clauses i list)
 
--- The living lists of the next level are the different living lists that one further bit leaves of those of this one.
 pub living_lists-next : (clauses : List Clause) (i : ℕ) → i < length (order clauses) → living clauses (i + 1) ≡ different (flat_map (branches clauses i) (living clauses i))
 living_lists-next clauses i h = grind (arith, left-lists, filter-flat_map, flat_map-filter, different-flat_map, dead-next)
 
--- What is among the living lists of a level is a living list of it.
 pub living_are_living : (clauses : List Clause) (i : ℕ) (list : List Bool) → In list (living clauses i) → IsLiving clauses i list
 living_are_living clauses i list m = grind (arith, In-filter, met-In, pointwise-equal, from_map, bits_length)
 
--- and so is no other
+-- Each living list of a level is in `living`.
 pub living-in : (clauses : List Clause) (i : ℕ) (list : List Bool) → IsLiving clauses i list → In list (living clauses i)
 living-in clauses i list is = grind (arith, In-map, bits_in, In-met, pointwise-equal, In-filtered)
 
--- What a bit leaves of a living list is one if it is not dead.
+-- What a bit leaves of a living list is living, unless it is dead.
 pub living-next : (clauses : List Clause) (i : ℕ) (list : List Bool) (bit : Bool) → i < length (order clauses) → IsLiving clauses i list
     → is_dead clauses (i + 1) (branch clauses i list bit) ≡ false → IsLiving clauses (i + 1) (branch clauses i list bit)
 living-next clauses i list bit low is alive = grind (arith, length-append is.bits (bit ∷ []), left-next clauses is.bits bit)
 
--- ---- lists with one state
+-- ---- lists with the same state
 
--- What is known of a list of a level: it has each clause of which no variable has a bit, and none of which all have.
+-- What is known of a list of a level: it has each clause without an assigned variable, and none whose variables are all assigned.
 abbrev pub Known : List ℕ → ℕ → List Clause → List Bool → Type 0
 Known vs i [] [] = Unit {0}
 Known vs i [] (b ∷ list) = ⊥
@@ -125,6 +121,5 @@ pub length-state_bits : (clauses : List Clause) (i : ℕ) (list : List Bool) →
     → length (bits_of (is_active (order clauses) i) clauses list) ≡ length (filter (is_active (order clauses) i) clauses)
 length-state_bits clauses i list h = length-bits_of (is_active (order clauses) i) clauses list (omega (arith, length-known (order clauses) i clauses list (known clauses i list h)))
 
--- Two living lists of a level with the same state are equal.
 pub equal_states-equal_lists : (clauses : List Clause) (i : ℕ) (ks ls : List Bool) → IsLiving clauses i ks → IsLiving clauses i ls → state_of clauses i ks ≡ state_of clauses i ls → ks ≡ ls
 equal_states-equal_lists clauses i ks ls h k e = grind (arith, length-state_bits clauses i ks h, length-state_bits clauses i ls k, same-known (order clauses) i clauses ks ls (known clauses i ks h) (known clauses i ls k), words-same)

@@ -1,4 +1,4 @@
--- Lists of which each is kept once.
+-- Lists without repetitions.
 use Rattle.std.proofs.Common.{◌≡◌, ℕ, zero, suc, inl, inr, Bool, true, false, not, ◌&&◌, ◌||◌, List, [], ◌∷◌, ◌++◌, map, refl, ap, sym, ◌∙◌, subst, arith}
 use Rattle.std.specs.List.{list_any, list_all, filter, flat_map, AllByRecursion}
 use Rattle.std.proofs.Math.Bool.{and_comm, and_self}
@@ -58,7 +58,7 @@ pub filter-flat_map : {X Y : Type 0} (p : Y → Bool) (f : X → List Y) (xs : L
 filter-flat_map p f [] = refl
 filter-flat_map p f (x ∷ xs) = filter-append p (f x) (flat_map f xs) ∙ ap (λ ys. filter p (f x) ++ ys) (filter-flat_map p f xs)
 
--- if what is left out gives nothing
+-- A filter changes nothing if what it drops gives nothing.
 pub flat_map-filter : {X Y : Type 0} (p : X → Bool) (f : X → List Y) → ((x : X) → p x ≡ false → f x ≡ []) → (xs : List X) → flat_map f (filter p xs) ≡ flat_map f xs
 flat_map-filter p f none [] = refl
 flat_map-filter p f none (x ∷ xs) = grind (arith, none x, flat_map-filter p f none xs)
@@ -67,12 +67,11 @@ pub each-map : {X Y : Type 0} (P : X → Type 0) (Q : Y → Type 0) (f : X → Y
 each-map P Q f h [] all = tt
 each-map P Q f h (x ∷ xs) all = (h x all.0, each-map P Q f h xs all.1)
 
--- what passes a filter has what all have, and passes
 pub each-filter : {X : Type 0} (P Q : X → Type 0) (p : X → Bool) → ((x : X) → P x → p x ≡ true → Q x) → (xs : List X) → AllByRecursion P xs → AllByRecursion Q (filter p xs)
 each-filter P Q p h [] all = tt
 each-filter P Q p h (x ∷ xs) all = grind (arith, h x all.0, each-filter P Q p h xs all.1)
 
--- ---- items of which each is kept once
+-- ---- items, each kept once
 
 module _ {X : Type 0} (same : X → X → Bool) (exact : (x y : X) → same x y ≡ true → x ≡ y) where
   pub In-met : (x : X) (xs : List X) → In x xs → In x (first_met same xs)
@@ -91,11 +90,9 @@ module _ {X : Type 0} (same : X → X → Bool) (exact : (x y : X) → same x y 
 
 -- ---- different lists
 
--- whether a list is one of these
 abbrev pub is_among : List (List Bool) → List Bool → Bool
 is_among lists list = list_any (λ other. same_list other list) lists
 
--- those that are not among others
 abbrev apart : List (List Bool) → List (List Bool) → List (List Bool)
 apart others lists = filter (λ list. not (is_among others list)) lists
 
@@ -108,20 +105,20 @@ none-apart ks = empty-none (apart ks (different ks)) (λ list m.
     let found = In-filter (λ l. not (is_among ks l)) list (different ks) m in
     both_ways (is_among ks list) (not-true (is_among ks list) found.1) (any_in (λ l. same_list l list) list ks (met-In same_list pointwise-equal list ks found.0) (pointwise-refl list)))
 
--- what is not among some, of first ones and then others
+-- the different lists of `xs` and then of `zs`, without `ks`
 seen_first : (ks xs zs : List (List Bool)) → apart ks (different (xs ++ zs)) ≡ apart ks (different xs) ++ apart xs (apart ks (different zs))
 seen_first ks xs zs = grind (arith, different-append, filter-append, filter-swap)
 
 seen_again : (ks zs : List (List Bool)) → apart ks (different (ks ++ zs)) ≡ apart ks (different zs)
 seen_again ks zs = grind (arith, different-append, filter-append, none-apart, filter-twice)
 
--- Once what a list gives is there, the list itself may be left out.
+-- If what a list gives is there already, the list itself may be left out.
 absorbed : (f : List Bool → List (List Bool)) (x : List Bool) (ds : List (List Bool))
     → apart (f x) (different (flat_map f (filter (λ list. not (same_list x list)) ds))) ≡ apart (f x) (different (flat_map f ds))
 absorbed f x [] = refl
 absorbed f x (y ∷ ds) = grind (arith, absorbed f x ds, seen_first, seen_again, pointwise-equal)
 
--- What the different lists give is what all give.
+-- The different lists give the same different lists as all lists.
 pub different-flat_map : (f : List Bool → List (List Bool)) (xs : List (List Bool)) → different (flat_map f (different xs)) ≡ different (flat_map f xs)
 different-flat_map f [] = refl
 different-flat_map f (x ∷ xs) = grind (arith, different-append, absorbed f x, different-flat_map f xs)
@@ -132,7 +129,7 @@ each-different P (x ∷ lists) all = (all.0, each-filter P P (λ list. not (same
 
 -- ---- lists of bits
 
--- a list of bits with one more at its end, 0 and then 1
+-- a list of bits with one more at its end: 0, and 1
 abbrev pub longer : List Bool → List (List Bool)
 longer bits = (bits ++ false ∷ []) ∷ (bits ++ true ∷ []) ∷ []
 

@@ -1,4 +1,4 @@
--- The order of the variables, as they are first met.
+-- The order of the variables, as they first occur.
 use Rattle.std.proofs.Common.{◌≡◌, ℕ, suc, ◌+◌, ◌<◌, ◌≤◌, ◌^◌, Bool, true, not, ◌||◌, cond, List, [], ◌∷◌, ◌++◌, length, refl, sym, arith}
 use Rattle.std.specs.Prelude.{◌==◌}
 use Rattle.std.specs.List.{list_any, list_all, filter}
@@ -15,7 +15,7 @@ among vs v = list_any (same_variable v) vs
 pub eqb-swap : (u v : ℕ) → (u == v) ≡ (v == u)
 eqb-swap u v = grind (arith, nat_tests)
 
--- ---- what is met first
+-- ---- first occurrences
 
 pub same_exact : (u v : ℕ) → same_variable u v ≡ true → u ≡ v
 same_exact u v e = sym (eqb-true v u e)

@@ -1,4 +1,4 @@
--- Which clauses of a list pass a test, and variables that are once.
+-- Which clauses of a list pass a test, and variables that occur once.
 use Rattle.std.proofs.Common.{◌≡◌, ℕ, Bool, true, false, not, ◌&&◌, ◌||◌, List, [], ◌∷◌, ◌++◌, refl, ap, sym, ◌∙◌, arith}
 use Rattle.std.specs.List.{list_all}
 use Rattle.std.proofs.lemmas.Bool.{false≢true}
@@ -12,17 +12,15 @@ use Rattle.elimination_forests.proofs.Lists.{all-at}
 
 -- ---- lists of clauses
 
--- tests that agree wherever another fails
+-- tests that agree where `r` fails, if no clause of the list passes `r`
 pub agree : (r p q : Clause → Bool) → ((c : Clause) → r c ≡ false → p c ≡ q c) → (cs : List Clause) (list : List Bool) → some_passes r cs list ≡ false → some_passes p cs list ≡ some_passes q cs list
 agree r p q h [] list e = refl
 agree r p q h (c ∷ cs) [] e = refl
 agree r p q h (c ∷ cs) (b ∷ list) e = grind (arith, h c, agree r p q h cs list)
 
--- what fails for all of a list
 pub fail_by : (p q : Clause → Bool) → ((c : Clause) → p c ≡ false → q c ≡ false) → (cs : List Clause) (list : List Bool) → some_passes p cs list ≡ false → some_passes q cs list ≡ false
 fail_by p q h cs list e = sym (agree p p q (λ c f. f ∙ sym (h c f)) cs list e) ∙ e
 
--- what one passes
 pub passes_by : (p q : Clause → Bool) → ((c : Clause) → p c ≡ true → q c ≡ true) → (cs : List Clause) (list : List Bool) → some_passes p cs list ≡ true → some_passes q cs list ≡ true
 passes_by p q h cs list e = grind (arith, fail_by)
 
@@ -36,7 +34,7 @@ passes_or p q [] list = refl
 passes_or p q (c ∷ cs) [] = refl
 passes_or p q (c ∷ cs) (b ∷ list) = grind (arith, passes_or p q cs list)
 
--- if all clauses of a list pass a test, it may be asked for
+-- if all clauses of a list pass `t`, then asking for `t` too changes nothing
 pub passes_full : (t p : Clause → Bool) (cs : List Clause) (list : List Bool) → some_passes (λ c. not (t c)) cs list ≡ false → some_passes (λ c. t c && p c) cs list ≡ some_passes p cs list
 passes_full t p = grind (arith, agree)
 
@@ -68,7 +66,6 @@ pub once_front : (xs ys : List ℕ) → is_once (xs ++ ys) ≡ true → is_once 
 once_front [] ys e = refl
 once_front (x ∷ xs) ys e = grind (arith, first_apart, once_front xs ys)
 
--- a variable of the first ones is not among the others
 pub once_apart : (xs ys : List ℕ) (u : ℕ) → is_once (xs ++ ys) ≡ true → is_among xs u ≡ true → is_among ys u ≡ false
 once_apart [] ys u e f = absurd (false≢true f)
 once_apart (x ∷ xs) ys u e f = grind (arith, nat_tests, first_apart xs ys x, once_apart xs ys u)

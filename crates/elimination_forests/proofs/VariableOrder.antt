@@ -1,4 +1,4 @@
--- The order of the variables, and which of them have bits at a level.
+-- The order of the variables, and which of them are assigned at a level.
 use Rattle.std.proofs.Common.{◌≡◌, ℕ, zero, suc, ◌+◌, ◌<◌, Bool, true, false, not, cond, List, [], ◌∷◌, length, get_or, ℤ, refl, ap, arith}
 use Rattle.std.specs.Prelude.{◌==◌, nat_lt}
 use Rattle.std.specs.List.{list_any, filter}
@@ -32,18 +32,18 @@ place-at [] k once h = absurd (omega arith)
 place-at (v ∷ vs) zero once h = ap (λ t. cond (not t) (1 + place vs v) 0) (eq-eqb v v refl)
 place-at (v ∷ vs) (suc k) once h = grind (arith, nat_tests, place-at vs k once.1 (omega arith), none-in (λ u. u == v) (get_or vs k 0) vs once.0 (In-at vs k 0 (omega arith)))
 
--- ---- clauses that have no bit, and clauses that have all
+-- ---- clauses without an assigned variable, and clauses with all variables assigned
 
 further : (t : Bool) (k i : ℕ) → nat_lt (cond (not t) (1 + k) 0) (suc i) ≡ false → (t ≡ false) × (nat_lt k i ≡ false)
 further t k i e = grind arith
 
--- A clause that no variable of has a bit is left.
+-- A clause without an assigned variable is left.
 pub untouched-left : (vs : List ℕ) (bits : List Bool) (c : Clause) → ((l : ℤ) → In l c → nat_lt (place vs (var_of l)) (length bits) ≡ false) → is_left vs bits c ≡ true
 untouched-left [] bits c h = refl
 untouched-left (v ∷ vs) [] c h = refl
 untouched-left (v ∷ vs) (bit ∷ bits) c h = grind (arith, any-none, untouched-left vs bits)
 
--- A clause whose variables all have bits has not the next variable.
+-- A clause whose variables are all assigned does not have the next one.
 pub covered-without : (vs : List ℕ) (i : ℕ) (bit : Bool) (c : Clause) → AllOnce vs → i < length vs → is_covered vs i c ≡ true → has_true (get_or vs i 0) bit c ≡ false
 covered-without vs i bit c once h e = grind (arith, nat_tests, any-none, ltb-true, all-at, ne_eqb, place-at)
 

@@ -8,10 +8,10 @@ ghost use Rattle.elimination_forests.specs.declared.steps.Weight.TheVariants.{Wo
 ghost use Rattle.elimination_forests.specs.Forests.{Forest, chain, is_forest_of, root, sum_on, forest_sum, forks_on, leads_on};
 ghost use Rattle.elimination_forests.specs.Levels.{level_forks};
 
-/// The order of a clause list is a forest of its clauses, one way down, with the same forks.
+/// States that the order of a clause list is a forest of its clauses, one path down, with the same forks.
 ///
-/// Its sum is that of the levels if some bits make all clauses true, and else it is one more: at the last level, if all variables
-/// have bits, there is one list or none.
+/// The sum along it is that of the levels if some bits make all clauses true, and otherwise one more: the last level, where all variables
+/// are assigned, has one list or none.
 pub fn chain_is_order()
     ensures forest { (cnf : ClauseList) → is_clause_list cnf ≡ true → is_forest_of (chain (order cnf.clauses)) cnf ≡ true }
     ensures sum { (cnf : ClauseList) (a : Assignment) → is_clause_list cnf ≡ true → all_hold a cnf.clauses ≡ true
@@ -27,9 +27,9 @@ pub fn chain_is_order()
         ≡ map (level_forks cnf.clauses) (range_with_len 0 (length (order cnf.clauses))) }
 {}
 
-/// There are no more lists along a forest than they take words.
+/// States that the lists along a forest are at most as many as the words that they take.
 ///
-/// So along the order of the names the lists are no more than its sum, if some bits make all clauses true.
+/// So along the order of the names they are at most its sum, if some bits make all clauses true.
 pub fn lists_are_fewer()
     ensures fewer { (forest : Forest) (clauses : List Clause) → forest_sum Lists forest clauses ≤ forest_sum Words forest clauses }
     ensures chain { (cnf : ClauseList) (a : Assignment) → is_clause_list cnf ≡ true → all_hold a cnf.clauses ≡ true

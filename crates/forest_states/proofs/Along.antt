@@ -1,4 +1,4 @@
--- One place of a forest: what happens to the states of its lists is what happens to the lists.
+-- One place of a forest: what happens to its lists happens to their states.
 use Rattle.std.proofs.Common.{◌≡◌, ℕ, Bool, true, false, not, cond, List, [], ◌∷◌, ◌++◌, map, Some, None, get_or, refl, ap, ◌∙◌, arith}
 use Rattle.std.specs.Prelude.{option_to_list, option_map, if◌then◌else◌}
 use Rattle.std.specs.List.{filter, flat_map, position_or_len, AllByRecursion}
@@ -54,7 +54,7 @@ module _ (ws bound : List ℕ) (cs : List Clause) (lists : List (List Bool)) (kn
     part-mapped = ap different (parts-mapped lists known)
         ∙ different-mapped (IsKnown own bound cs) (state_of own bound cs) (λ x y p q e. bits-lists own bound cs x y p q e) (map own_part lists) (known-parts lists known)
 
-    -- where the state of a list leads to
+    -- where the state of a list leads
     column-mapped : (list : List Bool) → IsKnown ws bound cs list
         → position_or_len (is_same (picked (flags_of own) (state_of ws bound cs list))) (part_states (flags_of own) states)
         ≡ number_in (part own (at bound cs lists)).lists (own_part list)
@@ -91,7 +91,7 @@ module _ (ws bound : List ℕ) (cs : List Clause) (lists : List (List Bool)) (kn
       λ j. row-mapped (v ∷ variables below) (meets_wider (v ∷ variables below) ws (λ u e. inside u (grind (arith, list_any-append)))) list there it j
       ∷ rows-mapped beside (λ u e. inside u (grind (arith, list_any-append))) list there it j
 
--- ---- where a variable gets a bit
+-- ---- a variable is assigned
 
 module _ (v : ℕ) (below : Forest) (bound : List ℕ) (cs : List Clause) (ends : AllByRecursion (Ends v (variables below) bound) cs) where
   abbrev ws : List ℕ
@@ -103,7 +103,7 @@ module _ (v : ℕ) (below : Forest) (bound : List ℕ) (cs : List Clause) (ends 
   abbrev is_dead : List Bool → Bool
   is_dead list = is_dead_by (v ∷ bound) cs list
 
-  -- what a bit leaves, if it is not dead
+  -- what a bit leaves, or nothing if it is dead
   abbrev alive_by : Bool → List Bool → List (List Bool)
   alive_by bit list = filter (λ next. not (is_dead next)) (left_by bit list ∷ [])
 

@@ -1,4 +1,4 @@
--- The bits that runs select.
+-- The bits that runs pick.
 use Rattle.std.proofs.Common.{◌≡◌, ℕ, zero, suc, ◌+◌, ◌<◌, ◌≤◌, Bool, true, false, List, [], ◌∷◌, ◌++◌, length, drop, get_or, replicate, refl, ap, sym, ◌∙◌, arith}
 use Rattle.std.proofs.lemmas.Bool.Decides.{nat_tests}
 use Rattle.std.proofs.lemmas.List.{length-append, length-replicate, replicate-append-replicate, append_assoc, append-nil, drop-drop, drop_more, drop_all}
@@ -11,7 +11,7 @@ use Rattle.forest_states.specs.inner.Descents.{picked}
 abbrev pub none : Run
 none = record { others = 0; count = 0 }
 
--- ---- flags more
+-- ---- more flags
 
 pub flags-more : (runs : List Run) (last next : Run) (more : List Bool) → flag_run next ≡ flag_run last ++ more → flags_in runs next ≡ flags_in runs last ++ more
 flags-more [] last next more e = e

@@ -18,7 +18,7 @@ IsKnown vs bound (c ∷ clauses) [] = ⊥
 IsKnown vs bound (c ∷ clauses) (b ∷ list) =
     (meets vs c ≡ false → b ≡ false) × (meets bound c ≡ false → meets vs c ≡ true → b ≡ true) × IsKnown vs bound clauses list
 
--- A clause of a tree ends where it meets no variable below the root.
+-- A clause of a tree ends if it meets no variable below the root.
 abbrev pub Ends : ℕ → List ℕ → List ℕ → Clause → Type 0
 Ends v ws bound c = meets (v ∷ ws) c ≡ true → is_within (v ∷ bound) c ≡ not (meets ws c)
 
@@ -27,11 +27,11 @@ abbrev pub transition_of : ℕ → List ℕ → Clause → ClauseTransition
 transition_of v bound c =
     record { fresh = not (meets bound c); true_at_0 = has_true v false c; true_at_1 = has_true v true c; ends = is_within (v ∷ bound) c }
 
--- the same of those that are met
+-- the same for those that are met
 abbrev pub table_of : ℕ → List ℕ → List ℕ → List Clause → List ClauseTransition
 table_of v ws bound cs = map (transition_of v bound) (filter (is_met v ws bound) cs)
 
--- a list, if it is not dead
+-- a list, or none if it is dead
 abbrev pub unless : Bool → List Bool → Option (List Bool)
 unless true list = None
 unless false list = Some list
@@ -48,7 +48,7 @@ ended-unless ends left dead rest = grind arith
 module _ (v : ℕ) (ws bound : List ℕ) (bit : Bool) where
   -- ---- all clauses
 
-  -- What the table leaves of a state is the state of what the bit leaves of the list, if that is not dead.
+  -- The successor of a list's state is the state of what the bit leaves of the list, if that is not dead.
   pub successor-same : (cs : List Clause) (list : List Bool) → AllByRecursion (Ends v ws bound) cs → IsKnown (v ∷ ws) bound cs list
       → successor bit (table_of v ws bound cs) (bits_of (is_active (v ∷ ws) bound) cs list)
       ≡ unless (some_passes (is_within (v ∷ bound)) cs (without (has_true v bit) cs list)) (bits_of (is_active ws (v ∷ bound)) cs (without (has_true v bit) cs list))
@@ -87,7 +87,7 @@ module _ (vs bound : List ℕ) where
     abbrev part_at : List Clause → List Bool → List Bool
     part_at cs list = without (λ c. not (meets own c)) cs list
 
-    -- What is picked of a state is the state of the part.
+    -- What is picked of a list's state is the state of the part.
     pub picked-same : (cs : List Clause) (list : List Bool) → IsKnown vs bound cs list
         → picked (map (meets own) (filter (is_active vs bound) cs)) (bits_of (is_active vs bound) cs list) ≡ bits_of (is_active own bound) cs (part_at cs list)
     picked-same [] list known = refl

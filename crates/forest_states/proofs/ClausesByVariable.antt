@@ -38,7 +38,7 @@ module _ (of : List (List ℕ)) (u v number : ℕ) (base : List ℕ) (c : Clause
   pub has : vars_rise 0 c ≡ true → v < length of → Goal (set of u (get_or of u [] ++ number ∷ []))
   has rise within = grind (arith, nat_tests, has-more v c k d low, rise-new 0 c k d rise low, get_or-set_same, get_or-set_other, append-nil)
 
--- one clause more
+-- one more clause
 pub numbers-more : (p : ℕ → Bool) (n : ℕ) → filter p (range_with_len 0 n) ++ (if p n then n ∷ [] else []) ≡ filter p (range_with_len 0 (n + 1))
 numbers-more p n = grind (arith, filter-append, range_more 0 n)
 

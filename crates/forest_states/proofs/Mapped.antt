@@ -89,7 +89,7 @@ way-below clauses of seen numbers step rest s =
     let table = table_at clauses of seen step.var s.active in
     sym (sym (ways-some (row_at (columns_below clauses of seen numbers step rest s)) (decided_forks table s.states)) ∙ some-decided table (decided_states table s.states) s.states ∙ some-different _)
 
--- one place more
+-- one more place
 pub leads-push : (places : List Forks) (forks : Forks) → leads_on (places ++ forks ∷ []) ≡ has_way forks
 leads-push [] forks = refl
 leads-push (p ∷ []) forks = refl

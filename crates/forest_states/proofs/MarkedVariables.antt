@@ -31,7 +31,7 @@ along-closed (tree v below beside) bound c e = grind (arith, along-closed below 
   beside_wider : (u : ℕ) → is_among (variables beside ++ bound) u ≡ true → is_among (variables (tree v below beside) ++ bound) u ≡ true
   beside_wider u h = grind (arith, list_any-append)
 
--- If its variables have bits or are below, and it meets none below, all have bits.
+-- If all variables of a clause are in `ws` or `bs`, all are in `bs` exactly if it meets none of `ws`.
 pub ends-there : (ws bs : List ℕ) → ((u : ℕ) → is_among ws u ≡ true → is_among bs u ≡ false) → (c : Clause) → is_within (ws ++ bs) c ≡ true → is_within bs c ≡ not (meets ws c)
 ends-there ws bs apart [] e = refl
 ends-there ws bs apart (l ∷ c) e = grind (arith, ends-there ws bs apart c, apart (var_of l), list_any-append)
@@ -46,7 +46,7 @@ no-mark zero u = refl
 no-mark (suc n) zero = refl
 no-mark (suc n) (suc u) = no-mark n u
 
--- tests that agree at the variables of a clause
+-- tests that agree on the variables of a clause
 pub any-same : (scope : List ℕ) (size : ℕ) (p q : ℕ → Bool) → ((u : ℕ) → u < size → is_among scope u ≡ true → p u ≡ q u)
     → (c : Clause) → list_all (λ l. nat_lt (var_of l) size) c ≡ true → is_within scope c ≡ true → list_any (λ l. p (var_of l)) c ≡ list_any (λ l. q (var_of l)) c
 any-same scope size p q same [] small closed = refl
@@ -64,7 +64,7 @@ abbrev pub at_all : List ℕ → ℕ → List ℕ → List ℕ
 at_all [] number m = m
 at_all (v ∷ vs) number m = at_all vs number (set m v number)
 
--- with the number of its tree at each variable
+-- the number of its tree at each variable
 abbrev pub sided : ℕ → Forest → List ℕ → List ℕ
 sided j none m = m
 sided j (tree v below beside) m = sided (j + 1) beside (at_all (v ∷ variables below) j m)
@@ -73,7 +73,7 @@ all-append : (xs ys : List ℕ) (number : ℕ) (m : List ℕ) → at_all ys numb
 all-append [] ys number m = refl
 all-append (x ∷ xs) ys number m = all-append xs ys number (set m x number)
 
--- within a tree
+-- inside a tree
 within-numbered : (k b : ℕ) (f : Forest) (n : ℕ) (rest : List Step) (m : List ℕ) → k ≤ n + b → numbered k b (trees f + n) (steps_of f ++ rest) m ≡ numbered k b n rest (at_all (variables f) (b - 1) m)
 within-numbered k b none n rest m high = let same : 0 + n ≡ n = omega arith in ap (λ x. numbered k b x rest m) same
 within-numbered k b (tree v below beside) n rest m high =
@@ -83,13 +83,12 @@ pub numbered-none : (k begun : ℕ) (steps : List Step) (m : List ℕ) → numbe
 numbered-none k begun [] m = refl
 numbered-none k begun (s ∷ steps) m = refl
 
--- beside each other
+-- side by side
 pub beside-numbered : (k j : ℕ) (f : Forest) (rest : List Step) (m : List ℕ) → k ≡ j + trees f → numbered k j (trees f) (steps_of f ++ rest) m ≡ sided j f m
 beside-numbered k j none rest m e = numbered-none k j rest m
 beside-numbered k j (tree v below beside) rest m e =
     grind (arith, nat_tests, append_assoc, within-numbered k (j + 1) below (trees beside) (steps_of beside ++ rest) (set m v j), beside-numbered k (j + 1) beside rest (at_all (v ∷ variables below) j m))
 
--- what is read at a variable
 all-read : (vs : List ℕ) (number : ℕ) (m : List ℕ) (u : ℕ) → u < length m → get_or (at_all vs number m) u 0 ≡ (if is_among vs u then number else get_or m u 0)
 all-read [] number m u low = refl
 all-read (v ∷ vs) number m u low = grind (arith, nat_tests, all-read vs number (set m v number) u, length-set m v number, get_or-set_same, get_or-set_other)
@@ -98,12 +97,12 @@ pub length-all : (vs : List ℕ) (number : ℕ) (m : List ℕ) → length (at_al
 length-all [] number m = refl
 length-all (v ∷ vs) number m = length-all vs number (set m v number) ∙ length-set m v number
 
--- which tree has a variable
+-- the number of the tree that has a variable
 abbrev tree_of : Forest → ℕ → ℕ
 tree_of none u = 0
 tree_of (tree v below beside) u = if is_among (v ∷ variables below) u then 0 else suc (tree_of beside u)
 
--- At each variable is the number of its tree, and at others what was there.
+-- Each variable has the number of its tree, and others have what was there.
 sided-read : (f : Forest) (j : ℕ) (m : List ℕ) (u : ℕ) → u < length m → is_once (variables f) ≡ true
     → get_or (sided j f m) u 0 ≡ (if is_among (variables f) u then j + tree_of f u else get_or m u 0)
 sided-read none j m u low once = refl
@@ -111,7 +110,7 @@ sided-read (tree v below beside) j m u low once =
     let own = v ∷ variables below in
     grind (arith, sided-read beside (j + 1) (at_all own j m) u, length-all own j m, once_back own (variables beside), once_apart own (variables beside) u once, all-read own j m u low, list_any-append)
 
--- the numbers say of each tree which variables it has
+-- the numbers say which variables each tree has
 abbrev pub AreSides : Bool → List ℕ → List ℕ → ℕ → ℕ → Forest → Type 0
 AreSides alone ws nums size j none = Unit {0}
 AreSides alone ws nums size j (tree v below beside) =
@@ -128,7 +127,7 @@ are-from ws nums size j (tree v below beside) once own other = (
       (λ u low there h. grind (arith, list_any-append, own u low there, other u low there)),
 )
 
--- one alone has all of them
+-- a tree alone has all of them
 only-are : (ws nums : List ℕ) (size j : ℕ) (f : Forest) → ((u : ℕ) → is_among ws u ≡ true → is_among (variables f) u ≡ true) → trees f ≡ 1 → AreSides true ws nums size j f
 only-are ws nums size j none inside one = absurd (omega (arith, one))
 only-are ws nums size j (tree v below none) inside one = ((λ u low there. sym (ap (λ vs. is_among vs u) (sym (append-nil (v ∷ variables below))) ∙ inside u there)), tt)
@@ -144,7 +143,7 @@ sides-are below rest m once = by (trees below == 1) refl where
       (λ u low there h. ap (λ ns. get_or ns u 0) (beside-numbered (trees below) 0 below rest m (omega arith)) ∙ sided-read below 0 m u low once ∙ ap (λ b. if b then 0 + tree_of below u else get_or m u 0) h)
       (λ u low there h. absurd (false≢true (sym h ∙ there)))
 
--- ---- the steps one after the other
+-- ---- the steps in turn
 
 pub numbered-more : (k begun left : ℕ) (steps : List Step) (m : List ℕ) (i : ℕ) (d : Step) → i < length steps → (left ≡ 0 → ⊥)
     → numbered k begun left (drop i steps) m

@@ -41,7 +41,7 @@ module _ (transition : ℕ → ClauseTransition) where
         none [] above = refl
         none (o ∷ os) above = ap (λ b. cond b (1 + prefix_len (λ o. nat_lt o a) os) 0) (le-ltb o a (omega (arith, above.0)))
 
-  -- what is met, if some have the variable
+  -- clause `n`, changed if it has the variable
   abbrev pub met_if : (ℕ → Bool) → ℕ → Met
   met_if has n = record { number = n; transition = if has n then transition n else plain }
 
@@ -54,7 +54,7 @@ module _ (transition : ℕ → ClauseTransition) where
   kept-met has [] = refl
   kept-met has (n ∷ ns) = grind (arith, kept-met has ns)
 
--- ---- one clause after the other
+-- ---- the clauses in turn
 
 pub length-after : (e : ClauseTransition) (active : List ℕ) → length (after e active) ≤ length active
 length-after e active = grind (arith, length-drop 1 active)

@@ -22,7 +22,7 @@ filter-mapped : (f : ℕ → Clause) (test : Clause → Bool) (ns : List ℕ) �
 filter-mapped f test [] = refl
 filter-mapped f test (n ∷ ns) = grind (arith, filter-mapped f test ns)
 
--- those that pass
+-- the clauses that pass, by their numbers
 pub passing : (clauses : List Clause) (test : Clause → Bool) → filter test clauses ≡ map (λ n. get_or clauses n []) (filter (λ n. test (get_or clauses n [])) (range_with_len 0 (length clauses)))
 passing clauses test =
     let at = λ (n : ℕ). get_or clauses n [] in
@@ -53,7 +53,7 @@ back-all f k n low high =
     let none : k - k ≡ 0 = omega arith in
     ap (λ m. reverse (map (λ i. f (k - 1 - i)) (range_with_len 0 m))) same ∙ back f k k (omega arith) ∙ ap (λ a. map f (range_with_len a k)) none
 
--- of each variable the clauses that have it, if so many have marks
+-- `of` has the clauses of each variable, and the variables are below `size`
 pub record IsIndex (clauses : List Clause) (of : List (List ℕ)) (size : ℕ) : Type 0 where
   pub each : (v : ℕ) → get_or of v [] ≡ filter (λ n. has_var v (get_or clauses n [])) (range_with_len 0 (length clauses))
   pub small : (n : ℕ) → n < length clauses → list_all (λ l. nat_lt (var_of l) size) (get_or clauses n []) ≡ true

@@ -6,15 +6,14 @@ use Rattle.elimination_forests.specs.Branches.{has_true}
 use Rattle.elimination_forests.specs.Forests.{meets}
 use Rattle.forest_states.specs.inner.Descents.{has_var}
 
--- the clause has begun, and goes on in the tree
+-- whether the clause has begun, and goes on in the tree
 abbrev pub is_active : List ℕ → List ℕ → Clause → Bool
 is_active vs bound c = meets bound c && meets vs c
 
--- it is active, or begins with the variable
+-- whether it is active, or begins with the variable
 abbrev pub is_met : ℕ → List ℕ → List ℕ → Clause → Bool
 is_met v ws bound c = (has_var v c || meets bound c) && (has_var v c || meets ws c)
 
--- a clause meets one variable more
 pub meets-more : (v : ℕ) (bound : List ℕ) (c : Clause) → meets (v ∷ bound) c ≡ (has_var v c || meets bound c)
 meets-more v bound [] = refl
 meets-more v bound (l ∷ c) = grind (arith, meets-more v bound c)

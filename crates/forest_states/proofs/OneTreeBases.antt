@@ -1,4 +1,4 @@
--- A base of which all goes to one tree.
+-- A base that goes to one tree as a whole.
 use Rattle.std.proofs.Common.{◌≡◌, ℕ, zero, suc, ◌+◌, Bool, true, false, not, ◌&&◌, ◌||◌, cond, List, [], ◌∷◌, map, length, get_or, refl, ap, sym, ◌∙◌, subst, arith}
 use Rattle.std.specs.Prelude.{◌==◌}
 use Rattle.std.specs.List.{filter, list_any, list_all, position_or_len, range_with_len, AllByRecursion}
@@ -34,7 +34,6 @@ distinct-different : (ls : List (List Bool)) → AreDistinct (different ls)
 distinct-different [] = tt
 distinct-different (l ∷ ls) = (others-differ l (different ls), distinct-filter (λ s. not (same_list l s)) (different ls) (distinct-different ls))
 
--- each has its own place
 next-range : (a n : ℕ) → map (λ k. 1 + k) (range_with_len a n) ≡ range_with_len (a + 1) n
 next-range a zero = refl
 next-range a (suc n) = let more : 1 + a ≡ a + 1 = omega arith in λ j. more j ∷ next-range (a + 1) n j

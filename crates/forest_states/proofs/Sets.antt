@@ -1,4 +1,4 @@
--- Different lists one after the other.
+-- Different lists in turn.
 use Rattle.std.proofs.Common.{◌≡◌, ℕ, ◌+◌, ◌<◌, Bool, true, false, not, cond, List, [], ◌∷◌, ◌++◌, map, length, take, drop, Some, None, refl, ap, sym, ◌∙◌, arith}
 use Rattle.std.specs.Prelude.{Option, option_to_list, slice_get}
 use Rattle.std.specs.List.{flat_map, position_or_len}
@@ -14,12 +14,12 @@ use Rattle.elimination_forests.proofs.FirstPlaces.{place-front}
 use Rattle.forest_states.specs.inner.BitLists.{is_same}
 use Rattle.forest_states.specs.inner.Descents.{joined, lead}
 
--- bits after others, if there are any
+-- bits before others, if there are any
 abbrev pub behind : List Bool → Option (List Bool) → Option (List Bool)
 behind bits None = None
 behind bits (Some more) = Some (bits ++ more)
 
--- ---- one item more
+-- ---- one more item
 
 take-more : {X : Type 0} (xs : List X) (k : ℕ) (x : X) → slice_get xs k ≡ Some x → take (k + 1) xs ≡ take k xs ++ x ∷ []
 take-more xs k x at = take_more xs k x (slice_get_within xs k x at) ∙ ap (λ y. take k xs ++ y ∷ []) (get_or_from_slice_get xs k x x at)
@@ -31,12 +31,12 @@ mapped-more h xs ys k x at e =
     ∙ ap (λ y. take k (map h xs) ++ y ∷ []) (ap h (sym (get_or_from_slice_get xs k x x at)) ∙ sym (get_or-map h xs k x (h x) (slice_get_within xs k x at)))
     ∙ sym (take_more (map h xs) k (h x) within)
 
--- one list more
+-- one more list
 pub joined-more : (ks : List (List Bool)) (more : Option (List Bool)) → joined (different ks) more ≡ different (ks ++ option_to_list more)
 joined-more ks None = ap different (sym (append-nil ks))
 joined-more ks (Some k) = grind (arith, among-different ks k, different-append ks (k ∷ []), append-nil (different ks))
 
--- what is added after the first ones has its place there
+-- more lists at the end do not change the place of one
 pub place-ahead : (ks : List (List Bool)) (k : List Bool) (more : List (List Bool)) → position_or_len (is_same k) (different ks) ≡ position_or_len (is_same k) (different ((ks ++ k ∷ []) ++ more))
 place-ahead ks k more = by (is_among ks k) refl ∙ back where
   all : List (List Bool)
@@ -56,13 +56,13 @@ pub lead-front : (ks : List (List Bool)) (k : Option (List Bool)) (more : List (
 lead-front ks None more = refl
 lead-front ks (Some k) more = ap (λ n. Some n) (place-ahead ks k more)
 
--- ---- the states of a place one after the other: what each gives by one bit, and then by the other
+-- ---- the states of a place in turn: what each gives by one bit, and then by the other
 
 module _ (f g : List Bool → Option (List Bool)) (states : List (List Bool)) where
   abbrev pub both : List Bool → List (List Bool)
   both s = option_to_list (f s) ++ option_to_list (g s)
 
-  -- what the first states give
+  -- what the first `k` states give
   abbrev pub reached : ℕ → List (List Bool)
   reached k = flat_map both (take k states)
 

@@ -42,7 +42,7 @@ pub record IsItem (clauses : List Clause) (it : Item) (s : Stand) : Type 0 where
   pub active : s.active ≡ filter (λ n. is_active (own_of it) it.bound (get_or clauses n [])) (range_with_len 0 (length clauses))
   pub states : s.states ≡ map (state_of (own_of it) it.bound clauses) it.lists
 
--- a base on which these trees stand, beside others: those of all trees on it
+-- a base with the trees of `f`, perhaps beside others; `ws` has the variables of all its trees
 pub record IsBase (clauses : List Clause) (ws : List ℕ) (f : Forest) (bound : List ℕ) (lists : List (List Bool)) (s : Stand) : Type 0 where
   pub along : (n : ℕ) → n < length clauses → meets (variables f) (get_or clauses n []) ≡ true → is_along f bound (get_or clauses n []) ≡ true
   pub free : (u : ℕ) → is_among (variables f) u ≡ true → is_among bound u ≡ false
@@ -116,7 +116,7 @@ module _ (clauses : List Clause) (ws bound : List ℕ) (lists : List (List Bool)
         states = (λ j. part_states (flags-are j) (h.states j)) ∙ part-mapped ws bound clauses lists h.known (v ∷ variables below) inside;
       }
 
--- ---- where a variable gets a bit
+-- ---- a variable is assigned
 
 module _ (clauses : List Clause) (of : List (List ℕ)) (seen : List Bool) (found : IsIndex clauses of (length seen)) (v : ℕ) (below : Forest) (bound : List ℕ) (lists : List (List Bool)) (s : Stand)
     (h : IsItem clauses (record { v = v; below = below; bound = bound; lists = lists }) s) (before : IsBefore seen bound)

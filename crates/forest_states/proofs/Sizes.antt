@@ -1,4 +1,4 @@
--- How many bits the successors of states have, and the parts of states.
+-- How many bits the successors and the parts of states have.
 use Rattle.std.proofs.Common.{◌≡◌, ℕ, ◌+◌, ◌&&◌, ◌||◌, not, Bool, true, false, List, [], ◌∷◌, map, length, refl, arith}
 use Rattle.std.specs.Prelude.{Option, Some, None, IfSome, if◌then◌else◌}
 use Rattle.std.specs.List.{filter}

@@ -17,7 +17,7 @@ use Rattle.forest_states.proofs.Successors.{successor-transition}
 pub plain-is : (e : ClauseTransition) → is_plain e ≡ true → e ≡ plain
 plain-is e is = grind arith
 
--- ---- clauses more
+-- ---- more clauses
 
 pub spread-run : (es : List Change) (n count : ℕ) → spread es (n + count) ≡ spread es n ++ replicate count plain
 spread-run [] n count = sym (replicate-append-replicate n count plain)
@@ -30,7 +30,7 @@ spread-change (e ∷ es) n x = ap (λ xs. replicate e.run plain ++ (e.transition
 pub spread-rest : (es : List Change) (n : ℕ) → spread es 0 ++ replicate n plain ≡ spread es n
 spread-rest es n = let same : n ≡ 0 + n = omega arith in sym (ap (spread es) same ∙ spread-run es 0 n)
 
--- the next change of those that are there
+-- the next change
 pub spread-next : (es : List Change) (k : ℕ) (e : Change) → k < length es
     → (spread (take k es) 0 ++ replicate (get_or es k e).run plain) ++ (get_or es k e).transition ∷ [] ≡ spread (take (k + 1) es) 0
 spread-next es k e low =
@@ -49,7 +49,7 @@ none = record { run = 0; transition = plain }
 pub byte-low : (b : Bool) → bool_byte b ≤ 1
 byte-low b = grind arith
 
--- those of the first changes
+-- how many clauses the first changes have
 abbrev pub told : List Change → ℕ → ℕ
 told es k = length (spread (take k es) 0)
 

@@ -1,4 +1,4 @@
--- A way down a forest: what was found, and the places that are begun.
+-- A way down a forest: what was found, and the pending places.
 use Rattle.std.proofs.Common.{◌≡◌, ℕ, ◌+◌, ◌≤◌, ◌<◌, set, replicate, Bool, true, false, not, ◌&&◌, List, [], ◌∷◌, ◌++◌, map, length, drop, get_or, get_or-set_other, refl, ap, sym, ◌∙◌, subst, arith}
 use mathlib.Core.Path.{transport}
 use Rattle.std.specs.Prelude.{◌==◌, if◌then◌else◌}
@@ -40,7 +40,7 @@ abbrev pub sum_left : Weight → List Clause → List Item → ℕ
 sum_left weight clauses [] = 0
 sum_left weight clauses (it ∷ items) = (weight_at weight (own_of it) (place clauses it) + sum_on weight it.below (decided it.v (place clauses it))) + sum_left weight clauses items
 
--- with these places begun, and these trees on the base of all
+-- with these pending places, and these trees on the root
 pub record WayOf (weight : Weight) (all : List Step) (clauses : List Clause) (forest : Forest) (i : ℕ) (seen : List Bool) (found : List Forks) (sum : ℕ) (stands : List Stand) (items : List Item) (later : Forest) : Type 0 where
   pub steps : drop i all ≡ steps_left items ++ steps_of later
   pub are : AreItems clauses seen items stands
@@ -53,7 +53,7 @@ pub record WayOf (weight : Weight) (all : List Step) (clauses : List Clause) (fo
 abbrev pub Way : Weight → List Step → List Clause → Forest → ℕ → List Bool → List Forks → ℕ → List Stand → Type 0
 Way weight all clauses forest i seen found sum stands = (items : List Item) × (later : Forest) × WayOf weight all clauses forest i seen found sum stands items later
 
--- one mark more
+-- one more mark
 items-marked : (clauses : List Clause) (seen : List Bool) (v : ℕ) → ((bound : List ℕ) → IsBefore seen bound → IsBefore (set seen v true) bound) → (items : List Item) (stands : List Stand)
     → AreItems clauses seen items stands → AreItems clauses (set seen v true) items stands
 items-marked clauses seen v more [] [] are = are
@@ -162,7 +162,7 @@ module _ (weight : Weight) (all : List Step) (clauses : List Clause) (of : List 
   pub way-most : Way weight all clauses forest i seen found sum (s ∷ stands) → sum + weight_of weight s ≤ forest_sum weight forest clauses
   way-most way = omega (arith, (way-more way).2.total)
 
--- ---- a tree on the base of all
+-- ---- a tree on the root
 
 none-active : (vs : List ℕ) (c : Clause) → is_active vs [] c ≡ false
 none-active vs c = ap (λ m. m && meets vs c) (any-never c)
@@ -195,7 +195,6 @@ pub way-ready : (weight : Weight) (all : List Step) (clauses : List Clause) (for
 way-ready weight all clauses forest i seen found sum [] low way = way-begin weight all clauses forest i seen found sum low way
 way-ready weight all clauses forest i seen found sum (s ∷ stands) low way = way
 
--- what is next
 pub next-is : (before : List Stand) → (s : Stand) × (stands : List Stand) × (s ∷ stands ≡ or_first before)
 next-is [] = (first_stand, [], refl)
 next-is (s ∷ stands) = (s, stands, refl)

@@ -18,11 +18,9 @@ pub length-words : (n : ℕ) (bits : List Bool) → length (words_of n bits) ≡
 length-words zero bits = refl
 length-words (suc n) bits = ap suc (length-words n (drop 64 bits))
 
--- a list that is written over as a whole
 refill-whole : (xs ws : List ℕ) → length ws ≡ length xs → refill (length xs) xs ws ≡ ws
 refill-whole xs ws e = ap (λ ys. take (length xs) (ws ++ ys)) (drop_all (length ws) xs (omega arith)) ∙ ap (take (length xs)) (append-nil ws) ∙ take_all (length xs) ws (omega arith)
 
--- the bits of the words of bits
 pub bits-words : (n m : ℕ) (bits : List Bool) → length bits ≡ n → n ≤ 64 * m → bits_in n (words_of m bits) ≡ bits
 bits-words n m bits long room = ext_get_or false (bits_in n (words_of m bits)) bits (length-map-range_with_len (word_bit (words_of m bits)) 0 n ∙ sym long) (λ i low.
     let within : i < n = omega (arith, length-map-range_with_len (word_bit (words_of m bits)) 0 n) in
@@ -32,7 +30,7 @@ bits-words n m bits long room = ext_get_or false (bits_in n (words_of m bits)) b
 pub length-bits : (n : ℕ) (words : List ℕ) → length (bits_in n words) ≡ n
 length-bits n words = length-map-range_with_len (word_bit words) 0 n
 
--- one word more
+-- one more word
 pub words-longer : (m : ℕ) (bits : List Bool) → length bits ≤ 64 * m → words_of m bits ++ 0 ∷ [] ≡ words_of (m + 1) bits
 words-longer zero bits room = grind (arith, nat_tests)
 words-longer (suc m) bits room = let next : suc (m + 1) ≡ suc m + 1 = omega arith in ap (λ ws. row_number (take 64 bits) ∷ ws) (words-longer m (drop 64 bits) (omega (arith, length-drop 64 bits))) ∙ ap (λ k. words_of k bits) next
@@ -40,7 +38,7 @@ words-longer (suc m) bits room = let next : suc (m + 1) ≡ suc m + 1 = omega ar
 pub words-many : (n : ℕ) (words : List ℕ) → AreBits n words → length words ≡ n / 64 + 1
 words-many n words are = ap length are ∙ length-words (n / 64 + 1) (bits_in n words)
 
--- words with room for some bits more, which stay in one word
+-- words with room for more bits, which stay in one word
 pub words-room : (n c : ℕ) (words : List ℕ) → AreBits n words → n % 64 + c ≡ 64 → words ++ 0 ∷ [] ≡ words_of ((n + c) / 64 + 1) (bits_in n words)
 words-room n c words are e = grind (arith, nat_tests, words-longer, length-bits)
 
@@ -73,7 +71,7 @@ same-words n xs ys ax ay = by (bytes_eq xs ys) refl where
   by false b = sym (false_from_ne_true (is_same (bits_in n xs) (bits_in n ys)) (λ s. false≢true (sym b ∙ (bytes_eq-Decides xs ys).1
       (ax ∙ ap (words_of (n / 64 + 1)) (same-equal (bits_in n xs) (bits_in n ys) s) ∙ sym ay))))
 
--- ---- some bits more
+-- ---- more bits
 
 module _ (n k c row : ℕ) (words before slice put : List ℕ) (more : List Bool) (many_more : length more ≡ c) (is_row : row ≡ row_number more) (within : n % 64 + c ≤ 64)
     (same : k ≡ n) (room : before ≡ words_of ((n + c) / 64 + 1) (bits_in n words)) (is : slice ≡ before) (long : length put ≡ length slice)

@@ -27,7 +27,7 @@ impl Model for BitList {
 }
 
 impl BitList {
-    /// No bits, and room for so many.
+    /// Creates an empty list with room for `room` bits.
     pub(crate) fn new(alloc: Global, room: usize) -> Result<BitList, AllocError>
         ensures { IfOk result (λ bits. bits ≡ []) }
     {
@@ -38,7 +38,7 @@ impl BitList {
         Ok(BitList { words, len: 0 })
     }
 
-    /// So many bits, which are those of one word.
+    /// Creates a list of `len` bits, which are those of one word.
     #[tactic(auto, using(crate::proofs::Rules::bit_list_of_word_steps))]
     pub(crate) fn of_word(alloc: Global, word: u64, len: usize) -> Result<BitList, AllocError>
         requires few { len < 64 }
@@ -49,7 +49,7 @@ impl BitList {
         Ok(BitList { words, len })
     }
 
-    /// The word of bits that are in one.
+    /// Returns the only word.
     pub(crate) fn into_word(self) -> u64
         requires { length self < 64 }
         ensures { result ∷ [] ≡ words_of (length self / 64 + 1) self }
@@ -57,7 +57,7 @@ impl BitList {
         self.words[0]
     }
 
-    /// The words of the bits.
+    /// Returns the words.
     #[tactic(auto, using(crate::proofs::Rules::bit_lengths))]
     pub(crate) fn into_words(self) -> SmallVec<u64, 2>
         ensures { result.items ≡ words_of (length self / 64 + 1) self }
@@ -73,7 +73,7 @@ impl BitList {
         self.put(u64::from(bit), 1)
     }
 
-    /// Adds so many bits of another list from a place on, and 0 for those past its end.
+    /// Adds `count` bits of another list from a place on, and 0 for those past its end.
     #[tactic(auto, using(crate::proofs::Rules::bit_list_append_steps))]
     pub(crate) fn append(
         &mut self,
@@ -94,7 +94,7 @@ impl BitList {
         Ok(())
     }
 
-    /// Adds so many bits, which stay in one word.
+    /// Adds `count` bits, which stay in one word.
     #[tactic(auto, using(crate::proofs::Rules::bit_lengths))]
     pub(crate) fn put(&mut self, row: u64, count: usize) -> Result<(), AllocError>
         requires some { 0 < count }
@@ -112,7 +112,7 @@ impl BitList {
     }
 }
 
-// How many bits to copy at once, of those that are to be copied: they are in one word here and there.
+// How many of the `left` bits to copy at once: they are in one word at both places.
 fn piece(at: usize, len: usize, left: usize) -> usize
     requires { 0 < left }
     ensures some { 0 < result }

@@ -23,7 +23,7 @@ impl<'a> Model for Bits<'a> {
 }
 
 impl<'a> Bits<'a> {
-    /// The first so many bits of words. There are no others.
+    /// Takes the first `len` bits of words, which have no others.
     pub(crate) fn of(words: &'a [u64], len: usize) -> Bits<'a>
         requires { AreBits len words.now }
         ensures { result ≡ bits_in len words.now }
@@ -31,7 +31,6 @@ impl<'a> Bits<'a> {
         Bits { words, len }
     }
 
-    /// How many bits there are.
     #[tactic(auto, using(crate::proofs::Rules::bit_lengths))]
     pub(crate) fn len(&self) -> usize
         ensures { result ≡ length self.now }
@@ -39,7 +38,7 @@ impl<'a> Bits<'a> {
         self.len
     }
 
-    /// The bit at a place, and 0 past the end.
+    /// Returns the bit at a place, or 0 past the end.
     #[tactic(auto, using(crate::proofs::Rules::bits_at_steps))]
     pub(crate) fn at(&self, place: usize) -> bool
         ensures { result ≡ bit_in self.now place }
@@ -50,7 +49,7 @@ impl<'a> Bits<'a> {
         (self.words[place / 64] >> (place % 64)) & 1 == 1
     }
 
-    /// So many bits from a place on, which are in one word.
+    /// Returns `count` bits from a place on, which are in one word.
     #[tactic(auto, using(crate::proofs::Rules::bits_read_steps))]
     pub(crate) fn read(&self, at: usize, count: usize) -> u64
         requires some { 0 < count }

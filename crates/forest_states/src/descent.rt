@@ -12,24 +12,24 @@ use std::alloc::Global;
 /// What is found along a forest.
 #[derive(Debug, Drop)]
 pub struct Descended {
-    /// Where the lists of each place lead to, in the order of the steps.
+    /// Where the lists of each place lead, in the order of the steps.
     pub forks: Vec<Forks>,
     pub measured: Measured,
 }
 
-/// How many lists there are along a forest.
+/// What is measured along a forest.
 #[derive(Clone, Copy, Debug, PartialEq, Eq)]
 pub struct Measured {
-    /// What the lists of all places count, and one for the base of all.
+    /// What the lists of all places count, and one for the root.
     pub sum: u32,
     /// Whether a list of the last place leads on, or there is no place.
     pub leads_on: bool,
 }
 
-/// Goes down a forest, and finds where the lists of each place lead to.
+/// Goes down a forest, and finds where the lists of each place lead.
 ///
-/// The steps are those of a forest of the clauses, `weight` is what a list counts, and `top` is the limit. If the sum is above the limit,
-/// there is no answer, and only then.
+/// The steps are those of a forest of the clauses, `weight` is what a list counts, and `top` is the limit. Returns none if the sum is above
+/// the limit, and only then.
 pub fn descend(
     alloc: Global,
     cnf: &Cnf,
@@ -51,9 +51,9 @@ pub fn descend(
     go_along(alloc, cnf, steps, weight, top, true)
 }
 
-/// The sum over the places of a forest, and one for the base of all, and whether the last place leads on.
+/// Computes the sum along a forest, and whether the last place leads on.
 ///
-/// The arguments are those of `descend`. This keeps the states of two places at a time, and of those that are begun, and no forks.
+/// The arguments are those of `descend`. It keeps the states of two places at a time and of the pending places, and no forks.
 pub fn measure_along(
     alloc: Global,
     cnf: &Cnf,
@@ -76,7 +76,7 @@ pub fn measure_along(
     }
 }
 
-// What is found along a forest, without the forks if these are not kept.
+// Goes down a forest, and keeps the forks if `keep` is set.
 fn go_along(
     alloc: Global,
     cnf: &Cnf,
@@ -137,7 +137,7 @@ fn add_forks(alloc: Global, found: &Leads, forks: &mut Vec<Forks>) -> Result<(),
     Ok(())
 }
 
-// The frontier of a way down: which variables have bits, in which trees the others are, the places that are begun, and the sum.
+// The frontier of a way down: which variables are assigned, in which trees the others are, the pending places, and the sum.
 #[derive(Drop)]
 struct Frontier {
     seen: Vec<bool>,
@@ -147,7 +147,7 @@ struct Frontier {
 }
 
 impl Frontier {
-    // Nothing has a bit, for so many variables.
+    // Nothing is assigned yet.
     fn new(alloc: Global, size: usize) -> Result<Frontier, Memory>
         ensures seen { IfOk result (λ frontier. frontier.seen.items ≡ replicate size false) }
         ensures numbers { IfOk result (λ frontier. length frontier.numbers.items ≡ size) }
@@ -162,7 +162,7 @@ impl Frontier {
         })
     }
 
-    // Where the next place leads to, unless the sum with it is above the limit. Forks are found only if they are kept.
+    // Returns where the next place leads, or none if the sum with it is above the limit. Finds forks only if they are kept.
     fn next_place(
         &mut self,
         alloc: Global,
@@ -214,7 +214,7 @@ impl Frontier {
     }
 }
 
-// The sum with a place more, unless it is above the limit.
+// The sum with one more place, or none if it is above the limit.
 fn sum_with(spot: &Spot, weight: Weight, sum: u32, top: u32) -> Option<u32>
     requires within { sum ≤ top }
     requires top { top < 2 ^ 31 }

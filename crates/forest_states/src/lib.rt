@@ -1,4 +1,4 @@
-//! The way down a forest of variables: which lists of clauses are left at each place, where they lead to, and what they count.
+//! The way down a forest of variables: the lists of clauses left at each place, where they lead, and what they count.
 #![tactic(auto)]
 
 mod bit_list;

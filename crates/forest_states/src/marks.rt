@@ -8,7 +8,6 @@ use clause_encoder::Cnf;
 use elimination_forests::Step;
 use std::alloc::{AllocError, Global};
 
-/// Marks a variable.
 pub(crate) fn mark(marks: &mut Vec<bool>, var: u32)
     ensures { marks.new.items ≡ slice_set marks.old.items var true }
 {
@@ -17,7 +16,7 @@ pub(crate) fn mark(marks: &mut Vec<bool>, var: u32)
     }
 }
 
-/// Writes at each variable the number of its tree, for so many trees, whose steps come first. One tree alone needs no numbers.
+/// Writes at each variable the number of its tree, for `trees` trees, whose steps come first. One tree alone needs no numbers.
 pub(crate) fn number_trees(numbers: &mut Vec<u32>, trees: u32, steps: &[Step])
     ensures numbers { numbers.new.items ≡ numbers_at trees steps.now numbers.old.items }
     ensures long { length numbers.new.items ≡ length numbers.old.items }
@@ -44,7 +43,7 @@ fn write_trees(numbers: &mut Vec<u32>, trees: u32, steps: &[Step])
     }
 }
 
-// How many trees have begun at a step, if so many are left.
+// How many trees have begun at a step, if `left` are left.
 fn begun_at(trees: u32, begun: u32, left: u128) -> u32
     requires some { 0 < left }
     requires few { left < 2 ^ 127 }
@@ -75,7 +74,7 @@ fn write(numbers: &mut Vec<u32>, var: u32, number: u32)
     }
 }
 
-/// The clause of a number, and none past the last.
+/// Returns the clause of a number, or an empty one past the last.
 pub(crate) fn clause_of(cnf: &Cnf, number: u32) -> &[i32]
     ensures { result.now ≡ clause_at cnf.now.clauses number }
 {
@@ -86,7 +85,7 @@ pub(crate) fn clause_of(cnf: &Cnf, number: u32) -> &[i32]
     }
 }
 
-/// Whether an active clause goes to a tree out of so many: to one alone, or it has a variable there that is not marked.
+/// Whether an active clause goes to one of `trees` trees: it is the only one, or has an unmarked variable of the clause.
 pub(crate) fn goes_to(
     cnf: &Cnf,
     trees: u32,
@@ -129,7 +128,6 @@ pub(crate) fn is_marked(marks: &[bool], literal: i32) -> bool
     var < marks.len() && marks[var]
 }
 
-/// The clauses that have a variable.
 pub(crate) fn clauses_with(of: &[Vec<u32>], var: u32) -> &[u32]
     ensures { result.now ≡ slice_index_or (map (λ v. v.items) of.now) var [] }
 {
@@ -140,7 +138,7 @@ pub(crate) fn clauses_with(of: &[Vec<u32>], var: u32) -> &[u32]
     }
 }
 
-/// For each variable the numbers of the clauses that have it.
+/// Finds for each variable the numbers of the clauses that have it.
 #[tactic(auto, using(crate::proofs::Rules::find_clauses_steps))]
 pub(crate) fn find_clauses(alloc: Global, cnf: &Cnf) -> Result<Vec<Vec<u32>>, AllocError>
     ensures valid { is_clause_list cnf.now ≡ true }

@@ -12,10 +12,10 @@ use crate::rows::{meets, with_bits, without};
 use crate::transition_tables::ClauseTransition;
 use std::alloc::{AllocError, Global};
 
-/// A transition table of few clauses in words, by which a bit does what it does to all clauses at once.
+/// A transition table of few clauses in words, by which a bit changes all clauses at once.
 #[derive(Drop)]
 pub(crate) struct Masks {
-    // those that begin
+    // the clauses that begin
     pub(crate) fresh: Picks,
     // those that do not end
     pub(crate) kept: Picks,
@@ -26,7 +26,7 @@ pub(crate) struct Masks {
 }
 
 impl Masks {
-    /// No clauses.
+    /// Returns a table of no clauses.
     pub(crate) fn new(alloc: Global) -> Masks
         ensures masked { IsMasked result [] }
         ensures none { result.len ≡ 0 }
@@ -41,7 +41,7 @@ impl Masks {
         }
     }
 
-    /// Adds so many clauses that stay as they are.
+    /// Adds `count` clauses that stay as they are.
     #[tactic(auto, using(crate::proofs::Rules::masks_skip_steps))]
     pub(crate) fn skip(&mut self, count: usize) -> Result<(), AllocError>
         requires table { (table : List ClauseTransition) × IsMasked self.old table }
@@ -57,7 +57,7 @@ impl Masks {
         Ok(())
     }
 
-    /// Adds what happens to one clause more.
+    /// Adds what happens to one more clause.
     pub(crate) fn push(&mut self, transition: ClauseTransition) -> Result<(), AllocError>
         requires table { (table : List ClauseTransition) × IsMasked self.old table }
         requires few { self.old.len + 1 < 64 }
@@ -73,7 +73,7 @@ impl Masks {
         Ok(())
     }
 
-    /// The successors of a state by the bits 0 and 1, unless they are dead.
+    /// Returns the successors of a state by the bits 0 and 1, unless they are dead.
     #[tactic(auto, using(crate::proofs::Rules::masks_successors_steps))]
     pub(crate) fn successors(
         &self,
@@ -91,7 +91,7 @@ impl Masks {
         Ok((zero, one))
     }
 
-    // What is left of the clauses of a word if some of them are true, unless it is dead.
+    // The clauses of a word that are left if some are true, or none if that is dead.
     #[tactic(auto, using(crate::proofs::Rules::masks_leave_steps))]
     fn leave(&self, alloc: Global, met: u64, are_true: u64) -> Result<Option<BitList>, AllocError>
         requires few { length self.now.kept < 64 }

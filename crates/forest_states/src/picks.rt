@@ -10,7 +10,7 @@ use crate::rows::{first_bits, later_bits, ones, with_bits};
 use std::alloc::{AllocError, Global};
 use std::marker::Model;
 
-/// So many bits that are picked, after so many others.
+/// `count` bits that are picked, after `others` that are not.
 #[derive(Clone, Copy, Debug)]
 pub(crate) struct Run {
     pub(crate) others: usize,
@@ -34,7 +34,6 @@ impl Model for Picks {
 }
 
 impl Picks {
-    /// No bits yet.
     pub(crate) fn new(alloc: Global) -> Picks
         ensures { result ≡ [] }
     {
@@ -47,7 +46,7 @@ impl Picks {
         }
     }
 
-    /// Adds whether the next so many bits are picked.
+    /// Adds whether the next `count` bits are picked.
     #[tactic(auto, using(crate::proofs::Rules::picks_push_steps))]
     pub(crate) fn push(&mut self, is_picked: bool, count: usize) -> Result<(), AllocError>
         requires { length self.old + count < 2 ^ 63 }
@@ -69,7 +68,7 @@ impl Picks {
         Ok(())
     }
 
-    /// The bits of a state that are picked, with room for so many.
+    /// Returns the bits of a state that are picked, with room for `room`.
     pub(crate) fn pick(
         &self,
         alloc: Global,
@@ -84,7 +83,7 @@ impl Picks {
         Ok(bits)
     }
 
-    /// The bits of a word that are picked, and how many they are.
+    /// Returns the bits of a word that are picked, and their number.
     pub(crate) fn pick_row(&self, word: u64) -> (u64, usize)
         requires { length self.now < 64 }
         ensures { (state : List Bool) → word ≡ row_number state → (result.0 ≡ row_number (picked self.now state)) × (result.1 ≡ length (picked self.now state)) }
@@ -92,7 +91,7 @@ impl Picks {
         pick_row(self.runs.as_slice(), self.last, word)
     }
 
-    /// A word that is 1 where a bit is picked, and has the bits of another word in turn where none is.
+    /// Returns a word that is 1 where a bit is picked, and elsewhere has the bits of another word in turn.
     pub(crate) fn fill_row(&self, word: u64) -> u64
         requires { length self.now < 64 }
         ensures { (state : List Bool) → word ≡ row_number state → result ≡ row_number (filled self.now state) }
@@ -101,7 +100,7 @@ impl Picks {
     }
 }
 
-// Adds the bits of a state that runs pick, to none.
+// Adds the bits of a state that runs pick to an empty list.
 #[tactic(auto, using(crate::proofs::Rules::add_picked_steps))]
 fn add_picked(
     bits: &mut BitList,
@@ -140,7 +139,7 @@ fn pick_row(runs: &[Run], last: Run, word: u64) -> (u64, usize)
     (pick_run(last, left, len, from), len + last.count)
 }
 
-// Adds the bits that a run picks to so many others.
+// Adds the bits that a run picks to `len` others.
 #[tactic(auto, using(crate::proofs::Rules::run_steps))]
 fn pick_run(run: Run, left: u64, len: usize, from: u64) -> u64
     requires { len + run.others + run.count < 64 }
@@ -170,7 +169,7 @@ fn fill_row(runs: &[Run], last: Run, word: u64) -> u64
     fill_run(last, left, len, from)
 }
 
-// Adds the bits that a run does not pick, and a 1 for each that it picks, to so many others.
+// Adds the bits that a run does not pick, and a 1 for each that it picks, to `len` others.
 #[tactic(auto, using(crate::proofs::Rules::run_steps))]
 fn fill_run(run: Run, left: u64, len: usize, from: u64) -> u64
     requires { len + run.others + run.count < 64 }

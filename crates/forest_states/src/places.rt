@@ -17,36 +17,36 @@ use clause_encoder::Cnf;
 use elimination_forests::{Forks, Step, Ways};
 use std::alloc::{AllocError, Global};
 
-/// A place that is begun: its active clauses, by rising numbers, and its states, which have a bit for each of these.
+/// A pending place: its active clauses, by rising numbers, and its states, which have a bit for each of these.
 #[derive(Drop)]
 pub(crate) struct Spot {
     pub(crate) active: Vec<u32>,
     pub(crate) states: States,
 }
 
-/// Where a state leads to: the places of what its bits leave, among the states after them. There is none if that is dead.
+/// Where a state leads by each bit: the place of its successor among those of all states, or none if it is dead.
 #[derive(Clone, Copy, Debug, PartialEq, Eq)]
 pub(crate) struct Fork {
     pub(crate) zero: Option<u32>,
     pub(crate) one: Option<u32>,
 }
 
-/// Where the states of a place lead to: by a bit to those of its base, and from there by a column into each tree on it.
+/// Where the states of a place lead: by a bit to those of its base, and from there by a column into each tree on it.
 ///
-/// There are no columns if the base is the place of its one tree.
+/// There are no columns if the base is the place of its only tree.
 #[derive(Drop)]
 pub(crate) struct Leads {
     pub(crate) trees: u32,
     pub(crate) columns: Option<Vec<Vec<u32>>>,
-    // none if no forks are to be found
+    // empty if forks are not kept
     pub(crate) leads: Vec<Fork>,
     // whether a state leads on
     pub(crate) has_way: bool,
 }
 
-/// Where the states of a place lead to, without the forks if these are not kept.
+/// Finds where the states of a place lead, without the forks if these are not kept.
 ///
-/// This marks its variable, and adds the places right below to those that are begun.
+/// Marks the variable of the place, and adds the places right below to the pending ones.
 #[tactic(auto, using(crate::proofs::Rules::go_down_steps))]
 pub(crate) fn go_down(
     alloc: Global,
@@ -93,7 +93,7 @@ pub(crate) fn go_down(
     })
 }
 
-// Where the states of a place lead to by the bit of its variable, and the base below.
+// Finds where the states of a place lead by the bit of its variable, and the base below.
 #[tactic(auto, using(crate::proofs::Rules::go_by_bit_steps))]
 fn go_by_bit(
     alloc: Global,
@@ -118,7 +118,7 @@ fn go_by_bit(
     Ok((leads, Spot { active, states }))
 }
 
-// Where the states of a base lead to in each tree on it. A base of which all goes to one tree is the place of that tree.
+// Finds where the states of a base lead in each tree on it. If all goes to one tree, the base is the place of that tree.
 fn go_below(
     alloc: Global,
     cnf: &Cnf,
@@ -144,14 +144,14 @@ fn go_below(
     Ok(Some(columns))
 }
 
-// Whether there is one tree on a base, so that each active clause goes to it, and so each bit of a state.
+// Whether one tree is on a base, so that each active clause goes to it, and so each bit of a state.
 fn is_whole(trees: u32, base: &Spot) -> bool
     ensures { result ≡ true → ((trees == 1) && list_all (λ s. length s == length base.now.active.items) base.now.states.lists) ≡ true }
 {
     trees == 1 && base.states.size() == base.active.len()
 }
 
-// Where the states of a base lead to in each tree on it. The places of the trees are added, the first tree's last.
+// Finds where the states of a base lead in each tree on it, and adds the places of the trees, the first tree's last.
 fn go_apart(
     alloc: Global,
     cnf: &Cnf,
@@ -178,7 +178,7 @@ fn go_apart(
     Ok(columns)
 }
 
-// Where the states of a base lead to in a tree on it, and the place of the tree.
+// Finds where the states of a base lead in a tree on it, and the place of the tree.
 #[tactic(auto, using(crate::proofs::Rules::go_to_steps))]
 fn go_to(
     alloc: Global,
@@ -206,7 +206,7 @@ fn go_to(
     Ok((column, Spot { active, states }))
 }
 
-// The part of each state that is picked: its place among the parts, and the parts, which have so many bits.
+// Finds the picked part of each state: its place among the parts, and the parts, which have `size` bits.
 fn part(
     alloc: Global,
     picks: &Picks,
@@ -227,7 +227,8 @@ fn part(
     Ok((column, parts))
 }
 
-// Where the states of a place lead to by a bit, and their successors, which have so many bits. `masks` are the table in words, if it is short.
+// Finds where the states of a place lead by a bit, and their successors, which have `size` bits. `masks` is the table in words, if it is
+// short.
 #[tactic(auto, using(crate::proofs::Sizes::sized))]
 fn decide(
     alloc: Global,
@@ -258,7 +259,7 @@ fn decide(
     Ok((leads, next))
 }
 
-// The place of a state, if there is one, among others, to which it is added if it is new.
+// Adds a state, if there is one, to others if it is new, and returns its place.
 fn add(state: Option<BitList>, states: &mut States) -> Result<Option<u32>, AllocError>
     requires few { length states.old.lists < 2 ^ 32 }
     requires size { IfSome state (λ s. length s ≡ states.old.size) }
@@ -274,7 +275,6 @@ fn add(state: Option<BitList>, states: &mut States) -> Result<Option<u32>, Alloc
 }
 
 impl Leads {
-    /// The forks of the place.
     #[tactic(auto, using(std::proofs::lemmas::List::take_all))]
     pub(crate) fn forks(&self, alloc: Global) -> Result<Forks, AllocError>
         requires { (n : ℕ) → length (row_in self.now n) ≡ self.now.trees }
@@ -291,7 +291,7 @@ impl Leads {
     }
 }
 
-// Adds the way that goes on with a row of the columns. `row` is room for it.
+// Adds the way by which a state of the base leads into the trees. `row` is room for it.
 fn add_way(
     ways: &mut Ways,
     columns: &Option<Vec<Vec<u32>>>,
@@ -344,7 +344,7 @@ fn item(column: &Vec<u32>, at: u32) -> u32
     }
 }
 
-/// The last place that was begun, or that of a tree on the base of all.
+/// Takes the last pending place, or creates that of a tree on the root.
 pub(crate) fn next_spot(alloc: Global, pending: &mut Vec<Spot>) -> Result<Spot, AllocError>
     ensures { IfOk result (λ spot. stand_of spot ∷ reverse (map stand_of pending.new.items) ≡ or_first (reverse (map stand_of pending.old.items))) }
 {
@@ -354,7 +354,6 @@ pub(crate) fn next_spot(alloc: Global, pending: &mut Vec<Spot>) -> Result<Spot, 
     }
 }
 
-// The place of a tree on the base of all.
 fn begin(alloc: Global) -> Result<Spot, AllocError>
     ensures { IfOk result (λ spot. stand_of spot ≡ first_stand) }
 {

@@ -3,7 +3,7 @@ ghost use Rattle.state_rules.specs.Bits.{bit_in, row_number};
 ghost use Rattle.forest_states.specs.inner.BitLists.{copied};
 ghost use Rattle.forest_states.specs.inner.TransitionTables.{in_both, in_one};
 
-/// Writes bits after so many others of a word.
+/// Returns the first `len` bits of a word, and those of `row` after them.
 #[tactic(auto, using(crate::proofs::Rules::row_steps))]
 pub(crate) fn with_bits(word: u64, len: usize, row: u64) -> u64
     requires { len < 64 }
@@ -13,7 +13,7 @@ pub(crate) fn with_bits(word: u64, len: usize, row: u64) -> u64
     word | (row << len)
 }
 
-/// So many bits of a word, from the first on.
+/// Returns the first `count` bits of a word.
 #[tactic(auto, using(crate::proofs::Rules::row_steps))]
 pub(crate) fn first_bits(word: u64, count: usize) -> u64
     requires { count < 64 }
@@ -22,7 +22,7 @@ pub(crate) fn first_bits(word: u64, count: usize) -> u64
     word & ((1 << count) - 1)
 }
 
-/// The bits of a word after so many.
+/// Returns the bits of a word after the first `count`.
 #[tactic(auto, using(crate::proofs::Rules::row_steps))]
 pub(crate) fn later_bits(word: u64, count: usize) -> u64
     requires { count < 64 }
@@ -31,7 +31,7 @@ pub(crate) fn later_bits(word: u64, count: usize) -> u64
     word >> count
 }
 
-/// So many bits that are 1.
+/// Returns `count` bits that are 1.
 #[tactic(auto, using(crate::proofs::Rules::row_steps))]
 pub(crate) fn ones(count: usize) -> u64
     requires { count < 64 }
@@ -40,7 +40,7 @@ pub(crate) fn ones(count: usize) -> u64
     (1 << count) - 1
 }
 
-/// The bits of a word that are not in another one.
+/// Returns the bits of a word that are not in another one.
 #[tactic(auto, using(crate::proofs::Rules::row_steps))]
 pub(crate) fn without(word: u64, other: u64) -> u64
     ensures { (bits others : List Bool) → word ≡ row_number bits → other ≡ row_number others → result ≡ row_number (in_one bits others) }

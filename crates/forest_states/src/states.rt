@@ -12,14 +12,14 @@ use smallvec::SmallVec;
 use std::alloc::{AllocError, Global};
 use std::marker::Model;
 
-/// Different states of one length, in the order in which they came.
+/// Different states of one length, in the order in which they were added.
 #[derive(Drop)]
 pub(crate) struct States {
     size: usize,
     kept: Kept,
 }
 
-/// The words of states. If one is enough for each, no more than that is kept, since there can be millions of states.
+/// The words of states. If one is enough for each, only that is kept, since there can be millions of states.
 #[derive(Drop)]
 pub(crate) enum Kept {
     Words(IndexSet<u64>),
@@ -37,7 +37,7 @@ impl Model for States {
 }
 
 impl States {
-    /// No state: each is to have so many bits, and there is room for so many.
+    /// Creates an empty set of states of `size` bits, with room for `room`.
     pub(crate) fn new(alloc: Global, size: usize, room: usize) -> Result<States, AllocError>
         ensures { IfOk result (λ states. states ≡ record { size = size; lists = [] }) }
     {
@@ -49,7 +49,7 @@ impl States {
         Ok(States { size, kept })
     }
 
-    /// How many bits each of them has.
+    /// Returns the number of bits of each state.
     pub(crate) fn size(&self) -> usize
         ensures size { result ≡ self.now.size }
         ensures all { list_all (λ s. length s == self.now.size) self.now.lists ≡ true }
@@ -57,7 +57,6 @@ impl States {
         self.size
     }
 
-    /// How many there are.
     pub(crate) fn len(&self) -> usize
         ensures { result ≡ length self.now.lists }
     {
@@ -67,7 +66,6 @@ impl States {
         }
     }
 
-    /// The state at a place.
     pub(crate) fn at(&self, place: usize) -> Bits<'_>
         requires { place < length self.now.lists }
         ensures { slice_get self.now.lists place ≡ Some result }
@@ -75,7 +73,7 @@ impl States {
         Bits::of(words_at(&self.kept, place), self.size)
     }
 
-    /// The place of a state, which is added if it is new.
+    /// Adds a state if it is new, and returns its place.
     pub(crate) fn add(&mut self, state: BitList) -> Result<u32, AllocError>
         requires few { length self.old.lists < 2 ^ 32 }
         requires size { length state ≡ self.old.size }

@@ -11,7 +11,8 @@ use crate::transition_tables::{ClauseTransition, TransitionTable};
 use clause_encoder::Cnf;
 use std::alloc::{AllocError, Global};
 
-/// The transition table of a variable for the active clauses of a place and those that begin with it, and the numbers of those that do not end.
+/// Finds the transition table of a variable for the active clauses of a place and those that begin with it, and the numbers of those that
+/// do not end.
 ///
 /// `touched` are the clauses that have the variable. The others stay as they are, and are not read.
 #[tactic(auto, using(crate::proofs::Rules::find_table_steps))]
@@ -44,7 +45,7 @@ pub(crate) fn find_table(
     Ok((table, kept))
 }
 
-// How many of rising numbers are below another one.
+// Counts the numbers at the front that are below another.
 fn count_below(numbers: &[u32], number: u32) -> usize
     ensures { result ≡ prefix_len (λ n. nat_lt n number) numbers.now }
 {
@@ -64,7 +65,7 @@ fn add(numbers: &mut Vec<u32>, number: u32, is_kept: bool) -> Result<(), AllocEr
     Ok(())
 }
 
-// The active clauses after the one of a transition. If none of its variables had a bit, it is not among them.
+// The active clauses after that of a transition. It is not among them if none of its variables was assigned.
 fn after(transition: ClauseTransition, active: &[u32]) -> &[u32]
     ensures { result.now ≡ after transition active.now }
 {
@@ -118,7 +119,7 @@ fn is_true_by(literal: i32, var: u32, bit: bool) -> bool
     literal.unsigned_abs() == var && (literal >= 0) == bit
 }
 
-/// What picks the clauses that go to a tree, and their numbers.
+/// Finds the picks of the clauses that go to a tree, and their numbers.
 pub(crate) fn find_picks(
     alloc: Global,
     cnf: &Cnf,

@@ -12,22 +12,22 @@ use std::marker::Model;
 /// What the bit of a variable does to a clause.
 #[derive(Clone, Copy, Debug)]
 pub(crate) struct ClauseTransition {
-    // none of its variables had a bit, so that it is left
+    // none of its variables was assigned, so that it is left
     pub(crate) fresh: bool,
     pub(crate) true_at_0: bool,
     pub(crate) true_at_1: bool,
-    // all of them have one now
+    // all of them are assigned now
     pub(crate) ends: bool,
 }
 
-/// What the bit does to a clause that it changes, after so many that stay as they are.
+/// What the bit does to a clause that it changes, after `run` clauses that stay as they are.
 #[derive(Clone, Copy, Debug)]
 pub(crate) struct Change {
     pub(crate) run: usize,
     pub(crate) transition: ClauseTransition,
 }
 
-/// The transition table of a place: what the bit of its variable does to clauses one after the other. Most stay as they are.
+/// The transition table of a place: what the bit of its variable does to the clauses in turn. Most stay as they are.
 #[derive(Drop)]
 pub(crate) struct TransitionTable {
     changes: Vec<Change>,
@@ -62,7 +62,7 @@ impl ClauseTransition {
 }
 
 impl TransitionTable {
-    /// No clauses, and room for so many that change.
+    /// Creates a table of no clauses, with room for `room` changes.
     pub(crate) fn new(alloc: Global, room: usize) -> Result<TransitionTable, AllocError>
         ensures { IfOk result (λ table. table ≡ []) }
     {
@@ -72,7 +72,7 @@ impl TransitionTable {
         })
     }
 
-    /// Adds what happens to one clause more.
+    /// Adds what happens to one more clause.
     #[tactic(auto, using(crate::proofs::Rules::table_steps))]
     pub(crate) fn push(&mut self, transition: ClauseTransition) -> Result<(), AllocError>
         requires { length self.old < 2 ^ 63 }
@@ -90,7 +90,7 @@ impl TransitionTable {
         Ok(())
     }
 
-    /// Adds so many clauses that stay as they are.
+    /// Adds `count` clauses that stay as they are.
     #[tactic(auto, using(crate::proofs::Rules::table_steps))]
     pub(crate) fn skip(&mut self, count: usize)
         requires { length self.old + count < 2 ^ 64 }
@@ -99,14 +99,14 @@ impl TransitionTable {
         self.rest += count;
     }
 
-    /// The same in words, if the clauses are so few that what a bit leaves of a state is in one word.
+    /// Returns the table in words, if the clauses are so few that what a bit leaves of a state is in one word.
     pub(crate) fn masks(&self, alloc: Global) -> Result<Option<Masks>, AllocError>
         ensures { IfOk result (λ found. IfSome found (λ masks. IsShort masks self.now)) }
     {
         find_masks(alloc, self.changes.as_slice(), self.rest)
     }
 
-    /// The successors of a state by the bits 0 and 1, unless they are dead.
+    /// Returns the successors of a state by the bits 0 and 1, unless they are dead.
     pub(crate) fn successors(
         &self,
         alloc: Global,
@@ -129,7 +129,7 @@ impl TransitionTable {
     }
 }
 
-// The table of changes, and of so many clauses after the last one, in words if there are few clauses.
+// The table of changes, and of `rest` clauses after the last one, in words if there are few clauses.
 #[tactic(auto, using(crate::proofs::Rules::find_masks_steps))]
 fn find_masks(alloc: Global, changes: &[Change], rest: usize) -> Result<Option<Masks>, AllocError>
     ensures { IfOk result (λ found. IfSome found (λ masks. IsShort masks (spread changes.now rest))) }
@@ -149,7 +149,7 @@ fn find_masks(alloc: Global, changes: &[Change], rest: usize) -> Result<Option<M
     Ok(Some(masks))
 }
 
-// The successor of a state by a bit, unless it is dead: by changes, and so many clauses after the last one.
+// The successor of a state by a bit, unless it is dead: by changes, and `rest` clauses after the last one.
 #[tactic(auto, using(crate::proofs::Rules::successor_steps))]
 fn successor(
     alloc: Global,

@@ -4,7 +4,7 @@ use Rattle.state_rules.specs.Assignments.{Assignment}
 use Rattle.state_rules.specs.Graphs.{Node, is_true, mentions}
 use Rattle.node_store.specs.Stores.{is_bare}
 
--- Nodes that were there mean what they meant.
+-- Old nodes keep their truth and their variables.
 pub record Grows (old new : List Node) : Type 0 where
   pub longer : length old ≤ length new
   pub truth : (k : ℕ) (a : Assignment) → k < length old → is_true new k a ≡ is_true old k a

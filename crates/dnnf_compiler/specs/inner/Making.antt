@@ -1,4 +1,4 @@
--- What makes nodes, and what came of it.
+-- The maker of nodes, and what it adds.
 use Rattle.std.specs.Prelude.{◌≡◌, ℕ, ◌+◌, ◌<◌, ◌≤◌, Bool, true, false, ◌||◌, List, length, Option, Some, None, slice_get}
 use Rattle.state_rules.specs.Assignments.{Assignment}
 use Rattle.state_rules.specs.Graphs.{Node, true_node, is_true, mentions, false_node}
@@ -6,7 +6,7 @@ use Rattle.node_store.specs.Stores.{IsStore, HasNoBareChild}
 use Rattle.dnnf_compiler.specs.declared.maker.Maker.{Maker}
 use Rattle.dnnf_compiler.specs.inner.Joining.{Grows, IsConstant}
 
--- what holds of a maker at any time
+-- what always holds of a maker
 pub record IsMaker (m : Maker) : Type 0 where
   pub store : IsStore m.store
   pub yes : IsConstant m.store.nodes true m.yes
@@ -15,11 +15,11 @@ pub record IsMaker (m : Maker) : Type 0 where
   pub no_node : slice_get m.store.nodes m.no ≡ Some false_node
   pub bare : HasNoBareChild m.store.nodes
 
--- a variable that has literals
+-- a variable is in range
 abbrev pub IsVariable : Maker → ℕ → Type 0
 IsVariable m var = (1 ≤ var) × (var ≤ m.store.vars)
 
--- Nodes came, and at most so many were made over at most so many children.
+-- Nodes are added, and at most `more` are made over at most `kids` children.
 pub record Adds (old new : Maker) (more kids : ℕ) : Type 0 where
   pub maker : IsMaker new
   pub grows : Grows old.store.nodes new.store.nodes
@@ -28,7 +28,7 @@ pub record Adds (old new : Maker) (more kids : ℕ) : Type 0 where
   pub made : new.store.made ≤ old.store.made + more
   pub handed : new.store.handed ≤ old.store.handed + kids
 
--- the node if there is one, and else what is never true and mentions nothing
+-- whether a node is true, and whether it mentions a variable: neither, if there is no node
 abbrev pub may_be_true : List Node → Assignment → Option ℕ → Bool
 may_be_true nodes a None = false
 may_be_true nodes a (Some node) = is_true nodes node a

@@ -1,4 +1,4 @@
--- Nodes that are made of a literal and of several nodes below, all of which are to be true.
+-- Conjunctions of a literal and several nodes below.
 use Rattle.std.specs.Prelude.{◌≡◌, ◌≢◌, ℕ, ◌+◌, ◌*◌, ◌<◌, ◌≤◌, Bool, true, false, ◌&&◌, All, List, [], ◌∷◌, map, length, Option, Some, None, IfSome, slice_get, slice_index, Vec, ◌==◌}
 use Rattle.std.specs.declared.alloc.Global.{Global}
 use Rattle.std.specs.List.{list_any, list_all, AllByRecursion, AllZip}
@@ -11,11 +11,11 @@ use Rattle.elimination_forests.specs.declared.forks.Forks.{Forks}
 use Rattle.dnnf_compiler.specs.declared.maker.Maker.{Maker}
 use Rattle.dnnf_compiler.specs.inner.Making.{IsMaker, IsVariable, Adds, may_be_true, may_mention}
 
--- at most one of these nodes mentions a variable
+-- each variable is mentioned by at most one of these nodes
 abbrev pub AreApart : List Node → List ℕ → Type 0
 AreApart nodes kids = (v : ℕ) → at_most_one (map (mentions nodes v) kids) ≡ true
 
--- These may all be to be true.
+-- The conjunction of these nodes may be made.
 pub record AreMeetable (m : Maker) (kids : List ℕ) : Type 0 where
   pub maker : IsMaker m
   pub within : All (λ k. k < length m.store.nodes) kids
@@ -23,7 +23,7 @@ pub record AreMeetable (m : Maker) (kids : List ℕ) : Type 0 where
   pub few_children : length kids ≤ BUDGET_LIMIT + 1
   pub few : m.store.made < MADE_LIMIT
 
--- The node is true if all of these are, and mentions no more than they do. It is the one that is never true, or mentions all.
+-- The node is true exactly if all of these are, and mentions no more than they do. It is `no`, or mentions all.
 pub record IsMeet (old new : Maker) (kids : List ℕ) (node : ℕ) : Type 0 where
   pub adds : Adds old new 1 (length kids)
   pub within : node < length new.store.nodes
@@ -34,17 +34,17 @@ pub record IsMeet (old new : Maker) (kids : List ℕ) (node : ℕ) : Type 0 wher
 
 -- ---- a way
 
--- the nodes to which numbers lead, one of each level
+-- the nodes that have these numbers, one of each level
 abbrev pub taken : List (Vec ℕ Global) → List ℕ → List ℕ
 taken [] numbers = []
 taken (level ∷ levels) [] = []
 taken (level ∷ levels) (n ∷ numbers) = slice_index level.items n ∷ taken levels numbers
 
--- for each level a number of it
+-- each number is one of its level
 abbrev pub AreHeld : List (Vec ℕ Global) → List ℕ → Type 0
 AreHeld levels numbers = AllZip (λ level n. n < length level.items) levels numbers
 
--- The nodes to which they lead are there, share no variable, and do not mention this one.
+-- These nodes are there, share no variable, and do not mention this one.
 pub record IsUsable (nodes : List Node) (var : ℕ) (below : List (Vec ℕ Global)) (numbers : List ℕ) : Type 0 where
   pub held : AreHeld below numbers
   pub few : length numbers ≤ BUDGET_LIMIT
@@ -52,22 +52,22 @@ pub record IsUsable (nodes : List Node) (var : ℕ) (below : List (Vec ℕ Globa
   pub apart : AreApart nodes (taken below numbers)
   pub free : list_any (mentions nodes var) (taken below numbers) ≡ false
 
--- all nodes are true to which a way leads
+-- whether all nodes to which a way leads are true
 abbrev pub way_true : List Node → Assignment → List (Vec ℕ Global) → Option (List ℕ) → Bool
 way_true nodes a below None = false
 way_true nodes a below (Some numbers) = list_all (λ k. is_true nodes k a) (taken below numbers)
 
--- one of them mentions a variable
+-- whether one of them mentions a variable
 abbrev pub way_mentions : List Node → ℕ → List (Vec ℕ Global) → Option (List ℕ) → Bool
 way_mentions nodes v below None = false
 way_mentions nodes v below (Some numbers) = list_any (mentions nodes v) (taken below numbers)
 
--- the way of a bit
+-- the way by a bit
 abbrev pub bit_way : Option (List ℕ) → Option (List ℕ) → Bool → Option (List ℕ)
 bit_way zero one false = zero
 bit_way zero one true = one
 
--- The node is true if the variable's bit leads to nodes that all are.
+-- The node is true exactly if the variable's bit leads to nodes that are all true.
 pub record IsChoice (old new : List Node) (var : ℕ) (below : List (Vec ℕ Global)) (zero one : Option (List ℕ)) (node : ℕ) : Type 0 where
   pub within : node < length new
   pub truth : (a : Assignment) → is_true new node a ≡ way_true old a below (bit_way zero one (a var))
@@ -77,7 +77,7 @@ pub record IsChosen (old new : Maker) (var : ℕ) (below : List (Vec ℕ Global)
   pub adds : Adds old new 3 (4 + 2 * length below)
   pub right : IsChoice old.store.nodes new.store.nodes var below zero one node
 
--- Both ways of each list of a place may be made.
+-- Nodes may be made of both ways of each list of a place.
 pub record IsPlaceable (m : Maker) (var : ℕ) (below : List (Vec ℕ Global)) (forks : Forks) : Type 0 where
   pub maker : IsMaker m
   pub variable : IsVariable m var
@@ -86,7 +86,7 @@ pub record IsPlaceable (m : Maker) (var : ℕ) (below : List (Vec ℕ Global)) (
   pub ones : All (λ way. IfSome way (IsUsable m.store.nodes var below)) forks.one.ways
   pub few : m.store.made + 3 * length forks.zero.ways ≤ MADE_LIMIT
 
--- for each list a node
+-- each list has its node
 pub record AreChoices (old new : Maker) (var : ℕ) (below : List (Vec ℕ Global)) (forks : Forks) (nodes : List ℕ) : Type 0 where
   pub adds : Adds old new (3 * length nodes) ((4 + 2 * length below) * length nodes)
   pub long : length nodes ≡ length forks.zero.ways

@@ -18,11 +18,11 @@ use Rattle.dnnf_compiler.specs.inner.Making.{IsMaker, Adds}
 
 -- ---- what a list says at a place
 
--- a literal is true whose variable has no bit
+-- whether a literal is true whose variable is not assigned
 abbrev pub rest_by : List ℕ → Assignment → Clause → Bool
 rest_by bound a clause = list_any (λ l. not (is_among bound (var_of l)) && same_bit (is_positive l) (a (var_of l))) clause
 
--- all clauses of a list hold by variables that have no bit
+-- whether all clauses of a list hold by variables that are not assigned
 abbrev pub left_by : Place → Assignment → List Bool → Bool
 left_by place a list = not (some_passes (λ c. not (rest_by place.bound a c)) place.clauses list)
 
@@ -33,16 +33,16 @@ pub record Spot : Type 0 where
   pub below : Forest
   pub place : Place
 
--- the trees of a forest on a base
+-- the places of the trees of a forest on a base
 abbrev pub spots_on : Forest → Place → List Spot
 spots_on none base = []
 spots_on (tree v below beside) base = record { v = v; below = below; place = part (v ∷ variables below) base } ∷ spots_on beside base
 
--- those right below a variable
+-- the places right below a variable
 abbrev pub spots_below : Spot → List Spot
 spots_below spot = spots_on spot.below (decided spot.v spot.place)
 
--- Each of its variables is there once and has no bit, and each clause of its lists goes down along them.
+-- Each of its variables is there once and is not assigned, and each clause of its lists goes down along them.
 pub record IsSpot (vars : ℕ) (spot : Spot) : Type 0 where
   pub once : is_once (spot.v ∷ variables spot.below) ≡ true
   pub free : list_all (λ u. not (is_among spot.place.bound u)) (spot.v ∷ variables spot.below) ≡ true
@@ -51,7 +51,7 @@ pub record IsSpot (vars : ℕ) (spot : Spot) : Type 0 where
 
 -- ---- nodes
 
--- A node is true if the clauses hold that a list leaves, and mentions only variables of the tree.
+-- The node is true exactly if the clauses of a list hold by unassigned variables. It mentions only variables of the tree.
 pub record IsNodeAt (spot : Spot) (list : List Bool) (nodes : List Node) (node : ℕ) : Type 0 where
   pub within : node < length nodes
   pub truth : (a : Assignment) → is_true nodes node a ≡ left_by spot.place a list
@@ -62,11 +62,11 @@ pub record AreNodesAt (spot : Spot) (nodes : List Node) (numbers : List ℕ) : T
   pub long : length numbers ≡ length spot.place.lists
   pub right : (j : ℕ) (list : List Bool) (n : ℕ) → slice_get spot.place.lists j ≡ Some list → slice_get numbers j ≡ Some n → IsNodeAt spot list nodes n
 
--- the levels of nodes of several places
+-- the nodes of several places, a level for each
 abbrev pub AreLevels : List Node → List Spot → List (Vec ℕ Global) → Type 0
 AreLevels nodes spots levels = AllZip (λ spot level. AreNodesAt spot nodes level.items) spots levels
 
--- The nodes below a place are made. On the stack the first place is on top.
+-- The nodes below a place are made. The first place is on top of the stack.
 pub record IsReady (m : Maker) (step : Step) (forks : Forks) (stack : List (Vec ℕ Global)) (spot : Spot) (rest : List Spot) : Type 0 where
   pub made : IsMaker m
   pub step_is : step ≡ record { var = spot.v; trees = trees spot.below }
@@ -76,7 +76,7 @@ pub record IsReady (m : Maker) (step : Step) (forks : Forks) (stack : List (Vec 
   pub few : m.store.made + 3 * length spot.place.lists ≤ MADE_LIMIT
   pub narrow : sum_on Lists spot.below (decided spot.v spot.place) ≤ BUDGET_LIMIT
 
--- Its own nodes are made of them.
+-- The nodes of the place are made of them.
 pub record IsRaised (old new : Maker) (stack : List (Vec ℕ Global)) (numbers : List ℕ) (spot : Spot) (rest : List Spot) : Type 0 where
   pub adds : Adds old new (3 * length spot.place.lists) ((4 + 2 * trees spot.below) * length spot.place.lists)
   pub nodes : AreNodesAt spot new.store.nodes numbers

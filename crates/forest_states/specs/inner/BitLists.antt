@@ -9,11 +9,11 @@ use Rattle.elimination_forests.specs.Branches.{words_of, same_list}
 abbrev pub word_bit : List ℕ → ℕ → Bool
 word_bit words at = bit_and (slice_index words (at / 64) / 2 ^ (at % 64)) 1 == 1
 
--- the first so many bits
+-- the first `len` bits
 abbrev pub bits_in : ℕ → List ℕ → List Bool
 bits_in len words = map (word_bit words) (range_with_len 0 len)
 
--- There are no other bits in so many words as there are for a list of these and one more.
+-- these are `len / 64 + 1` words, and all bits past the first `len` are 0
 abbrev pub AreBits : ℕ → List ℕ → Type 0
 AreBits len words = words ≡ words_of (len / 64 + 1) (bits_in len words)
 
@@ -26,7 +26,7 @@ abbrev pub other_bits : List Bool → List Bool
 other_bits [] = []
 other_bits (b ∷ bits) = bits
 
--- the first so many
+-- the first `n` bits
 abbrev pub copied : ℕ → List Bool → List Bool
 copied zero bits = []
 copied (suc n) bits = first_bit bits ∷ copied n (other_bits bits)

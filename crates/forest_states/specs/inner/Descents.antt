@@ -1,4 +1,4 @@
--- A way down a forest as the lists of bits of the active clauses see it. Only private contracts cite it.
+-- A way down a forest, as the bits of the active clauses show it. Only private contracts cite it.
 use Rattle.std.specs.Prelude.{ℕ, ◌+◌, ◌-◌, ◌*◌, ◌==◌, Bool, true, false, not, ◌&&◌, ◌||◌, List, [], ◌∷◌, ◌++◌, map, length, nat_lt, slice_set, slice_index_or, drop, option_map, is_some, Option, Some, None, option_to_list, if◌then◌else◌}
 use Rattle.std.specs.List.{filter, flat_map, list_any, list_all, position_or_len, prefix_len, take_while, range_with_len}
 use Rattle.indexmap.specs.IndexSet.{insert_key}
@@ -22,40 +22,40 @@ abbrev pub with_bit : Bool → Option (List Bool) → Option (List Bool)
 with_bit b None = None
 with_bit b (Some bits) = Some (b ∷ bits)
 
--- with the bit of a clause before those of the next ones, unless it ends; if it ends and is left, nothing is
+-- the bits with that of a clause before them, unless it ends; none if it ends and is left
 abbrev pub ended : Bool → Bool → Option (List Bool) → Option (List Bool)
 ended true true rest = None
 ended true false rest = rest
 ended false b rest = with_bit b rest
 
--- the successor of a state by a bit, unless it is dead
+-- the successor of a state by a bit, or none if it is dead
 abbrev pub successor : Bool → List ClauseTransition → List Bool → Option (List Bool)
 successor bit [] state = Some []
 successor bit (e ∷ table) state =
     ended e.ends ((e.fresh || first_bit state) && not (true_at e bit)) (successor bit table (if e.fresh then state else other_bits state))
 
--- the bits that are flagged
+-- the flagged bits
 abbrev pub picked : List Bool → List Bool → List Bool
 picked [] state = []
 picked (f ∷ flags) state = if f then first_bit state ∷ picked flags (other_bits state) else picked flags (other_bits state)
 
--- If none of the clauses that end is left, the others are.
+-- what is left of the kept clauses, or none if a clause that ends is left
 abbrev pub left_by : List Bool → List Bool → List Bool → Option (List Bool)
 left_by kept ends left = if row_number (in_both left ends) == 0 then Some (picked kept left) else None
 
 -- ---- the states of a place
 
--- states with one more, if it is not there yet
+-- states, with one more if it is new
 abbrev pub joined : List (List Bool) → Option (List Bool) → List (List Bool)
 joined states None = states
 joined states (Some s) = insert_key is_same states s
 
--- the place of a state among states, if there is one
+-- the place of a state among states, if there is a state
 abbrev pub lead : List (List Bool) → Option (List Bool) → Option ℕ
 lead states None = None
 lead states (Some s) = Some (position_or_len (is_same s) states)
 
--- the states after a bit
+-- the states after either bit
 abbrev pub decided_states : List ClauseTransition → List (List Bool) → List (List Bool)
 decided_states table states = different (flat_map (λ s. option_to_list (successor false table s) ++ option_to_list (successor true table s)) states)
 
@@ -70,28 +70,28 @@ decided_forks table states =
 abbrev pub parts_by : (List Bool → List Bool) → List (List Bool) → List (List Bool)
 parts_by part states = different (map part states)
 
--- the place of each one's part among the parts
+-- the place of each state's part among the parts
 abbrev pub column_by : (List Bool → List Bool) → List (List Bool) → List ℕ
 column_by part states = map (λ s. position_or_len (is_same (part s)) (parts_by part states)) states
 
--- by the bits that are flagged
+-- by the flagged bits
 abbrev pub part_states : List Bool → List (List Bool) → List (List Bool)
 part_states flags states = parts_by (picked flags) states
 
 abbrev pub column : List Bool → List (List Bool) → List ℕ
 column flags states = column_by (picked flags) states
 
--- a state leads on
+-- whether a state leads on
 abbrev pub any_leads : List Fork → Bool
 any_leads leads = list_any (λ f. is_some f.zero || is_some f.one) leads
 
--- ---- where states lead to in each of the trees below
+-- ---- where states lead in each of the trees below
 
 -- a row of columns
 abbrev pub row_at : List (List ℕ) → ℕ → List ℕ
 row_at columns n = map (λ c. slice_index_or c n n) columns
 
--- if there are none, the base is the place of the one tree on it
+-- without columns, the base is the place of the only tree on it
 abbrev pub row_of : Option (List (List ℕ)) → ℕ → List ℕ
 row_of None n = n ∷ []
 row_of (Some columns) n = row_at columns n
@@ -114,11 +114,11 @@ forks_of l = forks_found l.trees (row_in l) l.leads.items
 
 -- ---- variables below
 
--- how many trees have begun at a step, if so many are left, within trees and beside them
+-- how many of `trees` trees have begun at a step, if `left` are left, inside trees and beside them
 abbrev pub begun_at : ℕ → ℕ → ℕ → ℕ
 begun_at trees begun left = if left + begun == trees then begun + 1 else begun
 
--- with the number of its tree at each variable of trees that begin with these steps
+-- `numbers`, with the number of its tree at each variable of the trees that begin with these steps
 abbrev pub numbered : ℕ → ℕ → ℕ → List Step → List ℕ → List ℕ
 numbered trees begun left [] numbers = numbers
 numbered trees begun left (s ∷ steps) numbers =
@@ -133,22 +133,22 @@ numbers_at trees steps numbers = if trees == 1 then numbers else numbered trees 
 abbrev pub clause_at : List Clause → ℕ → Clause
 clause_at clauses n = slice_index_or clauses n []
 
--- a clause has the variable
+-- whether a clause has the variable
 abbrev pub has_var : ℕ → Clause → Bool
 has_var v clause = list_any (λ l. v == var_of l) clause
 
 abbrev pub meets_marked : List Bool → Clause → Bool
 meets_marked marks clause = list_any (λ l. bit_in marks (var_of l)) clause
 
--- all but one variable are marked
+-- whether all variables of a clause except `v` are marked
 abbrev pub within_marked : ℕ → List Bool → Clause → Bool
 within_marked v marks clause = list_all (λ l. (v == var_of l) || bit_in marks (var_of l)) clause
 
--- a variable that is not marked is in a tree
+-- whether a variable that is not marked is in a tree
 abbrev pub is_in_tree : List Bool → List ℕ → ℕ → ℕ → Bool
 is_in_tree marks numbers tree v = not (bit_in marks v) && (slice_index_or numbers v 0 == tree)
 
--- an active clause goes to a tree out of so many
+-- whether an active clause goes to one of `trees` trees
 abbrev pub goes_to : List Clause → ℕ → List Bool → List ℕ → ℕ → ℕ → Bool
 goes_to clauses trees marks numbers tree n = (trees == 1) || list_any (λ l. is_in_tree marks numbers tree (var_of l)) (clause_at clauses n)
 
@@ -165,7 +165,7 @@ transition_of seen v clause =
 abbrev pub transition_at : List Clause → List Bool → ℕ → ℕ → ClauseTransition
 transition_at clauses seen v n = transition_of seen v (clause_at clauses n)
 
--- a clause that is met by a bit, by its number, and what this does to it
+-- a clause by its number, and what a bit does to it
 pub record Met : Type 0 where
   pub number : ℕ
   pub transition : ClauseTransition
@@ -173,11 +173,11 @@ pub record Met : Type 0 where
 abbrev pub as_before : ℕ → Met
 as_before n = record { number = n; transition = plain }
 
--- the active clauses after the one of a transition; if none of its variables had a bit, it is not among them
+-- the active clauses after that of a transition; it is not among them if none of its variables was assigned
 abbrev pub after : ClauseTransition → List ℕ → List ℕ
 after e active = if e.fresh then active else drop 1 active
 
--- the clauses that have the variable, by rising numbers, and the active ones, which stay as they are
+-- the clauses with the variable and the active ones, by rising numbers; those without it stay as they are
 abbrev pub met : (ℕ → ClauseTransition) → List ℕ → List ℕ → List Met
 met transition [] active = map as_before active
 met transition (n ∷ numbers) active =
@@ -187,7 +187,7 @@ met transition (n ∷ numbers) active =
 abbrev pub transitions_of : List Met → List ClauseTransition
 transitions_of ms = map (λ m. m.transition) ms
 
--- the numbers of those that do not end
+-- the numbers of the clauses that do not end
 abbrev pub kept_of : List Met → List ℕ
 kept_of ms = map (λ m. m.number) (filter (λ m. not m.transition.ends) ms)
 
@@ -207,7 +207,7 @@ met_at clauses of seen v active = met (transition_at clauses seen v) (slice_inde
 abbrev pub table_at : List Clause → List (List ℕ) → List Bool → ℕ → List ℕ → List ClauseTransition
 table_at clauses of seen v active = transitions_of (met_at clauses of seen v active)
 
--- what comes of a place by a bit, and the places of the trees below
+-- the base after a bit at a place, and the places of the trees below
 abbrev pub stand_decided : List Clause → List (List ℕ) → List Bool → ℕ → Stand → Stand
 stand_decided clauses of seen v s =
     record {
@@ -240,11 +240,11 @@ forks_below clauses of seen numbers step rest s =
 abbrev pub step_at : List Step → ℕ → Step
 step_at steps i = slice_index_or steps i (record { var = 0; trees = 0 })
 
--- that of a tree on the base of all
+-- the place of a tree on the root
 abbrev pub first_stand : Stand
 first_stand = record { active = []; states = [] ∷ [] }
 
--- the places that are begun, or one on the base of all if none is
+-- the pending places, or one on the root if there is none
 abbrev pub or_first : List Stand → List Stand
 or_first [] = first_stand ∷ []
 or_first (s ∷ stands) = s ∷ stands

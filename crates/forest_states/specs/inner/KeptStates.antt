@@ -17,7 +17,7 @@ kept_words (Lists lists) = map (λ l. l.items) lists.keys
 abbrev pub kept_lists : ℕ → Kept → List (List Bool)
 kept_lists size kept = map (bits_in size) (kept_words kept)
 
--- One word is kept of each exactly if one is enough.
+-- One word of each state is kept exactly if one is enough.
 abbrev pub Fits : ℕ → Kept → Type 0
 Fits size (Words words) = size < 64
 Fits size (Lists lists) = 64 ≤ size

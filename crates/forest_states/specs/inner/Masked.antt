@@ -12,6 +12,6 @@ pub record IsMasked (m : Masks) (table : List ClauseTransition) : Type 0 where
   pub ends : m.ends ≡ row_number (map (λ e. e.ends) table)
   pub len : m.len ≡ length table
 
--- and a state of it is in one word
+-- and a state is in one word
 abbrev pub IsShort : Masks → List ClauseTransition → Type 0
 IsShort m table = (length table < 64) × IsMasked m table

@@ -1,4 +1,4 @@
--- What the bit of a variable does to clauses one after the other, by those that it changes.
+-- What the bit of a variable does to clauses in turn, by those that it changes.
 use Rattle.std.specs.Prelude.{ℕ, Bool, true, false, not, ◌&&◌, ◌||◌, List, [], ◌∷◌, ◌++◌, replicate, if◌then◌else◌}
 use Rattle.forest_states.specs.inner.BitLists.{first_bit, other_bits}
 use Rattle.forest_states.specs.declared.transition_tables.ClauseTransition.{ClauseTransition}
@@ -16,7 +16,7 @@ plain = record { fresh = false; true_at_0 = false; true_at_1 = false; ends = fal
 abbrev pub is_plain : ClauseTransition → Bool
 is_plain e = not (((e.fresh || e.true_at_0) || e.true_at_1) || e.ends)
 
--- Before each change a run of clauses stays as it is, and so many after the last one.
+-- Before each change a run of clauses stays as it is, and `rest` clauses after the last one.
 abbrev pub spread : List Change → ℕ → List ClauseTransition
 spread [] rest = replicate rest plain
 spread (e ∷ changes) rest = replicate e.run plain ++ (e.transition ∷ spread changes rest)
@@ -31,7 +31,7 @@ flags_in (r ∷ runs) last = flag_run r ++ flags_in runs last
 
 -- ---- all clauses at once
 
--- 1 for each flag, and the bits of a state in turn where there is none
+-- 1 for each flag, and elsewhere the bits of a state in turn
 abbrev pub filled : List Bool → List Bool → List Bool
 filled [] state = []
 filled (f ∷ flags) state = if f then true ∷ filled flags state else first_bit state ∷ filled flags (other_bits state)

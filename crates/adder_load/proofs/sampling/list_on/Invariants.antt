@@ -4,7 +4,7 @@ use Rattle.conditioner.specs.Evidence.{bits_of}
 use Rattle.fault_graph.specs.Minimised.{Serves}
 use Rattle.adder_load.proofs.sampling.list_on.Given as goal
 
--- so many are listed, and the last of them is the state
+-- `count` are listed, and the last of them is the state
 abbrev pub invariant-loop-count : goal.invariant-loop-count
 invariant-loop-count g l =
     let ds = diagnoses_under l.fn.graph l.fn.evidence l.fn.costs in

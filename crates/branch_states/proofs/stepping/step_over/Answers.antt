@@ -13,7 +13,6 @@ left-is c =
     left-at _ c.args.variables.now.keys _ c.args.variable _ _ _ c.loop-at.read c.clause-clause.result.now _ _ (omega arith) c.requires.order c.clause-clause.ensures c.requires.variable c.requires.state c.loop-at.invariant.reads
     c.is_in-was_in.ensures c.is_left-left.ensures
 
--- what is read
 reads : (c : After-from-read) → c.loop-at.read + c.from-read.result ≡ length (filter (is_active (order c.args.cnf.now.clauses) c.args.level) (take (c.loop-at.at + 1) c.args.cnf.now.clauses))
 reads c = count-more (is_active (order c.args.cnf.now.clauses) c.args.level) c.args.cnf.now.clauses c.loop-at.at _ _ _ (omega arith) c.loop-at.invariant.reads c.from-read.ensures (rw (c.requires.order, c.clause-clause.ensures) at c.is_active.ensures)
 
@@ -44,7 +43,7 @@ overflow_add-written c =
     let cs = c.args.cnf.now.clauses in
     omega (arith, c.loop-at.invariant.writes, length-filter-le (is_active (order cs) (c.args.level + 1)) (take c.loop-at.at cs), length-take c.loop-at.at cs, c.requires.most)
 
--- ---- what comes of it
+-- ---- the result
 
 pub loop-at-preserved : goal.loop-at-preserved
 loop-at-preserved c =

@@ -1,4 +1,3 @@
--- touched
 use Rattle.std.proofs.Common.{◌≡◌, ◌<◌, ◌≤◌, ℕ, List, [], ◌∷◌, length, get_or, arith}
 use Rattle.std.specs.List.{filter}
 use Rattle.std.proofs.lemmas.List.{drop_all, append-nil, nil_from_length}
@@ -11,7 +10,7 @@ use Rattle.dnnf_compiler.proofs.maker.Maker.meet.Goals.{After-as_slice}
 pub loop-i-preserved : goal.loop-i-preserved
 loop-i-preserved c = grind (arith, kept_more c.args.self.now c.requires.maker c.args.kids.now c.loop-i.kept.items c.loop-i.i (get_or c.args.kids.now c.loop-i.i 0), AllByRecursion-append, other_plain c.args.self.now c.requires.maker)
 
--- all children are gone over
+-- all children are read
 whole : (c : After-as_slice) → c.as_slice.result.now ≡ filter (keeps_of c.args.self.now) c.args.kids.now
 whole c = grind (arith, drop_all c.loop-i.i c.args.kids.now, append-nil c.loop-i.kept.items)
 

@@ -206,7 +206,7 @@ impl Levels {
     }
 
     /// Finds what [`next`](Levels::next) finds, in words that are lent for it, whatever they hold. `steps` counts the passes over the
-    /// graph, but not the one sweep from the root down. The passes skip each node through which every derivation of the graph costs more in
+    /// graph, but not the one sweep from the root down. The code skips each node through which every derivation of the graph costs more in
     /// open parts than the greatest listed cost.
     #[tactic(auto, using(crate::proofs::Rules::ends))]
     pub fn next_in<L: Ledger>(

@@ -116,7 +116,6 @@ impl LoadMemory {
     }
 }
 
-// Returns `count` zeros.
 fn zeros(alloc: Global, count: usize) -> Result<Vec<u32>, AllocError>
     ensures { IfOk result (λ zeros. zeros.items ≡ replicate count 0) }
 {

@@ -28,7 +28,6 @@ use std::sync::ledger::Blank;
 /// The most diagnoses that are listed.
 pub const LISTED_LIMIT: u32 = 20;
 
-// Makes the device of an adder.
 fn adder_device(alloc: Global, places: u32) -> Result<Device, Refusal>
     requires { places ≤ PLACE_LIMIT }
     ensures { FulfilsOrRefuses (or_line netlist_line (netlist (adder_text places))) result }
@@ -114,7 +113,6 @@ fn put_found<O: Sink>(out: &mut O, summary: &Summary) -> Result<(), WriteFailed>
     }
 }
 
-// Writes the lines of a summary.
 fn put_summary<O: Sink>(out: &mut O, summary: &Summary) -> Result<(), WriteFailed>
     requires { IsInStep summary.now }
     ensures text { Replies (O.got out.old) (O.got out.new) result (summary_items summary.now) }

@@ -123,7 +123,6 @@ fn words_after<'a>(option: &str, words: &'a [String]) -> Option<&'a [String]>
     None
 }
 
-// Whether an option is given.
 fn is_given(option: &str, words: &[String]) -> bool
     ensures { result ≡ is_given option.now (map string_bytes words.now) }
 {
@@ -176,7 +175,6 @@ fn number_given(command: &str, option: &str, words: &[String]) -> Option<u32>
     }
 }
 
-// Returns how `serve` answers a script, by its options.
 fn serve_options(words: &[String]) -> ServeOptions
     ensures { result ≡ serve_options (map string_bytes words.now) }
 {

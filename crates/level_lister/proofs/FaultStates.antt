@@ -1,4 +1,4 @@
--- The states in which an open part of a group is faulty, and the assignments behind them.
+-- The states in which an open part of a group is faulty, and assignments with these states.
 use Rattle.std.proofs.Common.{◌≡◌, ℕ, ◌+◌, ◌-◌, ◌*◌, ◌<◌, ◌≤◌, true, List, length, refl, ap, sym, ◌∙◌, arith}
 use Rattle.state_rules.specs.Graphs.{Graph, IsGraph, is_true}
 use Rattle.node_costs.specs.Costs.{CostOf}

@@ -35,7 +35,6 @@ const NEVER: Pair = Pair {
     faults: 0,
 };
 
-// Returns the two words of a node.
 fn pair_at(values: &[u32], k: usize) -> Pair
     requires { 2 * k + 1 < length values.now }
     ensures { result ≡ pair_at values.now k }

@@ -21,7 +21,6 @@ pub(crate) fn one(number: u32) -> u32
     if number < BITS { 1 << number } else { 0 }
 }
 
-// Whether a word has a number.
 pub(crate) fn has_bit(word: u32, number: u32) -> bool
     requires { number < 32 }
     ensures { result ≡ has_bit word number }

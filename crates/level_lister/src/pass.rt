@@ -163,7 +163,6 @@ pub(crate) fn put_full(graph: &Graph, sets: &[u32], at: u32, set: &mut [u32])
     }
 }
 
-// Computes the set of a literal.
 fn put_literal(leaf: Leaf, positive: bool, cost: u32, set: &mut [u32])
     ensures ruled_out { leaf ≡ Leaf.False → (n : ℕ) → has_number set.new n ≡ false }
     ensures allowed { leaf ≢ Leaf.False → (n : ℕ) → n < 32 * length set.old

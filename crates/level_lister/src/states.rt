@@ -8,7 +8,6 @@ ghost use Rattle.diagnosis_lister.specs.inner.Fixing.{Agrees, Follows, fixed_bit
 use conditioner::{is_false, is_faulty, is_open, word_of_known};
 use minimiser::TOTAL_LIMIT;
 
-// Returns the cost of a state.
 #[tactic(auto, using(crate::proofs::StateCosts::cost_steps))]
 pub(crate) fn state_cost(state: &[u32], costs: &[u32]) -> u32
     requires long { length state.now ≡ length costs.now }

@@ -122,7 +122,7 @@ module _ (graph : Graph) (evidence costs : List ℕ) (ok : IsGraph graph) (vs os
     other_place : (v : ℕ) → 1 ≤ v → v ≢ var → v - 1 ≡ var - 1 → ⊥
     other_place v l ne e = ne (omega (arith, low))
 
-    -- variable 0 stands for no other than the first one
+    -- variable 0 has the bit of the first one
     rounded : Assignment → Assignment
     rounded a v = a (v - 1 + 1)
 

@@ -39,7 +39,7 @@ held-same (c ∷ costs) [] i w h = refl
 held-same (c ∷ costs) (x ∷ evidence) zero w h = absurd (omega arith)
 held-same (c ∷ costs) (x ∷ evidence) (suc i) w h = ap (λ n. held_one c (known_of x) + n) (held-same costs evidence i w (omega arith))
 
--- what all cost without what the root does is held
+-- the least cost exceeds the root's by what is held
 pub record Held (root fewest held : ℕ) : Type 0 where
   pub low : root ≤ fewest
   pub is : fewest - root ≡ held

@@ -64,7 +64,6 @@ fn joined(marks: &[u32], kids: &[u32]) -> u64
     any
 }
 
-// Returns the mark of a node.
 pub(crate) fn mark_at(marks: &[u32], node: usize) -> u64
     requires { 2 * node + 1 < length marks.now }
     ensures { result ≡ mark_at marks.now node }

@@ -303,7 +303,6 @@ fn begins_comment(word: &[u8]) -> bool
     word.first() == Some(&b'#')
 }
 
-// Returns a refused line, by its number.
 fn refused<'a>(refusal: LineRefusal) -> Line<'a>
     ensures means { meaning result ≡ script.Refused refusal }
     ensures numbered { IsNumbered result }

@@ -85,7 +85,6 @@ pub fn count_in(text: &[u8]) -> Result<(&[u8], u32), LineRefusal>
     }
 }
 
-// Whether each word is a name of a wire or a part.
 fn are_script_names(text: &[u8]) -> bool
     ensures { result ≡ list_all is_script_name (words text.now) }
 {

@@ -138,7 +138,6 @@ impl Basis {
         &self.costs
     }
 
-    /// Returns the graph.
     pub(crate) fn graph(&self) -> &Graph
         ensures graph { result.now ≡ self.now.graph }
         ensures basis { IsBasis self.now }
@@ -231,7 +230,6 @@ impl Basis {
         levels.room(self.graph())
     }
 
-    /// Returns the number of variables of the graph.
     pub(crate) fn vars(&self) -> usize
         ensures vars { result ≡ self.now.graph.vars }
         ensures basis { IsBasis self.now }
@@ -239,7 +237,6 @@ impl Basis {
         self.graph.vars() as usize
     }
 
-    /// Returns the number of nodes of the graph.
     pub(crate) fn nodes(&self) -> usize
         ensures nodes { result ≡ length self.now.graph.nodes }
         ensures basis { IsBasis self.now }

@@ -74,7 +74,6 @@ impl Desk {
         Ok(Desk { basis, memory })
     }
 
-    /// Returns the basis.
     pub(crate) fn basis(&self) -> &Basis
         ensures { result.now ≡ self.now.subject }
     {

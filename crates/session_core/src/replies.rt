@@ -59,7 +59,6 @@ pub(crate) fn put_refusal<O: Sink>(
     )
 }
 
-// Returns the text of a refusal.
 fn text_of<'a>(refusal: Refusal) -> &'a [u8]
     ensures { result.now ≡ (refusal_row refusal).1 }
 {
@@ -243,7 +242,6 @@ pub(crate) fn put_blame<O: Sink>(
     put_line(out, &[session, b"blame", name, blame_word(blame)])
 }
 
-// Returns the word of a verdict.
 fn blame_word<'a>(blame: Blame) -> &'a [u8]
     ensures { result.now ≡ blame_text blame }
 {

@@ -120,7 +120,6 @@ impl Sessions {
         }
     }
 
-    // Closes a session.
     #[tactic(auto, using(crate::proofs::Rules::open_sessions))]
     fn stop<O: Sink>(&mut self, session: OpenSession<'_>, out: &mut O) -> Result<(), WriteFailed>
         requires { IsOpen self.old.table session }

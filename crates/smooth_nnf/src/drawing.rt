@@ -206,7 +206,6 @@ impl<'a> Drawing<'a> {
     }
 }
 
-// Returns the number of parts of a set.
 #[tactic(auto, using(crate::proofs::Rules::counted_parts))]
 fn count_parts(set: &[u32]) -> u32
     requires { length set.now < 2 ^ 27 }
@@ -229,7 +228,6 @@ fn part_bits(parts: u32, word: usize) -> u32
     ((1_u64 << count) - 1) as u32
 }
 
-// Returns the bits of `all` that `others` lacks.
 #[tactic(auto, using(crate::proofs::Rules::masked_bits))]
 fn without(all: u32, others: u32) -> u32
     ensures { (b : ℕ) → b < 32 → has_bit result b ≡ (has_bit all b && not (has_bit others b)) }
@@ -237,7 +235,6 @@ fn without(all: u32, others: u32) -> u32
     all & !others
 }
 
-// Returns the line of a part's literal.
 pub(crate) fn literal_line(part: u32, ok: bool) -> u32
     requires { (1 ≤ part) × (2 * part < 2 ^ 32) }
     ensures { result ≡ literal_line part ok }

@@ -49,7 +49,6 @@ fn add_pair<O: Sink>(text: &mut GraphText, out: &mut O, var: u32)
     add_node(text, out, faulty, &[]);
 }
 
-// Adds the lines of all nodes.
 #[tactic(auto, using(nnf_text::proofs::Extended::extending, crate::proofs::Rules::numbered_nodes))]
 pub(crate) fn add_nodes<O: Sink>(text: &mut GraphText, out: &mut O, drawing: &Drawing<'_>)
     ensures { Extends (O.shown out.old) (O.shown out.new) text.old text.new
@@ -74,7 +73,6 @@ pub(crate) fn add_last<O: Sink>(text: &mut GraphText, out: &mut O, drawing: &Dra
     add_filled(text, out, drawing, None, root);
 }
 
-// Adds the lines of a node.
 fn add_node_lines<O: Sink>(text: &mut GraphText, out: &mut O, drawing: &Drawing<'_>, node: u32)
     requires { node < length drawing.now.graph.nodes }
     ensures { Extends (O.shown out.old) (O.shown out.new) text.old text.new
@@ -136,7 +134,6 @@ fn add_literal<O: Sink>(text: &mut GraphText, out: &mut O, parts: u32, var: u32,
     }
 }
 
-// Adds the line of an And node.
 #[tactic(auto, using(nnf_text::proofs::Extended::extending))]
 fn add_and<O: Sink>(text: &mut GraphText, out: &mut O, drawing: &Drawing<'_>, kids: &[u32])
     requires { All (λ child. child < length drawing.now.graph.nodes) kids.now }

@@ -61,7 +61,7 @@ all_in P x [] all m = absurd m
 all_in P x (y ∷ ys) all (inl e) = subst P (sym e) (all 0 y (omega arith))
 all_in P x (y ∷ ys) all (inr m) = all_in P x ys (λ k d lt. all (suc k) d (omega arith)) m
 
--- an And of which no child has a cost with a fault
+-- an And node of which no child has a cost with a fault
 pub no_fault_below : (graph : Graph) (skips evidence costs : List ℕ) (groups : Groups) (at size : ℕ) (sets set : List ℕ) → IsGraph graph → LivesAs graph skips at And
     → length sets ≡ at * size → length set ≡ size → AreNodeFaults graph skips evidence costs groups size sets at
     → All (λ k. (n : ℕ) → has_number (set_at sets k size) n ≡ false) (node_at graph.nodes at).kids → ((n : ℕ) → has_number set n ≡ false) → IsNodeFaults graph skips evidence costs groups at set

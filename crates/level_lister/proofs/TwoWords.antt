@@ -77,7 +77,7 @@ module _ (evidence costs : List ℕ) (top step : ℕ) (group : ℕ → ℕ → B
     local = λ a b h. sym (e a) ∙ is.local a b (λ v p. h v (wider.within v p)) ∙ e b;
   }
 
-  -- tests that are the same where assignments agree with the evidence
+  -- tests that are the same for assignments that agree with the evidence
   pub tells_known : (t u : Assignment → Bool) (some : ℕ → Bool) (pair : Pair) → ((a : Assignment) → Agrees (fault_weights evidence costs) a → t a ≡ u a) → Depends some u → Tells evidence costs top step group t some pair → Tells evidence costs top step group u some pair
   tells_known t u some pair e local is = record {
     cost_bits = row-cost g (top + 1) _ some some _ _ (λ a f h. sym (e a f) ∙ h) (λ a f h. e a f ∙ h) (λ v l h. refl) is.cost_bits;

@@ -140,7 +140,7 @@ impl FaultPass<'_> {
         put_one(set, self.levels.costs()[part] as usize);
     }
 
-    // Computes the set of an And: a part of one child is faulty. The children share no variable.
+    // Computes the set of an And node: a part of one child is faulty. The children share no variable.
     fn put_and_faults(&self, earlier: &[u32], at: u32, set: &mut [u32], scratch: &mut [u32])
         requires are { AreNodeSets self.now.graph.now self.now.skips.now self.now.evidence.now self.now.levels.now.costs (cost_words self.now.levels.now.top)
             self.now.sets.now (length self.now.graph.now.nodes) }
@@ -153,7 +153,7 @@ impl FaultPass<'_> {
         ensures { IsNodeFaults self.now.graph.now self.now.skips.now self.now.evidence.now self.now.levels.now.costs self.now.groups at set.new }
     {
         clear(set);
-        // If no child has a fault, the And has none. This holds at many nodes, since groups soon have few parts.
+        // If no child has a fault, the And node has none. This holds at many nodes, since groups soon have few parts.
         if !self.has_faulty_child(earlier, at) {
             return;
         }
@@ -186,7 +186,7 @@ impl FaultPass<'_> {
         false
     }
 
-    // Computes the set of an Or: parts that a child does not mention are free where it is true.
+    // Computes the set of an Or node: parts that a child does not mention are free where it is true.
     #[tactic(auto, using(crate::proofs::Rules::child_places))]
     fn put_or_faults(&self, earlier: &[u32], at: u32, set: &mut [u32], scratch: &mut [u32])
         requires are { AreNodeSets self.now.graph.now self.now.skips.now self.now.evidence.now self.now.levels.now.costs (cost_words self.now.levels.now.top)

@@ -242,7 +242,7 @@ impl PairPass<'_> {
         pair
     }
 
-    // Computes the words of an Or whose children lack no part.
+    // Computes the words of an Or node whose children lack no part.
     #[tactic(auto, using(crate::proofs::Rules::child_pairs))]
     fn full_pair(&self, values: &[u32], at: u32) -> Pair
         requires node { LivesAs self.now.graph.now self.now.skips.now at Or }
@@ -259,7 +259,7 @@ impl PairPass<'_> {
         pair
     }
 
-    // Computes the words of an Or: parts that a child does not mention are free where it is true.
+    // Computes the words of an Or node: parts that a child does not mention are free where it is true.
     #[tactic(auto, using(crate::proofs::Rules::child_pairs))]
     fn or_pair(&self, values: &[u32], at: u32) -> Pair
         requires node { LivesAs self.now.graph.now self.now.skips.now at Or }

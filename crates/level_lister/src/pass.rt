@@ -96,7 +96,7 @@ impl Asked<'_> {
         }
     }
 
-    // Computes the set of an And. Its children share no variable.
+    // Computes the set of an And node. Its children share no variable.
     #[tactic(auto, using(crate::proofs::Rules::child_places))]
     fn put_and(&self, sets: &[u32], at: u32, set: &mut [u32], spare: &mut [u32])
         requires room { length set.old ≤ SET_LIMIT }
@@ -114,7 +114,7 @@ impl Asked<'_> {
         }
     }
 
-    // Computes the set of an Or: parts that a child does not mention are free where it is true.
+    // Computes the set of an Or node: parts that a child does not mention are free where it is true.
     #[tactic(auto, using(crate::proofs::Rules::child_places))]
     fn put_or(&self, sets: &[u32], at: u32, set: &mut [u32], spare: &mut [u32], other: &mut [u32])
         requires node { LivesAs self.now.graph.now self.now.skips.now at Or }
@@ -145,7 +145,7 @@ impl Asked<'_> {
     }
 }
 
-// Computes the set of an Or whose children lack no part, from their sets: of all costs, or of those with a fault.
+// Computes the set of an Or node whose children lack no part, from their sets: of all costs, or of those with a fault.
 #[tactic(auto, using(crate::proofs::Rules::child_places))]
 pub(crate) fn put_full(graph: &Graph, sets: &[u32], at: u32, set: &mut [u32])
     requires at { at < length graph.now.nodes }

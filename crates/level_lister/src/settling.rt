@@ -182,8 +182,8 @@ impl Search<'_> {
         }
     }
 
-    // Finds the last part at which a later state of this cost can leave `state`: the same before it, and ok where `state` is faulty. Fixes
-    // the evidence up to there. Takes at most a pass for each faulty part of the state.
+    // Finds the last part at which a later state of this cost can leave `state`: both are the same before it, and there `state` is faulty
+    // and the later one ok. Fixes the evidence up to there. Takes at most a pass for each faulty part of the state.
     #[tactic(auto, using(crate::proofs::Rules::fixed_words))]
     pub(crate) fn leave<L: Ledger>(
         &self,

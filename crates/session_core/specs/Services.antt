@@ -70,8 +70,8 @@ abbrev pub outcome_of : Shown → Name → Request → List Move
 outcome_of shown session request =
     outcome (served_system shown.subject) session (nat_le shown.limit (length shown.table)) (entry_of session shown.table) request
 
--- A line is refused: it is not in the language, or its request is declined, for example if its session is not open or it names no part or
--- wire. A blank line is not refused.
+-- A line is refused: it is not in the language, or its request is declined, for example if its session is not open or it names an unknown
+-- part or wire. A blank line is not refused.
 abbrev pub IsRefused : Shown → Line → Type 0
 IsRefused shown Blank = ⊥
 IsRefused shown (Refused refusal) = Unit {0}

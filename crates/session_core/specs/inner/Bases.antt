@@ -60,7 +60,7 @@ HasSets subject levels sets =
 abbrev pub level_room : Subject → ℕ → ℕ
 level_room subject top = length subject.costs + length subject.graph.nodes + (length subject.graph.nodes + 2) * (2 * cost_words top)
 
--- So many words are enough for each answer that takes some: the probes of all wires, and a step by rising cost. The graph of the diagnoses
+-- `words` words are enough for each answer that takes some: the probes of all wires, and a step by rising cost. The graph of the diagnoses
 -- is drawn with fewer than the probes.
 pub record AreEnough (subject : Subject) (words : ℕ) : Type 0 where
   pub probes : 4 * length subject.graph.nodes ≤ words

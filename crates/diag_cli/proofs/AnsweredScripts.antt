@@ -96,7 +96,7 @@ module _ (shown : Shown) (sound : IsSound shown) where
         (broken_begins_more shown.subject sound.valid sound.room sound.few sound.least shown.limit [] new lines more b c (HasCases-empty system)
         (subst (λ (t : Table). BreaksOff new (script_moves (line_moves system shown.limit) t lines) b c) none over))
 
-    -- if the bytes are a front and a piece, the front was answered, and a write failed in the lines after it
+    -- the bytes are a front and a piece: the front was answered, and a write failed in the lines after it
     stopped_in : (new : Table) (bytes fed piece : List ℕ) (lines : List (List ℕ)) (c : Option (List ℕ)) → bytes ≡ fed ++ piece → length piece ≤ READ_LIMIT
         → FailsBehind (moves_of shown) old new (whole_lines fed) lines b c → IsStopped (answers_of (system_of shown.subject) shown.limit) bytes a c
     stopped_in new bytes fed piece lines c all few failed = grind (arith, broken_grows new (script_moves (moves_of shown) failed.table lines) failed.middle c failed.broke, ready_then failed.table (whole_lines fed) failed.middle failed.made)
@@ -107,7 +107,7 @@ module _ (shown : Shown) (sound : IsSound shown) where
     pub stopped_at_end : (new : Table) (bytes : List ℕ) (lines : List (List ℕ)) (c : Option (List ℕ)) → FailsBehind (moves_of shown) old new (whole_lines bytes) lines b c → IsStopped (answers_of (system_of shown.subject) shown.limit) bytes a c
     stopped_at_end new bytes lines c failed = stopped_in new bytes bytes [] lines c (sym (append-nil bytes)) (omega arith) failed
 
-  -- in the line `ready`: that begins the answers to any lines
+  -- a write failed in the line `ready`: that begins the answers to any lines
   pub ready_begun : (parts wires : ℕ) (a b : Option (List ℕ)) → parts ≡ length shown.subject.parts → wires ≡ length shown.subject.wires
       → AppendsPrefix a b (spaced (codes "ready" ∷ decimal parts ∷ decimal wires ∷ [])) → (lines : List (List ℕ)) → WritesPart a b (answers_of (system_of shown.subject) shown.limit lines)
   ready_begun parts wires a b p w (part, rest, all, grown) lines = grind (arith, part_more a b (ready_line system ∷ []) (replies system shown.limit [] lines), spells_one (ready_line system) (part ++ rest), replies-have shown.subject sound.valid sound.room sound.few sound.least shown.limit)

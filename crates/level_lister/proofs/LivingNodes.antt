@@ -29,7 +29,7 @@ skipped-at (node ∷ nodes) [] k h ne = absurd (ne refl)
 skipped-at (node ∷ nodes) (skip ∷ skips) zero h ne = ap (λ b. cond b node false_node) (ne_eqb skip 0 ne)
 skipped-at (node ∷ nodes) (skip ∷ skips) (suc k) h ne = skipped-at nodes skips k (omega arith) ne
 
--- all children are true if they were
+-- if true children stay true, a true node does
 all_more : (f g : ℕ → Bool) (kids : List ℕ) → ((j : ℕ) → j < length kids → f (get_or kids j 0) ≡ true → g (get_or kids j 0) ≡ true) → list_all (λ b. b) (map f kids) ≡ true → list_all (λ b. b) (map g kids) ≡ true
 all_more f g [] more h = refl
 all_more f g (k ∷ kids) more h = grind (arith, nat_tests, more zero, all_more f g kids (λ j lt. more (suc j) (omega arith)))

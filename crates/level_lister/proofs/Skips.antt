@@ -33,7 +33,7 @@ module _ (graph : Graph) (evidence costs : List ℕ) (ok : IsGraph graph) (least
         → is_true graph.nodes (get_or (node_at graph.nodes k).kids j 0) a ≡ true → through (get_or (node_at graph.nodes k).kids j 0) ≤ through k
     child-through k inside e j lt t = child-fits graph evidence costs ok least outside are_least are a agrees k (get_or (node_at graph.nodes k).kids j 0) inside (child-in _ _ (In-at (node_at graph.nodes k).kids j 0 lt)) e t
 
-    -- a node with a derivation of at most this cost is not skipped
+    -- a node stays true if the derivation through it costs at most `top`
     lives : (fuel k : ℕ) → k < fuel → k < length graph.nodes → is_true graph.nodes k a ≡ true → through k ≤ top → is_true (living graph.nodes skips) k a ≡ true
     lives zero k h inside e le = absurd (omega arith)
     lives (suc fuel) k h inside e le = grind (arith, living-is, truth_more, child-below, child-through, graph-is, lives fuel, marks, skipped-dear, has_least graph evidence costs least are_least ok a agrees k inside e)

@@ -31,7 +31,7 @@ module _ (values marks kids : List ℕ) (mark outside start i : ℕ) (lt : i < l
   wider : (place cost : ℕ) → Left i place cost → Left (i + 1) place cost
   wider place cost l = grind (arith, is_child-more)
 
-  -- a left child is one of those before, or this one
+  -- a child that is left is one of those before, or this one
   narrower : (place cost : ℕ) → (l : Left (i + 1) place cost) → Left i place cost ⊎ (get_or kids i 0 ≡ l.child)
   narrower place cost l = grind (arith, is_child-more)
 
@@ -105,7 +105,7 @@ module _ (graph : Graph) (ok : IsGraph graph) (first at : ℕ) (lt : at < length
   pub none-gate : ((var : ℕ) (positive : Bool) → (node_at graph.nodes at).what ≡ Literal positive var → ⊥) → NoneMarked graph.nodes first (at + 1)
   none-gate other = grind (arith, none-more, any-false)
 
--- if no node so far mentions one of the variables, no mark is set
+-- unset marks are right if no node so far mentions one of the variables
 pub marked-none : (nodes : List Node) (first at : ℕ) (marks : List ℕ) → NoneMarked nodes first at → ((node : ℕ) → node < at → mark_at marks node ≡ 0) → IsMarked nodes first at marks
 marked-none nodes first at marks none clear node b h small = ap (λ m. has_bit m b) (clear node h) ∙ has_bit-zero b ∙ sym (none node b h small)
 

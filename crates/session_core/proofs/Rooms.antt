@@ -29,7 +29,7 @@ module _ (old new : Carved) (run : Span) (empty : old.runs ≡ []) (is : new ≡
   carved_long : length new.words ≡ length old.words
   carved_long = ap (λ (r : Carved). length r.words) is ∙ length-written old.words run.start (replicate run.len 0)
 
-  -- after the release nothing is in use
+  -- after the release nothing is in use, and all words are there
   pub released_runs : (after : Carved) → new.runs ≡ after.runs ++ run ∷ [] → after.runs ≡ []
   released_runs after e =
       let all = length-append after.runs (run ∷ []) in

@@ -1,4 +1,4 @@
--- What a service writes is one text of its system's answers: if its moves were made, or broke off, so did those over the system.
+-- What a service writes is one text of its system's answers: moves that were made, or broke off, are moves over the system too.
 use Rattle.std.proofs.Common.{◌≡◌, ℕ, true, ◌+◌, ◌^◌, ◌<◌, ◌≤◌, List, [], ◌∷◌, ◌++◌, map, length, Option, Some, refl, ap, sym, ◌∙◌, subst, append_assoc, arith}
 use Rattle.std.proofs.lemmas.Bool.Decides.{nat_tests}
 use Rattle.std.specs.Prelude.{nat_le}
@@ -45,7 +45,7 @@ same_left t [] ms h = grind arith
 same_left t (e ∷ es) [] h = absurd h
 same_left t (e ∷ es) (m ∷ ms) h = ap (λ u. left_by u es) h.0.table ∙ same_left m.table es ms h.1
 
--- a text of items and more is one of these and one of those
+-- a text of `xs` and `ys` is a text of `xs` and one of `ys`
 pub parted : (xs ys : List Item) (text : List ℕ) → Spells (xs ++ ys) text → (front : List ℕ) × (rest : List ℕ) × (text ≡ front ++ rest) × Spells xs front × Spells ys rest
 parted [] ys text is = ([], text, refl, refl, is)
 parted (x ∷ xs) ys text (front, rest, all, one, more) =

@@ -79,6 +79,6 @@ stand-more : (vars : ℕ) (base seen middle : List Node) → Stand vars (base ++
 stand-more vars base seen [] s h = subst (λ t. Stand vars (base ++ t)) (sym (append-nil seen)) s
 stand-more vars base seen (x ∷ middle) s h = grind (arith, nat_tests, append_assoc, stand-push, may_follow-later, stand-more vars base (seen ++ x ∷ []) middle (subst (Stand vars) (append_assoc base seen (x ∷ [])) (stand-push vars (base ++ seen) x s (may_follow-later vars base seen x h.0))) h.1)
 
--- nodes that may each follow are smooth in a row
+-- nodes in a row that may each follow are smooth
 pub stand-behind : (vars : ℕ) (base middle : List Node) → Stand vars base → AllByRecursion (MayFollow vars base) middle → Stand vars (base ++ middle)
 stand-behind vars base middle s h = stand-more vars base [] middle (subst (Stand vars) (sym (append-nil base)) s) h

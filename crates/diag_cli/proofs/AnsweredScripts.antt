@@ -30,15 +30,15 @@ use Rattle.diag_cli.specs.Fulfilled.{WritesFirst, IsStopped}
 
 -- ---- nothing is read after a write that failed
 
--- items were written, and then an output was given or begun
+-- items were written, then an output was given or begun
 pub first_given : (items : List Item) (output : Output) (status : Status) (a b c : Option (List ℕ)) → Writes a b items → FulfilsOutput output status b c → WritesFirst a c items
 first_given items output status a b c written said = grind arith
 
--- if two texts were put, one was, and then the other
+-- if two texts were put together, one was, then the other
 first_put : (a c : Option (List ℕ)) (xs ys : List ℕ) → Appends a c (xs ++ ys) → Appends a (append_known a xs) xs × Appends (append_known a xs) c ys
 first_put a c xs ys put = grind (arith, append_assoc)
 
--- moves were made and then others, so the first were written first
+-- if some moves and others were made, the first were written first
 first_of_all : (one : Table → List ℕ → List Step) (old new : Table) (lines more : List (List ℕ)) (a c : Option (List ℕ)) → Makes old new (script_moves one old (lines ++ more)) a c
     → (b : Option (List ℕ)) × Makes old (left_by old (script_moves one old lines)) (script_moves one old lines) a b × ((text : List ℕ) × Appends b c text)
 first_of_all one old new lines more a c made = grind (arith, script_moves-append, said-append, parted, first_put)
@@ -48,15 +48,15 @@ broken_grows : (new : Table) (moves : List Step) (a b : Option (List ℕ)) → B
 broken_grows new moves a b broke = grind (arith, grows_more)
 
 module _ (one : Table → List ℕ → List Step) (old new : Table) (a b : Option (List ℕ)) where
-  -- lines were answered, and those after them broke off
+  -- lines were answered, and the lines after them broke off
   pub breaks_behind : (answered lines : List (List ℕ)) → FailsBehind one old new answered lines a b → BreaksOff new (script_moves one old (answered ++ lines)) a b
   breaks_behind answered lines failed = grind (arith, script_moves-append one old answered lines, breaks_after failed.made failed.broke)
 
-  -- so all lines that the bytes end did
+  -- so all lines that the bytes end broke off
   pub breaks_at_once : (bytes : List ℕ) → FailsAtOnce one old new bytes a b → BreaksOff new (script_moves one old (whole_lines bytes)) a b
   breaks_at_once bytes at = grind (arith, breaks_behind)
 
--- the line `ready` was put
+-- the line `ready` was written
 ready_put : (system : System) (parts wires : ℕ) (a b : Option (List ℕ)) → parts ≡ length system.parts → wires ≡ length system.wires
     → Appends a b (spaced (codes "ready" ∷ decimal parts ∷ decimal wires ∷ [])) → Writes a b (ready_line system ∷ [])
 ready_put system parts wires a b p w grown = record {
@@ -75,11 +75,11 @@ module _ (shown : Shown) (sound : IsSound shown) where
   -- The line `ready` was written, and no session is open.
   module _ (old : Table) (parts wires : ℕ) (a b : Option (List ℕ)) (none : old ≡ []) (p : parts ≡ length shown.subject.parts) (w : wires ≡ length shown.subject.wires)
       (ready : Appends a b (spaced (codes "ready" ∷ decimal parts ∷ decimal wires ∷ []))) where
-    -- and then the replies to lines
+    -- then the replies to lines
     pub ready_then : (new : Table) (lines : List (List ℕ)) (c : Option (List ℕ)) → Makes old new (script_moves (moves_of shown) old lines) b c → Writes a c (answers_of (system_of shown.subject) shown.limit lines)
     ready_then new lines c made = grind (arith, makes_over shown sound.valid sound.room sound.few sound.least old new lines b c (no_cases old none) made, writes_more a b c (ready_line system ∷ []) (replies system shown.limit [] lines) (ready_put system parts wires a b p w ready), said-replies system shown.limit old lines)
 
-    -- if more lines were answered after some, these were answered first
+    -- if lines and more were answered, the lines were answered first
     pub answered_first : (new : Table) (lines more : List (List ℕ)) (c : Option (List ℕ)) → Makes old new (script_moves (moves_of shown) old (lines ++ more)) b c → WritesFirst a c (answers_of (system_of shown.subject) shown.limit lines)
     answered_first new lines more c made =
         let first = first_of_all (moves_of shown) old new lines more b c made in
@@ -87,7 +87,7 @@ module _ (shown : Shown) (sound : IsSound shown) where
 
     -- ---- a write failed
 
-    -- with the replies to lines: what was written begins the answers to them and to any more
+    -- in the replies to lines: what was written begins the answers to them and to any more
     pub lines_begun : (new : Table) (lines : List (List ℕ)) (c : Option (List ℕ)) → BreaksOff new (script_moves (moves_of shown) old lines) b c
         → (more : List (List ℕ)) → WritesPart a c (answers_of (system_of shown.subject) shown.limit (lines ++ more))
     lines_begun new lines c broke more =
@@ -96,7 +96,7 @@ module _ (shown : Shown) (sound : IsSound shown) where
         (broken_begins_more shown.subject sound.valid sound.room sound.few sound.least shown.limit [] new lines more b c (HasCases-empty system)
         (subst (λ (t : Table). BreaksOff new (script_moves (line_moves system shown.limit) t lines) b c) none over))
 
-    -- of bytes that are a front and a piece the front was answered, and a write failed in the lines after it
+    -- the bytes are a front and a piece: the front was answered, and a write failed in the lines after it
     stopped_in : (new : Table) (bytes fed piece : List ℕ) (lines : List (List ℕ)) (c : Option (List ℕ)) → bytes ≡ fed ++ piece → length piece ≤ READ_LIMIT
         → FailsBehind (moves_of shown) old new (whole_lines fed) lines b c → IsStopped (answers_of (system_of shown.subject) shown.limit) bytes a c
     stopped_in new bytes fed piece lines c all few failed = grind (arith, broken_grows new (script_moves (moves_of shown) failed.table lines) failed.middle c failed.broke, ready_then failed.table (whole_lines fed) failed.middle failed.made)
@@ -107,7 +107,7 @@ module _ (shown : Shown) (sound : IsSound shown) where
     pub stopped_at_end : (new : Table) (bytes : List ℕ) (lines : List (List ℕ)) (c : Option (List ℕ)) → FailsBehind (moves_of shown) old new (whole_lines bytes) lines b c → IsStopped (answers_of (system_of shown.subject) shown.limit) bytes a c
     stopped_at_end new bytes lines c failed = stopped_in new bytes bytes [] lines c (sym (append-nil bytes)) (omega arith) failed
 
-  -- a write failed with the line `ready`: that begins the answers to any lines
+  -- a write failed in the line `ready`: that begins the answers to any lines
   pub ready_begun : (parts wires : ℕ) (a b : Option (List ℕ)) → parts ≡ length shown.subject.parts → wires ≡ length shown.subject.wires
       → AppendsPrefix a b (spaced (codes "ready" ∷ decimal parts ∷ decimal wires ∷ [])) → (lines : List (List ℕ)) → WritesPart a b (answers_of (system_of shown.subject) shown.limit lines)
   ready_begun parts wires a b p w (part, rest, all, grown) lines = grind (arith, part_more a b (ready_line system ∷ []) (replies system shown.limit [] lines), spells_one (ready_line system) (part ++ rest), replies-have shown.subject sound.valid sound.room sound.few sound.least shown.limit)

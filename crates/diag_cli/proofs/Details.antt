@@ -43,7 +43,7 @@ module _ (input new_input : Reading) (out new_out : Writing) (status : Status) w
   told_idle : (behaviour : Behaviour) (output : Output) → behaviour ≡ Prints output → FulfilsBehaviour behaviour input new_input out new_out status → IsIdle input new_input
   told_idle behaviour output is done = let both : IsIdle input new_input × FulfilsOutput output status out.got new_out.got = subst (λ c. FulfilsBehaviour c input new_input out new_out status) is done in both.0
 
-  -- from the bytes that were taken to the whole script
+  -- from the bytes taken to the whole script
   whole_answer : (answers : List (List ℕ) → List Item) (script : List ℕ) → input.left ≡ Some script → IsServed answers input new_input out new_out status
       → new_input.faults ≡ input.faults → FulfilsOutput (wholly_served answers script) status out.got new_out.got
   whole_answer answers script told done kept =
@@ -67,7 +67,7 @@ module _ (input new_input : Reading) (out new_out : Writing) (status : Status) w
       (bytes : List ℕ) × (new_input.taken ≡ input.taken + length bytes) × Consumes input.left new_input.left bytes
       × WritesFirst out.got new_out.got (answers (whole_lines bytes)) × FulfilsOutput (served answers bytes Failed) status out.got new_out.got
 
-  -- a write failed, after bytes were taken
+  -- a write failed after bytes were taken
   abbrev Stopped : (List (List ℕ) → List Item) → Type 0
   Stopped answers = (bytes : List ℕ) × (new_input.taken ≡ input.taken + length bytes) × Consumes input.left new_input.left bytes × IsStopped answers bytes out.got new_out.got
 
@@ -82,7 +82,7 @@ module _ (input new_input : Reading) (out new_out : Writing) (status : Status) w
     ],
   )
 
-  -- no more than the limit was taken
+  -- at most the limit was taken
   few_taken : (behaviour : Behaviour) → FulfilsBehaviour behaviour input new_input out new_out status → new_input.taken ≤ input.taken + SCRIPT_LIMIT
   few_taken behaviour done = grind arith
 
@@ -98,7 +98,7 @@ some_all o f = grind arith
 not_done : (output : Output) (status : Status) (a b : Option (List ℕ)) → output.status ≢ Done → FulfilsOutput output status a b → status ≢ Done
 not_done output status a b other said zero = grind arith
 
--- by the commands that ask for no script an output is printed
+-- commands that ask for no script print an output
 idle_by : (choose : ClauseList → Option Forest) (form : Option Form) (file : List ℕ) (input new_input : Reading) (out new_out : Writing) (status : Status) → asks_script form ≡ false
     → FulfilsBehaviour (behaviour_of choose form file) input new_input out new_out status → IsIdle input new_input
 idle_by choose form file input new_input out new_out status asks done = grind arith
@@ -128,7 +128,7 @@ module _ (choose : ClauseList → Option Forest) (form : Option Form) (held : Li
     | inr unread ↦ inr (unread.0, (unread.1.1.whole whole).0, unread.1.0)
   ]
 
-  -- ---- the script was not begun, or all was done by a file
+  -- ---- the script was not begun, or a file decided all
 
   begun : (IsIdle input new_input × (status ≢ Done)) ⊎ ByFile
   begun = grind (arith, run.done, not_done no_memory, not_done (says read_error ReadFailed))

@@ -1,4 +1,4 @@
--- With which status the output of a behaviour ends.
+-- The status with which the output of a behaviour ends.
 use Rattle.std.proofs.Common.{◌≡◌, ℕ, Bool, true, false, List, Option, Some, None, refl, arith}
 use Rattle.std.specs.Prelude.{Result, IfErr, not, is_some}
 use Rattle.state_rules.specs.declared.extras.Extras.{Extras}
@@ -25,7 +25,7 @@ use Rattle.diag_cli.specs.Besides.{in_few_bits}
 use Rattle.diag_cli.specs.Loads.{summary_by}
 use Rattle.diag_cli.specs.Behaviours.{Behaviour, Prints, AnswersScript, graph_by, behaviour_by, behaviour_of}
 
--- No call failed and no script was cut, and it is `Usage` exactly if the words have no form.
+-- No call failed and no script was cut. The status is `Usage` exactly if the words have no form.
 abbrev pub is_plain : Bool → Status → Bool
 is_plain form Done = form
 is_plain form Refused = form

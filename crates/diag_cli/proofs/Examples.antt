@@ -1,4 +1,4 @@
--- Worked rows: what words ask for, and how a script ends. Their check computes both sides. Other rows are tests.
+-- Worked rows: what words ask for, and how a script ends. The check computes both sides. Other rows are tests.
 use Rattle.std.proofs.Common.{◌≡◌, ℕ, List, [], ◌∷◌, map, true, false, Some, None, codes, refl}
 use Rattle.std.specs.Fmt.{digits}
 use Rattle.state_rules.specs.Systems.{no_extras}
@@ -15,7 +15,7 @@ use Rattle.diag_cli.specs.Behaviours.{Ended, Failed, Cut, read_error, served}
 
 -- ---- words with a form
 
--- how `serve` answers if no option is given
+-- how `serve` answers without options
 abbrev usual : ServeOptions
 usual = record { budget = 2097152; sessions = 16; narrow = false; extras = no_extras }
 
@@ -67,7 +67,7 @@ an_option_before_the_file = refl
 
 -- ---- scripts
 
--- a script of one line and a half; each line is answered by itself
+-- a script of one and a half lines, each answered by itself
 abbrev half : List ℕ
 half = codes "open S\nmin"
 
@@ -78,7 +78,7 @@ itself lines = map Plain lines
 ended : served itself half Ended ≡ record { items = Plain (codes "open S") ∷ Plain (codes "min") ∷ []; status = Done }
 ended = refl
 
--- if a read fails, or at the limit, only those that a line feed had ended
+-- if a read fails, or at the limit, only lines with a line feed are
 failed : served itself half Failed ≡ record { items = Plain (codes "open S") ∷ Plain read_error ∷ []; status = ReadFailed }
 failed = refl
 
@@ -95,9 +95,9 @@ a_long_file : too_long_line (codes "file") TEXT_LIMIT ≡ codes "error: file abo
 unfolding digits
 a_long_file = refl
 
--- ---- what is printed besides
+-- ---- extras
 
--- over a field of 4095 gates, and over a chain of 1000 buffers
+-- for a field of 4095 gates, and for a chain of 1000 buffers
 bits_of_levels : levels_bits 159704 20476 4095 (Some 32) ≡ 2162954494
 bits_of_levels = refl
 

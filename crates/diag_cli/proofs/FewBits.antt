@@ -1,4 +1,4 @@
--- What is printed besides, if it takes few bits.
+-- Extras that take few bits.
 use Rattle.std.proofs.Common.{◌≡◌, ◌+◌, ◌*◌, ◌/◌, ◌^◌, ◌<◌, ◌≤◌, ℕ, Bool, true, length, Option, IfSome, arith}
 use Rattle.std.specs.Prelude.{Result, Ok, Err, IfOk}
 use Rattle.std.proofs.Math.Nat.{mul-le-mul_right, le_trans}
@@ -18,7 +18,7 @@ use Rattle.diag_cli.specs.inner.Bits.{levels_bits, least_bits}
 use Rattle.diag_cli.specs.inner.Compiling.{IsGraphBy}
 use Rattle.diag_cli.specs.inner.Serving.{CanTell}
 
--- ---- few bits of the greatest graph are few of each
+-- ---- what takes few bits over the greatest graph does over each
 
 module _ (graph : Graph) (parts sum vars : ℕ) (few : length graph.nodes ≤ most_nodes sum vars) where
   can_list : (levels : Option ℕ) → levels_bits sum vars parts levels ≤ SERVED_BITS → IfSome levels (CanList graph parts)
@@ -32,14 +32,14 @@ module _ (graph : Graph) (parts sum vars : ℕ) (few : length graph.nodes ≤ mo
 pub few_pass : (bits : ℕ) (other : Result Weighed Output) → bits ≤ SERVED_BITS → if_few bits other ≡ other
 few_pass bits other few = grind (arith, nat_tests)
 
--- what fits takes few bits
+-- what is not refused takes few bits
 few_of_all : (extras : Extras) (parts : ℕ) (weighed : Weighed) → in_few_bits extras parts (Ok weighed) ≡ Ok weighed
     → (levels_bits weighed.sum weighed.list.vars parts extras.levels ≤ SERVED_BITS) × (least_bits weighed.sum weighed.list.vars parts extras.least ≤ SERVED_BITS)
 few_of_all extras parts weighed fits = grind (arith, nat_tests)
 
--- ---- what the calls answer
+-- ---- what calls return
 
--- what is printed besides can be printed over a graph that was compiled, if that fits and lines can be numbered
+-- the extras can be offered over a compiled graph, if they take few bits and lines can be numbered
 pub tells_in_few : (extras : Extras) (parts : ℕ) (weighed : Weighed) (graph : Graph)
     → in_few_bits extras parts (Ok weighed) ≡ Ok weighed → IsGraphBy weighed graph → (extras.least ≡ true → length graph.nodes + edges graph.nodes + 2 * parts + 1 < 2 ^ 32) → CanTell extras graph parts
 tells_in_few extras parts weighed graph fits by lines =
@@ -49,12 +49,12 @@ tells_in_few extras parts weighed graph fits by lines =
 pub if_ok_map : {T E : Type 0} {A B : T → Type 0} (result : Result T E) → ((t : T) → A t → B t) → IfOk result A → IfOk result B
 if_ok_map result f is = grind arith
 
--- A refusal stays through what keeps refusals,
+-- A refusal passes through what keeps refusals,
 pub fault_through : {A B : Type 0} (f : Result A Output → Result B Output) → ((output : Output) → f (Err output) ≡ Err output) → (fault : Option Output) (expected : Result A Output)
     → IsExpectedFault fault expected → IsExpectedFault fault (f expected)
 fault_through f kept fault expected is = grind arith
 
--- and so does all that was found, through what shows something else in its place.
+-- and so does what was found, through what shows something else in its place.
 pub fulfils_through : {A X Y : Type 0} (f : Result X Output → Result Y Output) (x : X) (y : Y) → f (Ok x) ≡ Ok y → ((output : Output) → f (Err output) ≡ Err output)
     → (expected : Result X Output) (result : Result A Refusal) → Fulfils (λ (_ : A). x) refusal_output expected result → Fulfils (λ (_ : A). y) refusal_output (f expected) result
 fulfils_through f x y shows kept expected result is = grind (arith, fault_through f kept)

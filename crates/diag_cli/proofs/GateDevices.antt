@@ -1,4 +1,4 @@
--- A device of gates of which no part is held is never at odds with what was seen: if all gates are faulty, they allow anything.
+-- A device of gates with no part held never contradicts what was seen: if all gates are faulty, they allow anything.
 use Rattle.std.proofs.Common.{arith, ◌≡◌, ℕ, zero, suc, Bool, true, false, List, [], ◌∷◌, ◌++◌, map, length, replicate, Option, None, refl}
 use Rattle.std.specs.Prelude.{Ok, ◌&&◌, IsSome, fold, unwrap_or}
 use Rattle.std.specs.List.{filter_map, flat_map, list_all}
@@ -89,7 +89,7 @@ none_held zero state = refl
 none_held (suc n) [] = refl
 none_held (suc n) (ok ∷ state) = none_held n state
 
--- and some bits of the wires are what was seen
+-- bits of the wires that are what was seen
 seen_bits : List (Option Bool) → List Bool
 seen_bits seen = map (λ o. unwrap_or o false) seen
 
@@ -98,7 +98,7 @@ unfolding seen_bits
 seen_agree [] = refl
 seen_agree (o ∷ seen) = grind (arith, same_bit-refl, seen_agree seen)
 
--- the case of these readings, if nothing is held
+-- the case of these readings with nothing held
 abbrev pub seen_case : Device → List (Option Bool) → Case
 seen_case device seen = record { seen = seen; held = replicate (length device.parts) None }
 

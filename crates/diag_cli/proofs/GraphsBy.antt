@@ -28,14 +28,14 @@ graph_by_names list compiled is = grind arith
 
 pub ruleset gives_graph = (graph_along, graph_by_names)
 
--- ---- by each sum that they have
+-- ---- by each sum of the clauses
 
 -- along a forest that was found
 pub found_each : (list : ClauseList) (forest : Option Narrowed) (found : Narrowed) → forest ≡ Some found → (Holds : ℕ → Type 0)
     → ((is : IsFound list found) → Holds (forest_sum Lists is.forest list.clauses)) → (sum : ℕ) → HasSum list forest sum → Holds sum
 found_each list forest found e Holds given sum has = let chosen = rw e at has in rw chosen.1 (given chosen.0)
 
--- or by the order of the names
+-- or by the order of names
 pub named_each : (list : ClauseList) (forest : Option Narrowed) → forest ≡ None → (Holds : ℕ → Type 0) → Holds (sum_of list.clauses) → (sum : ℕ) → HasSum list forest sum → Holds sum
 named_each list forest e Holds given sum has = let named = rw e at has in rw named given
 
@@ -43,7 +43,7 @@ named_each list forest e Holds given sum has = let named = rw e at has in rw nam
 pub is_found : (list : ClauseList) (forest : Option Narrowed) (found : Narrowed) → forest ≡ Some found → (sum : ℕ) × HasSum list forest sum → IsFound list found
 is_found list forest found e some = let chosen = rw e at some.1 in chosen.0
 
--- what is within the budget is found, and what is not is refused
+-- what is within the budget is found, and all else is refused
 pub fulfils_within : {A : Type 0} (weighed : Weighed) (budget : ℕ) (result : Result A Refusal) → IfOk result (λ (_ : A). weighed.sum ≤ budget)
     → IfErr result (λ refusal. IsExpectedFault (refusal_output refusal) (within budget (Ok weighed))) → Fulfils (λ (_ : A). weighed) refusal_output (within budget (Ok weighed)) result
 fulfils_within weighed budget result few fault = grind (arith, kept_within budget weighed)

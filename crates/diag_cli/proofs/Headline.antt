@@ -1,4 +1,4 @@
--- From what was done by a behaviour to a run.
+-- From the effect of a behaviour to a run.
 use Rattle.std.proofs.Common.{◌≡◌, ◌≢◌, ◌⊎◌, ◌<◌, ◌≤◌, ◌+◌, ℕ, true, false, List, [], length, replicate, Option, Some, None, IfSome, inl, inr, refl, ◌∙◌, ap, subst, sym, arith, nat_le, codes}
 use Rattle.std.specs.Option.{IsSome}
 use Rattle.std.proofs.lemmas.List.{length-replicate}
@@ -40,7 +40,7 @@ short_behaviour choose path command file short = let few : nat_le (length file) 
 long_behaviour : (choose : ClauseList → Option Forest) (path : List ℕ) (command : Command) (file : List ℕ) → TEXT_LIMIT < length file → behaviour_of choose (Some (Over path command)) file ≡ Prints (says long_file_line Refused)
 long_behaviour choose path command file long = let many : nat_le (length file) TEXT_LIMIT ≡ false = grind arith in rw many
 
--- some bytes are too many, those that are shown if any are
+-- some bytes are too many: those that are shown, if any are
 long_file : (limit : ℕ) (told : Option (List ℕ)) → IfSome told (λ bytes. limit < length bytes) → (file : List ℕ) × IfSome told (λ bytes. file ≡ bytes) × (limit < length file)
 long_file limit None long = (replicate (limit + 1) 0, tt, omega (arith, length-replicate {A = ℕ} (limit + 1) 0))
 long_file limit (Some file) long = (file, refl, long)
@@ -97,11 +97,11 @@ module _ (choose : ClauseList → Option Forest) (held : List ℕ → Holding) (
       DoneOrShort = IsDone choose (Some (Over path command)) (known_bytes (held path)) shelf new_shelf input input out new_out status
           ⊎ (IsSome (Some (Over path command)) × FulfilsBehaviour (Prints no_memory) input input out new_out status)
 
-      -- It could be.
+      -- It is there.
       there : held path ≢ absent → new_shelf.faults ≡ shelf.faults → DoneOrShort → IsRun choose (Some (Over path command)) held shelf new_shelf input input out new_out status
       there is kept done = grind (arith, done, once, bounded)
 
-      -- a file that is too long, which is the one that is shown, if one is
+      -- a file that is too long, and is the shown one, if one is shown
       long_done : (file : List ℕ) → IfSome (known_bytes (held path)) (λ bytes. file ≡ bytes) → TEXT_LIMIT < length file → new_shelf.taken ≡ shelf.taken + TEXT_LIMIT + 1
           → FulfilsOutput (says long_file_line Refused) status out.got new_out.got → DoneOrShort
       long_done file is long taken said = inl (record {

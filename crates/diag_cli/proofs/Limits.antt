@@ -15,7 +15,7 @@ use Rattle.diag_cli.specs.declared.words.TheConstants.{DEFAULT_BUDGET, DEFAULT_S
 use Rattle.diag_cli.specs.declared.loading.TheConstants.{LISTED_LIMIT}
 use Rattle.diag_cli.specs.declared.serving.TheConstants.{SCRIPT_LIMIT}
 
--- ---- bytes of a file, of a script and of names
+-- ---- bytes of a file, a script and names
 
 a_file : TEXT_LIMIT ≡ 16777216
 a_file = refl

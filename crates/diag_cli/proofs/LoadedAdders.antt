@@ -69,7 +69,7 @@ module _ (device : Device) (graph : Graph) (places : ℕ) (words costs : List �
       ap (λ o. listed_lines parts o (take LISTED_LIMIT ds)) (sym least_is ∙ sym fewest)
       ∙ (λ i. count_line (codes "minimum") f.fewest ∷ names_line (codes "first") parts (the_first i) ∷ count_line (codes "listed") (count i) ∷ names_line (codes "last") parts (the_last i) ∷ [])
 
-  -- so a summary of what was found is that of the device
+  -- so the summary of what was found is that of the device
   pub summary_is : (clauses : ℕ) (summary : Summary) (wires : List Name) → summary.parts.items ≡ part_names device.parts → wires ≡ device.wires → summary.wires ≡ length wires → summary.clauses ≡ clauses
       → option_map (λ f. f.fewest) summary.found ≡ least_under graph words costs
       → IfSome summary.found (λ f. f.listed ≡ length (take LISTED_LIMIT (diagnoses_under graph words costs)))
@@ -87,13 +87,13 @@ pub have_found : (parts : List Name) (found : Option Found) (first last : List �
 have_found parts None first last = ((_, refl), tt)
 have_found parts (Some f) first last = ((_, refl), ((_, refl), ((_, refl), ((_, refl), tt))))
 
--- ---- what is printed of a device, or of none
+-- ---- what is printed of a device, or without one
 
--- what refuses a device is printed of it
+-- what refuses a device is printed
 pub refusal_told : {A : Type 0} (told : A → Output) (fault : Option Output) (found : Result A Output) → IsExpectedFault fault found → IfSome fault (λ said. output_or_refusal told found ≡ said)
 refusal_told told fault found is = grind arith
 
--- a refusal of an output that is printed
+-- a refusal with an output that is printed
 pub gives_told : (fault : Option Output) (output : Output) (status : Status) (a b : Option (List ℕ)) → IfSome fault (λ said. output ≡ said) → FulfilsOutput (or_memory fault) status a b → FulfilsOutputUnlessMemory output status a b
 gives_told fault output status a b is said = grind arith
 

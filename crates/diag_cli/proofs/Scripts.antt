@@ -1,4 +1,4 @@
--- From the bytes of a script that were taken to the whole script.
+-- From the bytes taken of a script to the whole script.
 use Rattle.std.proofs.Common.{◌≡◌, ◌⊎◌, ◌<◌, ◌≤◌, ◌-◌, ◌+◌, ℕ, false, List, [], ◌∷◌, ◌++◌, length, take, Option, Some, None, inl, inr, ◌∙◌, ap, sym, arith, nat_lt, append-nil, take_all, codes, if◌then◌else◌}
 use Rattle.std.proofs.lemmas.Grind.{common_steps}
 use Rattle.std.specs.Io.KnownBytes.{Consumes, IsAtEnd}
@@ -20,7 +20,7 @@ use Rattle.diag_cli.specs.Details.{wholly_served, end_of}
 abbrev script_too_long : List ℕ
 script_too_long = too_long_line (codes "script") SCRIPT_LIMIT
 
--- ---- what was taken is what was there, up to the limit
+-- ---- what was taken is the script, up to the limit
 
 module _ (limit : ℕ) (script bytes left : List ℕ) (took : script ≡ bytes ++ left) where
   abbrev end_at : End
@@ -50,18 +50,18 @@ taken_all script input new_input bytes Ended same took is = at_the_end script by
 taken_all script input new_input bytes Failed same took is = absurd (omega (arith, is.1, same))
 taken_all script input new_input bytes Cut same took is = at_the_limit script bytes new_input.left took is.0
 
--- ---- what begins the answers to lines and to any that follow begins the output of the whole script
+-- ---- what begins the answers to lines and any more begins the output of the whole script
 
 module _ (limit : ℕ) (answers : List (List ℕ) → List Item) (script bytes rest : List ℕ) (lines : List (List ℕ)) (a b : Option (List ℕ))
     (is : script ≡ bytes ++ rest) (begun : (more : List (List ℕ)) → WritesPart a b (answers (lines ++ more))) where
   abbrev BeginsOutput : Type 0
   BeginsOutput = WritesPart a b (served answers (take limit script) (if nat_lt (length script) limit then Ended else Cut)).items
 
-  -- it is below the limit
+  -- the script is below the limit
   below : length script < limit → (more : List (List ℕ)) → lines ++ more ≡ all_lines script → BeginsOutput
   below short more all = grind (arith, nat_tests, begun more, take_all limit script)
 
-  -- or it is not, and so many of its bytes are answered
+  -- it is not, and its bytes up to the limit are answered
   above : limit ≤ length script → (more : List (List ℕ)) → lines ++ more ≡ whole_lines (take limit script) → BeginsOutput
   above long more all = grind (arith, nat_tests, begun more, part_more a b (answers (whole_lines (take limit script))) (Plain script_too_long ∷ []))
 
@@ -81,7 +81,7 @@ module _ (limit : ℕ) (answers : List (List ℕ) → List Item) (script bytes r
   with_all_lines : rest ≡ [] → length bytes < limit → lines ≡ all_lines bytes → BeginsOutput
   with_all_lines none short are = grind (arith, is, append-nil bytes, append-nil lines, below)
 
--- so many lines are taken of bytes
+-- these lines are taken of bytes
 abbrev AreTaken : List (List ℕ) → List ℕ → Type 0 → Type 0
 AreTaken lines bytes at_end = ((length bytes ≤ SCRIPT_LIMIT) × (lines ≡ whole_lines bytes)) ⊎ (at_end × (length bytes < SCRIPT_LIMIT) × (lines ≡ all_lines bytes))
 

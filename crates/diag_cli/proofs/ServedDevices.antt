@@ -27,7 +27,7 @@ use Rattle.diag_cli.specs.Behaviours.{ready_line, answers_of, served_device}
 use Rattle.diag_cli.specs.inner.Compiling.{IsGraphBy, FulfilsGraph}
 use Rattle.diag_cli.specs.inner.Serving.{IsServable, Answers}
 
--- ---- the graph of a device is such as a service takes
+-- ---- a service can take the graph of a device
 
 module _ (device : Device) (cnf : ClauseList) (is : encoded device ≡ Ok cnf) where
   pub servable : (graph : Graph) (sum : ℕ) → IsDevice device → Describes cnf device → sum ≤ BUDGET_LIMIT → IsGraphBy (record { list = cnf; sum = sum }) graph → IsServable device graph
@@ -45,7 +45,7 @@ pub all_servable : (device : Device) (list : ClauseList) → IsListOf device lis
     → IfOk result (λ (_ : Graph). sum ≤ budget) → IfOk result (IsGraphBy (record { list = list; sum = sum })) → IfOk result (IsServable device)
 all_servable device list of budget sum small result few by = grind (arith, servable device list of.encoded, of)
 
--- what a call answers that compiles it, if its clauses have this sum
+-- the result of a call that compiles it, if its clauses have this sum
 pub found_or_refused : (device : Device) (list : ClauseList) → IsListOf device list → (budget sum : ℕ) → budget ≤ BUDGET_LIMIT → (result : Result Graph Refusal)
     → Fulfils (λ (_ : Graph). record { list = list; sum = sum }) refusal_output (within budget (Ok (record { list = list; sum = sum }))) result → IfOk result (λ (_ : Graph). sum ≤ budget)
     → IfOk result (IsGraphBy (record { list = list; sum = sum })) → FulfilsGraph device (within budget (Ok (record { list = list; sum = sum }))) result

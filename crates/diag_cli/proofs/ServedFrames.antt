@@ -34,14 +34,14 @@ use Rattle.diag_cli.specs.Frames.{unrolled_within, if_unrolled}
 use Rattle.diag_cli.specs.inner.Compiling.{IsGraphBy}
 use Rattle.diag_cli.specs.inner.Serving.{Answers, frames_refusal}
 
--- ---- a netlist that is not unrolled, or not served
+-- ---- a netlist that is not unrolled or not served
 
 module _ (seq : Sequential) (frames : ℕ) (options : ServeOptions) where
   pub not_unrolled_told : (weigh : ClauseList → Weighed) (error : UnrollError) (told : Option Output) → told ≡ frames_refusal error → IsExpectedFault (reason error) (unrolled seq frames)
       → IsExpectedFault told (if_unrolled frames options weigh (Ok seq))
   not_unrolled_told weigh error told is h = grind arith
 
-  -- what its clauses come to by the forest that was chosen for them
+  -- the result of its clauses with the forest that was chosen for them
   pub unrolled_gives : (made : Unrolled) → unrolled seq frames ≡ Ok made → (chosen : Option Narrowed) → IsChosen options.narrow made.cnf chosen → (FulfilsOutput : Result Sequential Output → Type 0)
       → ((sum : ℕ) → HasSum made.cnf chosen sum → FulfilsOutput (result_and (in_few_bits options.extras (length seq.device.parts) (within options.budget (Ok (record { list = made.cnf; sum = sum })))) (Ok seq)))
       → ByForest (λ choose. FulfilsOutput (if_unrolled frames options (weighed_by options.narrow choose) (Ok seq)))
@@ -49,7 +49,7 @@ module _ (seq : Sequential) (frames : ℕ) (options : ServeOptions) where
       by_same (chosen_gives made.cnf options.narrow chosen of (λ weighed. FulfilsOutput (result_and (in_few_bits options.extras (length seq.device.parts) (within options.budget (Ok weighed))) (Ok seq))) given)
       (λ choose holds. subst FulfilsOutput (sym (ap (λ r. result_and (in_few_bits options.extras (length seq.device.parts) (unrolled_within options.budget (weighed_by options.narrow choose) r)) (Ok seq)) is)) holds)
 
--- ---- the service of what was unrolled
+-- ---- the service of the unrolled netlist
 
 module _ (seq : Sequential) (frames : ℕ) (made : Unrolled) (is : unrolled seq frames ≡ Ok made) (valid : IsUnrolled made) where
   pub parts_are : made.parts ≡ part_names seq.device.parts

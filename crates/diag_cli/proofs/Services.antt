@@ -1,4 +1,4 @@
--- A service that was made, or the refusal of one, is for a behaviour.
+-- A service that was made, or its refusal, is for a behaviour.
 use Rattle.std.proofs.Common.{◌≡◌, ℕ, [], Option, arith}
 use Rattle.std.specs.Prelude.{Result, IfOk, IfSome}
 use Rattle.std.proofs.lemmas.Result.{err_from_is_err_and}

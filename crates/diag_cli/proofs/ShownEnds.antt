@@ -1,4 +1,4 @@
--- Facts about the ends, as facts about what they show.
+-- Facts about ends, as facts about what they show.
 use Rattle.std.proofs.Common.{◌≡◌, ◌⊎◌, ◌+◌, ℕ, List, length, Option, inl, inr, sym, ap, subst₂, refl}
 use Rattle.std.specs.Io.KnownBytes.{Consumes}
 use Rattle.diag_edge.specs.Edge.{Reading, Writing, Holding}
@@ -32,7 +32,7 @@ pub told_shown : {output : Output} {status : Status} {input : Reading} {before a
 told_shown a b (inl said) = inl (record { left = refl; taken = refl; faults = refl }, gives_shown a b said)
 told_shown a b (inr said) = inr (record { left = refl; taken = refl; faults = refl }, gives_shown a b said)
 
--- a script that was served, and a run
+-- a script was served, and a run ended
 pub served_shown : {answers : List (List ℕ) → List Item} {status : Status} {input new_input input_shown new_input_shown : Reading} {out new_out out_shown new_out_shown : Writing}
     → input_shown ≡ input → new_input_shown ≡ new_input → out_shown ≡ out → new_out_shown ≡ new_out
     → (bytes : List ℕ) → new_input.taken ≡ input.taken + length bytes → Consumes input.left new_input.left bytes

@@ -6,7 +6,7 @@ use Rattle.diag_edge.specs.Edge.{Holding, absent, known_bytes, RisesAt}
 use Rattle.diag_edge.specs.declared.loading.LoadError.{LoadError}
 use Rattle.diag_edge.specs.declared.loading.LoadError.TheVariants.{Failed, Long, Memory}
 
--- A read failed; or the file is there, and is too long or there was no memory.
+-- A read failed; or the file is there, and is too long or memory ran out.
 abbrev pub IsUnread : LoadError → Holding → ℕ → ℕ → Type 0
 IsUnread Failed held reads new_reads = reads < new_reads
 IsUnread (Long limit) held reads new_reads = IfSome (known_bytes held) (λ file. TEXT_LIMIT < length file) × (held ≢ absent) × (new_reads ≡ reads)

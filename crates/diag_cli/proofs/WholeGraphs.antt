@@ -1,4 +1,4 @@
--- What is given if a device is compiled.
+-- What is written if a device is compiled.
 use Rattle.std.proofs.Common.{◌≡◌, ℕ, ◌≤◌, true, List, [], ◌∷◌, length, Option, Result, Ok, refl, sym, ◌∙◌, ap, subst}
 use Rattle.std.specs.Prelude.{MatchResult}
 use Rattle.text_rules.specs.Tokens.{is_neat}
@@ -30,7 +30,7 @@ module _ (path file : List ℕ) (budget : ℕ) (clauses : Device → Result Weig
   abbrev output : Output
   output = record { items = Whole device weighed.list.vars most ∷ []; status = Done }
 
-  -- its text, with its own number of variables said again, was written, or a write failed
+  -- its text was written, or a write failed; `vars` is its own number of variables
   pub graph_gives : {T E : Type 0} (result : Result T E) (vars : ℕ) → vars ≡ graph.vars
       → described path file ≡ Ok device → within budget (clauses device) ≡ Ok weighed
       → IsServable device graph → graph.vars ≡ weighed.list.vars → length graph.nodes ≤ most

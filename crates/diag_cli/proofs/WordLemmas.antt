@@ -1,4 +1,4 @@
--- Laws of what the words ask for.
+-- Lemmas about what the words ask for.
 use Rattle.std.proofs.Common.{◌≡◌, ℕ, ◌<◌, ◌≤◌, ◌-◌, Bool, List, [], ◌∷◌, length, map, take, drop, get_or, take_all, Option, None, IfSome, refl, sym, codes, unwrap_or, arith, if◌then◌else◌}
 use Rattle.std.specs.Prelude.{option_and_then}
 use Rattle.std.specs.Bool.{then_some}
@@ -36,7 +36,7 @@ few_words f [] short = refl
 few_words f (x ∷ []) short = refl
 few_words f (x ∷ y ∷ words) short = absurd (omega (arith, short))
 
--- ---- the numbers of a form lie within their limits
+-- ---- the numbers of a form are within their limits
 
 abbrev IsWithin : (low high n : ℕ) → Type 0
 IsWithin low high n = (low ≤ n) × (n ≤ high)
@@ -60,7 +60,7 @@ serve_within path options frames are times = grind (arith, only_within)
 of_command : (is_command : Bool) (form other : Option Form) → IfSome form IsWithinLimits → GivesWithin other → GivesWithin (if is_command then form else other)
 of_command is_command form other is others = grind arith
 
--- at most so many sessions, if the words give a number of them
+-- the number of sessions, or its default, is within its limits
 sessions_within : (words : List (List ℕ)) → IsWithin 1 SESSION_LIMIT (unwrap_or (number_given (codes "serve") (codes "--sessions") words) DEFAULT_SESSIONS)
 sessions_within words = grind (arith, number_within 4 1 SESSION_LIMIT (words_after (codes "--sessions") words))
 

@@ -1,4 +1,4 @@
--- What a run does, given its words and its file: it prints an output, or it answers the lines of a script.
+-- What a run does with its words and its file: it prints an output, or answers the lines of a script.
 use Rattle.std.specs.Prelude.{ℕ, List, [], ◌∷◌, ◌++◌, length, Option, Some, None, Result, Ok, Err, codes, nat_le, if◌then◌else◌}
 use Rattle.std.specs.Result.{result_and}
 use Rattle.std.specs.Fmt.{decimal}
@@ -48,7 +48,7 @@ not_loaded Memory = no_memory
 
 -- ---- a script is answered
 
--- how the reading of a script stops: at its end, at a failed read, or at the limit
+-- how the reading of a script ends: at its end, at a failed read, or at the limit
 pub data End : Type 0 where
   Ended : End
   Failed : End
@@ -57,12 +57,11 @@ pub data End : Type 0 where
 abbrev pub ready_line : System → Item
 ready_line system = line (codes "ready" ∷ decimal (length system.parts) ∷ decimal (length system.wires) ∷ [])
 
--- What is answered to the lines of a script over a system, with at most so many sessions open: the line `ready`, and then
--- the replies.
+-- The answers to the lines of a script over a system, with at most `sessions` sessions open: the line `ready`, then the replies.
 abbrev pub answers_of : System → ℕ → List (List ℕ) → List Item
 answers_of system sessions lines = ready_line system ∷ replies system sessions [] lines
 
--- the output if lines are answered so, by how the script ends
+-- the output with these answers, by how the script ends
 abbrev pub served : (List (List ℕ) → List Item) → List ℕ → End → Output
 served answers script Ended = record { items = answers (all_lines script); status = Done }
 served answers script Failed = record { items = answers (whole_lines script) ++ Plain read_error ∷ []; status = ReadFailed }
@@ -70,7 +69,7 @@ served answers script Cut = record { items = answers (whole_lines script) ++ Pla
 
 -- ---- a device is compiled
 
--- its graph, over the variables of the clauses, with at most so many nodes
+-- a graph of the device over the variables of the clauses, with at most this many nodes
 abbrev pub graph_by : Device → Weighed → Output
 graph_by device weighed = record { items = Whole device weighed.list.vars (most_nodes weighed.sum weighed.list.vars) ∷ []; status = Done }
 
@@ -80,24 +79,24 @@ pub data Behaviour : Type 0 where
   Prints : (output : Output) → Behaviour
   AnswersScript : (answers : List (List ℕ) → List Item) → Behaviour
 
--- the device, if its sum is within the budget and its extras take few bits; else the output that says why not
+-- the device, if its sum is within the budget and its extras take few bits, or the output that says why not
 abbrev pub if_within : ServeOptions → (Device → Result Weighed EncodeError) → Result Device Output → Result Device Output
 if_within options clauses found = result_and_then (λ device.
     result_and (in_few_bits options.extras (length device.parts) (within options.budget (clauses device))) (Ok device)) found
 
--- the systems of a device, and of a netlist over so many times, with what is printed besides
+-- the systems of a device, and of a netlist over `frames` times, with extras
 abbrev pub served_device : ServeOptions → Device → System
 served_device options device = with_extras options.extras (device_system device)
 
 abbrev pub served_frames : ℕ → ServeOptions → Sequential → System
 served_frames frames options seq = with_extras options.extras (frame_system seq frames)
 
--- the script is answered over the system of what was found, with at most so many sessions open
+-- the script is answered over the system of what was found, with at most `sessions` sessions open
 abbrev pub served_or_refused : {A : Type 0} → (A → System) → ℕ → Result A Output → Behaviour
 served_or_refused system sessions (Ok found) = AnswersScript (answers_of (system found) sessions)
 served_or_refused system sessions (Err output) = Prints output
 
--- what a command does over a file; `choose` gives the forest, if one is asked for
+-- what a command does with a file; `choose` gives the forest, if one is asked for
 abbrev pub behaviour_by : (ClauseList → Option Forest) → List ℕ → Command → List ℕ → Behaviour
 behaviour_by choose path (Serve options) file =
     served_or_refused (served_device options) options.sessions (if_within options (clauses_by options.narrow choose) (described path file))

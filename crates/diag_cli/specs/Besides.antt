@@ -1,4 +1,4 @@
--- How many bits the extras (`--levels`, `--least`) may take.
+-- The bits that the extras (`--levels`, `--least`) may take.
 use Rattle.std.specs.Prelude.{ℕ, Result, Ok, Err, codes, nat_lt, if◌then◌else◌}
 use Rattle.std.specs.Option.{option_map_or}
 use Rattle.state_rules.specs.declared.extras.Extras.{Extras}
@@ -15,8 +15,8 @@ use Rattle.device_files.specs.Output.{Output, says, result_and_then}
 abbrev pub if_few : ℕ → Result Weighed Output → Result Weighed Output
 if_few bits other = if nat_lt SERVED_BITS bits then Err (says (above_line (codes "bits") bits SERVED_BITS) Refused) else other
 
--- Clauses over so many parts, if what is printed besides takes few bits over the greatest graph that is compiled from clauses of their
--- sum: first states by rising cost, then the graph of the diagnoses.
+-- The clauses over `parts` parts, if the extras take few bits over the greatest graph that is compiled from clauses of their sum: first
+-- states by rising cost, then the graph of the diagnoses.
 abbrev pub in_few_bits : Extras → ℕ → Result Weighed Output → Result Weighed Output
 in_few_bits extras parts found = result_and_then (λ weighed.
     if_few (option_map_or (level_bits weighed.sum weighed.list.vars parts) extras.levels 0)

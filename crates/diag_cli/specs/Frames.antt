@@ -23,7 +23,7 @@ use Rattle.diag_cli.specs.Besides.{in_few_bits}
 abbrev pub sequential_in : List ℕ → Result Sequential Output
 sequential_in file = or_line netlist_line (sequential_netlist file)
 
--- too many parts, wires or clauses at all times
+-- the output for too many parts, wires or clauses at all times
 abbrev pub not_unrolled : UnrollError → Output
 not_unrolled (TooManyParts count) = says (above_line (codes "parts") count PART_LIMIT) Refused
 not_unrolled (TooManyWires count) = says (above_line (codes "wires") count WIRE_LIMIT) Refused
@@ -35,7 +35,7 @@ abbrev pub unrolled_within : ℕ → (ClauseList → Weighed) → Result Unrolle
 unrolled_within budget weigh (Ok made) = within budget (Ok (weigh made.cnf))
 unrolled_within budget weigh (Err error) = Err (not_unrolled error)
 
--- the netlist, if it is unrolled within the budget, and what is printed besides takes few bits
+-- the netlist, if it is unrolled within the budget and the extras take few bits
 abbrev pub if_unrolled : ℕ → ServeOptions → (ClauseList → Weighed) → Result Sequential Output → Result Sequential Output
 if_unrolled frames options weigh found = result_and_then (λ seq.
     result_and (in_few_bits options.extras (length seq.device.parts) (unrolled_within options.budget weigh (unrolled seq frames))) (Ok seq)) found

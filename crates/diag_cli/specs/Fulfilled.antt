@@ -1,4 +1,4 @@
--- What a behaviour did, with the input and the output.
+-- What a behaviour did with the input and the output.
 use Rattle.std.specs.Prelude.{◌≡◌, ◌⊎◌, ◌+◌, ◌<◌, ◌≤◌, ℕ, List, ◌++◌, length, Option}
 use Rattle.std.specs.Io.KnownBytes.{Appends, Consumes, IsAtEnd}
 use Rattle.text_rules.specs.TextLines.{whole_lines, all_lines}
@@ -12,13 +12,13 @@ use Rattle.device_files.specs.declared.status.Status.TheVariants.{WriteFailed}
 use Rattle.device_files.specs.Output.{FulfilsOutput}
 use Rattle.diag_cli.specs.Behaviours.{End, Ended, Failed, Cut, Behaviour, Prints, AnswersScript, served}
 
--- nothing was taken, no call failed, and what was still to come is unchanged
+-- nothing was taken, no call failed, and what is still to come is unchanged
 pub record IsIdle (before after : Reading) : Type 0 where
   pub left : after.left ≡ before.left
   pub taken : after.taken ≡ before.taken
   pub faults : after.faults ≡ before.faults
 
--- items were written, and then perhaps more
+-- the items were written, and perhaps more after them
 pub record WritesFirst (before after : Option (List ℕ)) (items : List Item) : Type 0 where
   pub middle : Option (List ℕ)
   pub written : Writes before middle items
@@ -31,16 +31,16 @@ EndsAs Ended bytes input new_input = IsAtEnd new_input.left × (length bytes < S
 EndsAs Failed bytes input new_input = (length bytes < SCRIPT_LIMIT) × (input.faults < new_input.faults)
 EndsAs Cut bytes input new_input = (length bytes ≡ SCRIPT_LIMIT) × (new_input.faults ≡ input.faults)
 
--- All lines that had ended were answered. A write can only have failed later: in the answer to a last line without line feed, or in the
--- line that says why the script ended.
+-- All ended lines were answered. A write can only have failed later: in the answer to a last line without a line feed, or in the line that
+-- says why the script ended.
 pub record IsAnswered (answers : List (List ℕ) → List Item) (bytes : List ℕ) (input new_input : Reading) (out new_out : Writing) (status : Status) : Type 0 where
   pub end : End
   pub ends : EndsAs end bytes input new_input
   pub answered : WritesFirst out.got new_out.got (answers (whole_lines bytes))
   pub gives : FulfilsOutput (served answers bytes end) status out.got new_out.got
 
--- A write failed after these bytes of the script were taken. Apart from a last piece of at most one read, every line that had ended was
--- answered, and its answer written.
+-- A write failed after these bytes of the script were taken. Except in a last piece of at most one read, every ended line was answered, and
+-- its answer written.
 pub record IsStopped (answers : List (List ℕ) → List Item) (bytes : List ℕ) (before after : Option (List ℕ)) : Type 0 where
   pub fed : List ℕ
   pub piece : List ℕ
@@ -48,8 +48,8 @@ pub record IsStopped (answers : List (List ℕ) → List Item) (bytes : List ℕ
   pub one_read : length piece ≤ READ_LIMIT
   pub answered : WritesFirst before after (answers (whole_lines fed))
 
--- A write failed before all lines that had ended were answered. What was written begins the answers to the lines that were taken, whatever
--- lines come after them: the ended ones, or, if the end was met, all.
+-- A write failed before all ended lines were answered. What was written begins the answers to the lines taken, whatever lines follow: the
+-- ended ones, or all if the script ended.
 pub record IsBroken (answers : List (List ℕ) → List Item) (bytes : List ℕ) (input new_input : Reading) (out new_out : Writing) : Type 0 where
   pub reads : new_input.faults ≡ input.faults
   pub lines : List (List ℕ)
@@ -64,7 +64,7 @@ pub record IsServed (answers : List (List ℕ) → List Item) (input new_input :
   pub took : Consumes input.left new_input.left bytes
   pub wrote : IsAnswered answers bytes input new_input out new_out status ⊎ ((status ≡ WriteFailed) × IsBroken answers bytes input new_input out new_out)
 
--- what was done, by the behaviour
+-- the effect of a behaviour
 abbrev pub FulfilsBehaviour : Behaviour → Reading → Reading → Writing → Writing → Status → Type 0
 FulfilsBehaviour (Prints output) input new_input out new_out status = IsIdle input new_input × FulfilsOutput output status out.got new_out.got
 FulfilsBehaviour (AnswersScript answers) input new_input out new_out status = IsServed answers input new_input out new_out status

@@ -19,18 +19,18 @@ use Rattle.device_files.specs.Inspecting.{count_line}
 use Rattle.diag_cli.specs.declared.words.TheConstants.{DEFAULT_BUDGET}
 use Rattle.diag_cli.specs.declared.loading.TheConstants.{LISTED_LIMIT}
 
--- a word and the names of the faulty parts
+-- a word, and the names of the faulty parts
 abbrev pub names_line : List ℕ → List Name → List Bool → Item
 names_line what parts state = line (what ∷ faulty_names parts state)
 
--- Of some first diagnoses: their cost, the first, how many they are, and the last. If nothing agrees, the one word `inconsistent`.
+-- The first diagnoses: their cost, the first, their number, and the last; or the one word `inconsistent` if no state agrees.
 abbrev pub listed_lines : List Name → Option ℕ → List (List Bool) → List Item
 listed_lines parts None listed = line (codes "inconsistent" ∷ []) ∷ []
 listed_lines parts (Some fewest) listed =
     count_line (codes "minimum") fewest ∷ names_line (codes "first") parts (slice_index_or listed 0 [])
     ∷ count_line (codes "listed") (length listed) ∷ names_line (codes "last") parts (slice_index_or listed (length listed - 1) []) ∷ []
 
--- the sizes, and what a case comes to
+-- the sizes, and the diagnoses of a case
 abbrev pub summary_lines : System → ℕ → Case → List Item
 summary_lines system clauses known =
     count_line (codes "parts") (length system.parts) ∷ count_line (codes "wires") (length system.wires) ∷ count_line (codes "clauses") clauses
@@ -40,10 +40,10 @@ summary_lines system clauses known =
 abbrev pub summary_by : ℕ → Device → Weighed → Output
 summary_by places device weighed = record { items = summary_lines (device_system device) (length weighed.list.clauses) (adder_case device places); status = Done }
 
--- if their sum, by the order of their names, is within the budget
+-- that output, if the sum by the order of names is within the budget
 abbrev pub summary_of : ℕ → Result Device Output → Output
 summary_of places found = output_within DEFAULT_BUDGET (clauses_by false (λ list. None)) (summary_by places) found
 
--- the adder of so many places, and what was seen of it
+-- the output for the adder of `places` places and its readings
 abbrev pub loaded : ℕ → Output
 loaded places = summary_of places (or_line netlist_line (netlist (adder_text places)))

@@ -22,17 +22,17 @@ use Rattle.diag_cli.specs.declared.words.TheConstants.{DEFAULT_BUDGET, DEFAULT_S
 
 -- ---- forms
 
--- the forms of the command line: an adder of so many places is made, or a command is done over a file
+-- the forms of the command line: `load` makes an adder, and each other command works over a file
 pub data Form : Type 0 where
   Load : (places : ℕ) → Form
   Over : (path : List ℕ) (command : Command) → Form
 
--- the file that the words name, if they have a form that names one
+-- the file that the words name, if their form names one
 abbrev pub named_file : Option Form → Option (List ℕ)
 named_file (Some (Over path command)) = Some path
 named_file form = None
 
--- what the shelf shows of a file by its name; if none is named it is as good as empty
+-- what the shelf shows of a file by its name, or no bytes if none is named
 abbrev pub known_file : (List ℕ → Holding) → Option (List ℕ) → Option (List ℕ)
 known_file held name = option_map_or (λ path. known_bytes (held path)) name (Some [])
 
@@ -66,8 +66,8 @@ words_after option (word ∷ words) = if same_name word option then Some words e
 abbrev pub is_given : List ℕ → List (List ℕ) → Bool
 is_given option words = is_some (words_after option words)
 
--- Whether words are options of a command: each is one, its number follows, if it takes one, and none is given twice. If an option
--- waits for its number, the first word spells that.
+-- Whether words are options of a command: each is one, its number follows if it takes one, and none is given twice. If an option waits for
+-- its number, the first word must spell it.
 abbrev pub are_options : List ℕ → Takes → List (List ℕ) → Bool
 are_options command Nothing [] = true
 are_options command (Number digits least most) [] = false
@@ -79,13 +79,13 @@ abbrev pub first_number : Takes → List (List ℕ) → Option ℕ
 first_number (Number digits least most) (word ∷ words) = plain_number_in digits least most word
 first_number takes words = None
 
--- the number that is given for an option of a command
+-- the number given for an option of a command
 abbrev pub number_given : (command option : List ℕ) → List (List ℕ) → Option ℕ
 number_given command option words = option_and_then (λ takes. option_and_then (first_number takes) (words_after option words)) (option_of command option)
 
 -- ---- words
 
--- how `serve` answers a script by its options
+-- how `serve` answers a script, by its options
 abbrev pub serve_options : List (List ℕ) → ServeOptions
 serve_options words = record {
   budget = unwrap_or (number_given (codes "serve") (codes "--budget") words) DEFAULT_BUDGET;
@@ -94,12 +94,12 @@ serve_options words = record {
   extras = record { levels = number_given (codes "serve") (codes "--levels") words; least = is_given (codes "--least") words };
 }
 
--- `serve`, over a netlist if there are frames
+-- the form of `serve`, over a netlist if there are frames
 abbrev pub form_serve : List ℕ → ServeOptions → Option ℕ → Option Form
 form_serve path options None = then_some (is_device_path path) (Over path (Serve options))
 form_serve path options (Some frames) = then_some (ends_in (codes ".bench") path) (Over path (ServeFrames frames options))
 
--- a command over a file, with options
+-- the form of a command over a file, with options
 abbrev pub form_by : (command path : List ℕ) → List (List ℕ) → Option Form
 form_by command path words =
     if same_name command (codes "serve") then form_serve path (serve_options words) (number_given (codes "serve") (codes "--frames") words)
@@ -107,18 +107,18 @@ form_by command path words =
     then then_some (is_device_path path) (Over path (Compile (unwrap_or (number_given (codes "compile") (codes "--budget") words) DEFAULT_BUDGET) (is_given (codes "--narrow") words)))
     else option_map (λ inspection. Over path (Inspect inspection)) (inspection_named command path (is_given (codes "--narrow") words))
 
--- questions to a graph, with so many parts and with options
+-- the form of `ask` over a graph, with the number of parts and options
 abbrev pub form_ask : List ℕ → List (List ℕ) → Option Form
 form_ask path [] = None
 form_ask path (health ∷ words) = option_and_then (λ parts. then_some (are_options (codes "ask") Nothing words && ends_in (codes ".nnf") path)
     (Over path (Ask parts (unwrap_or (number_given (codes "ask") (codes "--sessions") words) DEFAULT_SESSIONS)))) (plain_number_in 4 0 PART_LIMIT health)
 
--- an adder of so many places, with no further word
+-- the form of `load`, with no further word
 abbrev pub form_load : List ℕ → List (List ℕ) → Option Form
 form_load places [] = option_map Load (plain_number_in 3 1 PLACE_LIMIT places)
 form_load places (word ∷ words) = None
 
--- a number after `load`; a file, a number and options after `ask`; or a file and options
+-- the form by the words: a number after `load`; a file, a number and options after `ask`; else a file and options
 abbrev pub form_by_words : List ℕ → List ℕ → List (List ℕ) → Option Form
 form_by_words command next words =
     if same_name command (codes "load") then form_load next words

@@ -1,4 +1,4 @@
--- What only the private contracts of this crate cite.
+-- Definitions that only private contracts cite.
 pub mod Bits
 pub mod Compiling
 pub mod Forms

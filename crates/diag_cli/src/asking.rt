@@ -19,7 +19,7 @@ use session_core::{Extras, SESSION_LIMIT, Service};
 use std::alloc::Global;
 use text_rules::TEXT_LIMIT;
 
-// The refusal that says why the variables of a graph have no names.
+// Returns the refusal that says why the variables of a graph get no names.
 fn unnamed(error: AskError) -> Refusal
     ensures { refusal_output result ≡ option_map (λ fault. says (asking_line fault) Status.Refused) (told error) }
 {
@@ -30,7 +30,7 @@ fn unnamed(error: AskError) -> Refusal
     }
 }
 
-// A service over a graph with so many parts, of at most so many sessions. All their memory is taken here.
+// Makes a service over a graph with `health` parts and at most `sessions` open sessions. All its memory is taken here.
 fn service_over(alloc: Global, graph: Graph, health: u32, sessions: u32) -> Result<Service, Refusal>
     requires health { health ≤ PART_LIMIT }
     requires some { 1 ≤ sessions }
@@ -44,7 +44,7 @@ fn service_over(alloc: Global, graph: Graph, health: u32, sessions: u32) -> Resu
         Err(error) => return Err(unnamed(error)),
     };
     let costs = ask_costs(alloc, health)?;
-    // States by rising cost and the graph of the diagnoses are not printed.
+    // `ask` has no extras.
     let extras = Extras {
         levels: None,
         least: false,
@@ -55,7 +55,7 @@ fn service_over(alloc: Global, graph: Graph, health: u32, sessions: u32) -> Resu
     }
 }
 
-/// The service of the graph of a file, of whose variables the first are so many parts, or the refusal of one.
+/// Makes the service of the graph of a file, whose first variables are `health` parts, or returns the refusal.
 #[tactic(auto, using(crate::proofs::Services::made_services))]
 pub(crate) fn graph_service(
     alloc: Global,

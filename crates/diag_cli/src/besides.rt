@@ -1,4 +1,4 @@
-//! How many bits the extras (`--levels`, `--least`) take over the graph of clauses, and whether these are few.
+//! The bits that the extras (`--levels`, `--least`) take over the graph of clauses, and whether they are few.
 ghost use Rattle.std.specs.Prelude.{◌≡◌, ◌^◌, ◌+◌, ◌*◌, ◌<◌, ◌≤◌, ℕ, true, Ok, Some, not, ◌&&◌, is_none, length, IfOk, IfErr, IfSome};
 ghost use Rattle.text_rules.specs.Expected.{IsExpectedFault, Fulfils};
 ghost use Rattle.state_rules.specs.Graphs.{edges};
@@ -29,7 +29,7 @@ use tree_finder::Narrowed;
 // Lines are numbered in 32 bits.
 const NODE_LINE_LIMIT: u64 = 1 << 32;
 
-/// The graph of a device, if the sum of its clauses is within the budget and what is printed besides takes few bits.
+/// Compiles the graph of a device, if the sum of its clauses is within the budget and the extras take few bits.
 #[tactic(auto, using(crate::proofs::ServedDevices::listed_sizes))]
 pub(crate) fn graph_in_few_bits(
     alloc: Global,
@@ -42,13 +42,13 @@ pub(crate) fn graph_in_few_bits(
     ensures servable { IfOk result (IsServable device.now) }
     ensures told { IfOk result (λ graph. CanTell options.extras graph (length device.now.parts)) }
 {
-    // Its contract says that a device has few parts.
+    // The contract of `parts` says that a device has few parts.
     let parts = device.parts().len() as u32;
     let (cnf, forest) = clauses_along(alloc, device, options.narrow)?;
     compile_in_few_bits(alloc, &cnf, &forest, parts, options)
 }
 
-/// The graph of clauses over so many parts, if their sum is within the budget and what is printed besides takes few bits.
+/// Compiles the graph of clauses over `parts` parts, if their sum is within the budget and the extras take few bits.
 pub(crate) fn compile_in_few_bits(
     alloc: Global,
     cnf: &Cnf,
@@ -73,7 +73,7 @@ pub(crate) fn compile_in_few_bits(
     Ok(graph)
 }
 
-// Whether what is printed besides takes few bits over clauses whose sum is within the budget.
+// Refuses clauses if there are extras, and these take too many bits or the sum is above the budget.
 fn check_bits(
     alloc: Global,
     cnf: &Cnf,
@@ -98,7 +98,8 @@ fn check_bits(
     few_bits(least_bits(sum, cnf.vars(), parts, extras.least))
 }
 
-// Whether the lines of the graph of the diagnoses can be numbered, if that is printed. If not, they do not fit into memory either.
+// Refuses, as lack of memory, a graph of the diagnoses whose lines cannot be numbered, if it is offered: they do not fit into memory
+// either.
 fn check_lines(graph: &Graph, parts: u32, with_least: bool) -> Result<(), Refusal>
     requires { parts ≤ PART_LIMIT }
     ensures few { IfOk result (λ _. with_least ≡ true → length graph.now.nodes + edges graph.now.nodes + 2 * parts + 1 < 2 ^ 32) }
@@ -111,14 +112,14 @@ fn check_lines(graph: &Graph, parts: u32, with_least: bool) -> Result<(), Refusa
     Ok(())
 }
 
-// Whether nothing is printed besides, so that no sum has to be found.
+// Whether there are no extras, so that no sum is needed.
 fn tells_nothing(extras: Extras) -> bool
     ensures { result ≡ (is_none extras.levels && not extras.least) }
 {
     extras.levels.is_none() && !extras.least
 }
 
-// How many bits states by rising cost take.
+// Returns the bits of states by rising cost.
 fn levels_bits(sum: u32, vars: u32, parts: u32, levels: Option<u32>) -> u64
     requires sum { sum ≤ 2 ^ 24 }
     requires vars { vars < 2 ^ 20 }
@@ -132,7 +133,7 @@ fn levels_bits(sum: u32, vars: u32, parts: u32, levels: Option<u32>) -> u64
     }
 }
 
-// How many bits the graph of the diagnoses takes.
+// Returns the bits of the graph of the diagnoses.
 fn least_bits(sum: u32, vars: u32, parts: u32, least: bool) -> u64
     requires sum { sum ≤ 2 ^ 24 }
     requires vars { vars < 2 ^ 20 }

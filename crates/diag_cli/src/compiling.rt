@@ -14,7 +14,7 @@ use nnf_text::write_nnf;
 use std::alloc::Global;
 use text_rules::TEXT_LIMIT;
 
-/// Writes the graph of the device of a file, or why there is none, and answers the status.
+/// Writes the graph of the device of a file, or why there is none. Returns the status.
 pub(crate) fn compile_file<O: Sink>(
     alloc: Global,
     path: &str,

@@ -7,7 +7,7 @@ ghost use Rattle.device_model.specs.Devices.{IsDevice, part_costs, part_names};
 use device_model::{COST_LIMIT, Device, Name, PART_LIMIT};
 use std::alloc::{AllocError, Global};
 
-/// What a failure of each part costs.
+/// Returns the cost of each part's failure.
 pub(crate) fn costs_of(alloc: Global, device: &Device) -> Result<Vec<u32>, AllocError>
     ensures costs { IfOk result (λ costs. costs.items ≡ part_costs device.now) }
     ensures many { IfOk result (λ costs. length costs.items ≡ length device.now.parts) }
@@ -23,7 +23,7 @@ pub(crate) fn costs_of(alloc: Global, device: &Device) -> Result<Vec<u32>, Alloc
     Ok(costs)
 }
 
-/// The names of the parts and of the wires, each in order, and what a failure of each part costs.
+/// Returns the names of the parts and of the wires, each in order, and the cost of each part's failure.
 pub(crate) fn names_and_costs(
     alloc: Global,
     device: Device,

@@ -18,7 +18,7 @@ use session_core::Service;
 use std::alloc::Global;
 use text_rules::TEXT_LIMIT;
 
-// A service over a device and its graph. All its memory is taken here.
+// Makes a service over a device and its graph. All its memory is taken here.
 fn service_over(
     alloc: Global,
     device: Device,
@@ -46,7 +46,7 @@ fn service_over(
     }
 }
 
-// The service of a device, if the sum of its clauses is within the budget and what is printed besides takes few bits.
+// Makes the service of a device, if the sum of its clauses is within the budget and the extras take few bits.
 fn service_within(alloc: Global, device: Device, options: ServeOptions) -> Result<Service, Refusal>
     requires { AreWithinLimits options }
     ensures service { IfOk result (Answers (served_device options device) options.sessions) }
@@ -57,7 +57,7 @@ fn service_within(alloc: Global, device: Device, options: ServeOptions) -> Resul
     service_over(alloc, device, graph, options)
 }
 
-/// The service of the device of a file, or the refusal of one.
+/// Makes the service of the device of a file, or returns the refusal.
 #[tactic(auto, using(crate::proofs::Services::made_services))]
 pub(crate) fn device_service(
     alloc: Global,

@@ -23,7 +23,7 @@ use session_core::Service;
 use std::alloc::{AllocError, Global};
 use text_rules::TEXT_LIMIT;
 
-// The netlist of a text, which may have flip-flops.
+// Reads the netlist of a text, which may have flip-flops.
 fn sequential(alloc: Global, text: &[u8]) -> Result<Sequential, Refusal>
     requires { length text.now ≤ TEXT_LIMIT }
     ensures read { FulfilsOrRefuses (or_line netlist_line (sequential_netlist text.now)) result }
@@ -35,7 +35,7 @@ fn sequential(alloc: Global, text: &[u8]) -> Result<Sequential, Refusal>
     }
 }
 
-// The costs of so many parts, each 1.
+// Returns the costs of `parts` parts, each 1.
 fn plain_costs(alloc: Global, parts: usize) -> Result<Vec<u32>, AllocError>
     requires { parts ≤ PART_LIMIT }
     ensures costs { IfOk result (λ costs. costs.items ≡ plain_costs parts) }
@@ -45,8 +45,7 @@ fn plain_costs(alloc: Global, parts: usize) -> Result<Vec<u32>, AllocError>
     vec![in alloc; 1u32; parts]
 }
 
-// The service of a netlist over so many times, if the sum of its clauses is within the budget and what is printed besides takes
-// few bits.
+// Makes the service of a netlist over `frames` times, if the sum of its clauses is within the budget and the extras take few bits.
 fn service_within(
     alloc: Global,
     seq: &Sequential,
@@ -84,7 +83,7 @@ fn service_within(
     }
 }
 
-/// The service of the netlist of a file over so many times, or the refusal of one.
+/// Makes the service of the netlist of a file over `frames` times, or returns the refusal.
 #[tactic(auto, using(crate::proofs::Services::made_services))]
 pub(crate) fn frame_service(
     alloc: Global,

@@ -1,4 +1,4 @@
-//! The graph that a device is asked by.
+//! Compiles the graph of a device, or of clauses.
 ghost use Rattle.std.specs.Prelude.{◌≤◌, ℕ, Ok, IfOk, IfErr};
 ghost use Rattle.text_rules.specs.Expected.{IsExpectedFault, Fulfils};
 ghost use Rattle.branch_states.specs.Branches.{sum_of};
@@ -19,7 +19,7 @@ use node_store::Graph;
 use std::alloc::Global;
 use tree_finder::Narrowed;
 
-/// The graph of a device, if the sum of its clauses is within a budget.
+/// Compiles the graph of a device, if the sum of its clauses is within a budget.
 #[tactic(auto, using(device_files::proofs::ForestChoices::has_sum))]
 pub(crate) fn graph_within(
     alloc: Global,
@@ -34,7 +34,7 @@ pub(crate) fn graph_within(
     compiled_within(alloc, &cnf, &forest, budget)
 }
 
-/// The graph of clauses, if their sum is within a budget: by the order of their names, or along the forest that was found for them.
+/// Compiles the graph of clauses, if their sum is within a budget: by the order of names, or along the forest that was found for them.
 pub(crate) fn compiled_within(
     alloc: Global,
     cnf: &Cnf,
@@ -54,7 +54,7 @@ pub(crate) fn compiled_within(
     }
 }
 
-// Along a forest that was found for the clauses.
+// Compiles along a forest that was found for the clauses.
 #[tactic(auto, using(crate::proofs::GraphsBy::gives_graph))]
 fn compiled_along(alloc: Global, cnf: &Cnf, found: &Narrowed, budget: u32) -> Result<Graph, Refusal>
     requires budget { budget ≤ BUDGET_LIMIT }
@@ -73,7 +73,7 @@ fn compiled_along(alloc: Global, cnf: &Cnf, found: &Narrowed, budget: u32) -> Re
     }
 }
 
-/// The graph of clauses by the order of their names, if their sum is within a budget.
+/// Compiles the graph of clauses by the order of names, if their sum is within a budget.
 #[tactic(auto, using(crate::proofs::GraphsBy::gives_graph))]
 pub(crate) fn compiled_by_names(alloc: Global, cnf: &Cnf, budget: u32) -> Result<Graph, Refusal>
     requires budget { budget ≤ BUDGET_LIMIT }

@@ -14,7 +14,7 @@ ghost use Rattle.diag_cli.specs.Words.{Form};
 ghost use Rattle.diag_cli.specs.Runs.{IsRun};
 ghost use Rattle.diag_cli.specs.Details.{HasDetails};
 
-/// From the clauses of `IsRun` follows what `HasDetails` lists: which status, what is read, and what is written.
+/// States that `HasDetails` follows from `IsRun`: the status, what is read, and what is written.
 pub fn runs_have_details()
     ensures { (choose : ClauseList → Option Forest) (form : Option Form) (held : List ℕ → Holding)
         (shelf new_shelf input new_input : Reading) (out new_out : Writing) (status : Status)
@@ -22,13 +22,13 @@ pub fn runs_have_details()
         → HasDetails choose form held shelf new_shelf input new_input out new_out status }
 {}
 
-/// While no part is held, no netlist is at odds with what was seen: some state agrees, as that in which all gates are faulty does.
+/// States that while no part is held, no netlist contradicts what was seen: some state agrees, such as the one with all gates faulty.
 pub fn netlists_agree()
     ensures { (text : List ℕ) (device : Device) (seen : List (Option Bool)) → netlist text ≡ Ok device → length seen ≡ length device.wires
         → IsSome (least_cost (device_system device) (record { seen = seen; held = replicate (length device.parts) None })) }
 {}
 
-/// So a load never prints `inconsistent`: if the adder of so many places gives a device, some state agrees with its readings.
+/// States that a load never prints `inconsistent`: if the adder of `places` places gives a device, some state agrees with its readings.
 pub fn loads_agree()
     ensures { (places : ℕ) (device : Device) → netlist (adder_text places) ≡ Ok device
         → IsSome (least_cost (device_system device) (adder_case device places)) }

@@ -1,4 +1,4 @@
-//! The program: its words, and the one call that does all of it.
+//! The program: its words, and the one call that does everything.
 #![tactic(auto)]
 
 mod asking;

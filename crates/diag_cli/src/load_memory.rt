@@ -1,5 +1,5 @@
-//! What is listed of an adder, and the memory that it takes. Both are in a file with few imports, since the prover goes through all
-//! that is dropped when memory runs out.
+//! The memory for the diagnoses of an adder. It is in a file with few imports, since the prover goes through all that is dropped when
+//! memory runs out.
 ghost use Rattle.std.specs.Prelude.{◌≡◌, ◌-◌, ◌+◌, ◌<◌, ◌≤◌, ℕ, List, [], replicate, length, take, All, slice_index_or, IfOk, IfSome};
 ghost use Rattle.std.specs.Option.{option_map};
 ghost use Rattle.conditioner.specs.Models.{least_under, diagnoses_under, total_cost};
@@ -28,7 +28,7 @@ pub(crate) struct LoadMemory {
 }
 
 impl LoadMemory {
-    /// Memory for a graph over so many parts. Nothing is known yet.
+    /// Takes memory for a graph over `parts` parts. Nothing is known yet.
     pub(crate) fn new(alloc: Global, graph: &Graph, parts: usize) -> Result<LoadMemory, AllocError>
         ensures words { IfOk result (λ memory. memory.words.items ≡ replicate graph.now.vars 0) }
         ensures values { IfOk result (λ memory. length memory.values.items ≡ length graph.now.nodes) }
@@ -45,7 +45,7 @@ impl LoadMemory {
         })
     }
 
-    /// Notes what was seen of the adder of so many places. Nothing is known before.
+    /// Notes the readings of the adder of `places` places. Nothing is known before.
     pub(crate) fn note(&mut self, device: &Device, places: u32)
         requires none { self.old.words.items ≡ replicate (length self.old.words.items) 0 }
         requires room { length device.now.parts + length device.now.wires ≤ length self.old.words.items }
@@ -61,7 +61,7 @@ impl LoadMemory {
         note_readings(&mut self.words, device, places);
     }
 
-    /// The least cost over a graph, and how many diagnoses are listed. The first one and the last one are in the states.
+    /// Finds the least cost over a graph, and how many diagnoses are listed. The first and the last are then in the states.
     pub(crate) fn sample<L: Ledger>(
         &mut self,
         graph: &Graph,
@@ -100,7 +100,7 @@ impl LoadMemory {
         )
     }
 
-    /// The first state and the last one.
+    /// Returns the first state and the last.
     pub(crate) fn states(self) -> (Vec<u32>, Vec<u32>)
         ensures first { result.0 ≡ self.first }
         ensures last { result.1 ≡ self.last }
@@ -116,7 +116,6 @@ impl LoadMemory {
     }
 }
 
-// So many numbers, each 0.
 fn zeros(alloc: Global, count: usize) -> Result<Vec<u32>, AllocError>
     ensures { IfOk result (λ zeros. zeros.items ≡ replicate count 0) }
 {

@@ -1,4 +1,4 @@
-//! An adder that is made in memory, its readings and their diagnoses.
+//! Makes an adder in memory, and lists the diagnoses of its readings.
 ghost use Rattle.std.specs.Prelude.{◌≡◌, ◌⊎◌, [], ◌∷◌, ◌-◌, ◌^◌, ◌<◌, ◌≤◌, Ok, length, IfOk};
 ghost use Rattle.bench_reader.specs.Netlists.{netlist};
 ghost use Rattle.diag_edge.specs.Edge.{HasCause, RoseExactly};
@@ -25,10 +25,9 @@ use std::alloc::Global;
 use std::marker::Brand;
 use std::sync::ledger::Blank;
 
-/// So many diagnoses are listed at most.
+/// The most diagnoses that are listed.
 pub const LISTED_LIMIT: u32 = 20;
 
-// The device of an adder.
 fn adder_device(alloc: Global, places: u32) -> Result<Device, Refusal>
     requires { places ≤ PLACE_LIMIT }
     ensures { FulfilsOrRefuses (or_line netlist_line (netlist (adder_text places))) result }
@@ -37,7 +36,7 @@ fn adder_device(alloc: Global, places: u32) -> Result<Device, Refusal>
     netlist_device(alloc, &text)
 }
 
-// The summary of an adder, if the sum of its device is within the budget.
+// Makes the summary of an adder, if the sum of its device is within the budget.
 fn summary_within(alloc: Global, device: Device, places: u32) -> Result<Summary, Refusal>
     requires { places ≤ PLACE_LIMIT }
     ensures summary { Loads (summary_of places (Ok device)) result }
@@ -49,7 +48,7 @@ fn summary_within(alloc: Global, device: Device, places: u32) -> Result<Summary,
     Ok(summary_by::<Brand>(alloc, Blank::new(1), device, &graph, clauses, places)?)
 }
 
-// The summary of the adder of so many places.
+// Makes the summary of the adder of `places` places.
 fn summary_at(alloc: Global, places: u32) -> Result<Summary, Refusal>
     requires { places ≤ PLACE_LIMIT }
     ensures summary { Loads (loaded places) result }
@@ -59,7 +58,7 @@ fn summary_at(alloc: Global, places: u32) -> Result<Summary, Refusal>
     summary_within(alloc, device, places)
 }
 
-// Puts a line of a word and the names of the faulty parts.
+// Writes a line of a word and the names of the faulty parts.
 #[tactic(auto, using(device_files::proofs::FailedWrites::line_replies))]
 fn put_names<O: Sink>(
     out: &mut O,
@@ -74,7 +73,7 @@ fn put_names<O: Sink>(
     put_faulty(out, what, &[], parts, state)
 }
 
-// The lines of some diagnoses.
+// Writes the lines of some diagnoses.
 fn put_listed<O: Sink>(
     out: &mut O,
     parts: &[Name],
@@ -93,7 +92,7 @@ fn put_listed<O: Sink>(
     put_names(out, b"last", parts, last)
 }
 
-// That no state agrees with what was seen.
+// Writes that no state agrees with the readings.
 #[tactic(auto, using(device_files::proofs::FailedWrites::line_replies))]
 fn put_inconsistent<O: Sink>(out: &mut O) -> Result<(), WriteFailed>
     ensures text { Replies (O.got out.old) (O.got out.new) result inconsistent_items }
@@ -102,7 +101,7 @@ fn put_inconsistent<O: Sink>(out: &mut O) -> Result<(), WriteFailed>
     put_line(out, &[b"inconsistent"])
 }
 
-// The lines after those of the sizes.
+// Writes the lines after the sizes.
 fn put_found<O: Sink>(out: &mut O, summary: &Summary) -> Result<(), WriteFailed>
     requires { IsInStep summary.now }
     ensures text { Replies (O.got out.old) (O.got out.new) result (found_items summary.now) }
@@ -114,7 +113,6 @@ fn put_found<O: Sink>(out: &mut O, summary: &Summary) -> Result<(), WriteFailed>
     }
 }
 
-// The lines of a summary.
 fn put_summary<O: Sink>(out: &mut O, summary: &Summary) -> Result<(), WriteFailed>
     requires { IsInStep summary.now }
     ensures text { Replies (O.got out.old) (O.got out.new) result (summary_items summary.now) }
@@ -140,7 +138,7 @@ fn put_summary<O: Sink>(out: &mut O, summary: &Summary) -> Result<(), WriteFaile
     put_found(out, summary)
 }
 
-// Prints a summary and answers `Done`, or `WriteFailed`.
+// Prints a summary. Returns `Done`, or `WriteFailed`.
 #[tactic(auto, using(device_files::proofs::FailedWrites::gives_items))]
 fn tell_summary<O: Sink>(out: &mut O, summary: &Summary) -> Status
     requires in_step { IsInStep summary.now }
@@ -155,7 +153,7 @@ fn tell_summary<O: Sink>(out: &mut O, summary: &Summary) -> Status
     }
 }
 
-/// Prints what the adder of so many places comes to, or why that cannot be found, and answers the status.
+/// Prints the diagnoses of the adder of `places` places, or why they cannot be found. Returns the status.
 #[tactic(auto, using(crate::proofs::LoadedAdders::tells_load))]
 pub(crate) fn load_adder<O: Sink>(alloc: Global, places: u32, out: &mut O) -> Status
     requires places { places ≤ PLACE_LIMIT }

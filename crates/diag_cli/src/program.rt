@@ -15,7 +15,7 @@ use diag_edge::{Shelf, Sink, Source, load};
 use std::alloc::Global;
 use text_rules::TEXT_LIMIT;
 
-// Reads a file, and does over it what a command asks for.
+// Reads a file, and carries out a command over it.
 fn run_over<H: Shelf, I: Source, O: Sink>(
     alloc: Global,
     path: &str,
@@ -40,11 +40,11 @@ fn run_over<H: Shelf, I: Source, O: Sink>(
     }
 }
 
-/// Does all that the program does: reads the file that the words name, if they name one, does what they ask for, and gives
-/// the number that the process ends with.
+/// Does all that the program does: reads the file that the words name, if any, does what they ask for, and returns the number with which
+/// the process ends.
 ///
-/// `words` are those after the program's name. `IsRun` says what holds of each run, by some choice of forests if the words ask for one; what
-/// follows from it is the law `runs_have_details`.
+/// `words` are those after the program's name. `IsRun` says what holds of each run, by some choice of forests if the words ask for one. The
+/// law `runs_have_details` says what follows from it.
 pub fn diag<H: Shelf, I: Source, O: Sink>(
     alloc: Global,
     words: &[String],

@@ -1,4 +1,4 @@
-//! The refusal of a netlist that is not unrolled. It has a file of its own, since the prover is slow with it among many imports.
+//! The refusal of a netlist that is not unrolled. It has its own file, since the prover is slow with it among many imports.
 ghost use Rattle.std.specs.Prelude.{◌≡◌};
 ghost use Rattle.device_files.specs.Refusals.{refusal_output};
 ghost use Rattle.diag_cli.specs.inner.Serving.{frames_refusal};
@@ -8,7 +8,7 @@ use device_files::{Refusal, above};
 use device_model::{PART_LIMIT, WIRE_LIMIT};
 use frame_unroller::UnrollError;
 
-/// The refusal of a netlist that is not unrolled.
+/// Returns the refusal of a netlist that is not unrolled.
 pub(crate) fn not_unrolled(error: UnrollError) -> Refusal
     ensures { refusal_output result ≡ frames_refusal error }
 {

@@ -16,7 +16,7 @@ use diag_edge::{Sink, Source};
 use std::alloc::Global;
 use text_rules::TEXT_LIMIT;
 
-/// Does what a command asks for, over the file that is named.
+/// Carries out a command over a file.
 pub(crate) fn run_file<I: Source, O: Sink>(
     alloc: Global,
     path: &str,

@@ -8,7 +8,7 @@ use diag_edge::{LoadError, Sink, WriteFailed, put_line};
 use itoa::Buffer;
 use text_rules::TEXT_LIMIT;
 
-/// Writes a text and answers the status, `WriteFailed` if the write failed.
+/// Writes a text. Returns the status, or `WriteFailed` if the write failed.
 #[tactic(auto, using(device_files::proofs::FailedWrites::gives_line))]
 pub fn say<O: Sink>(out: &mut O, text: &[u8], status: Status) -> Status
     requires faults { O.faults out.old < 2 ^ 64 - 1 }
@@ -23,7 +23,7 @@ pub fn say<O: Sink>(out: &mut O, text: &[u8], status: Status) -> Status
     }
 }
 
-/// Prints that a read failed and answers `ReadFailed`, or `WriteFailed`.
+/// Prints that a read failed. Returns `ReadFailed`, or `WriteFailed`.
 pub(crate) fn say_read_fault<O: Sink>(out: &mut O) -> Status
     requires faults { O.faults out.old < 2 ^ 64 - 1 }
     ensures write_fault { RoseExactly (O.faults out.old) (O.faults out.new) (result ≡ Status.WriteFailed) }
@@ -33,7 +33,7 @@ pub(crate) fn say_read_fault<O: Sink>(out: &mut O) -> Status
     say(out, b"error: read\n", Status::ReadFailed)
 }
 
-/// Prints that the words of the command line have no form and answers `Usage`, or `WriteFailed`.
+/// Prints that the words of the command line have no form. Returns `Usage`, or `WriteFailed`.
 pub fn say_usage<O: Sink>(out: &mut O) -> Status
     requires faults { O.faults out.old < 2 ^ 64 - 1 }
     ensures write_fault { RoseExactly (O.faults out.old) (O.faults out.new) (result ≡ Status.WriteFailed) }
@@ -43,7 +43,7 @@ pub fn say_usage<O: Sink>(out: &mut O) -> Status
     say(out, b"error: usage\n", Status::Usage)
 }
 
-/// Prints that something has more bytes than may be and answers the status, `WriteFailed` if the write failed.
+/// Prints that something has more bytes than allowed. Returns the status, or `WriteFailed` if the write failed.
 #[tactic(auto, using(device_files::proofs::FailedWrites::gives_line))]
 pub(crate) fn say_too_long<O: Sink>(out: &mut O, what: &[u8], limit: u64, status: Status) -> Status
     requires faults { O.faults out.old < 2 ^ 64 - 1 }
@@ -68,8 +68,8 @@ pub(crate) fn say_too_long<O: Sink>(out: &mut O, what: &[u8], limit: u64, status
     }
 }
 
-/// Prints why a file, which may have `TEXT_LIMIT` bytes, was not read: it has more, a read failed, or memory ran out. Answers the status,
-/// `WriteFailed` if the write failed.
+/// Prints why a file, which may have `TEXT_LIMIT` bytes, was not read: it has more, a read failed, or memory ran out. Returns the status,
+/// or `WriteFailed` if the write failed.
 pub fn say_load_error<O: Sink>(out: &mut O, error: LoadError) -> Status
     requires limit { (limit : ℕ) → error ≡ LoadError.Long limit → limit ≡ TEXT_LIMIT }
     requires faults { O.faults out.old < 2 ^ 64 - 1 }

@@ -1,4 +1,4 @@
-//! Answers a script by a service.
+//! Answers a script with a service.
 ghost use Rattle.std.specs.Prelude.{◌≡◌, ◌≢◌, ◌+◌, ◌-◌, ◌^◌, ◌<◌, [], ◌∷◌, codes, decimal, IfOk};
 ghost use Rattle.text_rules.specs.Tokens.{spaced};
 ghost use Rattle.diag_edge.specs.Edge.{HasCause, Puts, RoseExactly};
@@ -13,10 +13,10 @@ use diag_edge::{Sink, Source, WriteFailed, put_line};
 use itoa::Buffer;
 use session_core::{ServeEnd, Service};
 
-/// A script of so many bytes is cut.
+/// A script with this many bytes is cut.
 pub const SCRIPT_LIMIT: u64 = 1_099_511_627_776;
 
-// The line `ready` with the numbers of parts and wires.
+// Writes the line `ready` with the numbers of parts and wires.
 fn put_ready<O: Sink>(out: &mut O, parts: u64, wires: u64) -> Result<(), WriteFailed>
     ensures text { Puts (O.got out.old) (O.got out.new) result
         (spaced (codes "ready" ∷ decimal parts ∷ decimal wires ∷ [])) }
@@ -32,7 +32,7 @@ fn put_ready<O: Sink>(out: &mut O, parts: u64, wires: u64) -> Result<(), WriteFa
     )
 }
 
-// Answers the script by a service in which no session is open.
+// Answers the script with a service without open sessions.
 fn answer<I: Source, O: Sink>(service: &mut Service, input: &mut I, out: &mut O) -> Status
     requires none_open { service.old.table ≡ [] }
     requires taken { I.taken input.old < 2 ^ 62 }
@@ -54,7 +54,7 @@ fn answer<I: Source, O: Sink>(service: &mut Service, input: &mut I, out: &mut O)
     }
 }
 
-/// Answers the script by the service that was made, or prints the refusal of one, and answers the status.
+/// Answers the script with the service that was made, or prints its refusal. Returns the status.
 pub(crate) fn answer_by<I: Source, O: Sink>(
     made: Result<Service, Refusal>,
     input: &mut I,

@@ -1,4 +1,4 @@
-//! What is found of an adder. It has a file with few imports, since the prover goes through all that is dropped when memory runs out.
+//! What is found of an adder. It has its own file with few imports, since the prover goes through all that is dropped when memory runs out.
 ghost use Rattle.std.specs.Prelude.{◌≡◌, ◌<◌, ◌≤◌, IfOk};
 ghost use Rattle.diag_cli.specs.inner.Loading.{IsSummaryOf, IsInStep};
 ghost use Rattle.diag_cli.specs.inner.Serving.{IsServable};
@@ -12,7 +12,7 @@ use node_store::Graph;
 use std::alloc::{AllocError, Global};
 use std::sync::ledger::{Blank, Ledger};
 
-/// What is printed of an adder: its sizes, and the first and the last diagnosis of those that were listed, if there are any.
+/// What is printed of an adder: its sizes, and the first and last of the listed diagnoses, if there are any.
 #[derive(Drop)]
 pub(crate) struct Summary {
     pub(crate) parts: Vec<Name>,
@@ -23,7 +23,7 @@ pub(crate) struct Summary {
     pub(crate) last: Vec<u32>,
 }
 
-/// The summary of an adder by its graph. All memory that it needs is taken here.
+/// Makes the summary of an adder by its graph. All memory that it needs is taken here.
 pub(crate) fn summary_by<L: Ledger>(
     alloc: Global,
     blank: Blank,

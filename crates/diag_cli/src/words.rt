@@ -17,31 +17,31 @@ use text_rules::plain_number;
 /// The budget if the words give none.
 pub const DEFAULT_BUDGET: u32 = 2_097_152;
 
-/// How many sessions may be open at a time if the words give no number.
+/// The most sessions open at a time if the words give no number.
 pub const DEFAULT_SESSIONS: u32 = 16;
 
 /// How `serve` answers a script.
 #[derive(Clone, Copy)]
 pub struct ServeOptions {
-    /// The sum of the clauses is at most this, from 1 to `BUDGET_LIMIT`.
+    /// The greatest sum of the clauses, from 1 to `BUDGET_LIMIT`.
     pub budget: u32,
-    /// So many sessions may be open at a time, from 1 to `SESSION_LIMIT`.
+    /// The most sessions open at a time, from 1 to `SESSION_LIMIT`.
     pub sessions: u32,
     /// Clauses are compiled along a forest of their variables, if one is found.
     pub narrow: bool,
-    /// What sessions print besides: states up to a cost of at most `TOP_LIMIT`, and the graph of the diagnoses.
+    /// What sessions offer besides: states up to a cost of at most `TOP_LIMIT`, and the graph of the diagnoses.
     pub extras: Extras,
 }
 
-/// What is done over a file.
+/// What is done with a file.
 #[derive(Clone, Copy)]
 pub enum Command {
     /// `serve`: answers the script on the input over the device of the file.
     Serve { options: ServeOptions },
-    /// `serve` with `--frames`: answers it over a netlist with flip-flops and so many times.
+    /// `serve` with `--frames`: answers it over a netlist with flip-flops, over `frames` times.
     ServeFrames { frames: u32, options: ServeOptions },
-    /// `ask`: answers the script on the input over the graph of the file, whose first variables are so many parts, with at most
-    /// so many sessions open at a time.
+    /// `ask`: answers the script on the input over the graph of the file, whose first `health` variables are parts, with at most `sessions`
+    /// sessions open at a time.
     Ask { health: u32, sessions: u32 },
     /// What is printed about the file alone, as by `plan` and `check`.
     Inspect { inspection: Inspection },
@@ -52,9 +52,9 @@ pub enum Command {
 /// What the words of the command line ask for.
 #[derive(Clone, Copy)]
 pub enum Form<'a> {
-    /// `load N`: makes an adder of so many places, and prints what its readings come to.
+    /// `load N`: makes an adder of `places` places, and prints the diagnoses of its readings.
     Load { places: u32 },
-    /// A command, and the file that it is done over.
+    /// A command, and its file.
     Over { path: &'a str, command: Command },
 }
 
@@ -63,7 +63,7 @@ pub enum Form<'a> {
 pub enum Takes {
     /// Nothing.
     Nothing,
-    /// A number of so many decimal digits at most, from one to another.
+    /// A number of at most `digits` decimal digits, from `least` to `most`.
     Number {
         digits: usize,
         least: u32,
@@ -71,7 +71,7 @@ pub enum Takes {
     },
 }
 
-// A number of so many digits at most, from one to another.
+// Makes a number of at most `digits` digits, from `least` to `most`.
 fn number(digits: usize, least: u32, most: u32) -> Takes
     ensures { result ≡ Number digits least most }
 {
@@ -82,7 +82,7 @@ fn number(digits: usize, least: u32, most: u32) -> Takes
     }
 }
 
-// The table of the options: for each the commands that take it, and what follows it.
+// Looks up an option in the table: the commands that take it, and what follows it.
 fn option_of(command: &str, word: &str) -> Option<Takes>
     ensures { result ≡ option_of command.now word.now }
 {
@@ -99,7 +99,7 @@ fn option_of(command: &str, word: &str) -> Option<Takes>
     }
 }
 
-// The number that a word spells, from one to another of so many digits.
+// Returns the number that a word spells with at most `digits` digits, if it is from `least` to `most`.
 fn number_in(digits: usize, least: u32, most: u32, word: &str) -> Option<u32>
     ensures { result ≡ plain_number_in digits least most word.now }
 {
@@ -109,7 +109,7 @@ fn number_in(digits: usize, least: u32, most: u32, word: &str) -> Option<u32>
     }
 }
 
-// The words after an option, if it is given.
+// Returns the words after an option, if it is given.
 fn words_after<'a>(option: &str, words: &'a [String]) -> Option<&'a [String]>
     ensures { option_map (λ rest. map string_bytes rest.now) result ≡ words_after option.now (map string_bytes words.now) }
 {
@@ -123,15 +123,14 @@ fn words_after<'a>(option: &str, words: &'a [String]) -> Option<&'a [String]>
     None
 }
 
-// Whether an option is given.
 fn is_given(option: &str, words: &[String]) -> bool
     ensures { result ≡ is_given option.now (map string_bytes words.now) }
 {
     words_after(option, words).is_some()
 }
 
-// Whether words are options of a command: each is one, its number follows, if it takes one, and none is given twice. So it calls
-// itself at most once for each.
+// Whether words are options of a command: each is one, its number follows if it takes one, and none is given twice. So it calls itself at
+// most once for each.
 fn are_options(command: &str, words: &[String]) -> bool
     ensures { result ≡ are_options command.now Nothing (map string_bytes words.now) }
 {
@@ -158,7 +157,7 @@ fn are_options(command: &str, words: &[String]) -> bool
     number_in(digits, least, most, number.as_str()).is_some() && are_options(command, rest)
 }
 
-// The number that is given for an option of a command.
+// Returns the number given for an option of a command.
 fn number_given(command: &str, option: &str, words: &[String]) -> Option<u32>
     ensures { result ≡ number_given command.now option.now (map string_bytes words.now) }
 {
@@ -176,7 +175,6 @@ fn number_given(command: &str, option: &str, words: &[String]) -> Option<u32>
     }
 }
 
-// How `serve` answers a script by its options.
 fn serve_options(words: &[String]) -> ServeOptions
     ensures { result ≡ serve_options (map string_bytes words.now) }
 {
@@ -191,7 +189,7 @@ fn serve_options(words: &[String]) -> ServeOptions
     }
 }
 
-// What `serve` is, over a netlist if there are frames.
+// Returns the form of `serve`, over a netlist if there are frames.
 fn form_serve<'a>(path: &'a str, options: ServeOptions, frames: Option<u32>) -> Option<Form<'a>>
     ensures { option_map meant result ≡ form_serve path.now options frames }
 {
@@ -203,7 +201,7 @@ fn form_serve<'a>(path: &'a str, options: ServeOptions, frames: Option<u32>) -> 
     Some(Form::Over { path, command })
 }
 
-// The form of a command over a file, with options.
+// Returns the form of a command over a file, with options.
 fn form_by<'a>(command: &str, path: &'a str, words: &[String]) -> Option<Form<'a>>
     ensures { option_map meant result ≡ form_by command.now path.now (map string_bytes words.now) }
 {
@@ -225,7 +223,7 @@ fn form_by<'a>(command: &str, path: &'a str, words: &[String]) -> Option<Form<'a
     Some(Form::Over { path, command })
 }
 
-// The form of questions to a graph, with the words after the file.
+// Returns the form of `ask` over a graph, with the words after the file.
 fn form_ask<'a>(path: &'a str, words: &[String]) -> Option<Form<'a>>
     ensures { option_map meant result ≡ form_ask path.now (map string_bytes words.now) }
 {
@@ -241,7 +239,7 @@ fn form_ask<'a>(path: &'a str, words: &[String]) -> Option<Form<'a>>
     Some(Form::Over { path, command })
 }
 
-// The form of an adder, with no further word.
+// Returns the form of `load`, with no further word.
 fn form_load<'a>(places: &str, words: &[String]) -> Option<Form<'a>>
     ensures { option_map meant result ≡ form_load places.now (map string_bytes words.now) }
 {
@@ -252,7 +250,7 @@ fn form_load<'a>(places: &str, words: &[String]) -> Option<Form<'a>>
     Some(Form::Load { places })
 }
 
-// The form of the words after the first two.
+// Returns the form of the words after the first two.
 fn form_by_words<'a>(command: &str, next: &'a str, words: &[String]) -> Option<Form<'a>>
     ensures { option_map meant result ≡ form_by_words command.now next.now (map string_bytes words.now) }
 {
@@ -264,7 +262,7 @@ fn form_by_words<'a>(command: &str, next: &'a str, words: &[String]) -> Option<F
     }
 }
 
-/// The form of the words, if they have one.
+/// Returns the form of the words, if they have one.
 #[tactic(auto, using(crate::proofs::WordLemmas::few_words))]
 pub(crate) fn form_of(words: &[String]) -> Option<Form<'_>>
     ensures form { option_map meant result ≡ form_of (map string_bytes words.now) }

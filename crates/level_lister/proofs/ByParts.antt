@@ -1,4 +1,4 @@
--- Parts that are fixed one by one, each to faulty if that leaves a state.
+-- Parts that are fixed one by one, each as faulty if that leaves a state.
 use Rattle.std.proofs.Common.{◌≡◌, ◌≢◌, ℕ, ◌+◌, ◌<◌, ◌≤◌, Bool, true, false, List, length, get_or, set, ◌∙◌, subst, arith}
 use Rattle.std.proofs.Math.ListN.{length-set}
 use Rattle.std.proofs.lemmas.Bool.{true_from_ne_false}
@@ -9,11 +9,11 @@ use Rattle.diagnosis_lister.proofs.Allowing.{Allows, set-new}
 use Rattle.diagnosis_lister.proofs.FixedParts.{FixesOk, Settles, settles-ok}
 
 module _ {vars parts : ℕ} {P : List ℕ → List Bool → Type 0} (allows : Allows vars parts P) (start : List ℕ) (long : length start ≡ vars) (old : List ℕ) (part : ℕ) (lt : part < parts) (s : Settles P parts start old part) where
-  -- one that is not open stays
+  -- a part that is not open stays
   pub settles-held : get_or old part 0 ≢ 0 → Settles P parts start old (part + 1)
   settles-held ne = grind arith
 
-  -- an open one that is faulty in no state is ok
+  -- an open part that is faulty in no state is ok
   pub settles-one_ok : get_or old part 0 ≡ 0 → (Has (P (set old part 2)) → ⊥) → Settles P parts start (set old part 1) (part + 1)
   settles-one_ok free none = settles-ok allows start long old part s (set old part 1) (part + 1) (omega arith) fixes ok where
     room : part < length old

@@ -34,21 +34,21 @@ use Rattle.level_lister.proofs.TestCosts.{empty_is, false_literal_is, literal_is
 all_push : (bs : List Bool) (b : Bool) → list_all (λ x. x) (bs ++ b ∷ []) ≡ (list_all (λ x. x) bs && b)
 all_push bs b = list_all-append (λ x. x) bs (b ∷ []) ∙ ap (λ c. list_all (λ x. x) bs && c) (and-true b)
 
--- children of which at most one is 1: not both one and one before it
+-- if at most one child is 1, a child and one before it are not both
 pub apart_from : (f : ℕ → Bool) (kids : List ℕ) (j : ℕ) → at_most_one (map f kids) ≡ true → j < length kids → (list_any (λ x. x) (map f (take j kids)) && f (get_or kids j 0)) ≡ false
 apart_from f [] j e lt = absurd (omega arith)
 apart_from f (k ∷ kids) zero e lt = refl
 apart_from f (k ∷ kids) (suc j) e lt = grind (arith, nat_tests, not_both (f k) (map f kids) e, any-child f kids (get_or kids j 0) (In-at kids j 0 (omega arith)), apart_from f kids j (at_most_one-tail (f k) (map f kids) e))
 
 module _ (graph : Graph) (at : ℕ) (kids : List ℕ) (ok : IsGraph graph) (inside : at < length graph.nodes) (are : kids ≡ (node_at graph.nodes at).kids) where
-  -- one and those before it share no variable
+  -- a child and those before it share no variable
   pub children_apart : (j : ℕ) → (node_at graph.nodes at).what ≡ And → j < length kids → (v : ℕ) → (list_any (λ b. b) (map (mentions graph.nodes v) (take j kids)) && mentions graph.nodes v (get_or kids j 0)) ≡ false
   children_apart j what lt v = apart_from (mentions graph.nodes v) kids j ((λ i. apart_at (mentions graph.nodes v) (sym what i) (are i)) ∙ each_apart (mentions graph.nodes v) graph.nodes at (ok.nodes.apart v) inside) lt
 
   pub apart_children : (j : ℕ) → (node_at graph.nodes at).what ≡ And → j < length kids → (v : ℕ) → (mentions graph.nodes v (get_or kids j 0) && list_any (λ b. b) (map (mentions graph.nodes v) (take j kids))) ≡ false
   apart_children j what lt v = and_comm (mentions graph.nodes v (get_or kids j 0)) (list_any (λ b. b) (map (mentions graph.nodes v) (take j kids))) ∙ children_apart j what lt v
 
-  -- one that lacks no part of an Or
+  -- a child that lacks no part of an Or node
   pub child_full : (parts j : ℕ) → (node_at graph.nodes at).what ≡ Or → j < length kids → SameBelow graph parts at → Wider parts (λ v. mentions graph.nodes v (get_or kids j 0)) (λ v. mentions graph.nodes v at)
   child_full parts j what lt below = grind (arith, child-mentions)
 
@@ -59,7 +59,7 @@ module _ (graph : Graph) (at : ℕ) (kids : List ℕ) (ok : IsGraph graph) (insi
     abbrev M : ℕ → ℕ → Bool
     M k v = mentions graph.nodes v k
 
-    -- what the node says, by its children
+    -- the truth of a node, by its children
     truth-is : (a : Assignment) → T at a ≡ truth_by a (node_at graph.nodes at).what (map (λ k. T k a) kids)
     truth-is a = living-is graph skips ok at inside lives a ∙ ap (λ ks. truth_by a (node_at graph.nodes at).what (map (λ k. T k a) ks)) (sym are)
 
@@ -69,7 +69,7 @@ module _ (graph : Graph) (at : ℕ) (kids : List ℕ) (ok : IsGraph graph) (insi
     mention-of : (what : NodeKind) → (node_at graph.nodes at).what ≡ what → (v : ℕ) → mention_by v what (map (mentions graph.nodes v) kids) ≡ M at v
     mention-of what e v = sym (mention-is graph at kids ok inside are v ∙ ap (λ w. mention_by v w (map (mentions graph.nodes v) kids)) e)
 
-    -- what holds of a test and of variables, of one child after the other, and of the node
+    -- what holds of a test and of variables, for one child after the other and for the node
     module _ (Is : (Assignment → Bool) → (ℕ → Bool) → Type 0) where
       pub literal_at : (var : ℕ) (positive : Bool) → Literal positive var ≡ (node_at graph.nodes at).what → Is (λ a. same_bit positive (a var)) (λ v. var == v) → Is (λ a. is_true (living graph.nodes skips) at a) (λ v. mentions graph.nodes v at)
       literal_at var positive what is = same_tests Is (truth-of (Literal positive var) (sym what)) (mention-of (Literal positive var) (sym what)) is
@@ -80,7 +80,7 @@ module _ (graph : Graph) (at : ℕ) (kids : List ℕ) (ok : IsGraph graph) (insi
           (λ a. sym (ap (list_all (λ b. b)) (map_more (λ k. T k a) kids j 0 lt) ∙ all_push (map (λ k. T k a) (take j kids)) (T (get_or kids j 0) a)))
           (λ v. sym (ap (list_any (λ b. b)) (map_more (mentions graph.nodes v) kids j 0 lt) ∙ any-push (λ x. x) (map (mentions graph.nodes v) (take j kids)) (M (get_or kids j 0) v))) is
 
-      -- or this one before the others
+      -- the same with this child before the others
       pub and_before : (j : ℕ) → j < length kids → Is (λ a. T (get_or kids j 0) a && list_all (λ b. b) (map (λ k. T k a) (take j kids))) (λ v. M (get_or kids j 0) v || list_any (λ b. b) (map (mentions graph.nodes v) (take j kids)))
           → Is (λ a. list_all (λ b. b) (map (λ k. is_true (living graph.nodes skips) k a) (take (j + 1) kids))) (λ v. list_any (λ b. b) (map (mentions graph.nodes v) (take (j + 1) kids)))
       and_before j lt is = and_next j lt (same_tests Is (λ a. and_comm (T (get_or kids j 0) a) (list_all (λ b. b) (map (λ k. T k a) (take j kids)))) (λ v. or_comm (M (get_or kids j 0) v) (list_any (λ b. b) (map (mentions graph.nodes v) (take j kids)))) is)
@@ -103,7 +103,7 @@ module _ (graph : Graph) (at : ℕ) (kids : List ℕ) (ok : IsGraph graph) (insi
         → (leaf ≡ False → (n : ℕ) → has_number set n ≡ false) → ((leaf ≡ False → ⊥) → (n : ℕ) → n < 32 * length set → has_number set n ≡ (n == cond positive 0 cost)) → IsNodeSet graph skips evidence costs at set
     literal_set evidence costs var cost positive leaf set what is priced ruled_out allowed = literal_at (λ t m. IsCostSet evidence costs t m set) var positive what grind (arith, false_literal_is evidence costs var positive set, literal_is evidence costs var positive set)
 
--- a node that is skipped
+-- a skipped node
 pub skipped_set : (graph : Graph) (skips evidence costs : List ℕ) (at : ℕ) (set : List ℕ) → IsGraph graph → at < length graph.nodes → get_or skips at 0 ≢ 0 → ((n : ℕ) → has_number set n ≡ false) → IsNodeSet graph skips evidence costs at set
 skipped_set graph skips evidence costs at set ok inside ne none = same_tests (λ t m. IsCostSet evidence costs t m set) (λ a. sym (skipped-is graph skips ok at inside ne a)) (λ v. refl) (empty_is evidence costs (λ v. mentions graph.nodes v at) set none)
 

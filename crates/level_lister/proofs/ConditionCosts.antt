@@ -1,4 +1,4 @@
--- Sets of the costs of a condition, and of a test.
+-- Sets of the costs of a condition and of a test.
 use Rattle.std.proofs.Common.{◌≡◌, ℕ, ◌+◌, ◌-◌, ◌*◌, ◌<◌, Bool, true, false, not, ◌&&◌, ◌||◌, List, length, get_or, ap, sym, ◌∙◌, subst, arith, inl, inr, ⊎_elim}
 use Rattle.std.specs.Prelude.{◌⊎◌, ◌==◌}
 use Rattle.std.proofs.lemmas.Bool.{or_left}
@@ -15,7 +15,7 @@ use Rattle.level_lister.specs.inner.CostSets.{has_shifted, fault_weights, AreSum
 use Rattle.level_lister.specs.inner.FaultSets.{AreCostsOf}
 use Rattle.level_lister.proofs.TestCosts.{only_parts, part_cost-at}
 
--- a set that is as long as another says as much
+-- a set of the same length says as much
 resized : (C : ℕ → Type 0) (left set : List ℕ) → length left ≡ length set → IsRow (has_number left) (32 * length left) C → IsRow (has_number left) (32 * length set) C
 resized C left set l is = subst (λ n. IsRow (has_number left) (32 * n) C) l is
 
@@ -23,7 +23,7 @@ resized C left set l is = subst (λ n. IsRow (has_number left) (32 * n) C) l is
 sums-row : (left right set : List ℕ) → AreSums left right (32 * length set) set → IsRow (has_number set) (32 * length set) (SumOf (λ j. has_number left j ≡ true) (λ k. has_number right k ≡ true))
 sums-row left right set sums = grind arith
 
--- a set that is moved by nothing
+-- a set that is moved by 0
 unmoved : (set : List ℕ) (n : ℕ) → has_shifted set 0 n ≡ has_number set n
 unmoved set n = grind arith
 
@@ -46,7 +46,7 @@ module _ (evidence costs : List ℕ) where
   abbrev g : Weights
   g = fault_weights evidence costs
 
-  -- ---- one part more
+  -- ---- one more part
   module _ (some : ℕ → Bool) (P : Assignment → Type 0) (p : ℕ) (out : some (p + 1) ≡ false) (local : Local some P) where
     place : p ≡ p + 1 - 1
     place = omega arith
@@ -57,7 +57,7 @@ module _ (evidence costs : List ℕ) where
     word : (bit : Bool) → agrees_at (known_of (get_or evidence p 0)) bit ≡ agrees_at (known_at evidence (p + 1)) bit
     word bit = ap (λ k. agrees_at (known_of (get_or evidence k 0)) bit) place
 
-    -- it is free as far as its word says nothing
+    -- it is as free as its word leaves it
     pub of_choice : (old set : List ℕ) → get_or evidence p 0 < 3 → length old ≡ length set
         → ((n : ℕ) → n < 32 * length set → has_number set n ≡ ((not (get_or evidence p 0 == 2) && has_number old n) || (not (get_or evidence p 0 == 1) && has_shifted old (get_or costs p 0) n)))
         → AreCostsOf evidence costs some P old → AreCostsOf evidence costs (λ v. some v || (p + 1 == v)) P set
@@ -69,7 +69,7 @@ module _ (evidence costs : List ℕ) where
         ∙ (λ i. ((not_two (get_or evidence p 0) small ∙ word true) i && sym (unmoved old n) i) || ((not_one (get_or evidence p 0) ∙ word false) i && has_shifted old (price i) n)))
         (row-bit (32 * length set) g (p + 1) true (has_number old) _ row) (row-bit (32 * length set) g (p + 1) false (has_number old) _ row))
 
-    -- and if it is open and faulty, besides
+    -- with a fault, if it is open and faulty
     pub of_faulty : (Q : Assignment → Type 0) (old left set : List ℕ) → get_or evidence p 0 ≡ 0 → length old ≡ length set → length left ≡ length set
         → ((n : ℕ) → n < 32 * length set → has_number set n ≡ (has_number left n || has_shifted old (get_or costs p 0) n))
         → AreCostsOf evidence costs some P old → AreCostsOf evidence costs (λ v. some v || (p + 1 == v)) Q left
@@ -84,7 +84,7 @@ module _ (evidence costs : List ℕ) where
 
   -- ---- the sets of tests
 
-  -- one of two, over the same variables
+  -- one of two tests over the same variables
   pub or_is : (t u : Assignment → Bool) (some : ℕ → Bool) (left right set : List ℕ) → length left ≡ length set → length right ≡ length set
       → ((n : ℕ) → n < 32 * length set → has_number set n ≡ (has_number left n || has_shifted right 0 n))
       → IsCostSet evidence costs t some left → IsCostSet evidence costs u some right → IsCostSet evidence costs (λ a. t a || u a) some set
@@ -93,7 +93,7 @@ module _ (evidence costs : List ℕ) where
     local = λ a b h. (λ i. is_t.local a b h i || is_u.local a b h i);
   }
 
-  -- both of two that share no variable
+  -- both of two tests that share no variable
   pub and_is : (t u : Assignment → Bool) (some more : ℕ → Bool) (left right set : List ℕ) → length left ≡ length set → length right ≡ length set → ((v : ℕ) → (some v && more v) ≡ false)
       → AreSums left right (32 * length set) set → IsCostSet evidence costs t some left → IsCostSet evidence costs u more right → IsCostSet evidence costs (λ a. t a && u a) (λ v. some v || more v) set
   and_is t u some more left right set l m apart sums is_t is_u = record {
@@ -101,7 +101,7 @@ module _ (evidence costs : List ℕ) where
     local = depends-all g t u some more is_t.local is_u.local;
   }
 
-  -- a part more, which is free as far as its word says nothing
+  -- one more part, as free as its word leaves it
   pub choice_is : (t : Assignment → Bool) (some : ℕ → Bool) (p : ℕ) (old set : List ℕ) → get_or evidence p 0 < 3 → some (p + 1) ≡ false → length old ≡ length set
       → ((n : ℕ) → n < 32 * length set → has_number set n ≡ ((not (get_or evidence p 0 == 2) && has_number old n) || (not (get_or evidence p 0 == 1) && has_shifted old (get_or costs p 0) n)))
       → IsCostSet evidence costs t some old → IsCostSet evidence costs t (λ v. some v || (p + 1 == v)) set

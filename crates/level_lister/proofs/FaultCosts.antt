@@ -20,7 +20,7 @@ use Rattle.level_lister.proofs.ConditionCosts.{or-row, sum-row, of_choice, of_fa
 use Rattle.level_lister.proofs.Faults.{IsFault, moved, fault_local, cost-any_fault, any_fault-costs, cost-all_fault, all_fault-costs, row-fault, row-fault_one}
 
 module _ (evidence costs : List ℕ) (group : ℕ → Bool) (parts : (v : ℕ) → group v ≡ true → (1 ≤ v) × (v < 1 + length costs)) where
-  -- more variables, of which no others are parts'
+  -- more variables, without further parts
   pub fault_wider : (t : Assignment → Bool) (some more : ℕ → Bool) (set : List ℕ) → Wider (length costs) some more → IsFaultSet evidence costs group t some set → IsFaultSet evidence costs group t more set
   fault_wider t some more set wider is = row-fault (fault_weights evidence costs) group (32 * length set) (has_number set) parts t t some more (λ a. refl) wider is
 
@@ -53,7 +53,7 @@ module _ (evidence costs : List ℕ) (group : ℕ → Bool) where
         (sum-row _ _ set own_faults other (l_set ∙ sym l_other) (l_own_faults ∙ sym l_other) sums_other is_t.all.row is_u.faulty));
   }
 
-  -- ---- a part more that is free
+  -- ---- one more free part
   module _ (t : Assignment → Bool) (some : ℕ → Bool) (p : ℕ) (out : some (p + 1) ≡ false) (small : get_or evidence p 0 < 3) (set faults new_set mid : List ℕ)
       (long : length set ≡ length new_set) (same_long : length faults ≡ length mid)
       (made : (n : ℕ) → n < 32 * length new_set → has_number new_set n ≡ ((not (get_or evidence p 0 == 2) && has_number set n) || (not (get_or evidence p 0 == 1) && has_shifted set (get_or costs p 0) n)))
@@ -68,7 +68,7 @@ module _ (evidence costs : List ℕ) (group : ℕ → Bool) where
     wider_fault : (a : Assignment) → HasFault group some a → HasFault group (λ v. some v || (p + 1 == v)) a
     wider_fault a f = moved f (or_left _ _ f.among) refl
 
-    -- where it is not of the group
+    -- if it is not in the group
     pub free_unmarked : group (p + 1) ≡ false → AreBothSets evidence costs group t (λ v. some v || (p + 1 == v)) new_set mid
     free_unmarked none = record {
       all = wider_set;
@@ -77,7 +77,7 @@ module _ (evidence costs : List ℕ) (group : ℕ → Bool) where
       back : (a : Assignment) → HasFault group (λ v. some v || (p + 1 == v)) a → HasFault group some a
       back a f = grind (arith, nat_tests, eqb-true, or_cases)
 
-    -- and if it is, and open
+    -- if it is in the group and open
     pub free_marked : (new_faults : List ℕ) → group (p + 1) ≡ true → get_or evidence p 0 ≡ 0 → length set ≡ length new_faults → length mid ≡ length new_faults
         → ((n : ℕ) → n < 32 * length new_faults → has_number new_faults n ≡ (has_number mid n || has_shifted set (get_or costs p 0) n))
         → AreBothSets evidence costs group t (λ v. some v || (p + 1 == v)) new_set new_faults
@@ -94,7 +94,7 @@ module _ (evidence costs : List ℕ) (group : ℕ → Bool) where
 
   -- ---- a literal
 
-  -- a part of the group that is faulty
+  -- a faulty part of the group
   pub fault_one : (var : ℕ) → 1 ≤ var → (cost : ℕ) (set : List ℕ) → cost ≡ get_or costs (var - 1) 0 → agrees_at (known_at evidence var) false ≡ true → group var ≡ true → ((n : ℕ) → n < 32 * length set → has_number set n ≡ (n == cost))
       → IsFaultSet evidence costs group (λ a. same_bit false (a var)) (λ v. var == v) set
   fault_one var low cost set cost_is allowed marked one = row-fault_one g group (32 * length set) (has_number set) (only_parts evidence costs) var allowed marked

@@ -1,4 +1,4 @@
--- The sets of the costs with a fault, from those of the children.
+-- The sets of costs with a fault, from those of the children.
 use Rattle.std.proofs.lemmas.Bool.Decides.{nat_tests}
 use Rattle.std.proofs.Common.{◌≡◌, ◌≢◌, ℕ, suc, ◌+◌, ◌-◌, ◌*◌, ◌<◌, ◌≤◌, Bool, true, false, List, [], ◌∷◌, map, length, get_or, All, refl, ap, sym, ◌∙◌, subst, arith, inl, inr}
 use Rattle.std.specs.Prelude.{◌==◌, nat_lt}
@@ -42,7 +42,7 @@ first_open evidence costs groups part e = ap (λ k. get_or evidence k 0) (let ba
 pub first_parts : (evidence costs : List ℕ) (groups : Groups) (v : ℕ) → in_first evidence costs groups v ≡ true → (1 ≤ v) × (v < 1 + length costs)
 first_parts evidence costs groups v e = on_parts evidence (length costs) groups 0 v e
 
--- no child at all
+-- no child
 pub both_zero : (evidence costs : List ℕ) (group : ℕ → Bool) (set faults : List ℕ) → ((n : ℕ) → n < 32 * length set → has_number set n ≡ (n == 0)) → ((n : ℕ) → has_number faults n ≡ false)
     → AreBothSets evidence costs group (λ a. true) (λ v. false) set faults
 both_zero evidence costs group set faults one none = record { all = zero_is evidence costs set one; faulty = row-none (32 * length faults) (has_number faults) _ (λ n lt. none n) (λ n c. false≢true c.meets.1.among) }
@@ -51,7 +51,7 @@ both_zero evidence costs group set faults one none = record { all = zero_is evid
 pub never_faults : (evidence costs : List ℕ) (group some : ℕ → Bool) (set : List ℕ) → ((n : ℕ) → has_number set n ≡ false) → IsFaultSet evidence costs group (λ a. false) some set
 never_faults evidence costs group some set none = row-none (32 * length set) (has_number set) _ (λ n lt. none n) (λ n c. false≢true c.meets.0)
 
--- a node that is skipped
+-- a skipped node
 pub skipped_faults : (graph : Graph) (skips evidence costs : List ℕ) (groups : Groups) (at : ℕ) (set : List ℕ) → IsGraph graph → at < length graph.nodes → get_or skips at 0 ≢ 0 → ((n : ℕ) → has_number set n ≡ false)
     → IsNodeFaults graph skips evidence costs groups at set
 skipped_faults graph skips evidence costs groups at set ok inside ne none = row-none (32 * length set) (has_number set) _ (λ n lt. none n) (λ n c. false≢true (sym (skipped-is graph skips ok at inside ne c.by) ∙ c.meets.0))
@@ -61,7 +61,7 @@ all_in P x [] all m = absurd m
 all_in P x (y ∷ ys) all (inl e) = subst P (sym e) (all 0 y (omega arith))
 all_in P x (y ∷ ys) all (inr m) = all_in P x ys (λ k d lt. all (suc k) d (omega arith)) m
 
--- an And of which no child has a cost with a fault
+-- an And node of which no child has a cost with a fault
 pub no_fault_below : (graph : Graph) (skips evidence costs : List ℕ) (groups : Groups) (at size : ℕ) (sets set : List ℕ) → IsGraph graph → LivesAs graph skips at And
     → length sets ≡ at * size → length set ≡ size → AreNodeFaults graph skips evidence costs groups size sets at
     → All (λ k. (n : ℕ) → has_number (set_at sets k size) n ≡ false) (node_at graph.nodes at).kids → ((n : ℕ) → has_number set n ≡ false) → IsNodeFaults graph skips evidence costs groups at set

@@ -1,4 +1,4 @@
--- The range in which the first fault is, as one pass after the other makes it smaller.
+-- The range of the first fault, as each pass makes it smaller.
 use Rattle.std.proofs.Common.{ℕ, zero, suc, ◌+◌, ◌-◌, ◌*◌, ◌/◌, ◌^◌, ◌<◌, ◌≤◌, List, length, refl, arith, inl, inr, ⊎_elim}
 use Rattle.std.specs.Prelude.{◌⊎◌}
 use Rattle.std.proofs.lemmas.Bool.{cases_lt, true_from_ne_false}
@@ -19,7 +19,8 @@ module _ (graph : Graph) (evidence costs : List ℕ) (c from : ℕ) where
     pub to : part < low + span
     pub fault : FaultIn graph evidence costs c part
 
-  -- The open parts before the range are ok in all states. In the range one is faulty in some, or the range reaches after all parts.
+  -- The open parts before the range are ok in all states. Some open part in the range is faulty in a state, or the range ends after all
+  -- parts.
   pub record IsRange (low span : ℕ) : Type 0 where
     pub le : from ≤ low
     pub ok : OkAmong graph evidence costs c from low
@@ -55,14 +56,14 @@ module _ (graph : Graph) (evidence costs : List ℕ) (c from : ℕ) where
       in_group : FaultOf graph evidence costs c (record { low = low; size = (span + count) / (count + 1); some = some_size }) g → FaultWithin (low + g * ((span + count) / (count + 1))) ((span + count) / (count + 1))
       in_group f = grind (arith, div-mul-le_self, lt-div-mul-add)
 
-      -- the groups and one more reach to the end
+      -- the groups and one more reach the end
       reach : count ≤ g → low + span ≤ low + g * ((span + count) / (count + 1)) + (span + count) / (count + 1)
       reach p = grind arith
 
       at_end : count ≤ g → FaultWithin low span ⊎ (length costs < low + span) → FaultWithin (low + g * ((span + count) / (count + 1))) ((span + count) / (count + 1)) ⊎ (length costs < low + g * ((span + count) / (count + 1)) + (span + count) / (count + 1))
       at_end p s = grind (arith, before, reach, is.le)
 
--- so many passes are left for a range
+-- the passes that are left for a range
 pub record PassesLeft (count span steps most : ℕ) : Type 0 where
   pub rest : ℕ
   pub fits : span ≤ (count + 1) ^ rest

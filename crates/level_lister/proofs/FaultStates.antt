@@ -1,4 +1,4 @@
--- The states in which an open part of a group is faulty, and the assignments that are after them.
+-- The states in which an open part of a group is faulty, and assignments with these states.
 use Rattle.std.proofs.Common.{◌≡◌, ℕ, ◌+◌, ◌-◌, ◌*◌, ◌<◌, ◌≤◌, true, List, length, refl, ap, sym, ◌∙◌, arith}
 use Rattle.state_rules.specs.Graphs.{Graph, IsGraph, is_true}
 use Rattle.node_costs.specs.Costs.{CostOf}
@@ -15,7 +15,7 @@ use Rattle.level_lister.proofs.RootCosts.{cost_among-all}
 use Rattle.level_lister.proofs.PairNodes.{grouped, in_group}
 
 module _ (graph : Graph) (evidence costs : List ℕ) (groups : Groups) (ok : IsGraph graph) (long : length evidence ≡ graph.vars) (within : length costs ≤ graph.vars) where
-  -- the last node is true, and a part of a group faulty
+  -- the last node is true, and a part of a group is faulty
   abbrev pub HasWholeFault : ℕ → ℕ → Type 0
   HasWholeFault g c = CostOf (fault_weights evidence costs) (λ v. true) (λ a. (is_true graph.nodes (length graph.nodes - 1) a ≡ true) × HasFault (group_in evidence (length costs) groups g) (λ v. true) a) c
 

@@ -1,4 +1,4 @@
--- The costs at which a test is true and, besides, a part of a group is faulty.
+-- The costs at which a test is true and a part of a group is faulty too.
 use Rattle.std.proofs.Common.{◌≡◌, ℕ, ◌+◌, ◌<◌, ◌≤◌, Bool, true, false, ◌&&◌, ◌||◌, refl, sym, ◌∙◌, inl, inr, ⊎_elim}
 use Rattle.std.specs.Prelude.{◌⊎◌, ◌==◌}
 use Rattle.std.proofs.lemmas.Bool.{and_parts, and_from, or_cases, or_left, or_right, eq-eqb, not-true}
@@ -18,7 +18,7 @@ IsFault group some t a = (t a ≡ true) × HasFault group some a
 abbrev pub FaultCost : Weights → (ℕ → Bool) → (ℕ → Bool) → (Assignment → Bool) → ℕ → Type 0
 FaultCost g group some t n = CostOf g some (IsFault group some t) n
 
--- a fault among some is one among others that have its variable
+-- a fault among variables is one among others that have its variable
 pub moved : {group some more : ℕ → Bool} {a b : Assignment} → (f : HasFault group some a) → more f.var ≡ true → b f.var ≡ a f.var → HasFault group more b
 moved f m e = record { var = f.var; among = m; of_group = f.of_group; faulty = e ∙ f.faulty }
 
@@ -26,7 +26,7 @@ pub fault_local : (group some : ℕ → Bool) (t : Assignment → Bool) → Depe
 fault_local group some t on_t a b h e = (on_t a b h ∙ e.0, moved e.1 e.1.among (h e.1.var e.1.among))
 
 module _ (g : Weights) (group : ℕ → Bool) where
-  -- ---- one of two tests, and both
+  -- ---- one of two tests, and both of them
 
   module _ (t u : Assignment → Bool) where
     pub cost-any_fault : (some : ℕ → Bool) (n : ℕ) → FaultCost g group some t n ⊎ FaultCost g group some u n → FaultCost g group some (λ a. t a || u a) n
@@ -53,14 +53,14 @@ module _ (g : Weights) (group : ℕ → Bool) where
   -- ---- rows
 
   module _ (limit : ℕ) (has : ℕ → Bool) where
-    -- the same test of variables that are the same as far as they are parts'
+    -- the same test over variables that hold the same parts
     pub row-fault : ((v : ℕ) → group v ≡ true → (1 ≤ v) × (v < 1 + g.parts)) → (t u : Assignment → Bool) (some more : ℕ → Bool) → ((a : Assignment) → t a ≡ u a) → Wider g.parts some more
         → IsRow has limit (FaultCost g group some t) → IsRow has limit (FaultCost g group more u)
     row-fault parts t u some more e wider is = row-cost g limit has some more _ _
         (λ a ag h. (sym (e a) ∙ h.0, moved h.1 (wider.within h.1.var h.1.among) refl))
         (λ a ag h. let p = parts h.1.var h.1.of_group in (e a ∙ h.0, moved h.1 (wider.same h.1.var p.0 p.1 ∙ h.1.among) refl)) wider.same is
 
-    -- a part of the group that is faulty
+    -- a faulty part of the group
     pub row-fault_one : OnlyParts g → (var : ℕ) → agrees_at (g.known var) false ≡ true → group var ≡ true → ((n : ℕ) → n < limit → has n ≡ (n == g.weight var false))
         → IsRow has limit (FaultCost g group (λ v. var == v) (λ a. same_bit false (a var)))
     row-fault_one only_parts var allowed marked one = row-as limit has _ _

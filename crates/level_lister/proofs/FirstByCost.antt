@@ -26,7 +26,7 @@ module _ (graph : Graph) (evidence costs : List ℕ) (top : ℕ) where
   pub listed-has : (from : ℕ) (k : List Bool) → IsListed graph evidence costs from top k → HasCost graph evidence costs (cost costs k)
   listed-has from k l = record { state = k; is = listed-cost from k l }
 
-  -- the first state of the least cost from one on
+  -- the first state of the least cost from `from` on
   pub first-from : (from c : ℕ) (h : List Bool) → from ≤ c → c ≤ top → ((d : ℕ) → from ≤ d → d < c → HasCost graph evidence costs d → ⊥) → IsFirst (OfCost graph evidence costs c) h → IsFirstLevel costs (IsListed graph evidence costs from top) h
   first-from from c h low high none is = record {
     meets = record { long = is.meets.long; model = is.meets.model; low = omega (arith, is.meets.cost_is); high = omega (arith, is.meets.cost_is) };
@@ -45,7 +45,7 @@ module _ (graph : Graph) (evidence costs : List ℕ) (top : ℕ) where
   pub first-same : (point h : List Bool) → cost costs point ≤ top → IsFirst (λ k. OfCost graph evidence costs (cost costs point) k × (is_before point k ≡ true)) h → IsFirstLevel costs (Later point) h
   first-same point h le is = grind (arith, nat_tests, same-before, cheaper-before, is.before, before-cases)
 
-  -- where there is none, the later ones are those that cost more
+  -- if there is none, the later states are those that cost more
   pub later-dearer : (point : List Bool) → NoneAfter (OfCost graph evidence costs (cost costs point)) point 0 → (h : List Bool) → Later point h → IsListed graph evidence costs (cost costs point + 1) top h
   later-dearer point none h l = grind (arith, nat_tests, none, before-cases)
 
@@ -58,6 +58,6 @@ module _ (graph : Graph) (evidence costs : List ℕ) (top : ℕ) where
 first-alike : (costs : List ℕ) (P Q : List Bool → Type 0) (h : List Bool) → ((k : List Bool) → P k → Q k) → ((k : List Bool) → Q k → P k) → IsFirstLevel costs P h → IsFirstLevel costs Q h
 first-alike costs P Q h to from is = record { meets = to h is.meets; before = λ k q. is.before k (from k q) }
 
--- conditions that say the same
+-- conditions that hold of the same states
 pub finds-alike : (old costs : List ℕ) (P Q : List Bool → Type 0) (new : List ℕ) (result : Option ℕ) → ((k : List Bool) → P k → Q k) → ((k : List Bool) → Q k → P k) → Finds old costs P new result → Finds old costs Q new result
 finds-alike old costs P Q new result to from f = grind (arith, nat_tests, first-alike)

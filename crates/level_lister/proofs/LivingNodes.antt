@@ -1,4 +1,4 @@
--- What is left of a graph without the nodes that are skipped.
+-- The graph without the skipped nodes.
 use Rattle.std.proofs.lemmas.Bool.Decides.{nat_tests}
 use Rattle.std.proofs.Common.{◌≡◌, ◌≢◌, ℕ, zero, suc, ◌<◌, Bool, true, false, cond, List, [], ◌∷◌, map, length, get_or, refl, ap, sym, ◌∙◌, subst, arith}
 use Rattle.std.specs.List.{list_all, list_any}
@@ -29,7 +29,7 @@ skipped-at (node ∷ nodes) [] k h ne = absurd (ne refl)
 skipped-at (node ∷ nodes) (skip ∷ skips) zero h ne = ap (λ b. cond b node false_node) (ne_eqb skip 0 ne)
 skipped-at (node ∷ nodes) (skip ∷ skips) (suc k) h ne = skipped-at nodes skips k (omega arith) ne
 
--- a node is true if it was, if its children are
+-- if true children stay true, a true node does
 all_more : (f g : ℕ → Bool) (kids : List ℕ) → ((j : ℕ) → j < length kids → f (get_or kids j 0) ≡ true → g (get_or kids j 0) ≡ true) → list_all (λ b. b) (map f kids) ≡ true → list_all (λ b. b) (map g kids) ≡ true
 all_more f g [] more h = refl
 all_more f g (k ∷ kids) more h = grind (arith, nat_tests, more zero, all_more f g kids (λ j lt. more (suc j) (omega arith)))
@@ -55,7 +55,7 @@ module _ (graph : Graph) (skips : List ℕ) (ok : IsGraph graph) where
   pub graph-is : (at : ℕ) → at < length graph.nodes → (a : Assignment) → is_true graph.nodes at a ≡ truth_by a (node_at graph.nodes at).what (map (λ k. is_true graph.nodes k a) (node_at graph.nodes at).kids)
   graph-is at inside a = value_of-at (truth_by a) graph.nodes at inside (below at inside)
 
-  -- one that is not skipped, by what is left of its children
+  -- a node that is not skipped, by its children in the graph without skipped nodes
   pub living-is : (at : ℕ) → at < length graph.nodes → get_or skips at 0 ≡ 0 → (a : Assignment)
       → is_true (living graph.nodes skips) at a ≡ truth_by a (node_at graph.nodes at).what (map (λ k. is_true (living graph.nodes skips) k a) (node_at graph.nodes at).kids)
   living-is at inside e a =
@@ -63,14 +63,14 @@ module _ (graph : Graph) (skips : List ℕ) (ok : IsGraph graph) where
       value_of-at (truth_by a) (living graph.nodes skips) at (there at inside) (subst (λ (n : Node). are_below at n.kids ≡ true) (sym same) (below at inside))
       ∙ ap (λ (n : Node). truth_by a n.what (map (λ k. is_true (living graph.nodes skips) k a) n.kids)) same
 
-  -- and one that is
+  -- a skipped node
   pub skipped-is : (at : ℕ) → at < length graph.nodes → get_or skips at 0 ≢ 0 → (a : Assignment) → is_true (living graph.nodes skips) at a ≡ false
   skipped-is at inside ne a =
       let same = skipped-at graph.nodes skips at inside ne in
       value_of-at (truth_by a) (living graph.nodes skips) at (there at inside) (subst (λ (n : Node). are_below at n.kids ≡ true) (sym same) refl)
       ∙ ap (λ (n : Node). truth_by a n.what (map (λ k. is_true (living graph.nodes skips) k a) n.kids)) same
 
-  -- what is left is true only if the graph is
+  -- the graph without skipped nodes is true only if the graph is
   sound : (fuel k : ℕ) → k < fuel → k < length graph.nodes → (a : Assignment) → is_true (living graph.nodes skips) k a ≡ true → is_true graph.nodes k a ≡ true
   sound zero k h inside a e = absurd (omega arith)
   sound (suc fuel) k h inside a e = grind (arith, graph-is, living-is, truth_more, child-below, skipped-is, sound fuel)

@@ -1,4 +1,4 @@
--- The bits of one word, moved by those of another.
+-- The bits of a word, moved by those of another.
 use Rattle.std.proofs.Common.{◌≡◌, ℕ, ◌+◌, ◌-◌, ◌*◌, ◌/◌, ◌%◌, ◌^◌, ◌<◌, ◌≤◌, true, false, ap, sym, ◌∙◌, arith, ⊎_elim, bit_or}
 use Rattle.std.specs.Prelude.{◌⊎◌, ◌==◌}
 use Rattle.std.specs.Int.{bit_at}
@@ -19,7 +19,7 @@ cut_bit x b h =
     let whole : (x / 4294967296) * 2 ^ 32 + x % 4294967296 ≡ x = omega arith in
     sym (bit_at_cat_low (x / 4294967296) 32 (x % 4294967296) b h) ∙ ap (λ y. bit_at y b) whole
 
--- a word that is moved
+-- a moved word
 moved_high : (x k b : ℕ) → k ≤ b → b < 32 → bit_at (x * 2 ^ k % 4294967296) b ≡ bit_at x (b - k)
 moved_high x k b le h =
     let none : x * 2 ^ k + 0 ≡ x * 2 ^ k = omega arith in
@@ -40,7 +40,7 @@ module _ (left right step : ℕ) where
   pub spread_skip : (count set : ℕ) → has_bit right count ≡ false → IsSpread left right step count set → IsSpread left right step (count + 1) set
   spread_skip count set none is = grind (arith, wider)
 
-  -- no bit is left from one on
+  -- no bit is left from here on
   pub spread_end : (count times set : ℕ) → times ≤ count → right / 2 ^ times ≡ 0 → IsSpread left right step times set → IsSpread left right step count set
   spread_end count times set le none is = grind (arith, no_high)
 

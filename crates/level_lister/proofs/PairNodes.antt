@@ -40,15 +40,15 @@ module _ (evidence : List ℕ) (parts : ℕ) (groups : Groups) (g v : ℕ) where
 pub on_parts : (evidence : List ℕ) (parts : ℕ) (groups : Groups) (g v : ℕ) → group_in evidence parts groups g v ≡ true → (1 ≤ v) × (v < 1 + parts)
 on_parts evidence parts groups g v e = let is = grouped evidence parts groups g v e in (omega (arith, is.low), omega (arith, is.high))
 
--- what two words tell, of a test and of variables
+-- what two words say of a test and of variables
 abbrev pub Told : List ℕ → List ℕ → ℕ → Groups → Pair → (Assignment → Bool) → (ℕ → Bool) → Type 0
 Told evidence costs top groups pair test some = Tells evidence costs top (group_count top) (group_in evidence (length costs) groups) test some pair
 
--- of more variables, of which no others are parts'
+-- more variables, without further parts
 pub wider_groups : (evidence costs : List ℕ) (top : ℕ) (groups : Groups) (pair : Pair) (t : Assignment → Bool) (some more : ℕ → Bool) → Wider (length costs) some more → Told evidence costs top groups pair t some → Told evidence costs top groups pair t more
 wider_groups evidence costs top groups pair t some more wider is = tells_same evidence costs top (group_count top) (group_in evidence (length costs) groups) t t some more pair (on_parts evidence (length costs) groups) (λ a. refl) wider is
 
--- a node that is skipped
+-- a skipped node
 pub skipped_told : (graph : Graph) (skips evidence costs : List ℕ) (top : ℕ) (groups : Groups) (at : ℕ) → IsGraph graph → at < length graph.nodes → get_or skips at 0 ≢ 0
     → TellsNode graph skips evidence costs top groups at (record { costs = 0; faults = 0 })
 skipped_told graph skips evidence costs top groups at ok inside ne = grind (arith, skipped-is)
@@ -60,7 +60,7 @@ pub mark_is : (evidence : List ℕ) (parts : ℕ) (groups : Groups) (count n g c
     → (count * n + g == count * cost + group) ≡ ((n == cost) && group_in evidence parts groups g (part + 1))
 mark_is evidence parts groups count n g cost part group lt own within low open_ is = grind (arith, nat_tests, cases_order, ne_eqb, eq-eqb, step_below)
 
--- no group at all
+-- no group
 pub none_marked : (evidence : List ℕ) (parts : ℕ) (groups : Groups) (g v : ℕ) (b : Bool) → (IsGrouped evidence parts groups g v → ⊥) → false ≡ (b && group_in evidence parts groups g v)
 none_marked evidence parts groups g v b none = sym (and_right b _ (not_grouped evidence parts groups g v none))
 

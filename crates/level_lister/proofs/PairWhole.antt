@@ -1,4 +1,4 @@
--- What the words of the whole graph tell, for the states that the evidence allows.
+-- What the words of the whole graph say of the states that the evidence allows.
 use Rattle.std.proofs.Common.{◌≡◌, ℕ, ◌+◌, ◌-◌, ◌*◌, ◌<◌, ◌≤◌, true, List, length, sym, ◌∙◌, subst, arith}
 use Rattle.state_rules.specs.Assignments.{Assignment}
 use Rattle.state_rules.specs.Graphs.{Graph, IsGraph, is_true}

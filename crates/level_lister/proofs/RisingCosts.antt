@@ -42,7 +42,7 @@ module _ (costs : List ℕ) where
   of_cost-in : (hs : List (List Bool)) (c : ℕ) (h : List Bool) → In h (of_cost costs hs c) → In h hs × (cost costs h ≡ c)
   of_cost-in hs c h m = let r = In-filter (λ h. cost costs h == c) h hs m in (r.0, eqb-true (cost costs h) c r.1)
 
-  -- those of so many costs, from one on
+  -- the states of `n` costs, from `from` on
   abbrev pub some_levels : List (List Bool) → ℕ → ℕ → List (List Bool)
   some_levels hs from n = flat_map (of_cost costs hs) (range_with_len from n)
 
@@ -116,6 +116,6 @@ module _ (costs : List ℕ) where
       by_list (x ∷ xs) some [] m e = absurd m
       by_list (x ∷ xs) some (y ∷ ys) m e = ap (λ k. Found (cost costs k)) e
 
-    -- where no state is allowed, none is listed
+    -- if no state is allowed, none is listed
     pub none-none : ms ≡ [] → (h : List Bool) → Next h → ⊥
     none-none e h n = grind (arith, nat_tests, model-in)

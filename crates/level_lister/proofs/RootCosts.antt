@@ -1,4 +1,4 @@
--- The set of the whole graph has just the costs of the states that the evidence allows.
+-- The set of the whole graph has exactly the costs of the states that the evidence allows.
 use Rattle.std.proofs.Common.{◌≡◌, ℕ, suc, ◌+◌, ◌-◌, ◌*◌, ◌<◌, ◌≤◌, Bool, true, cond, List, length, sym, ◌∙◌, arith}
 use Rattle.state_rules.specs.Assignments.{Assignment}
 use Rattle.state_rules.specs.Bits.{bit_in}
@@ -16,7 +16,7 @@ use Rattle.level_lister.specs.inner.Searching.{HasCost}
 use Rattle.level_lister.specs.inner.Skips.{IsEnough}
 use Rattle.level_lister.proofs.LivingNodes.{living-true}
 
--- what a state costs is what the faulty ones of all parts cost
+-- the cost of a state is that of its faulty parts
 pub cost_among-all : (evidence : List ℕ) (a : Assignment) (costs : List ℕ) (h : List Bool) → length h ≡ length costs → ((i : ℕ) → i < length costs → bit_in h i ≡ a (1 + i)) → cost costs h ≡ cost_among (fault_weights evidence costs) (λ v. true) a
 cost_among-all evidence a costs h l e = cost-total (λ v. cond (a v) 0 (part_cost costs v)) 1 costs h l (λ i lt. (λ j. cond (sym (e i lt) j) 0 (part_cost costs (one_more i j)))) where
   one_more : (i : ℕ) → 1 + i ≡ suc i

@@ -1,4 +1,4 @@
--- Lemmas by which the check finds the rest of what functions require and ensure.
+-- Lemmas with which the check proves the rest of the contracts.
 use Rattle.diagnosis_lister.proofs.Faults.{faults-all}
 use Rattle.diagnosis_lister.proofs.OpenMarks.{length-bits, written-bits, written-small}
 use Rattle.level_lister.proofs.FaultNodes.{first_is, never_faults, skipped_faults}
@@ -20,10 +20,10 @@ use Rattle.std.proofs.lemmas.List.Elements.{All-set}
 -- the words of a node's children are within those of all nodes
 pub ruleset child_places = (block-below, child-below, empty_is, never_faults)
 
--- the same of pairs, and the pair of no child
+-- the same for pairs, and the pair of no child
 pub ruleset child_pairs = (block-below, child-below, false≢true, tells_none)
 
--- literals, and nodes that are skipped
+-- literals and skipped nodes
 pub ruleset literals = (literal-fits, skipped_faults)
 
 -- parts of the first group
@@ -35,13 +35,13 @@ pub ruleset spreads = (spread_end, spread_more, spread_none, spread_skip)
 -- sums of two sets
 pub ruleset sums = (sums_end, sums_flip)
 
--- sets that are moved
+-- moved sets
 pub ruleset moves = (moved_more, moved_none)
 
--- sets to which another is added
+-- additions of a set to another
 pub ruleset additions = (added_all, added_none)
 
--- two words that are read as one
+-- two words read as one
 pub ruleset joined_words = (joined_above, joined_below)
 
 -- what the words say of a group
@@ -50,10 +50,10 @@ pub ruleset group_faults = (group_sound, step_below)
 -- what the sets say of the first group
 pub ruleset first_faults = (false≢true, first_sound, first_whole)
 
--- evidence in which a word is put, and what is left of its states
+-- evidence in which a word is set, and the states that it leaves
 pub ruleset fixed_words = (All-set, enough_more, faults-all, length-bits)
 
--- a state that is read from evidence
+-- a state read from evidence
 pub ruleset states_read = (written-bits, written-small)
 
 -- no state is left

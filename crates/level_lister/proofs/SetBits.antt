@@ -1,4 +1,4 @@
--- Bits of words, and words whose numbers are greater.
+-- Bits of words, and words whose numbers are increased.
 use Rattle.std.proofs.Common.{◌≡◌, ℕ, ◌+◌, ◌-◌, ◌*◌, ◌/◌, ◌%◌, ◌^◌, ◌<◌, ◌≤◌, false, ◌&&◌, List, length, get_or, set, ap, sym, ◌∙◌, subst, arith, ⊎_elim, bit_and, bit_or}
 use Rattle.std.specs.Prelude.{◌==◌}
 use Rattle.std.specs.Int.{bit_at}
@@ -38,7 +38,7 @@ pub joined_above : (high low more b : ℕ) → high < 2 ^ 32 → low < 2 ^ 32 �
 joined_above high low more b h l m le lt =
     joined high low more b h l lt ∙ bit_at_cat_high high 32 low (32 - more + b) l (omega arith) ∙ ap (bit_at high) (omega arith)
 
--- no bit is left from one on
+-- no bit is left from here on
 pub no_high : (x s b : ℕ) → x / 2 ^ s ≡ 0 → s ≤ b → (bit_at x b == 1) ≡ false
 no_high x s b none le = ap (λ y. y == 1) (bit_at_above x s b small le) where
   small : x < 2 ^ s
@@ -65,7 +65,7 @@ shifted_is xs i more at low word place is below above n e = ⊎_elim
 
 -- ---- words from the last one back
 
--- the words from one on have got their new numbers, and those before it are as they were
+-- the words from `i` on have their new numbers, and those before are as they were
 pub record AreMoved (old : List ℕ) (more i : ℕ) (new : List ℕ) : Type 0 where
   pub before : (k : ℕ) → k < i → get_or new k 0 ≡ get_or old k 0
   pub moved : (n : ℕ) → i ≤ n / 32 → n < 32 * length new → has_number new n ≡ has_shifted old more n

@@ -1,4 +1,4 @@
--- The nodes that are skipped are in no derivation that costs little.
+-- Skipped nodes are in no derivation of a listed cost.
 use Rattle.std.proofs.Common.{◌≡◌, ◌≢◌, ℕ, zero, suc, ◌+◌, ◌-◌, ◌<◌, ◌≤◌, true, cond, List, length, get_or, refl, arith, ⊎_elim}
 use Rattle.std.proofs.lemmas.Bool.{cases_lt, le-ltb}
 use Rattle.state_rules.specs.Assignments.{Assignment}
@@ -25,7 +25,7 @@ skipped-dear top least outside ne = ⊎_elim (λ (p : top < outside + least). p)
 module _ (graph : Graph) (evidence costs : List ℕ) (ok : IsGraph graph) (least outside skips : List ℕ) (top : ℕ) (are_least : AreLeastCosts graph evidence costs least) (are : AreOutsideCosts graph.nodes least outside 0)
     (marks : (k : ℕ) → k < length graph.nodes → get_or skips k 0 ≡ skip_of top (get_or least k 0) (get_or outside k 0)) where
   module _ (a : Assignment) (agrees : Agrees (fault_weights evidence costs) a) where
-    -- what the open faulty parts below a node cost, with what is outside
+    -- the cost of the open faulty parts below a node, with that outside
     abbrev through : ℕ → ℕ
     through k = get_or outside k 0 + faults_in (known_at evidence) (part_cost costs) (length costs) (λ v. mentions graph.nodes v k) a
 
@@ -33,7 +33,7 @@ module _ (graph : Graph) (evidence costs : List ℕ) (ok : IsGraph graph) (least
         → is_true graph.nodes (get_or (node_at graph.nodes k).kids j 0) a ≡ true → through (get_or (node_at graph.nodes k).kids j 0) ≤ through k
     child-through k inside e j lt t = child-fits graph evidence costs ok least outside are_least are a agrees k (get_or (node_at graph.nodes k).kids j 0) inside (child-in _ _ (In-at (node_at graph.nodes k).kids j 0 lt)) e t
 
-    -- a node is left through which the derivation costs no more
+    -- a node stays true if the derivation through it costs at most `top`
     lives : (fuel k : ℕ) → k < fuel → k < length graph.nodes → is_true graph.nodes k a ≡ true → through k ≤ top → is_true (living graph.nodes skips) k a ≡ true
     lives zero k h inside e le = absurd (omega arith)
     lives (suc fuel) k h inside e le = grind (arith, living-is, truth_more, child-below, child-through, graph-is, lives fuel, marks, skipped-dear, has_least graph evidence costs least are_least ok a agrees k inside e)

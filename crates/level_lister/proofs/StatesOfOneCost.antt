@@ -1,4 +1,4 @@
--- The states of one cost, as the evidence says more.
+-- The states of one cost, as evidence is added.
 use Rattle.std.proofs.Common.{ℕ, ◌≤◌, Bool, List, length, arith}
 use Rattle.state_rules.specs.Graphs.{Graph}
 use Rattle.minimiser.specs.LeastStates.{ModelWithin}

@@ -10,7 +10,7 @@ use Rattle.level_lister.specs.inner.CostSets.{has_shifted, AreSums}
 use Rattle.part_sets.proofs.SetBits.{has-within}
 use Rattle.level_lister.proofs.SetBits.{no_high}
 
--- no sum is added where the right set has not the cost
+-- no sum is added if the right set lacks the cost
 pub sums_skip : (left right set : List ℕ) (cost : ℕ) → AreSums left right cost set → has_number right cost ≡ false → AreSums left right (cost + 1) set
 sums_skip left right set cost are e = record {
   sound = are.sound;
@@ -34,7 +34,7 @@ sums_add left right old new cost long are e added = record {
       let parts = and_parts (nat_le cost n) (has_number left (n - cost)) p in
       record { left = n - cost; right = cost; on_left = parts.1; on_right = e; sum_is = omega (arith, leb-true cost n parts.0) }
 
--- no sum is added where the word has no bit from one on
+-- no sum is added if the word has no bit from `bit` on
 pub sums_end : (left right set : List ℕ) (i bit : ℕ) → bit < 32 → get_or right i 0 / 2 ^ bit ≡ 0 → AreSums left right (32 * i + bit) set → AreSums left right (32 * (i + 1)) set
 sums_end left right set i bit few e are = record {
   sound = are.sound;
@@ -49,7 +49,7 @@ sums_end left right set i bit few e are = record {
       let high : bit ≤ k % 32 = omega arith in
       ap (λ m. bit_at (get_or right m 0) (k % 32) == 1) place ∙ no_high (get_or right i 0) bit (k % 32) e high
 
--- they are the same, whichever set is moved by the other
+-- the sums are the same, whichever set is moved by the other
 pub sums_flip : (left right set : List ℕ) (from to : ℕ) → 32 * length left ≤ from → AreSums right left from set → AreSums left right to set
 sums_flip left right set from to all are = record {
   sound = λ n e. sum-flip _ _ n (are.sound n e);

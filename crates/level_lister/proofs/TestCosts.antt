@@ -1,4 +1,4 @@
--- When a set is that of the costs of a test: one that is never true, one that always is, a literal, the same test, one of more variables.
+-- The set of costs of a test: never true, always true, a literal, the same test, or one of more variables.
 use Rattle.std.proofs.lemmas.Bool.Decides.{nat_tests}
 use Rattle.std.proofs.Common.{◌≡◌, ℕ, zero, suc, ◌-◌, ◌*◌, ◌<◌, ◌≤◌, Bool, true, false, cond, List, length, get_or, Option, refl, ap, sym, ◌∙◌, arith}
 use Rattle.std.specs.Prelude.{◌==◌}
@@ -18,7 +18,7 @@ use Rattle.part_sets.specs.Numbers.{has_number}
 use Rattle.level_lister.specs.inner.CostSets.{fault_weights, IsCostSet}
 use Rattle.level_lister.proofs.PartVariables.{Wider}
 
--- a literal that its word does not rule out, and one that it does
+-- a literal that its word allows, or does not
 pub allowed_by : (k : Option Bool) (positive : Bool) → (leaf_of positive k ≡ False → ⊥) → agrees_at k positive ≡ true
 allowed_by k positive h = grind (arith, nat_tests)
 
@@ -46,7 +46,7 @@ module _ (evidence costs : List ℕ) where
     local = λ a b h. refl;
   }
 
-  -- more variables, of which no others are parts'
+  -- more variables, without further parts
   pub wider_is : (t : Assignment → Bool) (some more : ℕ → Bool) (set : List ℕ) → Wider (length costs) some more → IsCostSet evidence costs t some set → IsCostSet evidence costs t more set
   wider_is t some more set wider is = record {
     row = row-cost g _ (has_number set) some more _ _ (λ a ag h. h) (λ a ag h. h) wider.same is.row;
@@ -61,7 +61,7 @@ module _ (evidence costs : List ℕ) where
     local = λ a b h. ap (same_bit positive) (h var (eq-eqb var var refl));
   }
 
-  -- and one that it allows
+  -- a literal that its word allows
   pub literal_is : (var : ℕ) (positive : Bool) (set : List ℕ) → (leaf_of positive (known_at evidence var) ≡ False → ⊥) → ((n : ℕ) → n < 32 * length set → has_number set n ≡ (n == cond positive 0 (part_cost costs var)))
       → IsCostSet evidence costs (λ a. same_bit positive (a var)) (λ v. var == v) set
   literal_is var positive set allowed one = record {

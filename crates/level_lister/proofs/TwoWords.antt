@@ -1,4 +1,4 @@
--- What two words tell, from what they say of children.
+-- What two words say of a node, from what they say of its children.
 use Rattle.std.proofs.Common.{◌≡◌, ℕ, ◌+◌, ◌-◌, ◌*◌, ◌<◌, ◌≤◌, Bool, true, false, not, ◌&&◌, ◌||◌, List, length, get_or, refl, ap, sym, ◌∙◌, subst, arith, inl, inr, ⊎_elim, bit_or}
 use Rattle.std.specs.Prelude.{◌⊎◌, ◌==◌}
 use Rattle.std.proofs.Math.Bool.{and-true}
@@ -22,7 +22,7 @@ use Rattle.level_lister.proofs.Faults.{FaultCost, cost-any_fault, any_fault-cost
 
 -- ---- one word
 
--- how a number and so many steps come to so much
+-- how a number and some steps add up
 record Split (step n g first times : ℕ) : Type 0 where
   pub rest : ℕ
   pub rest_is : rest + times ≡ n
@@ -40,7 +40,7 @@ split step n g first times lt e = ⊎_elim
     grind arith
     (cases_lt n times)
 
--- a word is spread by so many steps: the row of the sums
+-- a spread word: the row of the sums
 spread-row : (left right step top first word : ℕ) → first < step → step * (top + 1) ≤ 32 → IsSpread left right step (top + 1) word
     → IsRow (λ n. has_bit word (step * n + first)) (top + 1) (SumOf (λ n. has_bit left (step * n + first) ≡ true) (λ n. has_bit right (1 * n + 0) ≡ true))
 spread-row left right step top first word lt room spread = record {
@@ -68,7 +68,7 @@ module _ (evidence costs : List ℕ) (top step : ℕ) (group : ℕ → ℕ → B
   zero_row : (C : ℕ → Type 0) (by first : ℕ) → ((n : ℕ) → C n → ⊥) → IsRow (λ n. has_bit 0 (by * n + first)) (top + 1) C
   zero_row C by first never = row-none (top + 1) _ C (λ n lt. has_bit-zero (by * n + first)) never
 
-  -- the same test of variables that are the same as far as they are parts'
+  -- the same test over variables that hold the same parts
   pub tells_same : (t u : Assignment → Bool) (some more : ℕ → Bool) (pair : Pair) → ((e v : ℕ) → group e v ≡ true → (1 ≤ v) × (v < 1 + length costs)) → ((a : Assignment) → t a ≡ u a) → Wider (length costs) some more
       → Tells evidence costs top step group t some pair → Tells evidence costs top step group u more pair
   tells_same t u some more pair parts e wider is = record {
@@ -77,7 +77,7 @@ module _ (evidence costs : List ℕ) (top step : ℕ) (group : ℕ → ℕ → B
     local = λ a b h. sym (e a) ∙ is.local a b (λ v p. h v (wider.within v p)) ∙ e b;
   }
 
-  -- tests that say the same where assignments agree with the evidence
+  -- tests that are the same for assignments that agree with the evidence
   pub tells_known : (t u : Assignment → Bool) (some : ℕ → Bool) (pair : Pair) → ((a : Assignment) → Agrees (fault_weights evidence costs) a → t a ≡ u a) → Depends some u → Tells evidence costs top step group t some pair → Tells evidence costs top step group u some pair
   tells_known t u some pair e local is = record {
     cost_bits = row-cost g (top + 1) _ some some _ _ (λ a f h. sym (e a f) ∙ h) (λ a f h. e a f ∙ h) (λ v l h. refl) is.cost_bits;
@@ -111,16 +111,16 @@ module _ (evidence costs : List ℕ) (top step : ℕ) (group : ℕ → ℕ → B
     at_least : (step : ℕ) → 0 < step → (n : ℕ) → 1 * n ≤ step * n
     at_least step h n = grind arith
 
-  -- ---- what stands alone
+  -- ---- single cases
 
-  -- a test that no assignment meets
+  -- a test that is never true
   pub tells_none : (t : Assignment → Bool) (some : ℕ → Bool) → ((a : Assignment) → Agrees (fault_weights evidence costs) a → t a ≡ true → ⊥) → Depends some t → Tells evidence costs top step group t some (record { costs = 0; faults = 0 })
   tells_none t some none local = record { cost_bits = zero_row _ 1 0 (λ n c. none c.by c.agrees c.meets); fault_bits = λ i lt. zero_row _ step i (λ n c. none c.by c.agrees c.meets.0); local = local }
 
   one_at : (n : ℕ) → has_bit 1 (1 * n + 0) ≡ (n == 0)
   one_at n = let place : 1 * n + 0 ≡ n = omega arith in one_bit 32 0 (1 * n + 0) (omega arith) ∙ ap (λ k. k == 0) place
 
-  -- no variable at all
+  -- no variable
   pub tells_true : Tells evidence costs top step group (λ a. true) (λ v. false) (record { costs = 1; faults = 0 })
   tells_true = grind (arith, cost-none, cost_among-none, one_at)
 

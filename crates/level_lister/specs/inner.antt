@@ -1,4 +1,4 @@
--- What only private contracts cite.
+-- Definitions that only private contracts cite.
 pub mod CostSets
 pub mod NodeSets
 pub mod Searching

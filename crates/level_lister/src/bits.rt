@@ -4,8 +4,8 @@ ghost use Rattle.level_lister.specs.Bits.{level_bits};
 use crate::levels::TOP_LIMIT;
 use part_sets::PART_LIMIT;
 
-/// How many bits the sets of a graph take at most that is compiled from clauses of this sum over so many variables: for each node the
-/// parts below it, and its costs up to a greatest one.
+/// Returns the most bits that the sets of a graph take if it is compiled from clauses of this sum over `vars` variables: for each node the
+/// parts below it, and its costs up to `top`.
 pub fn level_bits(sum: u64, vars: u32, parts: u32, top: u32) -> u64
     requires sum { sum ≤ 2 ^ 24 }
     requires vars { vars < 2 ^ 20 }

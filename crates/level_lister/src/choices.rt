@@ -9,8 +9,8 @@ use crate::sets::{add_shifted, shift};
 use conditioner::known_of;
 use part_sets::{PART_LIMIT, next_missing};
 
-// Lets each part be free that is below a node and not below a child of it: the set of the child's costs becomes one of the costs of all
-// parts below the node.
+// Makes each part free that is below a node and not below its child: turns the set of the child's costs into that of the costs of all parts
+// below the node.
 pub(crate) fn widen(
     outer: &[u32],
     inner: &[u32],
@@ -37,7 +37,7 @@ pub(crate) fn widen(
     }
 }
 
-// Adds to a set the costs with one part more: with its cost if it can be faulty, and without it where it can be ok.
+// Adds a part to a set of costs: with the part's cost if it can be faulty, and without it if it can be ok.
 pub(crate) fn add_part(word: u32, cost: u32, set: &mut [u32], spare: &mut [u32])
     requires word { word < 3 }
     requires spare { length spare.old ≡ length set.old }

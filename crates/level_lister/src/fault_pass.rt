@@ -1,4 +1,4 @@
-//! One pass over the nodes, which brings for each the set of the costs at which an open part of a group is faulty.
+//! One pass over the nodes that computes for each the set of costs at which an open part of a group is faulty.
 ghost use Rattle.std.specs.Prelude.{◌≡◌, ℕ, ◌+◌, ◌*◌, ◌<◌, ◌≤◌, Bool, true, false, ◌&&◌, ◌||◌, List, length, All, ◌==◌};
 ghost use Rattle.std.proofs.Props.{props};
 ghost use Rattle.state_rules.specs.Assignments.{Assignment};
@@ -22,7 +22,7 @@ use node_store::Graph;
 use part_sets::{clear, next_missing, part_words, put_one, set_at};
 use state_rules::NodeKind;
 
-// What the sets are put from: a graph, evidence, groups, the sets of the costs of all nodes, and which nodes are skipped.
+// The inputs of the pass: a graph, evidence, groups, the sets of costs of all nodes, and which nodes are skipped.
 #[derive(Drop)]
 pub(crate) struct FaultPass<'a> {
     pub(crate) levels: &'a Levels,
@@ -40,7 +40,7 @@ pub(crate) struct FaultPass<'a> {
 }
 
 impl FaultPass<'_> {
-    // Brings the set of each node, and that of the last node for all parts.
+    // Computes the set of each node, and that of the last node over all parts.
     pub(crate) fn put_all(&self, faults: &mut [u32], whole: &mut [u32], scratch: &mut [u32])
         requires are { AreNodeSets self.now.graph.now self.now.skips.now self.now.evidence.now self.now.levels.now.costs (cost_words self.now.levels.now.top)
             self.now.sets.now (length self.now.graph.now.nodes) }
@@ -78,7 +78,7 @@ impl FaultPass<'_> {
         }
     }
 
-    // The set of a node, from those of the nodes before it. One that is skipped has no cost.
+    // Computes the set of a node from those of the nodes before it. A skipped node has no cost.
     #[tactic(auto, using(crate::proofs::Rules::literals))]
     fn put_node(&self, earlier: &[u32], at: u32, set: &mut [u32], scratch: &mut [u32])
         requires are { AreNodeSets self.now.graph.now self.now.skips.now self.now.evidence.now self.now.levels.now.costs (cost_words self.now.levels.now.top)
@@ -108,7 +108,7 @@ impl FaultPass<'_> {
         }
     }
 
-    // Whether a part is open and of the first group. There may be no such part.
+    // Whether a part is open and in the first group. `part` may be no part's number.
     #[tactic(auto, using(crate::proofs::Rules::marks))]
     fn is_marked(&self, part: usize) -> bool
         ensures marked { result ≡ in_first self.now.evidence.now self.now.levels.now.costs self.now.groups (part + 1) }
@@ -123,7 +123,7 @@ impl FaultPass<'_> {
         part - self.groups.low < self.groups.size
     }
 
-    // The set of a literal: a part that it says to be faulty is open.
+    // Computes the set of a literal: its cost, if it says that an open part of the first group is faulty.
     fn put_literal_faults(&self, var: u32, positive: bool, set: &mut [u32])
         requires var { 1 ≤ var }
         ensures { IsFaultSet self.now.evidence.now self.now.levels.now.costs (in_first self.now.evidence.now self.now.levels.now.costs self.now.groups)
@@ -140,7 +140,7 @@ impl FaultPass<'_> {
         put_one(set, self.levels.costs()[part] as usize);
     }
 
-    // The set of an And: a part of one child is faulty. Its children share no variable.
+    // Computes the set of an And node: a part of one child is faulty. The children share no variable.
     fn put_and_faults(&self, earlier: &[u32], at: u32, set: &mut [u32], scratch: &mut [u32])
         requires are { AreNodeSets self.now.graph.now self.now.skips.now self.now.evidence.now self.now.levels.now.costs (cost_words self.now.levels.now.top)
             self.now.sets.now (length self.now.graph.now.nodes) }
@@ -153,7 +153,7 @@ impl FaultPass<'_> {
         ensures { IsNodeFaults self.now.graph.now self.now.skips.now self.now.evidence.now self.now.levels.now.costs self.now.groups at set.new }
     {
         clear(set);
-        // If no child has a fault the And has none. So it is at many nodes, since groups soon have few parts.
+        // If no child has a fault, the And node has none. This holds at many nodes, since groups soon have few parts.
         if !self.has_faulty_child(earlier, at) {
             return;
         }
@@ -186,7 +186,7 @@ impl FaultPass<'_> {
         false
     }
 
-    // The set of an Or: parts that a child does not mention are free where it is true.
+    // Computes the set of an Or node: parts that a child does not mention are free where it is true.
     #[tactic(auto, using(crate::proofs::Rules::child_places))]
     fn put_or_faults(&self, earlier: &[u32], at: u32, set: &mut [u32], scratch: &mut [u32])
         requires are { AreNodeSets self.now.graph.now self.now.skips.now self.now.evidence.now self.now.levels.now.costs (cost_words self.now.levels.now.top)
@@ -211,8 +211,7 @@ impl FaultPass<'_> {
         }
     }
 
-    // Lets each part be free that is below the one node and not below the other, in the set of all costs and in that of those with a
-    // fault.
+    // Makes each part free that is below `outer` and not below `inner`, in the set of all costs and in that of those with a fault.
     fn widen_both(
         &self,
         inner: usize,
@@ -245,7 +244,7 @@ impl FaultPass<'_> {
         }
     }
 
-    // Adds to both sets the costs with one part more.
+    // Adds one part to both sets.
     fn add_free(&self, part: usize, all: &mut [u32], faults: &mut [u32], spare: &mut [u32])
         requires part { part < length self.now.levels.now.costs }
         requires faults { length faults.old ≡ length all.old }
@@ -258,7 +257,7 @@ impl FaultPass<'_> {
     {
         let word = self.evidence[part];
         let cost = self.levels.costs()[part];
-        // The faults come first: they go by the costs without the part.
+        // The faults come first: they depend on the costs without the part.
         add_part(word, cost, faults, spare);
         if self.is_marked(part) {
             add_shifted(faults, all, cost as usize);
@@ -267,7 +266,7 @@ impl FaultPass<'_> {
     }
 }
 
-// Joins to both sets those of a test that shares no variable: a part of the one or of the other is faulty.
+// Joins both sets with those of a test that shares no variable: a part of one or the other is faulty.
 fn put_both_sums(
     set: &mut [u32],
     other: &mut [u32],
@@ -288,7 +287,7 @@ fn put_both_sums(
         → AreBothSets evidence costs group more_test more own.now faults.now
         → AreBothSets evidence costs group (λ a. test a && more_test a) (λ v. some v || more v) all.new set.new }
 {
-    // The costs come last: both sums of the faults go by what they were.
+    // The costs come last: both sums of the faults use the old ones.
     spare.copy_from_slice(set);
     put_sums(set, spare, own);
     put_sums(other, all, faults);

@@ -1,7 +1,7 @@
 //! Groups of parts.
 ghost use Rattle.std.specs.Prelude.{◌<◌};
 
-/// The open parts from one on, in groups of so many.
+/// The open parts from `low` on: `size` parts in a row are a group.
 #[derive(Clone, Copy, Debug)]
 pub(crate) struct Groups {
     pub(crate) low: usize,

@@ -19,21 +19,21 @@ use std::sync::ledger::{Blank, Ledger};
 /// The greatest cost up to which the program lists states.
 pub const TOP_LIMIT: u32 = 4_096_000;
 
-/// What is kept of a graph, and its costs, has at most so many bits.
+/// The most bits that the parts below all nodes of a graph and their costs may take.
 pub const BITS_LIMIT: u64 = 2_147_483_648;
 
-/// What comes next.
+/// What [`Levels::next`] finds.
 #[derive(Clone, Copy, Debug, PartialEq, Eq)]
 pub enum LevelStep {
-    /// There is a next state, of this cost.
+    /// The next state has this cost.
     Found(u32),
-    /// There are states, and none is later of those that are listed.
+    /// There are states, but no listed one is later.
     End,
-    /// The evidence agrees with no state.
+    /// No state agrees with the evidence.
     Inconsistent,
 }
 
-/// What is listed of a graph: its states by rising cost, up to a greatest one.
+/// A lister of the states of a graph by rising cost, up to a greatest one.
 #[derive(Drop)]
 pub struct Levels {
     costs: Vec<u32>,
@@ -50,7 +50,7 @@ impl Model for Levels {
 }
 
 impl Levels {
-    /// What is listed of a graph whose first variables are parts of these costs: its states that cost no more than a greatest cost.
+    /// Makes the lister of the states that cost at most `top`, of a graph whose first variables are parts of these costs.
     pub fn new(alloc: Global, graph: &Graph, costs: &[u32], top: u32) -> Result<Levels, Memory>
         requires parts { length costs.now ≤ graph.now.vars }
         requires few { length costs.now ≤ PART_LIMIT }
@@ -68,7 +68,7 @@ impl Levels {
         })
     }
 
-    // How many words a set has.
+    // Returns the number of words of a set.
     pub(crate) fn size(&self) -> usize
         ensures { result ≡ cost_words self.now.top }
     {
@@ -81,7 +81,7 @@ impl Levels {
         self.top
     }
 
-    // In how many groups of parts a pass says the first fault.
+    // Returns the number of groups of parts that one pass tells apart.
     pub(crate) fn groups_per_pass(&self) -> u32
         requires { self.now.top < 2 ^ 31 }
         ensures count { result ≡ groups_per_pass self.now.top }
@@ -109,7 +109,7 @@ impl Levels {
         self.sets.lacking()
     }
 
-    /// The sets of parts that are kept of the graph.
+    /// Returns the sets of parts that are kept of the graph.
     pub fn sets(&self) -> &PartSets
         ensures below { result.now.below ≡ self.now.below }
         ensures lacking { result.now.lacking ≡ self.now.lacking }
@@ -117,7 +117,7 @@ impl Levels {
         &self.sets
     }
 
-    /// With how many words a step is fastest.
+    /// Returns the number of words with which a step is fastest.
     pub fn room(&self, graph: &Graph) -> usize
         requires graph { IsFor graph.now self.now }
         ensures { result ≡ fast_words graph.now self.now }
@@ -126,11 +126,11 @@ impl Levels {
         self.costs.len() + nodes + (nodes + 2) * (2 * self.size())
     }
 
-    /// The next of the states that agree with the evidence, by cost and then in their order: the first one of all, or the first one
-    /// after the state, if `pointed` says that it is a point. A point need not be listed. It is worked out in the region, of which no
-    /// run is out. With fewer words than `room` says, it is slower.
+    /// Finds the next state that agrees with the evidence, by cost and then by order: the first of all, or the first after `state` if
+    /// `pointed`. Such a point need not be listed. It works in the region, of which no run is out. With fewer words than `room` says, it is
+    /// slower.
     ///
-    /// The evidence is the same afterwards. If nothing is found the state stays.
+    /// The evidence is the same afterwards. If nothing is found, the state stays.
     pub fn next(
         &self,
         graph: &Graph,
@@ -169,7 +169,7 @@ impl Levels {
         step
     }
 
-    // The same, in scratch.
+    // Does the same in scratch.
     fn next_alone<L: Ledger>(
         &self,
         blank: Blank,
@@ -205,9 +205,9 @@ impl Levels {
         )
     }
 
-    /// What [`next`](Levels::next) answers, worked out in words that are lent for it, whatever they hold. The passes over the graph
-    /// are counted, and the one sweep from the root down is not. As it is written, the passes skip each node through which every
-    /// derivation of the graph costs more in open parts than what is listed.
+    /// Finds what [`next`](Levels::next) finds, in words that are lent for it, whatever they hold. `steps` counts the passes over the
+    /// graph, but not the one sweep from the root down. The code skips each node through which every derivation of the graph costs more in
+    /// open parts than the greatest listed cost.
     #[tactic(auto, using(crate::proofs::Rules::ends))]
     pub fn next_in<L: Ledger>(
         &self,
@@ -232,7 +232,7 @@ impl Levels {
         ensures state { All (λ s. s < 2) state.new }
         ensures evidence { evidence.new ≡ evidence.old }
 
-        // How many passes are made at most, if there is room for the fast way.
+        // The most passes, if there is room for the fast way.
         ensures steps { fast_words graph.now self.now ≤ length scratch.old
             → (search : ℕ) → AreEnough (length self.now.costs) self.now.top search → steps.new ≤ steps.old
             + most_passes search (point_if pointed (bits_of state.old)) (bits_of state.new) }

@@ -1,4 +1,4 @@
-//! The health states that a graph allows under evidence, by rising cost, one after the other.
+//! Lists the health states that a graph allows under evidence, one by one, by rising cost.
 #![tactic(auto)]
 
 mod bits;

@@ -1,4 +1,4 @@
-//! One pass over the nodes, which brings two words for each, if only costs below 32 are listed.
+//! One pass over the nodes that computes two words for each, if only costs below 32 are listed.
 ghost use Rattle.std.specs.Prelude.{◌≡◌, ℕ, ◌+◌, ◌*◌, ◌<◌, ◌≤◌, Bool, true, false, ◌&&◌, List, length, All, ◌==◌};
 ghost use Rattle.std.proofs.Props.{props};
 ghost use Rattle.state_rules.specs.Assignments.{Assignment};
@@ -23,19 +23,18 @@ use node_store::Graph;
 use part_sets::{next_missing, part_words, set_at};
 use state_rules::NodeKind;
 
-// What costs nothing, and has no faulty part.
+// The pair of what costs nothing and has no faulty part.
 const FREE: Pair = Pair {
     costs: 1,
     faults: 0,
 };
 
-// What cannot be.
+// The pair of what is never true.
 const NEVER: Pair = Pair {
     costs: 0,
     faults: 0,
 };
 
-// The two words of a node.
 fn pair_at(values: &[u32], k: usize) -> Pair
     requires { 2 * k + 1 < length values.now }
     ensures { result ≡ pair_at values.now k }
@@ -46,7 +45,7 @@ fn pair_at(values: &[u32], k: usize) -> Pair
     }
 }
 
-// What a pass puts the words of the nodes from: a graph, evidence, groups, and which nodes are skipped.
+// The inputs of a pass: a graph, evidence, groups, and which nodes are skipped.
 #[derive(Drop)]
 struct PairPass<'a> {
     levels: &'a Levels,
@@ -63,7 +62,7 @@ struct PairPass<'a> {
 }
 
 impl Levels {
-    // How many groups a word keeps apart at each cost.
+    // Returns the number of groups that a word tells apart at each cost.
     pub(crate) fn group_count(&self) -> u32
         requires { self.now.top < 32 }
         ensures count { result ≡ group_count self.now.top }
@@ -75,7 +74,7 @@ impl Levels {
 }
 
 impl Asked<'_> {
-    // Puts the two words of each node, and gives those of all parts.
+    // Computes the two words of each node, and returns those of the last node over all parts.
     pub(crate) fn put_pairs(&self, groups: Groups, values: &mut [u32]) -> Pair
         requires top { self.now.levels.now.top < 32 }
         requires room { 2 * length self.now.graph.now.nodes ≤ length values.old }
@@ -108,7 +107,7 @@ impl PairPass<'_> {
         }
     }
 
-    // What is said if a part is faulty. There may be no such part: then it is another variable that is false.
+    // Returns the words of a variable that is false: of a faulty part, or of no part.
     fn fault_pair(&self, part: usize) -> Pair
         requires part { part < length self.now.evidence.now }
         requires allowed { agrees_at (known_at self.now.evidence.now (part + 1)) false ≡ true }
@@ -125,7 +124,7 @@ impl PairPass<'_> {
         }
     }
 
-    // The bit of a part's group at its cost, if it is open and in a group.
+    // Returns the bit of a part's group at its cost, or 0 if it is fixed or in no group, or costs too much.
     fn mark(&self, part: usize, cost: u32) -> u32
         requires part { part < length self.now.levels.now.costs }
         ensures { (n g : ℕ) → n ≤ self.now.levels.now.top → g < group_count self.now.levels.now.top → has_bit result (group_count self.now.levels.now.top * n + g)
@@ -142,7 +141,7 @@ impl PairPass<'_> {
         one(count * cost + group as u32)
     }
 
-    // What is said of a part about which nothing is asked.
+    // Returns the words of a part that is as free as the evidence leaves it.
     fn free_pair(&self, part: usize) -> Pair
         requires part { part < length self.now.levels.now.costs }
         ensures { Tells self.now.evidence.now self.now.levels.now.costs self.now.levels.now.top (group_count self.now.levels.now.top) (group_in self.now.evidence.now (length self.now.levels.now.costs) self.now.groups)
@@ -155,7 +154,7 @@ impl PairPass<'_> {
         }
     }
 
-    // Lets each part be free that is below the one node and not below the other.
+    // Makes each part free that is below `outer` and not below `inner`.
     fn widened(&self, pair: Pair, inner: usize, outer: usize) -> Pair
         requires inner { inner * part_words (length self.now.levels.now.costs) + part_words (length self.now.levels.now.costs) ≤ length self.now.levels.now.below }
         requires outer { outer * part_words (length self.now.levels.now.costs) + part_words (length self.now.levels.now.costs) ≤ length self.now.levels.now.below }
@@ -179,7 +178,7 @@ impl PairPass<'_> {
         pair
     }
 
-    // Puts the two words of each node, and gives those of all parts.
+    // Computes the two words of each node, and returns those of the last node over all parts.
     #[tactic(auto, using(crate::proofs::Rules::child_pairs))]
     fn put_all(&self, values: &mut [u32]) -> Pair
         requires room { 2 * length self.now.graph.now.nodes ≤ length values.old }
@@ -198,7 +197,7 @@ impl PairPass<'_> {
         self.widened(pair, root, root + 1)
     }
 
-    // The two words of a node, from those of the nodes before it. One that is skipped is never true.
+    // Computes the two words of a node from those of the nodes before it. A skipped node is never true.
     #[tactic(auto, using(crate::proofs::Rules::literals))]
     fn node_pair(&self, values: &[u32], at: u32) -> Pair
         requires at { at < length self.now.graph.now.nodes }
@@ -232,7 +231,7 @@ impl PairPass<'_> {
     {
         let mut pair = FREE;
         for child in self.graph.kids(at) {
-            // The second one is to have few costs: what was joined so far is of literals, mostly.
+            // The second pair should have few costs: what is joined so far is mostly literals.
             pair = joined(
                 pair_at(values, *child as usize),
                 pair,
@@ -243,7 +242,7 @@ impl PairPass<'_> {
         pair
     }
 
-    // The words of an Or whose children lack no part.
+    // Computes the words of an Or node whose children lack no part.
     #[tactic(auto, using(crate::proofs::Rules::child_pairs))]
     fn full_pair(&self, values: &[u32], at: u32) -> Pair
         requires node { LivesAs self.now.graph.now self.now.skips.now at Or }
@@ -260,7 +259,7 @@ impl PairPass<'_> {
         pair
     }
 
-    // The words of an Or: parts that a child does not mention are free where it is true.
+    // Computes the words of an Or node: parts that a child does not mention are free where it is true.
     #[tactic(auto, using(crate::proofs::Rules::child_pairs))]
     fn or_pair(&self, values: &[u32], at: u32) -> Pair
         requires node { LivesAs self.now.graph.now self.now.skips.now at Or }

@@ -1,4 +1,4 @@
-//! Two words for a node, if few costs are listed: which costs it can have, and at which of them a part of a group is faulty.
+//! Two words for a node, if few costs are listed: the costs that it can have, and those at which a part of a group is faulty.
 ghost use Rattle.std.specs.Prelude.{◌≡◌, ℕ, ◌+◌, ◌*◌, ◌<◌, ◌≤◌, Bool, false, ◌&&◌, ◌||◌, List, ◌==◌};
 ghost use Rattle.state_rules.specs.Assignments.{Assignment};
 ghost use Rattle.state_rules.specs.Bits.{has_bit};
@@ -7,21 +7,20 @@ ghost use Rattle.level_lister.specs.inner.Pairs.{IsSpread, Tells};
 /// How many numbers a word holds.
 const BITS: u32 = 32;
 
-/// What is known of a node: the first word has its costs, and the second one at which of them a part of each group is faulty.
+/// What is known of a node: its costs, and for each group those at which a part of it is faulty.
 #[derive(Clone, Copy, Debug)]
 pub(crate) struct Pair {
     pub(crate) costs: u32,
     pub(crate) faults: u32,
 }
 
-// The word of one number, if it has room for it.
+// Returns the word of one number, or 0 if a word has no room for it.
 pub(crate) fn one(number: u32) -> u32
     ensures { (n : ℕ) → n < 32 → has_bit result n ≡ (n == number) }
 {
     if number < BITS { 1 << number } else { 0 }
 }
 
-// Whether a word has a number.
 pub(crate) fn has_bit(word: u32, number: u32) -> bool
     requires { number < 32 }
     ensures { result ≡ has_bit word number }
@@ -29,7 +28,7 @@ pub(crate) fn has_bit(word: u32, number: u32) -> bool
     (word >> number) & 1 == 1
 }
 
-// The numbers of a word, each of them greater by so many steps as another word has below a limit.
+// Returns the numbers of `left`, each increased by `step` times each number of `right` below `count`.
 #[tactic(auto, using(crate::proofs::Rules::spreads))]
 fn spread(left: u32, right: u32, step: u32, count: u32) -> u32
     requires step { 0 < step }
@@ -41,7 +40,7 @@ fn spread(left: u32, right: u32, step: u32, count: u32) -> u32
         return set;
     }
     for times in 0..count {
-        // Most words have low bits alone.
+        // Most words have low bits only.
         if right >> times == 0 {
             return set;
         }
@@ -52,7 +51,7 @@ fn spread(left: u32, right: u32, step: u32, count: u32) -> u32
     set
 }
 
-// What is said of two tests together that share no variable.
+// Returns the words of both of two tests that share no variable.
 pub(crate) fn joined(left: Pair, right: Pair, step: u32, count: u32) -> Pair
     requires step { 0 < step }
     requires count { 0 < count }
@@ -69,7 +68,7 @@ pub(crate) fn joined(left: Pair, right: Pair, step: u32, count: u32) -> Pair
     }
 }
 
-// What is said of one of two tests.
+// Returns the words of one test or the other.
 pub(crate) fn either(left: Pair, right: Pair) -> Pair
     ensures { (evidence costs : List ℕ) (top step : ℕ) (group : ℕ → ℕ → Bool) (test other : Assignment → Bool) (some : ℕ → Bool)
         → Tells evidence costs top step group test some left → Tells evidence costs top step group other some right

@@ -1,4 +1,4 @@
-//! One pass over the nodes, which brings the set of the costs of each.
+//! One pass over the nodes that computes the set of costs of each.
 ghost use Rattle.std.specs.Prelude.{◌≡◌, ◌≢◌, ℕ, ◌+◌, ◌*◌, ◌<◌, ◌≤◌, false, List, length, slice_index, ◌==◌, if◌then◌else◌};
 ghost use Rattle.state_rules.specs.declared.nodes.NodeKind.TheVariants.{And, Or};
 ghost use Rattle.state_rules.specs.Graphs.{node_at};
@@ -20,7 +20,7 @@ use part_sets::{clear, part_words, put_one, set_at};
 use state_rules::NodeKind;
 
 impl Asked<'_> {
-    // Brings the set of the costs of each node, and that of the costs of all parts at which the last node can be true.
+    // Computes the set of costs of each node, and that of the last node over all parts.
     pub(crate) fn put_whole(&self, sets: &mut [u32], whole: &mut [u32], spare: &mut [u32])
         requires room { length whole.old ≤ SET_LIMIT }
         requires sets { length sets.old ≡ length self.now.graph.now.nodes * length whole.old }
@@ -46,7 +46,7 @@ impl Asked<'_> {
         );
     }
 
-    // The set of the costs of each node.
+    // Computes the set of costs of each node.
     pub(crate) fn put_sets(&self, sets: &mut [u32], spare: &mut [u32], other: &mut [u32])
         requires room { length spare.old ≤ SET_LIMIT }
         requires sets { length sets.old ≡ length self.now.graph.now.nodes * length spare.old }
@@ -61,7 +61,7 @@ impl Asked<'_> {
         }
     }
 
-    // The set of a node, from those of the nodes before it. One that is skipped has no cost.
+    // Computes the set of a node from those of the nodes before it. A skipped node has no cost.
     #[tactic(auto, using(crate::proofs::Rules::literals))]
     fn put_set(&self, sets: &[u32], at: u32, set: &mut [u32], spare: &mut [u32], other: &mut [u32])
         requires room { length set.old ≤ SET_LIMIT }
@@ -96,7 +96,7 @@ impl Asked<'_> {
         }
     }
 
-    // The set of an And: its children share no variable.
+    // Computes the set of an And node. Its children share no variable.
     #[tactic(auto, using(crate::proofs::Rules::child_places))]
     fn put_and(&self, sets: &[u32], at: u32, set: &mut [u32], spare: &mut [u32])
         requires room { length set.old ≤ SET_LIMIT }
@@ -114,7 +114,7 @@ impl Asked<'_> {
         }
     }
 
-    // The set of an Or: parts that a child does not mention are free where it is true.
+    // Computes the set of an Or node: parts that a child does not mention are free where it is true.
     #[tactic(auto, using(crate::proofs::Rules::child_places))]
     fn put_or(&self, sets: &[u32], at: u32, set: &mut [u32], spare: &mut [u32], other: &mut [u32])
         requires node { LivesAs self.now.graph.now self.now.skips.now at Or }
@@ -145,7 +145,7 @@ impl Asked<'_> {
     }
 }
 
-// The set of an Or whose children lack no part, from those of the children: that of its costs, or that of those with a fault.
+// Computes the set of an Or node whose children lack no part, from their sets: of all costs, or of those with a fault.
 #[tactic(auto, using(crate::proofs::Rules::child_places))]
 pub(crate) fn put_full(graph: &Graph, sets: &[u32], at: u32, set: &mut [u32])
     requires at { at < length graph.now.nodes }
@@ -163,7 +163,6 @@ pub(crate) fn put_full(graph: &Graph, sets: &[u32], at: u32, set: &mut [u32])
     }
 }
 
-// The set of a literal.
 fn put_literal(leaf: Leaf, positive: bool, cost: u32, set: &mut [u32])
     ensures ruled_out { leaf ≡ Leaf.False → (n : ℕ) → has_number set.new n ≡ false }
     ensures allowed { leaf ≢ Leaf.False → (n : ℕ) → n < 32 * length set.old

@@ -16,7 +16,7 @@ use minimiser::Steps;
 use node_store::Graph;
 use std::sync::ledger::Ledger;
 
-// What is searched: a graph, what is kept of it, and for each node whether the passes skip it: 0 if they do not.
+// What is searched: a graph, what is kept of it, and for each node whether the passes skip it (0 if not).
 #[derive(Drop)]
 pub(crate) struct Search<'a> {
     pub(crate) levels: &'a Levels,
@@ -27,7 +27,7 @@ pub(crate) struct Search<'a> {
     ghost marks: { length skips.now ≡ length graph.now.nodes },
 }
 
-// The same under evidence, which all passes go by.
+// The same with the evidence that all passes use.
 #[derive(Clone, Copy)]
 pub(crate) struct Asked<'a> {
     pub(crate) levels: &'a Levels,
@@ -43,7 +43,7 @@ pub(crate) struct Asked<'a> {
 }
 
 impl Search<'_> {
-    // Fixes the parts as the next state has them, if there is one; what it costs.
+    // Fixes the parts as in the next state and returns its cost, if there is one.
     pub(crate) fn find<L: Ledger>(
         &self,
         evidence: &mut [u32],
@@ -71,7 +71,7 @@ impl Search<'_> {
         }
     }
 
-    // The first state after another.
+    // Finds the first state after another.
     #[tactic(auto, using(crate::proofs::Rules::fixed_words))]
     fn find_after<L: Ledger>(
         &self,
@@ -106,7 +106,7 @@ impl Search<'_> {
         }
     }
 
-    // The first of the states whose cost is at least so much.
+    // Finds the first state that costs at least `from`.
     fn find_from<L: Ledger>(
         &self,
         evidence: &mut [u32],

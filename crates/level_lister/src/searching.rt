@@ -1,4 +1,4 @@
-//! The first part that is faulty in some state of a cost.
+//! Finds the first part that is faulty in some state of a cost.
 ghost use Rattle.std.specs.Prelude.{◌≡◌, ℕ, ◌+◌, ◌*◌, ◌<◌, ◌≤◌, length, MatchOption};
 ghost use Rattle.level_lister.specs.Listing.{cost_words};
 ghost use Rattle.level_lister.specs.Passes.{AreEnough, first_passes, group_count, groups_per_pass};
@@ -14,8 +14,8 @@ use part_sets::has_number;
 use std::sync::ledger::Ledger;
 
 impl Asked<'_> {
-    // Puts the sets of the costs of all nodes at the front of the work, where costs of 32 and more are listed, by one pass. While the
-    // evidence is the same, each pass that looks for a fault goes by these.
+    // If costs of 32 and more are listed, computes the sets of costs of all nodes at the front of `work`, by one pass. While the evidence
+    // is the same, each pass that looks for a fault uses them.
     fn prepare<L: Ledger>(&self, work: &mut [u32], steps: &mut Steps<L>)
         requires work { length work.old ≡ (length self.now.graph.now.nodes + 2) * (2 * cost_words self.now.levels.now.top) }
         ensures ready { AreReady self.now.graph.now self.now.skips.now self.now.evidence.now self.now.levels.now work.new }
@@ -32,8 +32,8 @@ impl Asked<'_> {
         self.put_sets(sets, spare, other);
     }
 
-    // The first of the groups that are said in which an open part is faulty in some state of this cost, or the number of them where
-    // there is none. It takes one pass, and leaves what was prepared.
+    // Returns the first group of those in a pass in which an open part is faulty in some state of this cost, or their number if there is
+    // none. Takes one pass, and keeps what was prepared.
     fn faulty_group(&self, work: &mut [u32], cost: u32, groups: Groups) -> u32
         requires work { length work.old ≡ (length self.now.graph.now.nodes + 2) * (2 * cost_words self.now.levels.now.top) }
         requires cost { cost ≤ self.now.levels.now.top }
@@ -51,7 +51,7 @@ impl Asked<'_> {
         }
     }
 
-    // The same, where only costs below 32 are listed.
+    // The same, if only costs below 32 are listed.
     #[tactic(auto, using(crate::proofs::Rules::group_faults))]
     fn faulty_group_by_pairs(&self, work: &mut [u32], cost: u32, groups: Groups) -> u32
         requires top { self.now.levels.now.top < 32 }
@@ -72,8 +72,8 @@ impl Asked<'_> {
         count
     }
 
-    // The first group alone: 0 where an open part of it is faulty in some state of this cost, and else 1. The pass goes over the nodes
-    // once, for the costs with a fault: the sets of all costs are there.
+    // The same for the first group alone: 0 if an open part of it is faulty in some state of this cost, else 1. The pass computes only the
+    // costs with a fault, since the sets of all costs are there.
     #[tactic(auto, using(crate::proofs::Rules::first_faults))]
     fn faulty_group_by_sets(&self, work: &mut [u32], cost: u32, groups: Groups) -> u32
         requires work { length work.old ≡ (length self.now.graph.now.nodes + 2) * (2 * cost_words self.now.levels.now.top) }
@@ -105,8 +105,8 @@ impl Asked<'_> {
         }
     }
 
-    // The first open part from one on that is faulty in some state of this cost. After what is prepared each pass says in which of
-    // some groups it is, or after them.
+    // Finds the first open part from `from` on that is faulty in some state of this cost. After `prepare` each pass says in which of some
+    // groups it is, or that it is after them.
     pub(crate) fn first_faulty<L: Ledger>(
         &self,
         work: &mut [u32],

@@ -6,10 +6,10 @@ ghost use Rattle.level_lister.specs.inner.CostSets.{has_shifted, word_before, Ar
 
 use part_sets::{WIDTH, clear, has_number};
 
-/// A set has at most so many words: those for costs below 2^31.
+/// The most words of a set: those for costs below 2^31.
 pub const SET_LIMIT: usize = 67_108_864;
 
-// Adds to a set the numbers of another, each of them greater by so much.
+// Adds to a set the numbers of another, each increased by `more`.
 #[tactic(auto, using(crate::proofs::Rules::additions))]
 pub(crate) fn add_shifted(set: &mut [u32], other: &[u32], more: usize)
     requires { length other.now ≡ length set.old }
@@ -21,7 +21,7 @@ pub(crate) fn add_shifted(set: &mut [u32], other: &[u32], more: usize)
     }
 }
 
-// Makes each number of a set greater by so much. The last word comes first, since each is put from those up to it.
+// Increases each number of a set by `more`. It begins with the last word, since each depends on those up to it.
 #[tactic(auto, using(crate::proofs::Rules::moves))]
 pub(crate) fn shift(set: &mut [u32], more: usize)
     ensures { (n : ℕ) → n < 32 * length set.old → has_number set.new n ≡ has_shifted set.old more n }
@@ -31,7 +31,7 @@ pub(crate) fn shift(set: &mut [u32], more: usize)
     }
 }
 
-// A word of a set, of which each number is greater by so much.
+// Returns word `i` of a set whose numbers are increased by `more`.
 fn shifted_word(set: &[u32], i: usize, more: usize) -> u32
     requires { i < length set.now }
     ensures { (n : ℕ) → n / 32 ≡ i → (bit_at result (n % 32) == 1) ≡ has_shifted set.now more n }
@@ -42,7 +42,7 @@ fn shifted_word(set: &[u32], i: usize, more: usize) -> u32
     joined_word(set[at], word_before(set, at), more % WIDTH)
 }
 
-// The word before the one at a place, and 0 before the first.
+// Returns the word before the one at a place, or 0 before the first.
 fn word_before(set: &[u32], at: usize) -> u32
     requires { at < length set.now }
     ensures { result ≡ word_before set.now at }
@@ -53,7 +53,7 @@ fn word_before(set: &[u32], at: usize) -> u32
     }
 }
 
-// The bits of a word, so many places higher, and below them the highest of another.
+// Returns `high` moved up by `more` bits, with the highest bits of `low` below it.
 #[tactic(auto, using(crate::proofs::Rules::joined_words))]
 fn joined_word(high: u32, low: u32, more: usize) -> u32
     requires { more < 32 }
@@ -64,7 +64,7 @@ fn joined_word(high: u32, low: u32, more: usize) -> u32
     ((both >> (WIDTH - more)) & 0xFFFF_FFFF) as u32
 }
 
-// Makes a set of the sums of a number of one set and a number of another. The first is to have few: the other is moved by each.
+// Makes `set` the sums of a number of `left` and a number of `right`. `left` should have few: `right` is moved by each.
 #[tactic(auto, using(crate::proofs::Rules::sums))]
 pub(crate) fn put_sums(set: &mut [u32], left: &[u32], right: &[u32])
     requires few { length set.old ≤ SET_LIMIT }
@@ -88,7 +88,7 @@ pub(crate) fn is_empty(set: &[u32]) -> bool
     set.iter().all(|word| *word == 0)
 }
 
-// Adds to a set the numbers of another, moved by each number of a word of a third.
+// Adds to a set the numbers of `other`, moved by each number of one word of `moves`.
 #[tactic(auto, using(crate::proofs::Rules::sums))]
 fn add_moved(set: &mut [u32], other: &[u32], moves: &[u32], i: usize)
     requires few { length set.old ≤ SET_LIMIT }
@@ -99,7 +99,7 @@ fn add_moved(set: &mut [u32], other: &[u32], moves: &[u32], i: usize)
     ensures { AreSums other.now moves.now (32 * (i + 1)) set.new }
 {
     for bit in 0..WIDTH {
-        // Most words are 0, or have low bits alone.
+        // Most words are 0 or have low bits only.
         if moves[i] >> bit == 0 {
             return;
         }

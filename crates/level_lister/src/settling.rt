@@ -1,4 +1,4 @@
-//! Parts that are fixed one after the other, so that one state of a cost is left.
+//! Fixes parts one after the other, so that one state of a cost is left.
 ghost use Rattle.std.specs.Prelude.{◌≡◌, ◌↔◌, ℕ, ◌+◌, ◌*◌, ◌<◌, ◌≤◌, true, length, All, IsTrue, MatchOption, slice_index};
 ghost use Rattle.conditioner.specs.Evidence.{bits_of};
 ghost use Rattle.diagnosis_lister.specs.Listing.{fault_count};
@@ -17,7 +17,7 @@ use part_sets::has_number;
 use std::sync::ledger::Ledger;
 
 impl Asked<'_> {
-    // Whether there are two words for each node, and they say all that is listed of a node.
+    // Whether two words for each node fit into `work` and hold all listed costs.
     fn has_pairs(&self, work: &[u32]) -> bool
         ensures few { result ≡ true → self.now.levels.now.top < 32 }
         ensures room { result ≡ true → 2 * length self.now.graph.now.nodes ≤ length work.now }
@@ -25,7 +25,7 @@ impl Asked<'_> {
         self.levels.top() < 32 && 2 * self.graph.len() as usize <= work.len()
     }
 
-    // Puts the set of the costs of the states that agree with the evidence, up to the greatest cost that is listed.
+    // Computes the set of the listed costs of the states that agree with the evidence.
     fn put_costs(&self, set: &mut [u32], work: &mut [u32])
         requires set { length set.old ≡ cost_words self.now.levels.now.top }
         requires work { (length self.now.graph.now.nodes + 1) * cost_words self.now.levels.now.top ≤ length work.old }
@@ -43,7 +43,7 @@ impl Asked<'_> {
         self.put_whole(sets, set, spare);
     }
 
-    // Whether some state that agrees with the evidence has this cost. It takes one pass.
+    // Whether some state that agrees with the evidence has this cost. Takes one pass.
     fn reaches<L: Ledger>(&self, work: &mut [u32], cost: u32, steps: &mut Steps<L>) -> bool
         requires work { (length self.now.graph.now.nodes + 2) * cost_words self.now.levels.now.top ≤ length work.old }
         requires cost { cost ≤ self.now.levels.now.top }
@@ -56,7 +56,7 @@ impl Asked<'_> {
         has_number(set, cost as usize)
     }
 
-    // The least cost from one on up to the greatest that some state has that agrees with the evidence. It takes one pass.
+    // Finds the least listed cost, from `from` on, of a state that agrees with the evidence. Takes one pass.
     #[tactic(auto, using(std::proofs::lemmas::Bool::cases_lt))]
     pub(crate) fn next_cost<L: Ledger>(
         &self,
@@ -84,7 +84,7 @@ impl Asked<'_> {
 }
 
 impl Search<'_> {
-    // Fixes each open part from one on, so that only the first of the states of this cost is left that agree with the evidence.
+    // Fixes each open part from `from` on, so that only the first state of this cost that agrees with the evidence is left.
     pub(crate) fn settle<L: Ledger>(
         &self,
         evidence: &mut [u32],
@@ -113,7 +113,7 @@ impl Search<'_> {
         }
     }
 
-    // The same: the next part that can be faulty is searched, and those before it are ok.
+    // The same: finds each next part that can be faulty, and fixes those before it as ok.
     #[tactic(auto, using(crate::proofs::Rules::fixed_words))]
     fn settle_by_groups<L: Ledger>(
         &self,
@@ -149,7 +149,7 @@ impl Search<'_> {
         fix_ok(evidence, from, self.levels.costs().len());
     }
 
-    // The same, for less room: each open part is fixed to faulty if that leaves a state, and else to ok. It takes a pass for each.
+    // The same with less room: fixes each open part as faulty if that leaves a state, else as ok. Takes a pass for each.
     fn settle_by_parts<L: Ledger>(
         &self,
         evidence: &mut [u32],
@@ -182,8 +182,8 @@ impl Search<'_> {
         }
     }
 
-    // The last part at which a later state of this cost can leave a state: the same before it, ok if the state has faulty. The
-    // evidence is then fixed so far. It takes a pass for each part that is faulty in the state, at most.
+    // Finds the last part at which a later state of this cost can leave `state`: both are the same before it, and there `state` is faulty
+    // and the later one ok. Fixes the evidence up to there. Takes at most a pass for each faulty part of the state.
     #[tactic(auto, using(crate::proofs::Rules::fixed_words))]
     pub(crate) fn leave<L: Ledger>(
         &self,

@@ -10,8 +10,8 @@ use node_store::Graph;
 use std::sync::ledger::Ledger;
 
 impl Levels {
-    // Whether some state agrees with the evidence. If so, the nodes are marked that the passes skip, under this evidence and under all that
-    // fix more: of each derivation of the graph through them the open faulty parts alone cost more than what is listed.
+    // Whether some state agrees with the evidence. If so, marks the nodes that the passes skip under this evidence and all that fixes more:
+    // in each derivation through them the open faulty parts alone cost more than what is listed.
     pub(crate) fn put_skips<L: Ledger>(
         &self,
         graph: &Graph,
@@ -40,7 +40,7 @@ impl Levels {
     }
 }
 
-// Makes a mark of each outside cost: of the nodes that cost more than so much with it.
+// Turns each outside cost into a mark: 1 if it and the node's least cost exceed `top` together.
 fn mark_dear(least: &[u32], top: u32, outside: &mut [u32])
     requires least { length least.now ≡ length outside.old }
     requires top { top < 2 ^ 31 }

@@ -1,4 +1,4 @@
-//! States, and the evidence that says them.
+//! States, and the evidence that fixes them.
 ghost use Rattle.std.specs.Prelude.{◌≡◌, ◌+◌, ◌<◌, ◌≤◌, ◌++◌, drop, length, All};
 ghost use Rattle.state_rules.specs.Ranking.{cost};
 ghost use Rattle.conditioner.specs.Models.{total_cost};
@@ -8,7 +8,6 @@ ghost use Rattle.diagnosis_lister.specs.inner.Fixing.{Agrees, Follows, fixed_bit
 use conditioner::{is_false, is_faulty, is_open, word_of_known};
 use minimiser::TOTAL_LIMIT;
 
-// What a state costs.
 #[tactic(auto, using(crate::proofs::StateCosts::cost_steps))]
 pub(crate) fn state_cost(state: &[u32], costs: &[u32]) -> u32
     requires long { length state.now ≡ length costs.now }
@@ -24,7 +23,7 @@ pub(crate) fn state_cost(state: &[u32], costs: &[u32]) -> u32
     total
 }
 
-// Fixes the open parts as the state has them, up to the first part that is held otherwise; how many parts these are, with that one.
+// Fixes the open parts as in the state, up to the first part that is fixed otherwise. Returns the number of these parts, with that one.
 pub(crate) fn follow(evidence: &mut [u32], state: &[u32]) -> usize
     requires long { length state.now ≤ length evidence.old }
     requires evidence { All (λ w. w < 3) evidence.old }
@@ -43,7 +42,7 @@ pub(crate) fn follow(evidence: &mut [u32], state: &[u32]) -> usize
     state.len()
 }
 
-// Writes what the evidence says of the parts into the state.
+// Writes into the state what the evidence says of the parts.
 #[tactic(auto, using(crate::proofs::Rules::states_read))]
 pub(crate) fn read_state(evidence: &[u32], state: &mut [u32])
     requires { length state.old ≤ length evidence.now }
@@ -55,7 +54,7 @@ pub(crate) fn read_state(evidence: &[u32], state: &mut [u32])
     }
 }
 
-// Keeps the evidence on the parts.
+// Saves the evidence on the parts.
 pub(crate) fn keep(evidence: &[u32], saved: &mut [u32])
     requires { length saved.old ≤ length evidence.now }
     ensures { evidence.now ≡ saved.new ++ drop (length saved.old) evidence.now }
@@ -64,7 +63,7 @@ pub(crate) fn keep(evidence: &[u32], saved: &mut [u32])
     saved.copy_from_slice(parts);
 }
 
-// Puts the evidence on the parts back.
+// Restores the evidence on the parts.
 pub(crate) fn put_back(evidence: &mut [u32], saved: &[u32])
     requires { length saved.now ≤ length evidence.old }
     ensures { evidence.new ≡ saved.now ++ drop (length saved.now) evidence.old }

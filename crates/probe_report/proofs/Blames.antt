@@ -85,7 +85,7 @@ module _ (graph : Graph) (evidence costs : List ℕ) (i most : ℕ) (lt : i < le
   abbrev HasLeast : Bool → Type 0
   HasLeast bit = least costs (passing (length costs) (has_model graph (λ bits. fits_evidence evidence bits && same_bit bit (bit_in bits i)) (length costs))) ≡ Some most
 
-  -- a diagnosis that has not the one bit has the other
+  -- a diagnosis without the one bit has the other
   only : (bit : Bool) → (HasLeast (not bit) → ⊥) → (h : List Bool) → ModelWithin graph evidence costs most h → bit_in h i ≡ bit
   only bit none h p = grind (arith, bit-in)
 

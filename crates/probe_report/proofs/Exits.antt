@@ -1,4 +1,4 @@
--- The least cost at the root where a variable has a bit, from what derivations cost outside of the nodes.
+-- The least cost at the root if a variable has a bit, from the costs of derivations outside of nodes.
 use Rattle.std.proofs.Common.{◌≡◌, ◌≢◌, ℕ, zero, suc, ◌+◌, ◌-◌, ◌<◌, ◌≤◌, Bool, true, false, cond, eqb, List, length, get_or, set, Option, Some, None, refl, ap, sym, ◌∙◌, subst, arith, inl, inr, ⊎_elim}
 use Rattle.std.specs.Prelude.{◌⊎◌, slice_get, nat_lt}
 use Rattle.std.proofs.lemmas.Bool.{cases_Bool, eqb-true, eq-eqb, ltb-true, ltb-false, false≢true, ne_eqb}
@@ -29,7 +29,7 @@ use Rattle.minimiser.specs.inner.Outside.{AreOutsideCosts}
 use Rattle.minimiser.proofs.OutsideCosts.{outside-is, child-fits}
 use Rattle.probe_report.specs.inner.Outside.{IsLowered, Without, With}
 
--- ---- what derivations cost outside of a node
+-- ---- the costs of derivations outside of a node
 
 module _ (graph : Graph) (evidence costs : List ℕ) (ok : IsGraph graph) (vs os : List ℕ) (least : AreLeastCosts graph evidence costs vs) (outside : AreOutsideCosts graph.nodes vs os 0) (total : total_cost costs < 2147483647) where
   abbrev n : ℕ
@@ -115,14 +115,14 @@ module _ (graph : Graph) (evidence costs : List ℕ) (ok : IsGraph graph) (vs os
     no_fault : (k : Option Bool) (x : Bool) → fault k 0 x ≡ 0
     no_fault k x = grind arith
 
-    -- faults are the same where all is the same but the variable
+    -- the faults are the same if all but the variable is the same
     quiet : (ks ls : ℕ → Option Bool) (a b : Assignment) → ((v : ℕ) → 1 ≤ v → v ≢ var → (ks v ≡ ls v) × (a v ≡ b v)) → all_faults ks (part_cost costs) (length costs) a ≡ all_faults ls (part_cost costs) (length costs) b
     quiet ks ls a b same = grind (arith, total-same)
 
     other_place : (v : ℕ) → 1 ≤ v → v ≢ var → v - 1 ≡ var - 1 → ⊥
     other_place v l ne e = ne (omega (arith, low))
 
-    -- variable 0 stands for no other than the first one
+    -- variable 0 has the bit of the first one
     rounded : Assignment → Assignment
     rounded a v = a (v - 1 + 1)
 
@@ -130,7 +130,7 @@ module _ (graph : Graph) (evidence costs : List ℕ) (ok : IsGraph graph) (vs os
     unfolding rounded
     rounded-agrees a ag at v = grind (arith, fixed-here, fixed-other)
 
-    -- what makes the root true with the bit costs no less than the root does
+    -- what makes the root true with the bit costs at least what the root does
     with-bit : (c : ℕ) (a : Assignment) → Achieves graph evidence costs ok root c a → a var ≡ bit → AtMost (D root) c
     unfolding rounded
     with-bit c a ach at =
@@ -140,7 +140,7 @@ module _ (graph : Graph) (evidence costs : List ℕ) (ok : IsGraph graph) (vs os
         let equal = quiet (known_at fixed) (known_at evidence) (rounded a) a (λ v l ne. (fixed-other v (other_place v l ne), same v l)) in
         AtMost-le (D root) _ c ((is_cost graph fixed costs ok root).bound (rounded a) (rounded-agrees a ach.agrees at) (truth ∙ ach.holds)) (omega (arith, less, equal, ach.cheap))
 
-    -- a node that does not mention the variable is true whatever bit it has
+    -- a node that does not mention the variable is true with either bit
     turned : Assignment → Assignment
     turned a v = cond (eqb var v) bit (a v)
 
@@ -188,7 +188,7 @@ module _ (graph : Graph) (evidence costs : List ℕ) (ok : IsGraph graph) (vs os
         let r = (is_cost graph evidence costs ok root).reached (W root) is in
         AtMost-le (D root) (W root) c (with-bit (W root) (turned r.by) (turns root (W root) r.by l.lacks (record { agrees = r.agrees; holds = r.holds; cheap = r.cheap })) (turned-here r.by)) (omega (arith, l.is))
 
-    -- what the root costs is found at an exit
+    -- the cost of the root is found at an exit
     reached : (c : ℕ) → D root ≡ Some c → c < 2147483647 → Found var bit c
     reached c e q =
         let r = (is_cost graph fixed costs ok root).reached c e in

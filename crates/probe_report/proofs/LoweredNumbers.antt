@@ -19,7 +19,7 @@ lowered-is b cost old = grind (arith, cases_lt)
 pub lowered-then : {P Q R : ℕ → Type 0} (a b c : ℕ) → IsLowered P a b → IsLowered Q b c → ((x : ℕ) → P x → R x) → ((x : ℕ) → Q x → R x) → ((x : ℕ) → R x → P x ⊎ Q x) → IsLowered R a c
 lowered-then {P} {Q} {R} a b c p q left right either = grind arith
 
--- to the same costs, said in another way
+-- to the same costs in another form
 pub lowered-as : {P R : ℕ → Type 0} (a b : ℕ) → IsLowered P a b → ((x : ℕ) → P x → R x) → ((x : ℕ) → R x → P x) → IsLowered R a b
 lowered-as a b p to back = grind arith
 

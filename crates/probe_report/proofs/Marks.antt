@@ -55,7 +55,7 @@ module _ (values marks kids : List ℕ) (mark outside start i : ℕ) (lt : i < l
       ))
       (narrower p x l))
 
-  -- a child that mentions all that its parent does, or that has no value, changes nothing
+  -- a child that mentions all that its parent does, or has no value, changes nothing
   pub left-same : (a b : List ℕ) → LowersBlock start (λ p. LeftChild values marks (take i kids) mark outside start p) a b → (mark_at marks (get_or kids i 0) ≡ mark) ⊎ (2147483647 ≤ get_or values (get_or kids i 0) 0)
       → LowersBlock start (λ p. LeftChild values marks (take (i + 1) kids) mark outside start p) a b
   left-same a b before why = block-as {P = Left i} {R = Left (i + 1)} start a b before (λ p x h g. wider p x)
@@ -79,7 +79,7 @@ module _ (graph : Graph) (ok : IsGraph graph) (old new : List ℕ) (first at mar
 
 -- ---- nodes that mention none of the variables
 
--- whether none of the nodes before one does
+-- none of the nodes before one mentions any of them
 abbrev pub NoneMarked : List Node → ℕ → ℕ → Type 0
 NoneMarked nodes first at = (node b : ℕ) → node < at → b < 64 → mentions nodes (first + b) node ≡ false
 
@@ -105,7 +105,7 @@ module _ (graph : Graph) (ok : IsGraph graph) (first at : ℕ) (lt : at < length
   pub none-gate : ((var : ℕ) (positive : Bool) → (node_at graph.nodes at).what ≡ Literal positive var → ⊥) → NoneMarked graph.nodes first (at + 1)
   none-gate other = grind (arith, none-more, any-false)
 
--- where no mark is set so far, and no node so far mentions one of the variables
+-- unset marks are right if no node so far mentions one of the variables
 pub marked-none : (nodes : List Node) (first at : ℕ) (marks : List ℕ) → NoneMarked nodes first at → ((node : ℕ) → node < at → mark_at marks node ≡ 0) → IsMarked nodes first at marks
 marked-none nodes first at marks none clear node b h small = ap (λ m. has_bit m b) (clear node h) ∙ has_bit-zero b ∙ sym (none node b h small)
 
@@ -151,7 +151,7 @@ module _ (graph : Graph) (ok : IsGraph graph) (values outside marks : List ℕ) 
       (λ k. inl (k.0, omega (arith, all, k.1.within), k.1))
       (λ r. inr (root-left p h g ∙ ap not r.lacks, r.is)) w)
 
--- what an or lowers
+-- what an Or node lowers
 pub node-left : (nodes : List Node) (values outside marks : List ℕ) (at start : ℕ) (a b kids : List ℕ) → (node_at nodes at).what ≡ Or → get_or outside at 0 < 2147483647 → kids ≡ (node_at nodes at).kids
     → LowersBlock start (λ p. LeftChild values marks kids (mark_at marks at) (get_or outside at 0) start p) a b → LowersBlock start (λ p. LeftNode nodes values outside marks at start p) a b
 node-left nodes values outside marks at start a b kids or_is small same before = grind (arith, block-as)

@@ -54,7 +54,7 @@ module _ (graph : Graph) (evidence costs : List ℕ) (i : ℕ) (bit : Bool) wher
   abbrev pub with_bit : Test
   with_bit = has_model graph (λ bits. fits_evidence evidence bits && same_bit bit (bit_in bits i)) (length costs)
 
-  -- they are allowed by the evidence
+  -- the evidence allows them
   pub with-model : (h : List Bool) → with_bit h ≡ true → has_model graph (fits_evidence evidence) (length costs) h ≡ true
   with-model h e =
       let s = any_from (λ others. (fits_evidence evidence (h ++ others) && same_bit bit (bit_in (h ++ others) i)) && holds graph (h ++ others)) (lists_of_bits (graph.vars - length costs)) e in

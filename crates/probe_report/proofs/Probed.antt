@@ -1,4 +1,4 @@
--- What the numbers of the wires say at the end.
+-- The final numbers of the wires.
 use Rattle.std.proofs.Common.{◌≡◌, ℕ, zero, suc, ◌+◌, ◌-◌, ◌<◌, ◌≤◌, Bool, true, false, cond, List, [], ◌∷◌, length, get_or, set, Option, Some, None, refl, ap, sym, ◌∙◌, subst, arith, inl, inr}
 use Rattle.std.specs.Prelude.{◌⊎◌, nat_lt}
 use Rattle.std.proofs.Math.ListN.{length-set}
@@ -32,14 +32,14 @@ held-le (c ∷ costs) (w ∷ evidence) = omega (arith, sum_by-cons (λ (x : ℕ)
   one : (k : Option Bool) → held_one c k ≤ c
   one k = grind arith
 
--- a variable that is no part's changes nothing of it
+-- a variable of no part does not change it
 held-same : (costs evidence : List ℕ) (i w : ℕ) → length costs ≤ i → held_cost costs (set evidence i w) ≡ held_cost costs evidence
 held-same [] evidence i w h = refl
 held-same (c ∷ costs) [] i w h = refl
 held-same (c ∷ costs) (x ∷ evidence) zero w h = absurd (omega arith)
 held-same (c ∷ costs) (x ∷ evidence) (suc i) w h = ap (λ n. held_one c (known_of x) + n) (held-same costs evidence i w (omega arith))
 
--- what all cost without what the root does is held
+-- the least cost exceeds the root's by what is held
 pub record Held (root fewest held : ℕ) : Type 0 where
   pub low : root ≤ fewest
   pub is : fewest - root ≡ held
@@ -58,7 +58,7 @@ held-is graph evidence costs xs fewest root ok long within total v e at = by_cos
   by_cost : (o : Option ℕ) → cost_in (get_or xs (length graph.nodes - 1) 0) ≡ o → Some fewest ≡ AddHeld (held_cost costs evidence) o → Held (get_or xs root 0) fewest (held_cost costs evidence)
   by_cost o q r = grind (arith, value_small, length-least_costs, held-le)
 
--- ---- where nothing agrees, nothing does with a bit too
+-- ---- if nothing agrees, nothing does with one more bit
 
 pub with-none : (graph : Graph) (evidence costs : List ℕ) (var : ℕ) (bit : Bool) → least_under graph evidence costs ≡ None → None ≡ least_with graph evidence costs var bit
 with-none graph evidence costs var bit e = sym (least-in costs (length costs) (with_bit graph evidence costs (var - 1) bit) None
@@ -94,7 +94,7 @@ module _ (graph : Graph) (evidence costs : List ℕ) (ok : IsGraph graph) (long 
       → cost_in (settled (word_of b) fewest held bit best) ≡ least_with graph evidence costs (length costs + wire + 1) bit
   known-is fewest held best e fits b says = grind (arith, with-true, with-false)
 
-  -- what is answered for a wire
+  -- the answer for a wire
   pub settled-is : (fewest held best : ℕ) → get_or evidence (length costs + wire) 0 < 3 → Some fewest ≡ least_under graph evidence costs → fewest < 4294967295 → held ≡ held_cost costs evidence → held < 2147483647
       → (get_or evidence (length costs + wire) 0 ≡ 0 → IsLowered (λ c. Without graph.nodes vs os (length costs + wire + 1) c ⊎ With graph.nodes os (length costs + wire + 1) bit c) 4294967295 best)
       → cost_in (settled (get_or evidence (length costs + wire) 0) fewest held bit best) ≡ least_with graph evidence costs (length costs + wire + 1) bit
@@ -104,7 +104,7 @@ module _ (graph : Graph) (evidence costs : List ℕ) (ok : IsGraph graph) (long 
     by_word (suc zero) q = known-is fewest held best e fits true q
     by_word (suc (suc n)) q = let two : n ≡ 0 = omega (arith, q, said) in known-is fewest held best e fits false (q ∙ ap (λ m. suc (suc m)) two)
 
--- a number that was lowered to what costs no literal, and then to what one does
+-- a number lowered to the costs without a literal, and then to those with one
 pub exits-lowered : (nodes : List Node) (vs os : List ℕ) (var : ℕ) (bit : Bool) (none mid best : ℕ) → none ≡ 4294967295 → IsLowered (Without nodes vs os var) none mid → IsLowered (With nodes os var bit) mid best
     → IsLowered (λ c. Without nodes vs os var c ⊎ With nodes os var bit c) 4294967295 best
 exits-lowered nodes vs os var bit none mid best e without literals = subst (λ n. IsLowered (λ c. Without nodes vs os var c ⊎ With nodes os var bit c) n best) e

@@ -6,9 +6,9 @@ use minimiser::{Steps, TOTAL_LIMIT, least_in};
 use node_store::{Graph, GraphView};
 use std::sync::ledger::Ledger;
 
-/// The least cost if a wire's variable is 0, and if it is 1; none if no state is left.
+/// Returns the least cost if a wire's variable is 0, and if it is 1; none if no state is left.
 ///
-/// The evidence is the same afterwards. It takes two passes at most.
+/// The evidence is the same afterwards. It takes at most two passes.
 pub fn probe<L: Ledger>(
     graph: &Graph,
     evidence: &mut [u32],
@@ -35,7 +35,7 @@ pub fn probe<L: Ledger>(
     (zero, one)
 }
 
-// The least cost where a variable has a bit too.
+// Returns the least cost if a variable has this bit too.
 pub(crate) fn least_where<L: Ledger>(
     graph: &GraphView<'_>,
     evidence: &mut [u32],

@@ -10,7 +10,7 @@ use std::sync::ledger::Ledger;
 
 /// Whether a part is faulty in all diagnoses, in some, or in none.
 ///
-/// The evidence is the same afterwards. It takes three passes at most.
+/// The evidence is the same afterwards. It takes at most three passes.
 pub fn blame<L: Ledger>(
     graph: &Graph,
     evidence: &mut [u32],
@@ -41,7 +41,7 @@ pub fn blame<L: Ledger>(
     }
 }
 
-/// What [`blame`] says of a part that is faulty in some diagnosis, if the least cost is known. It takes one pass at most.
+/// Returns what [`blame`] returns for a part that is faulty in some diagnosis, if the least cost is known. It takes at most one pass.
 pub fn blame_faulty<L: Ledger>(
     graph: &GraphView<'_>,
     evidence: &mut [u32],

@@ -10,7 +10,7 @@ use node_store::Graph;
 use state_rules::NodeKind;
 use std::sync::ledger::Ledger;
 
-// The nodes of a graph, with what each costs at least, and what the rest of a derivation of the root costs outside it.
+// The nodes of a graph, the least cost of each, and the cost of the rest of a derivation of the root outside it.
 #[derive(Drop)]
 pub(crate) struct NodeCosts<'a> {
     pub(crate) graph: &'a Graph,
@@ -21,8 +21,8 @@ pub(crate) struct NodeCosts<'a> {
 }
 
 impl NodeCosts<'_> {
-    // Lowers the number of each wire that is not seen to the least cost of a derivation without it. The wires' variables are those
-    // after the parts'. One sweep over the nodes for each 64 wires of which one is not seen.
+    // Lowers the number of each wire that is not seen to the least cost of a derivation without it. The wires' variables follow the parts'.
+    // Takes one sweep over the nodes for each 64 wires of which one is not seen.
     pub(crate) fn lower_without<L: Ledger>(
         &self,
         evidence: &[u32],
@@ -49,7 +49,7 @@ impl NodeCosts<'_> {
         }
     }
 
-    // The same of the 64 wires from a start on. The others stay. No node before the first that mentions one of them matters.
+    // The same for the 64 wires from `start` on. The others stay. Nodes before the first that mentions one of them do not matter.
     fn lower_block(&self, parts: u32, start: usize, marks: &mut [u32], list: &mut [u32])
         requires marks { length marks.old ≡ 2 * length self.now.graph.now.nodes }
         requires wires { parts + length list.old ≤ self.now.graph.now.vars }
@@ -75,7 +75,7 @@ impl NodeCosts<'_> {
         );
     }
 
-    // Lowers the numbers of the wires that a node mentions, and one of its children does not, if it is an or.
+    // If a node is an Or node, lowers the numbers of the wires that it mentions and one of its children does not.
     fn lower_node(&self, marks: &[u32], at: u32, start: usize, list: &mut [u32])
         requires at { at < length self.now.graph.now.nodes }
         requires marks { length marks.now ≡ 2 * length self.now.graph.now.nodes }
@@ -104,7 +104,7 @@ impl NodeCosts<'_> {
     }
 }
 
-// Whether a word from a place on and before another says nothing.
+// Whether a word from `from` to before `to` is open.
 fn is_some_open(evidence: &[u32], from: usize, to: usize) -> bool
     requires from { from ≤ to }
     requires to { to ≤ length evidence.now }
@@ -118,7 +118,7 @@ fn is_some_open(evidence: &[u32], from: usize, to: usize) -> bool
     false
 }
 
-// Lowers the numbers of the wires that an or mentions and a child does not to what the or costs with that child.
+// Lowers the numbers of the wires that an Or node mentions and a child does not to the cost with that child.
 fn lower_left(
     values: &[u32],
     marks: &[u32],
@@ -143,7 +143,7 @@ fn lower_left(
     }
 }
 
-// Lowers the numbers of the wires that are left to a cost.
+// Lowers the numbers of the wires in `mark` and not in `child` to `cost`.
 fn lower_all(start: usize, mark: u64, child: u64, cost: u32, list: &mut [u32])
     requires { start < length list.old }
     ensures { (i : ℕ) → i < length list.old

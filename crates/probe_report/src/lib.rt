@@ -1,4 +1,4 @@
-//! What is asked about one wire, all wires, or one part.
+//! Answers what is asked about one wire, all wires, or one part.
 #![tactic(auto)]
 
 mod asking;

@@ -7,13 +7,13 @@ ghost use Rattle.probe_report.specs.inner.Outside.{mark_at};
 use node_store::Graph;
 use state_rules::NodeKind;
 
-/// How many variables have a bit in a mark.
+/// The number of variables with a bit in a mark.
 pub(crate) const WIDTH: u32 = 64;
 
-// A mark is in two words, and one in the second counts so much.
+// A mark takes two words. A 1 in the second counts this much.
 const HALF: u64 = 4_294_967_296;
 
-// The first node that mentions one of 64 variables from the first on, or the number of nodes.
+// Returns the first node that mentions one of the 64 variables from `first` on, or the number of nodes.
 pub(crate) fn first_marked(graph: &Graph, first: u32) -> u32
     ensures within { result ≤ length graph.now.nodes }
     ensures none { (node b : ℕ) → node < result → b < WIDTH → mentions graph.now.nodes (first + b) node ≡ false }
@@ -29,7 +29,7 @@ pub(crate) fn first_marked(graph: &Graph, first: u32) -> u32
     count
 }
 
-// Which of 64 variables from the first on a node mentions, from the marks of the nodes before it.
+// Returns which of the 64 variables from `first` on a node mentions, from the marks of the nodes before it.
 pub(crate) fn mark_of(graph: &Graph, marks: &[u32], at: u32, first: u32) -> u64
     requires at { at < length graph.now.nodes }
     requires room { length marks.now ≡ 2 * length graph.now.nodes }
@@ -42,7 +42,7 @@ pub(crate) fn mark_of(graph: &Graph, marks: &[u32], at: u32, first: u32) -> u64
     }
 }
 
-// The bit of a variable, if it has one.
+// Returns the bit of a variable, or 0 if it has none.
 fn literal_mark(var: u32, first: u32) -> u64
     ensures { (b : ℕ) → b < WIDTH → has_bit result b ≡ (var == first + b) }
 {
@@ -52,7 +52,7 @@ fn literal_mark(var: u32, first: u32) -> u64
     1 << (var - first)
 }
 
-// The bits that some mark of the children has.
+// Returns the bits that the mark of some child has.
 fn joined(marks: &[u32], kids: &[u32]) -> u64
     requires { All (λ k. 2 * k + 1 < length marks.now) kids.now }
     ensures { (b : ℕ) → has_bit result b ≡ list_any (λ x. x) (map (λ k. has_bit (mark_at marks.now k) b) kids.now) }
@@ -64,7 +64,6 @@ fn joined(marks: &[u32], kids: &[u32]) -> u64
     any
 }
 
-// The mark of a node.
 pub(crate) fn mark_at(marks: &[u32], node: usize) -> u64
     requires { 2 * node + 1 < length marks.now }
     ensures { result ≡ mark_at marks.now node }
@@ -81,7 +80,7 @@ pub(crate) fn set_mark(marks: &mut [u32], node: usize, mark: u64)
     marks[2 * node + 1] = (mark / HALF) as u32;
 }
 
-// Takes the marks of the nodes before one off.
+// Clears the marks of the nodes before `to`.
 pub(crate) fn clear_marks(marks: &mut [u32], to: usize)
     requires { 2 * to ≤ length marks.old }
     ensures { (node : ℕ) → node < to → mark_at marks.new node ≡ 0 }

@@ -11,10 +11,9 @@ use node_store::Graph;
 use state_rules::NodeKind;
 use std::sync::ledger::Ledger;
 
-/// For the wires at once, what [`probe`](crate::probe) gives for one, and the least cost of all states.
+/// Computes for all wires at once what [`probe`](crate::probe) returns for one. Returns the least cost of all states.
 ///
-/// The wires' variables are the next ones after the parts'. [`cost_of`] reads the numbers, two for each wire.
-/// The room is worked in, and holds nothing afterwards.
+/// The wires' variables follow the parts'. [`cost_of`] reads the numbers, two for each wire. `room` is scratch.
 pub fn probe_all<L: Ledger>(
     graph: &Graph,
     evidence: &[u32],
@@ -34,7 +33,7 @@ pub fn probe_all<L: Ledger>(
     ensures probes { (wire : ℕ) (bit : Bool) → wire < length numbers.old / 2
         → probed numbers.new wire bit ≡ least_with graph.now evidence.now costs.now (length costs.now + wire + 1) bit }
 
-    // A pass, a sweep for what is outside of nodes, two for literals, and one for each 64 wires of which one is not seen.
+    // A pass, a sweep for the outside costs, two for literals, and one for each 64 wires of which one is not seen.
     ensures steps { steps.new ≤ steps.old + 4 + (length numbers.old / 2 + 63) / 64 }
 {
     let (zeros, ones) = numbers.split_at_mut(numbers.len() / 2);
@@ -45,7 +44,7 @@ pub fn probe_all<L: Ledger>(
     )
 }
 
-/// The least cost if a wire has a bit, by the numbers that [`probe_all`] left. None if no state is left.
+/// Returns the least cost if a wire has a bit, from the numbers that [`probe_all`] left; none if no state is left.
 pub fn cost_of(numbers: &[u32], wire: usize, bit: bool) -> Option<u32>
     requires even { length numbers.now % 2 ≡ 0 }
     requires wire { wire < length numbers.now / 2 }
@@ -64,7 +63,7 @@ pub fn cost_of(numbers: &[u32], wire: usize, bit: bool) -> Option<u32>
 }
 
 impl NodeCosts<'_> {
-    // Lowers the number of each wire to the least cost of a derivation with a literal that says a bit of it.
+    // Lowers the number of each wire to the least cost of a derivation with a literal that gives it this bit.
     fn lower_with(&self, parts: u32, bit: bool, list: &mut [u32])
         requires wires { parts + length list.old ≤ self.now.graph.now.vars }
         ensures { (i : ℕ) → i < length list.old
@@ -80,7 +79,7 @@ impl NodeCosts<'_> {
     }
 }
 
-// The numbers of the wires where they are 0, and those where they are 1.
+// Computes the numbers of the wires if they are 0, and if they are 1.
 fn probe_wires<L: Ledger>(
     graph: &Graph,
     evidence: &[u32],
@@ -132,7 +131,7 @@ fn probe_wires<L: Ledger>(
     Some(fewest)
 }
 
-// Lowers the number of a variable's wire, if it is one's.
+// Lowers the number of a variable's wire, if it is a wire's.
 fn lower_wire(var: u32, parts: u32, cost: u32, list: &mut [u32])
     requires { 1 ≤ var }
     ensures { (i : ℕ) → i < length list.old
@@ -147,7 +146,7 @@ fn lower_wire(var: u32, parts: u32, cost: u32, list: &mut [u32])
     }
 }
 
-// Adds what is held to the number of each wire that is not seen, and gives those that are seen what all have or none.
+// Adds what is held to the number of each wire that is not seen. A seen wire gets `fewest` for its own bit, and none for the other.
 fn settle(evidence: &[u32], parts: u32, fewest: u32, held: u32, bit: bool, list: &mut [u32])
     requires evidence { All (λ w. w < 3) evidence.now }
     requires long { parts + length list.old ≤ length evidence.now }

@@ -13,7 +13,7 @@ use Rattle.state_rules.proofs.NodeValues.{are_below, value_of, value_of-at}
 use Rattle.state_rules.proofs.Children.{at_most_one-from}
 use Rattle.projector.specs.Projecting.{held_literal}
 
--- those of parts of which the first has this number
+-- the literals of parts that are numbered from `s` on
 abbrev pub held_from : ℕ → List (Option Bool) → List Node
 held_from s known = filter_map held_literal (enumerate_from s known)
 
@@ -45,7 +45,7 @@ held-fit parts own s (None ∷ known) some few = held-fit parts own (s + 1) know
 held-fit parts own s (Some ok ∷ known) some few =
     and_from _ _ (and_from _ _ (le-leb 1 s some) (le-leb s parts (omega arith))) (held-fit parts (own + 1) (s + 1) known (omega arith) (omega arith))
 
--- the values of nodes without children that are between others
+-- the values of nodes without children, between others
 pub values-alone : (by : NodeKind → List Bool → Bool) (front middle back : List Node) → AllByRecursion (λ (node : Node). node.kids ≡ []) middle
     → map (value_of by (front ++ (middle ++ back))) (range_with_len (length front) (length middle)) ≡ map (λ node. by node.what []) middle
 values-alone by front [] back alone = refl
@@ -92,7 +92,7 @@ held-once v s (Some ok ∷ known) =
     (λ any. ne_eqb s v (λ e. let no : true ≡ false = sym any ∙ held-below v (s + 1) known (omega arith) in absurd (cc)))
     (held-once v (s + 1) known)
 
--- a variable of which something is known
+-- a variable that is held
 pub record IsHeld (v s : ℕ) (known : List (Option Bool)) : Type 0 where
   pub from : s ≤ v
   pub to : v < s + length known
@@ -107,7 +107,7 @@ later_held v s k known h = record {
   is = (let e : v - s ≡ suc (v - (s + 1)) = omega (arith, h.from) in ap (λ i. get_or (k ∷ known) i None) e ∙ h.is);
 }
 
--- is what they mention
+-- they mention held variables only
 pub held-known : (v s : ℕ) (known : List (Option Bool)) → list_any (λ b. b) (held_mentions v s known) ≡ true → IsHeld v s known
 held-known v s [] any = absurd (let no : false ≡ true = any in cc)
 held-known v s (None ∷ known) any = later_held v s None known (held-known v (s + 1) known any)

@@ -54,7 +54,7 @@ held-count s (suc (suc n) ∷ health) =
 
 -- ---- the line of the root
 
--- its children stand one after the other
+-- its children are one after the other
 root-kids : (nodes held : ℕ) → 0 < nodes → range_with_len (nodes - 1) (held + 1) ≡ (nodes - 1) ∷ range_with_len nodes held
 root-kids nodes held some =
     let more : held + 1 ≡ suc held = omega arith in

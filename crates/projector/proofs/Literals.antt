@@ -19,7 +19,7 @@ variable_fits-from vars (Literal positive var) kids fits = (and_parts (length ki
 variable_fits-from vars And kids fits = refl
 variable_fits-from vars Or kids fits = refl
 
--- What is wanted of a variable: what is known of it, else of a part's the bit that is given.
+-- What is wanted of a variable: what is known of it, or else the given bit of a part.
 abbrev pub wanted_of : Option Bool → Bool → Bool → Option Bool
 wanted_of (Some known) is_part bit = Some known
 wanted_of None true bit = Some bit
@@ -29,7 +29,7 @@ module _ (parts var : ℕ) (positive : Bool) where
   abbrev pub become : Option Bool → NodeKind
   become k = projected_literal parts var positive (leaf_of positive k)
 
-  -- one of which nothing is known, and one of which something is
+  -- a variable of which nothing is known, and one of which something is
   abbrev kept : Bool → NodeKind
   kept part = cond part (Literal positive var) And
 
@@ -47,7 +47,7 @@ module _ (parts var : ℕ) (positive : Bool) where
   same_part : 1 ≤ var → nat_le var parts ≡ nat_lt (var - 1) parts
   same_part some = let e : suc (var - 1) ≡ var = omega arith in ap (λ v. nat_le v parts) (sym e)
 
-  -- it is true where what is wanted of its variable allows it
+  -- it is true if what is wanted of its variable allows it
   pub literal-truth : (a : Assignment) (k : Option Bool) → 1 ≤ var → truth_by a (become k) [] ≡ agrees_at (wanted_of k (nat_lt (var - 1) parts) (a var)) positive
   literal-truth a None some = ap (λ part. truth_by a (kept part) []) (same_part some) ∙ kept-truth a (nat_lt (var - 1) parts)
   literal-truth a (Some c) some = fixed-truth a (same_bit positive c) ∙ same_bit-swap positive c

@@ -38,7 +38,7 @@ use Rattle.projector.proofs.WantedBits.{Agrees, Meets, can_literal, all_can, any
 use Rattle.node_costs.proofs.Nodes.{all_nodes}
 use Rattle.projector.proofs.HeldLiterals.{length-held, held-alone, held-apart, held-fit, values-alone, held-agrees, held-once, held-known}
 
--- a state is among those that pass where it passes
+-- a state is among those that pass if it passes
 pub passing-has : (h : List Bool) (test : Test) → list_any (pointwise same_bit h) (passing (length h) test) ≡ test h
 passing-has h test =
     any-filter_same (pointwise same_bit h) test (test h) (λ k e. ap test (sym (pointwise-equal h k e))) (lists_of_bits (length h))
@@ -68,7 +68,7 @@ abbrev known_of_var : List ℕ → ℕ → Option Bool
 known_of_var evidence v = known_of (slice_index evidence (v - 1))
 
 module _ (evidence : List ℕ) (parts : ℕ) where
-  -- what is known of the variables, and what an assignment gives the parts
+  -- what is known of the variables, and the bits that an assignment gives the parts
   abbrev pub wanted : Assignment → ℕ → Option Bool
   wanted a v = wanted_of (known_of_var evidence v) (nat_lt (v - 1) parts) (a v)
 
@@ -81,7 +81,7 @@ module _ (evidence : List ℕ) (parts : ℕ) where
   kind-truth a vars And kids fits c = refl
   kind-truth a vars Or kids fits c = refl
 
-  -- and mentions no variable but those that it did, and of these no known one
+  -- it mentions only variables that the node did, and no known one
   kind-mentions : (v vars own : ℕ) (f g : ℕ → Bool) (kind : NodeKind) (kids : List ℕ) → kind_fits vars kind kids ≡ true → are_below own kids ≡ true
       → ((k : ℕ) → k < own → f k ≡ true → (g k ≡ true) × (known_of_var evidence v ≡ None))
       → mention_by v (projected_kind evidence parts kind) (map f kids) ≡ true → (mention_by v kind (map g kids) ≡ true) × (known_of_var evidence v ≡ None)
@@ -214,7 +214,7 @@ module _ (graph : Graph) (evidence : List ℕ) (parts : ℕ) (is : IsGraph graph
   -- ---- variables that are mentioned
 
   module _ (v : ℕ) where
-    -- a node mentions what it did, but nothing that is known
+    -- a node mentions what it did, except what is known
     mentioned : (i : ℕ) → i < length graph.nodes → mentions all v i ≡ true → (mentions graph.nodes v i ≡ true) × (known_of_var evidence v ≡ None)
     mentioned i lt = each_below (λ k. mentions all v k ≡ true → (mentions graph.nodes v k ≡ true) × (known_of_var evidence v ≡ None)) (length graph.nodes) step (length graph.nodes) (omega arith) i lt where
       step : (i : ℕ) → i < length graph.nodes → ((k : ℕ) → k < i → mentions all v k ≡ true → (mentions graph.nodes v k ≡ true) × (known_of_var evidence v ≡ None))
@@ -224,7 +224,7 @@ module _ (graph : Graph) (evidence : List ℕ) (parts : ℕ) (is : IsGraph graph
           let r = kind-mentions evidence parts v graph.vars i (mentions all v) (mentions graph.nodes v) node.what node.kids (fits_at i lt).kind (fits_at i lt).below earlier (sym (value-at (mention_by v) i lt) ∙ e) in
           (value_of-at (mention_by v) graph.nodes i lt (fits_at i lt).below ∙ r.0, r.1)
 
-    -- the held literals are of variables that no node before them mentions
+    -- the held literals are of variables that no earlier node mentions
     root-silent : list_any (λ b. b) (map (λ node. mention_by v node.what []) held) ≡ true → mentions all v old_root ≡ false
     root-silent any =
         let h = held-known v 1 known_parts any in
@@ -328,7 +328,7 @@ module _ (graph : Graph) (evidence : List ℕ) (parts : ℕ) (is : IsGraph graph
     pub projected-holds : holds (projection graph evidence parts) h ≡ has_model graph (fits_evidence evidence) parts h
     projected-holds = holds-projected ∙ both_ways (can_be old_root && agrees known_parts h) (has_model graph (fits_evidence evidence) parts h) reached sound
 
-    -- a state is one of the models where it is true
+    -- a state is one of the models if it is true for it
     pub projected-models : holds (projection graph evidence parts) h ≡ list_any (pointwise same_bit h) (models graph evidence parts)
     projected-models = projected-holds ∙ sym (passing-has h (has_model graph (fits_evidence evidence) parts))
         ∙ ap (λ n. list_any (pointwise same_bit h) (passing n (has_model graph (fits_evidence evidence) parts))) long

@@ -1,5 +1,5 @@
--- Where bits are wanted of some variables of a decomposable graph, whether the other variables can have bits that make it true is
--- computed node by node: a literal can be true unless the other bit is wanted.
+-- Whether the other variables can have bits that make a decomposable graph true, if bits of some are wanted. Computed node by node: a
+-- literal can be true unless the other bit is wanted.
 use Rattle.std.proofs.Common.{◌≡◌, ℕ, ◌<◌, Bool, true, false, ◌&&◌, ◌||◌, List, Option, refl, sym, ap, ◌∙◌, arith, eqb}
 use Rattle.std.specs.List.{list_all, list_any}
 use Rattle.std.proofs.lemmas.Bool.{and_parts, and_from, eq-eqb, false≢true}
@@ -25,12 +25,12 @@ module _ (wanted : ℕ → Option Bool) where
   abbrev pub Agrees : Assignment → Type 0
   Agrees a = costs.Agrees (no_weights wanted) a
 
-  -- `can` says whether some assignment agrees and passes the test t, which depends on the variables of m alone
+  -- `can` says whether some assignment agrees and passes test `t`, which depends on the variables of `m` alone
   pub record Meets (t : Assignment → Bool) (m : ℕ → Bool) (can : Bool) : Type 0 where
     pub row : IsRow (λ n. can) 1 (TestCost (no_weights wanted) m t)
     pub local : Depends m t
 
-  -- of a literal, of all and of any of the children
+  -- the same for a literal, and for all and any of the children
   abbrev pub can_literal : ℕ → Bool → Bool
   can_literal var positive = agrees_at (wanted var) positive
 

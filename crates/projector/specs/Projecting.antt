@@ -1,4 +1,4 @@
--- The graph of the health states that a graph allows under evidence, and the text that it is written as.
+-- The graph of the health states that a graph allows under evidence, and its text.
 use Rattle.std.specs.Prelude.{ℕ, ◌-◌, Bool, List, [], ◌∷◌, ◌++◌, map, length, take, Option, Some, None, nat_le, slice_index, if◌then◌else◌}
 use Rattle.std.specs.List.{filter_map, enumerate_from, range_with_len}
 use Rattle.state_rules.specs.declared.nodes.NodeKind.{NodeKind}
@@ -9,8 +9,8 @@ use Rattle.conditioner.specs.declared.leaves.Leaf.{Leaf}
 use Rattle.conditioner.specs.declared.leaves.Leaf.TheVariants.{True, False, Open}
 use Rattle.conditioner.specs.Evidence.{known_of, known, leaf_of}
 
--- A literal, which has no children, becomes an and if it is true, and an or if it is false. An open one stays where its
--- variable is a part's, and becomes an and if it is any other's, since that can have the bit that makes it true.
+-- A literal, which has no children, becomes an And node if it is true, and an Or node if it is false. An open one stays if its variable is
+-- a part's, and else becomes an And node, since the variable can have the bit that makes it true.
 abbrev pub projected_literal : ℕ → ℕ → Bool → Leaf → NodeKind
 projected_literal parts var positive True = And
 projected_literal parts var positive False = Or
@@ -32,15 +32,15 @@ abbrev pub held_literal : ℕ × Option Bool → Option Node
 held_literal (part, None) = None
 held_literal (part, Some ok) = Some (literal_node part ok)
 
--- those of all such parts, in order
+-- the literals of all such parts, in order
 abbrev pub held_literals : List ℕ → ℕ → List Node
 held_literals evidence parts = filter_map held_literal (enumerate_from 1 (known (take parts evidence)))
 
--- an and over the root of so many nodes and over so many literals that follow them
+-- an And node over the root of `nodes` nodes and the `literals` literals that follow them
 abbrev pub root_with : ℕ → ℕ → Node
 root_with nodes literals = record { what = And; kids = (nodes - 1) ∷ range_with_len nodes literals }
 
--- the nodes of a graph under the evidence, the literals of held parts, and an and over its root and these
+-- the nodes of a graph under the evidence, the literals of held parts, and an And node over its root and these
 abbrev pub projection : Graph → List ℕ → ℕ → Graph
 projection graph evidence parts =
     let held = held_literals evidence parts in

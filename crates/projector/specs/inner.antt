@@ -1,2 +1,2 @@
--- what only the contracts of private functions cite
+-- Definitions that only private contracts cite.
 pub mod Lines

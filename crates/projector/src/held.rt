@@ -14,7 +14,7 @@ use nnf_text::{GraphText, add_counted_range, add_node};
 use state_rules::NodeKind;
 
 impl Projection<'_> {
-    // Of how many parts something is known.
+    // Returns the number of parts of which something is known.
     pub(crate) fn held_count(&self) -> u32
         ensures count { result ≡ count_by (λ word. not (word == 0)) (take self.now.parts self.now.evidence.now) }
         ensures most { result ≤ self.now.parts }
@@ -22,7 +22,7 @@ impl Projection<'_> {
         self.health().iter().filter(|word| !is_open(**word)).count() as u32
     }
 
-    // Adds the lines of the literals of held parts, and of the and over these and the root.
+    // Adds the lines of the literals of held parts, and of the And node over the root and these.
     pub(crate) fn add_ends<O: Sink>(&self, text: &mut GraphText, out: &mut O, held: u32)
         requires { held ≤ self.now.parts }
         ensures { Extends (O.shown out.old) (O.shown out.new) text.old text.new
@@ -47,7 +47,7 @@ impl Projection<'_> {
     }
 }
 
-// Adds the line of a part's literal, where something is known of the part.
+// Adds the line of a part's literal, if something is known of the part.
 #[tactic(auto, using(nnf_text::proofs::Extended::extending))]
 fn add_known<O: Sink>(text: &mut GraphText, out: &mut O, part: u32, known: Option<bool>)
     ensures { Extends (O.shown out.old) (O.shown out.new) text.old text.new (held_line (part, known)) }

@@ -1,4 +1,4 @@
-//! The graph of the health states that a graph allows under evidence, as `.nnf` text.
+//! Writes the graph of the health states that a graph allows under evidence, as `.nnf` text.
 #![tactic(auto)]
 
 mod held;

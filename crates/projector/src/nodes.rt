@@ -12,7 +12,7 @@ use diag_edge::Sink;
 use nnf_text::{GraphText, add_node};
 use state_rules::NodeKind;
 
-// What a literal becomes.
+// Returns what a literal becomes.
 fn projected_literal(parts: u32, var: u32, positive: bool, leaf: Leaf) -> NodeKind
     ensures { result ≡ projected_literal parts var positive leaf }
 {
@@ -24,7 +24,7 @@ fn projected_literal(parts: u32, var: u32, positive: bool, leaf: Leaf) -> NodeKi
 }
 
 impl Projection<'_> {
-    // What a node becomes under the evidence.
+    // Returns what a node becomes under the evidence.
     fn kind(&self, kind: NodeKind) -> NodeKind
         requires { variable_fits self.now.graph.now.vars kind ≡ true }
         ensures { result ≡ projected_kind self.now.evidence.now self.now.parts kind }

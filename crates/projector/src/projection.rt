@@ -2,7 +2,7 @@ ghost use Rattle.std.specs.Prelude.{◌≡◌, ◌+◌, ◌^◌, ◌<◌, ◌≤
 
 use node_store::Graph;
 
-// A graph under evidence, and how many of its variables are parts.
+// A graph under evidence, and the number of its parts.
 #[derive(Clone, Copy)]
 pub(crate) struct Projection<'a> {
     pub(crate) graph: &'a Graph,
@@ -15,7 +15,7 @@ pub(crate) struct Projection<'a> {
 }
 
 impl Projection<'_> {
-    // The evidence of the parts.
+    // Returns the evidence on the parts.
     pub(crate) fn health(&self) -> &[u32]
         ensures { result.now ≡ take self.now.parts self.now.evidence.now }
     {

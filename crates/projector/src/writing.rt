@@ -12,11 +12,10 @@ use diag_edge::{Sink, WriteFailed};
 use nnf_text::{GraphText, add_header};
 use node_store::Graph;
 
-/// Writes the graph of the health states that a graph allows under evidence, one word a variable: 0 if it is open, 1 if it
-/// is true, 2 if it is false. Variables 1 to `parts` are the health of the parts, and a part whose word is not 0 is held.
+/// Writes the graph of the health states that a graph allows under evidence, one word a variable: 0 if it is open, 1 if true, 2 if false.
+/// Variables 1 to `parts` are the health of the parts; a part whose word is not 0 is held.
 ///
-/// After its header the text has a line for each node of the graph, one for each held part, and one for its root. No memory is
-/// taken.
+/// After its header the text has a line for each node of the graph, one for each held part, and one for its root. No memory is taken.
 pub fn write_projected<O: Sink>(
     graph: &Graph,
     evidence: &[u32],
@@ -32,7 +31,7 @@ pub fn write_projected<O: Sink>(
         (projected_text graph.now evidence.now parts) }
     ensures cause { HasCause (O.faults out.old) (O.faults out.new) result }
 
-    // The text has no blank line, and is read as a decomposable graph over the parts that is true for the models alone.
+    // The text has no blank line. It is read as a decomposable graph over the parts that is true for the models alone.
     ensures neat { is_neat (projected_text graph.now evidence.now parts) ≡ true }
     ensures models { IsGraphOfStates parts (models graph.now evidence.now parts)
         (parsed (projected_text graph.now evidence.now parts)) }

@@ -1,11 +1,11 @@
--- What is sure of each line that asks something.
+-- What holds of each line that asks something.
 use Rattle.std.specs.Prelude.{Bool, true, ◌&&◌, nat_le}
 use Rattle.std.specs.List.{list_all}
 use Rattle.text_rules.specs.Names.{is_short_name}
 use Rattle.script_lang.specs.declared.limits.TheConstants.{COUNT_LIMIT}
 use Rattle.script_lang.specs.Script.{Request, Note, Tell, Several, Levels, After, Probe, Line, Ask, is_script_name}
 
--- whether the names of a request are names, and its count lies from 1 to a million
+-- whether the names of a request are names, and its count is from 1 to a million
 abbrev pub is_well_named : Request → Bool
 is_well_named (Note what name known) = is_script_name name
 is_well_named (Several count) = nat_le 1 count && nat_le count COUNT_LIMIT

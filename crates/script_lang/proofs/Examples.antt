@@ -1,4 +1,4 @@
--- Worked rows: what the definitions give at lines of which a reader can say it beforehand. Their check computes both sides.
+-- Worked rows: what the definitions give for lines that a reader can judge beforehand. The check computes both sides.
 use Rattle.std.proofs.Common.{◌≡◌, ◌+◌, ℕ, true, false, List, [], ◌∷◌, ◌++◌, length, codes, replicate, refl, arith, Some, None}
 use Rattle.script_lang.proofs.LineLemmas.{line_of-too_long}
 use Rattle.script_lang.specs.Script.{Blank, Refused, Ask, Start, Stop, Note, Tell, Next, Several, After, Min, Probe, Probes, Blame, Dnnf, Level, Levels, LeastNnf, line_of}
@@ -72,7 +72,7 @@ nine_states = refl
 write_the_least : line_of (codes "leastnnf S") ≡ Ask (codes "S") LeastNnf
 write_the_least = refl
 
--- a tab parts words, and a carriage return at the end is a blank
+-- a tab separates words, and a carriage return at the end is a blank
 blanks_of_each_kind : line_of (codes "open" ++ 9 ∷ codes "S" ++ 13 ∷ []) ≡ Ask (codes "S") Start
 blanks_of_each_kind = refl
 
@@ -118,7 +118,7 @@ no_session_behind_after = refl
 no_equals_sign : line_of (codes "see S a") ≡ Refused BadWords
 no_equals_sign = refl
 
--- a number sign within a line begins no comment
+-- a number sign within a line does not begin a comment
 number_sign_behind_a_command : line_of (codes "open S # note") ≡ Refused BadWords
 number_sign_behind_a_command = refl
 
@@ -181,7 +181,7 @@ states_above_a_million = refl
 line_of_a_byte_too_many : (line : List ℕ) → length line ≡ LINE_LIMIT + 1 → line_of line ≡ Refused TooLong
 line_of_a_byte_too_many line long = line_of-too_long line (omega arith)
 
--- ---- the number of a refusal, and what it says
+-- ---- the number and text of a refusal
 
 unknown_command_says : refusal_row UnknownCommand ≡ (1, codes "unknown command")
 unknown_command_says = refl

@@ -1,4 +1,4 @@
--- What is known of the words of a line, and of their parts.
+-- Lemmas about the words of a line, and their parts.
 use Rattle.std.proofs.Common.{◌≡◌, ℕ, zero, suc, ◌-◌, ◌<◌, true, false, ◌==◌, List, [], ◌∷◌, length, get_or, take, drop, Some, None, refl, ap, ◌∙◌, arith, add-zero}
 use Rattle.std.proofs.lemmas.Bool.{cond-true, cond-false}
 use Rattle.std.proofs.lemmas.List.{take_rest, get_or-drop}
@@ -9,7 +9,7 @@ use Rattle.script_lang.specs.Script.{at_equals}
 pub first_from : (bytes : List ℕ) (n : ℕ) → get_or (take (length bytes - n) (drop n bytes)) 0 0 ≡ get_or bytes n 0
 first_from bytes n = rw (take_rest bytes n, get_or-drop n bytes 0 0, add-zero n)
 
--- where the first equals sign stands, a word is cut
+-- a word is cut at its first equals sign
 pub at_equals-place : (word : List ℕ) (n : ℕ) → n < length word → ((k : ℕ) → k < n → (get_or word k 0 == 61) ≡ false) → (get_or word n 0 == 61) ≡ true → at_equals word ≡ Some (take n word, drop (suc n) word)
 at_equals-place [] n inside before here = absurd (omega arith)
 at_equals-place (b ∷ word) zero inside before here = cond-true _ _ _ here

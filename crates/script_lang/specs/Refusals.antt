@@ -1,4 +1,4 @@
--- Why a line of a script asks nothing: the number of each refusal, and what it says.
+-- Why a line of a script is refused: the number and text of each refusal.
 use Rattle.std.specs.Prelude.{ℕ, List, codes, ◌==◌, if◌then◌else◌}
 use Rattle.script_lang.specs.declared.refusal.LineRefusal.{LineRefusal}
 use Rattle.script_lang.specs.declared.refusal.LineRefusal.TheVariants.{UnknownCommand, BadWords, BadName, BadValue, TooLong}

@@ -22,14 +22,14 @@ use Rattle.script_lang.specs.declared.refusal.LineRefusal.TheVariants.{UnknownCo
 use Rattle.script_lang.specs.Refusals.{refusal_of}
 use Rattle.script_lang.specs.declared.limits.TheConstants.{COUNT_LIMIT, LINE_LIMIT}
 
--- what is answered of a session's case, which stays as it is
+-- a question about a session's case, which stays as it is
 pub data Question : Type 0 where
   Min : Question
   Probe : (wire : Name) → Question
   Probes : Question
   Blame : Question
 
--- what a line asks of a session; a wire is seen, and a part held, by a note of what is known of it
+-- what a line asks of a session; a note says what is known of a wire (seen) or of a part (held)
 pub data Request : Type 0 where
   Start : Request
   Stop : Request
@@ -43,17 +43,17 @@ pub data Request : Type 0 where
   Levels : (count : ℕ) → Request
   LeastNnf : Request
 
--- nothing, a refusal, or a session and what is asked of it
+-- nothing, a refusal, or a request to a session
 pub data Line : Type 0 where
   Blank : Line
   Refused : (refusal : LineRefusal) → Line
   Ask : (session : Name) (request : Request) → Line
 
--- a name of a wire or of a part
+-- a name of a wire or a part
 abbrev pub is_script_name : List ℕ → Bool
 is_script_name word = is_name NAME_LIMIT word
 
--- a session alone
+-- a session only
 abbrev pub on_session : Request → List (List ℕ) → Line
 on_session request (s ∷ []) = if is_short_name s then Ask s request else Refused BadName
 on_session request ws = Refused BadWords
@@ -63,7 +63,7 @@ abbrev pub on_name : (Name → Request) → List (List ℕ) → Line
 on_name request (s ∷ name ∷ []) = if is_short_name s && is_script_name name then Ask s (request name) else Refused BadName
 on_name request ws = Refused BadWords
 
--- what is before the first equals sign, and after it
+-- the text before the first equals sign, and that after it
 abbrev pub at_equals : List ℕ → Option (List ℕ × List ℕ)
 at_equals [] = None
 at_equals (b ∷ bytes) = if b == 61 then Some ([], bytes) else option_map (λ (pair : List ℕ × List ℕ). (b ∷ pair.0, pair.1)) (at_equals bytes)
@@ -75,7 +75,7 @@ on_pair one other request s (Some pair) =
     then option_map_or (λ value. Ask s (request pair.0 value)) (lookup (same_name pair.1) ((one, true) ∷ (other, false) ∷ []))
     (Refused BadValue) else Refused BadName
 
--- a session, and a name with one of two words, for 1 and for 0
+-- a session, and a name with one of two words: `one` for true, `other` for false
 abbrev pub on_value : List ℕ → List ℕ → (Name → Bool → Request) → List (List ℕ) → Line
 on_value one other request (s ∷ pair ∷ []) = on_pair one other request s (at_equals pair)
 on_value one other request ws = Refused BadWords
@@ -92,7 +92,7 @@ abbrev pub on_names : (List Name → Request) → List (List ℕ) → Line
 on_names request [] = Refused BadWords
 on_names request (s ∷ names) = if is_short_name s && list_all is_script_name names then Ask s (request names) else Refused BadName
 
--- the command words, and how the words after each are read
+-- the command words, and how to read the words after each
 abbrev pub commands : List (List ℕ × (List (List ℕ) → Line))
 commands = (codes "open", on_session Start)
     ∷ (codes "close", on_session Stop)
@@ -113,7 +113,7 @@ commands = (codes "open", on_session Start)
     ∷ (codes "leastnnf", on_session LeastNnf)
     ∷ []
 
--- the words after a command, by such a table; a first word that is no command is refused
+-- the words after a command, read by such a table; a first word that is no command is refused
 abbrev pub read_as : List (List ℕ × (List (List ℕ) → Line)) → List ℕ → List (List ℕ) → Line
 read_as table word ws = option_map_or (λ reading. reading ws) (lookup (same_name word) table) (Refused UnknownCommand)
 
@@ -122,20 +122,20 @@ abbrev pub line_of_words : List (List ℕ) → Line
 line_of_words [] = Blank
 line_of_words (word ∷ ws) = if slice_index_or word 0 0 == 35 then Blank else read_as commands word ws
 
--- A line that is too long is refused, a comment too.
+-- A line that is too long is refused, even a comment.
 abbrev pub line_of : List ℕ → Line
 line_of bytes = if nat_lt LINE_LIMIT (length bytes) then Refused TooLong else line_of_words (words bytes)
 
--- ---- what the values that the code hands on mean
+-- ---- the meaning of the code's values
 
--- what is answered of a session's case
+-- the code's questions
 abbrev pub question_of : QuestionRead → Question
 question_of question.Min = Min
 question_of (question.Probe wire) = Probe wire.now
 question_of question.Probes = Probes
 question_of question.Blame = Blame
 
--- what is asked of a session
+-- the code's requests
 abbrev pub asked : RequestRead → Request
 asked request.Start = Start
 asked request.Stop = Stop
@@ -149,13 +149,13 @@ asked request.Level = Level
 asked (request.Levels count) = Levels count
 asked request.LeastNnf = LeastNnf
 
--- what is asked, and of which session
+-- the code's requests with their sessions
 abbrev pub asked_line : AskedRead → Line
 asked_line of.Nothing = Blank
 asked_line (of.Refused refusal) = Refused refusal
 asked_line (of.Of session request) = Ask session.now (asked request)
 
--- what a line that was read means
+-- the code's lines
 abbrev pub meaning : LineRead → Line
 meaning line.Blank = Blank
 meaning (line.Start session) = Ask session.now Start
@@ -177,7 +177,7 @@ meaning (line.Levels session count) = Ask session.now (Levels count)
 meaning (line.LeastNnf session) = Ask session.now LeastNnf
 meaning (line.Refused number) = Refused (refusal_of number)
 
--- a refusal is one of the five
+-- the number of a refusal is one of the five
 abbrev pub IsNumbered : LineRead → Type 0
 IsNumbered (line.Refused number) = (1 ≤ number) × (number ≤ 5)
 IsNumbered read = Unit {0}

@@ -1,2 +1,2 @@
--- What only the private contracts of this crate cite.
+-- Definitions that only private contracts cite.
 pub mod Found

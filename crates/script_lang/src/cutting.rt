@@ -6,7 +6,7 @@ ghost use Rattle.script_lang.specs.Script.{at_equals};
 
 use text_rules::is_blank;
 
-// The first word of a text, and the text after it.
+// Returns the first word of a text, and the text after it.
 pub fn split_word(text: &[u8]) -> Option<(&[u8], &[u8])>
     ensures { MatchOption result (words text.now ≡ [])
         (λ found. words text.now ≡ found.0.now ∷ words found.1.now) }
@@ -20,7 +20,7 @@ pub fn split_word(text: &[u8]) -> Option<(&[u8], &[u8])>
     Some(text.split_at(end))
 }
 
-// The word of a text of one word.
+// Returns the word of a text of one word.
 pub fn one_word(text: &[u8]) -> Option<&[u8]>
     ensures { option_copied result ≡ only_word (words text.now) }
 {
@@ -31,7 +31,7 @@ pub fn one_word(text: &[u8]) -> Option<&[u8]>
     }
 }
 
-// The words of a text of two words.
+// Returns the words of a text of two words.
 pub fn two_words(text: &[u8]) -> Option<(&[u8], &[u8])>
     ensures { option_map (λ found. (found.0.now, found.1.now)) result
         ≡ only_two_words (words text.now) }
@@ -41,7 +41,7 @@ pub fn two_words(text: &[u8]) -> Option<(&[u8], &[u8])>
     Some((first, second))
 }
 
-// What is before the first equals sign, and after it.
+// Returns what is before the first equals sign, and what is after it.
 pub fn at_equals(word: &[u8]) -> Option<(&[u8], &[u8])>
     ensures { option_map (λ found. (found.0.now, found.1.now)) result ≡ at_equals word.now }
 {

@@ -1,4 +1,4 @@
-//! The lines of a script.
+//! Reads the lines of a script.
 #![tactic(auto)]
 
 mod cutting;

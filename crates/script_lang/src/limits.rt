@@ -1,4 +1,4 @@
-//! How long the lines of a script may be, and what they may count to.
+//! The limits of a line's length and of a count.
 
 /// The longest line of a script, in bytes and without its line feed.
 pub const LINE_LIMIT: usize = 1_048_576;

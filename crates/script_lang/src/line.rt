@@ -10,20 +10,20 @@ use crate::limits::LINE_LIMIT;
 use crate::operands::{count_in, name_in, names_in, session_in, value_in};
 use crate::refusal::LineRefusal;
 
-/// A line of a script. Its names are spelled as names are, but not looked up: there need be no such session, wire or part.
+/// A line of a script. Its names are well formed but not looked up: there may be no such session, wire or part.
 #[derive(Clone, Copy, Debug)]
 pub enum Line<'a> {
-    /// Nothing: no word, or a comment.
+    /// A blank line or a comment.
     Blank,
-    /// `open S`: a session of this name begins.
+    /// `open S`: begins a session of this name.
     Start {
         session: &'a [u8],
     },
-    /// `close S`: the session ends.
+    /// `close S`: ends the session.
     Stop {
         session: &'a [u8],
     },
-    /// `see S WIRE=1` or `see S WIRE=0`: the wire was seen to be 1 or 0.
+    /// `see S WIRE=1` or `see S WIRE=0`: the wire is seen to be 1 or 0.
     See {
         session: &'a [u8],
         name: &'a [u8],
@@ -34,7 +34,7 @@ pub enum Line<'a> {
         session: &'a [u8],
         name: &'a [u8],
     },
-    /// `hold S PART=ok` or `hold S PART=bad`: the part is held to be sound or faulty.
+    /// `hold S PART=ok` or `hold S PART=bad`: the part is held to be ok or faulty.
     Hold {
         session: &'a [u8],
         name: &'a [u8],
@@ -53,13 +53,13 @@ pub enum Line<'a> {
     Next {
         session: &'a [u8],
     },
-    /// `list S COUNT`: the next diagnoses, from 1 to a million.
+    /// `list S COUNT`: the next diagnoses, at most COUNT, from 1 to a million.
     List {
         session: &'a [u8],
         count: u32,
     },
-    /// `after S PART PART ..`: any number of names, or none. `names` is the text after the session,
-    /// and [`each_name`](crate::each_name) walks it.
+    /// `after S PART PART ..`: any number of names, or none. `names` is the text after the session; [`each_name`](crate::each_name) walks
+    /// it.
     After {
         session: &'a [u8],
         names: &'a [u8],
@@ -69,11 +69,11 @@ pub enum Line<'a> {
         session: &'a [u8],
         name: &'a [u8],
     },
-    /// `probes S`: the same of each wire that is not seen.
+    /// `probes S`: the same for each wire that is not seen.
     Probes {
         session: &'a [u8],
     },
-    /// `blame S`: of each part whether it is faulty in all diagnoses, in some, or in none.
+    /// `blame S`: for each part, whether it is faulty in all diagnoses, in some, or in none.
     Blame {
         session: &'a [u8],
     },
@@ -85,7 +85,7 @@ pub enum Line<'a> {
     Level {
         session: &'a [u8],
     },
-    /// `levels S COUNT`: the next states by rising cost, from 1 to a million.
+    /// `levels S COUNT`: the next states by rising cost, at most COUNT, from 1 to a million.
     Levels {
         session: &'a [u8],
         count: u32,
@@ -94,27 +94,27 @@ pub enum Line<'a> {
     LeastNnf {
         session: &'a [u8],
     },
-    /// Nothing that can be asked. The number is that of a [`LineRefusal`].
+    /// A refused line, with the number of its [`LineRefusal`].
     Refused(u8),
 }
 
-/// What a name names, if something is noted of it.
+/// What a note is about.
 #[derive(Clone, Copy, Debug, PartialEq, Eq)]
 pub enum Noted {
-    /// A wire, which is seen to be 1 or 0.
+    /// A wire, seen to be 1 or 0.
     Wire,
-    /// A part, which is held to be sound or faulty.
+    /// A part, held to be ok or faulty.
     Part,
 }
 
-/// A line with the commands that are answered alike taken together.
+/// A line; commands that are answered alike are taken together.
 #[derive(Clone, Copy, Debug)]
 pub enum AskedLine<'a> {
-    /// Nothing.
+    /// A blank line or a comment.
     Nothing,
-    /// Nothing that can be asked.
+    /// A refused line.
     Refused(LineRefusal),
-    /// Something of a session.
+    /// A request to a session.
     Of {
         session: &'a [u8],
         request: Request<'a>,
@@ -128,21 +128,21 @@ pub enum Question<'a> {
     Min,
     /// `probe S WIRE`: the least cost if the wire is 0, and if it is 1.
     Probe { wire: &'a [u8] },
-    /// `probes S`: the same of each wire that is not seen.
+    /// `probes S`: the same for each wire that is not seen.
     Probes,
-    /// `blame S`: of each part whether it is faulty in all diagnoses, in some, or in none.
+    /// `blame S`: for each part, whether it is faulty in all diagnoses, in some, or in none.
     Blame,
 }
 
-/// What is asked of a session.
+/// What a line asks of a session.
 #[derive(Clone, Copy, Debug)]
 pub enum Request<'a> {
-    /// `open S`: a session of this name begins.
+    /// `open S`: begins a session of this name.
     Start,
-    /// `close S`: the session ends.
+    /// `close S`: ends the session.
     Stop,
-    /// `see S WIRE=1` or `see S WIRE=0`: the wire was seen to be 1 or 0. `hold S PART=ok` or `hold S PART=bad`: the part is held to
-    /// be sound or faulty. `unsee S WIRE`, `unhold S PART`: nothing is known any more.
+    /// `see S WIRE=1` or `see S WIRE=0`: the wire is seen to be 1 or 0. `hold S PART=ok` or `hold S PART=bad`: the part is held to be ok or
+    /// faulty. `unsee S WIRE`, `unhold S PART`: nothing is known any more.
     Note {
         what: Noted,
         name: &'a [u8],
@@ -173,7 +173,7 @@ pub enum Request<'a> {
 }
 
 impl<'a> Line<'a> {
-    /// What the line asks, and of which session.
+    /// Returns what the line asks, and of which session.
     pub fn asked(self) -> AskedLine<'a>
         ensures { asked_line result ≡ meaning self.entry }
     {
@@ -205,7 +205,7 @@ impl<'a> Line<'a> {
     }
 }
 
-// What is known of a wire or a part, or that nothing is any more.
+// Returns the request to note what is known of a wire or a part, or that nothing is any more.
 fn note<'a>(what: Noted, name: &'a [u8], known: Option<bool>) -> Request<'a>
     ensures { asked result ≡ Note what name.now known }
 {
@@ -218,7 +218,7 @@ fn same_word(word: &[u8], other: &[u8]) -> bool
     word == other
 }
 
-// What a command and the text after it say, if the command is one of a session's life or of its case.
+// Reads a command and the text after it. The first six are those of a session's life and case.
 fn read_command<'a>(command: &[u8], text: &'a [u8]) -> Result<Line<'a>, LineRefusal>
     ensures { asked_by meaning result ≡ read_as commands command.now (words text.now) }
 {
@@ -245,7 +245,7 @@ fn read_command<'a>(command: &[u8], text: &'a [u8]) -> Result<Line<'a>, LineRefu
     }
 }
 
-// What they say if the command is none of these six.
+// Reads them if the command is none of these six.
 fn read_question<'a>(command: &[u8], text: &'a [u8]) -> Result<Line<'a>, LineRefusal>
     ensures { asked_by meaning result ≡ read_as (drop 6 commands) command.now (words text.now) }
 {
@@ -272,7 +272,7 @@ fn read_question<'a>(command: &[u8], text: &'a [u8]) -> Result<Line<'a>, LineRef
     }
 }
 
-// What they say if it is none of these twelve.
+// Reads them if the command is none of these twelve.
 fn read_other<'a>(command: &[u8], text: &'a [u8]) -> Result<Line<'a>, LineRefusal>
     ensures { asked_by meaning result ≡ read_as (drop 12 commands) command.now (words text.now) }
 {
@@ -303,7 +303,6 @@ fn begins_comment(word: &[u8]) -> bool
     word.first() == Some(&b'#')
 }
 
-// A refused line, by its number.
 fn refused<'a>(refusal: LineRefusal) -> Line<'a>
     ensures means { meaning result ≡ script.Refused refusal }
     ensures numbered { IsNumbered result }
@@ -311,10 +310,10 @@ fn refused<'a>(refusal: LineRefusal) -> Line<'a>
     Line::Refused(refusal.number())
 }
 
-/// Reads one line of a script, without its line feed. Nothing is copied: the parts of the result lie in the line.
+/// Reads one line of a script, without its line feed. Copies nothing: the result borrows from the line.
 pub fn parse_line(line: &[u8]) -> Line<'_>
     ensures means { meaning result ≡ line_of line.now }
-    // A refusal is one of the five.
+    // The number of a refusal is one of the five.
     ensures numbered { IsNumbered result }
 {
     if line.len() > LINE_LIMIT {

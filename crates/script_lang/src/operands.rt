@@ -18,7 +18,7 @@ fn is_script_name(word: &[u8]) -> bool
     is_name(NAME_LIMIT, word)
 }
 
-// A session alone. What is asked of it does not matter to how it is read, here and below.
+// Reads a session alone. Here and below, what is asked of it does not matter.
 pub fn session_in(text: &[u8]) -> Result<&[u8], LineRefusal>
     ensures { (request : script.Request)
         → asked_by (λ session. Ask session.now request) result ≡ on_session request (words text.now) }
@@ -30,7 +30,7 @@ pub fn session_in(text: &[u8]) -> Result<&[u8], LineRefusal>
     }
 }
 
-// A session and a name.
+// Reads a session and a name.
 pub fn name_in(text: &[u8]) -> Result<(&[u8], &[u8]), LineRefusal>
     ensures { (request : Name → script.Request)
         → asked_by (λ found. Ask found.0.now (request found.1.now)) result
@@ -45,7 +45,7 @@ pub fn name_in(text: &[u8]) -> Result<(&[u8], &[u8]), LineRefusal>
     }
 }
 
-// A session, and a name with one of two values.
+// Reads a session, and a name with one of two values.
 pub fn value_in<'a>(
     text: &'a [u8],
     one: &[u8],
@@ -69,7 +69,7 @@ pub fn value_in<'a>(
     }
 }
 
-// A session and a count from 1 to a million.
+// Reads a session and a count from 1 to a million.
 pub fn count_in(text: &[u8]) -> Result<(&[u8], u32), LineRefusal>
     ensures { (request : ℕ → script.Request)
         → asked_by (λ found. Ask found.0.now (request found.1)) result
@@ -85,14 +85,13 @@ pub fn count_in(text: &[u8]) -> Result<(&[u8], u32), LineRefusal>
     }
 }
 
-// Whether each word is a name of a wire or of a part.
 fn are_script_names(text: &[u8]) -> bool
     ensures { result ≡ list_all is_script_name (words text.now) }
 {
     Tokens::words(text).all(is_script_name)
 }
 
-// A session, and the text of the names after it.
+// Reads a session. Returns it with the text of the names after it.
 pub fn names_in(text: &[u8]) -> Result<(&[u8], &[u8]), LineRefusal>
     ensures { (request : List Name → script.Request)
         → asked_by (λ found. Ask found.0.now (request (words found.1.now))) result

@@ -1,23 +1,23 @@
 ghost use Rattle.std.specs.Prelude.{◌≡◌};
 ghost use Rattle.script_lang.specs.Refusals.{refusal_of, refusal_row};
 
-/// Why a line asks nothing. If several hold, the length counts first, and otherwise the first of these.
+/// Why a line is refused. If several hold, the length counts first, then the first of these.
 #[derive(Clone, Copy, Debug, PartialEq, Eq)]
 pub enum LineRefusal {
     /// The first word is no command.
     UnknownCommand,
     /// The number of words is wrong, or a pair has no equals sign.
     BadWords,
-    /// A session, a wire or a part is not spelled as a name is.
+    /// A session, a wire or a part is not spelled as a name.
     BadName,
-    /// A value is none of those that are allowed there.
+    /// A value is not one of those allowed.
     BadValue,
-    /// The line has more bytes than a line may have.
+    /// The line has more bytes than [`LINE_LIMIT`](crate::LINE_LIMIT).
     TooLong,
 }
 
 impl LineRefusal {
-    // The number of the refusal, and what it says.
+    // Returns the number of the refusal, and its text.
     fn row(self) -> (u8, &'static str)
         ensures number { result.0 ≡ (refusal_row self).0 }
         ensures text { result.1.now ≡ (refusal_row self).1 }
@@ -31,14 +31,14 @@ impl LineRefusal {
         }
     }
 
-    /// The number of the refusal, 1 to 5.
+    /// Returns the number of the refusal, 1 to 5.
     pub fn number(self) -> u8
         ensures { result ≡ (refusal_row self).0 }
     {
         self.row().0
     }
 
-    /// The refusal of a number: the last of any other number.
+    /// Returns the refusal of a number, or the last for any other number.
     pub fn numbered(number: u8) -> LineRefusal
         ensures { result ≡ refusal_of number }
     {
@@ -51,7 +51,7 @@ impl LineRefusal {
         }
     }
 
-    /// What the refusal says.
+    /// Returns the text of the refusal.
     pub fn text(self) -> &'static str
         ensures { result.now ≡ (refusal_row self).1 }
     {

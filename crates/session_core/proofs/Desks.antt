@@ -1,4 +1,4 @@
--- What the graph answers under the words on a desk.
+-- The answers of the graph under the words on a desk.
 use Rattle.std.proofs.Common.{◌≡◌, ◌∙◌, ◌+◌, ◌<◌, ℕ, Bool, List, All, length, refl, arith}
 use Rattle.state_rules.specs.Graphs.{Graph}
 use Rattle.state_rules.specs.Systems.{least_cost, all_diagnoses}
@@ -23,14 +23,14 @@ module _ (subject : Subject) (known : List ℕ) (basis : IsBasis subject) (are :
   pub diagnoses-asked : diagnoses_under graph words costs ≡ all_diagnoses (served_system subject) (case_in subject known)
   diagnoses-asked = grind arith
 
-  -- and where the variable of a wire has a bit too
+  -- the same if the variable of a wire has a bit too
   pub seen-asked : (wire var : ℕ) (bit : Bool) → wire < length subject.wires → var ≡ length subject.parts + wire + 1
       → least_with graph words costs var bit ≡ least_at (served_system subject) (case_in subject known) wire bit (seen_at (case_in subject known) wire)
   seen-asked wire var bit within v =
       (λ i. least_with (g i) (w i) (p i) (v i) bit)
       ∙ least_with-by_words subject.parts subject.wires subject.costs subject.graph subject.graph.vars known basis.costs refl are wire within bit
 
--- what fits together also does after a pass that puts the words back
+-- all still fits together after a pass that restores the words
 pub fits_after : (desk : OnDesk) (values : List ℕ) (room : Carved) (kept : Kept) → FitsTogether desk values room kept
     → (known state : List ℕ) (verdicts : List Blame) (after : List ℕ) (graph : Graph) (costs : List ℕ) (now : Kept)
     → known ≡ desk.known → length state ≡ length desk.subject.parts → All (λ s. s < 2) state → length verdicts ≡ length desk.subject.parts
@@ -38,7 +38,7 @@ pub fits_after : (desk : OnDesk) (values : List ℕ) (room : Carved) (kept : Kep
     → FitsTogether (record desk { known = known; state = state; verdicts = verdicts }) after room now
 fits_after desk values room kept fits known state verdicts after graph costs now same one_a_part bits verdict_a_part long g p serves = grind arith
 
--- and except for its state, or for its verdicts too, the desk is as before
+-- the desk is as before, except its state, or also its verdicts
 pub stays_after : (desk old : OnDesk) (known state : List ℕ) → desk ≡ old → known ≡ desk.known → record desk { known = known; state = state } ≡ record old { state = state }
 stays_after desk old known state is same = grind arith
 

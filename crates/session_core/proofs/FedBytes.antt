@@ -22,7 +22,7 @@ rest_from-append : (l xs ys : List ℕ) → rest_from l (xs ++ ys) ≡ rest_from
 rest_from-append l [] ys = refl
 rest_from-append l (b ∷ xs) ys = grind (arith, rest_from-append [] xs ys, rest_from-append (l ++ b ∷ []) xs ys)
 
--- how much of the line before the bytes is kept past the limit does not matter
+-- what is kept past the limit of the line before the bytes does not matter
 rest-take : (line bytes : List ℕ) → kept (rest_from (kept line) bytes) ≡ kept (rest_from line bytes)
 rest-take line [] = kept-kept line
 rest-take line (b ∷ bs) = grind (arith, rest-take (kept line ++ b ∷ []) bs, kept-append line (b ∷ []), rest-take (line ++ b ∷ []) bs)
@@ -30,7 +30,7 @@ rest-take line (b ∷ bs) = grind (arith, rest-take (kept line ++ b ∷ []) bs, 
 alike_rest : (l k bytes : List ℕ) → kept l ≡ kept k → kept (rest_from l bytes) ≡ kept (rest_from k bytes)
 alike_rest l k bytes e = sym (rest-take l bytes) ∙ ap (λ j. kept (rest_from j bytes)) e ∙ rest-take k bytes
 
--- the same lines, except for the first, of which no more than counts is the same
+-- the same lines, except that of the first only what counts is the same
 abbrev FirstAlike : List (List ℕ) → List (List ℕ) → Type 0
 FirstAlike [] [] = ⊤
 FirstAlike [] (k ∷ ks) = ⊥
@@ -47,7 +47,7 @@ last_line_alike [] (b ∷ k) e = absurd (kept-some b k (sym e ∙ kept-none))
 last_line_alike (b ∷ l) [] e = absurd (kept-some b l (e ∙ kept-none))
 last_line_alike (b ∷ l) (c ∷ k) e = (e, refl)
 
--- lines that are alike as far as counts have the same moves
+-- lines with the same part that counts have the same moves
 module _ (one : Table → List ℕ → List Step) (h : IsCut one) where
   alike_moves : (t : Table) (l k : List ℕ) → kept l ≡ kept k → one t l ≡ one t k
   alike_moves t l k e = sym (h.same t l) ∙ ap (one t) e ∙ h.same t k
@@ -59,20 +59,20 @@ module _ (one : Table → List ℕ → List Step) (h : IsCut one) where
   script_moves-alike t (l ∷ ls) (k ∷ ks) (same, rest) =
       ap₂ (λ first lines. first ++ script_moves one (left_by t first) lines) (alike_moves t l k same) rest
 
-  -- also if they come after other lines
+  -- so do they after other lines
   moves_behind : (s t : Table) (ls ks ms : List (List ℕ)) → t ≡ left_by s (script_moves one s ls) → FirstAlike ks ms → script_moves one s ls ++ script_moves one t ks ≡ script_moves one s (ls ++ ms)
   moves_behind s t ls ks ms is alike =
       ap (λ moves. script_moves one s ls ++ moves) (script_moves-alike t ks ms alike ∙ ap (λ u. script_moves one u ms) is)
       ∙ sym (script_moves-append one s ls ms)
 
-  -- the moves of two pieces, one after the other
+  -- the moves of two pieces in a row
   moves_to_both : (s t : Table) (l k xs ys : List ℕ) → t ≡ left_by s (script_moves one s (ended_from l xs)) → kept k ≡ kept (rest_from l xs)
       → script_moves one s (ended_from l xs) ++ script_moves one t (ended_from k ys) ≡ script_moves one s (ended_from l (xs ++ ys))
   moves_to_both s t l k xs ys is alike =
       moves_behind s t (ended_from l xs) (ended_from k ys) (ended_from (rest_from l xs) ys) is (ended_alike k (rest_from l xs) ys alike)
       ∙ ap (script_moves one s) (sym (ended_from-append l xs ys))
 
-  -- and those of the last line after a text
+  -- the moves of the last line after a text
   moves_to_all : (s t : Table) (l bytes : List ℕ) → t ≡ left_by s (script_moves one s (ended_from [] bytes)) → kept l ≡ kept (rest_from [] bytes)
       → script_moves one s (ended_from [] bytes) ++ script_moves one t (last_line l) ≡ script_moves one s (all_lines bytes)
   moves_to_all s t l bytes is alike =
@@ -87,7 +87,7 @@ fed_more {one} {s} {t} {u} {l} {k} {j} {xs} {ys} {a} {b} {c} h first second = re
   begun = second.begun ∙ alike_rest k (rest_from l xs) ys first.begun ∙ ap kept (sym (rest_from-append l xs ys));
 }
 
--- a byte that is no line feed goes on with the line
+-- a byte other than a line feed continues the line
 pub fed_other : (one : Table → List ℕ → List Step) (s : Table) (l k : List ℕ) (b : ℕ) (a : Option (List ℕ)) → b ≢ 10 → k ≡ kept (l ++ b ∷ []) → Fed one s s l k (b ∷ []) a a
 fed_other one s l k b a other is =
     let no : (b == 10) ≡ false = grind arith in
@@ -100,14 +100,14 @@ fed_other one s l k b a other is =
 moves_of_feed : (one : Table → List ℕ → List Step) (s : Table) (l k : List ℕ) (b : ℕ) → k ≡ l → b ≡ 10 → one s k ≡ script_moves one s (ended_from l (b ∷ []))
 moves_of_feed one s l k b is feed = ap (one s) is ∙ sym (append-nil (one s l)) ∙ ap (λ x. script_moves one s (ended_from l (x ∷ []))) (sym feed)
 
--- a line feed has the line answered
+-- a line feed ends the line, which is answered
 pub fed_feed : (one : Table → List ℕ → List Step) (s t : Table) (l k rest : List ℕ) (b : ℕ) (a c : Option (List ℕ)) → k ≡ l → b ≡ 10 → rest ≡ [] → Makes s t (one s k) a c → Fed one s t l rest (b ∷ []) a c
 fed_feed one s t l k rest b a c is feed none made = record {
   made = subst (λ ms. Makes s t ms a c) (moves_of_feed one s l k b is feed) made;
   begun = ap kept (none ∙ ap (λ x. rest_from l (x ∷ [])) (sym feed));
 }
 
--- one byte more of a piece was taken
+-- one more byte of a piece was taken
 pub fed_step : {one : Table → List ℕ → List Step} {s t u : Table} {l k j : List ℕ} {a b c : Option (List ℕ)} (piece : List ℕ) (i : ℕ) → IsCut one → i < length piece → Fed one s t l k (take i piece) a b → Fed one t u k j (get_or piece i 0 ∷ []) b c → Fed one s u l j (take (i + 1) piece) a c
 fed_step {one} {s} {t} {u} {l} {k} {j} {a} {b} {c} piece i h less first second =
     subst (λ xs. Fed one s u l j xs a c) (sym (take_more piece i 0 less)) (fed_more h first second)
@@ -116,12 +116,12 @@ fed_step {one} {s} {t} {u} {l} {k} {j} {a} {b} {c} piece i h less first second =
 pub makes_whole : {one : Table → List ℕ → List Step} {s t : Table} {l bytes : List ℕ} {a b : Option (List ℕ)} → Fed one s t [] l bytes a b → Makes s t (script_moves one s (whole_lines bytes)) a b
 makes_whole {one} {s} {t} {l} {bytes} {a} {b} fed = subst (λ ls. Makes s t (script_moves one s ls) a b) (ended_from-start bytes) fed.made
 
--- and those of the last line
+-- so were those of the last line
 pub makes_all : {one : Table → List ℕ → List Step} {s t u : Table} {l bytes : List ℕ} {a b : Option (List ℕ)} (c : Option (List ℕ)) → IsCut one → Fed one s t [] l bytes a b → Makes t u (script_moves one t (last_line l)) b c → Makes s u (script_moves one s (all_lines bytes)) a c
 makes_all {one} {s} {t} {u} {l} {bytes} {a} {b} c h fed last =
     subst (λ ms. Makes s u ms a c) (moves_to_all one h s t l bytes fed.made.table fed.begun) (makes_more fed.made last)
 
--- known bytes were taken, and then none
+-- known bytes were taken, then none
 pub consumes_kept : (a b c : Option (List ℕ)) (xs : List ℕ) → Consumes a b xs → Keeps b c → Consumes a c xs
 consumes_kept None b c xs h k = tt
 consumes_kept (Some olds) None c xs h k = absurd h
@@ -188,7 +188,7 @@ fails_at_end {one} {s} {t} {u} {l} {bytes} {a} {b} {c} h first broke =
       broke = subst (λ ms. BreaksOff u ms b c) (script_moves-alike one h t (last_line l) (last_line last) (last_line_alike l last (first.begun ∙ ap kept (rest_from-start bytes)))) broke;
     }
 
--- a last line, of which something stands, was carried out
+-- a last line that is not empty was carried out
 pub carries_last : {T E : Type 0} (one : Table → List ℕ → List Step) (s t : Table) (a c : Option (List ℕ)) (l k : List ℕ) (r : Result T E) → k ≡ l → (length l == 0) ≡ false → CarriesOut s t (one s k) a c r → CarriesOut s t (script_moves one s (last_line l)) a c r
 carries_last one s t a c [] k r is some carried = absurd (let never : ⊥ = cc in never)
 carries_last one s t a c (b ∷ l) k r is some carried = subst (λ ms. CarriesOut s t ms a c r) (ap (one s) is ∙ sym (append-nil (one s (b ∷ l)))) carried

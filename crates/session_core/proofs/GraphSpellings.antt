@@ -1,4 +1,4 @@
--- The texts of a service's graphs mean what they should.
+-- The texts of a service's graphs have their meaning.
 use Rattle.std.proofs.Common.{◌≡◌, ◌+◌, ◌^◌, ◌<◌, ◌≤◌, true, length, refl, arith}
 use Rattle.std.proofs.lemmas.Bool.Decides.{nat_tests}
 use Rattle.state_rules.specs.Cases.{Case}
@@ -27,7 +27,7 @@ module _ (subject : Subject) (is : IsGraph subject.graph) (room : length subject
       let narrow : parts ≤ subject.graph.vars = omega (arith, room) in
       ((projected_text-is_neat subject.graph words parts is long narrow few, (projection subject.graph words parts, refl)), projected_text-means subject.graph words parts is long narrow few)
 
-  -- and the text of the diagnoses' graph spells them
+  -- the text of the diagnoses' graph spells them
   pub least-spelled : (known : Case) → IsCaseOf (system_of subject) known → subject.extras.least ≡ true
       → Spelled (LeastText (length subject.parts) (all_diagnoses (system_of subject) known)) (least_case_text subject known)
   least-spelled known h told =

@@ -1,4 +1,4 @@
--- Lines that are gathered byte by byte, and what of a line counts.
+-- Lines gathered byte by byte, and what counts of a line.
 use Rattle.std.proofs.Common.{◌≡◌, ℕ, ◌+◌, ◌<◌, ◌≤◌, List, [], ◌∷◌, ◌++◌, length, take, refl, sym, ◌∙◌, ap, inl, inr, arith, true, false, ◌==◌, append_assoc, append-nil, take_all, length-take, lit<}
 use Rattle.std.proofs.lemmas.Grind.{common_steps}
 use Rattle.std.proofs.lemmas.Bool.{cases_lt}
@@ -38,7 +38,7 @@ ended_from-start bytes = sym (ap (λ (c : Cut). c.whole) (cut-from [] bytes tt))
 pub rest_from-start : (bytes : List ℕ) → rest_from [] bytes ≡ (cut bytes).unfinished
 rest_from-start bytes = sym (ap (λ (c : Cut). c.unfinished) (cut-from [] bytes tt))
 
--- ---- what of a line counts
+-- ---- what counts of a line
 
 is_long : (n : ℕ) (line : List ℕ) → n < length line → n < length (take (n + 1) line)
 is_long n line long = grind (arith, common_steps)
@@ -46,7 +46,7 @@ is_long n line long = grind (arith, common_steps)
 is_short : (n : ℕ) (line : List ℕ) → length line ≤ n → take (n + 1) line ≡ line
 is_short n line short = grind (arith, common_steps)
 
--- how much of a line is kept past the limit does not matter
+-- what is kept of a line past the limit does not matter
 pub line_of-kept : (line : List ℕ) → line_of (kept line) ≡ line_of line
 unfolding kept
 line_of-kept line = elim (cases_lt LINE_LIMIT (length line)) [
@@ -54,7 +54,7 @@ line_of-kept line = elim (cases_lt LINE_LIMIT (length line)) [
   | inr short ↦ ap line_of (is_short LINE_LIMIT line short)
 ]
 
--- and so the moves of a service are the same
+-- so the moves of a service are the same
 pub moves_are_cut : (shown : Shown) → IsCut (moves_of shown)
 moves_are_cut shown = record { same = λ table line. ap (exact_moves shown table) (line_of-kept line) }
 

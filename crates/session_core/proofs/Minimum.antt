@@ -10,7 +10,7 @@ use Rattle.session_rules.specs.Replies.{faulty_names, min_line}
 use Rattle.session_core.specs.inner.Desks.{IsFirst}
 use Rattle.session_core.specs.inner.Texts.{min_text}
 
--- where there is no least cost there is no diagnosis
+-- without a least cost there is no diagnosis
 pub no_diagnosis : (costs : List ℕ) (hs : List (List Bool)) → least costs hs ≡ None → diagnoses costs hs ≡ []
 no_diagnosis costs hs none = ap (λ (o : Option ℕ). filter (λ h. is_at_most (cost costs h) o) hs) none ∙ filter-never hs
 
@@ -20,13 +20,13 @@ low_next : (costs : List ℕ) (m n : ℕ) (h : List Bool) (hs : List (List Bool)
     → cond b (h ∷ filter (λ k. nat_le (cost costs k) m) hs) (filter (λ k. nat_le (cost costs k) m) hs) ≡ [] → ⊥
 low_next costs m n h hs o more e low b q r = grind arith
 
--- where the least cost is at most a number, some state's is
+-- if the least cost is at most a number, some state's is
 some_low : (costs : List ℕ) (n m : ℕ) (hs : List (List Bool)) → least costs hs ≡ Some n → n ≤ m → filter (λ h. nat_le (cost costs h) m) hs ≡ [] → ⊥
 some_low costs n m [] e low r = absurd (let never : ⊥ = cc in never)
 some_low costs n m (h ∷ hs) e low r =
     low_next costs m n h hs (least costs hs) (λ k f. some_low costs k m hs f) e low (nat_le (cost costs h) m) refl r
 
--- where there is a least cost there is a diagnosis
+-- if there is a least cost there is a diagnosis
 pub some_diagnosis : (costs : List ℕ) (n : ℕ) (hs : List (List Bool)) → least costs hs ≡ Some n → diagnoses costs hs ≡ [] → ⊥
 some_diagnosis costs n hs e none =
     some_low costs n n hs e (omega arith) (ap (λ (o : Option ℕ). filter (λ h. is_at_most (cost costs h) o) hs) (sym e) ∙ none)

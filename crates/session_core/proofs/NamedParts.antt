@@ -1,4 +1,4 @@
--- The state in which named parts are faulty: how a word for each part is marked, name by name.
+-- The state in which the named parts are faulty: a word for each part is marked, name by name.
 use Rattle.std.proofs.Common.{◌≡◌, ◌∙◌, ℕ, ◌<◌, ◌∷◌, [], ◌==◌, Bool, true, List, Some, None, false, not, length, get_or, set, sym, arith}
 use Rattle.std.specs.Prelude.{◌||◌}
 use Rattle.std.proofs.lemmas.Bool.{or_right}
@@ -14,7 +14,7 @@ use Rattle.device_model.proofs.CallerLemmas.{place_in-names_rise}
 use Rattle.conditioner.specs.Evidence.{bits_of}
 use Rattle.session_core.specs.inner.Desks.{state_of}
 
--- a name that has a place is among the names, and one that has none is not
+-- a name with a place is among the names, and one without is not
 pub is_among-at : (name : Name) (names : List Name) (place : ℕ) → Some place ≡ place_of name names → is_among names name ≡ true
 is_among-at name names place found = grind (arith, position-Some (same_name name) names place [] (sym found), list_any_at (same_name name) names place)
 
@@ -22,7 +22,7 @@ pub is_among-nowhere : (name : Name) (names : List Name) → None ≡ place_of n
 is_among-nowhere name names missing = grind (arith, list_any_none, fails_before_first)
 
 module _ (parts : List Name) where
-  -- a part is among all names exactly if its word is marked, or if it is among the names that are left
+  -- a part is among all names exactly if its word is marked or it is among the names left
   abbrev pub AreMarked : List Name → List ℕ → List Name → Type 0
   AreMarked all state left = (k : ℕ) → k < length parts
       → is_among all (get_or parts k []) ≡ (not (get_or state k 0 == 0) || is_among left (get_or parts k []))

@@ -1,4 +1,4 @@
--- What comes next of a listing, by what the listers answer.
+-- What comes next of a listing, from the answers of the listers.
 use Rattle.std.proofs.Common.{◌≡◌, ◌≢◌, ℕ, Bool, List, [], ◌∷◌, get_or, None, refl, sym, arith}
 use Rattle.state_rules.specs.Ranking.{diagnoses}
 use Rattle.diagnosis_lister.specs.Listing.{step_of}
@@ -12,7 +12,7 @@ use Rattle.session_core.proofs.Questions.{least-some, has_diagnosis}
 pub is_first : (state other : List Bool) (later : List (List Bool)) → state ≡ get_or later 0 other → IsFirst state later
 is_first state other later e = grind arith
 
--- ---- by what a lister answers
+-- ---- from a lister's answer
 
 pub level_next : (subject : Subject) (states later : List (List Bool)) → of_level_step (level_step subject.costs states later) ≡ next_of subject Levels states later
 level_next subject states later = grind arith

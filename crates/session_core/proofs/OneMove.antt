@@ -1,4 +1,4 @@
--- Requests that are one move.
+-- Requests of one move.
 use Rattle.std.proofs.Common.{◌≡◌, ◌∷◌, [], ℕ, Bool, List, Option, Some, None, Result, refl, arith}
 use Rattle.text_rules.specs.Names.{Name}
 use Rattle.text_rules.specs.Tokens.{spaced}
@@ -18,15 +18,15 @@ use Rattle.session_rules.proofs.Spellings.{replies_one}
 use Rattle.session_core.specs.Services.{Shown, outcome_of, served_system}
 use Rattle.session_core.specs.inner.Obeying.{Obeys}
 
--- the table of a service is another
+-- a service with another table
 abbrev pub with_table : Shown → Table → Shown
 with_table shown table = record shown { table = table }
 
--- what an open session is asked is answered by its entry
+-- the entry of an open session decides the answer to its request
 pub asked_open : (old : Shown) (session : Name) (request : Request) (entry : Entry) → entry_of session old.table ≡ Some entry → outcome_of old session request ≡ when_open (served_system old.subject) session entry request
 asked_open old session request entry found = grind arith
 
--- a request that comes to one move was carried out
+-- a request of one move was carried out
 pub obeys_one : {T E : Type 0} (old new : Shown) (session : Name) (request : Request) (move : Move) (before after : Option (List ℕ)) (result : Result T E) → outcome_of old session request ≡ move ∷ []
     → new ≡ with_table old (changed session move.change old.table) → Replies before after result move.items → Obeys old new session request before after result
 obeys_one old new session request move before after result is becomes reply = grind (arith, carries_one)

@@ -1,4 +1,4 @@
--- What a service writes is one text: where the moves of a script were made twice after the same bytes, the same bytes stand.
+-- What a service writes is one text: if the moves of a script were made twice after the same bytes, the bytes are the same.
 use Rattle.std.proofs.Common.{◌≡◌, ℕ, zero, suc, Bool, List, [], ◌∷◌, ◌++◌, map, Option, Some, sym, subst, ◌∙◌, append-nil, arith}
 use Rattle.std.specs.Prelude.{length, nat_le}
 use Rattle.std.specs.List.{flat_map}
@@ -16,7 +16,7 @@ use Rattle.session_rules.proofs.Broken.{said-append}
 use Rattle.session_rules.proofs.Locality.{moves-said}
 use Rattle.session_core.specs.Services.{Shown, served_system, moves_of}
 
--- items that are texts
+-- the items are texts
 abbrev pub ArePlain : List Item → Type 0
 ArePlain [] = Unit {0}
 ArePlain (Plain bytes ∷ items) = ArePlain items
@@ -31,7 +31,7 @@ plain_both (Projected parts states ∷ xs) ys h k = absurd h
 plain_both (LeastText parts states ∷ xs) ys h k = absurd h
 plain_both (Whole device vars most ∷ xs) ys h k = absurd h
 
--- are spelled by one text
+-- such items are spelled by one text
 one_spelling : (items : List Item) (a b : List ℕ) → ArePlain items → Spells items a → Spells items b → a ≡ b
 one_spelling [] a b h one other = one ∙ sym other
 one_spelling (Plain bytes ∷ items) a b h one other = grind (arith, one_spelling items one.1 other.1 h one.4 other.4)
@@ -53,7 +53,7 @@ lines-plain : (lines : List (List (List ℕ))) → ArePlain (map line lines)
 lines-plain [] = tt
 lines-plain (words ∷ lines) = lines-plain lines
 
--- ---- and a graph is one too
+-- ---- a graph is one too
 
 module _ (subject : Subject) where
   abbrev system : System
@@ -69,7 +69,7 @@ module _ (subject : Subject) where
       let ms = outcome system s (nat_le limit (length table)) (entry_of s table) request in
       subst ArePlain (sym (moves-said s ms table)) (outcome-plain s (nat_le limit (length table)) (entry_of s table) request)
 
--- all that a service answers to a script
+-- all answers of a service to a script
 pub script-plain : (shown : Shown) (table : Table) (lines : List (List ℕ)) → ArePlain (said (script_moves (moves_of shown) table lines))
 script-plain shown table [] = tt
 script-plain shown table (l ∷ lines) =
@@ -77,7 +77,7 @@ script-plain shown table (l ∷ lines) =
     let rest = script_moves (moves_of shown) (left_by table first) lines in
     grind (arith, said-append, plain_both, moves-plain, script-plain shown (left_by table first) lines)
 
--- so the bytes are the same, and the table, whenever the script is answered
+-- so bytes and table are the same, whenever the script is answered
 pub one_text : (shown : Shown) (old new other : Table) (lines : List (List ℕ)) (bytes : List ℕ) (a b : Option (List ℕ))
     → Makes old new (script_moves (moves_of shown) old lines) (Some bytes) a → Makes old other (script_moves (moves_of shown) old lines) (Some bytes) b
     → (a ≡ b) × (new ≡ other)

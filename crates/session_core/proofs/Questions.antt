@@ -1,4 +1,4 @@
--- What is answered of a case, by what the graph answers under its words.
+-- The answers about a case, from the answers of the graph under its words.
 use Rattle.std.proofs.Common.{◌≡◌, ◌≢◌, ℕ, suc, ◌+◌, ◌<◌, Bool, true, false, not, List, [], ◌∷◌, ◌++◌, map, length, get_or, drop, Option, Some, None, refl, ap, ap₂, ◌∙◌, arith, codes}
 use Rattle.std.specs.Prelude.{is_some, slice_get, if◌then◌else◌}
 use Rattle.std.proofs.lemmas.List.{drop_more}
@@ -19,7 +19,7 @@ use Rattle.session_core.proofs.Minimum.{no_diagnosis, some_diagnosis}
 pub unseen-one : (system : System) (s : Name) (known : Case) (name : Name) (wire : ℕ) → false ≡ is_some (seen_at known wire) → unseen_line system s known name wire ≡ probe_line system s known name wire ∷ []
 unseen-one system s known name wire e = grind arith
 
--- ---- lines that are left
+-- ---- the lines left
 
 -- the lines from a wire on begin with its own
 pub lines-next : (system : System) (s : Name) (known : Case) (names : List Name) (i : ℕ) → i < length names
@@ -35,7 +35,7 @@ lines-next system s known names i h =
     by true = refl
     by false = refl
 
--- and the verdicts from a part on
+-- so do the verdicts from a part on
 pub verdicts-next : (s : Name) (names : List Name) (verdicts : List Blame) (i : ℕ) (v : Blame) → i < length names → i < length verdicts
     → verdict_lines s (drop i names) (drop i verdicts) ≡ ((s ∷ codes "blame" ∷ get_or names i [] ∷ blame_text (get_or verdicts i v) ∷ []) ∷ []) ++ verdict_lines s (drop (i + 1) names) (drop (i + 1) verdicts)
 verdicts-next s names verdicts i v h g = rw (drop_more names i [] h, drop_more verdicts i v g) refl
@@ -81,7 +81,7 @@ verdict_word : (ds : List (List Bool)) (part : ℕ) → ds ≢ [] → blame_text
 verdict_word [] part some = absurd (some refl)
 verdict_word (d ∷ ds) part some = same_word (not (bit_in d part)) (map (λ (state : List Bool). not (bit_in state part)) ds)
 
--- The lines by the verdicts are those by the diagnoses.
+-- The lines by verdicts are those by diagnoses.
 pub blame_lines-are : (s : Name) (ds : List (List Bool)) (part : ℕ) (names : List Name) (verdicts : List Blame) → ds ≢ [] → length verdicts ≡ length names
     → ((i : ℕ) → i < length names → slice_get verdicts i ≡ Some (verdict (map (λ (state : List Bool). not (bit_in state (part + i))) ds)))
     → verdict_lines s names verdicts ≡ blame_lines s ds part names

@@ -1,4 +1,4 @@
--- A line that is refused changes nothing.
+-- A refused line changes nothing.
 use Rattle.std.proofs.Common.{◌≡◌, ℕ, List, [], ◌∷◌, ◌++◌, map, Option, Result, refl, ap, arith}
 use Rattle.script_lang.specs.Script.{Line, Blank, Refused, Ask, line_of}
 use Rattle.session_rules.specs.Sessions.{Table, Step}

@@ -1,4 +1,4 @@
--- Every reply over a graph has a text, so what was written where a script broke off begins its replies.
+-- Every reply over a graph has a text, so if a script broke off, what was written begins its replies.
 use Rattle.std.proofs.Common.{◌≡◌, ℕ, ◌+◌, ◌^◌, ◌<◌, ◌≤◌, true, List, [], ◌∷◌, ◌++◌, length, Option, refl, arith}
 use Rattle.state_rules.specs.Graphs.{IsGraph}
 use Rattle.session_rules.specs.Items.{Item, Plain, Projected, LeastText, Whole}
@@ -29,7 +29,7 @@ each_spelled (item ∷ items) text (front, rest, all, one, more) = ((front, one)
 
 module _ (subject : Subject) (is : IsGraph subject.graph) (room : length subject.parts + length subject.wires ≤ subject.graph.vars) (few : length subject.graph.nodes + length subject.parts + 1 < 2 ^ 32)
     (least : subject.extras.least ≡ true → HasLeastTexts subject) where
-  -- each reply to a script has some text: what a service writes
+  -- each reply to a script has a text: the one a service writes
   pub replies-have : (limit : ℕ) (table : Table) (lines : List (List ℕ)) → HasCasesOf (system_of subject) table → HaveSpellings (replies (system_of subject) limit table lines)
   replies-have limit table lines h =
       let shown : Shown = record { subject = subject; limit = limit; table = table } in
@@ -38,7 +38,7 @@ module _ (subject : Subject) (is : IsGraph subject.graph) (room : length subject
       let text = plain_spelled (said written) (script-plain shown table lines) in
       grind (arith, said-replies (system_of subject) limit table lines, each_spelled (said over) text.0 (same_said written over (script_exact shown is room few least table lines h) text.0 text.1))
 
-  -- What was written if it broke off begins its replies, also if more lines were to come.
+  -- If it broke off, what was written begins its replies, also before more lines.
   pub broken_begins_more : (limit : ℕ) (old new : Table) (lines more : List (List ℕ)) (a b : Option (List ℕ)) → HasCasesOf (system_of subject) old
       → BreaksOff new (script_moves (line_moves (system_of subject) limit) old lines) a b → WritesPart a b (replies (system_of subject) limit old (lines ++ more))
   broken_begins_more limit old new lines more a b h broke = grind (arith, broken_replies (system_of subject) limit old new (lines ++ more) a b, script_moves-append (line_moves (system_of subject) limit) old lines more, breaks_before, replies-have limit old (lines ++ more) h)

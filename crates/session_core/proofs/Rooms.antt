@@ -1,4 +1,4 @@
--- Room that is carved whole, and released.
+-- Room that is carved whole and released.
 use Rattle.std.proofs.Common.{◌≡◌, ◌∙◌, ◌∷◌, ◌++◌, [], ℕ, List, Option, Some, length, replicate, ap, sym, subst, arith, length-append}
 use Rattle.std.specs.Prelude.{Contains, IfSome}
 use Rattle.std.proofs.lemmas.List.{nil_from_length, length-replicate}
@@ -8,13 +8,13 @@ use Rattle.scratch_pool.specs.Regions.{Carved, carved, words_used, run_words}
 use Rattle.scratch_pool.proofs.LentWords.{carved-held}
 use Rattle.scratch_pool.proofs.Written.{length-written}
 
--- what is known of a run that was found
+-- what is known of a found run
 pub carved_so : (old new : Carved) (n : ℕ) (found : Option Span) (run : Span) → found ≡ Some run
     → IfSome found (λ (run : Span). (run ≡ record { start = words_used old.runs; len = n }) × (new ≡ carved old run))
     → (run ≡ record { start = words_used old.runs; len = n }) × (new ≡ carved old run)
 carved_so old new n found run is = grind arith
 
--- it has as many words as were wanted
+-- it has as many words as asked for
 pub run_long : (new : Carved) (n : ℕ) (found : Option Span) (run : Span) → found ≡ Some run
     → IfSome found (λ (run : Span). run_words new run ≡ replicate n 0) → length (run_words new run) ≡ n
 run_long new n found run is zeros = grind (arith, length-replicate)

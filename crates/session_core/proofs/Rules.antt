@@ -1,4 +1,4 @@
--- Lemmas by which the check finds the rest of what functions require and ensure.
+-- Lemmas with which the check proves the rest of the contracts.
 use Rattle.session_core.proofs.Desks.{diagnoses-asked, fits_after, judged_after, least-asked, seen-asked, states-asked, stays_after}
 use Rattle.session_core.proofs.FedBytes.{breaks_feed, carries_last, fed_feed}
 use Rattle.session_core.proofs.Lines.{kept-full, kept-room}

@@ -1,4 +1,4 @@
--- A session that moves on, once and so many times.
+-- A session that moves on, once and `count` times.
 use Rattle.std.proofs.Common.{◌≡◌, ◌∙◌, ◌∷◌, ◌++◌, ◌+◌, ◌-◌, ◌<◌, ◌≤◌, arith, [], ℕ, suc, Bool, true, false, List, map, Option, Result, Ok, Err, IsErr, Ordering, refl, ap, sym, subst, append_assoc, append-nil}
 use Rattle.std.specs.Prelude.{IfOk, if◌then◌else◌}
 use Rattle.std.proofs.lemmas.List.{map-append}
@@ -31,7 +31,7 @@ replies_part before after result items failed part = grind arith
 pub if_failed : {T E : Type 0} (P : T → Type 0) (result : Result T E) → IsErr result → IfOk result P
 if_failed P result failed = grind arith
 
--- ---- an entry that is put twice
+-- ---- an entry put twice
 
 twice_by : {X : Type 0} (name : Name) (v w : X) (e : Name × X) (es : List (Name × X)) (o : Ordering) → slice_cmp nat_cmp name e.0 ≡ o
     → put (slice_cmp nat_cmp) name w (put (slice_cmp nat_cmp) name v es) ≡ put (slice_cmp nat_cmp) name w es
@@ -50,9 +50,9 @@ pub moves_on : {E : Type 0} (old new : Shown) (listed : Listed) (place : ℕ) (s
     → MovesOn old new listed place session entry before after result
 moves_on old new listed place session entry next state before after result m stays reply more = grind arith
 
--- ---- so many times
+-- ---- several times
 
--- Some of a listing were shown, and so many more are left.
+-- Some of a listing were shown, and `left` more are left.
 pub record Lists (old now : Shown) (listed : Listed) (place : ℕ) (session : Name) (entry : Entry) (count left : ℕ) (before after : Option (List ℕ)) : Type 0 where
   pub point : Option (List Bool)
   pub done : List Reply
@@ -61,7 +61,7 @@ pub record Lists (old now : Shown) (listed : Listed) (place : ℕ) (session : Na
   pub moved : now ≡ record old { table = with_entry session (record entry { point = point }) old.table }
   pub stands : StandsAt now.table place session (record entry { point = point })
 
--- none was shown yet
+-- none is shown yet
 pub lists_none : (old : Shown) (listed : Listed) (place : ℕ) (session : Name) (entry : Entry) (count : ℕ) (before : Option (List ℕ)) → StandsAt old.table place session entry → Lists old old listed place session entry count (count - 0) before before
 lists_none old listed place session entry count before stands = record {
   point = entry.point;
@@ -86,7 +86,7 @@ module _ (old : Shown) (listed : Listed) (place : ℕ) (session : Name) (entry :
   abbrev later_of : ℕ → Option (List Bool) → List Reply
   later_of left point = if (next point).more then listing next left (next point).point else []
 
-  -- the move that was made, or broke off
+  -- the move was made, or broke off
   module _ (now new : Shown) (counter : ℕ) (less : counter < count) (a b c : Option (List ℕ)) (lists : Lists old now listed place session entry count (count - counter) a b) where
     abbrev left : ℕ
     left = count - (counter + 1)
@@ -114,11 +114,11 @@ module _ (old : Shown) (listed : Listed) (place : ℕ) (session : Name) (entry :
           subst (λ (ms : List Step). Makes old.table new.table ms a c) (sym (map-append move lists.done (next lists.point ∷ [])))
           (makes_more lists.made (record { written = says_next (Ok v) m; table = new_table (Ok v) m }))
 
-      -- another one was shown
+      -- one more was shown
       pub lists_more : v ≡ true → Lists old new listed place session entry count left a c
       lists_more on = grind (arith, append_assoc lists.done (next lists.point ∷ []) (listing next left (next lists.point).point), split, made_one, moved_again (Ok v) m)
 
-      -- nothing was found any more
+      -- nothing more was found
       pub lists_end : v ≡ false → Makes old.table new.table (map move (listing next count entry.point)) a c
       lists_end off = grind (arith, made_one)
 
@@ -146,7 +146,7 @@ module _ (old : Shown) (listed : Listed) (place : ℕ) (session : Name) (entry :
 pub carries_broken : {T E : Type 0} (old new : Table) (ms : List Step) (before after : Option (List ℕ)) (result : Result T E) → IsErr result → BreaksOff new ms before after → CarriesOut old new ms before after result
 carries_broken old new ms before after result failed broke = grind arith
 
--- ---- the request for so many
+-- ---- the request for several
 
 stepped : (table : Table) (session : Name) (entry : Entry) (found : List Reply)
     → map (goes_on table session entry) found ≡ map (step_from table session) (map (λ (f : Reply). record { change = Becomes (record entry { point = f.point }); items = f.item ∷ [] }) found)

@@ -1,4 +1,4 @@
--- What a service shows of what it holds, and what its changes are.
+-- What a service shows of what it holds, and its changes.
 use Rattle.std.proofs.Common.{◌≡◌, ◌∙◌, ◌∷◌, ◌++◌, [], ◌<◌, ℕ, List, Option, Some, Result, length, take, drop, refl, ap, sym, subst, arith}
 use Rattle.std.proofs.Math.Seq.{take-append_seam}
 use Rattle.std.proofs.lemmas.List.Quantifiers.{position-Some}
@@ -31,17 +31,17 @@ opened_with opened table = record opened { table = table }
 pub place-within : (name : Name) (names : List Name) (place : ℕ) → Some place ≡ place_of name names → place < length names
 place-within name names place e = (position-Some (same_name name) names place [] (sym e)).0
 
--- parts of a service fit together also where the table is another
+-- the parts of a service fit together with another table too
 pub holds_more : (subject : Subject) (old new : Opened) (table : Table) → HoldsTogether subject old → new ≡ opened_with old table → HoldsTogether subject new
 holds_more subject old new table h e = grind arith
 
--- ---- what an open session is asked
+-- ---- requests to an open session
 
 module _ (subject : Subject) (opened : Opened) (old : Shown) (view : shown_of subject opened ≡ old) (session : OpenSession) (is : IsOpen old.table session) where
   pub there : IsOpen opened.table session
   there = subst (λ (v : Shown). IsOpen v.table session) (sym view) is
 
-  -- it comes to one move
+  -- a request of one move
   pub open_one : {T E : Type 0} (request : Request) (move : Move) (after : Subject) (new : Opened) (a b : Option (List ℕ)) (result : Result T E)
       → when_open (served_system subject) session.name.now there.entry request ≡ move ∷ [] → after ≡ subject
       → new ≡ opened_with opened (changed session.name.now move.change opened.table) → Replies a b result move.items → Obeys old (shown_of after new) session.name.now request a b result
@@ -52,7 +52,7 @@ module _ (subject : Subject) (opened : Opened) (old : Shown) (view : shown_of su
       (asked_open shown session.name.now request there.entry there.stands.found ∙ one)
       (λ i. shown_of (same i) (becomes i)) reply)
 
-  -- a word
+  -- it answers with a word
   pub open_word : {T E : Type 0} (request : Request) (change : Change) (word : List ℕ) (after : Subject) (new : Opened) (a b : Option (List ℕ)) (result : Result T E)
       → when_open (served_system subject) session.name.now there.entry request ≡ record { change = change; items = line (session.name.now ∷ word ∷ []) ∷ [] } ∷ [] → after ≡ subject
       → new ≡ opened_with opened (changed session.name.now change opened.table) → Puts a b result (spaced (session.name.now ∷ word ∷ []))
@@ -60,24 +60,24 @@ module _ (subject : Subject) (opened : Opened) (old : Shown) (view : shown_of su
   open_word request change word after new a b result one same becomes put =
       open_one request _ after new a b result one same becomes (replies_one a b result (line (session.name.now ∷ word ∷ [])) _ refl put)
 
-  -- or a refusal
+  -- it is refused
   pub open_refused : {T E : Type 0} (request : Request) (refusal : Refusal) (after : Subject) (a b : Option (List ℕ)) (result : Result T E)
       → when_open (served_system subject) session.name.now there.entry request ≡ declined session.name.now refusal → after ≡ subject
       → Puts a b result (spaced (session.name.now ∷ error_words (refusal_row refusal))) → Obeys old (shown_of after opened) session.name.now request a b result
   open_refused request refusal after a b result one same put =
       open_one request _ after opened a b result one same refl (replies_one a b result (line (session.name.now ∷ error_words (refusal_row refusal))) _ refl put)
 
--- a list that was lent whole and written back
+-- a list that is lent whole and written back
 pub written_back : {A : Type 0} (n : ℕ) (new old : List A) → n ≡ length new → take n (new ++ drop (length new) old) ≡ new
 written_back {A} n new old e = ap (λ (k : ℕ). take k (new ++ drop (length new) old)) e ∙ take-append_seam new (drop (length new) old)
 
 -- ---- what a desk takes up
 
 module _ (subject : Subject) (opened : Opened) (h : HoldsTogether subject opened) (words : List ℕ) where
-  -- the words of a session are those of a case of what is asked over
+  -- the words of a session are those of a case of the subject
   pub known-there : IsEvidence opened.parts opened.wires opened.vars words → AreKnown subject words
   known-there are = grind arith
 
-  -- and say the same case
+  -- they say the same case
   pub case-there : (known : Case) → known ≡ case_of_evidence opened.parts opened.wires words → case_in subject words ≡ known
   case-there known e = (λ i. case_of_evidence (sym h.parts i) (sym h.wires i) words) ∙ sym e

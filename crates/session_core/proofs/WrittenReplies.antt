@@ -1,5 +1,4 @@
--- What a service writes is one text of what its system answers: where its moves were made, or broke off, those over the
--- system were.
+-- What a service writes is one text of its system's answers: moves that were made, or broke off, are moves over the system too.
 use Rattle.std.proofs.Common.{◌≡◌, ℕ, true, ◌+◌, ◌^◌, ◌<◌, ◌≤◌, List, [], ◌∷◌, ◌++◌, map, length, Option, Some, refl, ap, sym, ◌∙◌, subst, append_assoc, arith}
 use Rattle.std.proofs.lemmas.Bool.Decides.{nat_tests}
 use Rattle.std.specs.Prelude.{nat_le}
@@ -20,12 +19,12 @@ use Rattle.session_rules.proofs.KeptCases.{step_from, moves-keep}
 use Rattle.session_core.proofs.GraphSpellings.{case-spelled, least-spelled}
 use Rattle.session_core.specs.Services.{Shown, SpellReplies, served_system, moves_of}
 
--- A move leads to the table of another, and a text that spells its items spells the other's.
+-- A move leads to the same table as another, and a text that spells its items spells the other's.
 pub record IsExact (exact move : Step) : Type 0 where
   pub table : exact.table ≡ move.table
   pub spells : (text : List ℕ) → Spells exact.items text → Spells move.items text
 
--- so does each of some moves, to those of others
+-- each of some moves does so for those of others
 abbrev pub AreExact : List Step → List Step → Type 0
 AreExact [] [] = Unit {0}
 AreExact [] (m ∷ ms) = ⊥
@@ -46,7 +45,7 @@ same_left t [] ms h = grind arith
 same_left t (e ∷ es) [] h = absurd h
 same_left t (e ∷ es) (m ∷ ms) h = ap (λ u. left_by u es) h.0.table ∙ same_left m.table es ms h.1
 
--- a text of some items and of more is one of these and one of those
+-- a text of `xs` and `ys` is a text of `xs` and one of `ys`
 pub parted : (xs ys : List Item) (text : List ℕ) → Spells (xs ++ ys) text → (front : List ℕ) × (rest : List ℕ) × (text ≡ front ++ rest) × Spells xs front × Spells ys rest
 parted [] ys text is = ([], text, refl, refl, is)
 parted (x ∷ xs) ys text (front, rest, all, one, more) =
@@ -60,7 +59,7 @@ same_said (e ∷ es) (m ∷ ms) h text is = grind (arith, parted, spells_more, s
 makes_same : (old new : Table) (es ms : List Step) (a b : Option (List ℕ)) → AreExact es ms → Makes old new es a b → Makes old new ms a b
 makes_same old new es ms a b h made = grind (arith, same_said, same_left)
 
--- moves of which these are the first, another is the next, and those are the others
+-- moves split into the first ones, the next one, and the others
 record Splits (made others : List Step) (move : Step) (ms : List Step) : Type 0 where
   first : List Step
   next : Step
@@ -120,12 +119,12 @@ module _ (shown : Shown) (is_graph : IsGraph shown.subject.graph) (room : length
       let first = line_exact table (line_of l) h in
       grind (arith, are_more, script_exact (left_by table (one table l)) lines (cases_kept table l h))
 
-  -- where the moves of a script were made, those over the system were
+  -- if the moves of a script were made, those over the system were
   pub makes_over : (old new : Table) (lines : List (List ℕ)) (a b : Option (List ℕ)) → HasCasesOf (system_of shown.subject) old
       → Makes old new (script_moves (moves_of shown) old lines) a b → Makes old new (script_moves (line_moves (system_of shown.subject) shown.limit) old lines) a b
   makes_over old new lines a b h = makes_same old new _ _ a b (script_exact old lines h)
 
-  -- and if they broke off, those over the system did
+  -- if they broke off, so did those over the system
   pub breaks_over : (old new : Table) (lines : List (List ℕ)) (a b : Option (List ℕ)) → HasCasesOf (system_of shown.subject) old
       → BreaksOff new (script_moves (moves_of shown) old lines) a b → BreaksOff new (script_moves (line_moves (system_of shown.subject) shown.limit) old lines) a b
   breaks_over old new lines a b h = breaks_same new _ _ a b (script_exact old lines h)

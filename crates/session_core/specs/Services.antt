@@ -18,43 +18,43 @@ use Rattle.session_rules.specs.CaseSizes.{HasCasesOf}
 use Rattle.session_rules.specs.GraphSystems.{Subject, HasLeastTexts, system_of, case_evidence}
 use Rattle.session_core.specs.declared.limits.TheConstants.{SERVED_BITS}
 
--- States are listed up to this cost. The sets of the nodes have few bits: for each node one for each part, and those of its costs.
+-- States can be listed up to cost `top`. The sets of the nodes have few bits: for each node one for each part, and those of its costs.
 pub record CanList (graph : Graph) (parts top : ℕ) : Type 0 where
   pub few : length graph.nodes * (parts + 32 * cost_words top) ≤ SERVED_BITS
 
--- The graph of the diagnoses is answered. Its lines can be numbered, and it is drawn with few bits.
+-- The graph of the diagnoses can be written: its lines can be numbered, and it takes few bits to draw.
 pub record CanDraw (graph : Graph) (parts : ℕ) : Type 0 where
   pub lines : length graph.nodes + edges graph.nodes + 2 * parts + 1 < 2 ^ 32
   pub few : drawing_bits (length graph.nodes) parts ≤ SERVED_BITS
 
--- what is asked over, how many sessions may be open, and those that are
+-- the subject of a service, how many sessions may be open, and the open ones
 pub record Shown : Type 0 where
   pub subject : Subject
   pub limit : ℕ
   pub table : Table
 
--- What holds of every service. From this it follows that what a service writes spells the replies of its system.
+-- What holds of every service. It follows that what a service writes spells the replies of its system.
 pub record IsSound (shown : Shown) : Type 0 where
-  -- In the graph children are before their parents, and no two children of an and share a variable.
+  -- In the graph children are before their parents, and no two children of an And node share a variable.
   pub valid : IsGraph shown.subject.graph
   -- Each part and each wire is a variable of the graph.
   pub room : length shown.subject.parts + length shown.subject.wires ≤ shown.subject.graph.vars
   -- The text of a graph over the parts has numbers of 32 bits.
   pub few : length shown.subject.graph.nodes + length shown.subject.parts + 1 < 2 ^ 32
-  -- If the graph of the diagnoses is answered, each part has a cost above 0, and the lines of that graph can be numbered.
+  -- If the graph of the diagnoses is offered, each part costs more than 0, and the lines of that graph can be numbered.
   pub least : shown.subject.extras.least ≡ true → HasLeastTexts shown.subject
-  -- Each open session knows something, or nothing, of each wire and each part.
+  -- The case of each open session has a place for each wire and each part.
   pub cases : HasCasesOf (system_of shown.subject) shown.table
 
--- the text of the states that agree with a case: one for a graph and a case, whatever session asks and however often
+-- the text of the states that agree with a case: one for a graph and a case, whichever session asks and however often
 abbrev pub case_text : Subject → Case → List ℕ
 case_text subject known = projected_text subject.graph (case_evidence subject.graph.vars known) (length subject.parts)
 
--- and that of the diagnoses' graph
+-- the same for the graph of the diagnoses
 abbrev pub least_case_text : Subject → Case → List ℕ
 least_case_text subject known = least_text subject.graph (case_evidence subject.graph.vars known) subject.costs
 
--- the system of a service, which says these texts
+-- the system of a service, with these texts
 abbrev pub served_system : Subject → System
 served_system subject = with_texts (record { dnnf = Some (case_text subject); least = Some (least_case_text subject) }) (system_of subject)
 
@@ -65,13 +65,13 @@ exact_moves shown table line = moves (served_system shown.subject) shown.limit t
 abbrev pub moves_of : Shown → Table → List ℕ → List Step
 moves_of shown table bytes = exact_moves shown table (line_of bytes)
 
--- what a request comes to
+-- the moves of a request
 abbrev pub outcome_of : Shown → Name → Request → List Move
 outcome_of shown session request =
     outcome (served_system shown.subject) session (nat_le shown.limit (length shown.table)) (entry_of session shown.table) request
 
--- A line is refused: it is none of the language, or what it asks is declined, as if its session is not open or if it names
--- no part or wire. A blank line is not refused.
+-- A line is refused: it is not in the language, or its request is declined, for example if its session is not open or it names an unknown
+-- part or wire. A blank line is not refused.
 abbrev pub IsRefused : Shown → Line → Type 0
 IsRefused shown Blank = ⊥
 IsRefused shown (Refused refusal) = Unit {0}
@@ -81,15 +81,15 @@ IsRefused shown (Ask session request) = (refusal : Refusal) × (outcome_of shown
 abbrev pub ChangesTable : Shown → Shown → Type 0
 ChangesTable old new = new ≡ record old { table = new.table }
 
--- What a service writes for these lines, from this table, is one text of what its system answers.
+-- What a service writes for these lines, from this table, is one text of the answers of its system.
 pub record SpellReplies (shown : Shown) (old : Table) (lines : List (List ℕ)) : Type 0 where
-  -- If the moves of the lines were made, those over the system were, the text spells its replies, and cases fit as before.
+  -- If the moves of the lines were made, those over the system were, the text spells its replies, and cases still fit.
   pub made : (new : Table) (before after : Option (List ℕ)) → Makes old new (script_moves (moves_of shown) old lines) before after
       → Makes old new (script_moves (line_moves (system_of shown.subject) shown.limit) old lines) before after
   pub replies : (new : Table) (before after : Option (List ℕ)) → Makes old new (script_moves (moves_of shown) old lines) before after
       → Writes before after (replies (system_of shown.subject) shown.limit old lines)
   pub cases : (new : Table) (before after : Option (List ℕ)) → Makes old new (script_moves (moves_of shown) old lines) before after
       → HasCasesOf (system_of shown.subject) new
-  -- If they broke off, those over the system did.
+  -- If they broke off, so did those over the system.
   pub broke : (new : Table) (before after : Option (List ℕ)) → BreaksOff new (script_moves (moves_of shown) old lines) before after
       → BreaksOff new (script_moves (line_moves (system_of shown.subject) shown.limit) old lines) before after

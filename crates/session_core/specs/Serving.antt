@@ -15,8 +15,8 @@ pub record FailsBehind (one : Table → List ℕ → List Step) (old new : Table
   pub made : Makes old table (script_moves one old answered) before middle
   pub broke : BreaksOff new (script_moves one table lines) middle after
 
--- A write failed in the lines that the last read ended, and nothing was read after it. What was read before, all but the bytes of
--- one read, was answered.
+-- A write failed in the lines that the last read ended, and nothing was read afterwards. All that was read before, except the bytes of one
+-- read, was answered.
 pub record FailsAtOnce (one : Table → List ℕ → List Step) (old new : Table) (bytes : List ℕ) (before after : Option (List ℕ)) : Type 0 where
   pub fed : List ℕ
   pub piece : List ℕ
@@ -26,8 +26,8 @@ pub record FailsAtOnce (one : Table → List ℕ → List Step) (old new : Table
   pub ended : whole_lines bytes ≡ whole_lines fed ++ lines
   pub failed : FailsBehind one old new (whole_lines fed) lines before after
 
--- What was done with the bytes that were taken, by how the script ended, if each line has these moves. At the end of the script
--- a write may also fail in a last line that no line feed ended.
+-- What was done with the bytes that were taken, by how the script ended, if each line has these moves. At the end of the script a write may
+-- also fail in a last line without a line feed.
 abbrev pub Served : ServeEnd → (Table → List ℕ → List Step) → Table → Table → List ℕ → ℕ → Type 0 → Option (List ℕ) → Option (List ℕ) → Type 0
 Served Done one old new bytes limit at_end before after =
     at_end × (length bytes < limit) × Makes old new (script_moves one old (all_lines bytes)) before after

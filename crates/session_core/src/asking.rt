@@ -1,4 +1,4 @@
-//! Dispatches requests that change no session.
+//! Carries out requests that change no session.
 ghost use Rattle.std.specs.Prelude.{◌≡◌, ◌∷◌, [], codes, true};
 ghost use Rattle.diag_edge.specs.Edge.{HasCause};
 ghost use Rattle.script_lang.specs.Script.{question_of, Tell, Dnnf, LeastNnf};
@@ -22,7 +22,7 @@ use std::marker::Brand;
 use std::sync::ledger::Blank;
 
 impl Sessions {
-    // Tells what is asked of a session's case.
+    // Answers a question about a session's case.
     #[tactic(auto, using(crate::proofs::Rules::open_sessions))]
     pub(crate) fn ask_case<O: Sink>(
         &mut self,
@@ -39,7 +39,7 @@ impl Sessions {
         tell::<O, Brand>(&mut self.desk, Blank::new(1), session.name, question, out)
     }
 
-    // Tells the graph of the states that agree with a session's case.
+    // Writes the graph of the states that agree with a session's case.
     #[tactic(auto, using(crate::proofs::Rules::open_sessions))]
     pub(crate) fn ask_graph<O: Sink>(
         &self,
@@ -54,7 +54,7 @@ impl Sessions {
         tell_graph(self.desk.basis(), known, session.name, out)
     }
 
-    // Tells the graph of a session's diagnoses.
+    // Writes the graph of a session's diagnoses.
     #[tactic(auto, using(crate::proofs::Rules::open_sessions))]
     pub(crate) fn ask_least<O: Sink>(
         &mut self,
@@ -73,7 +73,7 @@ impl Sessions {
     }
 }
 
-// The graph of the states that agree with a case.
+// Writes the graph of the states that agree with a case.
 fn tell_graph<O: Sink>(
     basis: &Basis,
     known: &[u32],
@@ -90,7 +90,7 @@ fn tell_graph<O: Sink>(
     write_projected(graph, known, basis.parts().len() as u32, out)
 }
 
-// The graph of the diagnoses of the case that is asked.
+// Writes the graph of the diagnoses of the desk's case.
 fn tell_least<O: Sink>(desk: &mut Desk, session: &[u8], out: &mut O) -> Result<(), WriteFailed>
     requires told { desk.old.subject.extras.least ≡ true }
     ensures reply { Replies (O.got out.old) (O.got out.new) result

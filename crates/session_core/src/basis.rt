@@ -24,21 +24,21 @@ use state_rules::Extras;
 use std::alloc::{AllocError, Global};
 use std::marker::Model;
 
-/// What sessions ask over, which no line changes: the names of parts and wires, what the failure of each part costs, a graph whose
+/// The subject of the sessions, which no line changes: the names of parts and wires, the cost of each part's failure, a graph whose
 /// variables are the parts, the wires, and inner ones, and the extras.
 pub(crate) struct Basis {
     parts: Vec<Name>,
     wires: Vec<Name>,
     costs: Vec<u32>,
     graph: Graph,
-    // what lists states by rising cost, if these are listed
+    // the lister of states by rising cost, if they are listed
     levels: Option<Levels>,
-    // what the graph of the diagnoses is drawn with, if it is written and nothing else keeps it
+    // the sets for drawing the graph of the diagnoses, if it is written and `levels` does not keep them
     sets: Option<PartSets>,
     least: bool,
 }
 
-// One call, so that the prover does not go through the basis at each place that lets one go.
+// One call, so that the prover does not go through the basis at each place that drops one.
 impl Drop for Basis {
     fn drop(self) {
         let Basis {
@@ -69,7 +69,7 @@ impl Basis {
     ghost use Rattle.session_core.specs.inner.Bases.{IsBasis, AreEnough, level_room};
     ghost use Rattle.session_core.specs.inner.Desks.{is_listed};
 
-    /// Names, costs and a graph. `Err` means that memory ran out.
+    /// Makes a basis of names, costs and a graph. `Err` means that memory ran out.
     pub(crate) fn of(
         alloc: Global,
         parts: Vec<Name>,
@@ -107,7 +107,7 @@ impl Basis {
         })
     }
 
-    /// The names of the parts.
+    /// Returns the names of the parts.
     pub(crate) fn parts(&self) -> &[Name]
         ensures names { result.now ≡ self.now.parts }
         ensures basis { IsBasis self.now }
@@ -115,7 +115,7 @@ impl Basis {
         &self.parts
     }
 
-    /// The names of the wires.
+    /// Returns the names of the wires.
     pub(crate) fn wires(&self) -> &[Name]
         ensures names { result.now ≡ self.now.wires }
         ensures basis { IsBasis self.now }
@@ -123,7 +123,7 @@ impl Basis {
         &self.wires
     }
 
-    /// The name of a wire.
+    /// Returns the name of a wire.
     pub(crate) fn wire_name(&self, wire: u32) -> &[u8]
         requires { wire < length self.now.wires }
         ensures { result.now ≡ slice_index_or self.now.wires wire [] }
@@ -131,14 +131,13 @@ impl Basis {
         self.wires[wire as usize].as_slice()
     }
 
-    /// What the failure of each part costs.
+    /// Returns the cost of each part's failure.
     pub(crate) fn costs(&self) -> &[u32]
         ensures { result.now ≡ self.now.costs }
     {
         &self.costs
     }
 
-    /// The graph.
     pub(crate) fn graph(&self) -> &Graph
         ensures graph { result.now ≡ self.now.graph }
         ensures basis { IsBasis self.now }
@@ -146,7 +145,7 @@ impl Basis {
         &self.graph
     }
 
-    /// The place of a wire, or of a part. There is none exactly if none has the name.
+    /// Returns the place of a wire, or of a part, or `None` exactly if none has the name.
     pub(crate) fn find(&self, what: Noted, name: &[u8]) -> Option<u32>
         ensures place { result ≡ place_of name.now (names_of self.now what) }
         ensures basis { IsBasis self.now }
@@ -157,7 +156,7 @@ impl Basis {
         }
     }
 
-    /// What lists states by rising cost, if they are listed.
+    /// Returns the lister of states by rising cost, if they are listed.
     pub(crate) fn levels(&self) -> Option<&Levels>
         ensures none { IsNone result → self.now.extras.levels ≡ None }
         ensures some { IfSome result (λ levels. (self.now.extras.levels ≡ Some levels.now.top)
@@ -177,7 +176,7 @@ impl Basis {
         }
     }
 
-    /// The sets of parts that the graph of the diagnoses is drawn with.
+    /// Returns the sets of parts for drawing the graph of the diagnoses.
     pub(crate) fn part_sets(&self) -> &PartSets
         requires told { self.now.extras.least ≡ true }
         ensures { AreFor self.now.graph (length self.now.costs) result.now }
@@ -195,7 +194,7 @@ impl Basis {
         self.least
     }
 
-    /// How many words are enough for each answer that takes some.
+    /// Returns a number of words that is enough for each answer that takes some.
     pub(crate) fn most_room(&self) -> usize
         ensures enough { AreEnough self.now result }
         ensures few { result < REGION_LIMIT }
@@ -207,7 +206,7 @@ impl Basis {
         self.probes_room().max(levels)
     }
 
-    /// How many words the probes of all wires work with.
+    /// Returns the number of words for the probes of all wires.
     pub(crate) fn probes_room(&self) -> usize
         ensures room { result ≡ 4 * length self.now.graph.nodes }
         ensures some { 1 ≤ result }
@@ -217,7 +216,7 @@ impl Basis {
         4 * self.nodes()
     }
 
-    /// How many words a step by rising cost works with.
+    /// Returns the number of words for a step by rising cost.
     #[tactic(auto, using(crate::proofs::Rules::products_within))]
     pub(crate) fn level_room(&self, levels: &Levels) -> usize
         requires told { self.now.extras.levels ≡ Some levels.now.top }
@@ -231,7 +230,6 @@ impl Basis {
         levels.room(self.graph())
     }
 
-    /// How many variables the graph has.
     pub(crate) fn vars(&self) -> usize
         ensures vars { result ≡ self.now.graph.vars }
         ensures basis { IsBasis self.now }
@@ -239,7 +237,6 @@ impl Basis {
         self.graph.vars() as usize
     }
 
-    /// How many nodes the graph has.
     pub(crate) fn nodes(&self) -> usize
         ensures nodes { result ≡ length self.now.graph.nodes }
         ensures basis { IsBasis self.now }
@@ -248,7 +245,7 @@ impl Basis {
     }
 }
 
-// What lists states by rising cost, if they are listed.
+// Makes the lister of states by rising cost, if they are listed.
 fn levels_of(
     alloc: Global,
     graph: &Graph,
@@ -269,7 +266,7 @@ fn levels_of(
     }
 }
 
-// The sets of parts, if the graph of the diagnoses is written and what lists states does not keep them.
+// Makes the sets of parts, if the graph of the diagnoses is written and the lister of states does not keep them.
 fn sets_of(
     alloc: Global,
     graph: &Graph,

@@ -1,4 +1,4 @@
-//! What all answers are worked out with.
+//! Computes all answers.
 ghost use Rattle.std.specs.Prelude.{◌≡◌, ℕ, ◌<◌, Bool, true, false, Some, None, All, IfOk, IfSome, length, slice_get, is_some};
 ghost use Rattle.std.specs.Option.{option_map};
 ghost use Rattle.std.specs.List.{list_all};
@@ -27,13 +27,13 @@ use std::alloc::{AllocError, Global};
 use std::marker::Model;
 use std::sync::ledger::Ledger;
 
-/// What is asked over, and the memory that answers are worked out in. All of it is taken when a desk is made.
+/// The subject, and the memory in which answers are computed. A desk takes all of it when it is made.
 pub(crate) struct Desk {
     basis: Basis,
     memory: DeskMemory,
 }
 
-// One call, so that the prover does not go through the desk at each place that lets one go.
+// One call, so that the prover does not go through the desk at each place that drops one.
 impl Drop for Desk {
     fn drop(self) {
         let Desk {
@@ -66,7 +66,7 @@ impl Model for Desk {
 }
 
 impl Desk {
-    /// A desk for what is asked over a basis: of the first case nothing is known. `Err` means that memory ran out.
+    /// Makes a desk over a basis. Its first case knows nothing. `Err` means that memory ran out.
     pub(crate) fn new(alloc: Global, basis: Basis) -> Result<Desk, AllocError>
         ensures { IfOk result (λ desk. desk.subject ≡ basis) }
     {
@@ -74,14 +74,13 @@ impl Desk {
         Ok(Desk { basis, memory })
     }
 
-    /// What is asked over.
     pub(crate) fn basis(&self) -> &Basis
         ensures { result.now ≡ self.now.subject }
     {
         &self.basis
     }
 
-    /// The state that was found last.
+    /// Returns the state that was found last.
     pub(crate) fn state(&self) -> &[u32]
         ensures state { result.now ≡ self.now.state }
         ensures one_a_part { length self.now.state ≡ length self.now.subject.parts }
@@ -90,7 +89,7 @@ impl Desk {
         &self.memory.state
     }
 
-    /// The verdicts that were found last.
+    /// Returns the verdicts that were found last.
     pub(crate) fn verdicts(&self) -> &[Blame]
         ensures verdicts { result.now ≡ self.now.verdicts }
         ensures one_a_part { length self.now.verdicts ≡ length self.now.subject.parts }
@@ -98,7 +97,7 @@ impl Desk {
         &self.memory.verdicts
     }
 
-    /// From here on the case of this evidence is asked.
+    /// Makes the case of this evidence the one in question.
     pub(crate) fn take_up(&mut self, evidence: &[u32])
         requires { AreKnown self.old.subject evidence.now }
         ensures { self.new ≡ record self.old { known = evidence.now } }
@@ -128,7 +127,7 @@ impl Desk {
         )
     }
 
-    /// The least cost; the state is then the first diagnosis.
+    /// Returns the least cost. The state is then the first diagnosis.
     #[tactic(auto, using(crate::proofs::Rules::desk_after_pass))]
     pub(crate) fn first<L: Ledger>(&mut self, steps: &mut Steps<L>) -> Option<u32>
         ensures least { result ≡ least_asked self.old }
@@ -146,7 +145,7 @@ impl Desk {
         )
     }
 
-    /// What comes next of a listing after a point, or first if there is no point. The state is then the one that is found.
+    /// Finds what comes next of a listing after a point, or first if there is none. The state is then the one found.
     #[tactic(auto, using(crate::proofs::Rules::desk_after_pass))]
     pub(crate) fn next<L: Ledger>(
         &mut self,
@@ -170,7 +169,7 @@ impl Desk {
         }
     }
 
-    // The first diagnosis.
+    // Finds the first diagnosis.
     fn begin<L: Ledger>(&mut self, steps: &mut Steps<L>) -> NextState
         ensures next { result ≡ next_after self.old.subject Listed.Diagnoses (asked_case self.old) None }
         ensures state { IsFirst (bits_of self.new.state) (diagnoses_asked self.old) }
@@ -182,7 +181,7 @@ impl Desk {
         }
     }
 
-    // The first diagnosis after a state.
+    // Finds the first diagnosis after a state.
     #[tactic(auto, using(crate::proofs::Rules::desk_still_fits))]
     fn go_on<L: Ledger>(&mut self, old: &[u32], steps: &mut Steps<L>) -> NextState
         requires long { length old.now ≡ length self.old.subject.parts }
@@ -204,7 +203,7 @@ impl Desk {
         )
     }
 
-    // What comes next of the states by rising cost.
+    // Finds what comes next of the states by rising cost.
     #[tactic(auto, using(crate::proofs::Rules::lent_room))]
     fn next_level<L: Ledger>(&mut self, point: Option<&[u32]>, steps: &mut Steps<L>) -> NextState
         requires listed { is_listed self.old.subject Listed.Levels ≡ true }
@@ -251,7 +250,7 @@ impl Desk {
         )
     }
 
-    /// Of each part whether it is faulty in all diagnoses, in some or in none. The state is spoilt.
+    /// Finds for each part whether it is faulty in all diagnoses, in some or in none. Overwrites the state.
     #[tactic(auto, using(crate::proofs::Rules::desk_after_pass))]
     pub(crate) fn blame<L: Ledger>(&mut self, steps: &mut Steps<L>)
         ensures blame { (part : ℕ) → part < length self.old.subject.parts
@@ -270,7 +269,7 @@ impl Desk {
         );
     }
 
-    /// The least cost if a wire is 0, and if it is 1.
+    /// Returns the least cost if a wire is 0, and if it is 1.
     #[tactic(auto, using(crate::proofs::Rules::desk_after_pass))]
     pub(crate) fn probe<L: Ledger>(
         &mut self,
@@ -292,7 +291,7 @@ impl Desk {
         )
     }
 
-    /// Whether some state agrees with the case; and the numbers of all wires.
+    /// Whether some state agrees with the case. Computes the numbers of all wires.
     #[tactic(auto, using(crate::proofs::Rules::lent_room))]
     pub(crate) fn probe_all<L: Ledger>(&mut self, steps: &mut Steps<L>) -> bool
         ensures some { result ≡ is_some (least_asked self.old) }
@@ -313,7 +312,7 @@ impl Desk {
         least.is_some()
     }
 
-    /// The least costs of a wire, by the numbers.
+    /// Returns the least costs of a wire, from the numbers.
     pub(crate) fn probed(&self, wire: u32) -> (Option<u32>, Option<u32>)
         requires { wire < length self.now.subject.wires }
         ensures zero { result.0 ≡ probed self.now.numbers wire false }
@@ -324,7 +323,7 @@ impl Desk {
         (zero, one)
     }
 
-    /// Whether each name is a part's; the state is then the one in which these are faulty.
+    /// Whether each name is a part's. If so, the state is then the one with these parts faulty.
     pub(crate) fn mark(&mut self, names: &[u8]) -> bool
         ensures named { result ≡ list_all (is_among self.old.subject.parts) (words names.now) }
         ensures state { result ≡ true → bits_of self.new.state ≡ state_of (words names.now) self.old.subject.parts }
@@ -334,7 +333,7 @@ impl Desk {
     }
 }
 
-// Makes a point the state, if there is one.
+// Makes a point the state. Returns whether there is one.
 fn start_at(state: &mut [u32], point: Option<&[u32]>) -> bool
     requires { IfSome point (λ old. (length old.now ≡ length state.old) × All (λ s. s < 2) old.now) }
     ensures point { point_if result (bits_of state.new) ≡ option_map (λ old. bits_of old.now) point.entry }
@@ -352,7 +351,7 @@ fn start_at(state: &mut [u32], point: Option<&[u32]>) -> bool
     }
 }
 
-// Whether each name is a part's; and then the state in which these are faulty.
+// Whether each name is a part's. If so, the state is then the one with these parts faulty.
 #[tactic(auto, using(crate::proofs::Rules::marked_parts))]
 fn mark_named(basis: &Basis, names: &[u8], state: &mut [u32]) -> bool
     requires { length state.old ≡ length basis.now.parts }

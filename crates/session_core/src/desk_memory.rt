@@ -1,5 +1,5 @@
-//! The memory that answers are worked out in. It is taken in a file of few imports, since the prover goes through all that is let go
-//! when memory runs out.
+//! The memory in which answers are computed. It is taken in a file of few imports, since the prover goes through all that is dropped when
+//! memory runs out.
 ghost use Rattle.std.specs.Prelude.{◌≡◌, replicate, IfOk};
 ghost use Rattle.session_core.specs.inner.Desks.{FitsTogether};
 
@@ -9,10 +9,10 @@ use probe_report::Blame;
 use scratch_pool::Region;
 use std::alloc::{AllocError, Global};
 
-/// What a desk works with besides what is asked over.
+/// The memory of a desk beside its basis.
 #[derive(Drop)]
 pub(crate) struct DeskMemory {
-    // a word for each variable, which passes change and put back
+    // a word for each variable, which passes change and restore
     pub(crate) known: Vec<u32>,
     // what a pass finds at each node
     pub(crate) values: Vec<u32>,
@@ -20,14 +20,14 @@ pub(crate) struct DeskMemory {
     pub(crate) state: Vec<u32>,
     pub(crate) verdicts: Vec<Blame>,
     pub(crate) numbers: Vec<u32>,
-    // room that an answer takes whole for its while: the probes of all wires, or a step by rising cost
+    // room that one answer at a time takes whole: the probes of all wires, or a step by rising cost
     pub(crate) room: Region,
-    // a smaller graph that has the diagnoses under the evidence that was asked last
+    // a smaller graph that has the diagnoses under the last evidence
     pub(crate) minimised_graph: MinimisedGraph,
 }
 
 impl DeskMemory {
-    /// Memory for whatever is asked over a basis. Of the first case nothing is known.
+    /// Takes memory for all answers over a basis. The first case knows nothing.
     pub(crate) fn new(alloc: Global, basis: &Basis) -> Result<DeskMemory, AllocError>
         ensures { IfOk result (λ memory. FitsTogether (record {
           subject = basis.now;
@@ -51,7 +51,6 @@ impl DeskMemory {
     }
 }
 
-// So many numbers, each 0.
 fn zeros(alloc: Global, count: usize) -> Result<Vec<u32>, AllocError>
     ensures { IfOk result (λ zeros. zeros.items ≡ replicate count 0) }
 {

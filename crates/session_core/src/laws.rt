@@ -8,7 +8,7 @@ ghost use Rattle.session_rules.specs.CaseSizes.{HasCasesOf};
 ghost use Rattle.session_rules.specs.GraphSystems.{system_of};
 ghost use Rattle.session_core.specs.Services.{Shown, IsSound, SpellReplies, served_system, moves_of};
 
-/// What a service writes is one text: if the moves of a script were made twice, from one table and after the same bytes, they left the
+/// States that a service writes one text: if the moves of a script were made twice, from one table and after the same bytes, they left the
 /// same bytes and the same table.
 pub fn one_text()
     ensures { (shown : Shown) (old new other : Table) (lines : List (List ℕ)) (bytes : List ℕ) (a b : Option (List ℕ))
@@ -17,17 +17,16 @@ pub fn one_text()
         → (a ≡ b) × (new ≡ other) }
 {}
 
-/// What a service answers a session, byte for byte, is what it answers it alone: wherever it opens among some lines, its own lines
-/// from there to its end have the answers that they have alone, with room for one session and no other line before, between or after
-/// them.
+/// States that a session has, byte for byte, the answers that it has alone: wherever it opens among some lines, its own lines from there to
+/// its end have the answers that they have with room for one session and no other line before, between or after them.
 #[tactic(auto, using(session_rules::proofs::Alone::answered_alone))]
 pub fn written_alone()
     ensures { (shown : Shown) (table : Table) (lines : List (List ℕ))
         → AreAnsweredAlone (served_system shown.subject) shown.limit table lines }
 {}
 
-/// What a service writes spells the replies of its system: the moves of a script, from a table whose cases fit the system, are moves
-/// over the system, and if they break off, those do.
+/// States that what a service writes spells the replies of its system: the moves of a script, from a table whose cases fit the system, are
+/// moves over the system, and if they break off, so do those.
 #[tactic(auto, using(crate::proofs::WrittenReplies::spell_replies))]
 pub fn spells_replies()
     ensures { (shown : Shown) → IsSound shown → (table : Table) → HasCasesOf (system_of shown.subject) table

@@ -5,11 +5,10 @@ use script_lang::LINE_LIMIT;
 use std::alloc::{AllocError, Global};
 use std::marker::Model;
 
-/// One byte more than the longest line has.
+/// One byte more than the longest line.
 const ROOM: usize = LINE_LIMIT + 1;
 
-/// The beginning of a line, up to one byte past the longest line. What is past that is dropped:
-/// one byte more is enough for the line to be refused.
+/// The beginning of a line, up to one byte past the longest line. The rest is dropped: one byte more is enough for the line to be refused.
 #[derive(Drop)]
 pub struct LineBuffer {
     bytes: Vec<u8>,
@@ -27,7 +26,7 @@ impl Model for LineBuffer {
 }
 
 impl LineBuffer {
-    /// No byte yet, with memory for the longest line.
+    /// Makes an empty buffer with memory for the longest line. `Err` means that memory ran out.
     pub fn new(alloc: Global) -> Result<Self, AllocError>
         ensures { IfOk result (λ gathered. gathered ≡ []) }
     {
@@ -35,7 +34,7 @@ impl LineBuffer {
         Ok(LineBuffer { bytes })
     }
 
-    /// Adds a byte, or drops it where the line is past the longest.
+    /// Adds a byte, or drops it if the line is past the longest.
     #[tactic(auto, using(crate::proofs::Rules::kept_bytes))]
     pub fn push(&mut self, byte: u8)
         ensures { self.new ≡ kept (self.old ++ byte ∷ []) }
@@ -52,7 +51,7 @@ impl LineBuffer {
         self.bytes.clear();
     }
 
-    /// The bytes that were kept.
+    /// Returns the bytes that were kept.
     pub fn as_slice(&self) -> &[u8]
         ensures { result.now ≡ self.now }
     {

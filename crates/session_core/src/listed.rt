@@ -5,10 +5,10 @@ ghost use Rattle.session_core.specs.inner.Desks.{of_step, of_level_step, is_foun
 use diagnosis_lister::Step;
 use level_lister::LevelStep;
 
-/// What is listed of a session.
+/// The two listings of a session.
 #[derive(Clone, Copy, Debug)]
 pub(crate) enum Listed {
-    /// Its diagnoses, in their order.
+    /// Its diagnoses, in order.
     Diagnoses,
     /// Its states by rising cost.
     Levels,
@@ -19,14 +19,14 @@ pub(crate) enum Listed {
 pub(crate) enum NextState {
     /// A state, and its cost if the listing shows costs.
     Found(Option<u32>),
-    /// There are states, and none of those listed is later.
+    /// There are states, but no listed one is later.
     End,
     /// No state agrees with the case.
     Inconsistent,
 }
 
 impl NextState {
-    /// What comes next of the diagnoses.
+    /// Converts what comes next of the diagnoses.
     pub(crate) fn of_step(step: Step) -> NextState
         ensures { result ≡ of_step step }
     {
@@ -37,7 +37,7 @@ impl NextState {
         }
     }
 
-    /// What comes next by rising cost.
+    /// Converts what comes next by rising cost.
     pub(crate) fn of_level_step(step: LevelStep) -> NextState
         ensures { result ≡ of_level_step step }
     {

@@ -24,7 +24,7 @@ use session_table::OpenSessions;
 use std::marker::Brand;
 use std::sync::ledger::{Blank, Ledger};
 
-// Finds what comes next of a listing of the session at a place, and moves its point there. The desk then has that state.
+// Finds what comes next of a listing of the session at a place, and moves its point there. The state is then on the desk.
 #[tactic(auto, using(crate::proofs::Rules::listed_moves))]
 fn find<L: Ledger>(
     desk: &mut Desk,
@@ -54,7 +54,7 @@ fn find<L: Ledger>(
     next
 }
 
-// Shows what comes next of a listing of a session, and answers whether anything does. The point moves before the reply.
+// Writes what comes next of a session's listing. Returns whether it is a state. The point moves before the reply.
 #[tactic(auto, using(crate::proofs::ShownService::holds_more))]
 fn move_on<O: Sink>(
     desk: &mut Desk,
@@ -79,7 +79,7 @@ fn move_on<O: Sink>(
     Ok(next.is_found())
 }
 
-// Shows what comes next of a listing of a session, up to so many times.
+// Writes what comes next of a session's listing, at most `count` times.
 #[tactic(auto, using(crate::proofs::Rules::listed_moves))]
 fn move_so_far<O: Sink>(
     desk: &mut Desk,
@@ -108,7 +108,7 @@ fn move_so_far<O: Sink>(
 }
 
 impl Sessions {
-    // Shows what comes next of a listing of a session, up to so many times.
+    // Writes what comes next of a session's listing, at most `count` times.
     pub(crate) fn list<O: Sink>(
         &mut self,
         listed: Listed,
@@ -126,7 +126,7 @@ impl Sessions {
         move_so_far(&mut self.desk, &mut self.open, listed, session, count, out)
     }
 
-    // The session goes on after the state whose faulty parts are those named.
+    // Sets the session's point to the state whose faulty parts are the named ones.
     pub(crate) fn after<O: Sink>(
         &mut self,
         session: OpenSession<'_>,

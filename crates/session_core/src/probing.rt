@@ -1,4 +1,4 @@
-//! What is answered of all wires at once.
+//! The answer about all wires at once.
 ghost use Rattle.std.specs.Prelude.{◌≡◌, ◌<◌, [], length, map, slice_index_or};
 ghost use Rattle.diag_edge.specs.Edge.{HasCause};
 ghost use Rattle.session_rules.specs.Items.{line};
@@ -14,7 +14,7 @@ use diag_edge::{Sink, WriteFailed, put_line};
 use minimiser::Steps;
 use std::sync::ledger::Ledger;
 
-// The least costs of each wire that is not seen, if some state agrees.
+// Writes the least costs of each wire that is not seen, if some state agrees.
 #[tactic(auto, using(crate::proofs::Rules::written_lines))]
 pub(crate) fn tell_probes<O: Sink, L: Ledger>(
     desk: &mut Desk,
@@ -34,7 +34,7 @@ pub(crate) fn tell_probes<O: Sink, L: Ledger>(
     put_line(out, &[session, b"end"])
 }
 
-// A line for each wire that is not seen.
+// Writes a line for each wire that is not seen.
 #[tactic(auto, using(crate::proofs::Rules::written_lines))]
 fn put_probes<O: Sink>(desk: &Desk, session: &[u8], out: &mut O) -> Result<(), WriteFailed>
     requires { AreProbed desk.now }
@@ -50,7 +50,7 @@ fn put_probes<O: Sink>(desk: &Desk, session: &[u8], out: &mut O) -> Result<(), W
     Ok(())
 }
 
-// The line of one wire, unless it is seen.
+// Writes the line of one wire, unless it is seen.
 #[tactic(auto, using(crate::proofs::Rules::written_lines))]
 fn put_unseen<O: Sink>(
     desk: &Desk,

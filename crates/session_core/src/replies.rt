@@ -1,4 +1,4 @@
-//! The lines of replies, each of which is one call of the sink where it is short.
+//! The lines of replies. A short one is one call of the sink.
 ghost use Rattle.std.specs.Prelude.{◌≡◌, [], ◌∷◌, ◌++◌, length, map, codes};
 ghost use Rattle.std.specs.List.{flat_map};
 ghost use Rattle.text_rules.specs.Tokens.{spaced};
@@ -19,7 +19,7 @@ use probe_report::Blame;
 use script_lang::LineRefusal;
 use session_rules::Refusal;
 
-// Why a line asks nothing.
+// Writes why a line is refused.
 pub(crate) fn put_line_refusal<O: Sink>(
     out: &mut O,
     refusal: LineRefusal,
@@ -38,7 +38,7 @@ pub(crate) fn put_line_refusal<O: Sink>(
     )
 }
 
-// Why what is asked of a session is not done.
+// Writes why a request to a session is refused.
 pub(crate) fn put_refusal<O: Sink>(
     out: &mut O,
     session: &[u8],
@@ -59,14 +59,13 @@ pub(crate) fn put_refusal<O: Sink>(
     )
 }
 
-// What a refusal says.
 fn text_of<'a>(refusal: Refusal) -> &'a [u8]
     ensures { result.now ≡ (refusal_row refusal).1 }
 {
     refusal.text().as_bytes()
 }
 
-// The line of `min`: the least cost and the names of the faulty parts, or that no state agrees.
+// Writes the line of `min`: the least cost and the names of the faulty parts, or that no state agrees.
 #[tactic(auto, using(diag_edge::proofs::Added::adds_on))]
 pub(crate) fn put_min<O: Sink>(
     out: &mut O,
@@ -92,8 +91,7 @@ pub(crate) fn put_min<O: Sink>(
     }
 }
 
-// The line of what comes next of a listing: the names of the faulty parts of a state, before them its cost if that is shown; or that
-// there is none.
+// Writes what comes next of a listing: the names of a state's faulty parts, after its cost if that is shown; or that there is none.
 #[tactic(auto, using(diag_edge::proofs::Added::adds_on))]
 pub(crate) fn put_next<O: Sink>(
     out: &mut O,
@@ -121,8 +119,8 @@ pub(crate) fn put_next<O: Sink>(
     }
 }
 
-/// Puts the line of a first word, as the name of a session, of some more, and of the names of the faulty parts: those whose
-/// word of the state is not 0.
+/// Writes a line of a first word (such as a session's name), more words, and the names of the faulty parts: those whose word of the state
+/// is not 0.
 pub fn put_faulty<O: Sink>(
     out: &mut O,
     session: &[u8],
@@ -141,7 +139,7 @@ pub fn put_faulty<O: Sink>(
     chunk.put(out)
 }
 
-// That line up to the names of parts.
+// Adds that line up to the names of parts.
 #[tactic(auto, using(diag_edge::proofs::Added::adds_on))]
 fn add_front<O: Sink>(
     chunk: &mut Chunk,
@@ -157,7 +155,7 @@ fn add_front<O: Sink>(
     chunk.add_words(out, words)
 }
 
-// The rest of that line.
+// Adds the rest of that line.
 #[tactic(auto, using(diag_edge::proofs::Added::adds_on))]
 fn add_back<O: Sink>(
     chunk: &mut Chunk,
@@ -174,7 +172,7 @@ fn add_back<O: Sink>(
     chunk.add(out, b"\n")
 }
 
-// The names of the faulty parts, each after a space.
+// Adds the names of the faulty parts, each after a space.
 fn add_faulty<O: Sink>(
     chunk: &mut Chunk,
     out: &mut O,
@@ -194,7 +192,7 @@ fn add_faulty<O: Sink>(
     Ok(())
 }
 
-// The line of `probe`: the least cost if a wire is 0, and if it is 1.
+// Writes the line of `probe`: the least cost if a wire is 0, and if it is 1.
 pub(crate) fn put_probe<O: Sink>(
     out: &mut O,
     session: &[u8],
@@ -220,7 +218,7 @@ pub(crate) fn put_probe<O: Sink>(
     )
 }
 
-// A cost, or a dash where there is none.
+// Returns a cost as text, or a dash for none.
 fn count_text(count: Option<u32>, buffer: &mut Buffer) -> &[u8]
     ensures { result.now ≡ count_text count }
 {
@@ -230,7 +228,7 @@ fn count_text(count: Option<u32>, buffer: &mut Buffer) -> &[u8]
     }
 }
 
-// The line of a part under `blame`.
+// Writes the line of a part under `blame`.
 pub(crate) fn put_blame<O: Sink>(
     out: &mut O,
     session: &[u8],
@@ -244,7 +242,6 @@ pub(crate) fn put_blame<O: Sink>(
     put_line(out, &[session, b"blame", name, blame_word(blame)])
 }
 
-// The word of a verdict.
 fn blame_word<'a>(blame: Blame) -> &'a [u8]
     ensures { result.now ≡ blame_text blame }
 {

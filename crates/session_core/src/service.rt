@@ -21,8 +21,8 @@ use state_rules::Extras;
 use std::alloc::Global;
 use std::marker::Model;
 
-/// Sessions over names and a graph, and the line that is being read. As it is written, it takes all its memory when it is made.
-/// It is not `Drop`: [`Service::finish`] spends it.
+/// Sessions over names and a graph, and the line that is being read. The code takes all memory in [`Service::over`]. It is not `Drop`:
+/// [`Service::finish`] consumes it.
 pub struct Service {
     pub(crate) sessions: Sessions,
     pub(crate) gathered: LineBuffer,
@@ -37,9 +37,9 @@ impl Model for Service {
 }
 
 impl Service {
-    /// A service over the names of parts and wires, what the failure of each part costs, and a graph whose variables are the
-    /// parts, the wires, and inner ones. No session is open, and at most so many may be, from 1 to `SESSION_LIMIT`. States by
-    /// rising cost and the graph of the diagnoses are answered if the extras say so. `Err` means that memory ran out.
+    /// Makes a service over the names of parts and wires, the cost of each part's failure, and a graph whose variables are the parts, the
+    /// wires, and inner ones. No session is open, and at most `sessions` may be, from 1 to `SESSION_LIMIT`. It offers states by rising cost
+    /// and the graph of the diagnoses if the extras say so. `Err` means that memory ran out.
     #[tactic(auto, using(crate::proofs::Rules::refused_lines))]
     pub fn over(
         alloc: Global,
@@ -82,7 +82,7 @@ impl Service {
         Ok(Service { sessions, gathered })
     }
 
-    /// Spends the service with all its sessions.
+    /// Consumes the service with all its sessions.
     pub fn finish(self) {
         let Service {
             sessions,
@@ -92,7 +92,7 @@ impl Service {
         open.finish();
     }
 
-    /// The number of parts. The contract says too what holds of every service.
+    /// Returns the number of parts. Its contract also says what holds of every service.
     pub fn parts(&self) -> usize
         ensures parts { result ≡ length self.now.subject.parts }
         ensures sound { IsSound self.now }
@@ -100,23 +100,22 @@ impl Service {
         self.sessions.open.parts() as usize
     }
 
-    /// The number of wires.
+    /// Returns the number of wires.
     pub fn wires(&self) -> usize
         ensures { result ≡ length self.now.subject.wires }
     {
         self.sessions.desk.basis().wires().len()
     }
 
-    /// Carries out one line, without its line feed, and writes its replies. `Err` means that a
-    /// write failed: the line was carried out up to and with what one of its replies says, and the replies
-    /// before it were written. Of that one a beginning was written, perhaps nothing, or all.
+    /// Carries out one line, without its line feed, and writes its replies. `Err` means that a write failed: the line was carried out up to
+    /// one of its replies, with what this one says. The replies before it were written, and of this one nothing, a part or all.
     #[tactic(auto, using(crate::proofs::Rules::refused_lines))]
     pub fn line<O: Sink>(&mut self, line: &[u8], out: &mut O) -> Result<(), WriteFailed>
         ensures carried { CarriesOut self.old.table self.new.table
             (moves_of self.old self.old.table line.now)
             (O.got out.old) (O.got out.new) result }
         ensures stays { ChangesTable self.old self.new }
-        // A line that is refused leaves every session as it was, also where the refusal was not written.
+        // A refused line leaves every session as it was, even if the refusal was not written.
         ensures refused { IsRefused self.old (line_of line.now) → self.new ≡ self.old }
         ensures cause { HasCause (O.faults out.old) (O.faults out.new) result }
     {

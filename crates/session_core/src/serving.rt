@@ -13,25 +13,24 @@ use crate::service::Service;
 use crate::sessions::Sessions;
 use diag_edge::{Sink, Source, WriteFailed};
 
-/// The most bytes that one read of a script may bring.
+/// The most bytes of a script in one read.
 pub const READ_LIMIT: usize = 4096;
 
-/// How the answering of a script ended.
+/// How a script ended.
 #[derive(Clone, Copy, Debug, PartialEq, Eq)]
 pub enum ServeEnd {
-    /// The end of the script was met, and every line was answered.
+    /// The script ended, and every line was answered.
     Done,
-    /// A read failed. The lines that a line feed ended were answered.
+    /// A read failed. The lines with a line feed were answered.
     ReadFault,
-    /// A write failed. The lines were carried out up to one reply, and those before it were written. Of that one a
-    /// beginning was written, perhaps nothing, or all. No read was tried after it.
+    /// A write failed. The lines were carried out up to one reply. The replies before it were written, and of this one nothing, a part or
+    /// all. No read was tried afterwards.
     WriteFault,
-    /// As many bytes as the limit were taken, and no end was met. The lines that a line feed ended
-    /// were answered.
+    /// As many bytes as the limit were taken, without an end. The lines with a line feed were answered.
     Limit,
 }
 
-// Takes one byte of the script: a line feed has the line answered.
+// Takes one byte of the script. A line feed ends a line, which is answered.
 #[tactic(auto, using(crate::proofs::Rules::fed_bytes))]
 fn take_byte<O: Sink>(
     sessions: &mut Sessions,
@@ -58,7 +57,7 @@ fn take_byte<O: Sink>(
     Ok(())
 }
 
-// Answers the lines that end in a piece of the script, and gathers what comes after the last.
+// Answers the lines that end in a piece of the script, and keeps what comes after the last.
 fn feed<O: Sink>(
     sessions: &mut Sessions,
     gathered: &mut LineBuffer,
@@ -81,7 +80,7 @@ fn feed<O: Sink>(
     Ok(())
 }
 
-// A last line that no line feed ended, if there is one.
+// Answers a last line without a line feed, if there is one.
 #[tactic(auto, using(crate::proofs::Rules::fed_bytes))]
 fn finish<O: Sink>(
     sessions: &mut Sessions,
@@ -102,9 +101,8 @@ fn finish<O: Sink>(
 }
 
 impl Service {
-    /// Answers a script, at most `limit` bytes of it. As it is written, each line is answered as soon as its line feed was read.
-    /// Each call begins with no unfinished line, and with the sessions as the last call left them,
-    /// however it ended.
+    /// Answers a script, at most `limit` bytes of it. The code answers each line as soon as its line feed is read. Each call begins with no
+    /// unfinished line, and with the sessions as the last call left them, however it ended.
     pub fn serve<I: Source, O: Sink>(&mut self, input: &mut I, out: &mut O, limit: u64) -> ServeEnd
         requires limit { limit ≤ 2 ^ 40 }
         requires taken { I.taken input.old < 2 ^ 62 }

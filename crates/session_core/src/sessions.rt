@@ -41,8 +41,7 @@ impl Model for Sessions {
 }
 
 impl Sessions {
-    /// Answers one line. If a write fails, the line is carried out up to and with what the reply says that
-    /// met the failure.
+    /// Answers one line. If a write fails, the line is carried out up to the reply that met the failure, with what this says.
     #[tactic(auto, using(crate::proofs::Rules::nothing_written))]
     pub(crate) fn line<O: Sink>(&mut self, line: &[u8], out: &mut O) -> Result<(), WriteFailed>
         ensures carried { CarriesOut self.old.table self.new.table
@@ -58,7 +57,7 @@ impl Sessions {
         }
     }
 
-    // Does what is asked of a session, unless it has to be open and is not. Sessions are looked up here alone.
+    // Carries out a request, unless its session must be open and is not. Sessions are looked up here alone.
     #[tactic(auto, using(crate::proofs::Rules::open_sessions))]
     fn ask<O: Sink>(
         &mut self,
@@ -79,7 +78,7 @@ impl Sessions {
         }
     }
 
-    // Opens a session that is not open, unless as many are open as may be.
+    // Opens a session that is not open, unless as many are open as are allowed.
     #[tactic(auto, using(crate::proofs::Rules::open_sessions))]
     fn start<O: Sink>(&mut self, name: &[u8], out: &mut O) -> Result<(), WriteFailed>
         requires short { is_short_name name.now ≡ true }
@@ -94,7 +93,7 @@ impl Sessions {
         put_line(out, &[name, b"open"])
     }
 
-    // Does what is asked of an open session.
+    // Carries out a request to an open session.
     fn ask_open<O: Sink>(
         &mut self,
         session: OpenSession<'_>,
@@ -121,7 +120,6 @@ impl Sessions {
         }
     }
 
-    // Closes a session.
     #[tactic(auto, using(crate::proofs::Rules::open_sessions))]
     fn stop<O: Sink>(&mut self, session: OpenSession<'_>, out: &mut O) -> Result<(), WriteFailed>
         requires { IsOpen self.old.table session }
@@ -157,7 +155,7 @@ impl Sessions {
     }
 }
 
-// Why nothing is noted of a wire, or a part, that there is not.
+// Returns the refusal to note something of a wire, or a part, that does not exist.
 fn no_such(what: Noted) -> Refusal
     ensures { result ≡ no_such what }
 {

@@ -18,7 +18,7 @@ use script_lang::{Noted, Question};
 use session_rules::Refusal;
 use std::sync::ledger::{Blank, Ledger};
 
-/// Tells what is asked of the case on a desk, by passes that are counted from 0.
+/// Answers a question about the case on a desk, with passes counted from 0.
 pub(crate) fn tell<O: Sink, L: Ledger>(
     desk: &mut Desk,
     blank: Blank,
@@ -43,7 +43,7 @@ pub(crate) fn tell<O: Sink, L: Ledger>(
     }
 }
 
-// The least cost and the first diagnosis.
+// Writes the least cost and the first diagnosis.
 fn tell_minimum<O: Sink, L: Ledger>(
     desk: &mut Desk,
     session: &[u8],
@@ -59,7 +59,7 @@ fn tell_minimum<O: Sink, L: Ledger>(
     put_min(out, session, desk.basis().parts(), fewest, desk.state())
 }
 
-// The least costs of the wire of a name, if there is one and some state agrees.
+// Writes the least costs of the named wire, if it exists and some state agrees.
 #[tactic(auto, using(crate::proofs::Rules::written_lines))]
 fn tell_probe<O: Sink, L: Ledger>(
     desk: &mut Desk,
@@ -83,7 +83,7 @@ fn tell_probe<O: Sink, L: Ledger>(
     put_probe(out, session, name, zero, one)
 }
 
-// Of each part whether it is faulty in all diagnoses, in some or in none, if there is one.
+// Writes for each part whether it is faulty in all diagnoses, in some or in none, if there is one.
 fn tell_blame<O: Sink, L: Ledger>(
     desk: &mut Desk,
     session: &[u8],
@@ -104,7 +104,7 @@ fn tell_blame<O: Sink, L: Ledger>(
     put_line(out, &[session, b"end"])
 }
 
-// A line for each part, with its verdict.
+// Writes a line for each part, with its verdict.
 fn put_blames<O: Sink>(desk: &Desk, session: &[u8], out: &mut O) -> Result<(), WriteFailed>
     ensures reply { Replies (O.got out.old) (O.got out.new) result
         (map line (verdict_lines session.now desk.now.subject.parts desk.now.verdicts)) }

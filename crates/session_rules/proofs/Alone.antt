@@ -33,9 +33,9 @@ when_open-open system s entry request goes = grind (arith, same_as_itself, lists
 entry_there : (o : Option Entry) → is_some o ≡ true → (entry : Entry) × (o ≡ Some entry)
 entry_there o some = grind arith
 
--- ---- a refusal is no opening
+-- ---- a refusal does not open
 
--- a refusal is longer than what says that a session is open
+-- a refusal is longer than the answer to an `open`
 refused_apart : (s tail : List ℕ) → length (s ++ (32 ∷ (codes "error" ++ (32 ∷ tail)))) ≡ length (s ++ (32 ∷ (codes "open" ++ 10 ∷ []))) → ⊥
 refused_apart s tail e = grind (arith, length-append)
 
@@ -51,11 +51,11 @@ module _ (system : System) (limit : ℕ) (s : Name) where
   abbrev Both : Table → Table → Type 0
   Both t u = (entry : Entry) × (entry_of s t ≡ Some entry) × (entry_of s u ≡ Some entry)
 
-  -- an open session is answered the same from both tables
+  -- an open session has the same answer from both tables
   answered_same : (request : Request) (t u : Table) → Both t u → said (moves system limit t (Ask s request)) ≡ said (moves system 1 u (Ask s request))
   answered_same request t u (entry, a, b) = grind (arith, moves-said)
 
-  -- and goes on the same
+  -- its entry afterwards is the same
   left : (m : ℕ) (request : Request) (t : Table) (entry : Entry) → entry_of s t ≡ Some entry → entry_of s (left_by t (moves system m t (Ask s request))) ≡ after (when_open system s entry request) (Some entry)
   left m request t entry is = grind (arith, own_moves)
 
@@ -72,7 +72,7 @@ module _ (system : System) (limit : ℕ) (s : Name) where
   abbrev among : Table → List (List ℕ) → List Answer
   among = dialogue system limit
 
-  -- these are the answers that the same lines have alone, from a table
+  -- these are the answers that the same lines have alone, from table `u`
   abbrev AsAlone : List Answer → Table → Type 0
   AsAlone answers u = answers ≡ dialogue system 1 u (lines_of answers)
 
@@ -101,7 +101,7 @@ module _ (system : System) (limit : ℕ) (s : Name) where
           (subst (λ l. Both (left_by t (moves system limit t l)) (left_by u (moves system 1 u l))) (sym asked)
           (still request t u both (sym (ap (closes_session s) asked) ∙ is)))
 
-  -- an open session is answered as it would be from any table with its entry
+  -- an open session has the answers that it has from any table with its entry
   open-alone : (lines : List (List ℕ)) (t u : Table) → Both t u → AsAlone (own_answers s (among t lines)) u
   open-alone [] t u both = refl
   open-alone (bytes ∷ lines) t u both = by (open-alone lines) (names_session s (line_of bytes)) refl
@@ -114,14 +114,14 @@ module _ (system : System) (limit : ℕ) (s : Name) where
   abbrev new_case : Case
   new_case = empty_case (length system.wires) (length system.parts)
 
-  -- a session that is opened was not open, and there was room
+  -- a session that opens was not open, and there was room
   opened : (full : Bool) (entry : Option Entry) → flat_map (λ (move : Move). move.items) (outcome system s full entry Start) ≡ line (s ∷ codes "open" ∷ []) ∷ []
       → outcome system s full entry Start ≡ becomes s new_case None (codes "open")
   opened full (Some entry) e = absurd (declined_apart s OpenAlready e)
   opened true None e = absurd (declined_apart s Full e)
   opened false None e = refl
 
-  -- from the line that opens it on, whatever others do, a session has the answers that its lines have alone
+  -- from the line that opens it on, a session has the answers that its lines have alone, whatever others do
   opening-alone : (bytes : List ℕ) (lines : List (List ℕ)) (t : Table) → Opens s (first_answer t bytes) → AsAlone (own_answers s (among t (bytes ∷ lines))) []
   opening-alone bytes lines t opens =
       let asked = opens.asked in
@@ -137,7 +137,7 @@ module _ (system : System) (limit : ℕ) (s : Name) where
       ap (λ l. entry_of s (left_by [] (moves system 1 [] l))) asked ∙ own_moves s (outcome system s false None Start) [] in
       grind (arith, open-alone)
 
-  -- what begins at an answer is a dialogue from some table
+  -- from an answer on it is a dialogue from some table
   from_answer : (table : Table) (lines : List (List ℕ)) (before later : List Answer) (opening : Answer) → among table lines ≡ before ++ opening ∷ later
       → (t : Table) × (bytes : List ℕ) × (rest : List (List ℕ)) × (opening ∷ later ≡ among t (bytes ∷ rest))
   from_answer table [] [] later opening e = absurd (let never : ⊥ = cc in never)

@@ -7,7 +7,7 @@ use Rattle.device_model.specs.Diagnosis.{device_system}
 use Rattle.session_rules.specs.Alone.{Answer, lines_of, dialogue, own_answers}
 use Rattle.session_rules.proofs.Examples.{text_of, text, replied, chain}
 
--- what one session is answered over two buffers, from the first of these lines on
+-- a session's answers over two buffers, from the first of these lines on
 abbrev own : List ℕ → List (List ℕ) → List Answer
 own session lines = own_answers session (dialogue (device_system chain) 16 [] lines)
 
@@ -30,7 +30,7 @@ first_alone : replied 1 chain (map codes ("open A" ∷ "see A a=0" ∷ "see A c=
 unfolding digits
 first_alone = refl
 
--- a session ends where it is closed, and what is refused by its spelling names none
+-- a session ends where it is closed; a line refused for its spelling names none
 abbrev opened_again : List (List ℕ)
 opened_again = map codes ("open A" ∷ "frob A" ∷ "see A" ∷ "open A" ∷ "see A zz=0" ∷ "open B" ∷ "close A" ∷ "open A" ∷ "min A" ∷ [])
 

@@ -10,7 +10,7 @@ abbrev pub HaveSpellings : List Item → Type 0
 HaveSpellings [] = Unit {0}
 HaveSpellings (item ∷ items) = ((text : List ℕ) × Spelled item text) × HaveSpellings items
 
--- then some text spells them together
+-- if so, some text spells them together
 pub spelling : (items : List Item) → HaveSpellings items → (text : List ℕ) × Spells items text
 spelling [] h = ([], refl)
 spelling (item ∷ items) h = let more = spelling items h.1 in (h.0.0 ++ more.0, (h.0.0, more.0, refl, h.0.1, more.1))
@@ -28,10 +28,10 @@ pub lines-have : (lines : List (List (List ℕ))) → HaveSpellings (map line li
 lines-have [] = tt
 lines-have (words ∷ lines) = ((_, refl), lines-have lines)
 
--- what begins some items begins more of them
+-- the beginning of some items begins more items
 pub part_more : (a b : Option (List ℕ)) (xs ys : List Item) → WritesPart a b xs → HaveSpellings ys → WritesPart a b (xs ++ ys)
 part_more a b xs ys part h = grind (arith, spelling, append_assoc, spells_more)
 
--- and so does what begins the later ones, after a text that spells the first
+-- so does the beginning of later ones, after a text that spells the first
 pub part_after : (a b c : Option (List ℕ)) (xs ys : List Item) → Writes a b xs → WritesPart b c ys → WritesPart a c (xs ++ ys)
 part_after a b c xs ys first part = grind (arith, append_assoc, spells_more, grows_more a b c first.text part.text first.grown part.grown)

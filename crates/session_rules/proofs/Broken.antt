@@ -16,7 +16,7 @@ pub left_by-append : (t : Table) (ms ns : List Step) → left_by t (ms ++ ns) �
 left_by-append t [] ns = refl
 left_by-append t (m ∷ ms) ns = left_by-append m.table ms ns
 
--- the moves of a script say its replies
+-- the moves of a script write its replies
 pub said-replies : (system : System) (limit : ℕ) (table : Table) (lines : List (List ℕ)) → said (script_moves (line_moves system limit) table lines) ≡ replies system limit table lines
 said-replies system limit table [] = refl
 said-replies system limit table (l ∷ lines) = grind (arith, said-append, said-replies system limit (left_by table (line_moves system limit table l)) lines)
@@ -28,11 +28,11 @@ makes_none t a = record { written = writes_none a; table = refl }
 pub makes_more : {t u v : Table} {ms ns : List Step} {a b c : Option (List ℕ)} → Makes t u ms a b → Makes u v ns b c → Makes t v (ms ++ ns) a c
 makes_more {t} {u} {v} {ms} {ns} {a} {b} {c} first second = grind (arith, said-append, writes_more, left_by-append)
 
--- moves that break off do so also where more were to come
+-- moves that break off do so before further moves too
 pub breaks_before : {t : Table} {ms : List Step} {a b : Option (List ℕ)} (ns : List Step) → BreaksOff t ms a b → BreaksOff t (ms ++ ns) a b
 breaks_before ns broke = grind (arith, append_assoc)
 
--- and after moves that were made
+-- they do so after moves that were made
 pub breaks_after : {t u v : Table} {ms ns : List Step} {a b c : Option (List ℕ)} → Makes t u ms a b → BreaksOff v ns b c → BreaksOff v (ms ++ ns) a c
 breaks_after {t} {u} {v} {ms} {ns} {a} {b} {c} first broke = grind (arith, append_assoc ms broke.made (broke.move ∷ broke.others), said-append ms broke.made, writes_more a b broke.middle (said ms) (said broke.made) first.written broke.written)
 
@@ -58,11 +58,11 @@ script_moves-append one t (l ∷ ls) ks =
     let rest = script_moves one (left_by t first) ls in
     grind (arith, script_moves-append one (left_by t first) ls ks, left_by-append, append_assoc)
 
--- What was written where moves broke off begins a text that spells all that they say, if some text does.
+-- If moves broke off, what was written begins a text that spells all that they write, if some text does.
 pub broken_begins : (t : Table) (ms : List Step) (a b : Option (List ℕ)) → BreaksOff t ms a b → HaveSpellings (said ms) → WritesPart a b (said ms)
 broken_begins t ms a b broke h = grind (arith, said-append broke.made (broke.move ∷ broke.others), have_after broke.move.items (said broke.others), have_after (said broke.made) (broke.move.items ++ said broke.others), part_after a broke.middle b (said broke.made) (broke.move.items ++ said broke.others) broke.written, part_more broke.middle b broke.move.items (said broke.others) broke.begun)
 
--- so what was written where a script broke off begins its replies
+-- if a script broke off, what was written begins its replies
 pub broken_replies : (system : System) (limit : ℕ) (old new : Table) (lines : List (List ℕ)) (a b : Option (List ℕ)) → BreaksOff new (script_moves (line_moves system limit) old lines) a b
     → HaveSpellings (replies system limit old lines) → WritesPart a b (replies system limit old lines)
 broken_replies system limit old new lines a b broke h = grind (arith, said-replies system limit old lines, broken_begins new (script_moves (line_moves system limit) old lines) a b broke)

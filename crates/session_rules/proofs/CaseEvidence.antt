@@ -1,4 +1,4 @@
--- What words say of a case, and what becomes of it where one of them is written.
+-- What words say of a case, and its change if one of them is written.
 use Rattle.std.proofs.Common.{◌≡◌, ℕ, zero, suc, ◌+◌, ◌-◌, ◌≤◌, ◌<◌, Bool, List, [], ◌∷◌, ◌++◌, map, length, replicate, take, refl, ap, sym, ◌∙◌, subst, Option, None, arith, set, length-append}
 use Rattle.std.proofs.Math.Seq.{drop-append_seam, take-append_seam}
 use Rattle.std.proofs.lemmas.List.{length-map, length-set, length-replicate, length-drop, length-take-le, map-set, set-append_left, replicate-append-replicate}
@@ -13,7 +13,7 @@ set_behind : {A : Type 0} (xs ys : List A) (i : ℕ) (y : A) → set (xs ++ ys) 
 set_behind [] ys i y = ap (λ n. set ys n y) (omega arith)
 set_behind (x ∷ xs) ys i y = grind (arith, set_behind xs ys i y)
 
--- the words of what nothing is said of are 0
+-- the words of what is not known are 0
 pub unseen-words : (n : ℕ) → map word_of_known (replicate n None) ≡ replicate n 0
 unseen-words zero = refl
 unseen-words (suc n) = ap (λ ws. 0 ∷ ws) (unseen-words n)
@@ -26,12 +26,12 @@ module _ (vars : ℕ) where
   abbrev inner : ℕ → ℕ → List ℕ
   inner parts wires = replicate (vars - (parts + wires)) 0
 
-  -- a wire is seen, or not any more
+  -- a wire is seen, or no longer
   words-seen : (known : Case) (wire : ℕ) (k : Option Bool) → wire < length known.seen
       → set (case_evidence vars known) (length known.held + wire) (word_of_known k) ≡ case_evidence vars (record known { seen = set known.seen wire k })
   words-seen known wire k l = grind (arith, length-map, set_behind, set-append_left, map-set, length-set)
 
-  -- a part is held, or not any more
+  -- a part is held, or no longer
   words-held : (known : Case) (part : ℕ) (k : Option Bool) → part < length known.held
       → set (case_evidence vars known) part (word_of_known k) ≡ case_evidence vars (record known { held = set known.held part k })
   words-held known part k l = grind (arith, length-map, set-append_left, map-set, length-set)
@@ -40,15 +40,15 @@ module _ (vars : ℕ) where
   words-new : (parts wires : ℕ) → parts + wires ≤ vars → case_evidence vars (empty_case wires parts) ≡ replicate vars 0
   words-new parts wires room = grind (arith, length-replicate, unseen-words, replicate-append-replicate)
 
-  -- words say the case that they are made of
+  -- the words of a case say it
   words-say : (parts wires : ℕ) (known : Case) → length known.held ≡ parts → length known.seen ≡ wires → case_of_evidence parts wires (case_evidence vars known) ≡ known
   words-say parts wires known e d = grind (arith, length-map, take-append_seam, drop-append_seam, all_known)
 
-  -- a case says a word for each variable
+  -- a case has a word for each variable
   pub length-case_evidence : (known : Case) → length known.held + length known.seen ≤ vars → length (case_evidence vars known) ≡ vars
   length-case_evidence known room = grind (arith, length-append, length-map, length-replicate)
 
-  -- the words of a case are such words
+  -- the words of a case are its evidence
   case_evidence-are : (parts wires : ℕ) (known : Case) → length known.held ≡ parts → length known.seen ≡ wires → parts + wires ≤ vars → IsCaseEvidence parts wires (case_evidence vars known)
   case_evidence-are parts wires known e d room = grind (arith, length-case_evidence, words-say)
 
@@ -81,14 +81,14 @@ module _ (parts wires vars : ℕ) (words : List ℕ) (are : IsEvidence parts wir
   pub room-in_words : parts + wires ≤ vars
   room-in_words = subst (λ n. parts + wires ≤ n) are.long are.case.room
 
-  -- which has a place for each part and each wire
+  -- this case has a place for each part and each wire
   pub length-held : length (case_of_evidence parts wires words).held ≡ parts
   length-held = length-map (take parts words) known_of ∙ length-take-le parts words (let room = are.case.room in omega (arith, room))
 
   pub length-seen : length (case_of_evidence parts wires words).seen ≡ wires
   length-seen = grind (arith, length-map, length-take-le, length-drop)
 
-  -- words that a write gave are again such words, if those of a case are what it gave
+  -- written words are evidence if they are that of a case
   written-are : (place : ℕ) (k : Option Bool) (after : Case) → set words place (word_of_known k) ≡ case_evidence vars after → length after.held ≡ parts → length after.seen ≡ wires
       → IsEvidence parts wires vars (set words place (word_of_known k))
   written-are place k after written held seen = record {
@@ -97,7 +97,7 @@ module _ (parts wires vars : ℕ) (words : List ℕ) (are : IsEvidence parts wir
     case = subst (IsCaseEvidence parts wires) (sym written) (case_evidence-are vars parts wires after held seen room-in_words);
   }
 
-  -- Where a wire's word is written
+  -- If a wire's word is written
   module _ (wire : ℕ) (within : wire < wires) (k : Option Bool) where
     abbrev case_seen : Case
     case_seen = record the_case { seen = set the_case.seen wire k }
@@ -112,7 +112,7 @@ module _ (parts wires vars : ℕ) (words : List ℕ) (are : IsEvidence parts wir
     pub wire-are : IsEvidence parts wires vars (set words (parts + wire) (word_of_known k))
     wire-are = written-are (parts + wire) k case_seen wire-written length-held (length-set the_case.seen wire k ∙ length-seen)
 
-  -- Where a part's word is written
+  -- If a part's word is written
   module _ (part : ℕ) (within : part < parts) (k : Option Bool) where
     abbrev case_held : Case
     case_held = record the_case { held = set the_case.held part k }

@@ -1,4 +1,4 @@
--- Worked rows: what the definitions reply to whole scripts. Their check computes both sides.
+-- Worked rows: the replies to whole scripts. Their check computes both sides.
 use Rattle.std.proofs.Common.{◌≡◌, ℕ, false, Some, List, [], ◌∷◌, ◌++◌, refl, map}
 use Rattle.std.specs.Prelude.{codes}
 use Rattle.std.specs.Fmt.{digits}
@@ -24,7 +24,7 @@ abbrev pub text : List (List ℕ) → List ℕ
 text [] = []
 text (l ∷ ls) = l ++ (10 ∷ text ls)
 
--- what a script is answered over a device, where at most so many sessions may be open
+-- the replies to a script over a device, if at most `limit` sessions may be open
 abbrev pub replied : ℕ → Device → List (List ℕ) → List ℕ
 replied limit device lines = text_of (replies (device_system device) limit [] lines)
 
@@ -106,7 +106,7 @@ c17 = record {
 abbrev c17_seen : List ℕ → List ℕ → List (List ℕ)
 c17_seen first second = map codes ("open S" ∷ "see S 1=0" ∷ "see S 2=0" ∷ "see S 3=0" ∷ "see S 6=0" ∷ "see S 7=0" ∷ []) ++ (codes "see S 22=" ++ first) ∷ (codes "see S 23=" ++ second) ∷ []
 
--- what a script goes on to be answered then
+-- what a script is answered after that
 abbrev c17_told : List ℕ → List ℕ → List (List ℕ) → List (List ℕ) → Type 0
 c17_told first second lines told =
     replied 16 c17 (c17_seen first second ++ lines) ≡ text (map codes ("S open" ∷ "S ok" ∷ "S ok" ∷ "S ok" ∷ "S ok" ∷ "S ok" ∷ "S ok" ∷ "S ok" ∷ []) ++ told)
@@ -137,7 +137,7 @@ reports_of_parts : c17_told (codes "1") (codes "0") (map codes ("blame S" ∷ []
     (map codes ("S blame 10 sometimes" ∷ "S blame 11 never" ∷ "S blame 16 never" ∷ "S blame 19 never" ∷ "S blame 22 sometimes" ∷ "S blame 23 never" ∷ "S end" ∷ []))
 reports_of_parts = refl
 
--- ---- no part at all
+-- ---- no part
 
 abbrev bare_wire : Device
 bare_wire = record { parts = []; wires = codes "a" ∷ []; tables = [] }
@@ -162,7 +162,7 @@ none_is_inconsistent : replied 16 tabled (map codes ("open S" ∷ "see S a=0" �
 unfolding digits
 none_is_inconsistent = refl
 
--- ---- one part that allows every bit, and a wire that no part has
+-- ---- one part that allows every bit, and a wire of no part
 
 abbrev free : Device
 free = record { parts = part (codes "u") (Table 0) (0 ∷ []) ∷ []; wires = codes "a" ∷ codes "d" ∷ []; tables = record { ports = 1; ok = 3; bad = 3; cost = 1 } ∷ [] }
@@ -172,13 +172,13 @@ nothing_is_against_it : replied 16 free (map codes ("open S" ∷ "see S d=1" ∷
 unfolding digits
 nothing_is_against_it = refl
 
--- a part that nothing is said of is faulty in some state
+-- a free part is faulty in some state
 levels_of_a_free_part : levelled 1 free (map codes ("open S" ∷ "levels S 3" ∷ []))
     ≡ text (map codes ("S open" ∷ "S level 0" ∷ "S level 1 u" ∷ "S end" ∷ []))
 unfolding digits
 levels_of_a_free_part = refl
 
--- what is held faulty leaves one state
+-- a part held faulty leaves one state
 projected_one : replies (device_system free) 16 [] (map codes ("open S" ∷ "hold S u=bad" ∷ "dnnf S" ∷ []))
     ≡ line (codes "S open" ∷ []) ∷ line (codes "S ok" ∷ []) ∷ line (codes "S dnnf" ∷ []) ∷ Projected 1 ((false ∷ []) ∷ []) ∷ []
 projected_one = refl

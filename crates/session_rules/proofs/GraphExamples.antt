@@ -12,7 +12,7 @@ use Rattle.session_rules.specs.Items.{line, Projected}
 use Rattle.session_rules.specs.Sessions.{replies}
 use Rattle.session_rules.specs.GraphSystems.{case_evidence, compiled_system}
 
--- the part is held faulty, the wires are seen as 0 and 1, and two variables more are inner ones
+-- the part is held faulty, the wires are seen as 0 and 1, and two more variables are inner ones
 words_of_both_bits : case_evidence 5 (record { seen = Some false ∷ Some true ∷ []; held = Some false ∷ [] }) ≡ 2 ∷ 2 ∷ 1 ∷ 0 ∷ 0 ∷ []
 words_of_both_bits = refl
 
@@ -29,7 +29,7 @@ buffer = record {
   tables = [];
 }
 
--- the part is faulty, or its two wires are the same; the fourth variable stands nowhere
+-- the part is faulty, or its two wires are the same; the fourth variable occurs nowhere
 abbrev graph : Graph
 graph = record {
   nodes = literal_node 1 false
@@ -39,7 +39,7 @@ graph = record {
   vars = 4;
 }
 
--- an ok buffer takes equal bits alone, and a faulty one all
+-- an ok buffer allows equal bits alone, a faulty one all
 equal_bits : holds_for graph (true ∷ []) (true ∷ true ∷ []) ≡ true
 equal_bits = refl
 
@@ -49,14 +49,14 @@ unequal_bits = refl
 a_faulty_buffer : holds_for graph (false ∷ []) (true ∷ false ∷ []) ≡ true
 a_faulty_buffer = refl
 
--- where nothing is seen both states agree, if the wires differ the faulty one alone
+-- if nothing is seen both states agree; if the wires differ, the faulty one alone
 all_models : models graph (0 ∷ 0 ∷ 0 ∷ 0 ∷ []) 1 ≡ (false ∷ []) ∷ (true ∷ []) ∷ []
 all_models = refl
 
 faulty_models : models graph (0 ∷ 2 ∷ 1 ∷ 0 ∷ []) 1 ≡ (false ∷ []) ∷ []
 faulty_models = refl
 
--- and where the buffer is then held to be ok none
+-- if the buffer is then held ok, none
 no_models : models graph (1 ∷ 2 ∷ 1 ∷ 0 ∷ []) 1 ≡ []
 no_models = refl
 

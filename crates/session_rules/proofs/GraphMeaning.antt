@@ -38,7 +38,7 @@ pub all_known : (ks : List (Option Bool)) → map known_of (map word_of_known ks
 all_known [] = refl
 all_known (k ∷ ks) = ap₂ (λ x xs. x ∷ xs) (known_of-word k) (all_known ks)
 
--- and the words of a case say what the case does, and nothing of the inner variables
+-- the words of a case say what the case does, and nothing of the inner variables
 pub known-case_evidence : (vars : ℕ) (known : Case) → map known_of (case_evidence vars known)
     ≡ known.held ++ (known.seen ++ map known_of (replicate (vars - (length known.held + length known.seen)) 0))
 known-case_evidence vars known = grind (arith, map-append, all_known)
@@ -89,17 +89,17 @@ module _ (parts wires : List Name) (costs : List ℕ) (fits_by : List Bool → L
       ∙ any-and (agrees known.held state) (λ bits. agrees known.seen bits && fits_by state bits) (lists_of_bits (length wires))
       )
 
-  -- for every case a graph that is true where bits fit has the consistent states of what fits
+  -- for every case a graph that is true if bits fit has the consistent states of what fits
   pub same_fitting : (graph_system parts wires costs graph).consistent known ≡ (fitting_system parts wires costs fits_by).consistent known
   same_fitting = sym (passing-same (length parts) agreeing (has_model graph (fits_evidence words) (length parts)) for_state)
 
 -- ---- devices
 
--- its graph is one over its names
+-- a device's graph is one over its names
 pub over_names : (device : Device) (graph : Graph) → IsGraphOf device graph → IsGraphOver (length (part_names device.parts)) (length device.wires) (fits device) graph
 over_names device graph is = grind (arith, length-map)
 
--- for every case of the device it has the same consistent states
+-- it has the same consistent states for every case of the device
 pub same_consistent : (device : Device) (graph : Graph) → IsGraphOf device graph → (known : Case) → IsCaseOf (device_system device) known
     → (compiled_system device graph).consistent known ≡ (device_system device).consistent known
 same_consistent device graph is known case =

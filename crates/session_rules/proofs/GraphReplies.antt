@@ -1,4 +1,4 @@
--- Over a graph that is true where bits fit every script has the replies that it has over what fits, and the moves; so it is with devices.
+-- Over a graph that is true if bits fit, every script has the replies and moves that it has over what fits; so for devices.
 use Rattle.std.proofs.Common.{◌≡◌, ℕ, Bool, List, length}
 use Rattle.text_rules.specs.Names.{Name}
 use Rattle.state_rules.specs.declared.extras.Extras.{Extras}
@@ -15,7 +15,7 @@ use Rattle.session_rules.specs.GraphSystems.{graph_system, compiled_system}
 use Rattle.session_rules.proofs.GraphMeaning.{same_fitting, over_names}
 use Rattle.session_rules.proofs.Same.{replies-same, script_moves-same}
 
--- Both systems have the same names, so that the cases of the one are those of the other; and they say the same besides.
+-- Both systems have the same names, so the cases of one are those of the other; and their extras are the same.
 module _ (parts wires : List Name) (costs : List ℕ) (fits_by : List Bool → List Bool → Bool) (graph : Graph) (is : IsGraphOver (length parts) (length wires) fits_by graph)
     (extras : Extras) (limit : ℕ) (table : Table) (cases : HasCasesOf (fitting_system parts wires costs fits_by) table) (lines : List (List ℕ)) where
   abbrev over_graph : System

@@ -1,4 +1,4 @@
--- What is answered keeps a place for each wire and each part in every case.
+-- Every case keeps a place for each wire and each part.
 use Rattle.std.proofs.Common.{◌≡◌, ℕ, Bool, List, [], ◌∷◌, map, length, refl, ap, sym, subst, ◌∙◌, Option, Some, None, Equal, arith}
 use Rattle.std.specs.Prelude.{cond, not, nat_le}
 use Rattle.std.specs.Ordering.{nat_cmp, is_eq}
@@ -22,12 +22,12 @@ HasCases-empty system session entry e = absurd (let never : ⊥ = cc in never)
 equal_names : (a b : Name) → slice_cmp nat_cmp a b ≡ Equal → a ≡ b
 equal_names a b tie = equal_if_same a b (sym (is_eq-slice_cmp a b) ∙ ap is_eq tie)
 
--- the entry that is found when one is taken out
+-- the entry that is found after one is removed
 pub entry_of-without : (r s : Name) (table : Table) → entry_of r (without s table) ≡ cond (not (same_name r s)) (entry_of r table) None
 entry_of-without r s table =
     find-where_key (slice_cmp nat_cmp) (λ n. not (same_name n s)) r (λ x tie. ap (λ n. not (same_name n s)) (sym (equal_names r x tie))) table
 
--- and when one is put in
+-- the entry that is found after one is added
 pub entry_of-with : (r s : Name) (entry : Entry) (table : Table) → entry_of r (changed s (Becomes entry) table) ≡ cond (same_name r s) (Some entry) (entry_of r table)
 entry_of-with r s entry table =
     find-put (slice_cmp nat_cmp) nat_list_cmp_total r s entry table ∙ ap (λ b. cond b (Some entry) (entry_of r table)) (is_eq-slice_cmp r s)

@@ -1,8 +1,8 @@
--- The whole lines of a text stay where more follows it.
+-- The whole lines of a text stay if more follows it.
 use Rattle.std.proofs.Common.{◌≡◌, ℕ, List, [], ◌∷◌, ◌++◌, refl, ap, append_assoc, arith}
 use Rattle.text_rules.specs.TextLines.{Cut, cut, last_line, whole_lines, all_lines}
 
--- lines, and then what a text is cut into
+-- lines before those of a cut text
 abbrev behind : List (List ℕ) → Cut → Cut
 behind lines c = record { whole = lines ++ c.whole; unfinished = c.unfinished }
 
@@ -18,7 +18,7 @@ cut-append (b ∷ bytes) more = grind (arith, cut-append bytes more)
 pub whole_lines-front : (bytes more : List ℕ) → (rest : List (List ℕ)) × (whole_lines (bytes ++ more) ≡ whole_lines bytes ++ rest)
 whole_lines-front bytes more = (whole_lines ((cut bytes).unfinished ++ more), ap (λ (c : Cut). c.whole) (cut-append bytes more))
 
--- and so do all lines
+-- so do all lines
 pub all_lines-front : (bytes more : List ℕ) → (rest : List (List ℕ)) × (all_lines (bytes ++ more) ≡ whole_lines bytes ++ rest)
 all_lines-front bytes more =
     let left = (cut bytes).unfinished ++ more in grind (arith, cut-append bytes more, append_assoc (whole_lines bytes) (whole_lines left) (last_line (cut left).unfinished))

@@ -1,4 +1,4 @@
--- A line depends on the entry of the session that it names, and leaves every other.
+-- A line depends on the entry of its session, and leaves every other as it is.
 use Rattle.std.proofs.Common.{◌≡◌, ℕ, true, false, List, map, length, refl, ap, ◌∙◌, Some, None, Option, arith}
 use Rattle.std.specs.Prelude.{nat_le}
 use Rattle.std.specs.List.{flat_map}

@@ -27,7 +27,7 @@ neither = record either { consistent = λ known. [] }
 abbrev at_point : Option (List Bool) → Table
 at_point point = (codes "S", record { known = empty_case 1 2; point = point }) ∷ []
 
--- the one that is after `b`, and after `c`
+-- the session after `b`, and after `c`
 abbrev after_b : Table
 after_b = at_point (Some (false ∷ true ∷ []))
 
@@ -48,7 +48,7 @@ one_of_a_list = refl
 two_after_a_point : line_moves either 16 after_b (codes "list S 9") ≡ says after_c (codes "S diag c") ∷ says after_c (codes "S end") ∷ []
 two_after_a_point = refl
 
--- where no state agrees the point stays
+-- if no state agrees, the point stays
 none_of_a_list : line_moves neither 16 after_b (codes "list S 3") ≡ says after_b (codes "S inconsistent") ∷ []
 none_of_a_list = refl
 
@@ -66,12 +66,12 @@ three_levels : line_moves up_to_two 16 (at_point None) (codes "levels S 9")
 unfolding digits
 three_levels = refl
 
--- a point is gone on from
+-- a listing goes on from the point
 after_a_point : line_moves up_to_two 16 after_c (codes "level S") ≡ says after_both (codes "S level 2 b c") ∷ []
 unfolding digits
 after_a_point = refl
 
--- where nothing is answered besides, the session and then the option is missed
+-- without extras, first the session and then the option is missed
 no_levels : line_moves either 16 after_b (codes "levels S 9") ≡ says after_b (codes "S error 11 no levels") ∷ []
 unfolding digits
 no_levels = refl
@@ -90,7 +90,7 @@ the_least = refl
 
 -- ---- lines of one move
 
--- what is refused is one move, and so is what says more than one line; a blank line is none
+-- a refusal is one move, and so is an answer of several lines; a blank line is none
 no_session : line_moves either 16 after_b (codes "list T 3") ≡ says after_b (codes "T error 6 no session") ∷ []
 unfolding digits
 no_session = refl
@@ -102,7 +102,7 @@ all_of_blame : line_moves either 16 after_b (codes "blame S")
     ≡ record { table = after_b; items = map (λ (words : List ℕ). line (words ∷ [])) (map codes ("S blame b sometimes" ∷ "S blame c sometimes" ∷ "S end" ∷ [])) } ∷ []
 all_of_blame = refl
 
--- each line goes on where the one before it left off
+-- each line goes on where the one before it stopped
 a_script : script_moves (line_moves either 16) [] (map codes ("open S" ∷ "list S 2" ∷ "next S" ∷ "close S" ∷ []))
     ≡ says (at_point None) (codes "S open") ∷ says after_b (codes "S diag b") ∷ says after_c (codes "S diag c") ∷ says after_c (codes "S end") ∷ says [] (codes "S closed") ∷ []
 a_script = refl

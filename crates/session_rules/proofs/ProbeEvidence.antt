@@ -1,4 +1,4 @@
--- What a graph costs at least if a wire has a bit too, under the words of a case.
+-- The least cost of a graph if a wire has one more bit, under the words of a case.
 use Rattle.std.proofs.Common.{◌≡◌, ℕ, ◌+◌, ◌-◌, ◌≤◌, ◌<◌, Bool, ◌&&◌, List, map, length, get_or, not, replicate, refl, ap, ap₂, sym, ◌∙◌, subst, Option, Some, None, arith}
 use Rattle.std.proofs.lemmas.List.{get_or-append-add, get_or_append_left}
 use Rattle.text_rules.specs.Names.{Name}
@@ -36,7 +36,7 @@ module _ (parts wires : List Name) (costs : List ℕ) (graph : Graph) (vars : �
   narrow : length parts ≤ graph.vars
   narrow = omega (arith, room)
 
-  -- what the word of the wire says is what is seen of it
+  -- the word of the wire says how it is seen
   pub word_there : get_or (known words) place None ≡ seen_at the_case wire
   word_there = grind (arith, known-case_evidence vars the_case, length-held (length parts) (length wires) vars words are, get_or-append-add, get_or_append_left the_case.seen (map known_of (replicate (vars - (length the_case.held + length the_case.seen)) 0)) None wire, length-seen (length parts) (length wires) vars words are)
 
@@ -46,7 +46,7 @@ module _ (parts wires : List Name) (costs : List ℕ) (graph : Graph) (vars : �
   abbrev told : Bool → Option Bool → Option ℕ
   told bit seen = least_at (graph_system parts wires costs graph) the_case wire bit seen
 
-  -- an open wire has the bit in the states of the case that says so
+  -- an open wire has the bit in the states of the case with this bit
   asked-open : (bit : Bool) → seen_at the_case wire ≡ None → least_asked bit ≡ told bit None
   asked-open bit e =
       ap (least costs) (with_bit-open graph words (length parts) place bit (are.long ∙ sym wide) narrow inside (word_of_known (Some bit)) (known_of-word (Some bit)) (word_there ∙ e)
@@ -66,7 +66,7 @@ module _ (parts wires : List Name) (costs : List ℕ) (graph : Graph) (vars : �
   asked-told : (bit : Bool) (seen : Option Bool) → seen_at the_case wire ≡ seen → least_asked bit ≡ told bit seen
   asked-told bit seen e = grind (arith, asked-open, asked-same, asked-other)
 
-  -- What a graph costs at least if a wire has a bit too is what a probe is answered.
+  -- The least cost of a graph with a wire's bit is the answer to a probe.
   pub least_with-by_words : (bit : Bool) → least_with graph words costs (length parts + wire + 1) bit
       ≡ least_at (graph_system parts wires costs graph) (case_of_evidence (length parts) (length wires) words) wire bit (seen_at (case_of_evidence (length parts) (length wires) words) wire)
   least_with-by_words bit =

@@ -1,4 +1,4 @@
--- Two systems that differ in their consistent states alone, which are the same for each case of theirs, answer alike.
+-- Two systems whose states are the same for each of their cases, and the rest too, answer alike.
 use Rattle.std.proofs.Common.{◌≡◌, ℕ, ◌+◌, Bool, List, [], ◌∷◌, map, length, refl, ap, Option, Some, arith}
 use Rattle.std.specs.Prelude.{nat_le}
 use Rattle.std.specs.Option.{option_map_or}
@@ -17,7 +17,7 @@ use Rattle.session_rules.specs.CaseSizes.{IsCaseOf, HasCasesOf}
 use Rattle.session_rules.proofs.KeptCases.{step_from, moves-keep}
 use Rattle.session_rules.proofs.Broken.{said-replies}
 
--- Two ways to answer by moves that agree while something holds, which lines keep
+-- Two ways to answer by moves that agree while something holds that lines keep
 module _ (one other : Table → List ℕ → List Step) (Holds : Table → Type 0) (kept : (t : Table) (l : List ℕ) → Holds t → Holds (left_by t (one t l))) (agree : (t : Table) (l : List ℕ) → Holds t → one t l ≡ other t l) where
   moves_of_lines-same : (t : Table) (ls : List (List ℕ)) → Holds t → script_moves one t ls ≡ script_moves other t ls
   moves_of_lines-same t [] h = refl
@@ -38,7 +38,7 @@ module _ (system : System) (consistent : Case → List (List Bool)) (same : (kno
   probe_lines-same s known wire [] h = refl
   probe_lines-same s known wire (name ∷ names) h = grind (arith, probe_line-same s known name wire h, probe_lines-same s known (wire + 1) names h)
 
-  -- what a question is answered
+  -- the answer to a question
   told-same : (s : Name) (known : Case) (question : Question) → IsCaseOf system known → told system s known question ≡ told other s known question
   told-same s known (Probe name) h =
       λ i. option_map_or (λ wire. if_any s (same known h i) (probe_line-same s known name wire h i ∷ [])) (place_of name system.wires) ((s ∷ error_words (refusal_row NoWire)) ∷ [])
@@ -67,6 +67,6 @@ module _ (system : System) (consistent : Case → List (List Bool)) (same : (kno
       → script_moves (line_moves system limit) table lines ≡ script_moves (line_moves other limit) table lines
   script_moves-same limit = moves_of_lines-same _ _ (HasCasesOf system) (λ t l. moves-keep system limit t (line_of l)) (λ t l. moves-same limit t (line_of l))
 
-  -- and so are its replies
+  -- so are its replies
   pub replies-same : (limit : ℕ) (table : Table) (lines : List (List ℕ)) → HasCasesOf system table → replies system limit table lines ≡ replies other limit table lines
   replies-same limit table lines h = grind (arith, said-replies system limit table lines, said-replies other limit table lines, script_moves-same limit table lines h)

@@ -18,7 +18,7 @@ writes_none a = record { text = []; spelled = refl; grown = grows_none a }
 pub writes_more : (a b c : Option (List ℕ)) (xs ys : List Item) → Writes a b xs → Writes b c ys → Writes a c (xs ++ ys)
 writes_more a b c xs ys first second = grind (arith, spells_more, grows_more)
 
--- one item was put
+-- one item was written
 pub replies_one : {T E : Type 0} (a b : Option (List ℕ)) (r : Result T E) (item : Item) (text : List ℕ) → Spelled item text → Puts a b r text → Replies a b r (item ∷ [])
 replies_one a b (Ok v) item text is put = record { text = text; spelled = spells_one item text is; grown = put }
 replies_one a b (Err e) item text is (part, rest, all, grown) = grind (arith, spells_one)

@@ -9,7 +9,7 @@ use Rattle.device_model.specs.Devices.{Device, part_names, part_costs}
 use Rattle.conditioner.specs.Evidence.{word_of_known}
 use Rattle.conditioner.specs.Models.{models}
 
--- what a case says of so many variables: nothing of the inner ones
+-- the evidence of a case on `vars` variables, the inner ones open
 abbrev pub case_evidence : ℕ → Case → List ℕ
 case_evidence vars known =
     map word_of_known known.held
@@ -25,7 +25,7 @@ graph_system parts wires costs graph = record {
   texts = open_texts;
 }
 
--- what a service asks over: the names of parts and wires, what the failure of each part costs, a graph, and what is answered besides
+-- what a service is about: the names of parts and wires, the cost of each part's failure, a graph, and the extras
 pub record Subject : Type 0 where
   pub parts : List Name
   pub wires : List Name
@@ -33,7 +33,7 @@ pub record Subject : Type 0 where
   pub graph : Graph
   pub extras : Extras
 
--- Each part has a cost above 0, and the graph of the diagnoses has fewer lines than a text can number, whatever is known.
+-- Each part costs more than 0, and the graph of the diagnoses has few enough lines for a text to number, whatever is known.
 pub record HasLeastTexts (subject : Subject) : Type 0 where
   pub costs : length subject.costs ≡ length subject.parts
   pub dear : All (λ c. 0 < c) subject.costs

@@ -1,10 +1,10 @@
--- What replies consist of.
+-- The items of replies.
 use Rattle.std.specs.Prelude.{ℕ, Bool, List}
 use Rattle.text_rules.specs.Tokens.{spaced}
 use Rattle.device_model.specs.Devices.{Device}
 
--- A text, or a graph whose text is left open: over so many parts, true for these states alone; or that and smooth; or over so
--- many variables, with at most so many nodes, true if this device fits.
+-- A text, or a graph whose text is left open: over `parts` parts, true for these states alone; the same and smooth; or over `vars`
+-- variables, with at most `most` nodes, true if this device fits.
 pub data Item : Type 0 where
   Plain : (bytes : List ℕ) → Item
   Projected : (parts : ℕ) (states : List (List Bool)) → Item

@@ -1,4 +1,4 @@
--- The moves of lines that are given as bytes.
+-- The moves of lines given as bytes.
 use Rattle.std.specs.Prelude.{ℕ, List, [], ◌∷◌, ◌++◌}
 use Rattle.state_rules.specs.Systems.{System}
 use Rattle.script_lang.specs.Script.{line_of}
@@ -7,7 +7,7 @@ use Rattle.session_rules.specs.Sessions.{Table, Step, moves, left_by}
 abbrev pub line_moves : System → ℕ → Table → List ℕ → List Step
 line_moves system limit table bytes = moves system limit table (line_of bytes)
 
--- the moves of lines that are answered one after the other
+-- the moves of lines answered one after the other
 abbrev pub script_moves : (Table → List ℕ → List Step) → Table → List (List ℕ) → List Step
 script_moves one table [] = []
 script_moves one table (line ∷ lines) =

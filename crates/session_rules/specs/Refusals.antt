@@ -1,4 +1,4 @@
--- Why what a line asks is not done: the number of each refusal, and what it says.
+-- Why a request is refused: the number and text of each refusal.
 use Rattle.std.specs.Prelude.{ℕ, List, [], ◌∷◌, codes}
 use Rattle.std.specs.Fmt.{decimal}
 use Rattle.session_rules.specs.declared.refusal.Refusal.{Refusal}
@@ -13,6 +13,6 @@ refusal_row NoPart = (10, codes "no part")
 refusal_row NoLevels = (11, codes "no levels")
 refusal_row NoLeast = (12, codes "no least")
 
--- the words of a refusal, by its number and what it says
+-- the words of a refusal, by its number and text
 abbrev pub error_words : ℕ × List ℕ → List (List ℕ)
 error_words row = codes "error" ∷ decimal row.0 ∷ row.1 ∷ []

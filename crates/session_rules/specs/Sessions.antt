@@ -18,7 +18,7 @@ use Rattle.session_rules.specs.Refusals.{refusal_row, error_words}
 use Rattle.session_rules.specs.Items.{Item, line}
 use Rattle.session_rules.specs.Replies.{Found, next_of, level_of, listing, told, dnnf_item, least_item}
 
--- what a session knows, and the state after which its listings go on; none: from the first
+-- what a session knows, and the state after which its listings go on (none: from the first)
 pub record Entry : Type 0 where
   pub known : Case
   pub point : Option (List Bool)
@@ -52,19 +52,19 @@ pub record Move : Type 0 where
   pub change : Change
   pub items : List Item
 
--- One move: this is written, and nothing changes.
+-- One move: these items are written, and nothing changes.
 abbrev pub tells : List Item → List Move
 tells items = record { change = Stays; items = items } ∷ []
 
 abbrev pub declined : Name → Refusal → List Move
 declined session refusal = tells (line (session ∷ error_words (refusal_row refusal)) ∷ [])
 
--- One move: the session knows this and is at this point, and a word is said.
+-- One move: the session knows this case and is at this point, and a word is written.
 abbrev pub becomes : Name → Case → Option (List Bool) → List ℕ → List Move
 becomes session known point word =
     record { change = Becomes (record { known = known; point = point }); items = line (session ∷ word ∷ []) ∷ [] } ∷ []
 
--- At most so many moves. Each writes what comes next, and moves the session's point there.
+-- At most `count` moves. Each writes what comes next, and moves the session's point there.
 abbrev pub lists : Entry → (Option (List Bool) → Found) → ℕ → List Move
 lists entry next count =
     map (λ f. record { change = Becomes (record entry { point = f.point }); items = f.item ∷ [] }) (listing next count entry.point)
@@ -94,19 +94,19 @@ when_open system s entry (Levels count) =
 when_open system s entry LeastNnf =
     if system.extras.least then tells (line (s ∷ codes "leastnnf" ∷ []) ∷ least_item system entry.known ∷ []) else declined s NoLeast
 
--- The moves of a request. They depend on the entry of its session alone, or, if that is not open, on whether there is room.
+-- The moves of a request. They depend only on the entry of its session, or, if that is not open, on whether there is room.
 abbrev pub outcome : System → Name → Bool → Option Entry → Request → List Move
 outcome system s full (Some entry) request = when_open system s entry request
 outcome system s full None Start =
     if full then declined s Full else becomes s (empty_case (length system.wires) (length system.parts)) None (codes "open")
 outcome system s full None request = declined s NoSession
 
--- a move that was made: the table after it, and what was written
+-- a move that was made: the table after it, and what it wrote
 pub record Step : Type 0 where
   pub table : Table
   pub items : List Item
 
--- the moves of a line, where at most so many sessions may be open; each changes the table that the line found
+-- the moves of a line, if at most `limit` sessions may be open; each changes the table that the line found
 abbrev pub moves : System → ℕ → Table → Line → List Step
 moves system limit table Blank = []
 moves system limit table (Refused refusal) =
@@ -115,7 +115,7 @@ moves system limit table (Ask session request) =
     map (λ move. record { table = changed session move.change table; items = move.items })
     (outcome system session (nat_le limit (length table)) (entry_of session table) request)
 
--- what moves say, one after the other, and the table that they leave
+-- what moves write, one after the other, and the table that they leave
 abbrev pub said : List Step → List Item
 said moves = flat_map (λ move. move.items) moves
 
@@ -123,7 +123,7 @@ abbrev pub left_by : Table → List Step → Table
 left_by table [] = table
 left_by table (move ∷ moves) = left_by move.table moves
 
--- the replies to the lines of a script, each of which goes on from the table that the one before it leaves
+-- the replies to the lines of a script, each from the table that the one before it leaves
 abbrev pub replies : System → ℕ → Table → List (List ℕ) → List Item
 replies system limit table [] = []
 replies system limit table (bytes ∷ lines) =

@@ -1,4 +1,4 @@
--- Which bytes spell a list of items.
+-- The bytes that spell a list of items.
 use Rattle.std.specs.Prelude.{◌≡◌, ◌≤◌, ℕ, true, List, [], ◌∷◌, ◌++◌, length, Option, Result, MatchResult, Ok, Err}
 use Rattle.std.specs.Io.KnownBytes.{Appends}
 use Rattle.text_rules.specs.Tokens.{is_neat}
@@ -10,17 +10,17 @@ use Rattle.nnf_text.specs.StateGraphs.{IsGraphOfStates, IsSmoothGraphOfStates}
 use Rattle.device_model.specs.Devices.{Device, fits}
 use Rattle.session_rules.specs.Items.{Item, Plain, Projected, LeastText, Whole}
 
--- a graph is true exactly if the device fits
+-- the graph is true exactly if the device fits
 abbrev pub IsGraphOf : Device → Graph → Type 0
 IsGraphOf device graph = IsGraphOver (length device.parts) (length device.wires) (fits device) graph
 
--- a graph over so many variables, decomposable, with at most so many nodes, that means a device
+-- a decomposable graph of a device over `vars` variables, with at most `most` nodes
 abbrev pub IsWholeOf : Device → ℕ → ℕ → Parsed → Type 0
 IsWholeOf device vars most (Err refusal) = ⊥
 IsWholeOf device vars most (Ok graph) =
     (graph.vars ≡ vars) × Decomposable graph.nodes × (length graph.nodes ≤ most) × IsGraphOf device graph
 
--- the text is the one in which a graph is written, without a blank line
+-- the text is that of a graph, without a blank line
 abbrev pub IsWritten : List ℕ → Type 0
 IsWritten text = (is_neat text ≡ true) × ((graph : Graph) × (text ≡ graph_text graph))
 
@@ -30,7 +30,7 @@ Spelled (Projected parts states) text = IsWritten text × IsGraphOfStates parts 
 Spelled (LeastText parts states) text = IsWritten text × IsSmoothGraphOfStates parts states (parsed text)
 Spelled (Whole device vars most) text = IsWritten text × IsWholeOf device vars most (parsed text)
 
--- the text is those of the items, one after the other
+-- the text is those of the items in a row
 abbrev pub Spells : List Item → List ℕ → Type 0
 Spells [] text = text ≡ []
 Spells (item ∷ items) text =

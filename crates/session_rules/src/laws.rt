@@ -16,21 +16,21 @@ ghost use Rattle.session_rules.specs.GraphSystems.{graph_system, compiled_system
 ghost use Rattle.session_rules.specs.Moves.{line_moves, script_moves};
 ghost use Rattle.session_rules.specs.Sessions.{Table, replies};
 
-/// Each session is answered as if it were alone: wherever it opens among some lines, its own lines from there to its end have
+/// States that each session is answered as if it were alone: wherever it opens among some lines, its own lines from there to its end have
 /// the answers that they have with no other line before, between or after them.
 pub fn answered_alone()
     ensures { (system : System) (limit : ℕ) (table : Table) (lines : List (List ℕ))
         → AreAnsweredAlone system limit table lines }
 {}
 
-/// What a line is answered, and what becomes of the session that it names, depends on that session's entry, and if the line
-/// opens it on whether there is room. It changes no other session.
+/// States that the answer to a line, and what becomes of the session that it names, depend on that session's entry, and for an `open` on
+/// whether there is room. The line changes no other session.
 pub fn is_its_own()
     ensures { (system : System) (limit : ℕ) (line : Line) → IsItsOwn system limit line }
 {}
 
-/// Over a graph that is true exactly if bits of wires fit a health state, a case that has a place for each wire and each part has
-/// the consistent states of what fits. So it has, over the graph of a device, those that it has over the device.
+/// States that over a graph that is true exactly if bits of wires fit a health state, a case with a place for each wire and each part has
+/// the consistent states of what fits. So over the graph of a device it has those that it has over the device.
 pub fn same_states()
     ensures fitting { (parts wires : List Name) (costs : List ℕ) (fits_by : List Bool → List Bool → Bool) (graph : Graph)
         → IsGraphOver (length parts) (length wires) fits_by graph → (known : Case)
@@ -42,9 +42,9 @@ pub fn same_states()
         → (compiled_system device graph).consistent known ≡ (device_system device).consistent known }
 {}
 
-/// Over such a graph every script has the replies that it has over what fits, move by move, whatever else is offered, from any
-/// table whose cases have a place for each wire and each part. The empty table is one. So it has, over the graph of a device, those
-/// over the device.
+/// States that over such a graph every script has the replies that it has over what fits, move by move, whatever the extras are, from any
+/// table whose cases have a place for each wire and each part (such as the empty one). So over the graph of a device it has those that it
+/// has over the device.
 pub fn graph_replies()
     ensures fitting { (parts wires : List Name) (costs : List ℕ) (fits_by : List Bool → List Bool → Bool) (graph : Graph)
         → IsGraphOver (length parts) (length wires) fits_by graph → (extras : Extras) (limit : ℕ) (table : Table)

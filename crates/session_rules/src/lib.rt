@@ -1,4 +1,4 @@
-//! What sessions are answered: definitions, their laws, and the refusals.
+//! The answers of sessions: definitions, their laws, and the refusals.
 #![tactic(auto)]
 
 mod laws;

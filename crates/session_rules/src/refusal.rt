@@ -1,18 +1,18 @@
 ghost use Rattle.std.specs.Prelude.{◌≡◌};
 ghost use Rattle.session_rules.specs.Refusals.{refusal_row};
 
-/// Why what a line asks is not done. Nothing changes then.
+/// Why a request is refused. Nothing changes then.
 #[derive(Clone, Copy, Debug, PartialEq, Eq)]
 pub enum Refusal {
     /// No session of this name is open.
     NoSession,
     /// The session is open already.
     OpenAlready,
-    /// As many sessions are open as may be.
+    /// As many sessions are open as are allowed.
     Full,
-    /// No wire has the name.
+    /// No wire has this name.
     NoWire,
-    /// No part has a name that is given.
+    /// No part has a given name.
     NoPart,
     /// States are not listed by rising cost here.
     NoLevels,
@@ -21,7 +21,7 @@ pub enum Refusal {
 }
 
 impl Refusal {
-    // The number of the refusal, and what it says.
+    // Returns the number of the refusal, and its text.
     fn row(self) -> (u32, &'static str)
         ensures number { result.0 ≡ (refusal_row self).0 }
         ensures text { result.1.now ≡ (refusal_row self).1 }
@@ -37,14 +37,14 @@ impl Refusal {
         }
     }
 
-    /// The number of the refusal, 6 to 12: those of lines come before.
+    /// Returns the number of the refusal, 6 to 12. Lower ones are those of lines.
     pub fn number(self) -> u32
         ensures { result ≡ (refusal_row self).0 }
     {
         self.row().0
     }
 
-    /// What the refusal says.
+    /// Returns the text of the refusal.
     pub fn text(self) -> &'static str
         ensures { result.now ≡ (refusal_row self).1 }
     {

@@ -1,4 +1,4 @@
--- What is done to the fields of the open sessions is what their contracts say of the table.
+-- The contracts' view of the table changes as the fields of the open sessions do.
 use Rattle.std.proofs.Common.{◌≡◌, ℕ, ◌<◌, ◌≤◌, T, List, length, get_or, set, replicate, ap, ap₂, sym, ◌∙◌, subst, Some, None, Result, Ok, Err, IfOk, IfErr, arith}
 use Rattle.std.specs.Prelude.{not, slice_get, IsErr, IfSome, IfNone, vec_capacity}
 use Rattle.std.specs.List.{insert, remove}
@@ -63,7 +63,7 @@ module _ (inside : Inside) (kept : Kept inside) where
   table_gap : (place : ℕ) (name : Name) → IsGapFor sessions place name → IsGap (table_in inside) place name
   table_gap place name gap = gap_map (λ session. entry_in_block inside session.block) sessions place name gap
 
--- ---- a session is looked for
+-- ---- a session is found, or not
 
 module _ (inside : Inside) (shown : Opened) (shows : the_view inside ≡ shown) (kept : Kept inside)
     (name : Name) (sessions : List Open) (same : sessions ≡ inside.«open».items) where
@@ -80,7 +80,7 @@ module _ (inside : Inside) (shown : Opened) (shows : the_view inside ≡ shown) 
       )
   found (Err place) has = tt
 
-  -- and that place is one of the table's
+  -- its place is one of the table's
   pub found-within : (r : Result ℕ ℕ) → IfOk r (λ place. HasName sessions place name) → IfSome (result_ok r) (λ place. place < length shown.table)
   found-within r has = grind (arith, found, slice_get_within)
 
@@ -122,7 +122,7 @@ module _ (inside : Inside) (shown : Opened) (shows : the_view inside ≡ shown) 
       → entry ≡ entry_in_block inside session.block
   entry_here name entry stands = sym (name_and_entry name entry stands).1
 
-  -- its block is written, so that it holds another entry
+  -- its block is written, and so holds another entry
   module _ (before words : List ℕ) (change : Entry → Entry) (sound : IsSound inside.pool) (holds : before ≡ block_words inside.pool session.block)
       (long : length words ≡ length before) (changes : entry_in inside.layout words ≡ change (entry_in inside.layout before)) (laid : IsLaidOut inside.layout words) where
     abbrev pool : Blocks

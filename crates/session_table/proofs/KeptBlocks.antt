@@ -67,7 +67,7 @@ module _ (layout : Layout) (pool : Blocks) where
   given_at (x ∷ xs) zero s have at = grind (arith, have_given)
   given_at (x ∷ xs) (suc place) s have at = grind (arith, none_at, given-stays_out, none_remove, given_at xs place s have.3 at)
 
-  -- the last one's block is out, and is given back
+  -- the last session's block is out, and is given back
   pub out_last : (sessions : List Open) (s : Open) → HaveBlocks layout pool (sessions ++ s ∷ []) → IsOut pool s.block
   out_last [] s have = have.0
   out_last (x ∷ xs) s have = out_last xs s have.3
@@ -114,7 +114,7 @@ module _ (layout : Layout) (pool : Blocks) where
     -- ---- a block is handed out
 
     module _ (block : ℕ) (free : IsFree pool block) where
-      -- it is none of those that are out
+      -- the block is none of those that are out
       differs : (other : ℕ) → IsOut pool other → other ≢ block
       differs other out e = grind (arith, get_or_default)
 

@@ -1,4 +1,4 @@
--- Lists of pairs in the order of their names: what a look-up by name is at a place.
+-- Lists of pairs in the order of their names: a look-up by name finds what is at the name's place.
 use Rattle.std.proofs.Common.{◌≡◌, ℕ, zero, suc, ◌≤◌, Bool, false, cond, T, List, [], ◌∷◌, length, set, refl, ap, sym, ◌∙◌, Some, None, arith, Ordering, Less, Equal, Greater}
 use Rattle.std.specs.Prelude.{not, ◌&&◌, slice_get}
 use Rattle.std.specs.List.{insert, remove, AllWithin}
@@ -32,11 +32,11 @@ above a b e = nat_list_cmp_total.antisymm b a ∙ ap ordering_reverse e
 pub below : (a b : Name) → order a b ≡ Greater → order b a ≡ Less
 below a b e = nat_list_cmp_total.antisymm b a ∙ ap ordering_reverse e
 
--- names that compare so differ
+-- names that compare as different are not the same
 differ : (a b : Name) → is_eq (order a b) ≡ false → same_name a b ≡ false
 differ a b e = sym (is_eq-slice_cmp a b) ∙ e
 
--- names that tie are equal
+-- names that compare as equal are equal
 pub tied_names : (a b : Name) → order a b ≡ Equal → a ≡ b
 tied_names a b e = equal_if_same a b (sym (is_eq-slice_cmp a b) ∙ ap is_eq e)
 
@@ -82,7 +82,7 @@ module _ {X : Type 0} where
       ap (λ o. by_order o ((name, y) ∷ f ∷ es) ((f.0, y) ∷ es) (f ∷ put order name y es)) (later f es place (name, x) sorted at)
       ∙ ap (λ rest. f ∷ rest) (put_at es place name x y (rest_sorted f es sorted) at)
 
-  -- nothing is taken where the name is below all
+  -- nothing is removed if the name is below all
   without_below : (name : Name) (es : List (Name × X)) → T (below_all order name es) → without_name name es ≡ es
   without_below name [] all = refl
   without_below name (f ∷ es) all = grind (arith, differ, above, without_below name es (back_so (is_lt (order name f.0)) (below_all order name es) all))

@@ -11,7 +11,7 @@ use Rattle.session_table.specs.inner.Ordered.{IsGapFor}
 use Rattle.session_table.specs.declared.in_order.Open.{Open}
 use Rattle.session_table.proofs.Lookups.{order, IsGap}
 
--- whatever is beside the names, they rise alike
+-- the names rise in both, whatever is beside them
 module _ {X Y : Type 0} (f : Open → X) (g : Open → Y) where
   below_alike : (name : Name) (sessions : List Open)
       → below_all order name (map (λ (s : Open). (s.name, f s)) sessions) ≡ below_all order name (map (λ (s : Open). (s.name, g s)) sessions)
@@ -52,7 +52,7 @@ gap_map {X = X} f sessions place name gap =
     } in
     is
 
--- a place that was set has what was set
+-- a place has what was set there
 pub slice_get-set : {X : Type 0} (xs : List X) (place : ℕ) (x y : X) → slice_get xs place ≡ Some x
     → slice_get (set xs place y) place ≡ Some y
 slice_get-set [] place x y at = absurd (none-some x at)

@@ -1,4 +1,4 @@
--- A change of what a session knows is a change of a word of its block.
+-- A change of what a session knows changes a word of its block.
 use Rattle.std.proofs.Common.{◌≡◌, ℕ, ◌+◌, ◌<◌, ◌≤◌, Bool, List, replicate, get_or, set, ap, sym, ◌∙◌, subst, Option, None, arith, get_or-set_same}
 use Rattle.std.specs.Prelude.{All}
 use Rattle.std.proofs.Math.Seq.{take-set-lt}
@@ -14,7 +14,7 @@ use Rattle.session_table.specs.Tables.{count_of, with_noted}
 use Rattle.session_table.specs.inner.Blocks.{known_in, state_in, entry_in, point_of, block_size, IsLaidOut}
 use Rattle.session_table.specs.declared.block.Layout.{Layout}
 
--- the block after the word of a variable was written, with no point
+-- the block after the word of a variable is written, without a point
 abbrev pub with_word : Layout → List ℕ → ℕ → Option Bool → List ℕ
 with_word layout block place known = set (set block place (word_of_known known)) layout.vars 0
 
@@ -36,7 +36,7 @@ module _ (layout : Layout) (block : List ℕ) (laid : IsLaidOut layout block) (p
       → IsLaidOut layout (with_word layout block place known)
   with_word-laid are = grind (arith, length-set, with_word-known, with_word-state)
 
-  -- and holds the case that they say
+  -- it holds the case that they say
   with_word-entry : (after : Case)
       → case_of_evidence layout.parts layout.wires (set (known_in layout block) place (word_of_known known)) ≡ after
       → entry_in layout (with_word layout block place known) ≡ record { known = after; point = None }
@@ -51,7 +51,7 @@ module _ (layout : Layout) (block : List ℕ) (laid : IsLaidOut layout block) wh
   word-within : (what : Noted) (place : ℕ) → place < count_of layout.parts layout.wires what → word_place layout what place < layout.vars
   word-within what place within = grind arith
 
-  -- the word that is written there says what is known of the wire, or of the part
+  -- the written word says what is known of the wire, or of the part
   module _ (known : Option Bool) where
     word-says : (what : Noted) (place : ℕ) → place < count_of layout.parts layout.wires what
         → case_of_evidence layout.parts layout.wires (set (known_in layout block) (word_place layout what place) (word_of_known known)) ≡ (with_noted (entry_in layout block) what place known).known

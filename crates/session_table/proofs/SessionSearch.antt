@@ -12,7 +12,7 @@ use Rattle.session_table.specs.inner.Ordered.{blocks_by_name, NamesRise, HasName
 use Rattle.session_table.specs.declared.in_order.Open.{Open}
 use Rattle.session_table.proofs.Lookups.{order, is_less, front_so, above, tied_names}
 
--- between the two ways of saying that a test is true
+-- two forms of saying that a test is true
 pub so : (b : Bool) → b ≡ true → T b
 so b e = subst T (sym e) tt
 

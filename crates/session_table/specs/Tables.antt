@@ -6,7 +6,7 @@ use Rattle.script_lang.specs.declared.line.Noted.{Noted}
 use Rattle.script_lang.specs.declared.line.Noted.TheVariants.{Wire, Part}
 use Rattle.session_rules.specs.Sessions.{Entry, Table, entry_of, with_entry}
 
--- over how many parts, wires and variables they are, how many may be open, and those that are
+-- the numbers of parts, wires and variables, how many sessions may be open, and the open ones
 pub record Opened : Type 0 where
   pub parts : ℕ
   pub wires : ℕ
@@ -14,11 +14,11 @@ pub record Opened : Type 0 where
   pub limit : ℕ
   pub table : Table
 
--- a session as it is when it opens
+-- the entry of a session that opens
 abbrev pub fresh_entry : Opened → Entry
 fresh_entry opened = record { known = empty_case opened.wires opened.parts; point = None }
 
--- the session knows something of the wire, or of the part, at a place, or nothing any more; it has no point then
+-- the entry once something is noted of the wire, or the part, at a place, or no longer; it has no point
 abbrev pub with_noted : Entry → Noted → ℕ → Option Bool → Entry
 with_noted entry Wire place bit = record { known = record entry.known { seen = set entry.known.seen place bit }; point = None }
 with_noted entry Part place bit = record { known = record entry.known { held = set entry.known.held place bit }; point = None }
@@ -27,12 +27,12 @@ with_noted entry Part place bit = record { known = record entry.known { held = s
 abbrev pub Fits : (parts wires : ℕ) → Entry → Type 0
 Fits parts wires entry = (length entry.known.seen ≡ wires) × (length entry.known.held ≡ parts)
 
--- how many parts, or wires, there are
+-- the number of parts, or of wires
 abbrev pub count_of : (parts wires : ℕ) → Noted → ℕ
 count_of parts wires Wire = wires
 count_of parts wires Part = parts
 
--- the session is at this place of the table, with this entry, and nothing changes where that is put there again
+-- the session is at this place of the table with this entry; to put it there again changes nothing
 pub record StandsAt (table : Table) (place : ℕ) (session : Name) (entry : Entry) : Type 0 where
   pub at : slice_get table place ≡ Some (session, entry)
   pub found : entry_of session table ≡ Some entry

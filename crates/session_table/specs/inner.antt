@@ -1,3 +1,3 @@
--- What only the private contracts of this crate cite.
+-- Definitions that only private contracts cite.
 pub mod Blocks
 pub mod Ordered

@@ -7,8 +7,8 @@ ghost use Rattle.session_table.specs.inner.Blocks.{known_in, entry_in, with_poin
 use conditioner::word_of_known;
 use script_lang::Noted;
 
-/// How many parts, wires and variables a block of a session has words for: one for each variable, one that says whether there
-/// is a point, and one for each part of the point.
+/// The numbers of parts, wires and variables of a session's block. It has a word for each variable, one for whether there is a point, and
+/// one for each part of the point.
 #[derive(Clone, Copy, Debug, PartialEq, Eq, Drop)]
 pub(crate) struct Layout {
     pub(crate) parts: u32,
@@ -17,7 +17,7 @@ pub(crate) struct Layout {
 }
 
 impl Layout {
-    /// Notes what is known of a wire or of a part. The session has no point then.
+    /// Notes what is known of a wire or a part. The session has no point then.
     pub(crate) fn note(self, block: &mut [u32], what: Noted, place: u32, known: Option<bool>)
         requires block { IsLaidOut self block.old }
         requires place { place < count_of self.parts self.wires what }
@@ -32,7 +32,7 @@ impl Layout {
         block[self.vars as usize] = 0;
     }
 
-    /// From here on the session goes on after a state.
+    /// Sets the point of the session to a state.
     pub(crate) fn set_point(self, block: &mut [u32], state: &[u32])
         requires block { IsLaidOut self block.old }
         requires long { length state.now ≡ self.parts }
@@ -45,7 +45,7 @@ impl Layout {
         block[vars + 1..].copy_from_slice(state);
     }
 
-    /// What the session knows: a word for each variable.
+    /// Returns what the session knows: a word for each variable.
     pub(crate) fn known(self, block: &[u32]) -> &[u32]
         requires { IsLaidOut self block.now }
         ensures { result.now ≡ known_in self block.now }
@@ -53,7 +53,7 @@ impl Layout {
         &block[..self.vars as usize]
     }
 
-    /// The state after which the session goes on, if there is one.
+    /// Returns the session's point, if there is one.
     pub(crate) fn point(self, block: &[u32]) -> Option<&[u32]>
         requires { IsLaidOut self block.now }
         ensures point { (entry_in self block.now).point ≡ option_map (λ state. bits_of state.now) result }

@@ -4,13 +4,13 @@ ghost use Rattle.session_table.specs.inner.Ordered.{NamesRise, HasName, IsGapFor
 use crate::short_name::ShortName;
 use scratch_pool::Block;
 
-/// A name, and the block that the session has. It is not `Drop`, so that the block is given back.
+/// A session's name and block. It is not `Drop`, so the block is given back.
 pub(crate) struct Open {
     pub(crate) name: ShortName,
     pub(crate) block: Block,
 }
 
-/// The place of the session of a name, or the place at which it belongs.
+/// Returns the place of the session of a name, or as `Err` the place where it belongs.
 pub(crate) fn find_place(sessions: &[Open], name: &[u8]) -> Result<usize, usize>
     requires { NamesRise sessions.now }
     ensures found { IfOk result (λ place. HasName sessions.now place name.now) }

@@ -16,8 +16,8 @@ use script_lang::Noted;
 use std::alloc::Global;
 use std::marker::Model;
 
-/// The open sessions, in the order of their names. All memory is taken when it is made. It is not `Drop`: [`OpenSessions::finish`]
-/// spends it.
+/// The open sessions, in the order of their names. [`OpenSessions::new`] takes all memory. The type is not `Drop`: [`OpenSessions::finish`]
+/// consumes it.
 pub struct OpenSessions {
     layout: Layout,
     limit: u32,
@@ -44,8 +44,8 @@ impl Model for OpenSessions {
 }
 
 impl OpenSessions {
-    /// No session is open, and at most so many may be, each over so many parts, wires and variables. `Err` means that memory
-    /// ran out.
+    /// Makes a table without open sessions, for at most `sessions`, each over these parts, wires and variables. `Err` means that memory ran
+    /// out.
     pub fn new(
         alloc: Global,
         parts: u32,
@@ -58,7 +58,7 @@ impl OpenSessions {
         ensures { IfOk result (λ opened. opened
             ≡ record { parts = parts; wires = wires; vars = vars; limit = sessions; table = [] }) }
     {
-        // If no session may be open there is no block, and the number of its words might not fit.
+        // If no session may be open there is no block, and its number of words might not fit.
         let size = if sessions == 0 { 0 } else { vars + 1 + parts };
         Ok(OpenSessions {
             layout: Layout { parts, wires, vars },
@@ -68,7 +68,7 @@ impl OpenSessions {
         })
     }
 
-    /// How many parts each case is over. The contract says too that the case of each open session fits.
+    /// Returns the number of parts of each case. By its contract, the case of each open session fits.
     pub fn parts(&self) -> u32
         ensures parts { result ≡ self.now.parts }
         ensures cases { (session : Name) (entry : Entry) → entry_of session self.now.table ≡ Some entry
@@ -77,14 +77,14 @@ impl OpenSessions {
         self.layout.parts
     }
 
-    /// Whether as many sessions are open as may be.
+    /// Whether as many sessions are open as are allowed.
     pub fn is_full(&self) -> bool
         ensures { result ≡ nat_le self.now.limit (length self.now.table) }
     {
         self.limit as usize <= self.open.len()
     }
 
-    /// The place of an open session. There is none exactly if no session of this name is open.
+    /// Returns the place of an open session, or `None` exactly if no session of this name is open.
     pub fn find(&self, session: &[u8]) -> Option<usize>
         ensures within { IfSome result (λ place. place < length self.now.table) }
         ensures some { IfSome result (λ place. (entry : Entry) × StandsAt self.now.table place session.now entry) }
@@ -118,8 +118,8 @@ impl OpenSessions {
         self.pool.give(block);
     }
 
-    /// Notes in the session at a place what is known of the wire, or the part, at a place of its own: a bit, or nothing any more. The
-    /// session has no point then.
+    /// Notes in the session at `place` what is known of the wire, or the part, at `at`: a bit, or nothing any more. The session has no
+    /// point then.
     pub fn note(&mut self, place: usize, what: Noted, at: u32, known: Option<bool>)
         requires place { place < length self.old.table }
         requires at { at < count_of self.old.parts self.old.wires what }
@@ -131,7 +131,7 @@ impl OpenSessions {
             .note(self.pool.words_mut(block), what, at, known);
     }
 
-    /// What the session at a place knows: a word for each variable.
+    /// Returns what the session at a place knows: a word for each variable.
     pub fn evidence(&self, place: usize) -> &[u32]
         requires { place < length self.now.table }
         ensures evidence { IsEvidence self.now.parts self.now.wires self.now.vars result.now }
@@ -141,7 +141,7 @@ impl OpenSessions {
         self.layout.known(self.pool.words(&self.open[place].block))
     }
 
-    /// The state after which the session at a place goes on, if there is one: 0 if a part is ok, and 1 if it is faulty.
+    /// Returns the point of the session at a place, if it has one: a word for each part, 0 if it is ok, 1 if it is faulty.
     pub fn point(&self, place: usize) -> Option<&[u32]>
         requires { place < length self.now.table }
         ensures point { (session : Name) (entry : Entry) → StandsAt self.now.table place session entry
@@ -151,7 +151,7 @@ impl OpenSessions {
         self.layout.point(self.pool.words(&self.open[place].block))
     }
 
-    /// From here on the session at a place goes on after a state.
+    /// Sets the point of the session at a place to a state.
     pub fn set_point(&mut self, place: usize, state: &[u32])
         requires place { place < length self.old.table }
         requires long { length state.now ≡ self.old.parts }

@@ -7,7 +7,7 @@ use std::cmp::Ordering;
 use std::marker::Model;
 use text_rules::SHORT_NAME_LIMIT;
 
-/// The name of a session, held without memory of its own.
+/// The name of a session, in memory of its own value only.
 #[derive(Drop)]
 pub(crate) struct ShortName {
     bytes: [u8; SHORT_NAME_LIMIT],
@@ -39,7 +39,7 @@ impl ShortName {
         }
     }
 
-    /// How the name compares to another, byte by byte.
+    /// Compares the name to another, byte by byte.
     pub(crate) fn compare(&self, other: &[u8]) -> Ordering
         ensures { result ≡ slice_cmp nat_cmp self.now other.now }
     {

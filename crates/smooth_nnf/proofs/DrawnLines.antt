@@ -1,4 +1,4 @@
--- The lines of the nodes stand as those of a smooth graph, and each says what its node means.
+-- The lines of the nodes are those of a smooth graph, and each says what its node means.
 use Rattle.std.proofs.Common.{◌≡◌, ℕ, ◌+◌, ◌-◌, ◌*◌, ◌^◌, ◌<◌, ◌≤◌, Bool, true, false, not, cond, ◌&&◌, ◌||◌, All, List, [], ◌∷◌, ◌++◌, map, length, get_or, Option, Some, None, refl, ap, sym, ◌∙◌, subst, arith, ⊎_elim, inl, inr, append_assoc, append-nil, length-append}
 use Rattle.std.proofs.lemmas.Bool.Decides.{nat_tests}
 use Rattle.std.specs.Prelude.{slice_get, slice_index, nat_lt, nat_le}
@@ -47,7 +47,7 @@ same-const b [] = refl
 same-const b (k ∷ []) = refl
 same-const b (k ∷ j ∷ kids) = and_from _ _ (same_bit-refl b) (same-const b (k ∷ kids))
 
--- the least cost is that of some child
+-- the least cost is that of a child
 cheapest-has : (C : ℕ → Option ℕ) (kids : List ℕ) (c : ℕ) → cheapest (map C kids) ≡ Some c → (k : ℕ) × (In k kids × (C k ≡ Some c))
 cheapest-has C [] c s = absurd (let no : None ≡ Some c = s in cc)
 cheapest-has C (j ∷ kids) c s = grind (arith, nat_tests, from_min, cheapest-has C kids c)
@@ -77,7 +77,7 @@ module _ (graph : Graph) (evidence costs : List ℕ) (ok : IsGraph graph) (dear 
     reached = λ a h. means.reached a (sym (same a) ∙ h);
   }
 
-  -- the line of a node is there, has the parts below it that the node has, and says what the node means
+  -- the line of a node is there, with the parts below it that the node has, and says what the node means
   pub record Drawn (lines : List Node) (k c : ℕ) : Type 0 where
     pub inside : slice_index (layout_of graph evidence costs).lines k < length lines
     pub mentioned : (v : ℕ) → mentions lines v (slice_index (layout_of graph evidence costs).lines k) ≡ ((nat_le 1 v && nat_le v (length costs)) && mentions graph.nodes v k)
@@ -90,12 +90,12 @@ module _ (graph : Graph) (evidence costs : List ℕ) (ok : IsGraph graph) (dear 
     means = Means-same (λ a. value_of-front (truth_by a) lines more (own k) d.inside) d.means;
   }
 
-  -- the lines of the nodes before one, after those of the literals
+  -- the lines of the nodes before one, after the literals
   pub record Upto (i : ℕ) (more : List Node) : Type 0 where
     pub stand : Stand (length costs) (literal_pairs (length costs) ++ more)
     pub drawn : (k c : ℕ) → k < i → least_at graph evidence costs k ≡ Some c → Drawn (literal_pairs (length costs) ++ more) k c
 
-  -- ---- a line that is filled in
+  -- ---- a filled line
 
   module _ (more : List Node) (k c : ℕ) (cost_is : least_at graph evidence costs k ≡ Some c) (drawn : Drawn (literal_pairs (length costs) ++ more) k c)
       (o : ℕ → Bool) (wider : (v : ℕ) → mentions graph.nodes v k ≡ true → o v ≡ true) where
@@ -135,7 +135,7 @@ module _ (graph : Graph) (evidence costs : List ℕ) (ok : IsGraph graph) (dear 
       stand : Stand (length costs) (literal_pairs (length costs) ++ (more ++ block))
       drawn : (c : ℕ) → least_at graph evidence costs i ≡ Some c → Drawn (literal_pairs (length costs) ++ (more ++ block)) i c
 
-    -- one line is added
+    -- one added line
     one-adds : (node : Node) → MayFollow parts before node → own i ≡ length before
         → ((v : ℕ) (c : ℕ) → least_at graph evidence costs i ≡ Some c → mention_by v node.what (map (mentions before v) node.kids) ≡ (part_of v && M v i))
         → ((c : ℕ) → least_at graph evidence costs i ≡ Some c → NodeMeans graph evidence costs ok dear i c (λ a. truth_by a node.what (map (λ q. is_true before q a) node.kids))) → Adds (node ∷ [])
@@ -177,7 +177,7 @@ module _ (graph : Graph) (evidence costs : List ℕ) (ok : IsGraph graph) (dear 
             (λ v c q. grind (arith, nat_tests, and_right (nat_le 1 var) _ p, mention-at graph evidence costs ok i _ e v))
             (λ c q. other-means graph evidence costs ok dear i var positive kids e c q (and_right (nat_le 1 var) _ p))
 
-    -- an and
+    -- an And node
     and-adds : (kids : List ℕ) → slice_get graph.nodes i ≡ Some (record { what = And; kids = kids }) → (cost : ℕ) → least_at graph evidence costs i ≡ Some cost → own i ≡ length before → Adds (and_over (map own kids) ∷ [])
     and-adds kids e cost cost_is at =
         let fit = fits-get graph.vars graph.nodes i _ ok.nodes.fit e in
@@ -198,7 +198,7 @@ module _ (graph : Graph) (evidence costs : List ℕ) (ok : IsGraph graph) (dear 
         (λ c q. Means-same (λ a. ap (list_all (λ b. b)) (map-map (λ p. is_true before p a) own kids))
         (and-means graph evidence costs ok dear (λ k a. is_true before (own k) a) i kids c e q (λ k d m r. (upto.drawn k d (all-below i kids k fit.below m) r).means)))
 
-    -- an or, after a line for each of its cheapest children
+    -- an Or node, after a line for each of its cheapest children
     module _ (kids : List ℕ) (e : slice_get graph.nodes i ≡ Some (record { what = Or; kids = kids })) (cost : ℕ) (cost_is : least_at graph evidence costs i ≡ Some cost)
         (at : own i ≡ length before + length (cheapest_children least cost kids)) where
       abbrev best : List ℕ
@@ -216,7 +216,7 @@ module _ (graph : Graph) (evidence costs : List ℕ) (ok : IsGraph graph) (dear 
       abbrev block : List Node
       block = map (child_line L i) best
 
-      -- what is asked of the cheapest children holds of each line
+      -- what the lines of the cheapest children need, each line has
       follows : (ks : List ℕ) → ((k : ℕ) → In k ks → In k best) → AllByRecursion (MayFollow parts before) (map (child_line L i) ks)
       follows [] are = tt
       follows (k ∷ ks) are =
@@ -229,7 +229,7 @@ module _ (graph : Graph) (evidence costs : List ℕ) (ok : IsGraph graph) (dear 
       all_children : List Node
       all_children = before ++ block
 
-      -- what the lines of the children are worth
+      -- the values of the children's lines
       block-values : (by : NodeKind → List Bool → Bool) → map (value_of by all_children) (range_with_len (length before) (length best)) ≡ map (λ k. by And (map (value_of by before) (child_line L i k).kids)) best
       unfolding all_children
       block-values by =
@@ -285,7 +285,7 @@ module _ (graph : Graph) (evidence costs : List ℕ) (ok : IsGraph graph) (dear 
         drawn = λ c q. subst (λ lines. Drawn lines i c) whole (subst (Drawn (all_children ++ or_node ∷ []) i) (same_Some cost c (sym cost_is ∙ q)) or-drawn);
       }
 
-    -- the lines of a node, whatever it is
+    -- the lines of any node
     by_kind : (what : NodeKind) (kids : List ℕ) → slice_get graph.nodes i ≡ Some (record { what = what; kids = kids }) → (cost : ℕ) → least_at graph evidence costs i ≡ Some cost
         → own i ≡ length before + lines_before least cost what kids → Adds (lines_by L i cost what kids)
     by_kind (Literal positive var) kids e cost cost_is at = literal-adds var positive kids e cost cost_is (omega (arith, at))
@@ -307,9 +307,9 @@ module _ (graph : Graph) (evidence costs : List ℕ) (ok : IsGraph graph) (dear 
               (cases_lt k i);
         }
 
-  -- ---- all of them
+  -- ---- all lines
 
-  -- how many lines a node has
+  -- the number of lines of a node
   pub length-lines : (i : ℕ) (node : Node) (o : Option ℕ) → length (lines_at L i node o) ≡ lines_to least node o + 1
   length-lines i node o = grind (arith, nat_tests, length-append, length-map)
 

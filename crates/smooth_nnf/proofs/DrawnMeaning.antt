@@ -1,4 +1,4 @@
--- What lines say that are drawn for nodes: one is true if its node can be, at its least cost, with the same bits of the parts below it.
+-- The meaning of lines drawn for nodes: a line is true if its node can be, at its least cost, with the same bits of the parts below it.
 use Rattle.std.proofs.Common.{◌≡◌, ℕ, ◌<◌, ◌≤◌, Bool, true, false, not, ◌&&◌, All, List, [], ◌∷◌, map, length, Option, Some, refl, ap, sym, ◌∙◌, subst, arith, ⊎_elim, inl, inr}
 use Rattle.std.proofs.lemmas.Bool.Decides.{nat_tests}
 use Rattle.std.specs.Prelude.{slice_get, nat_le}
@@ -28,7 +28,7 @@ cheapest-in least c kids k m e = In-filtered (λ j. costs_just c (cost_at least 
 pub cheapest-is : (least : List (Option ℕ)) (c : ℕ) (kids : List ℕ) (k : ℕ) → In k (cheapest_children least c kids) → In k kids × (cost_at least k ≡ Some c)
 cheapest-is least c kids k m = grind (arith, nat_tests, In-filter, eqb-true)
 
--- a bit that agrees and costs nothing is that which fills in
+-- a bit that agrees and costs nothing is the one that fills in
 filled_bit : (k : Option Bool) (b : Bool) (w : ℕ) → 0 < w → agrees_at k b ≡ true → (fault k w b ≡ 0) → b ≡ filling k
 filled_bit k b w dear ag free = grind (arith, nat_tests, same_bit-equal)
 
@@ -48,28 +48,28 @@ module _ (graph : Graph) (evidence costs : List ℕ) (ok : IsGraph graph) (dear 
   abbrev M : ℕ → ℕ → Bool
   M v k = mentions graph.nodes v k
 
-  -- a variable that is a part's
+  -- whether a variable is a part's
   abbrev pub is_part : ℕ → Bool
   is_part v = nat_le 1 v && nat_le v (length costs)
 
-  -- an assignment that agrees and passes a test at no more than a cost, with the same bits of some parts
+  -- an assignment that agrees and passes the test at cost `c` or less, with the same bits of some parts
   pub record Gives (t : Assignment → Bool) (m : ℕ → Bool) (c : ℕ) (a : Assignment) : Type 0 where
     pub is : Reaches (known_at evidence) (part_cost costs) (length costs) t c
     pub same : (v : ℕ) → is_part v ≡ true → m v ≡ true → a v ≡ is.by v
 
-  -- A line is true if its test can be passed at no more than a cost, with the same bits of the parts that the test is about.
+  -- A line is true if its test can be passed at cost `c` or less, with the same bits of the parts that the test is about.
   pub record Means (t : Assignment → Bool) (m : ℕ → Bool) (c : ℕ) (line : Assignment → Bool) : Type 0 where
     pub sound : (a b : Assignment) → Agrees (known_at evidence) (part_cost costs) (length costs) b → t b ≡ true → faults_in (known_at evidence) (part_cost costs) (length costs) m b ≤ c
         → ((v : ℕ) → is_part v ≡ true → m v ≡ true → a v ≡ b v) → line a ≡ true
     pub reached : (a : Assignment) → line a ≡ true → Gives t m c a
 
-  -- that of a node
+  -- the same for the test of a node
   abbrev pub NodeMeans : ℕ → ℕ → (Assignment → Bool) → Type 0
   NodeMeans k c line = Means (λ a. is_true graph.nodes k a) (λ v. mentions graph.nodes v k) c line
 
   -- ---- a part that is not below a node
 
-  -- where a node is true at its least cost, parts that are not below it have the bits that fill them in
+  -- if a node is true at its least cost, parts not below it have the bits that fill them in
   outside : (k c : ℕ) → least_at graph evidence costs k ≡ Some c → (o : ℕ → Bool) → ((v : ℕ) → M v k ≡ true → o v ≡ true) → (b : Assignment) → Agrees kn price n b → T b k ≡ true → faults_in kn price n o b ≤ c
       → (v : ℕ) → is_part v ≡ true → o v ≡ true → M v k ≡ false → b v ≡ filling (kn v)
   outside k c e o wider b ag h few v part in_o not_below =
@@ -81,7 +81,7 @@ module _ (graph : Graph) (evidence costs : List ℕ) (ok : IsGraph graph) (dear 
 
   -- ---- parts that are filled in
 
-  -- bits of some parts are those that fill them in
+  -- some parts have the bits that fill them in
   abbrev pub AreFilled : (ℕ → Bool) → Assignment → Type 0
   AreFilled missing a = (v : ℕ) → is_part v ≡ true → missing v ≡ true → a v ≡ filling (known_at evidence v)
 
@@ -89,7 +89,7 @@ module _ (graph : Graph) (evidence costs : List ℕ) (ok : IsGraph graph) (dear 
     pub sound : (a : Assignment) → AreFilled missing a → line a ≡ true
     pub reached : (a : Assignment) → line a ≡ true → AreFilled missing a
 
-  -- a node's line with the parts of a greater set that are not below the node
+  -- a node's line with the parts of a larger set that are not below it
   pub filled : (k c : ℕ) → least_at graph evidence costs k ≡ Some c → (o : ℕ → Bool) → ((v : ℕ) → M v k ≡ true → o v ≡ true) → (line fill : Assignment → Bool) → NodeMeans k c line
       → Fills (λ v. o v && not (M v k)) fill → Means (λ a. T a k) o c (λ a. line a && fill a)
   filled k c e o wider line fill means fills = record {
@@ -114,7 +114,7 @@ module _ (graph : Graph) (evidence costs : List ℕ) (ok : IsGraph graph) (dear 
     says : (a : Assignment) → T a k ≡ true → a var ≡ positive
     says a h = sym (same_bit-equal positive (a var) (sym (true-at graph evidence costs ok k _ e a) ∙ h))
 
-    -- of a part
+    -- a part's literal
     pub part-means : is_part var ≡ true → NodeMeans k c (λ a. same_bit positive (a var))
     part-means part = record {
       sound = λ a b ag h few same. ap (same_bit positive) (same var part (mention-at graph evidence costs ok k _ e var ∙ eq-eqb var var refl) ∙ says b h) ∙ same_bit-refl positive;
@@ -123,7 +123,7 @@ module _ (graph : Graph) (evidence costs : List ℕ) (ok : IsGraph graph) (dear 
           record { is = r; same = λ v p m. subst (λ u. a u ≡ r.by u) (of_var v m) (sym (same_bit-equal positive (a var) h) ∙ sym (says r.by r.holds)) };
     }
 
-    -- of any other variable
+    -- a literal of another variable
     pub other-means : is_part var ≡ false → NodeMeans k c (λ a. true)
     other-means other = record {
       sound = λ a b ag h few same. refl;
@@ -131,7 +131,7 @@ module _ (graph : Graph) (evidence costs : List ℕ) (ok : IsGraph graph) (dear 
           record { is = (is_cost graph evidence costs ok k).reached c cost_is; same = λ v p m. grind (arith, p, of_var v m, other) };
     }
 
-  -- ---- an and
+  -- ---- an And node
 
   module _ (line : ℕ → Assignment → Bool) where
     all_lines : (kids : List ℕ) → ((v : ℕ) → at_most_one (map (M v) kids) ≡ true) → ((k c : ℕ) → In k kids → least_at graph evidence costs k ≡ Some c → NodeMeans k c (line k))
@@ -182,7 +182,7 @@ module _ (graph : Graph) (evidence costs : List ℕ) (ok : IsGraph graph) (dear 
               };
         }
 
-    -- all lines of the children of an and
+    -- all lines of the children of an And node
     pub and-means : (i : ℕ) (kids : List ℕ) (c : ℕ) → slice_get graph.nodes i ≡ Some (record { what = And; kids = kids }) → least_at graph evidence costs i ≡ Some c
         → ((k d : ℕ) → In k kids → least_at graph evidence costs k ≡ Some d → NodeMeans k d (line k)) → NodeMeans i c (λ a. list_all (λ b. b) (map (λ k. line k a) kids))
     and-means i kids c e is are =
@@ -199,10 +199,10 @@ module _ (graph : Graph) (evidence costs : List ℕ) (ok : IsGraph graph) (dear 
               };
         }
 
-  -- ---- an or
+  -- ---- an Or node
 
   module _ (i : ℕ) (kids : List ℕ) (c : ℕ) (e : slice_get graph.nodes i ≡ Some (record { what = Or; kids = kids })) (is : least_at graph evidence costs i ≡ Some c) where
-    -- what is below a child is below the or
+    -- what is below a child is below the Or node
     pub child-inside : (k : ℕ) → In k kids → (v : ℕ) → M v k ≡ true → M v i ≡ true
     child-inside k m v h = mention-at graph evidence costs ok i _ e v ∙ any-child (M v) kids k m h
 

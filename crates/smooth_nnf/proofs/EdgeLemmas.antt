@@ -1,4 +1,4 @@
--- How many edges lines have, and the text of all lines.
+-- The number of edges of lines, and the text of all lines.
 use Rattle.std.proofs.Common.{◌≡◌, ℕ, zero, suc, ◌+◌, ◌-◌, ◌<◌, ◌≤◌, List, [], ◌∷◌, ◌++◌, map, length, take, get_or, None, refl, sym, ap, ◌∙◌, arith, append-nil}
 use Rattle.std.proofs.lemmas.Bool.Decides.{nat_tests}
 use Rattle.std.specs.Prelude.{sum_by}
@@ -58,13 +58,13 @@ pub edges-next : (L : Layout) (nodes : List Node) (i : ℕ) → i < length nodes
 edges-next L nodes i lt =
     more-edges (node_lines L) (enumerate_from 0 nodes) i (0, true_node) (omega (arith, length-enumerate_from 0 nodes, lt)) ∙ ap (λ x. edges (flat_map (node_lines L) (take i (enumerate_from 0 nodes))) + edges (node_lines L x)) (sym (numbered nodes i lt))
 
--- the nodes up to one have no more edges than all lines
+-- the nodes up to one have at most the edges of all lines
 pub edges-up : (L : Layout) (nodes : List Node) (i : ℕ) → nodes ≡ L.graph.nodes → i < length nodes
     → edges (flat_map (node_lines L) (take i (enumerate_from 0 nodes))) + edges (node_lines L (i, node_at nodes i)) + length (last_line L).kids ≤ edges (all_lines L)
 edges-up L nodes i is lt =
     omega (arith, edges-next L nodes i lt, part-edges (node_lines L) (enumerate_from 0 nodes) (i + 1), ap (λ ns. edges (flat_map (node_lines L) (enumerate_from 0 ns))) is, all-edges L)
 
--- ---- the text of all
+-- ---- the whole text
 
 nested : {X : Type 0} (f : X → List Node) (xs : List X) → flat_map (λ x. lines_text (f x)) xs ≡ lines_text (flat_map f xs)
 nested f [] = refl

@@ -28,7 +28,7 @@ none_text : least_text either (1 ∷ 1 ∷ []) (1 ∷ 1 ∷ [])
 unfolding digits
 none_text = refl
 
--- a part that costs more stays ok, and one that no node mentions is as it is held
+-- a dearer part stays ok, and one that no node mentions is as held
 true_where_cheapest : filter (holds (least_graph either (0 ∷ 0 ∷ []) (1 ∷ 2 ∷ []))) (lists_of_bits 2) ≡ (false ∷ true ∷ []) ∷ []
 true_where_cheapest = refl
 
@@ -39,10 +39,10 @@ held_text : least_text always (0 ∷ 2 ∷ []) (1 ∷ 1 ∷ []) ≡ text (map co
 unfolding digits
 held_text = refl
 
--- the states for which it is true are the diagnoses
+-- the graph is true for the diagnoses
 held_states : filter (holds (least_graph either (0 ∷ 2 ∷ []) (1 ∷ 2 ∷ []))) (lists_of_bits 2) ≡ diagnoses_under either (0 ∷ 2 ∷ []) (1 ∷ 2 ∷ [])
 held_states = refl
 
--- with equal costs either fault is enough, and never both
+-- with equal costs one fault is enough, never both
 either_states : filter (holds (least_graph either (0 ∷ 0 ∷ []) (1 ∷ 1 ∷ []))) (lists_of_bits 2) ≡ (false ∷ true ∷ []) ∷ (true ∷ false ∷ []) ∷ []
 either_states = refl

@@ -1,4 +1,4 @@
--- The texts of lines that are filled in, word by word.
+-- The texts of filled lines, word by word.
 use Rattle.std.proofs.Common.{◌≡◌, ℕ, zero, suc, ◌+◌, ◌-◌, ◌*◌, ◌<◌, Bool, ◌&&◌, List, [], ◌∷◌, ◌++◌, map, length, Option, refl, sym, ap, ◌∙◌, subst, arith, append_assoc}
 use Rattle.std.proofs.lemmas.Bool.Decides.{nat_tests}
 use Rattle.std.specs.Prelude.{nat_le, decimal, slice_index}
@@ -20,7 +20,7 @@ use Rattle.smooth_nnf.proofs.WordParts.{all-words, word-more, word-parts}
 
 -- ---- a word
 
--- bit by bit, the parts of a word
+-- a word's parts, bit by bit
 bits-text : (evidence : List ℕ) (word bits s d : ℕ) → flat_map (bit_text evidence word bits) (range_with_len s d)
     ≡ numbers_text (map (filler evidence) (filter (λ part. has_bit bits (part - (32 * word + 1))) (range_with_len (32 * word + 1 + s) d)))
 bits-text evidence word bits s zero = refl

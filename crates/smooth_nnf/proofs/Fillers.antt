@@ -101,7 +101,7 @@ module _ (parts : ℕ) (more : List Node) where
         → map (value_of by (literal_pairs parts ++ more)) (fillers evidence parts missing) ≡ map (λ p. by (Literal (filling (known_at evidence p)) p) []) (filter missing (range_with_len 1 parts))
     fillers-values by = map-map (value_of by lines) (filler evidence) chosen ∙ map-in (λ p. value_of by lines (filler evidence p)) (λ p. by (Literal (filling (known_at evidence p)) p) []) chosen (filler-value by)
 
-    -- they are before all that fills parts in
+    -- fillers are before all lines that they fill in
     pub fillers-below : (own : ℕ) → 2 * parts ≤ own → are_below own (fillers evidence parts missing) ≡ true
     fillers-below own le = are_below-from own (map (filler evidence) chosen) (λ i d h.
         let x = from_map (filler evidence) (get_or (map (filler evidence) chosen) i d) chosen (In-at (map (filler evidence) chosen) i d h) in
@@ -116,7 +116,7 @@ module _ (parts : ℕ) (more : List Node) where
       to : ((nat_le 1 v && nat_le v parts) && missing v) ≡ true → list_any (λ b. b) (map (λ p. p == v) chosen) ≡ true
       to all = grind (arith, nat_tests, and_parts, any-child, chosen-has, leb-true, eq-eqb)
 
-    -- each once
+    -- each of it once
     pub fillers-once : (v : ℕ) → at_most_one (map (mentions (literal_pairs parts ++ more) v) (fillers evidence parts missing)) ≡ true
     fillers-once v = ap at_most_one (fillers-values (mention_by v)) ∙ once 1 parts where
       once : (s n : ℕ) → at_most_one (map (λ p. p == v) (filter missing (range_with_len s n))) ≡ true
@@ -127,7 +127,7 @@ module _ (parts : ℕ) (more : List Node) where
           grind (arith, nat_tests, in_range (s + 1) n r.item (In-filter missing r.item (range_with_len (s + 1) n) r.is_in).0, r.passes) in
           grind (arith, nat_tests, at_most_one-from, other, once (s + 1) n)
 
-    -- and are true where what is missing is filled in
+    -- they are true if what is missing is filled in
     pub fillers-true : (a : Assignment) → ((v : ℕ) → (nat_le 1 v && nat_le v parts) ≡ true → missing v ≡ true → a v ≡ filling (known_at evidence v))
         → list_all (λ b. b) (map (λ k. is_true (literal_pairs parts ++ more) k a) (fillers evidence parts missing)) ≡ true
     fillers-true a filled = grind (arith, nat_tests, fillers-values (truth_by a), all-from, chosen-is, filled, and_from, le-leb, same_bit-refl)

@@ -22,7 +22,7 @@ pub set-bit : (parts : ℕ) (some : ℕ → Bool) (sets : List ℕ) (k word b : 
     → has_bit (get_or sets (k * part_words parts + word) 0) b ≡ (nat_le (part_at word b) parts && some (part_at word b))
 set-bit parts some sets k word b are w s = grind (arith, nat_tests, get_or-take, get_or-drop, are, lt-ltb, le-leb, le-ltb, lt-leb, cases_lt)
 
--- nothing is missing where the word at its place says so
+-- nothing is missing if the word at its place says so
 pub none-under : (d : Drawing) (lacking : List ℕ) → AreLacking d.graph d.parts lacking → (over : Option ℕ) (place : ℕ) → MatchOption over (place ≡ length d.graph.nodes) (λ node. place ≡ node) → get_or lacking place 0 ≡ 0
     → (node part : ℕ) → IsUnder d over node → 1 ≤ part → part ≤ d.parts → missing_in d over node part ≡ false
 none-under d lacking is None place at given node part under low high = grind (arith, nat_tests, is.all)
@@ -31,11 +31,11 @@ none-under d lacking is (Some o) place at given node part under low high = grind
 pub is-lacking : (d : Drawing) → IsDrawing d → (lacking : List ℕ) → d.lacking ≡ Some lacking → AreLacking d.graph d.parts lacking
 is-lacking d is lacking e = subst (λ o. IfSome o (AreLacking d.graph d.parts)) e is.lacks
 
--- then no part is filled in
+-- if so, no part is filled in
 pub no-fillers : (d : Drawing) (over : Option ℕ) (node : ℕ) → ((part : ℕ) → 1 ≤ part → part ≤ d.parts → missing_in d over node part ≡ false) → fillers d.evidence d.parts (missing_in d over node) ≡ []
 no-fillers d over node none =
     ap (map (filler d.evidence)) (filter_same (missing_in d over node) (λ p. false) (range_with_len 1 d.parts) (λ p m. let r = in_range 1 d.parts p m in none p r.0 (omega (arith, r.1))) ∙ filter-never (range_with_len 1 d.parts))
 
--- what is below such a node is among what its line is filled in up to
+-- the parts below such a node are among those that its line is filled in to
 pub under-wider : (d : Drawing) → IsDrawing d → (over : Option ℕ) (node : ℕ) → IsUnder d over node → (part : ℕ) → mentions d.graph.nodes part node ≡ true → is_over d.graph.nodes over part ≡ true
 under-wider d is over node under part m = grind (arith, nat_tests, child-wider)

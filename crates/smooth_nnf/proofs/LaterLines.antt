@@ -1,4 +1,4 @@
--- Lines that are after others: what their nodes are worth, and that all of them are still nodes of a smooth graph.
+-- Later lines: the values of their nodes, and that all are still nodes of a smooth graph.
 use Rattle.std.proofs.Common.{◌≡◌, ℕ, ◌+◌, ◌<◌, ◌≤◌, Bool, true, List, [], ◌∷◌, ◌++◌, map, length, refl, ap, sym, ◌∙◌, subst, arith, append_assoc, append-nil, length-append}
 use Rattle.std.proofs.lemmas.Bool.Decides.{nat_tests}
 use Rattle.std.specs.List.{range_with_len, AllByRecursion}
@@ -11,14 +11,14 @@ use Rattle.state_rules.proofs.NodeValues.{are_below, are_below-from, below-each,
 use Rattle.state_rules.proofs.NodesFit.{apart_at-below, AreNodes-push}
 use Rattle.nnf_text.specs.StateGraphs.{smooth_at, Smooth}
 
--- ---- what nodes are worth
+-- ---- values of nodes
 
 module _ (by : NodeKind → List Bool → Bool) where
-  -- what is before others is worth the same
+  -- earlier lines keep their values
   pub value_of-front : (front back : List Node) (k : ℕ) → k < length front → value_of by (front ++ back) k ≡ value_of by front k
   value_of-front front back k lt = grind (arith, nat_tests, values_after-append, values_after-keeps, length-values_after)
 
-  -- and what is after is worth what its kind makes of its children
+  -- a line's value is what its kind makes of its children
   pub value_of-there : (front : List Node) (node : Node) (back : List Node) → value_of by (front ++ (node ∷ back)) (length front) ≡ by node.what (map (value_of by front) node.kids)
   value_of-there front node back =
       ap (λ ns. value_of by ns (length front)) (sym (append_assoc front (node ∷ []) back))
@@ -40,14 +40,14 @@ pub record Stand (vars : ℕ) (lines : List Node) : Type 0 where
   pub nodes : AreNodes vars lines
   pub smooth : Smooth lines
 
--- a node that may be after them
+-- a node that may follow them
 pub record MayFollow (vars : ℕ) (base : List Node) (node : Node) : Type 0 where
   pub below : are_below (length base) node.kids ≡ true
   pub kind : kind_fits vars node.what node.kids ≡ true
   pub apart : (v : ℕ) → apart_at (mentions base v) node.what node.kids ≡ true
   pub smooth : (v : ℕ) → smooth_at (mentions base v) node.what node.kids ≡ true
 
--- nodes one after the other that may each follow
+-- nodes in a row that may each follow
 pub values-behind : (by : NodeKind → List Bool → Bool) (vars : ℕ) (base seen middle back : List Node) → AllByRecursion (MayFollow vars base) middle
     → map (value_of by (base ++ (seen ++ (middle ++ back)))) (range_with_len (length base + length seen) (length middle)) ≡ map (λ x. by x.what (map (value_of by base) x.kids)) middle
 values-behind by vars base seen [] back below = refl
@@ -56,7 +56,7 @@ values-behind by vars base seen (x ∷ middle) back below =
     value_of-there by (base ++ seen) x (middle ++ back) ∙ ap (by x.what) (map-below (value_of by (base ++ seen)) (value_of by base) (length base) x.kids below.0.below (λ k h. value_of-front by base seen k h)) in
     grind (arith, nat_tests, here, append_assoc, length-append, values-behind by vars base (seen ++ x ∷ []) middle back below.1)
 
--- it may follow later too
+-- a node may also follow later
 may_follow-later : (vars : ℕ) (base seen : List Node) (node : Node) → MayFollow vars base node → MayFollow vars (base ++ seen) node
 may_follow-later vars base seen node f = record {
   below = are_below-from (length (base ++ seen)) node.kids (λ k d h. omega (arith, length-append base seen, below-each (length base) node.kids f.below k d h));
@@ -79,6 +79,6 @@ stand-more : (vars : ℕ) (base seen middle : List Node) → Stand vars (base ++
 stand-more vars base seen [] s h = subst (λ t. Stand vars (base ++ t)) (sym (append-nil seen)) s
 stand-more vars base seen (x ∷ middle) s h = grind (arith, nat_tests, append_assoc, stand-push, may_follow-later, stand-more vars base (seen ++ x ∷ []) middle (subst (Stand vars) (append_assoc base seen (x ∷ [])) (stand-push vars (base ++ seen) x s (may_follow-later vars base seen x h.0))) h.1)
 
--- nodes that may each follow stand one after the other
+-- nodes in a row that may each follow are smooth
 pub stand-behind : (vars : ℕ) (base middle : List Node) → Stand vars base → AllByRecursion (MayFollow vars base) middle → Stand vars (base ++ middle)
 stand-behind vars base middle s h = stand-more vars base [] middle (subst (Stand vars) (sym (append-nil base)) s) h

@@ -42,11 +42,11 @@ pub last-text : (d : Drawing) (root value : ℕ) → root ≡ length d.graph.nod
     → spaced (node_words (filled_line d None root)) ≡ spaced (node_words (last_line (shown d)))
 last-text d root value at is some = grind (arith, nat_tests, cost_in-some)
 
--- that of an or
+-- the line of an Or node
 pub or-text : (first count : ℕ) → codes "O 0" ++ ((32 ∷ decimal count) ++ (numbers_text (range_with_len first count) ++ 10 ∷ [])) ≡ spaced (node_words (or_behind (first + count) count))
 or-text first count = grind (arith, nat_tests, or-spaced, length-range_with_len)
 
--- and of an and
+-- the line of an And node
 pub and-text : (d : Drawing) (kids : List ℕ) → codes "A" ++ ((32 ∷ decimal (length kids)) ++ (flat_map (λ child. 32 ∷ decimal (slice_index d.lines child)) kids ++ 10 ∷ []))
     ≡ lines_text (and_over (map (own_line (shown d)) kids) ∷ [])
 and-text d kids =
@@ -61,7 +61,7 @@ pub or-lines-text : (d : Drawing) (node cost : ℕ) (kids : List ℕ)
     ≡ lines_text (or_lines (shown d) node (cheapest_children (map cost_in d.values) cost kids))
 or-lines-text d node cost kids = grind (arith, nat_tests, kids-text, append-nil, flat_map-append)
 
--- ---- what holds of a node's children and of its line
+-- ---- a node's children and its line
 
 own-at : (least : List (Option ℕ)) (line number : ℕ) (nodes : List Node) (i : ℕ) → i < length nodes
     → lines_to least (node_at nodes i) (cost_at least (number + i)) ≤ get_or (own_lines least line number nodes) i 0
@@ -69,7 +69,7 @@ own-at least line number [] i lt = absurd (omega arith)
 own-at least line number (node ∷ nodes) zero lt = let e : number ≡ number + 0 = omega arith in subst (λ n. lines_to least node (cost_at least n) ≤ line + lines_to least node (cost_at least number)) e (omega arith)
 own-at least line number (node ∷ nodes) (suc i) lt = grind (arith, nat_tests, own-at least (line + lines_to least node (cost_at least number) + 1) (number + 1) nodes i)
 
--- a child of an or
+-- a child of an Or node
 pub child-under : (d : Drawing) (node : ℕ) (kids : List ℕ) → node < length d.graph.nodes → node_at d.graph.nodes node ≡ record { what = Or; kids = kids } → (i : ℕ) → i < length kids → IsUnder d (Some node) (get_or kids i 0)
 child-under d node kids lt at i h = (lt, record { what = cc; place = i; within = grind (arith, at); child_is = cc })
 

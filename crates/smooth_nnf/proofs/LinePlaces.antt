@@ -1,4 +1,4 @@
--- Where the lines of nodes stand, node by node.
+-- The places of the lines of nodes, node by node.
 use Rattle.std.proofs.Common.{◌≡◌, ℕ, zero, suc, ◌+◌, ◌<◌, ◌≤◌, cond, ◌==◌, List, [], ◌∷◌, ◌++◌, map, length, take, get_or, Option, sym, ap, ◌∙◌, arith}
 use Rattle.std.proofs.lemmas.Bool.Decides.{nat_tests}
 use Rattle.std.proofs.lemmas.Bool.{cond-true, eq-eqb, ne_eqb, cases_eq}
@@ -12,7 +12,7 @@ use Rattle.minimiser.proofs.Sums.{cost_at-map, cost_in-some}
 use Rattle.smooth_nnf.specs.Layouts.{costs_just, cheapest_children, lines_to, own_lines}
 use Rattle.smooth_nnf.specs.inner.Drawings.{lines_after}
 
--- ---- children of a cost
+-- ---- children with a cost
 
 pub just-stored : (cost n : ℕ) → (cost ≡ 4294967295 → ⊥) → costs_just cost (cost_in n) ≡ (n == cost)
 just-stored cost n some = grind (arith, nat_tests, cases_eq, cond-true, eq-eqb, ne_eqb, some, cost_in-some)
@@ -47,7 +47,7 @@ module _ (least : List (Option ℕ)) where
   lines_after-next line number (node ∷ nodes) zero lt = let e : number ≡ number + 0 = omega arith in ap (λ n. line + lines_to least node (cost_at least n) + 1) e
   lines_after-next line number (node ∷ nodes) (suc i) lt = grind (arith, nat_tests, lines_after-next (line + lines_to least node (cost_at least number) + 1) (number + 1) nodes i)
 
-  -- one more node, of the first ones
+  -- one more of the first nodes
   module _ (line : ℕ) (nodes : List Node) (i : ℕ) (lt : i < length nodes) where
     pub own_lines-more : own_lines least line 0 (take (i + 1) nodes) ≡ own_lines least line 0 (take i nodes) ++ (lines_after least line 0 (take i nodes) + lines_to least (node_at nodes i) (cost_at least i)) ∷ []
     own_lines-more = grind (arith, nat_tests, own_lines-next line 0 nodes i lt)

@@ -7,7 +7,7 @@ use Rattle.std.proofs.lemmas.Nat.{pow_below}
 use Rattle.std.proofs.lemmas.Nat.Bits.{bit_at_ones, bit_at_ones_above}
 use Rattle.state_rules.specs.Bits.{has_bit}
 
--- so many ones are the bits below
+-- `count` ones are the bits below `count`
 pub ones : (count b : ℕ) → has_bit (2 ^ count - 1) b ≡ nat_le (b + 1) count
 ones count b = grind (arith, nat_tests, bit_at_ones, le-leb, bit_at_ones_above, lt-leb, cases_lt)
 

@@ -1,4 +1,4 @@
--- Lemmas by which the check finds the rest of what functions require and ensure.
+-- Lemmas with which the check proves the rest of the contracts.
 use Rattle.minimiser.proofs.Sums.{cost_at-map}
 use Rattle.nnf_text.proofs.Extended.{extends_on, extends_same, extends_three, extends_whole}
 use Rattle.scratch_pool.proofs.Counted.{block-below}

@@ -1,4 +1,4 @@
--- The text of the diagnoses is read as a smooth graph over the parts, decomposable, and true for the diagnoses alone.
+-- The text of the diagnoses is read as a smooth and decomposable graph over the parts, true for the diagnoses alone.
 use Rattle.std.proofs.Common.{◌≡◌, ℕ, ◌+◌, ◌-◌, ◌*◌, ◌^◌, ◌<◌, ◌≤◌, Bool, true, false, ◌&&◌, All, List, [], ◌∷◌, ◌++◌, map, length, Option, Some, None, refl, ap, sym, ◌∙◌, subst, arith, append_assoc, length-append}
 use Rattle.std.proofs.lemmas.Bool.Decides.{nat_tests}
 use Rattle.std.specs.Prelude.{nat_le}
@@ -44,7 +44,7 @@ costs-all : (graph : Graph) (evidence costs : List ℕ) → costs_to graph evide
 unfolding costs_to
 costs-all graph evidence costs = ap (values (node_cost (known_at evidence) (part_cost costs))) (take-length graph.nodes)
 
--- with the least costs and the places of the lines, a layout is that of the graph
+-- with the least costs and line places a layout is the graph's
 pub laid : (graph : Graph) (evidence costs xs ls : List ℕ) → AreLeastCosts graph evidence costs xs → ls ≡ own_lines (map cost_in xs) (2 * length costs) 0 graph.nodes
     → record { graph = graph; evidence = evidence; parts = length costs; least = map cost_in xs; lines = ls } ≡ layout_of graph evidence costs
 laid graph evidence costs xs ls is at = grind (arith, nat_tests, costs-all)
@@ -98,7 +98,7 @@ module _ (graph : Graph) (evidence costs : List ℕ) (ok : IsGraph graph) (long 
       let place : length all - 1 ≡ length front = omega (arith, length-all) in
       (λ j. value_of by (all-is j) (place j)) ∙ value_of-there by front last [] ∙ ap (λ m. by (last_at L root m).what (map (value_of by front) (last_at L root m).kids)) e
 
-  -- the parts are below it
+  -- the parts are below the last line
   last-mentions : (c : ℕ) → least_at graph evidence costs root ≡ Some c → (v : ℕ) → mentions all v (length all - 1) ≡ (nat_le 1 v && nat_le v parts)
   last-mentions c e v =
       last-value (Some c) e (mention_by v) ∙ over-mention graph evidence costs ok dear few lines root c e (drawn-root c e) (λ u. true) (λ u h. refl) v ∙ and-true (nat_le 1 v && nat_le v parts)
@@ -181,12 +181,12 @@ module _ (graph : Graph) (evidence costs : List ℕ) (ok : IsGraph graph) (long 
       let known = has-cost _ (In-at ds 0 [] some) in
       last-mentions known.0 known.1 part ∙ and_from _ _ (le-leb 1 part low) (le-leb part parts high)
 
-  -- and is read as a smooth graph
+  -- it is read as a smooth graph
   pub least_text-means : IsSmoothGraphOfStates (length costs) (diagnoses_under graph evidence costs) (parsed (least_text graph evidence costs))
   least_text-means = subst (IsSmoothGraphOfStates parts ds) (sym (graph_text-read parts all all-are_list))
       ((refl, stand.nodes.apart, (λ h as_long. least-holds h as_long)), stand.smooth, below-last)
 
-  -- ---- as it is made
+  -- ---- as computed
 
   pub counted : (xs ls : List ℕ) (count : ℕ) → AreLeastCosts graph evidence costs xs → ls ≡ own_lines (map cost_in xs) (2 * length costs) 0 graph.nodes → count ≡ lines_after (map cost_in xs) (2 * length costs) 0 graph.nodes
       → count + 1 ≡ length (all_lines (record { graph = graph; evidence = evidence; parts = length costs; least = map cost_in xs; lines = ls }))

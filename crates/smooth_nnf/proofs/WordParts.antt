@@ -25,16 +25,16 @@ use Rattle.smooth_nnf.specs.inner.Drawings.{Drawing, IsDrawing, IsUnder, is_over
 use Rattle.smooth_nnf.proofs.Fillers.{in_range}
 use Rattle.smooth_nnf.proofs.LackingParts.{set-bit, under-wider}
 
--- ---- words of which some bits are set
+-- ---- words with some bits set
 
 pub mask_bits : (p o m : Bool) → ((p && o) && not (p && m)) ≡ (p && (o && not m))
 mask_bits p o m = grind (arith, nat_tests)
 
--- bits of one word that are not set in another
+-- bits of one word that another lacks
 pub masked : (x y b : ℕ) → y < 2 ^ 32 → b < 32 → has_bit (bit_and x (4294967295 - y)) b ≡ (has_bit x b && not (has_bit y b))
 masked x y b fits s = grind (arith, nat_tests, has_bit-and x (4294967295 - y) b, bit_at_not w32 y b fits s, bit_at-lt y b)
 
--- ---- how many there are
+-- ---- their number
 
 filter-later : (n s d : ℕ) → filter (λ p. has_bit (n / 2) (p - (s + 1))) (range_with_len (s + 1) d) ≡ filter (λ p. has_bit n (p - s)) (range_with_len (s + 1) d)
 filter-later n s d = filter_same (λ p. has_bit (n / 2) (p - (s + 1))) (λ p. has_bit n (p - s)) (range_with_len (s + 1) d) (λ p m. grind (arith, nat_tests, in_range (s + 1) d p m, bit_at-suc n (p - (s + 1))))
@@ -67,7 +67,7 @@ word-more test word n =
     (λ i. filter test (range_with_len (32 * word + 1) (all i))) ∙ ap (filter test) (range-append (32 * word + 1) 32 (32 * n)) ∙ filter-append test (range_with_len (32 * word + 1) 32) (range_with_len ((32 * word + 1) + 32) (32 * n))
     ∙ (λ i. filter test (range_with_len (32 * word + 1) 32) ++ filter test (range_with_len (next i) (32 * n)))
 
--- after the last part there is none
+-- there is no part after the last
 pub all-words : (test : ℕ → Bool) (parts n : ℕ) → parts ≤ n → filter (λ p. nat_le p parts && test p) (range_with_len 1 n) ≡ filter test (range_with_len 1 parts)
 all-words test parts n le =
     let all : n ≡ parts + (n - parts) = omega arith in
@@ -78,16 +78,16 @@ all-words test parts n le =
       none : (s d : ℕ) → parts < s → filter (λ p. nat_le p parts && test p) (range_with_len s d) ≡ []
       none s d lt = filter_same (λ p. nat_le p parts && test p) (λ p. false) (range_with_len s d) (λ p m. grind (arith, nat_tests, in_range s d p m)) ∙ filter-never (range_with_len s d)
 
--- what passes one test and not another that passes no more
+-- what passes one test and not a narrower one
 pub left-over : (o m : ℕ → Bool) → ((p : ℕ) → m p ≡ true → o p ≡ true) → (xs : List ℕ) → length (filter (λ p. o p && not (m p)) xs) + length (filter m xs) ≡ length (filter o xs)
 left-over o m wider [] = refl
 left-over o m wider (x ∷ xs) = grind (arith, nat_tests, wider, left-over o m wider xs)
 
--- without a node, all parts
+-- without a node: all parts
 pub over-all : (nodes : List Node) (over : Option ℕ) (n : ℕ) → over ≡ None → length (filter (is_over nodes over) (range_with_len 1 n)) ≡ n
 over-all nodes over n none = ap (λ o. length (filter (is_over nodes o) (range_with_len 1 n))) none ∙ ap length (filter-all (range_with_len 1 n)) ∙ length-range_with_len 1 n
 
--- the parts that a line is to have below it are those below the node, and those that are missing
+-- the parts that a line must have below it are those below the node and those missing
 pub over-less : (d : Drawing) → IsDrawing d → (over : Option ℕ) (node : ℕ) → IsUnder d over node
     → length (fillers d.evidence d.parts (missing_in d over node)) + part_count d node ≡ length (filter (is_over d.graph.nodes over) (range_with_len 1 d.parts))
 over-less d is over node under = omega (
@@ -106,7 +106,7 @@ set_parts-next word (suc i) (w ∷ words) lt =
     ap (λ ps. word_parts word w ++ ps) (set_parts-next (word + 1) i words (omega arith) ∙ ap (λ n. set_parts (word + 1) (take i words) ++ word_parts n (get_or words i 0)) e)
     ∙ sym (append_assoc (word_parts word w) (set_parts (word + 1) (take i words)) (word_parts (word + suc i) (get_or words i 0)))
 
--- one more word is counted
+-- one more word
 pub count-more : (words : List ℕ) (i count : ℕ) → i < length words → get_or words i 0 < 2 ^ 32 → count ≡ length (set_parts 0 (take i words)) → count + count_ones (get_or words i 0) ≡ length (set_parts 0 (take (i + 1) words))
 count-more words i count lt fits is = grind (arith, nat_tests, ones-parts, set_parts-next, length-append)
 

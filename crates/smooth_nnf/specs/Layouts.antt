@@ -24,7 +24,7 @@ abbrev pub literal_line : ℕ → Bool → ℕ
 literal_line part true = 2 * (part - 1)
 literal_line part false = 2 * (part - 1) + 1
 
--- a part of which nothing else is said is ok, unless it is held to be faulty
+-- the bit that fills in a part: ok, unless it is held to be faulty
 abbrev pub filling : Option Bool → Bool
 filling None = true
 filling (Some ok) = ok
@@ -33,7 +33,7 @@ filling (Some ok) = ok
 abbrev pub filler : List ℕ → ℕ → ℕ
 filler evidence part = literal_line part (filling (known_at evidence part))
 
--- those that fill in the parts that are missing, in order
+-- the lines that fill in the missing parts, in order
 abbrev pub fillers : List ℕ → ℕ → (ℕ → Bool) → List ℕ
 fillers evidence parts missing = map (filler evidence) (filter missing (range_with_len 1 parts))
 
@@ -43,30 +43,30 @@ abbrev pub costs_just : ℕ → Option ℕ → Bool
 costs_just cost None = false
 costs_just cost (Some other) = other == cost
 
--- the children of which the least cost is this
+-- the children with this least cost
 abbrev pub cheapest_children : List (Option ℕ) → ℕ → List ℕ → List ℕ
 cheapest_children least cost kids = filter (λ child. costs_just cost (cost_at least child)) kids
 
 -- ---- where the lines of the nodes are
 
--- an or has a line for each of its children of least cost before its own
+-- an Or node has a line for each of its cheapest children before its own
 abbrev pub lines_before : List (Option ℕ) → ℕ → NodeKind → List ℕ → ℕ
 lines_before least cost (Literal positive var) kids = 0
 lines_before least cost And kids = 0
 lines_before least cost Or kids = length (cheapest_children least cost kids)
 
--- a node that is never true has one line
+-- a node that is never true has no line before its own
 abbrev pub lines_to : List (Option ℕ) → Node → Option ℕ → ℕ
 lines_to least node None = 0
 lines_to least node (Some cost) = lines_before least cost node.what node.kids
 
--- the own line of each node, if the first one has this number and its lines begin at this line
+-- the own line of each node, if `number` is that of the first one and its lines begin at `line`
 abbrev pub own_lines : List (Option ℕ) → ℕ → ℕ → List Node → List ℕ
 own_lines least line number [] = []
 own_lines least line number (node ∷ nodes) =
     let own = line + lines_to least node (cost_at least number) in own ∷ own_lines least (own + 1) (number + 1) nodes
 
--- a graph under evidence, the number of its parts, and the least cost and the own line of each node
+-- a graph under evidence, the number of its parts, and the least cost and own line of each node
 pub record Layout : Type 0 where
   pub graph : Graph
   pub evidence : List ℕ
@@ -90,11 +90,11 @@ own_line layout node = slice_index layout.lines node
 
 -- ---- the lines of a node
 
--- a literal of a part stands for the part's line, and any other for what is true
+-- the child of a literal's line: the line of a part's literal, or nothing for another variable (always true)
 abbrev pub literal_children : ℕ → ℕ → Bool → List ℕ
 literal_children parts var positive = if nat_le var parts then literal_line var positive ∷ [] else []
 
--- one child of an or, with the parts that are below the or and not below the child
+-- whether a part is below an Or node and not below its child
 abbrev pub missing : Layout → ℕ → ℕ → ℕ → Bool
 missing layout number child part = mentions layout.graph.nodes part number && not (mentions layout.graph.nodes part child)
 
@@ -102,7 +102,7 @@ abbrev pub child_line : Layout → ℕ → ℕ → Node
 child_line layout number child =
     and_over (own_line layout child ∷ fillers layout.evidence layout.parts (missing layout number child))
 
--- an or over so many lines that come before its own
+-- an Or node over the `count` lines before its own
 abbrev pub or_behind : ℕ → ℕ → Node
 or_behind own count = record { what = Or; kids = range_with_len (own - count) count }
 
@@ -115,7 +115,7 @@ lines_by layout number cost (Literal positive var) kids = and_over (literal_chil
 lines_by layout number cost And kids = and_over (map (own_line layout) kids) ∷ []
 lines_by layout number cost Or kids = or_lines layout number (cheapest_children layout.least cost kids)
 
--- a node that is never true is false
+-- a node that is never true becomes false
 abbrev pub lines_at : Layout → ℕ → Node → Option ℕ → List Node
 lines_at layout number node None = false_node ∷ []
 lines_at layout number node (Some cost) = lines_by layout number cost node.what node.kids
@@ -125,7 +125,7 @@ node_lines layout (number, node) = lines_at layout number node (cost_at layout.l
 
 -- ---- all lines
 
--- the root, with the parts that are not below it
+-- the root with the parts that are not below it
 abbrev pub last_at : Layout → ℕ → Option ℕ → Node
 last_at layout root None = false_node
 last_at layout root (Some cost) =

@@ -15,8 +15,8 @@ use node_store::Graph;
 use part_sets::{part_words, set_at};
 use std::marker::Model;
 
-/// A graph under evidence, the number of its parts, and of each node the least cost, the own line and the parts below it. If it is known,
-/// which ors have a child that lacks a part.
+/// A graph under evidence, the number of its parts, and for each node the least cost, the own line and the parts below it. Also, if known,
+/// which Or nodes have a child that lacks a part.
 #[derive(Drop)]
 pub(crate) struct Drawing<'a> {
     pub(crate) graph: &'a Graph,
@@ -40,7 +40,6 @@ impl<'a> Model for Drawing<'a> {
 }
 
 impl<'a> Drawing<'a> {
-    // The graph.
     pub(crate) fn graph(&self) -> &Graph
         ensures graph { result.now ≡ self.now.graph }
         ensures whole { IsDrawing self.now }
@@ -48,7 +47,6 @@ impl<'a> Drawing<'a> {
         self.graph
     }
 
-    // The number of parts.
     pub(crate) fn parts(&self) -> u32
         ensures parts { result ≡ self.now.parts }
         ensures whole { IsDrawing self.now }
@@ -56,7 +54,7 @@ impl<'a> Drawing<'a> {
         self.parts
     }
 
-    // The own line of a node.
+    // Returns the own line of a node.
     pub(crate) fn line(&self, node: u32) -> u32
         requires { node < length self.now.graph.nodes }
         ensures { result ≡ slice_index self.now.lines node }
@@ -64,7 +62,7 @@ impl<'a> Drawing<'a> {
         self.lines[node as usize]
     }
 
-    // The least cost at a node, or what stands for none.
+    // Returns the least cost at a node, or `NONE`.
     #[tactic(auto, using(crate::proofs::Rules::stored_costs))]
     pub(crate) fn value(&self, node: u32) -> u32
         requires { node < length self.now.graph.nodes }
@@ -74,14 +72,14 @@ impl<'a> Drawing<'a> {
         self.values[node as usize]
     }
 
-    // The least costs.
+    // Returns the least costs.
     pub(crate) fn values(&self) -> &[u32]
         ensures { result.now ≡ self.now.values }
     {
         self.values
     }
 
-    // The sets of the parts below the nodes.
+    // Returns the sets of parts below the nodes.
     fn below(&self) -> &[u32]
         ensures sets { result.now ≡ self.now.sets }
         ensures wide { length self.now.graph.nodes * part_words self.now.parts ≤ length result.now }
@@ -90,14 +88,14 @@ impl<'a> Drawing<'a> {
         self.below
     }
 
-    // How many words a set has.
+    // Returns the number of words of a set.
     pub(crate) fn width(&self) -> usize
         ensures { result ≡ part_words self.now.parts }
     {
         part_words(self.parts as usize)
     }
 
-    // How many parts a node has below it.
+    // Returns the number of parts below a node.
     #[tactic(auto, using(crate::proofs::Rules::parts_below_node))]
     pub(crate) fn part_count(&self, node: u32) -> u32
         requires { node < length self.now.graph.nodes }
@@ -108,7 +106,7 @@ impl<'a> Drawing<'a> {
         count_parts(set_at(self.below(), node as usize, self.width()))
     }
 
-    // How many parts a line is to have below it.
+    // Returns the number of parts that a line must have below it.
     fn over_count(&self, over: Option<u32>) -> u32
         requires { IsNodeOf self.now over }
         ensures count { result ≡ length (filter (is_over self.now.graph.nodes over) (range_with_len 1 self.now.parts)) }
@@ -120,7 +118,7 @@ impl<'a> Drawing<'a> {
         }
     }
 
-    // Whether nothing is missing below the nodes whose lines are filled in up to the parts of an or, or up to all parts.
+    // True only if nothing is missing below the nodes whose lines are filled in up to the parts of `over`, or up to all parts.
     #[tactic(auto, using(crate::proofs::Rules::nothing_lacks))]
     pub(crate) fn lacks_none(&self, over: Option<u32>) -> bool
         requires over { IsNodeOf self.now over }
@@ -133,7 +131,7 @@ impl<'a> Drawing<'a> {
         }
     }
 
-    // The place of the node, or the one after all nodes.
+    // Returns the place of the node, or the one after all nodes.
     fn place_over(&self, over: Option<u32>) -> usize
         requires { IsNodeOf self.now over }
         ensures within { result ≤ length self.now.graph.nodes }
@@ -145,7 +143,7 @@ impl<'a> Drawing<'a> {
         }
     }
 
-    // How many parts are missing below a node.
+    // Returns the number of parts missing below a node.
     #[tactic(auto, using(crate::proofs::Rules::missing_parts))]
     pub(crate) fn missing_count(&self, over: Option<u32>, node: u32) -> u32
         requires node { node < length self.now.graph.nodes }
@@ -160,7 +158,7 @@ impl<'a> Drawing<'a> {
         self.over_count(over) - self.part_count(node)
     }
 
-    // The parts of a word that a line is to have below it.
+    // Returns the parts of a word that a line must have below it.
     #[tactic(auto, using(crate::proofs::Rules::masked_bits))]
     fn over_word(&self, over: Option<u32>, word: usize) -> u32
         requires over { IsNodeOf self.now over }
@@ -174,7 +172,7 @@ impl<'a> Drawing<'a> {
         }
     }
 
-    // The parts of a word that are below a node.
+    // Returns the parts of a word that are below a node.
     #[tactic(auto, using(crate::proofs::Rules::parts_below_node))]
     fn node_word(&self, node: u32, word: usize) -> u32
         requires node { node < length self.now.graph.nodes }
@@ -185,7 +183,7 @@ impl<'a> Drawing<'a> {
         self.below()[node as usize * self.width() + word]
     }
 
-    // The parts of a word that are missing below a node.
+    // Returns the parts of a word that are missing below a node.
     #[tactic(auto, using(crate::proofs::Rules::masked_bits))]
     pub(crate) fn missing_word(&self, over: Option<u32>, node: u32, word: usize) -> u32
         requires node { node < length self.now.graph.nodes }
@@ -197,7 +195,7 @@ impl<'a> Drawing<'a> {
         without(self.over_word(over, word), self.node_word(node, word))
     }
 
-    // The line that fills in the part of a bit.
+    // Returns the line that fills in the part of a bit.
     pub(crate) fn filler(&self, word: usize, b: u32) -> u32
         requires { part_at word b ≤ self.now.parts }
         ensures { result ≡ filler self.now.evidence (part_at word b) }
@@ -208,7 +206,6 @@ impl<'a> Drawing<'a> {
     }
 }
 
-// How many parts a set has.
 #[tactic(auto, using(crate::proofs::Rules::counted_parts))]
 fn count_parts(set: &[u32]) -> u32
     requires { length set.now < 2 ^ 27 }
@@ -221,7 +218,7 @@ fn count_parts(set: &[u32]) -> u32
     count
 }
 
-// The bits of a word that are parts'.
+// Returns the bits of a word that are parts'.
 #[tactic(auto, using(crate::proofs::Rules::masked_bits))]
 fn part_bits(parts: u32, word: usize) -> u32
     requires { word < part_words parts }
@@ -231,7 +228,6 @@ fn part_bits(parts: u32, word: usize) -> u32
     ((1_u64 << count) - 1) as u32
 }
 
-// The bits of a word that another does not have.
 #[tactic(auto, using(crate::proofs::Rules::masked_bits))]
 fn without(all: u32, others: u32) -> u32
     ensures { (b : ℕ) → b < 32 → has_bit result b ≡ (has_bit all b && not (has_bit others b)) }
@@ -239,7 +235,6 @@ fn without(all: u32, others: u32) -> u32
     all & !others
 }
 
-// The line of a part's literal.
 pub(crate) fn literal_line(part: u32, ok: bool) -> u32
     requires { (1 ≤ part) × (2 * part < 2 ^ 32) }
     ensures { result ≡ literal_line part ok }

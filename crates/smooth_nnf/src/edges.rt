@@ -1,4 +1,4 @@
-//! How many edges the lines have.
+//! The number of edges of the lines.
 ghost use Rattle.std.specs.Prelude.{◌≡◌, ◌≢◌, ◌+◌, ◌*◌, ◌^◌, ◌<◌, ◌≤◌, true, Some, length, sum_by, All};
 ghost use Rattle.state_rules.specs.Graphs.{node_at, IsGraph, edges};
 ghost use Rattle.smooth_nnf.specs.Layouts.{all_lines, last_line, lines_by, node_lines};
@@ -10,7 +10,7 @@ use crate::or_node::OrNode;
 use minimiser::NONE;
 use state_rules::NodeKind;
 
-// The number of children of all lines.
+// Returns the number of children of all lines.
 #[tactic(auto, using(crate::proofs::Rules::counted_edges))]
 pub(crate) fn edge_count(drawing: &Drawing<'_>) -> u64
     requires { edges (all_lines (shown drawing.now)) < 2 ^ 64 }
@@ -23,7 +23,7 @@ pub(crate) fn edge_count(drawing: &Drawing<'_>) -> u64
     total
 }
 
-// That of the last line.
+// The same for the last line.
 #[tactic(auto, using(crate::proofs::Rules::last_line))]
 fn last_edges(drawing: &Drawing<'_>) -> u64
     ensures { result ≡ length (last_line (shown drawing.now)).kids }
@@ -35,7 +35,7 @@ fn last_edges(drawing: &Drawing<'_>) -> u64
     u64::from(drawing.missing_count(None, root) + 1)
 }
 
-// That of the lines of a node.
+// The same for the lines of a node.
 fn node_edges(drawing: &Drawing<'_>, node: u32) -> u64
     requires { node < length drawing.now.graph.nodes }
     ensures { result ≡ edges (node_lines (shown drawing.now) (node, node_at drawing.now.graph.nodes node)) }
@@ -48,7 +48,7 @@ fn node_edges(drawing: &Drawing<'_>, node: u32) -> u64
     edges_by(drawing, node, graph.what(node), graph.kids(node), cost)
 }
 
-// That of the lines of a node that can be true.
+// The same for the lines of a node that can be true.
 #[tactic(auto, using(crate::proofs::Rules::edges_of_or))]
 fn edges_by(drawing: &Drawing<'_>, node: u32, what: NodeKind, kids: &[u32], cost: u32) -> u64
     requires node { node < length drawing.now.graph.nodes }
@@ -73,7 +73,7 @@ fn edges_by(drawing: &Drawing<'_>, node: u32, what: NodeKind, kids: &[u32], cost
 }
 
 impl OrNode<'_> {
-    // That of the lines of an or: each of its cheapest children has one, and is one of its own.
+    // The same for the lines of an Or node: each of its cheapest children has a line, which is a child of its own line.
     #[tactic(auto, using(crate::proofs::Rules::edges_of_or))]
     fn edges(&self) -> u64
         ensures { result ≡ sum_by (child_edges self.now.drawing.now self.now.node self.now.cost) self.now.kids.now }
@@ -86,7 +86,7 @@ impl OrNode<'_> {
         total
     }
 
-    // That of a child's line, and one more, if it has the cost.
+    // Returns the edges of a child's line and one more, if it has the cost, else 0.
     fn child_edges(&self, child: u32) -> u64
         requires child { child < length self.now.drawing.now.graph.nodes }
         requires under { IsUnder self.now.drawing.now (Some self.now.node) child }

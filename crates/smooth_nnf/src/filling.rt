@@ -1,4 +1,4 @@
-//! Lines that are filled in with parts.
+//! Lines with parts filled in.
 ghost use Rattle.std.specs.Prelude.{◌≡◌, ℕ, ◌<◌, ◌≤◌, true, length};
 ghost use Rattle.std.specs.List.{flat_map, range_with_len};
 ghost use Rattle.text_rules.specs.Tokens.{spaced};
@@ -16,7 +16,7 @@ use diag_edge::Sink;
 use nnf_text::{GraphText, add_node};
 use state_rules::NodeKind;
 
-// Adds the line of a node, with the parts that are missing filled in.
+// Adds the line of a node with the missing parts filled in.
 #[tactic(auto, using(crate::proofs::Rules::filled_lines))]
 pub(crate) fn add_filled<O: Sink>(
     text: &mut GraphText,
@@ -63,7 +63,7 @@ fn add_fillers<O: Sink>(
     }
 }
 
-// Adds those of one word.
+// The same for one word.
 #[tactic(auto, using(nnf_text::proofs::Extended::extending, crate::proofs::Rules::added_fillers))]
 fn add_word_fillers<O: Sink>(
     text: &mut GraphText,

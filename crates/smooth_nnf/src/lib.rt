@@ -1,4 +1,4 @@
-//! The graph of the diagnoses that a graph allows under evidence, as `.nnf` text: smooth, decomposable, and true for these alone.
+//! Writes the graph of the diagnoses that a graph allows under evidence as `.nnf` text: smooth, decomposable, and true for these alone.
 #![tactic(auto)]
 
 mod drawing;

@@ -49,7 +49,6 @@ fn add_pair<O: Sink>(text: &mut GraphText, out: &mut O, var: u32)
     add_node(text, out, faulty, &[]);
 }
 
-// Adds the lines of all nodes.
 #[tactic(auto, using(nnf_text::proofs::Extended::extending, crate::proofs::Rules::numbered_nodes))]
 pub(crate) fn add_nodes<O: Sink>(text: &mut GraphText, out: &mut O, drawing: &Drawing<'_>)
     ensures { Extends (O.shown out.old) (O.shown out.new) text.old text.new
@@ -74,7 +73,6 @@ pub(crate) fn add_last<O: Sink>(text: &mut GraphText, out: &mut O, drawing: &Dra
     add_filled(text, out, drawing, None, root);
 }
 
-// Adds the lines of a node.
 fn add_node_lines<O: Sink>(text: &mut GraphText, out: &mut O, drawing: &Drawing<'_>, node: u32)
     requires { node < length drawing.now.graph.nodes }
     ensures { Extends (O.shown out.old) (O.shown out.new) text.old text.new
@@ -122,7 +120,7 @@ fn add_lines_by<O: Sink>(
     }
 }
 
-// Adds the line of a literal: it stands for the part's line, or for what is true.
+// Adds the line of a literal: an And node over the part's line, or over nothing (always true) for another variable.
 fn add_literal<O: Sink>(text: &mut GraphText, out: &mut O, parts: u32, var: u32, positive: bool)
     requires var { 1 ≤ var }
     requires few { 2 * parts < 2 ^ 32 }
@@ -136,7 +134,6 @@ fn add_literal<O: Sink>(text: &mut GraphText, out: &mut O, parts: u32, var: u32,
     }
 }
 
-// Adds the line of an and.
 #[tactic(auto, using(nnf_text::proofs::Extended::extending))]
 fn add_and<O: Sink>(text: &mut GraphText, out: &mut O, drawing: &Drawing<'_>, kids: &[u32])
     requires { All (λ child. child < length drawing.now.graph.nodes) kids.now }
@@ -153,7 +150,7 @@ fn add_and<O: Sink>(text: &mut GraphText, out: &mut O, drawing: &Drawing<'_>, ki
 }
 
 impl OrNode<'_> {
-    // Adds the lines of an or: one for each of its cheapest children, and its own over these.
+    // Adds the lines of an Or node: one for each of its cheapest children, and its own over these.
     #[tactic(auto, using(crate::proofs::Rules::text_of_or))]
     fn add_lines<O: Sink>(&self, text: &mut GraphText, out: &mut O)
         requires { length (cheapest_children (map cost_in self.now.drawing.now.values) self.now.cost self.now.kids.now)

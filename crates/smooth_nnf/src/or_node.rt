@@ -1,4 +1,4 @@
-//! Ors that can be true.
+//! Or nodes that can be true.
 ghost use Rattle.std.specs.Prelude.{◌≡◌, ◌≢◌, ◌^◌, ◌<◌, length, All};
 ghost use Rattle.state_rules.specs.Graphs.{node_at};
 ghost use Rattle.state_rules.specs.declared.nodes.NodeKind.TheVariants.{Or};
@@ -6,7 +6,7 @@ ghost use Rattle.minimiser.specs.declared.pass.TheConstants.{NONE};
 
 use crate::drawing::Drawing;
 
-// An or of a drawing with its children and its least cost.
+// An Or node of a drawing, with its children and least cost.
 #[derive(Clone, Copy)]
 pub(crate) struct OrNode<'a> {
     pub(crate) drawing: &'a Drawing<'a>,

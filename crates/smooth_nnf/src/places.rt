@@ -8,7 +8,7 @@ use minimiser::NONE;
 use node_store::Graph;
 use state_rules::NodeKind;
 
-// The own line of each node, and how many lines there are up to the last of them.
+// Computes the own line of each node. Returns the number of lines up to the last of them.
 #[tactic(auto, using(crate::proofs::Rules::placed_lines))]
 pub(crate) fn place_lines(graph: &Graph, parts: u32, values: &[u32], lines: &mut [u32]) -> u32
     requires values { length values.now ≡ length graph.now.nodes }
@@ -26,7 +26,7 @@ pub(crate) fn place_lines(graph: &Graph, parts: u32, values: &[u32], lines: &mut
     line
 }
 
-// How many lines a node has before its own.
+// Returns the number of lines of a node before its own.
 fn lines_to(what: NodeKind, kids: &[u32], values: &[u32], cost: u32) -> u32
     requires kids { All (λ child. child < length values.now) kids.now }
     requires few { length kids.now < 2 ^ 32 }
@@ -41,7 +41,7 @@ fn lines_to(what: NodeKind, kids: &[u32], values: &[u32], cost: u32) -> u32
     }
 }
 
-// How many children have a cost.
+// Returns the number of children with this cost.
 #[tactic(auto, using(crate::proofs::Rules::cheapest_one))]
 pub(crate) fn cheapest_count(kids: &[u32], values: &[u32], cost: u32) -> u32
     requires kids { All (λ child. child < length values.now) kids.now }

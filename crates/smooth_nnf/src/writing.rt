@@ -27,7 +27,7 @@ use scratch_pool::Region;
 use std::marker::Brand;
 use std::sync::ledger::{Blank, Ledger};
 
-// A graph under evidence, and what its parts cost.
+// A graph under evidence, and the costs of its parts.
 #[derive(Clone, Copy)]
 struct Asked<'a> {
     graph: &'a Graph,
@@ -41,11 +41,11 @@ struct Asked<'a> {
     ghost few: { length graph.now.nodes + edges graph.now.nodes + 2 * length costs.now + 1 < 2 ^ 32 },
 }
 
-/// Writes the graph of the diagnoses that a graph allows under evidence, one word a variable: 0 if it is open, 1 if it is true,
-/// 2 if it is false. The parts are the first variables, and each has a cost.
+/// Writes the graph of the diagnoses that a graph allows under evidence, one word a variable: 0 if it is open, 1 if true, 2 if false. The
+/// parts are the first variables, and each has a cost.
 ///
-/// The text is smooth and decomposable, and has at most a line for each node of the graph and each of its edges, two for each part,
-/// and one more. The region lends 2 words for each node, and for each those of a set of parts. No memory is taken.
+/// The text is smooth and decomposable. It has at most a line for each node of the graph and each of its edges, two for each part, and one
+/// more. The region lends 2 words for each node, and a set of parts for each. No memory is taken. Fails if a write fails.
 #[tactic(auto, using(crate::proofs::Rules::written_text))]
 pub fn write_least<O: Sink>(
     graph: &Graph,
@@ -70,7 +70,7 @@ pub fn write_least<O: Sink>(
     ensures idle { region.new.runs ≡ [] }
     ensures free { length region.new.words ≡ length region.old.words }
 
-    // The text has no blank line, and is read as a smooth and decomposable graph over the parts that is true for the diagnoses alone.
+    // The text has no blank line. It is read as a smooth and decomposable graph over the parts that is true for the diagnoses alone.
     ensures neat { is_neat (least_text graph.now evidence.now costs.now) ≡ true }
     ensures diagnoses { IsSmoothGraphOfStates (length costs.now) (diagnoses_under graph.now evidence.now costs.now)
         (parsed (least_text graph.now evidence.now costs.now)) }
@@ -87,7 +87,7 @@ pub fn write_least<O: Sink>(
     written
 }
 
-/// What [`write_least`] writes, from sets of the parts below the nodes that are kept. The region lends 2 words for each node.
+/// Writes what [`write_least`] writes, from kept sets of the parts below the nodes. The region lends 2 words for each node.
 #[tactic(auto, using(crate::proofs::Rules::written_text))]
 pub fn write_least_with<O: Sink>(
     graph: &Graph,
@@ -113,7 +113,7 @@ pub fn write_least_with<O: Sink>(
     ensures idle { region.new.runs ≡ [] }
     ensures free { length region.new.words ≡ length region.old.words }
 
-    // The text has no blank line, and is read as a smooth and decomposable graph over the parts that is true for the diagnoses alone.
+    // The text has no blank line. It is read as a smooth and decomposable graph over the parts that is true for the diagnoses alone.
     ensures neat { is_neat (least_text graph.now evidence.now costs.now) ≡ true }
     ensures diagnoses { IsSmoothGraphOfStates (length costs.now) (diagnoses_under graph.now evidence.now costs.now)
         (parsed (least_text graph.now evidence.now costs.now)) }
@@ -136,7 +136,7 @@ pub fn write_least_with<O: Sink>(
     written
 }
 
-// Puts the sets, and writes it.
+// Computes the sets, and writes the text.
 fn write_fresh<O: Sink, L: Ledger>(
     blank: Blank,
     asked: &Asked<'_>,
@@ -160,7 +160,7 @@ fn write_fresh<O: Sink, L: Ledger>(
     write_in::<O, L>(blank, asked, below, None, scratch, out)
 }
 
-// Writes it, in scratch.
+// Writes the text, in scratch.
 #[tactic(auto, using(crate::proofs::Rules::layout_sizes))]
 fn write_in<O: Sink, L: Ledger>(
     blank: Blank,
@@ -210,7 +210,7 @@ fn write_in<O: Sink, L: Ledger>(
     put_lines(&drawing, count + 1, out)
 }
 
-// Puts all lines.
+// Writes all lines.
 #[tactic(auto, using(crate::proofs::Rules::joined_texts))]
 fn put_lines<O: Sink>(drawing: &Drawing<'_>, count: u32, out: &mut O) -> Result<(), WriteFailed>
     requires count { count ≡ length (all_lines (shown drawing.now)) }

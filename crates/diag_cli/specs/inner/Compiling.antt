@@ -1,4 +1,4 @@
--- The graphs that clauses are compiled to.
+-- The graphs of clauses.
 use Rattle.std.specs.Prelude.{◌≡◌, ◌≤◌, length, Result, Ok, Err}
 use Rattle.text_rules.specs.Expected.{IsExpectedFault}
 use Rattle.state_rules.specs.Graphs.{Graph, IsGraph}
@@ -10,14 +10,14 @@ use Rattle.device_files.specs.Output.{Output}
 use Rattle.device_files.specs.Refusals.{refusal_output}
 use Rattle.diag_cli.specs.inner.Serving.{IsServable}
 
--- It is true exactly if all clauses are, and their sum bounds its size.
+-- The graph is true exactly if all clauses are, and their sum bounds its size.
 pub record IsGraphBy (weighed : Weighed) (graph : Graph) : Type 0 where
   pub decomposable : IsGraph graph
   pub vars : graph.vars ≡ weighed.list.vars
   pub truth : SaysAll weighed.list.clauses graph
   pub few_nodes : length graph.nodes ≤ most_nodes weighed.sum weighed.list.vars
 
--- the graph of a device, if its clauses are found within a budget, or the refusal that is expected
+-- the graph of a device, if its clauses are within a budget, or the expected refusal
 abbrev pub FulfilsGraph : Device → Result Weighed Output → Result Graph Refusal → Type 0
 FulfilsGraph device expected (Ok graph) = IsServable device graph × ((weighed : Weighed) × (expected ≡ Ok weighed) × IsGraphBy weighed graph)
 FulfilsGraph device expected (Err refusal) = IsExpectedFault (refusal_output refusal) expected

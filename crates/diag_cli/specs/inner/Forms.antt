@@ -1,4 +1,4 @@
--- What the forms in the code mean.
+-- The meaning of the code's forms.
 use Rattle.std.specs.Prelude.{◌≤◌, IfSome}
 use Rattle.adder_load.specs.declared.adders.TheConstants.{PLACE_LIMIT}
 use Rattle.device_model.specs.declared.limits.TheConstants.{PART_LIMIT}
@@ -17,14 +17,14 @@ abbrev pub meant : FormRead → Form
 meant (LoadRead places) = Load places
 meant (OverRead path command) = Over path.now command
 
--- The numbers of options of `serve` are such as may be asked for.
+-- The numbers in options of `serve` are within their limits.
 pub record AreWithinLimits (options : ServeOptions) : Type 0 where
   pub budget : options.budget ≤ BUDGET_LIMIT
   pub some : 1 ≤ options.sessions
   pub few : options.sessions ≤ SESSION_LIMIT
   pub top : IfSome options.extras.levels (λ top. top ≤ TOP_LIMIT)
 
--- and those of a command
+-- so are those of a command
 abbrev pub IsCommandWithin : Command → Type 0
 IsCommandWithin (Serve options) = AreWithinLimits options
 IsCommandWithin (ServeFrames frames options) = (1 ≤ frames) × (frames ≤ FRAME_LIMIT) × AreWithinLimits options

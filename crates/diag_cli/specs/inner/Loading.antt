@@ -1,4 +1,4 @@
--- What is printed of an adder, by what was found of it.
+-- What is printed of an adder, from what was found of it.
 use Rattle.std.specs.Prelude.{◌≡◌, ℕ, List, [], ◌∷◌, length, Option, Some, None, Result, Ok, Err, codes, IfSome}
 use Rattle.text_rules.specs.Names.{Name}
 use Rattle.device_model.specs.Devices.{Device}
@@ -43,12 +43,12 @@ pub record IsInStep (summary : Summary) : Type 0 where
   pub first : length summary.first.items ≡ length summary.parts.items
   pub last : length summary.last.items ≡ length summary.parts.items
 
--- it has what is printed of a device with so many clauses, of which this was seen
+-- the summary has what is printed of a device with this many clauses and its readings
 abbrev pub IsSummaryOf : Device → ℕ → ℕ → Summary → Type 0
 IsSummaryOf device clauses places summary =
     summary_lines (device_system device) clauses (adder_case device places) ≡ summary_items summary
 
--- a summary gives an output, and so does a refusal, if it is not lack of memory
+-- a summary gives the output, and so does a refusal other than lack of memory
 abbrev pub Loads : Output → Result Summary Refusal → Type 0
 Loads output (Ok summary) = output ≡ summary_output summary
 Loads output (Err refusal) = IfSome (refusal_output refusal) (λ said. output ≡ said)

@@ -19,33 +19,33 @@ use Rattle.diag_cli.specs.Behaviours.{Behaviour, Prints, AnswersScript, answers_
 use Rattle.diag_cli.specs.Fulfilled.{FulfilsBehaviour}
 use Rattle.diag_cli.specs.Frames.{not_unrolled}
 
--- A graph is true exactly if the device fits, and such as a service takes.
+-- The graph is true exactly if the device fits, and a service can take it.
 pub record IsServable (device : Device) (graph : Graph) : Type 0 where
   pub valid : IsGraph graph
   pub meaning : IsGraphOf device graph
   pub few_vars : graph.vars ≤ SERVED_VARIABLES
   pub few_nodes : length graph.nodes < SERVED_NODES
 
--- What is printed besides takes few bits over a graph of so many parts.
+-- The extras take few bits over a graph of `parts` parts.
 pub record CanTell (extras : Extras) (graph : Graph) (parts : ℕ) : Type 0 where
   pub levels : IfSome extras.levels (CanList graph parts)
   pub least : extras.least ≡ true → CanDraw graph parts
 
--- No session is open, and lines are answered as over a system with at most so many sessions open.
+-- No session is open, and lines are answered as over the system with at most `sessions` sessions open.
 pub record Answers (system : System) (sessions : ℕ) (service : Shown) : Type 0 where
   pub none_open : service.table ≡ []
   pub same : answers_of (system_of service.subject) service.limit ≡ answers_of system sessions
 
--- A service answers what a behaviour serves, or the refusal of one is what the behaviour prints.
+-- The service answers as the behaviour does, or the behaviour prints its refusal.
 abbrev pub IsFor : Behaviour → Result Shown Refusal → Type 0
 IsFor behaviour (Ok service) = behaviour ≡ AnswersScript (answers_of (system_of service.subject) service.limit)
 IsFor behaviour (Err refusal) = IfSome (refusal_output refusal) (λ output. behaviour ≡ Prints output)
 
--- Memory ran out before the script was begun, or a behaviour was followed.
+-- Memory ran out before the script was begun, or the behaviour was followed.
 abbrev pub FulfilsBehaviourUnlessMemory : Behaviour → Reading → Reading → Writing → Writing → Status → Type 0
 FulfilsBehaviourUnlessMemory behaviour input new_input out new_out status = FulfilsBehaviour (Prints no_memory) input new_input out new_out status ⊎ FulfilsBehaviour behaviour input new_input out new_out status
 
--- the output if a netlist is not unrolled; lack of memory is no refusal of it
+-- the output if a netlist is not unrolled, or none if memory ran out
 abbrev pub frames_refusal : UnrollError → Option Output
 frames_refusal NoMemory = None
 frames_refusal error = Some (not_unrolled error)

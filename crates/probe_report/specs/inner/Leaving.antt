@@ -6,12 +6,12 @@ use Rattle.state_rules.specs.Bits.{has_bit}
 use Rattle.minimiser.specs.inner.Swept.{is_child}
 use Rattle.probe_report.specs.inner.Outside.{IsLowered, mark_at}
 
--- the marks of the nodes before one say which of the variables from the first on they mention
+-- the marks of the nodes before `at` say which of the 64 variables from `first` on they mention
 abbrev pub IsMarked : List Node → ℕ → ℕ → List ℕ → Type 0
 IsMarked nodes first at marks =
     (node b : ℕ) → node < at → b < 64 → has_bit (mark_at marks node) b ≡ mentions nodes (first + b) node
 
--- by the marks of an or and of its child
+-- at a child of an Or node, by the marks of both
 pub record LeftChild (values marks kids : List ℕ) (mark outside start place cost : ℕ) : Type 0 where
   pub child : ℕ
   pub is_child_of : is_child kids child ≡ true
@@ -20,13 +20,13 @@ pub record LeftChild (values marks kids : List ℕ) (mark outside start place co
   pub value : slice_index values child < 2147483647
   pub is : cost ≡ outside + slice_index values child
 
--- at a node
+-- at an Or node
 pub record LeftNode (nodes : List Node) (values outside marks : List ℕ) (node start place cost : ℕ) : Type 0 where
   pub or_ : (node_at nodes node).what ≡ Or
   pub small : slice_index outside node < 2147483647
   pub left : LeftChild values marks (node_at nodes node).kids (mark_at marks node) (slice_index outside node) start place cost
 
--- the numbers of 64 wires from a start on are lowered, and the others stay
+-- the numbers of the 64 wires from `start` on are lowered, and the others stay
 pub record LowersBlock (start : ℕ) (Cost : ℕ → ℕ → Type 0) (old new : List ℕ) : Type 0 where
   pub inside : (i : ℕ) → start ≤ i → i < start + 64 → i < length old → IsLowered (Cost i) (slice_index old i) (slice_index new i)
   pub others : (i : ℕ) → i < length old → (i < start) ⊎ (start + 64 ≤ i) → slice_index new i ≡ slice_index old i

@@ -5,7 +5,7 @@ use Rattle.state_rules.specs.Graphs.{Node, node_at, mentions}
 use Rattle.state_rules.specs.Bits.{has_bit}
 use Rattle.minimiser.specs.inner.Swept.{is_child}
 
--- a number is lowered to the least of some costs, if one of them is less
+-- `new` is the least of `old` and some costs
 pub record IsLowered (Cost : ℕ → Type 0) (old new : ℕ) : Type 0 where
   pub below : new ≤ old
   pub low : (c : ℕ) → Cost c → new ≤ c
@@ -19,7 +19,7 @@ pub record AtLiteral (nodes : List Node) (outside : List ℕ) (var : ℕ) (bit :
   pub literal : (node_at nodes node).what ≡ Literal bit var
   pub is : cost ≡ slice_index outside node
 
--- at a child that does not mention the variable, of an or that does
+-- at a child that does not mention the variable, of an Or node that does
 pub record AtChild (nodes : List Node) (values outside : List ℕ) (var node cost : ℕ) : Type 0 where
   pub within : node < length nodes
   pub or_ : (node_at nodes node).what ≡ Or
@@ -36,21 +36,21 @@ pub record AtRoot (nodes : List Node) (values : List ℕ) (var cost : ℕ) : Typ
   pub lacks : mentions nodes var (length nodes - 1) ≡ false
   pub is : cost ≡ slice_index values (length nodes - 1)
 
--- what a derivation costs that has no literal of the variable
+-- the cost of a derivation without a literal of the variable
 abbrev pub Without : List Node → List ℕ → List ℕ → ℕ → ℕ → Type 0
 Without nodes values outside var cost = ((node : ℕ) × AtChild nodes values outside var node cost) ⊎ AtRoot nodes values var cost
 
--- and one that has the literal that says a bit
+-- the cost of a derivation with the literal that gives it the bit
 abbrev pub With : List Node → List ℕ → ℕ → Bool → ℕ → Type 0
 With nodes outside var bit cost = (node : ℕ) × AtLiteral nodes outside var bit node cost
 
 -- ---- marks of 64 variables
 
--- the mark of a node is in two words
+-- the mark of a node, in two words
 abbrev pub mark_at : List ℕ → ℕ → ℕ
 mark_at marks node = slice_index marks (2 * node) + 4294967296 * slice_index marks (2 * node + 1)
 
--- Whether a variable is left that has a place: it is one of the 64 from a start on, the mark has its bit, and the child's has not.
+-- Whether the variable at `place` is left: it is one of the 64 from `start` on, the mark has its bit, and the child's mark has not.
 abbrev pub is_left : ℕ → ℕ → ℕ → ℕ → Bool
 is_left start mark child place =
     (nat_le start place && nat_lt place (start + 64)) && (has_bit mark (place - start) && not (has_bit child (place - start)))

@@ -4,7 +4,7 @@ use Rattle.text_rules.specs.Tokens.{spaced}
 use Rattle.state_rules.specs.Graphs.{literal_node}
 use Rattle.nnf_text.specs.WrittenGraphs.{node_words}
 
--- the line of a part of which something or nothing is known
+-- the line of a part, or nothing if nothing is known of it
 abbrev pub held_line : ℕ × Option Bool → List ℕ
 held_line (part, None) = []
 held_line (part, Some ok) = spaced (node_words (literal_node part ok))

@@ -3,7 +3,7 @@ use Rattle.std.specs.Prelude.{ℕ, List, [], ◌∷◌, Option, Some, None, Resu
 use Rattle.script_lang.specs.declared.refusal.LineRefusal.{LineRefusal}
 use Rattle.script_lang.specs.Script as script
 
--- what is asked by what was found, or the refusal
+-- the line of what was found, or the refusal
 abbrev pub asked_by : {Found : Type 0} → (Found → script.Line) → Result Found LineRefusal → script.Line
 asked_by ask (Ok found) = ask found
 asked_by ask (Err refusal) = script.Refused refusal

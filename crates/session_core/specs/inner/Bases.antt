@@ -1,4 +1,4 @@
--- What a service asks over, how much room its answers take, and the evidence of a case.
+-- The subject of a service, the room that its answers take, and the evidence of a case.
 use Rattle.std.specs.Prelude.{◌≡◌, ℕ, ◌+◌, ◌*◌, ◌<◌, ◌≤◌, Bool, Option, None, IfSome, is_some, List, length, All, true}
 use Rattle.std.specs.Option.{option_map}
 use Rattle.text_rules.specs.Names.{Name, names_rise}
@@ -16,7 +16,7 @@ use Rattle.session_rules.specs.CaseEvidence.{case_of_evidence, IsEvidence}
 use Rattle.session_core.specs.declared.limits.TheConstants.{SERVED_VARIABLES, SERVED_NODES}
 use Rattle.session_core.specs.Services.{CanList, CanDraw}
 
--- each part has a name and a cost, all together are few, and the graph has variables for parts and wires
+-- each part has a name and a cost, all are few, and the graph has variables for parts and wires
 pub record IsBasis (subject : Subject) : Type 0 where
   pub costs : length subject.costs ≡ length subject.parts
   pub dear : All (λ c. 0 < c) subject.costs
@@ -32,7 +32,7 @@ pub record IsBasis (subject : Subject) : Type 0 where
   pub levels : IfSome subject.extras.levels (CanList subject.graph (length subject.parts))
   pub least : subject.extras.least ≡ true → CanDraw subject.graph (length subject.parts)
 
--- what is shown of names, costs and a graph, and of what lists states by rising cost, if they are known
+-- the subject of these names, costs and graph, with a lister of states by rising cost, if there is one
 abbrev pub basis_of : List Name → List Name → List ℕ → Graph → Option Kept → Bool → Subject
 basis_of parts wires costs graph levels least = record {
   parts = parts;
@@ -47,26 +47,26 @@ abbrev pub names_of : Subject → Noted → List Name
 names_of subject Wire = subject.wires
 names_of subject Part = subject.parts
 
--- what lists states by rising cost was made for the graph
+-- the lister of states by rising cost, if there is one, was made for the graph
 abbrev pub ListsLevels : Subject → Option Kept → Type 0
 ListsLevels subject levels = IfSome levels (λ kept. IsFor subject.graph kept × (kept.costs ≡ subject.costs))
 
--- the sets of parts that the graph of the diagnoses is drawn with: they are kept with what lists states, or else alone
+-- the sets of parts for drawing the graph of the diagnoses: kept with the lister of states, or else alone
 abbrev pub HasSets : Subject → Option Kept → Option Sets → Type 0
 HasSets subject levels sets =
     (levels ≡ None → subject.extras.least ≡ true → is_some sets ≡ true) × IfSome sets (AreFor subject.graph (length subject.costs))
 
--- how many words a step by rising cost works with
+-- the number of words in which a step by rising cost works
 abbrev pub level_room : Subject → ℕ → ℕ
 level_room subject top = length subject.costs + length subject.graph.nodes + (length subject.graph.nodes + 2) * (2 * cost_words top)
 
--- So many words are enough for each answer that takes some: for the probes of all wires, and for a step by rising cost. The graph of the
--- diagnoses is drawn with fewer than the probes.
+-- `words` words are enough for each answer that takes some: the probes of all wires, and a step by rising cost. The graph of the diagnoses
+-- is drawn with fewer than the probes.
 pub record AreEnough (subject : Subject) (words : ℕ) : Type 0 where
   pub probes : 4 * length subject.graph.nodes ≤ words
   pub level : IfSome subject.extras.levels (λ top. level_room subject top ≤ words)
 
--- evidence of a case on each variable of the graph
+-- the evidence is that of a case on each variable of the graph
 abbrev pub AreKnown : Subject → List ℕ → Type 0
 AreKnown subject evidence = IsEvidence (length subject.parts) (length subject.wires) subject.graph.vars evidence
 

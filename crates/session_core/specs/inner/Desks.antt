@@ -1,4 +1,4 @@
--- What answers are worked out with.
+-- What answers are computed with.
 use Rattle.std.specs.Prelude.{◌≡◌, ℕ, ◌*◌, ◌<◌, Bool, true, false, not, List, [], ◌∷◌, map, length, All, Option, Some, None, is_some}
 use Rattle.text_rules.specs.Names.{Name, is_among}
 use Rattle.state_rules.specs.Bits.{bit_in}
@@ -23,8 +23,8 @@ use Rattle.session_core.specs.declared.listed.NextState.{NextState}
 use Rattle.session_core.specs.declared.listed.NextState.TheVariants.{Found, End, Inconsistent}
 use Rattle.session_core.specs.inner.Bases.{AreEnough, AreKnown, case_in}
 
--- what is asked over, the evidence of the case that is asked, and what was found last: a state, a verdict for each part, and two
--- numbers for each wire
+-- the subject, the evidence of the case in question, and what was found last: a state, a verdict for each part, and two numbers for each
+-- wire
 pub record OnDesk : Type 0 where
   pub subject : Subject
   pub known : List ℕ
@@ -32,8 +32,8 @@ pub record OnDesk : Type 0 where
   pub verdicts : List Blame
   pub numbers : List ℕ
 
--- All of it fits together, with a value for each node, with room of which none is in use, and with a smaller graph that has the
--- diagnoses under some evidence.
+-- All of it fits together, with a value for each node, room of which nothing is in use, and a smaller graph that has the diagnoses under
+-- some evidence.
 pub record FitsTogether (desk : OnDesk) (values : List ℕ) (room : Carved) (kept : Kept) : Type 0 where
   pub known : AreKnown desk.subject desk.known
   pub one_a_part : length desk.state ≡ length desk.subject.parts
@@ -45,7 +45,7 @@ pub record FitsTogether (desk : OnDesk) (values : List ℕ) (room : Carved) (kep
   pub unused : room.runs ≡ []
   pub serves : Serves desk.subject.graph desk.subject.costs kept
 
--- the case that is asked, the states that agree with it, their least cost, and those that have it
+-- the case in question, the states that agree with it, their least cost, and the states of this cost
 abbrev pub asked_case : OnDesk → Case
 asked_case desk = case_in desk.subject desk.known
 
@@ -58,11 +58,11 @@ least_asked desk = least_cost (served_system desk.subject) (asked_case desk)
 abbrev pub diagnoses_asked : OnDesk → List (List Bool)
 diagnoses_asked desk = all_diagnoses (served_system desk.subject) (asked_case desk)
 
--- the state whose faulty parts are those named
+-- the state whose faulty parts are the named ones
 abbrev pub state_of : List Name → List Name → List Bool
 state_of named parts = map (λ part. not (is_among named part)) parts
 
--- up to which cost states are listed
+-- the greatest cost of listed states
 abbrev pub top_of : Option ℕ → ℕ
 top_of None = 0
 top_of (Some top) = top
@@ -72,7 +72,7 @@ abbrev pub is_listed : Subject → Listed → Bool
 is_listed subject Diagnoses = true
 is_listed subject Levels = is_some subject.extras.levels
 
--- the states of which a listing is, and those of it that come after a point
+-- the states of a listing, and those of it after a point
 abbrev pub listed_states : Subject → Listed → Case → List (List Bool)
 listed_states subject Diagnoses known = all_diagnoses (served_system subject) known
 listed_states subject Levels known = (served_system subject).consistent known
@@ -87,7 +87,7 @@ abbrev pub shown_cost : Subject → Listed → List Bool → Option ℕ
 shown_cost subject Diagnoses state = None
 shown_cost subject Levels state = Some (cost subject.costs state)
 
--- what comes next, by the states of a listing and those that come later
+-- what comes next, by the states of a listing and the later ones
 abbrev pub next_of : Subject → Listed → List (List Bool) → List (List Bool) → NextState
 next_of subject listed [] later = Inconsistent
 next_of subject listed (state ∷ states) [] = End
@@ -102,7 +102,7 @@ abbrev pub IsFirst : List Bool → List (List Bool) → Type 0
 IsFirst state [] = Unit {0}
 IsFirst state (first ∷ later) = state ≡ first
 
--- what comes next, by what the listers answer
+-- what comes next, from the answer of a lister
 abbrev pub of_step : Step → NextState
 of_step step.Found = Found None
 of_step step.End = End
@@ -118,11 +118,11 @@ is_found (Found cost) = true
 is_found End = false
 is_found Inconsistent = false
 
--- the least cost if a wire is seen so too, if that is not against what was seen
+-- the least cost if a wire is seen with this bit too, unless it is seen with the other
 abbrev pub least_seen : OnDesk → ℕ → Bool → Option ℕ
 least_seen desk wire bit =
     let known = asked_case desk in least_at (served_system desk.subject) known wire bit (seen_at known wire)
 
--- in all diagnoses, in some, or in none a part is faulty
+-- whether a part is faulty in all diagnoses, in some, or in none
 abbrev pub blame_asked : OnDesk → ℕ → Blame
 blame_asked desk part = verdict (map (λ state. not (bit_in state part)) (diagnoses_asked desk))

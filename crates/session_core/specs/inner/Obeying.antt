@@ -1,4 +1,4 @@
--- What a request does with the sessions.
+-- The effect of a request on the sessions.
 use Rattle.std.specs.Prelude.{◌≡◌, ℕ, ◌<◌, Bool, List, [], ◌∷◌, length, map, Option, Some, Result, IfOk, codes, if◌then◌else◌}
 use Rattle.std.specs.Fmt.{decimal}
 use Rattle.text_rules.specs.Names.{Name}
@@ -23,7 +23,7 @@ use Rattle.session_core.specs.declared.listed.Listed.TheVariants.{Diagnoses, Lev
 use Rattle.session_core.specs.declared.listed.NextState.{NextState}
 use Rattle.session_core.specs.declared.sessions.OpenSession.{OpenSession}
 
--- The moves of a request were made or broke off, and nothing but the table changed.
+-- The moves of a request were made or broke off, and only the table changed.
 pub record Obeys {T E : Type 0} (old new : Shown) (session : Name) (request : Request) (before after : Option (List ℕ)) (result : Result T E) : Type 0 where
   pub carried : CarriesOut old.table new.table (exact_moves old old.table (Ask session request)) before after result
   pub stays : ChangesTable old new
@@ -34,12 +34,12 @@ pub record IsOpen (table : Table) (session : OpenSession) : Type 0 where
   pub entry : Entry
   pub stands : StandsAt table session.place session.name.now entry
 
--- why nothing is noted of a wire, or a part, that there is not
+-- the refusal to note something of a wire, or a part, that does not exist
 abbrev pub no_such : Noted → Refusal
 no_such Wire = NoWire
 no_such Part = NoPart
 
--- the request for so many of a listing
+-- the request for `count` states of a listing
 abbrev pub list_request : Listed → ℕ → Request
 list_request Diagnoses count = Several count
 list_request Levels count = LevelsOf count
@@ -59,7 +59,7 @@ abbrev pub goes_on : Table → Name → Entry → Found → Step
 goes_on table session entry f =
     record { table = with_entry session (record entry { point = f.point }) table; items = f.item ∷ [] }
 
--- the moves of a listing of so many
+-- the moves of a listing of `count`
 abbrev pub found_moves : Shown → Listed → Name → Entry → ℕ → List Step
 found_moves shown listed session entry count =
     map (goes_on shown.table session entry) (listing (found_by shown.subject listed session entry) count entry.point)
@@ -71,7 +71,7 @@ the_found subject listed session entry = found_by subject listed session entry e
 abbrev pub found_entry : Subject → Listed → Name → Entry → Entry
 found_entry subject listed session entry = record entry { point = (the_found subject listed session entry).point }
 
--- what is found, by what comes next and its state
+-- the point after what comes next and its state
 abbrev pub point_at : Option (List Bool) → NextState → List Bool → Option (List Bool)
 point_at point next state = if is_found next then Some state else point
 
@@ -82,7 +82,7 @@ found_as session parts point next state = record {
   more = is_found next;
 }
 
--- What comes next was found, and the point of a session moved there.
+-- What comes next was found, and the session's point moved there.
 pub record PointMoves (subject : Subject) (listed : Listed) (old new : Table) (place : ℕ) (session : Name) (entry : Entry) (next : NextState) (state : List Bool) : Type 0 where
   pub answer : the_found subject listed session entry ≡ found_as session subject.parts entry.point next state
   pub moved : new ≡ with_entry session (record entry { point = point_at entry.point next state }) old

@@ -1,4 +1,4 @@
--- What is answered of a case that stays as it is.
+-- The answers about a case, which stays as it is.
 use Rattle.std.specs.Prelude.{◌≡◌, ℕ, ◌<◌, Bool, Option, List, [], ◌∷◌, ◌++◌, map, length, codes, is_some, true, false}
 use Rattle.text_rules.specs.Names.{Name}
 use Rattle.state_rules.specs.Cases.{Case}
@@ -11,7 +11,7 @@ use Rattle.session_rules.specs.Spelling.{Writes}
 use Rattle.session_core.specs.inner.Texts.{blame_text}
 use Rattle.session_core.specs.inner.Desks.{OnDesk, least_seen}
 
--- what is answered of all wires
+-- the answer about all wires
 abbrev pub probes_told : System → Name → Case → List (List (List ℕ))
 probes_told system session known =
     if_any session (system.consistent known) (probe_lines system session known 0 system.wires ++ end_line session ∷ [])
@@ -28,7 +28,7 @@ verdict_lines session (name ∷ names) [] = []
 verdict_lines session (name ∷ names) (verdict ∷ verdicts) =
     (session ∷ codes "blame" ∷ name ∷ blame_text verdict ∷ []) ∷ verdict_lines session names verdicts
 
--- Of these lines some were written, and those that are left.
+-- Some of these lines were written, and `left` are left.
 pub record Said (before now : Option (List ℕ)) (left all : List (List (List ℕ))) : Type 0 where
   pub done : List (List (List ℕ))
   pub written : Writes before now (map line done)

@@ -9,7 +9,7 @@ use Rattle.session_rules.specs.Replies.{faulty_names}
 use Rattle.session_core.specs.declared.listed.NextState.{NextState}
 use Rattle.session_core.specs.declared.listed.NextState.TheVariants as Next
 
--- names with a space before each
+-- names, each after a space
 abbrev pub spaced_before : List Name → List ℕ
 spaced_before names = flat_map (λ name. 32 ∷ name) names
 
@@ -25,7 +25,7 @@ abbrev pub min_text : Name → List Name → Option ℕ → List Bool → List N
 min_text session parts None state = session ∷ codes "inconsistent" ∷ []
 min_text session parts (Some fewest) state = session ∷ codes "min" ∷ decimal fewest ∷ faulty_names parts state
 
--- the words of what comes next of a listing
+-- the words for what comes next of a listing
 abbrev pub next_text : Name → List Name → NextState → List Bool → List Name
 next_text session parts Next.Inconsistent state = session ∷ codes "inconsistent" ∷ []
 next_text session parts Next.End state = session ∷ codes "end" ∷ []

@@ -15,7 +15,7 @@ use Rattle.session_table.specs.declared.in_order.Open.{Open}
 abbrev pub entry_at : Layout → Blocks → Open → Name × Entry
 entry_at layout pool session = (session.name, entry_in layout (block_words pool session.block))
 
--- the table of the open sessions, in the order in which they stand
+-- the table of the open sessions, in their order
 abbrev pub table_of : Layout → Blocks → List Open → Table
 table_of layout pool sessions = map (entry_at layout pool) sessions
 
@@ -26,12 +26,12 @@ blocks_by_name sessions = map (λ session. (session.name, session.block)) sessio
 abbrev pub NamesRise : List Open → Type 0
 NamesRise sessions = IsTrue (is_sorted (slice_cmp nat_cmp) (blocks_by_name sessions))
 
--- none of them has the block
+-- none of the sessions has the block
 abbrev pub HasNone : ℕ → List Open → Type 0
 HasNone block [] = Unit {0}
 HasNone block (session ∷ sessions) = (session.block ≢ block) × HasNone block sessions
 
--- each has a block of its own, which is out and laid out
+-- each session has a block of its own, which is out and laid out
 abbrev pub HaveBlocks : Layout → Blocks → List Open → Type 0
 HaveBlocks layout pool [] = Unit {0}
 HaveBlocks layout pool (session ∷ sessions) =
@@ -40,7 +40,7 @@ HaveBlocks layout pool (session ∷ sessions) =
     × HasNone session.block sessions
     × HaveBlocks layout pool sessions
 
--- what holds of sessions, of which at most so many may be open, and for which there is so much room
+-- what holds of the sessions, if at most `limit` may be open and there is room for `capacity`
 pub record AreKept (layout : Layout) (limit : ℕ) (pool : Blocks) (sessions : List Open) (capacity : ℕ) : Type 0 where
   pub rise : NamesRise sessions
   pub blocks : HaveBlocks layout pool sessions
@@ -49,11 +49,11 @@ pub record AreKept (layout : Layout) (limit : ℕ) (pool : Blocks) (sessions : L
   pub vars : layout.parts + layout.wires ≤ layout.vars
   pub room : limit ≤ capacity
 
--- the session of a name is at a place
+-- the session of this name is at the place
 abbrev pub HasName : List Open → ℕ → Name → Type 0
 HasName sessions place name = (session : Open) × (slice_get sessions place ≡ Some session) × (session.name ≡ name)
 
--- a name belongs at a place: those before it are below, and those from it on are above
+-- a name belongs at a place: names before it are below, and those from it on are above
 pub record IsGapFor (sessions : List Open) (place : ℕ) (name : Name) : Type 0 where
   pub within : place ≤ length sessions
   pub before : AllWithin (λ s. slice_cmp nat_cmp s.name name ≡ Less) sessions 0 place

@@ -1,4 +1,4 @@
--- What a text is drawn from, as it is kept.
+-- What a text is drawn from, as stored.
 use Rattle.std.specs.Prelude.{◌≡◌, ℕ, ◌*◌, ◌+◌, ◌-◌, ◌^◌, ◌<◌, ◌≤◌, Bool, true, not, ◌&&◌, List, [], ◌∷◌, ◌++◌, map, length, slice_index, Option, Some, None, IfSome, All}
 use Rattle.std.specs.List.{filter, range_with_len}
 use Rattle.state_rules.specs.declared.nodes.NodeKind.TheVariants.{Or}
@@ -10,7 +10,7 @@ use Rattle.part_sets.specs.Numbers.{part_words}
 use Rattle.part_sets.specs.PartSets.{ArePartsBelow, AreLacking}
 use Rattle.smooth_nnf.specs.Layouts.{Layout, and_over, fillers, lines_to, own_lines}
 
--- a layout, with its costs as numbers, the sets of the parts below each node, and, if it is known, whether a child lacks one
+-- a layout with its costs as numbers, the sets of the parts below each node, and, if known, whether a child lacks one
 pub record Drawing : Type 0 where
   pub graph : Graph
   pub evidence : List ℕ
@@ -44,39 +44,39 @@ pub record IsDrawing (drawing : Drawing) : Type 0 where
   pub lacks : IfSome drawing.lacking (AreLacking drawing.graph drawing.parts)
   pub valid : IsGraph drawing.graph
 
--- how many lines there are up to the last one of these nodes, if the first one has this number and its lines begin at this line
+-- the number of lines up to the last of these nodes, if `number` is that of the first one and its lines begin at `line`
 abbrev pub lines_after : List (Option ℕ) → ℕ → ℕ → List Node → ℕ
 lines_after least line number [] = line
 lines_after least line number (node ∷ nodes) =
     lines_after least (line + lines_to least node (cost_at least number) + 1) (number + 1) nodes
 
--- the parts that a line is to have below it: those of a node, or all
+-- the parts that a line must have below it: those of a node, or all
 abbrev pub is_over : List Node → Option ℕ → ℕ → Bool
 is_over nodes None part = true
 is_over nodes (Some node) part = mentions nodes part node
 
--- of these, those that are not below a node
+-- those of them that are not below `node`
 abbrev pub missing_in : Drawing → Option ℕ → ℕ → ℕ → Bool
 missing_in drawing over node part = is_over drawing.graph.nodes over part && not (mentions drawing.graph.nodes part node)
 
--- the line of a node, with the parts that are missing filled in
+-- the line of a node with the missing parts filled in
 abbrev pub filled_line : Drawing → Option ℕ → ℕ → Node
 filled_line drawing over node =
     and_over (slice_index drawing.lines node ∷ fillers drawing.evidence drawing.parts (missing_in drawing over node))
 
--- such a node is one of the graph's
+-- `over` is a node of the graph, if it is one
 abbrev pub IsNodeOf : Drawing → Option ℕ → Type 0
 IsNodeOf drawing None = Unit {0}
 IsNodeOf drawing (Some node) = node < length drawing.graph.nodes
 
--- a child of an or
+-- a child of an Or node
 pub record IsChildOf (nodes : List Node) (node child : ℕ) : Type 0 where
   pub what : (node_at nodes node).what ≡ Or
   pub place : ℕ
   pub within : place < length (node_at nodes node).kids
   pub child_is : slice_index (node_at nodes node).kids place ≡ child
 
--- a line is filled in up to the parts of an or for a child of it, and up to all parts for the last node
+-- a line is filled in up to the parts of an Or node for its child, and up to all parts for the last node
 abbrev pub IsUnder : Drawing → Option ℕ → ℕ → Type 0
 IsUnder drawing None child = child ≡ length drawing.graph.nodes - 1
 IsUnder drawing (Some node) child = (node < length drawing.graph.nodes) × IsChildOf drawing.graph.nodes node child
@@ -85,11 +85,11 @@ IsUnder drawing (Some node) child = (node < length drawing.graph.nodes) × IsChi
 abbrev pub word_parts : ℕ → ℕ → List ℕ
 word_parts word bits = filter (λ part. has_bit bits (part - (32 * word + 1))) (range_with_len (32 * word + 1) 32)
 
--- how many parts a node has below it
+-- the number of parts below a node
 abbrev pub part_count : Drawing → ℕ → ℕ
 part_count drawing node = length (filter (λ part. mentions drawing.graph.nodes part node) (range_with_len 1 drawing.parts))
 
--- and of some words, of which the first has this number
+-- the same for words, if the first one has number `word`
 abbrev pub set_parts : ℕ → List ℕ → List ℕ
 set_parts word [] = []
 set_parts word (bits ∷ words) = word_parts word bits ++ set_parts (word + 1) words

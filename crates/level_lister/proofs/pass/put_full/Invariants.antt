@@ -9,7 +9,7 @@ use Rattle.level_lister.specs.inner.NodeSets.{AreNodeSets}
 use Rattle.level_lister.specs.inner.FaultSets.{in_first, IsFaultSet, AreNodeFaults}
 use Rattle.level_lister.proofs.pass.put_full.Given as goal
 
--- the set is that of an Or of the children before the place, over the variables below all of them
+-- the set is that of an Or node over the children before the place, over the variables below all of them
 abbrev pub invariant-loop-child : goal.invariant-loop-child
 invariant-loop-child l = record {
   all : (skips evidence costs : List ℕ) → get_or skips l.at 0 ≡ 0 → SameBelow l.graph (length costs) l.at → AreNodeSets l.graph skips evidence costs (length l.set) l.sets l.at

@@ -4,7 +4,7 @@ use Rattle.conditioner.specs.Models.{total_cost}
 use Rattle.conditioner.specs.Evidence.{bits_of}
 use Rattle.level_lister.proofs.states.state_cost.Given as goal
 
--- the cost so far and that of the parts that are left; and they fit
+-- the cost so far and that of the other parts, which fit
 abbrev pub invariant-loop-part : goal.invariant-loop-part
 invariant-loop-part l = record {
   cost : l.total + cost (drop l.part l.costs) (bits_of (drop l.part l.state)) ≡ cost l.costs (bits_of l.state);

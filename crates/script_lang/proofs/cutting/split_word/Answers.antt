@@ -8,7 +8,7 @@ use Rattle.script_lang.proofs.cutting.split_word.Goals as goal
 pub returns-in_err-start : goal.returns-in_err-start
 returns-in_err-start c = rw c.from_residual.ensures (tokens-all_blank false c.args.text.now (search rules))
 
--- The blanks drop away, and the word ends before the next blank.
+-- Blanks are dropped, and the word ends before the next blank.
 pub returns : goal.returns
 returns c =
     let text = c.args.text.now in

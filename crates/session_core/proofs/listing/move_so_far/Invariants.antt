@@ -6,7 +6,7 @@ use Rattle.session_core.specs.inner.Holding.{HoldsTogether, shown_of}
 use Rattle.session_core.proofs.SessionMoves.{Lists}
 use Rattle.session_core.proofs.listing.move_so_far.Given as goal
 
--- as many of the listing as were counted were shown, and the others are left
+-- the counted states of the listing were shown, and the others are left
 abbrev pub invariant-loop : goal.invariant-loop
 invariant-loop g l = record {
   lists : (entry : Entry) → StandsAt l.fn.opened.table l.fn.session.place l.fn.session.name.now entry

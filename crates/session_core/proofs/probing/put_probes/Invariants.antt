@@ -5,7 +5,7 @@ use Rattle.session_core.specs.inner.Desks.{asked_case}
 use Rattle.session_core.specs.inner.Telling.{Said}
 use Rattle.session_core.proofs.probing.put_probes.Given as goal
 
--- the lines up to a wire were written, and those from there on are left
+-- the lines up to a wire were written, and the others are left
 abbrev pub invariant-loop-wire : goal.invariant-loop-wire
 invariant-loop-wire g l =
     let system = served_system l.desk.subject in

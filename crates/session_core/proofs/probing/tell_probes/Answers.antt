@@ -10,7 +10,7 @@ use Rattle.session_core.proofs.Told.{lines_then}
 use Rattle.session_core.proofs.Questions.{if_any-none}
 use Rattle.session_core.proofs.probing.tell_probes.Goals as goal
 
--- the lines of the wires, on a desk
+-- the lines of the wires on a desk
 abbrev lines_on : OnDesk → Name → List (List (List ℕ))
 lines_on desk s = let system = served_system desk.subject in probe_lines system s (asked_case desk) 0 system.wires
 

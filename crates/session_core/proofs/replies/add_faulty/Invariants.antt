@@ -5,7 +5,7 @@ use Rattle.session_rules.specs.Replies.{faulty_names}
 use Rattle.session_core.specs.inner.Texts.{spaced_before}
 use Rattle.session_core.proofs.replies.add_faulty.Given as goal
 
--- the names that were added, and those that are left, are all
+-- the names added and those left are all
 abbrev pub invariant-loop-i : goal.invariant-loop-i
 invariant-loop-i g l =
     let O = g.O.Sink in

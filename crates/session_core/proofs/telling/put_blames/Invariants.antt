@@ -2,7 +2,7 @@ use Rattle.std.proofs.Common.{◌≡◌, drop}
 use Rattle.session_core.specs.inner.Telling.{Said, verdict_lines}
 use Rattle.session_core.proofs.telling.put_blames.Given as goal
 
--- the lines up to a part were written, and those from there on are left
+-- the lines up to a part were written, and the others are left
 abbrev pub invariant-loop-part : goal.invariant-loop-part
 invariant-loop-part g l = record {
   said : Said (g.O.Sink.got l.fn.out) (g.O.Sink.got l.out)

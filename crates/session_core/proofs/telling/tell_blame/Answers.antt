@@ -25,7 +25,7 @@ returns-then-not-is_consistent-clause-reply g c =
     (sym (if_diagnosis-none system.costs s (agreeing old) (blame_lines s ds 0 system.parts ++ end_line s ∷ []) c.if-not-is_consistent.ensures.some))
     (replies_one _ _ _ (line (inconsistent s)) _ refl c.put_line.ensures.bytes)
 
--- the lines by the verdicts are those by the diagnoses
+-- the lines by verdicts are those by diagnoses
 told_lines : (desk : OnDesk) (s : Name) (verdicts : List Blame) → length verdicts ≡ length desk.subject.parts → true ≡ is_some (least_asked desk)
     → ((part : ℕ) → part < length desk.subject.parts → slice_get verdicts part ≡ Some (blame_asked desk part))
     → verdict_lines s desk.subject.parts verdicts ≡ blame_lines s (diagnoses_asked desk) 0 desk.subject.parts
@@ -37,7 +37,7 @@ told_lines desk s verdicts long some each =
     let z : i ≡ 0 + i = omega arith in
     each i h ∙ ap (λ n. Some (verdict (map (λ (state : List Bool). not (bit_in state n)) ds))) z)
 
--- and those that a desk has answered are those lines
+-- the lines that a desk answers are those
 blame_said : (old middle new : OnDesk) (s : Name) → middle ≡ old → new ≡ record middle { state = new.state; verdicts = new.verdicts }
     → length new.verdicts ≡ length new.subject.parts → true ≡ is_some (least_asked old)
     → ((part : ℕ) → part < length middle.subject.parts → slice_get new.verdicts part ≡ Some (blame_asked middle part))

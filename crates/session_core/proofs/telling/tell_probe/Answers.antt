@@ -16,7 +16,7 @@ use Rattle.session_core.specs.inner.Desks.{OnDesk, asked_case, agreeing, least_s
 use Rattle.session_core.proofs.Questions.{if_any-none, if_any-some}
 use Rattle.session_core.proofs.telling.tell_probe.Goals as goal
 
--- what is answered of the name of a wire, by its place
+-- the answer about a wire's name, by its place
 told_at : {T E : Type 0} (desk : OnDesk) (s name : Name) (place : Option ℕ) (before after : Option (List ℕ)) (result : Result T E) → place ≡ place_of name desk.subject.wires
     → (let system = served_system desk.subject in Replies before after result (map line
     (option_map_or (λ wire. if_any s (agreeing desk) (probe_line system s (asked_case desk) name wire ∷ [])) place ((s ∷ error_words (refusal_row NoWire)) ∷ []))))

@@ -3,7 +3,7 @@ use Rattle.nnf_text.specs.Extending.{Extends}
 use Rattle.smooth_nnf.specs.inner.Texts.{bit_text}
 use Rattle.smooth_nnf.proofs.filling.add_bits.Given as goal
 
--- those of the bits before this one were added
+-- the lines of the bits before this one were added
 abbrev pub invariant-loop-b : goal.invariant-loop-b
 invariant-loop-b g l =
     let O = g.O.Sink in

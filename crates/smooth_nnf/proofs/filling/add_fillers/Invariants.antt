@@ -3,7 +3,7 @@ use Rattle.nnf_text.specs.Extending.{Extends}
 use Rattle.smooth_nnf.specs.inner.Texts.{word_text}
 use Rattle.smooth_nnf.proofs.filling.add_fillers.Given as goal
 
--- those of the words before this one were added
+-- the lines of the words before this one were added
 abbrev pub invariant-loop-word : goal.invariant-loop-word
 invariant-loop-word g l =
     let O = g.O.Sink in

@@ -4,7 +4,7 @@ use Rattle.std.specs.List.{flat_map}
 use Rattle.nnf_text.specs.Extending.{Extends}
 use Rattle.smooth_nnf.proofs.lines.add_and.Given as goal
 
--- those of the nodes before this one were added
+-- the children before this one were added
 abbrev pub invariant-loop-child : goal.invariant-loop-child
 invariant-loop-child g l =
     let O = g.O.Sink in

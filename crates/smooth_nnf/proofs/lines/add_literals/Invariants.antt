@@ -4,7 +4,7 @@ use Rattle.smooth_nnf.specs.Layouts.{literal_pair}
 use Rattle.smooth_nnf.specs.inner.Texts.{lines_text}
 use Rattle.smooth_nnf.proofs.lines.add_literals.Given as goal
 
--- those of the parts before this one were added
+-- the lines of the parts before this one were added
 abbrev pub invariant-loop-i : goal.invariant-loop-i
 invariant-loop-i g l =
     let O = g.O.Sink in

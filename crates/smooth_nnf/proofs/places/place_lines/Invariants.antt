@@ -4,7 +4,7 @@ use Rattle.smooth_nnf.specs.Layouts.{own_lines}
 use Rattle.smooth_nnf.specs.inner.Drawings.{lines_after}
 use Rattle.smooth_nnf.proofs.places.place_lines.Given as goal
 
--- those of the nodes so far
+-- the lines of the nodes so far
 abbrev pub invariant-loop-at : goal.invariant-loop-at
 invariant-loop-at l = record {
   long : length l.lines ≡ length l.fn.lines;

@@ -1,5 +1,5 @@
 use Rattle.smooth_nnf.proofs.writing.write_least.Given as goal
 
--- the counter is that of the blank ledger
+-- the counter of the blank ledger
 abbrev pub ghosts-write_fresh : goal.ghosts-write_fresh
 ghosts-write_fresh g a = record { name = a.blank.name; parts = a.blank.parts }

@@ -5,7 +5,7 @@ use Rattle.level_lister.specs.inner.Skips.{living}
 use Rattle.level_lister.specs.inner.FaultSets.{in_first, AreBothSets}
 use Rattle.level_lister.proofs.fault_pass.FaultPass.put_and_faults.Given as goal
 
--- both sets are those of an And of the children before the place
+-- both sets are those of an And node over the children before the place
 abbrev pub invariant-loop-child : goal.invariant-loop-child
 invariant-loop-child l = AreBothSets l.self.evidence.now l.self.levels.now.costs (in_first l.self.evidence.now l.self.levels.now.costs l.self.groups)
     (λ a. list_all (λ b. b) (map (λ k. is_true (living l.self.graph.now.nodes l.self.skips.now) k a) (take l.child-index l.child-items)))

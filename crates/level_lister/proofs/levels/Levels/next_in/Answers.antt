@@ -9,7 +9,7 @@ use Rattle.level_lister.specs.declared.levels.LevelStep.TheVariants.{Found}
 use Rattle.level_lister.proofs.RisingCosts.{next-first, next-none, none-none, step-found}
 use Rattle.level_lister.proofs.levels.Levels.next_in.Goals as goal
 
--- words after a place that are the same
+-- the words after a place are the same
 same_behind : (n : ℕ) (xs ys : List ℕ) → length xs ≡ length ys → ((k : ℕ) → n ≤ k → get_or xs k 0 ≡ get_or ys k 0) → drop n xs ≡ drop n ys
 same_behind n xs ys l e = same_number_lists (drop n xs) (drop n ys) (omega (arith, length-drop n xs, length-drop n ys)) (λ k h. get_or-drop n xs k 0 ∙ e (n + k) (omega arith) ∙ sym (get_or-drop n ys k 0))
 

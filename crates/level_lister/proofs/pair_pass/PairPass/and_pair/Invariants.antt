@@ -6,7 +6,7 @@ use Rattle.level_lister.specs.declared.groups.Groups.{Groups}
 use Rattle.level_lister.specs.inner.Pairs.{Tells, TellNodes, group_count, group_in}
 use Rattle.level_lister.proofs.pair_pass.PairPass.and_pair.Given as goal
 
--- the words are those of an And of the children before the place
+-- the words are those of an And node over the children before the place
 abbrev pub invariant-loop-child : goal.invariant-loop-child
 invariant-loop-child l = (evidence : List ℕ) (groups : Groups) → TellNodes l.self.graph.now l.self.skips.now evidence l.self.levels.now.costs l.self.levels.now.top groups l.values l.at
     → Tells evidence l.self.levels.now.costs l.self.levels.now.top (group_count l.self.levels.now.top) (group_in evidence (length l.self.levels.now.costs) groups)

@@ -3,7 +3,7 @@ use Rattle.std.proofs.lemmas.Nat.{div_below}
 use Rattle.level_lister.specs.Passes.{groups_per_pass}
 use Rattle.level_lister.proofs.search.Asked.faulty_group.Goals as goal
 
--- one group is said, if costs of 32 and more are listed
+-- if costs of 32 and more are listed, a pass has one group
 told_sets : (top : ℕ) → 32 ≤ top → groups_per_pass top ≡ 1
 told_sets top h = by_count (32 / (top + 1)) (div_below 32 (top + 1) 1 (omega arith) (omega arith)) where
   by_count : (q : ℕ) → q < 1 → max 1 q ≡ 1

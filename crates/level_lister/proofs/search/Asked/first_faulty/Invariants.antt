@@ -4,7 +4,7 @@ use Rattle.level_lister.specs.inner.NodeSets.{AreReady}
 use Rattle.level_lister.proofs.FaultRanges.{IsRange, PassesLeft}
 use Rattle.level_lister.proofs.search.Asked.first_faulty.Given as goal
 
--- the first fault is in the range, enough passes are left, and what they go by is there
+-- the first fault is in the range, enough passes are left, and what they use is there
 abbrev pub invariant-loop-span : goal.invariant-loop-span
 invariant-loop-span g l = record {
   range : IsRange l.self.graph.now l.self.evidence.now l.self.levels.now.costs l.cost l.from l.low l.span;

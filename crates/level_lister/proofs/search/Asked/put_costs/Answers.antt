@@ -8,7 +8,7 @@ use Rattle.level_lister.proofs.PairWhole.{pair_sound, pair_whole}
 use Rattle.level_lister.proofs.RootCosts.{whole_sound, whole_all}
 use Rattle.level_lister.proofs.search.Asked.put_costs.Goals as goal
 
--- a set whose first word is put
+-- a set with a new first word
 first_word : (xs : List ℕ) (w n : ℕ) → 0 < length xs → n < 32 → has_number (set xs 0 w) n ≡ has_bit w n
 first_word xs w n h lt =
     let low : n / 32 ≡ 0 = omega arith in

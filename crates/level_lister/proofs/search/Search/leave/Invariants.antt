@@ -5,7 +5,7 @@ use Rattle.diagnosis_lister.specs.inner.Fixing.{Follows}
 use Rattle.level_lister.specs.inner.Searching.{OfCost}
 use Rattle.level_lister.proofs.search.Search.leave.Given as goal
 
--- no later state has more of the state's bits, and the parts from one on are as they were
+-- no later state follows the state further than this part, and the parts from here on are as they were
 abbrev pub invariant-loop-part : goal.invariant-loop-part
 invariant-loop-part g l = record {
   small : All (λ w. w < 3) l.evidence;

@@ -6,7 +6,7 @@ use Rattle.diagnosis_lister.proofs.FixedParts.{Settles}
 use Rattle.level_lister.specs.inner.Searching.{OfCost}
 use Rattle.level_lister.proofs.search.Search.settle_by_groups.Given as goal
 
--- the parts before one are fixed, and each fault was searched
+-- the parts before this one are fixed, and each fault was searched
 abbrev pub invariant-loop-part : goal.invariant-loop-part
 invariant-loop-part g l = record {
   small : All (λ w. w < 3) l.evidence;

@@ -3,7 +3,7 @@ use Rattle.diagnosis_lister.proofs.FixedParts.{Settles}
 use Rattle.level_lister.specs.inner.Searching.{OfCost}
 use Rattle.level_lister.proofs.search.Search.settle_by_parts.Given as goal
 
--- the parts before one are fixed
+-- the parts before this one are fixed
 abbrev pub invariant-loop-part : goal.invariant-loop-part
 invariant-loop-part g l = record {
   small : All (λ w. w < 3) l.evidence;

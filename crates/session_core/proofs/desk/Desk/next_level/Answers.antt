@@ -14,7 +14,7 @@ use Rattle.session_core.proofs.Rooms.{carved_so, is_held, released_runs, release
 use Rattle.session_core.proofs.NextStates.{is_first}
 use Rattle.session_core.proofs.desk.Desk.next_level.Goals as goal
 
--- what is known of what lists the states
+-- what is known of the lister of states
 kept_so : (basis : Subject) (found : Option (Bor Kept)) (levels : Bor Kept) → found ≡ Some levels
     → IfSome found (λ (levels : Bor Kept). (basis.extras.levels ≡ Some levels.now.top) × IsFor basis.graph levels.now × (levels.now.costs ≡ basis.costs))
     → (basis.extras.levels ≡ Some levels.now.top) × IsFor basis.graph levels.now × (levels.now.costs ≡ basis.costs)

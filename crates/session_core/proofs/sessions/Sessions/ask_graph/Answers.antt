@@ -11,7 +11,7 @@ use Rattle.session_core.proofs.ShownService.{case-there, there}
 use Rattle.session_core.proofs.OneMove.{obeys_one, asked_open}
 use Rattle.session_core.proofs.sessions.Sessions.ask_graph.Goals as goal
 
--- what is answered of a case
+-- the answer about a case
 abbrev items : Subject → List ℕ → Case → List Item
 items subject session known = line (session ∷ codes "dnnf" ∷ []) ∷ Plain (case_text subject known) ∷ []
 

@@ -18,11 +18,11 @@ use Rattle.session_core.proofs.ShownService.{case-there, there, open_one}
 use Rattle.session_core.proofs.OneMove.{obeys_refusal, asked_open}
 use Rattle.session_core.proofs.sessions.Sessions.ask_least.Goals as goal
 
--- what is answered of a case
+-- the answer about a case
 abbrev items : Subject → List ℕ → Case → List Item
 items subject session known = line (session ∷ codes "leastnnf" ∷ []) ∷ Plain (least_case_text subject known) ∷ []
 
--- what is answered, by whether the graph is offered
+-- the answer, by whether the graph is offered
 told : (system : System) (s : Name) (entry : Entry) (offered : Bool) → system.extras.least ≡ offered
     → when_open system s entry LeastNnf ≡ (if offered then tells (line (s ∷ codes "leastnnf" ∷ []) ∷ least_item system entry.known ∷ []) else declined s NoLeast)
 told system s entry offered is = grind arith

@@ -14,7 +14,7 @@ use Rattle.session_core.specs.inner.Holding.{shown_of}
 use Rattle.session_core.proofs.ShownService.{opened_with}
 use Rattle.session_core.proofs.sessions.Sessions.start.Goals as goal
 
--- what opens a session comes to, if it is not open
+-- opening a session that is not open
 opened : (shown : Shown) (s : Name) (full : Bool) → entry_of s shown.table ≡ None → full ≡ nat_le shown.limit (length shown.table)
     → outcome_of shown s Start ≡ (if full then declined s Full else becomes s (empty_case (length shown.subject.wires) (length shown.subject.parts)) None (codes "open"))
 opened shown s full none e = (λ i. outcome (served_system shown.subject) s (sym e i) (none i) Start)

@@ -3,7 +3,7 @@ use Rattle.session_table.proofs.NotedEvidence.{word_place, noted-entry, noted-la
 use Rattle.session_table.proofs.block.Layout.note.Goals as goal
 use Rattle.session_table.proofs.block.Layout.note.Goals.{After-word_of_known, in-Part, in-Wire}
 
--- the word that is written is that of the wire, or of the part
+-- the written word is that of the wire, or of the part
 place-is : (c : After-word_of_known) → c.match-what.first + c.args.place ≡ word_place c.args.self c.args.what c.args.place
 place-is c = elim c.match-what.branch [ in-Part w ↦ rw w.in-Part.is (omega (arith, w.first-is)) | in-Wire w ↦ rw w.in-Wire.is (omega (arith, w.first-is)) ]
 

@@ -4,7 +4,7 @@ use Rattle.nnf_text.specs.Extending.{Extends}
 use Rattle.smooth_nnf.specs.inner.Texts.{child_text}
 use Rattle.smooth_nnf.proofs.or_node.OrNode.add_child_lines.Given as goal
 
--- those of the children before this one were added
+-- the lines of the children before this one were added
 abbrev pub invariant-loop-child : goal.invariant-loop-child
 invariant-loop-child g l =
     let O = g.O.Sink in

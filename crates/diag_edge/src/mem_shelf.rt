@@ -15,7 +15,7 @@ use std::marker::Model;
 #[derive(Drop)]
 pub struct MemShelf {
     files: Vec<(String, Vec<u8>)>,
-    // The place of the file that is read, or past the last one where there is none.
+    // The place of the file that is read, or past the last one if there is none.
     chosen: usize,
     // How many of its bytes were read.
     at: usize,
@@ -39,9 +39,8 @@ impl Model for MemShelf {
 }
 
 impl MemShelf {
-    /// A shelf with these files, each a name and its bytes. The calls of `pick` and `read` are
-    /// numbered together, from 1, and those whose numbers are in `failing` fail. Before a pick
-    /// there is nothing to read.
+    /// Returns a shelf with these files, each a name and its bytes. Calls of `pick` and `read` are numbered together, from 1; those whose
+    /// numbers are in `failing` fail. Before a pick nothing is left to read.
     pub fn new(files: Vec<(String, Vec<u8>)>, failing: Vec<u64>) -> Self
         ensures { result ≡ record {
           files = named_files files.items;

@@ -35,7 +35,6 @@ impl NumberedCalls {
     }
 }
 
-// Whether `made + 1` is in the list.
 fn has_next(failing: &[u64], made: u64) -> bool
     ensures { IsTrue result ↔ Contains failing.now (made + 1) }
 {

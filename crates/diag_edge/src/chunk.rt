@@ -206,7 +206,6 @@ pub fn put_line<O: Sink>(out: &mut O, words: &[&[u8]]) -> Result<(), WriteFailed
     chunk.put(out)
 }
 
-// Adds words joined by single spaces, and a line feed.
 fn add_line<O: Sink>(chunk: &mut Chunk, out: &mut O, words: &[&[u8]]) -> Result<(), WriteFailed>
     ensures bytes { Adds (O.got out.old) (O.got out.new) chunk.old chunk.new result
         (spaced (map (λ word. word.now) words.now)) }

@@ -76,7 +76,6 @@ fn place_of(files: &[(String, Vec<u8>)], name: &str) -> Option<usize>
     None
 }
 
-// The bytes of the file at a place.
 fn file_at(files: &[(String, Vec<u8>)], place: usize) -> &[u8]
     ensures { result.now ≡ bytes_at files.now place }
 {
@@ -113,7 +112,7 @@ impl Source for MemShelf {
         ensures cause { HasCause self.old.faults self.new.faults result }
         ensures files { self.new.files ≡ self.old.files }
 
-        // What this type promises besides the trait.
+        // What this type adds.
         ensures fails { IsErr result ↔ IsNextFailing self.old.calls }
         ensures count { IfOk result (λ count.
             count ≡ min (length into.new) (length self.old.left)) }
@@ -152,7 +151,7 @@ impl Shelf for MemShelf {
         ensures cause { HasCause self.old.faults self.new.faults result }
         ensures files { self.new.files ≡ self.old.files }
 
-        // What this type promises besides the trait.
+        // What this type adds.
         ensures fails { IsErr result ↔
             (IsNextFailing self.old.calls ⊎ (held_in self.old.files name.now ≡ absent)) }
         ensures empty_after_failure { OnErr result (self.new.left ≡ []) }

@@ -78,7 +78,7 @@ impl Sink for MemSink {
         ensures bytes { Puts (Some self.old.got) (Some self.new.got) result bytes.now }
         ensures cause { HasCause self.old.faults self.new.faults result }
 
-        // What this type promises besides the trait. A call that fails appends the first `keep` bytes that fit.
+        // What this type adds. A call that fails appends the first `keep` bytes that fit.
         ensures fails { IsErr result ↔
             (IsNextFailing self.old.calls ⊎
             (self.old.room < length self.old.got + length bytes.now)) }

@@ -85,7 +85,7 @@ impl Source for MemSource {
             (λ _. self.new.taken ≡ self.old.taken) }
         ensures cause { HasCause self.old.faults self.new.faults result }
 
-        // What this type promises besides the trait.
+        // What this type adds.
         ensures fails { IsErr result ↔ IsNextFailing self.old.calls }
         ensures count { IfOk result (λ count.
             count ≡ min self.old.piece (min (length into.new) (length self.old.left))) }

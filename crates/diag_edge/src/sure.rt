@@ -68,7 +68,7 @@ impl Source for SureSource {
             (λ _. self.new.taken ≡ self.old.taken) }
         ensures cause { HasCause 0 0 result }
 
-        // What this type promises besides the trait.
+        // What this type adds.
         ensures ok { IsOk result }
         ensures count { IfOk result (λ count.
             count ≡ min self.old.piece (min (length into.new) (length self.old.left))) }
@@ -139,7 +139,7 @@ impl Source for SureShelf {
         ensures cause { HasCause 0 0 result }
         ensures file { self.new.file ≡ self.old.file }
 
-        // What this type promises besides the trait.
+        // What this type adds.
         ensures ok { IsOk result }
         ensures count { IfOk result (λ count. count ≡ min (length into.new) (length self.old.left)) }
     {
@@ -170,7 +170,7 @@ impl Shelf for SureShelf {
         ensures cause { HasCause 0 0 result }
         ensures same { self.new.file ≡ self.old.file }
 
-        // What this type promises besides the trait.
+        // What this type adds.
         ensures ok { IsOk result }
     {
         self.at = 0;
@@ -220,7 +220,7 @@ impl Sink for TallySink {
         ensures bytes { Puts None None result bytes.now }
         ensures cause { HasCause 0 0 result }
 
-        // What this type promises besides the trait.
+        // What this type adds.
         ensures ok { IsOk result }
         ensures count { self.new ≡ (self.old + length bytes.now) % 2 ^ 64 }
     {

@@ -50,7 +50,7 @@ pub fn first<L: Ledger>(
     ensures state { All (λ s. s < 2) state.new }
     ensures evidence { evidence.new ≡ evidence.old }
 
-    // How many passes are made at most.
+    // The most passes.
     ensures steps { steps.new ≤ steps.old + 2 * length costs.now + 1 }
     ensures few_steps { steps.new ≤ steps.old + fault_count (bits_of state.new) + 1 }
 {
@@ -81,7 +81,7 @@ pub fn first_in<L: Ledger>(
     ensures state { All (λ s. s < 2) state.new }
     ensures evidence { evidence.new ≡ evidence.old }
 
-    // How many passes are made at most.
+    // The most passes.
     ensures steps { steps.new ≤ steps.old + 2 * length costs.now + 1 }
     ensures few_steps { steps.new ≤ steps.old + fault_count (bits_of state.new) + 1 }
 {
@@ -121,7 +121,7 @@ pub fn next<L: Ledger>(
     ensures state { All (λ s. s < 2) state.new }
     ensures evidence { evidence.new ≡ evidence.old }
 
-    // How many passes are made at most.
+    // The most passes.
     ensures steps { steps.new ≤ steps.old + 2 * length costs.now + 1 }
     ensures few_steps { steps.new
         ≤ steps.old + fault_count (bits_of state.old) + fault_count (bits_of state.new) + 1 }
@@ -155,7 +155,7 @@ pub fn next_in<L: Ledger>(
     ensures state { All (λ s. s < 2) state.new }
     ensures evidence { evidence.new ≡ evidence.old }
 
-    // How many passes are made at most.
+    // The most passes.
     ensures steps { steps.new ≤ steps.old + 2 * length costs.now + 1 }
     ensures few_steps { steps.new
         ≤ steps.old + fault_count (bits_of state.old) + fault_count (bits_of state.new) + 1 }

@@ -125,7 +125,6 @@ module _ (known : ℕ → Option Bool) (cost : ℕ → ℕ) (parts : ℕ) where
   false_is = record { least = λ n x. false≢true x.meets; local = λ a b h. refl }
 
   module _ (t u : Assignment → Bool) (m o : ℕ → Bool) (c d : Option ℕ) (is_t : IsLeastCost t m c) (is_u : IsLeastCost u o d) where
-    -- either of two tests
     pub or_is : IsLeastCost (λ a. t a || u a) (λ v. m v || o v) (min_costs c d)
     or_is = record {
       least = least-same (λ n. At t (λ v. m v || o v) n ⊎ At u (λ v. m v || o v) n) (At (λ a. t a || u a) (λ v. m v || o v)) (cost-any g t u _) (any-costs g t u _)

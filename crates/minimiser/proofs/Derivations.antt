@@ -186,7 +186,6 @@ module _ (graph : Graph) (evidence costs : List ℕ) (ok : IsGraph graph) where
       let y = out (r + x) b.by (record { agrees = b.agrees; holds = true-at p _ e b.by ∙ b.holds; cheap = b.cheap }) in
       extends-le k (o + (r + x)) (o + r + x) a (omega arith) (record { by = y.by; achieves = y.achieves; same = λ v t. y.same v (mention-at p _ e v ∙ any-child (M v) kids k m t) ∙ b.same v t })
 
-  -- the children of an Or node
   pub outside-or : (p : ℕ) (kids : List ℕ) (o : ℕ) → slice_get graph.nodes p ≡ Some (record { what = Or; kids = kids }) → Outside p o → (k : ℕ) → In k kids → Outside k o
   outside-or p kids o e out k m x a h =
       let y = out x a (record { agrees = h.agrees; holds = true-at p _ e a ∙ any-child (T a) kids k m h.holds; cheap = h.cheap }) in
@@ -199,7 +198,6 @@ module _ (graph : Graph) (evidence costs : List ℕ) (ok : IsGraph graph) where
   pub useful-root : Useful root
   useful-root c m e f = (0, outside-root, (let same = same_Some c m (sym e ∙ f) in omega arith))
 
-  -- the children of an And node
   pub useful-and : (p : ℕ) (kids : List ℕ) (c : ℕ) → slice_get graph.nodes p ≡ Some (record { what = And; kids = kids }) → C p ≡ Some c → Useful p → (k : ℕ) → In k kids → Useful k
   useful-and p kids c e is useful k i d m f g =
       let u = useful c m is g in
@@ -304,7 +302,6 @@ module _ (graph : Graph) (evidence costs : List ℕ) (ok : IsGraph graph) where
       pub is_in : In child kids
       pub on : OnFault child
 
-    -- some child of an And node
     on-and : (k : ℕ) (kids : List ℕ) → slice_get graph.nodes k ≡ Some (record { what = And; kids = kids }) → OnFault k → ChildOnFault kids
     unfolding Apart
     on-and k kids e on =

@@ -133,7 +133,6 @@ module _ (g : Weights) where
   pub usual-agrees : Agrees g usual
   usual-agrees v = usual_bit-agrees (g.known v)
 
-  -- no variables at all
   pub cost_among-none : (a : Assignment) → cost_among g (λ v. false) a ≡ 0
   cost_among-none a = total-none 1 g.parts
 
@@ -184,7 +183,6 @@ module _ (g : Weights) where
     by_test v true e = rw e (subst (λ u. agrees_at (g.known u) bit ≡ true) (eqb-true _ _ e) is.allowed)
     by_test v false e = rw e (usual-agrees v)
 
-  -- a literal
   pub literal-costs : OnlyParts → (var : ℕ) (bit : Bool) (n : ℕ) → CostOf g (λ v. eqb var v) (λ a. same_bit bit (a var) ≡ true) n → LiteralCost var bit n
   literal-costs only_parts var bit n c = bit-costs only_parts var bit n (cost-to _ _ _ (λ a e. sym (same_bit-equal bit (a var) e)) n c)
 

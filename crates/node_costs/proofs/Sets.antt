@@ -54,14 +54,12 @@ module _ (limit : ℕ) where
   pub row-none : (has : ℕ → Bool) (C : ℕ → Type 0) → ((n : ℕ) → n < limit → has n ≡ false) → ((n : ℕ) → C n → ⊥) → IsRow has limit C
   row-none has C none never = record { sound = λ n lt e. absurd (false≢true (sym (none n lt) ∙ e)); whole = λ n lt x. absurd (never n x) }
 
-  -- one cost alone
   pub row-one : (has : ℕ → Bool) (C : ℕ → Type 0) (c : ℕ) → C c → ((n : ℕ) → C n → n ≡ c) → ((n : ℕ) → n < limit → has n ≡ (n == c)) → IsRow has limit C
   row-one has C c x only one = record {
     sound = λ n lt e. let same : n ≡ c = eqb-true n c (sym (one n lt) ∙ e) in subst C (sym same) x;
     whole = λ n lt y. one n lt ∙ eq-eqb n c (only n y);
   }
 
-  -- the same costs, in the same row
   pub row-as : (has : ℕ → Bool) (C D : ℕ → Type 0) → ((n : ℕ) → C n → D n) → ((n : ℕ) → D n → C n) → IsRow has limit C → IsRow has limit D
   row-as has C D to from is = record { sound = λ n lt e. to n (is.sound n lt e); whole = λ n lt y. is.whole n lt (from n y) }
 

@@ -27,7 +27,6 @@ pub const VARIABLE_LIMIT: u32 = 536_870_912;
 // Children as a store keeps them. Two need no memory of their own.
 type Children = SmallVec<u32, 2>;
 
-// A node as a store keeps it.
 #[derive(Debug, PartialEq, Eq, Hash, Drop)]
 struct Kept {
     what: NodeKind,
@@ -219,7 +218,6 @@ fn kept_children(alloc: Global, kids: &[u32]) -> Result<Children, Memory>
     }
 }
 
-// Adds a literal that is not there yet.
 fn add_literal(
     alloc: Global,
     nodes: &mut IndexSet<Kept, Nearby>,

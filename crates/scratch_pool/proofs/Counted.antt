@@ -39,7 +39,6 @@ count-less out n e =
     let long = length-set out n false in
     omega (arith, more, most, long)
 
--- a block keeps its words when another is written
 pub block-stays : (pool : Blocks) (a b : ℕ) → length pool.words ≡ length pool.out * pool.size → IsOut pool a → IsOut pool b → b ≢ a
     → (new : List ℕ) → length new ≡ pool.size → block_words (with_block pool a new) b ≡ block_words pool b
 block-stays pool a b all out_a out_b ne new long = grind (arith, block-below, out_within, written-apart)

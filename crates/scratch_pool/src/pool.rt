@@ -125,7 +125,6 @@ impl Pool {
     }
 }
 
-// Finds a block that is not out.
 fn find_free(out: &[bool]) -> Option<usize>
     ensures none { IfNone result (count_by not out.now ≡ 0) }
     ensures some { IfSome result (λ number.

@@ -37,12 +37,10 @@ slice_get-before [] ys i x e = absurd (cc)
 slice_get-before (y ∷ xs) ys zero x e = e
 slice_get-before (y ∷ xs) ys (suc i) x e = slice_get-before xs ys i x e
 
--- an appended item is the last one
 pub slice_get-last : {A : Type 0} (xs : List A) (x : A) → slice_get (xs ++ x ∷ []) (length xs) ≡ Some x
 slice_get-last [] x = refl
 slice_get-last (y ∷ xs) x = slice_get-last xs x
 
--- one number more at the end
 pub range_more : (a n : ℕ) → range_with_len a (n + 1) ≡ range_with_len a n ++ (a + n) ∷ []
 range_more a n = sym (map-id (range_with_len a (n + 1))) ∙ map-range_with_len_more (λ (k : ℕ). k) a n (a + n) (omega arith) ∙ ap (λ ks. ks ++ (a + n) ∷ []) (map-id (range_with_len a n))
 

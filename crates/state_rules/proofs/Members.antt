@@ -10,7 +10,6 @@ abbrev pub In : {A : Type 0} → A → List A → Type 0
 In x [] = ⊥
 In x (y ∷ ys) = (x ≡ y) ⊎ In x ys
 
--- what is at a place of a list is in it
 pub In-at : {A : Type 0} (xs : List A) (i : ℕ) (d : A) → i < length xs → In (get_or xs i d) xs
 In-at [] i d h = absurd (omega arith)
 In-at (x ∷ xs) zero d h = inl refl
@@ -72,7 +71,6 @@ any_in p x [] h e = absurd h
 any_in p x (y ∷ ys) (inl q) e = rw (subst (λ z. p z ≡ true) q e) refl
 any_in p x (y ∷ ys) (inr h) e = or_right _ _ (any_in p x ys h e)
 
--- an item of a filtered list is in the list and passes
 pub In-filter : {A : Type 0} (p : A → Bool) (x : A) (xs : List A) → In x (filter p xs) → In x xs × (p x ≡ true)
 In-filter p x [] m = absurd m
 In-filter {A} p x (y ∷ ys) m = grind (arith, In-filter p x ys)

@@ -62,7 +62,7 @@ impl MemShelf {
     }
 }
 
-// The place of the first file with the name.
+// Returns the place of the first file with the name.
 fn place_of(files: &[(String, Vec<u8>)], name: &str) -> Option<usize>
     ensures none { IfNone result (held_in (named_files files.now) name.now ≡ absent) }
     ensures some { IfSome result (λ place.

@@ -198,7 +198,7 @@ impl TallySink {
         TallySink { count: 0 }
     }
 
-    /// Returns how many bytes were put; after the greatest u64 it starts at 0 again.
+    /// Returns how many bytes were put; after the greatest u64 the count starts at 0 again.
     pub fn count(&self) -> u64
         ensures { result ≡ self.now }
     {

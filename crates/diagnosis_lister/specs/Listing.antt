@@ -7,7 +7,7 @@ use Rattle.diagnosis_lister.specs.declared.listing.Step.TheVariants.{Found, End,
 abbrev pub fault_count : List Bool → ℕ
 fault_count state = count_by not state
 
--- from the states that are allowed, and the diagnoses that come later
+-- the answer, from the states that are allowed and the diagnoses that come later
 abbrev pub step_of : List (List Bool) → List (List Bool) → Step
 step_of [] later = Inconsistent
 step_of (m ∷ ms) [] = End

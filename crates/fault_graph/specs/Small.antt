@@ -22,8 +22,9 @@ Joins (Literal positive var) kids = ⊤
 Joins And kids = 1 < kids
 Joins Or kids = 1 < kids
 
--- Each node except the root, which is the last, costs something, is a child of another and, if no literal, has two or more children.
--- An Or node costs what each of its children does. There is no wire, no part that is held, and no literal that says ok.
+-- Each node except the root, the last one, costs something, is a child of another and, unless a literal, has two or more children.
+-- An Or node costs what each of its children does, so that each of them makes it true at its least cost. There is no wire, no part that is
+-- held, and no literal that says ok.
 pub record IsSmall (evidence costs : List ℕ) (small : Graph) : Type 0 where
   pub dear : (node : ℕ) → node + 1 < length small.nodes → IsSomeAnd (least_at small evidence costs node) (λ cost. 0 < cost)
   pub needed : (node : ℕ) → node + 1 < length small.nodes → HasParent small.nodes node

@@ -75,7 +75,7 @@ module _ (graph : Graph) (costs : List ℕ) (within : length costs ≤ graph.var
       let s = (least-out costs (length costs) _ (Some most) e).0 in
       record { state = s.state; passes = record { long = s.long; model = s.passes; cheap = omega (arith, s.cost_is) } }
 
-  -- if a state passes under evidence that says more, the least cost is the same
+  -- if a state of least cost passes under evidence that says more, the least cost is the same
   pub least-refined : (old new : List ℕ) (most : ℕ) (h : List Bool) → length old ≡ graph.vars → Refines (length costs) old new → LeastIs graph costs old most → ModelWithin graph new costs most h → LeastIs graph costs new most
   least-refined old new most h long r e p = least-in costs (length costs) (has_model graph (fits_evidence new) (length costs)) (Some most) (
     record { state = h; long = p.long; passes = p.model; cost_is = omega (arith, p.cheap, low h p.long p.model) },

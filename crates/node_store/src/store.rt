@@ -89,8 +89,8 @@ impl Store {
         2 * (var - 1) + u32::from(!positive)
     }
 
-    /// Returns the And node of these children, which are nodes of the store. No two of them, at different places, share a variable. After
-    /// lack of memory the store is as it was.
+    /// Returns the And node of these children, which is true if all of them are. They are nodes of the store, and no two of them, at different
+    /// places, share a variable. After lack of memory the store is as it was.
     pub fn and(&mut self, kids: &[u32]) -> Result<u32, Memory>
         requires kids { All (λ k. k < length self.old.nodes) kids.now }
         requires apart { (v : ℕ) → at_most_one (map (mentions self.old.nodes v) kids.now) ≡ true }
@@ -105,7 +105,8 @@ impl Store {
         self.add(NodeKind::And, kids)
     }
 
-    /// Returns the Or node of these children, which are nodes of the store. After lack of memory the store is as it was.
+    /// Returns the Or node of these children, which is true if one of them is. They are nodes of the store. After lack of memory the store is
+    /// as it was.
     pub fn or(&mut self, kids: &[u32]) -> Result<u32, Memory>
         requires kids { All (λ k. k < length self.old.nodes) kids.now }
         requires few { length kids.now < CHILD_LIMIT }
@@ -155,7 +156,7 @@ impl Store {
         }
     }
 
-    // The same, and the store stays.
+    // Returns the same graph, and the store stays.
     fn frozen(&self, root: u32) -> Result<Graph, Memory>
         requires { root < length self.now.nodes }
         ensures ok { IfOk result (λ graph. IsFrozen self.now root graph) }

@@ -78,7 +78,7 @@ impl<'a> Walk<'a> {
         kinds[node]
     }
 
-    /// Returns its children.
+    /// Returns the children of a node, counted from the first that is left.
     pub fn kids(&self, node: usize) -> &'a [u32]
         requires { node < length self.now }
         ensures { result.now ≡ (node_at self.now node).kids }

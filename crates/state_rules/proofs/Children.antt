@@ -13,7 +13,7 @@ each_below P n step (suc m) most k h = grind (arith, each_below P n step m)
 
 -- ---- one of them
 
--- if `f` of a child implies `g` of it and `Q`, so it does for any of them
+-- if `f` of a child implies `g` of it and `Q`, then `f` of some child implies `g` of some child and `Q`
 pub any_more : (Q : Type 0) (f g : ℕ → Bool) (own : ℕ) (kids : List ℕ) → are_below own kids ≡ true → ((k : ℕ) → k < own → f k ≡ true → (g k ≡ true) × Q)
     → list_any (λ b. b) (map f kids) ≡ true → (list_any (λ b. b) (map g kids) ≡ true) × Q
 any_more Q f g own [] below more any = absurd (let no : false ≡ true = any in cc)

@@ -1,4 +1,4 @@
--- Bits of words: of a bitwise and or or of words, and of a word with one bit.
+-- Bits of words: of bitwise conjunctions and disjunctions, and of a word with one bit.
 use Rattle.std.proofs.Common.{◌≡◌, ℕ, ◌+◌, ◌*◌, ◌%◌, ◌^◌, ◌<◌, min, max, false, ◌&&◌, ◌||◌, ◌==◌, List, map, length, take, get_or, ap, ◌∙◌, arith}
 use Rattle.std.specs.Prelude.{bit_and, bit_or}
 use Rattle.std.specs.Int.{bit_at}

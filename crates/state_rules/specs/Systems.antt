@@ -7,7 +7,7 @@ use Rattle.state_rules.specs.Ranking.{least, diagnoses}
 abbrev pub no_extras : Extras
 no_extras = record { levels = None; least = false }
 
--- for each case the text of the graph of the consistent states, and that of the graph of the diagnoses; `None` leaves them open
+-- for each case the text of the graph of the consistent states, and that of the graph of the diagnoses; `None` leaves a text open
 pub record Texts : Type 0 where
   pub dnnf : Option (Case → List ℕ)
   pub least : Option (Case → List ℕ)

@@ -3,7 +3,7 @@ use Rattle.std.specs.Prelude.{◌≡◌, ◌≢◌, ℕ, ◌-◌, Bool, ◌&&◌
 use Rattle.std.specs.List.{filter}
 use Rattle.state_rules.specs.Graphs.{Node, Graph, node_at}
 
--- a child that costs nothing is true, and left out; one that costs more is not on a derivation of least cost
+-- whether a child stays: one that costs nothing is true; one that costs more is not on a derivation of least cost
 abbrev pub keeps : List ℕ → ℕ → ℕ → Bool
 keeps values cost child = nat_lt 0 (slice_index values child) && nat_le (slice_index values child) cost
 

@@ -89,8 +89,8 @@ impl Store {
         2 * (var - 1) + u32::from(!positive)
     }
 
-    /// Returns the And node of these children, which is true if all of them are. They are nodes of the store, and no two of them, at different
-    /// places, share a variable. After lack of memory the store is as it was.
+    /// Returns the And node of these children, which is true if all of them are. They are nodes of the store, and no two of them, at
+    /// different places, share a variable. After lack of memory the store is as it was.
     pub fn and(&mut self, kids: &[u32]) -> Result<u32, Memory>
         requires kids { All (λ k. k < length self.old.nodes) kids.now }
         requires apart { (v : ℕ) → at_most_one (map (mentions self.old.nodes v) kids.now) ≡ true }

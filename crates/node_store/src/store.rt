@@ -105,8 +105,8 @@ impl Store {
         self.add(NodeKind::And, kids)
     }
 
-    /// Returns the Or node of these children, which is true if one of them is. They are nodes of the store. After lack of memory the store is
-    /// as it was.
+    /// Returns the Or node of these children, which is true if one of them is. They are nodes of the store. After lack of memory the store
+    /// is as it was.
     pub fn or(&mut self, kids: &[u32]) -> Result<u32, Memory>
         requires kids { All (λ k. k < length self.old.nodes) kids.now }
         requires few { length kids.now < CHILD_LIMIT }

@@ -28,7 +28,7 @@ fits_evidence-at evidence bits long all i =
 pub fits_evidence-from : (evidence : List ℕ) (bits : List Bool) → ((i : ℕ) → i < length bits → agrees_at (known_of (get_or evidence i 0)) (bit_in bits i) ≡ true) → fits_evidence evidence bits ≡ true
 fits_evidence-from evidence bits each = agrees-from (known evidence) bits (λ i h. subst (λ k. agrees_at k (bit_in bits i) ≡ true) (sym (known-at evidence i)) (each i h))
 
--- the first bits agree with the first of the evidence
+-- the first bits agree with the front of the evidence
 pub fits_evidence-front : (evidence : List ℕ) (front others : List Bool) → fits_evidence evidence (front ++ others) ≡ true → fits_evidence (take (length front) evidence) front ≡ true
 fits_evidence-front evidence [] others all = refl
 fits_evidence-front [] (b ∷ front) others all = refl

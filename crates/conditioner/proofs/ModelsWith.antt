@@ -1,4 +1,4 @@
--- The states that a graph allows under evidence where a variable has a bit too.
+-- The states that a graph allows under evidence if a variable has a bit too.
 use Rattle.std.proofs.Common.{◌≡◌, ℕ, ◌-◌, ◌<◌, ◌≤◌, Bool, true, false, not, ◌&&◌, List, [], ◌++◌, length, get_or, set, Some, None, refl, ap, sym, ◌∙◌, arith, length-append}
 use Rattle.std.proofs.Math.Bool.{and_assoc, and-false}
 use Rattle.std.proofs.lemmas.List.{length-map, map-set}
@@ -24,7 +24,7 @@ allowed-none : (graph : Graph) (parts : ℕ) → passing parts (has_model graph 
 allowed-none graph parts =
     filter_same (has_model graph (λ _. false) parts) (λ _. false) (states parts) (λ state m. any-never (lists_of_bits (graph.vars - parts))) ∙ filter-never (states parts)
 
--- two bits are not both there
+-- no bit is both bits
 never_both : (bit b : Bool) → (same_bit (not bit) b && same_bit bit b) ≡ false
 never_both true true = refl
 never_both true false = refl
@@ -32,25 +32,25 @@ never_both false true = refl
 never_both false false = refl
 
 module _ (graph : Graph) (evidence : List ℕ) (parts place : ℕ) (bit : Bool) (long : length evidence ≡ graph.vars) (room : parts ≤ graph.vars) (within : place < graph.vars) where
-  -- bits fit the evidence, and one of them is the bit
+  -- bits fit the evidence, and the one at `place` is `bit`
   abbrev pub has_bit : Test
   has_bit bits = fits_evidence evidence bits && same_bit bit (bit_in bits place)
 
   inside : (bits : List Bool) → length bits ≡ graph.vars → place < length bits
   inside bits e = omega (arith, e, within)
 
-  -- of a variable of which nothing is known, those under evidence that says the bit
+  -- an open variable: the models under evidence that fixes it
   pub with_bit-open : (word : ℕ) → known_of word ≡ Some bit → get_or (known evidence) place None ≡ None → passing parts (has_model graph has_bit parts) ≡ models graph (set evidence place word) parts
   with_bit-open word says e = allowed-same graph parts has_bit (fits_evidence (set evidence place word)) room (λ bits l.
       agrees-set (known evidence) bits place bit (omega (arith, length-map evidence known_of, long, within)) (inside bits l) e
       ∙ ap (λ ks. agrees ks bits) (sym (map-set known_of evidence place word ∙ ap (set (known evidence) place) says)))
 
-  -- all, if the bit is known
+  -- all models, if the bit is known
   pub with_bit-known : get_or (known evidence) place None ≡ Some bit → passing parts (has_model graph has_bit parts) ≡ models graph evidence parts
   with_bit-known e = allowed-same graph parts has_bit (fits_evidence evidence) room (λ bits l.
       sym (agrees-place (known evidence) bits place (inside bits l) ∙ ap (λ k. agrees (known evidence) bits && agrees_at k (bit_in bits place)) e))
 
-  -- and none, if the other is
+  -- no models, if the other bit is known
   pub with_bit-other : get_or (known evidence) place None ≡ Some (not bit) → passing parts (has_model graph has_bit parts) ≡ []
   with_bit-other e = allowed-same graph parts has_bit (λ _. false) room (λ bits l.
       ap (λ b. b && same_bit bit (bit_in bits place)) (agrees-place (known evidence) bits place (inside bits l) ∙ ap (λ k. agrees (known evidence) bits && agrees_at k (bit_in bits place)) e)

@@ -10,12 +10,12 @@ known_of zero = None
 known_of (suc zero) = Some true
 known_of (suc (suc n)) = Some false
 
--- the word that says a bit
+-- the word for a bit
 abbrev pub word_of : Bool → ℕ
 word_of true = 1
 word_of false = 2
 
--- the word that says what is known of a variable
+-- the word for what is known of a variable
 abbrev pub word_of_known : Option Bool → ℕ
 word_of_known None = 0
 word_of_known (Some bit) = word_of bit
@@ -24,11 +24,11 @@ word_of_known (Some bit) = word_of bit
 abbrev pub known : List ℕ → List (Option Bool)
 known evidence = map known_of evidence
 
--- a literal of a variable of which something or nothing is known
+-- a literal under what is known of its variable
 abbrev pub leaf_of : Bool → Option Bool → Leaf
 leaf_of positive None = Open
 leaf_of positive (Some bit) = if same_bit positive bit then True else False
 
--- a state in words, 0 if a part is ok
+-- a state, from words that are 0 if a part is ok
 abbrev pub bits_of : List ℕ → List Bool
 bits_of state = map (λ s. s == 0) state

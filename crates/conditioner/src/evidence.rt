@@ -3,7 +3,7 @@ ghost use Rattle.conditioner.specs.Evidence.{known_of, word_of, word_of_known, l
 
 use crate::leaves::Leaf;
 
-/// What a word says of its variable: nothing, or that it is true or false. A part that is true is ok.
+/// Returns what a word says of its variable: nothing, true or false. A part that is true is ok.
 pub fn known_of(word: u32) -> Option<bool>
     ensures { result ≡ known_of word }
 {
@@ -14,7 +14,7 @@ pub fn known_of(word: u32) -> Option<bool>
     }
 }
 
-/// The word that says what is known of a variable.
+/// Returns the word for what is known of a variable.
 pub fn word_of_known(known: Option<bool>) -> u32
     ensures { result ≡ word_of_known known }
 {
@@ -66,7 +66,7 @@ pub fn loose(evidence: &mut [u32], var: u32)
     evidence[var as usize - 1] = word_of_known(None);
 }
 
-/// What the literal of a variable is under the evidence.
+/// Returns the literal of a variable under the evidence.
 pub fn leaf(evidence: &[u32], var: u32, positive: bool) -> Leaf
     requires evidence { All (λ w. w < 3) evidence.now }
     requires var { (1 ≤ var) × (var ≤ length evidence.now) }
@@ -79,7 +79,7 @@ pub fn leaf(evidence: &[u32], var: u32, positive: bool) -> Leaf
     }
 }
 
-/// Fixes each open variable from one place on up to another to true: a part to ok. Places are counted from 0.
+/// Fixes each open variable at places `from` up to `to`, counted from 0, to true: a part to ok. `to` is not included.
 pub fn fix_ok(evidence: &mut [u32], from: usize, to: usize)
     requires evidence { All (λ w. w < 3) evidence.old }
     requires to { to ≤ length evidence.old }

@@ -1,4 +1,4 @@
--- How what is to be put grows by one text and then another.
+-- How gathered bytes grow by one text and then another.
 use Rattle.std.proofs.Common.{◌≡◌, ℕ, ◌+◌, ◌-◌, ◌<◌, ◌≤◌, List, [], ◌∷◌, ◌++◌, refl, map, arith, length, take, drop, get_or, Option, Result, Ok, Err, IsErr, sym, ap, ◌∙◌, subst, append_assoc, append-nil}
 use Rattle.std.specs.List.{flat_map}
 use Rattle.std.specs.Io.KnownBytes.{Appends}
@@ -25,7 +25,7 @@ grown_more a b c p q s xs ys g h = record {
   all = append_assoc g.put h.put s ∙ ap (λ t. g.put ++ t) h.all ∙ sym (append_assoc g.put q ys) ∙ ap (λ t. t ++ ys) g.all ∙ append_assoc p xs ys;
 }
 
--- the first text was added, and with the second a put failed
+-- the first text was added, and a put failed with the second
 pub part_more : (a b c : Option (List ℕ)) (p q xs ys : List ℕ) → Grown a b p q xs → AppendsPrefix b c (q ++ ys) → AppendsPrefix a c (p ++ (xs ++ ys))
 part_more a b c p q xs ys g part =
     subst (λ t. AppendsPrefix a c t) (sym (append_assoc g.put q ys) ∙ ap (λ t. t ++ ys) g.all ∙ append_assoc p xs ys) (begins_more a b c g.put (q ++ ys) g.grown part)
@@ -43,7 +43,7 @@ pub adds_second : {T E : Type 0} (a b c : Option (List ℕ)) (p q s : List ℕ) 
 adds_second a b c p q s (Ok v) xs ys g h = grown_more a b c p q s xs ys g h
 adds_second a b c p q s (Err e) xs ys g h = part_more a b c p q xs ys g h
 
--- the same text, said otherwise
+-- an equal text
 pub adds_same : {T E : Type 0} (a b : Option (List ℕ)) (p q : List ℕ) (r : Result T E) (xs ys : List ℕ) → xs ≡ ys → Adds a b p q r xs → Adds a b p q r ys
 adds_same a b p q r xs ys same h = subst (λ t. Adds a b p q r t) same h
 
@@ -55,13 +55,13 @@ pub ruleset adds_on = (adds_first, adds_second)
 one-more : {X : Type 0} (f : X → List ℕ) (xs : List X) (i : ℕ) (d : X) → i < length xs → flat_map f (take i xs) ++ f (get_or xs i d) ≡ flat_map f (take (i + 1) xs)
 one-more f xs i d lt = flat_map_more f [] (take i xs) (get_or xs i d) ∙ ap (flat_map f) (sym (take_more xs i d lt))
 
--- those before a place were added, and then the one there
+-- the texts before a place were added, and then the one there
 pub each_more : {X : Type 0} (f : X → List ℕ) (xs : List X) (i : ℕ) (d : X) (a b c : Option (List ℕ)) (p q s text : List ℕ) → i < length xs → text ≡ f (get_or xs i d)
     → Grown a b p q (flat_map f (take i xs)) → Grown b c q s text → Grown a c p s (flat_map f (take (i + 1) xs))
 each_more f xs i d a b c p q s text lt is g h =
     subst (λ t. Grown a c p s t) (ap (λ t. flat_map f (take i xs) ++ t) is ∙ one-more f xs i d lt) (grown_more a b c p q s (flat_map f (take i xs)) text g h)
 
--- with the one there a put failed
+-- a put failed with the text there
 pub each_part : {X T E : Type 0} (f : X → List ℕ) (xs : List X) (i : ℕ) (d : X) (a b c : Option (List ℕ)) (p q s text : List ℕ) (r : Result T E) → IsErr r → i < length xs → text ≡ f (get_or xs i d)
     → Grown a b p q (flat_map f (take i xs)) → AppendsPrefix b c (q ++ text) → Adds a c p s r (flat_map f xs)
 each_part f xs i d a b c p q s text r failed lt is g part =
@@ -90,7 +90,7 @@ put_part a b (Err e) p xs ys text is none same h = subst (λ t. AppendsPrefix a 
 
 -- ---- a text that is put without being gathered
 
--- what was gathered was begun, and no more was put
+-- a prefix of what was gathered was put, and no more
 pub passed_first : {T E : Type 0} (a b : Option (List ℕ)) (p q : List ℕ) (r : Result T E) (xs : List ℕ) → IsErr r → AppendsPrefix a b p → Adds a b p q r xs
 passed_first a b p q (Ok v) xs is h = absurd (let no : ⊥ = cc in no)
 passed_first a b p q (Err e) xs is h = begins_first a b p xs h
@@ -107,7 +107,7 @@ pub spaced-first : (w : List ℕ) (ws : List (List ℕ)) → w ++ (flat_map (λ 
 spaced-first w [] = refl
 spaced-first w (v ∷ ws) = ap (λ t. w ++ (32 ∷ t)) (append_assoc v (flat_map (λ v. 32 ∷ v) ws) (10 ∷ []) ∙ spaced-first v ws)
 
--- the line of words, of which there is a first one
+-- the line of one or more words
 pub line_first : (words : List (Bor (List ℕ))) (d : Bor (List ℕ)) → 1 ≤ length words
     → (get_or words 0 d).now ++ (flat_map (λ w. 32 ∷ w.now) (take (length words - 1) (drop 1 words)) ++ 10 ∷ []) ≡ spaced (map (λ w. w.now) words)
 line_first [] d some = absurd (omega arith)

@@ -1,4 +1,4 @@
--- The line that says a fault, as it is put together.
+-- The error line of a fault, as its pieces are added.
 use Rattle.std.proofs.Common.{◌≡◌, List, ℕ, [], ◌∷◌, ◌++◌, Option, Result, IsErr, sym, ◌∙◌, ap, subst, append_assoc, append-nil, codes}
 use Rattle.std.specs.Prelude.{decimal}
 use Rattle.std.specs.List.{flat_map}
@@ -7,7 +7,7 @@ use Rattle.diag_edge.proofs.GrownBytes.{begins_first}
 use Rattle.diag_edge.proofs.Added.{put_part}
 use Rattle.diag_edge.specs.ErrorLines.{fault_line}
 
--- its parts, as they are added
+-- its pieces
 abbrev pub one : List ℕ
 one = codes "error: line "
 
@@ -30,7 +30,7 @@ module _ (line number : ℕ) (digits name : List ℕ) (same : digits ≡ decimal
       rest = append_assoc digits (32 ∷ (name ++ [])) (10 ∷ []) ∙ ap (λ t. digits ++ (32 ∷ (t ++ 10 ∷ []))) (append-nil name) ∙ ap (λ t. t ++ (32 ∷ (name ++ 10 ∷ []))) same
 
   module _ {T E : Type 0} (a b : Option (List ℕ)) (r : Result T E) (chunk : List ℕ) (failed : IsErr r) (none : chunk ≡ []) where
-    -- a put failed with the last part, or with one before it
+    -- a put failed with the last piece, or with one before it
     pub last_begun : AppendsPrefix a b (chunk ++ (three line ++ last digits name)) → Puts a b r (fault_line line number name)
     last_begun part = put_part a b r chunk (three line ++ last digits name) [] _ failed none (append-nil (three line ++ last digits name) ∙ fault_text) part
 

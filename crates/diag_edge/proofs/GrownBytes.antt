@@ -15,12 +15,12 @@ grows_more (Some olds) None c xs ys h k = absurd h
 grows_more (Some olds) (Some bs) None xs ys h k = absurd k
 grows_more (Some olds) (Some bs) (Some cs) xs ys h k = k ∙ ap (λ zs. zs ++ ys) h ∙ append_assoc olds xs ys
 
--- the first text was put, and the second begun
+-- the first text was put, and a prefix of the second
 pub begins_more : (a b c : Option (List ℕ)) (xs ys : List ℕ) → Appends a b xs → AppendsPrefix b c ys → AppendsPrefix a c (xs ++ ys)
 begins_more a b c xs ys h (part, rest, is, grown) =
     (xs ++ part, rest, ap (λ zs. xs ++ zs) is ∙ sym (append_assoc xs part rest), grows_more a b c xs part h grown)
 
--- the first text was begun, and no more was put
+-- a prefix of the first text was put, and no more
 pub begins_first : (a b : Option (List ℕ)) (xs ys : List ℕ) → AppendsPrefix a b xs → AppendsPrefix a b (xs ++ ys)
 begins_first a b xs ys (part, rest, is, grown) =
     (part, rest ++ ys, ap (λ zs. zs ++ ys) is ∙ append_assoc part rest ys, grown)

@@ -1,4 +1,4 @@
--- What the ends in memory show: a source, a shelf and a sink whose bytes and failures are chosen.
+-- What the source, the shelf and the sink in memory show, whose bytes and failures are chosen.
 use Rattle.std.specs.Prelude.{ℕ, ◌+◌, ◌-◌, ◌^◌, min, List, [], ◌∷◌, map, Contains, Vec, String, if◌then◌else◌, string_bytes}
 use Rattle.std.specs.declared.alloc.Global.{Global}
 use Rattle.std.specs.Str.{bytes_eq}
@@ -8,17 +8,16 @@ use Rattle.diag_edge.specs.Edge.{Holding, absent, holds}
 abbrev pub one_more : ℕ → ℕ
 one_more count = min (count + 1) (2 ^ 64 - 1)
 
--- calls that are numbered from 1: the numbers of those that are to fail, and how many were made, if the
--- count stops at the greatest u64
+-- calls, numbered from 1: the numbers of those that fail, and how many were made, at most the greatest u64
 pub record Calls : Type 0 where
   pub failing : List ℕ
   pub made : ℕ
 
--- the next call is to fail
+-- the next call fails
 abbrev pub IsNextFailing : Calls → Type 0
 IsNextFailing calls = Contains calls.failing (calls.made + 1)
 
--- the calls after one more; which of them are to fail stays
+-- the calls after one more; the same ones fail
 abbrev pub after_call : Calls → Calls
 after_call calls = record { failing = calls.failing; made = one_more calls.made }
 
@@ -26,8 +25,7 @@ after_call calls = record { failing = calls.failing; made = one_more calls.made 
 abbrev pub no_calls : List ℕ → Calls
 no_calls failing = record { failing = failing; made = 0 }
 
--- a source in memory: the bytes still to come, the most that a read gives, the calls, the bytes handed out
--- and the faults
+-- a source in memory: the bytes still to come, the most that a read gives, the calls, and the counts of bytes handed out and of faults
 pub record SourceInMemory : Type 0 where
   pub left : List ℕ
   pub piece : ℕ
@@ -40,7 +38,7 @@ pub record NamedFile : Type 0 where
   pub name : List ℕ
   pub bytes : List ℕ
 
--- a shelf in memory: its files, the bytes still to come, the calls, the bytes handed out and the faults
+-- a shelf in memory: its files, the bytes still to come, the calls, and the counts of bytes handed out and of faults
 pub record ShelfInMemory : Type 0 where
   pub files : List NamedFile
   pub left : List ℕ
@@ -48,8 +46,7 @@ pub record ShelfInMemory : Type 0 where
   pub taken : ℕ
   pub faults : ℕ
 
--- a sink in memory: the bytes accepted, how many there is room for, how many a failing call keeps at most,
--- the calls and the faults
+-- a sink in memory: the bytes accepted, how many it has room for, the most that a failing call keeps, the calls, and the count of faults
 pub record SinkInMemory : Type 0 where
   pub got : List ℕ
   pub room : ℕ
@@ -61,7 +58,7 @@ pub record SinkInMemory : Type 0 where
 abbrev pub named_files : List (String Global × Vec ℕ Global) → List NamedFile
 named_files pairs = map (λ pair. record { name = string_bytes pair.0; bytes = pair.1.items }) pairs
 
--- what is under a name: the first file with the name counts
+-- what is held under a name: the first file with the name counts
 abbrev pub held_in : List NamedFile → List ℕ → Holding
 held_in [] name = absent
 held_in (file ∷ files) name = if bytes_eq file.name name then holds file.bytes else held_in files name

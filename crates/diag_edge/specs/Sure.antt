@@ -1,4 +1,4 @@
--- What the ends show whose calls never fail.
+-- What a source and a shelf show whose calls never fail.
 use Rattle.std.specs.Prelude.{ℕ, List}
 
 -- a source: the bytes still to come, the most that a read gives, and how many were handed out

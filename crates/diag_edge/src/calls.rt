@@ -1,4 +1,4 @@
-//! Calls that are numbered from 1. Chosen ones fail.
+//! Calls, numbered from 1, of which chosen ones fail.
 ghost use Rattle.std.specs.Prelude.{◌≡◌, ◌↔◌, ◌+◌, Contains, IsTrue};
 ghost use Rattle.diag_edge.specs.InMemory.{Calls, IsNextFailing, after_call, no_calls};
 
@@ -23,8 +23,8 @@ impl NumberedCalls {
         NumberedCalls { failing, made: 0 }
     }
 
-    /// Counts one more call, and answers whether it is to fail. The count stops at the greatest
-    /// u64: a call past it has a number that cannot be in `failing`, so it never fails.
+    /// Counts one more call, and returns whether it fails. The count stops at the greatest u64: a call past it has a number that
+    /// cannot be in `failing`, so it never fails.
     pub(crate) fn next_fails(&mut self) -> bool
         ensures fails { IsTrue result ↔ IsNextFailing self.old }
         ensures counted { self.new ≡ after_call self.old }
@@ -35,7 +35,6 @@ impl NumberedCalls {
     }
 }
 
-// Whether the number of the call after so many is in the list.
 fn has_next(failing: &[u64], made: u64) -> bool
     ensures { IsTrue result ↔ Contains failing.now (made + 1) }
 {

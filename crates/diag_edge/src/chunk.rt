@@ -9,12 +9,12 @@ use crate::{Sink, WriteFailed};
 use itoa::{Buffer, Integer};
 use std::marker::Model;
 
-/// The most bytes that are gathered.
+/// The most bytes that a chunk gathers.
 const CHUNK_LIMIT: usize = 4096;
 
-/// Bytes that are gathered until there are many, so that a sink has few calls.
+/// Gathers bytes, so that a sink gets few calls.
 ///
-/// What is still gathered when the chunk is dropped is not put.
+/// A chunk that is dropped does not put what it still holds.
 #[derive(Drop)]
 pub struct Chunk {
     bytes: [u8; CHUNK_LIMIT],
@@ -33,7 +33,7 @@ impl Model for Chunk {
 }
 
 impl Chunk {
-    /// Nothing is gathered yet.
+    /// Returns an empty chunk.
     pub fn new() -> Chunk
         ensures { result ≡ [] }
     {
@@ -51,8 +51,8 @@ impl Chunk {
         out.put(&self.bytes[..self.len])
     }
 
-    /// Adds a text. What was gathered before is put if there is no room for both. After a failed write it is still gathered,
-    /// or all of it was put and nothing is.
+    /// Adds a text. If there is no room for both, it first puts what was gathered. After a failed write that is still gathered, or all of
+    /// it was put and nothing is gathered.
     pub fn add<O: Sink>(&mut self, out: &mut O, text: &[u8]) -> Result<(), WriteFailed>
         ensures bytes { Adds (O.got out.old) (O.got out.new) self.old self.new result text.now }
         ensures err { OnErr result ((self.new ≡ self.old) ⊎ (self.new ≡ [])) }
@@ -88,14 +88,14 @@ impl Chunk {
         if word.len() >= CHUNK_LIMIT {
             return self.add_apart(out, word);
         }
-        // Room is made for both at once, since most words are short numbers.
+        // Makes room for both at once, since most words are short numbers.
         self.make_room(out, word.len() + 1)?;
         self.push_byte(b' ');
         self.push(word);
         Ok(())
     }
 
-    // Adds a space, and then a word that has no room after it.
+    // Adds a space, and then a word that has no room beside it.
     #[tactic(auto, using(crate::proofs::Added::adds_on))]
     fn add_apart<O: Sink>(&mut self, out: &mut O, word: &[u8]) -> Result<(), WriteFailed>
         ensures bytes { Adds (O.got out.old) (O.got out.new) self.old self.new result
@@ -143,7 +143,7 @@ impl Chunk {
         self.add(out, b"\n")
     }
 
-    // Puts what is gathered, if so many bytes have no room beside it.
+    // Puts what is gathered if it leaves no room for `needed` bytes.
     fn make_room<O: Sink>(&mut self, out: &mut O, needed: usize) -> Result<(), WriteFailed>
         requires { needed ≤ CHUNK_LIMIT }
         ensures bytes { Adds (O.got out.old) (O.got out.new) self.old self.new result [] }
@@ -158,7 +158,7 @@ impl Chunk {
         Ok(())
     }
 
-    // Puts what is gathered, and then a text that no chunk has room for.
+    // Puts what is gathered, and then a text too long for a chunk.
     fn pass_on<O: Sink>(&mut self, out: &mut O, text: &[u8]) -> Result<(), WriteFailed>
         ensures bytes { Adds (O.got out.old) (O.got out.new) self.old self.new result text.now }
         ensures err { OnErr result ((self.new ≡ self.old) ⊎ (self.new ≡ [])) }
@@ -187,7 +187,7 @@ impl Chunk {
     }
 }
 
-// Writes a text after the first bytes of a list.
+// Writes a text after the first `len` bytes.
 fn write_at(bytes: &mut [u8], len: usize, text: &[u8])
     requires { len + length text.now ≤ length bytes.old }
     ensures { take (len + length text.now) bytes.new ≡ take len bytes.old ++ text.now }
@@ -195,7 +195,7 @@ fn write_at(bytes: &mut [u8], len: usize, text: &[u8])
     bytes[len..len + text.len()].copy_from_slice(text);
 }
 
-/// Writes a line: words with one space between each two, and a line feed. A line that a chunk has room for is one call.
+/// Writes a line: words joined by single spaces, and a line feed. A line that a chunk has room for is one call.
 pub fn put_line<O: Sink>(out: &mut O, words: &[&[u8]]) -> Result<(), WriteFailed>
     ensures bytes { Puts (O.got out.old) (O.got out.new) result
         (spaced (map (λ word. word.now) words.now)) }
@@ -206,7 +206,6 @@ pub fn put_line<O: Sink>(out: &mut O, words: &[&[u8]]) -> Result<(), WriteFailed
     chunk.put(out)
 }
 
-// Adds words with one space between each two, and a line feed.
 fn add_line<O: Sink>(chunk: &mut Chunk, out: &mut O, words: &[&[u8]]) -> Result<(), WriteFailed>
     ensures bytes { Adds (O.got out.old) (O.got out.new) chunk.old chunk.new result
         (spaced (map (λ word. word.now) words.now)) }

@@ -1,8 +1,7 @@
-//! The one copy that the ends in memory make at a read.
+//! The copy at a read from memory.
 ghost use Rattle.std.specs.Prelude.{◌≡◌, ◌+◌, ◌<◌, ◌≤◌, min, [], ◌++◌, length, take, drop};
 
-/// Copies bytes from the place `at` on to the front of `into`: as many as there are, as fit, and
-/// as are wanted at most. Answers how many.
+/// Copies bytes from place `at` on to the front of `into`: as many as there are and fit, at most `most`. Returns how many.
 pub(crate) fn copy_from(bytes: &[u8], at: usize, into: &mut [u8], most: usize) -> usize
     requires { at ≤ length bytes.now }
     ensures count { result ≡ min most (min (length into.new) (length (drop at bytes.now))) }

@@ -4,8 +4,7 @@ ghost use Rattle.diag_edge.specs.ErrorLines.{fault_line, above_line};
 use crate::{Chunk, Sink, WriteFailed, put_line};
 use itoa::Buffer;
 
-/// Puts the line for a fault of a text: the number of the line, 0 if there is none, that of the fault, and its
-/// name.
+/// Writes the error line of a fault of a text: its line, 0 if it has none, its number and its name.
 pub fn put_fault<O: Sink>(
     out: &mut O,
     line: u32,
@@ -23,7 +22,7 @@ pub fn put_fault<O: Sink>(
     chunk.put(out)
 }
 
-/// Puts the line for a count of something above its limit.
+/// Writes the error line of a count of something above its limit.
 pub fn put_above<O: Sink>(
     out: &mut O,
     what: &[u8],

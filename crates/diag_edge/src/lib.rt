@@ -1,10 +1,8 @@
 //! What a program meets outside: a source of bytes, a shelf of named files, and a sink.
 //!
-//! The traits are `Source`, `Shelf` and `Sink`. `load` reads a whole file from a shelf, and
-//! `put_line` writes a line of words; longer texts are gathered in a `Chunk`. `put_fault` and
-//! `put_above` write the lines that say why a file is refused. `MemSource`,
-//! `MemShelf` and `MemSink` are ends in memory, whose bytes and failures the caller chooses; the
-//! calls of `SureSource`, `SureShelf` and `TallySink` never fail.
+//! The traits are `Source`, `Shelf` and `Sink`. `load` reads a whole file from a shelf. `put_line` writes a line of words; a `Chunk`
+//! gathers longer texts. `put_fault` and `put_above` write the lines that say why a file is refused. `MemSource`, `MemShelf` and `MemSink`
+//! are in memory, and the caller chooses their bytes and failures. The calls of `SureSource`, `SureShelf` and `TallySink` never fail.
 //!
 //! Counts of faults and of calls are u64 and stop at the greatest one.
 #![tactic(auto)]

@@ -7,7 +7,7 @@ ghost use Rattle.diag_edge.specs.declared.loading.LoadError.TheVariants.{Failed,
 use crate::{ReadFailed, Shelf};
 use std::alloc::{AllocError, Global};
 
-/// How many bytes one read asks for at most.
+/// The most bytes that one read asks for.
 const PIECE: usize = 4096;
 
 /// Why a file was not loaded.
@@ -37,11 +37,10 @@ impl From<AllocError> for LoadError {
     }
 }
 
-/// Picks the file with this name and reads it to its end, `limit` bytes at most.
+/// Picks the file with this name and reads it to its end, at most `limit` bytes.
 ///
-/// `LoadError::Failed` comes only from the shelf. `LoadError::Long` comes exactly if one byte
-/// more than `limit` was read, and then no more is read. `LoadError::Memory` may come at any time.
-/// After an error it is open which bytes of the file are still to come.
+/// `LoadError::Failed` comes only from the shelf. `LoadError::Long` is returned exactly if one byte more than `limit` was read; no more
+/// is read then. `LoadError::Memory` may be returned at any time. After an error it is open which bytes of the file are still to come.
 pub fn load<H: Shelf>(
     alloc: Global,
     shelf: &mut H,
@@ -52,7 +51,7 @@ pub fn load<H: Shelf>(
     requires limit { limit < 2 ^ 40 }
     requires taken { H.taken shelf.old < 2 ^ 62 }
 
-    // The answer is the whole file.
+    // The result is the whole file.
     ensures bytes { IfOk result (λ file.
         IfSome (known_bytes (H.held shelf.old name.now)) (λ bytes. file.items ≡ bytes)) }
     ensures end { OnOk result (IsAtEnd (H.left shelf.new)) }
@@ -79,7 +78,7 @@ pub fn load<H: Shelf>(
     let mut file = Vec::new(alloc);
     let mut piece = [0u8; PIECE];
     loop {
-        // One byte past the limit is asked for, since it says a file that is too long.
+        // Asks for one byte past the limit, to find a file that is too long.
         let room = (limit + 1 - file.len()).min(PIECE);
         let count = shelf.read(&mut piece[..room])?;
         if count == 0 {

@@ -15,7 +15,7 @@ use std::marker::Model;
 #[derive(Drop)]
 pub struct MemShelf {
     files: Vec<(String, Vec<u8>)>,
-    // The place of the file that is read, or past the last one where there is none.
+    // The place of the file that is read, or past the last one if there is none.
     chosen: usize,
     // How many of its bytes were read.
     at: usize,
@@ -39,9 +39,8 @@ impl Model for MemShelf {
 }
 
 impl MemShelf {
-    /// A shelf with these files, each a name and its bytes. The calls of `pick` and `read` are
-    /// numbered together, from 1, and those whose numbers are in `failing` fail. Before a pick
-    /// there is nothing to read.
+    /// Returns a shelf with these files, each a name and its bytes. Calls of `pick` and `read` are numbered together, from 1; those whose
+    /// numbers are in `failing` fail. Before a pick nothing is left to read.
     pub fn new(files: Vec<(String, Vec<u8>)>, failing: Vec<u64>) -> Self
         ensures { result ≡ record {
           files = named_files files.items;
@@ -63,7 +62,7 @@ impl MemShelf {
     }
 }
 
-// The place of the first file with the name.
+// Returns the place of the first file with the name.
 fn place_of(files: &[(String, Vec<u8>)], name: &str) -> Option<usize>
     ensures none { IfNone result (held_in (named_files files.now) name.now ≡ absent) }
     ensures some { IfSome result (λ place.
@@ -77,7 +76,6 @@ fn place_of(files: &[(String, Vec<u8>)], name: &str) -> Option<usize>
     None
 }
 
-// The bytes of the file at a place.
 fn file_at(files: &[(String, Vec<u8>)], place: usize) -> &[u8]
     ensures { result.now ≡ bytes_at files.now place }
 {
@@ -114,7 +112,7 @@ impl Source for MemShelf {
         ensures cause { HasCause self.old.faults self.new.faults result }
         ensures files { self.new.files ≡ self.old.files }
 
-        // What this type promises besides the trait.
+        // What this type adds.
         ensures fails { IsErr result ↔ IsNextFailing self.old.calls }
         ensures count { IfOk result (λ count.
             count ≡ min (length into.new) (length self.old.left)) }
@@ -153,7 +151,7 @@ impl Shelf for MemShelf {
         ensures cause { HasCause self.old.faults self.new.faults result }
         ensures files { self.new.files ≡ self.old.files }
 
-        // What this type promises besides the trait.
+        // What this type adds.
         ensures fails { IsErr result ↔
             (IsNextFailing self.old.calls ⊎ (held_in self.old.files name.now ≡ absent)) }
         ensures empty_after_failure { OnErr result (self.new.left ≡ []) }

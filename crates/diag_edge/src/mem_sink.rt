@@ -8,7 +8,7 @@ use crate::{Memory, Sink, WriteFailed};
 use std::alloc::Global;
 use std::marker::Model;
 
-/// Keeps what it is given, up to a room that it takes at once, and has calls that fail.
+/// Keeps the bytes that it gets, in room that it allocates at once. Chosen calls fail.
 #[derive(Drop)]
 pub struct MemSink {
     bytes: Vec<u8>,
@@ -33,11 +33,10 @@ impl Model for MemSink {
 }
 
 impl MemSink {
-    /// A sink with room for `room` bytes, which are allocated here and at no later call. The calls
-    /// whose numbers, counted from 1, are in `failing` fail, and so does one past the room. Such
-    /// a call keeps the first `keep` bytes of its piece, as far as there are so many and they fit.
+    /// Returns a sink with room for `room` bytes, allocated here and at no later call. A call fails if its number, counted from 1, is
+    /// in `failing`, or if its bytes do not fit. It then keeps its first `keep` bytes, as far as there are that many and they fit.
     ///
-    /// `Memory` if there is not so much memory.
+    /// `Memory` if there is not enough memory.
     pub fn new(alloc: Global, room: usize, failing: Vec<u64>, keep: usize) -> Result<Self, Memory>
         ensures { IfOk result (λ sink. sink ≡ record {
           got = [];
@@ -56,7 +55,7 @@ impl MemSink {
         })
     }
 
-    /// The bytes accepted so far.
+    /// Returns the bytes accepted so far.
     pub fn as_slice(&self) -> &[u8]
         ensures got { result.now ≡ self.now.got }
         ensures fits { length result.now ≤ self.now.room }
@@ -79,7 +78,7 @@ impl Sink for MemSink {
         ensures bytes { Puts (Some self.old.got) (Some self.new.got) result bytes.now }
         ensures cause { HasCause self.old.faults self.new.faults result }
 
-        // What this type promises besides the trait. A call that fails appends the first `keep` bytes that fit.
+        // What this type adds. A call that fails appends the first `keep` bytes that fit.
         ensures fails { IsErr result ↔
             (IsNextFailing self.old.calls ⊎
             (self.old.room < length self.old.got + length bytes.now)) }
@@ -93,7 +92,7 @@ impl Sink for MemSink {
         let named = self.calls.next_fails();
         let free = self.room - self.bytes.len();
 
-        // What is appended fits into the room that `new` took, so neither append asks for memory.
+        // Both appends fit the room that `new` allocated, so they need no memory.
         if named || bytes.len() > free {
             let kept = self.keep.min(free).min(bytes.len());
             self.bytes.extend_from_slice(&bytes[..kept]).unwrap();

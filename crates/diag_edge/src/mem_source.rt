@@ -10,7 +10,7 @@ use crate::copying::copy_from;
 use crate::{ReadFailed, Source};
 use std::marker::Model;
 
-/// Bytes that come in pieces, and calls that fail.
+/// Bytes that come in pieces. Chosen calls fail.
 #[derive(Drop)]
 pub struct MemSource {
     bytes: Vec<u8>,
@@ -37,8 +37,7 @@ impl Model for MemSource {
 }
 
 impl MemSource {
-    /// A source of these bytes. A read gives at most `piece` bytes, and the calls whose numbers,
-    /// counted from 1, are in `failing` fail.
+    /// Returns a source of these bytes. A read gives at most `piece` bytes. Calls whose numbers, counted from 1, are in `failing` fail.
     pub fn new(bytes: Vec<u8>, piece: usize, failing: Vec<u64>) -> Self
         requires { 0 < piece }
         ensures { result ≡ record {
@@ -86,7 +85,7 @@ impl Source for MemSource {
             (λ _. self.new.taken ≡ self.old.taken) }
         ensures cause { HasCause self.old.faults self.new.faults result }
 
-        // What this type promises besides the trait.
+        // What this type adds.
         ensures fails { IsErr result ↔ IsNextFailing self.old.calls }
         ensures count { IfOk result (λ count.
             count ≡ min self.old.piece (min (length into.new) (length self.old.left))) }

@@ -1,4 +1,4 @@
-//! The traits of the outside, and what they answer when a call fails.
+//! The traits of the outside, and the errors of their calls.
 ghost use Rattle.std.specs.Prelude.{◌≡◌, ◌≢◌, ◌↔◌, ◌+◌, ◌^◌, ◌<◌, ℕ, List, Option, Some, OnOk, IfSome, MatchResult};
 ghost use Rattle.std.specs.Io.{ReadsAtMost};
 ghost use Rattle.std.specs.Io.KnownBytes.{ReadConsumes};
@@ -12,7 +12,7 @@ pub struct ReadFailed;
 #[derive(Clone, Copy, Debug, PartialEq, Eq)]
 pub struct WriteFailed;
 
-/// What bytes come from.
+/// A source of bytes.
 pub trait Source {
     /// The bytes still to come, if they are shown.
     ghost left: { Self → Option (List ℕ) };
@@ -32,18 +32,17 @@ pub trait Source {
     /// What it shows at a time.
     ghost shown: { Self → Reading };
 
-    /// That is these three.
+    /// `shown` is these three.
     ghost shown_is: { (s : Self) → shown s ≡ record { left = left s; taken = taken s; faults = faults s } };
 
-    /// Reads some of the bytes still to come into the front of `into`, and answers how many.
-    /// With room for a byte it answers 0 only at the end of the input. What `into` has after
-    /// them, and at `ReadFailed`, is open. At `ReadFailed` no byte was handed out.
+    /// Reads some of the bytes still to come into the front of `into`, and returns how many. With room for a byte it returns 0 only at the
+    /// end of the input. The rest of `into`, and all of it at `ReadFailed`, is open. At `ReadFailed` no byte was handed out.
     fn read(&mut self, into: &mut [u8]) -> Result<usize, ReadFailed>
         requires { taken self.old < 2 ^ 63 }
 
         ensures room { ReadsAtMost result into.new }
 
-        // The bytes read were the first of those to come; and 0 with room means that none are left.
+        // The bytes read are the first of those to come; 0 with room means that none are left.
         ensures bytes { ReadConsumes (left self.old) (left self.new) result into.new }
         ensures taken { MatchResult result
             (λ count. taken self.new ≡ taken self.old + count)
@@ -52,7 +51,7 @@ pub trait Source {
         ensures fixed { fixed self.new ≡ fixed self.old };
 }
 
-/// Named files. One at a time is read.
+/// Named files, which are read one at a time.
 pub trait Shelf: Source {
     /// Which names may be picked.
     ghost may: { Self → List ℕ → Type 0 };
@@ -60,8 +59,8 @@ pub trait Shelf: Source {
     /// What is shown of each name.
     ghost held: { Self → List ℕ → Holding };
 
-    /// Goes to the beginning of the file with this name: from here on `read` gives its bytes.
-    /// After `ReadFailed` it is open which bytes are still to come.
+    /// Goes to the beginning of the file with this name: `read` then gives its bytes. After `ReadFailed` it is open which bytes are still
+    /// to come.
     fn pick(&mut self, name: &str) -> Result<(), ReadFailed>
         requires { may self.old name.now }
 
@@ -81,7 +80,7 @@ pub trait Shelf: Source {
         Self.fixed b ≡ Self.fixed a → may b name ↔ may a name };
 }
 
-/// What bytes go to.
+/// A sink of bytes.
 pub trait Sink {
     /// The bytes accepted, if they are shown.
     ghost got: { Self → Option (List ℕ) };
@@ -92,10 +91,10 @@ pub trait Sink {
     /// What it shows at a time.
     ghost shown: { Self → Writing };
 
-    /// That is these two.
+    /// `shown` is these two.
     ghost shown_is: { (s : Self) → shown s ≡ record { got = got s; faults = faults s } };
 
-    /// Writes all the bytes, or at `WriteFailed` some of the first of them.
+    /// Writes all the bytes, or at `WriteFailed` a prefix of them.
     fn put(&mut self, bytes: &[u8]) -> Result<(), WriteFailed>
         ensures bytes { Puts (got self.old) (got self.new) result bytes.now }
         ensures cause { HasCause (faults self.old) (faults self.new) result };

@@ -1,4 +1,4 @@
-//! Ends whose calls never fail, for runs whose whole output is wanted.
+//! A source, a shelf and a sink whose calls never fail, for runs whose whole output is wanted.
 ghost use Rattle.std.specs.Prelude.{◌≡◌, ◌≢◌, ◌+◌, ◌-◌, ◌%◌, ◌^◌, ◌<◌, ◌≤◌, min, Some, None, [], List, ℕ, length, drop, IsOk, IfOk, IfSome, OnOk, MatchResult, vec_len, refl};
 ghost use Rattle.std.specs.Io.{ReadsAtMost};
 ghost use Rattle.std.specs.Io.KnownBytes.{ReadConsumes};
@@ -28,7 +28,7 @@ impl Model for SureSource {
 }
 
 impl SureSource {
-    /// A source of these bytes. A read gives at most `piece` bytes.
+    /// Returns a source of these bytes. A read gives at most `piece` bytes.
     pub fn new(bytes: Vec<u8>, piece: usize) -> Self
         requires { 0 < piece }
         ensures { result ≡ record { left = bytes.items; piece = piece; taken = 0 } }
@@ -68,7 +68,7 @@ impl Source for SureSource {
             (λ _. self.new.taken ≡ self.old.taken) }
         ensures cause { HasCause 0 0 result }
 
-        // What this type promises besides the trait.
+        // What this type adds.
         ensures ok { IsOk result }
         ensures count { IfOk result (λ count.
             count ≡ min self.old.piece (min (length into.new) (length self.old.left))) }
@@ -99,7 +99,7 @@ impl Model for SureShelf {
 }
 
 impl SureShelf {
-    /// A shelf where every name has this file. Before a pick there is nothing to read.
+    /// Returns a shelf that has this file under every name. Before a pick nothing is left to read.
     pub fn new(file: Vec<u8>) -> Self
         ensures { result ≡ record { file = file.items; left = []; taken = 0 } }
     {
@@ -139,7 +139,7 @@ impl Source for SureShelf {
         ensures cause { HasCause 0 0 result }
         ensures file { self.new.file ≡ self.old.file }
 
-        // What this type promises besides the trait.
+        // What this type adds.
         ensures ok { IsOk result }
         ensures count { IfOk result (λ count. count ≡ min (length into.new) (length self.old.left)) }
     {
@@ -170,7 +170,7 @@ impl Shelf for SureShelf {
         ensures cause { HasCause 0 0 result }
         ensures same { self.new.file ≡ self.old.file }
 
-        // What this type promises besides the trait.
+        // What this type adds.
         ensures ok { IsOk result }
     {
         self.at = 0;
@@ -191,14 +191,14 @@ impl Model for TallySink {
 }
 
 impl TallySink {
-    /// Nothing is counted yet.
+    /// Returns a sink that has counted no bytes.
     pub fn new() -> Self
         ensures { result ≡ 0 }
     {
         TallySink { count: 0 }
     }
 
-    /// How many bytes were put, from 0 again after the greatest u64.
+    /// Returns how many bytes were put; after the greatest u64 the count starts at 0 again.
     pub fn count(&self) -> u64
         ensures { result ≡ self.now }
     {
@@ -220,7 +220,7 @@ impl Sink for TallySink {
         ensures bytes { Puts None None result bytes.now }
         ensures cause { HasCause 0 0 result }
 
-        // What this type promises besides the trait.
+        // What this type adds.
         ensures ok { IsOk result }
         ensures count { self.new ≡ (self.old + length bytes.now) % 2 ^ 64 }
     {

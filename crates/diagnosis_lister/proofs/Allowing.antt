@@ -1,4 +1,4 @@
--- States that evidence allows, as open parts are fixed.
+-- States that evidence allows, while open parts are fixed.
 use Rattle.std.proofs.Common.{◌≡◌, ◌≢◌, ℕ, ◌<◌, ◌≤◌, Bool, List, length, get_or, set, refl, ◌∙◌, subst, arith}
 use Rattle.std.proofs.Math.ListN.{length-set}
 use Rattle.std.proofs.lemmas.List.{get_or-set_same, get_or-set_other}
@@ -8,7 +8,7 @@ use Rattle.conditioner.specs.Evidence.{word_of}
 use Rattle.minimiser.specs.LeastStates.{ModelWithin}
 use Rattle.minimiser.proofs.Models.{Agree, Agree-bit, Refines, ModelWithin-old, ModelWithin-new, ModelWithin-agrees}
 
--- Evidence allows states of so many parts that agree with them. Evidence that says more allow those that agree with these.
+-- Evidence allows states of `parts` parts that agree with it. Evidence that says more allows those of them that agree with it.
 pub record Allows (vars parts : ℕ) (P : List ℕ → List Bool → Type 0) : Type 0 where
   pub within : parts ≤ vars
   pub long : {evidence : List ℕ} {h : List Bool} → P evidence h → length h ≡ parts

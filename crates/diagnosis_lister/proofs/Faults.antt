@@ -1,4 +1,4 @@
--- How many parts are faulty, as evidence and points are gone through.
+-- The number of faulty parts, while evidence and points are gone through.
 use Rattle.std.proofs.Common.{◌≡◌, ℕ, zero, suc, ◌+◌, ◌<◌, ◌≤◌, Bool, false, not, cond, List, [], ◌∷◌, length, get_or, set, drop, arith}
 use Rattle.std.specs.Prelude.{◌==◌}
 use Rattle.std.proofs.Math.ListN.{length-map}
@@ -17,7 +17,7 @@ fault_of w = cond (not (not (w == 2))) 1 0
 one-kept : (v w : ℕ) → (v ≡ 2 → w ≡ 2) → fault_of v ≤ fault_of w
 one-kept v w kept = grind arith
 
--- if the words that say faulty still do, as many parts are faulty
+-- if the words that say faulty still do, no fewer parts are faulty
 pub faults-kept : (parts : ℕ) (old new : List ℕ) → length new ≡ length old → ((k : ℕ) → get_or old k 0 ≡ 2 → get_or new k 0 ≡ 2) → fault_count (fixed_bits parts old) ≤ fault_count (fixed_bits parts new)
 faults-kept zero old new l kept = omega arith
 faults-kept (suc n) [] new l kept = omega arith

@@ -50,7 +50,7 @@ module _ (graph : Graph) (evidence costs : List ℕ) (most : ℕ) (e : LeastIs g
   pub step-found : (point h : List Bool) → IsFirst (Later point) h → Found ≡ step_of (models graph evidence (length costs)) (rest (diagnoses_under graph evidence costs) (Some point))
   step-found point h is = sym (some_later (models graph evidence (length costs)) e h (rest (diagnoses_under graph evidence costs) (Some point)) (later-in point h is.meets))
 
--- ---- where there is no state
+-- ---- no state
 
 pub none-first : (graph : Graph) (evidence costs : List ℕ) (d : List Bool) → least_under graph evidence costs ≡ None → d ≡ get_or (diagnoses_under graph evidence costs) 0 d
 none-first graph evidence costs d e = λ i. get_or (diagnoses costs (sym (least-none costs (models graph evidence (length costs)) e) i)) 0 d
@@ -60,12 +60,10 @@ none-next graph evidence costs point d e = λ i. get_or (rest (diagnoses costs (
 
 -- ---- states of least cost
 
--- ---- states of least cost
-
 pub has-least : (graph : Graph) (costs : List ℕ) (within : length costs ≤ graph.vars) (evidence : List ℕ) (most : ℕ) → LeastIs graph costs evidence most → Has (ModelWithin graph evidence costs most)
 has-least graph costs within evidence most e = let s = least-some graph costs within evidence most e in record { state = s.state; is = s.passes }
 
--- evidence that says more has the same least cost if it allows a state of it
+-- evidence that says more has the same least cost if it allows a state of that cost
 pub least-has : (graph : Graph) (costs : List ℕ) (within : length costs ≤ graph.vars) (old new : List ℕ) (most : ℕ) → length old ≡ graph.vars → Refines (length costs) old new → LeastIs graph costs old most → Has (ModelWithin graph new costs most)
     → LeastIs graph costs new most
 least-has graph costs within old new most long r e h = least-refined graph costs within old new most h.state long r e h.is

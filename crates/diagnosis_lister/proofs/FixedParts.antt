@@ -1,4 +1,4 @@
--- The first of the states that evidence allows, as one open part after the other is fixed.
+-- The first of the states that evidence allows, while open parts are fixed one after the other.
 use Rattle.std.proofs.Common.{◌≡◌, ◌≢◌, ℕ, ◌+◌, ◌<◌, ◌≤◌, Bool, true, false, List, length, get_or, set, refl, ◌∙◌, subst, arith, inl, inr}
 use Rattle.std.specs.Prelude.{◌⊎◌}
 use Rattle.std.proofs.Math.ListN.{length-map}
@@ -12,7 +12,7 @@ use Rattle.minimiser.proofs.Models.{Agree-bit, Refines}
 use Rattle.diagnosis_lister.specs.inner.Fixing.{IsFirst, Has, fixed_bits}
 use Rattle.diagnosis_lister.proofs.Allowing.{Allows, Refines-start, Refines-more, Refines-set, same_fixed, set-bit, set-old, set-new}
 
--- what holds when the parts before one are fixed
+-- what holds when the parts before `from` are fixed
 pub record Settles (P : List ℕ → List Bool → Type 0) (parts : ℕ) (start evidence : List ℕ) (from : ℕ) : Type 0 where
   pub refines : Refines parts start evidence
   pub front : (k : ℕ) → k < from → get_or evidence k 0 ≢ 0
@@ -22,7 +22,7 @@ pub record Settles (P : List ℕ → List Bool → Type 0) (parts : ℕ) (start 
 pub Settles-start : (P : List ℕ → List Bool → Type 0) (parts : ℕ) (evidence : List ℕ) (from : ℕ) → ((k : ℕ) → k < from → get_or evidence k 0 ≢ 0) → Has (P evidence) → Settles P parts evidence evidence from
 Settles-start P parts evidence from front some = record { refines = Refines-start parts evidence; front = front; some = some; first = λ h is. is }
 
--- the open parts from one up to another are fixed to ok
+-- the open parts from `from` up to `to` are fixed to ok, without `to`
 pub record FixesOk (old new : List ℕ) (from to : ℕ) : Type 0 where
   pub long : length new ≡ length old
   pub fixed : (k : ℕ) → from ≤ k → k < to → get_or old k 0 ≡ 0 → get_or new k 0 ≡ 1
@@ -59,7 +59,7 @@ module _ {vars parts : ℕ} {P : List ℕ → List Bool → Type 0} (allows : Al
           (allows.agrees old-long (set-old allows old from false old-long lt free h is.meets) j (omega arith)) (allows.agrees old-long p j (omega arith)))
           (set-bit allows old from false old-long lt free h is.meets) q)
 
-    -- where all parts are fixed, what is fixed is the one state that is left
+    -- if all parts are fixed, they are the one state that is left
     pub settles-end : from ≡ parts → ((k : ℕ) → k < length old → get_or old k 0 < 3) → IsFirst (P start) (fixed_bits parts old)
     settles-end all small = s.first (fixed_bits parts old) (record {
       meets = subst (P old) (only s.some.state s.some.is) s.some.is;

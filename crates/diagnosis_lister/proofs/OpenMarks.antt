@@ -84,7 +84,7 @@ marked-open evidence marks i are h m = eqb-true _ _ (sym (are i h) ∙ grind ari
 pub unmarked-held : (evidence marks : List ℕ) (i : ℕ) → AreMarks evidence marks → i < length marks → get_or marks i 0 < 2 → get_or evidence i 0 ≢ 0
 unmarked-held evidence marks i are h m e = let t : nat_le 2 (get_or marks i 0) ≡ true = are i h ∙ eq-eqb (get_or evidence i 0) 0 e in let g : 2 ≤ get_or marks i 0 = leb-true _ _ t in omega arith
 
--- the word that a part had: 0 if it is marked, and otherwise what it is
+-- the word that a part had: 0 if it is marked, else what it is
 pub word-marked : (old evidence marks : List ℕ) (i word : ℕ) → AreMarks old marks → i < length marks → word ≡ 0 → 2 ≤ get_or marks i 0 → word ≡ get_or old i 0
 word-marked old evidence marks i word are h e m = e ∙ sym (marked-open old marks i are h m)
 

@@ -14,7 +14,7 @@ use Rattle.diagnosis_lister.proofs.Allowing.{Allows}
 
 -- ---- following the point
 
--- the evidence on so many parts says the point's bits
+-- the evidence of the first `n` parts says the point's bits
 pub record FollowsTo (old : List ℕ) (point : List Bool) (new : List ℕ) (n : ℕ) : Type 0 where
   pub front : (k : ℕ) → k < n → get_or new k 0 ≡ word_of (bit_in point k)
   pub kept : (k : ℕ) → get_or old k 0 ≢ 0 → get_or new k 0 ≡ get_or old k 0
@@ -43,7 +43,7 @@ module _ {vars parts : ℕ} {P : List ℕ → List Bool → Type 0} (allows : Al
   pub follows-start : {evidence : List ℕ} {n : ℕ} → Follows (Agrees (length point) old) old point evidence n → Follows (P old) old point evidence n
   follows-start f = grind arith
 
-  -- no later state leaves the point at a part, if none does that is ok there
+  -- no later state leaves the point at a part, if no such state is ok there
   none-before : (j : ℕ) → j < parts → NoneAfter (P old) point (j + 1)
       → (bit_in point j ≡ false → (h : List Bool) → P old h → AlikeBelow j h point → bit_in h j ≡ true → ⊥) → NoneAfter (P old) point j
   none-before j lt none left h p alike b = grind (arith, not_both_before, before-at)
@@ -53,7 +53,7 @@ module _ {vars parts : ℕ} {P : List ℕ → List Bool → Type 0} (allows : Al
     pub follows-back : (word : ℕ) → word ≡ get_or old j 0 → NoneAfter (P old) point j → Follows (P old) old point (set evidence j word) j
     follows-back word e none = grind (arith, get_or-set_same, get_or-set_other)
 
-    -- the part is ok or is held to be faulty
+    -- the point has the part ok, or it is held to be faulty
     pub none-held : (bit_in point j ≡ true) ⊎ (get_or old j 0 ≡ 2) → NoneAfter (P old) point j
     none-held cases = none-before j lt f.none (λ e h p alike g. grind (arith, cases, allows.agrees long p j lt))
 

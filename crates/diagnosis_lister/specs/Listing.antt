@@ -1,13 +1,13 @@
--- What `next` answers, and how many parts are faulty.
+-- The answer of `next`, and the number of faulty parts.
 use Rattle.std.specs.Prelude.{ℕ, Bool, not, List, [], ◌∷◌, count_by}
 use Rattle.diagnosis_lister.specs.declared.listing.Step.{Step}
 use Rattle.diagnosis_lister.specs.declared.listing.Step.TheVariants.{Found, End, Inconsistent}
 
--- how many parts are faulty
+-- the number of faulty parts
 abbrev pub fault_count : List Bool → ℕ
 fault_count state = count_by not state
 
--- by the states that are allowed, and the diagnoses that come later
+-- the answer, from the states that are allowed and the diagnoses that come later
 abbrev pub step_of : List (List Bool) → List (List Bool) → Step
 step_of [] later = Inconsistent
 step_of (m ∷ ms) [] = End

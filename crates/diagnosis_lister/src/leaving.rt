@@ -12,7 +12,7 @@ use minimiser::{Steps, TOTAL_LIMIT};
 use node_store::GraphView;
 use std::sync::ledger::Ledger;
 
-// Fixes the open parts as the state has them, up to the first part that is held otherwise; how many parts these are, with that one.
+// Fixes the open parts as the state has them, up to the first part that is held otherwise. Returns how many parts these are, with that one.
 fn follow(evidence: &mut [u32], state: &[u32]) -> usize
     requires long { length state.now ≤ length evidence.old }
     requires evidence { All (λ w. w < 3) evidence.old }
@@ -32,8 +32,8 @@ fn follow(evidence: &mut [u32], state: &[u32]) -> usize
     state.len()
 }
 
-// The last part at which a later diagnosis can leave the state: the same before it, ok if the state has faulty. The evidence
-// is then fixed so far. It takes a pass for each part that is faulty in the state, at most.
+// Returns the last part at which a later diagnosis can leave the state: it is the same before the part, and ok there if the state has
+// faulty. The evidence is then fixed up to it. It makes a pass for each part that is faulty in the state, at most.
 pub(crate) fn leave<L: Ledger>(
     graph: &GraphView<'_>,
     evidence: &mut [u32],

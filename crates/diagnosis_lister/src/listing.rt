@@ -22,11 +22,11 @@ pub enum Step {
     Inconsistent,
 }
 
-/// The least cost, with the first diagnosis in the state: 0 if a part is ok, and 1 if it is faulty. `None` if the graph
-/// allows no state; the state stays then.
+/// Returns the least cost, and writes the first diagnosis to the state: 0 if a part is ok, and 1 if it is faulty. Returns `None` if the
+/// graph allows no state; the state stays then.
 ///
-/// The evidence is the same afterwards. It takes a pass, and one more for each faulty part of the diagnosis; each pass has at most
-/// one sweep.
+/// The evidence is the same afterwards. The call makes at most one pass, and one more for each faulty part of the diagnosis; each pass
+/// has at most one sweep.
 pub fn first<L: Ledger>(
     graph: &Graph,
     evidence: &mut [u32],
@@ -50,14 +50,14 @@ pub fn first<L: Ledger>(
     ensures state { All (λ s. s < 2) state.new }
     ensures evidence { evidence.new ≡ evidence.old }
 
-    // How many passes are made at most.
+    // The most passes.
     ensures steps { steps.new ≤ steps.old + 2 * length costs.now + 1 }
     ensures few_steps { steps.new ≤ steps.old + fault_count (bits_of state.new) + 1 }
 {
     first_in(&graph.view(), evidence, costs, values, state, steps)
 }
 
-/// What [`first`] does, in a graph whose nodes may lie anywhere.
+/// Does the same as [`first`] in a graph whose nodes may lie anywhere.
 pub fn first_in<L: Ledger>(
     graph: &GraphView<'_>,
     evidence: &mut [u32],
@@ -81,7 +81,7 @@ pub fn first_in<L: Ledger>(
     ensures state { All (λ s. s < 2) state.new }
     ensures evidence { evidence.new ≡ evidence.old }
 
-    // How many passes are made at most.
+    // The most passes.
     ensures steps { steps.new ≤ steps.old + 2 * length costs.now + 1 }
     ensures few_steps { steps.new ≤ steps.old + fault_count (bits_of state.new) + 1 }
 {
@@ -92,10 +92,10 @@ pub fn first_in<L: Ledger>(
     Some(fewest)
 }
 
-/// Whether there is a diagnosis after the state, which it then becomes. The state need be no diagnosis.
+/// Finds the first diagnosis after the state, and writes it to the state. The state need not be a diagnosis.
 ///
-/// The evidence is the same afterwards. If there is none, the state stays. It takes a pass, and one more for each faulty part of
-/// the state and of the diagnosis; each pass has at most one sweep.
+/// The evidence is the same afterwards. If there is none, the state stays. The call makes at most one pass, and one more for each faulty
+/// part of the state and of the diagnosis; each pass has at most one sweep.
 pub fn next<L: Ledger>(
     graph: &Graph,
     evidence: &mut [u32],
@@ -121,7 +121,7 @@ pub fn next<L: Ledger>(
     ensures state { All (λ s. s < 2) state.new }
     ensures evidence { evidence.new ≡ evidence.old }
 
-    // How many passes are made at most.
+    // The most passes.
     ensures steps { steps.new ≤ steps.old + 2 * length costs.now + 1 }
     ensures few_steps { steps.new
         ≤ steps.old + fault_count (bits_of state.old) + fault_count (bits_of state.new) + 1 }
@@ -129,7 +129,7 @@ pub fn next<L: Ledger>(
     next_in(&graph.view(), evidence, costs, values, state, steps)
 }
 
-/// What [`next`] does, in a graph whose nodes may lie anywhere.
+/// Does the same as [`next`] in a graph whose nodes may lie anywhere.
 pub fn next_in<L: Ledger>(
     graph: &GraphView<'_>,
     evidence: &mut [u32],
@@ -155,7 +155,7 @@ pub fn next_in<L: Ledger>(
     ensures state { All (λ s. s < 2) state.new }
     ensures evidence { evidence.new ≡ evidence.old }
 
-    // How many passes are made at most.
+    // The most passes.
     ensures steps { steps.new ≤ steps.old + 2 * length costs.now + 1 }
     ensures few_steps { steps.new
         ≤ steps.old + fault_count (bits_of state.old) + fault_count (bits_of state.new) + 1 }

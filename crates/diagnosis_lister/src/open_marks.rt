@@ -5,8 +5,7 @@ ghost use Rattle.diagnosis_lister.specs.inner.Fixing.{fixed_bits};
 
 use conditioner::{is_false, is_open};
 
-// While diagnoses are looked for, open parts are fixed in the evidence. So that they can be found again, the word of the
-// state of each open part is marked by 2.
+// The search fixes open parts in the evidence. So that they can be found again, 2 is added to the word of each in the state.
 
 pub(crate) fn mark(evidence: &[u32], state: &mut [u32])
     requires long { length state.old ≤ length evidence.now }
@@ -31,7 +30,7 @@ pub(crate) fn unmark(state: &mut [u32])
     }
 }
 
-// Writes what the evidence says of the parts into the state, and opens the parts that were open.
+// Writes what the evidence says of the parts to the state, and opens the parts that were open.
 pub(crate) fn write_back(evidence: &mut [u32], state: &mut [u32])
     requires { length state.old ≤ length evidence.old }
     ensures evidence { (k : ℕ) → k < length state.old → slice_index evidence.new k

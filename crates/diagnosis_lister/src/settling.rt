@@ -10,7 +10,7 @@ use minimiser::{Steps, TOTAL_LIMIT, first_suspect, least_in, put_least_costs};
 use node_store::GraphView;
 use std::sync::ledger::Ledger;
 
-// Whether some state that agrees with the evidence has this least cost.
+// Whether the least cost under the evidence is `fewest`.
 pub(crate) fn reaches<L: Ledger>(
     graph: &GraphView<'_>,
     evidence: &[u32],
@@ -31,8 +31,8 @@ pub(crate) fn reaches<L: Ledger>(
     least_in(graph, evidence, costs, values, steps) == Some(fewest)
 }
 
-// Fixes each open part from one on, so that only the first of the states of least cost is left: faulty if that can be.
-// The values are the costs of the nodes. It takes a pass for each part that it fixes to faulty.
+// Fixes each open part from `from` on, to faulty if that can be, so that only the first of the states of least cost is left.
+// The values are the costs of the nodes. It makes a pass for each part that it fixes to faulty.
 pub(crate) fn settle<L: Ledger>(
     graph: &GraphView<'_>,
     evidence: &mut [u32],

@@ -1,4 +1,4 @@
--- Nodes as they are added in memory that was taken before.
+-- Nodes that are added in memory that was allocated before.
 use Rattle.std.proofs.Common.{◌≡◌, ℕ, List, [], ◌∷◌, ◌++◌, length, ap, ◌∙◌, arith}
 use Rattle.state_rules.specs.declared.nodes.NodeKind.{NodeKind}
 use Rattle.state_rules.specs.Graphs.{Node, edges}
@@ -17,7 +17,7 @@ filled kinds kinds_new ends ends_new kids children_new row nodes what end k e r 
       (λ i. nodes_of (k i) (all.1 i)) ∙ nodes_of-push kinds (pieces kids 0 ends) what row (length-pieces kids 0 ends ∙ same) ∙ ap (λ (ns : List Node). ns ++ record { what = what; kids = row } ∷ []) is,
     )
 
--- how many nodes there are, and how many children
+-- the number of nodes, and of children
 pub sizes : (kinds : List NodeKind) (ends kids : List ℕ) (nodes : List Node) → length ends ≡ length kinds → EndAt (length kids) 0 ends → nodes_of kinds (pieces kids 0 ends) ≡ nodes
     → (length nodes ≡ length kinds) × (edges nodes ≡ length kids)
 sizes kinds ends kids nodes same valid is = grind (arith, length-pieces, length-nodes_of, edges-nodes_of, sum-all)

@@ -17,7 +17,7 @@ last-minimised graph costs evidence kept small serves same is = by_last kept.las
   by_last None e s i = absurd s
   by_last (Some last) e s i = subst (IsMinimised graph evidence costs) (sym i) (subst (λ ws. IsMinimised graph ws costs last.small) s (serves.minimised last e))
 
--- where no state agrees, there is no least cost, and no diagnosis
+-- if no state agrees, there is no least cost, and no diagnosis
 none-is : (costs : List ℕ) (hs : List (List Bool)) → false ≡ is_some (least costs hs) → hs ≡ []
 none-is costs [] e = refl
 none-is costs (h ∷ hs) e = grind arith

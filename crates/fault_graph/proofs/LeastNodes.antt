@@ -1,4 +1,4 @@
--- What stands for a node that is true at its least cost: literal by literal, one of two, both of two.
+-- The replacement of a node at its least cost: a literal, either of two, both of two.
 use Rattle.std.proofs.Common.{◌≡◌, ℕ, ◌+◌, ◌<◌, ◌≤◌, Bool, true, false, ◌&&◌, ◌||◌, Option, Some, refl, ap, sym, ◌∙◌, subst, arith, eqb, ⊎_elim}
 use Rattle.std.proofs.lemmas.Bool.{and_from, or_cases, or_left, or_right, eq-eqb}
 use Rattle.state_rules.specs.Bits.{same_bit}
@@ -10,12 +10,12 @@ use Rattle.minimiser.proofs.Costs.{fault, open_weights, only_parts, free, IsCost
 fault_most : (k : Option Bool) (w : ℕ) (b : Bool) → fault k w b ≤ w
 fault_most k w b = grind arith
 
--- what is known of each variable, what it costs if it is false, and how many variables there are whose cost may not be 0
+-- what is known of each variable, its cost if it is false, and how many variables have a cost that may not be 0
 module _ (known : ℕ → Option Bool) (cost : ℕ → ℕ) (parts : ℕ) where
   abbrev g : Weights
   g = open_weights known cost parts
 
-  -- one that makes a node true at a cost, with no faults but those of another
+  -- an assignment that makes a node true at a cost, with no faults except those of another
   pub record Within (t : Assignment → Bool) (c : ℕ) (b : Assignment) : Type 0 where
     pub by : Assignment
     pub agrees : Agrees known cost parts by
@@ -23,8 +23,8 @@ module _ (known : ℕ → Option Bool) (cost : ℕ → ℕ) (parts : ℕ) where
     pub cheap : all_faults known cost parts by ≤ c
     pub fewer : (v : ℕ) → fault (known v) (cost v) (by v) ≤ fault (known v) (cost v) (b v)
 
-  -- u stands for a node with the truth t and the variables m at its least cost: what makes the node true at that cost makes u
-  -- true, and of what makes u true the faults suffice for the node
+  -- `u` replaces a node with the truth `t` and the variables `m` at its least cost: what makes the node true at that cost makes `u` true,
+  -- and the faults of what makes `u` true suffice for the node
   pub record StandsFor (t : Assignment → Bool) (m : ℕ → Bool) (c : ℕ) (u : Assignment → Bool) : Type 0 where
     pub onto : (a : Assignment) → Agrees known cost parts a → t a ≡ true → faults_in known cost parts m a ≤ c → u a ≡ true
     pub back : (b : Assignment) → Agrees known cost parts b → u b ≡ true → Within t c b
@@ -36,7 +36,7 @@ module _ (known : ℕ → Option Bool) (cost : ℕ → ℕ) (parts : ℕ) where
     back = λ b ag h. let x = is.back b ag (sym (r b) ∙ h) in record { by = x.by; agrees = x.agrees; holds = p x.by ∙ x.holds; cheap = omega (arith, x.cheap, e); fewer = x.fewer };
   }
 
-  -- what is true at no cost is left out
+  -- a node that is true at no cost is left out
   pub stands-free : (none : (v : ℕ) → ((1 ≤ v) → (v < 1 + parts) → ⊥) → cost v ≡ 0) (t : Assignment → Bool) (m : ℕ → Bool) → IsCost known cost parts t m (Some 0) → StandsFor t m 0 (λ a. true)
   stands-free none t m is = record {
     onto = λ a ag h few. refl;
@@ -58,7 +58,6 @@ module _ (known : ℕ → Option Bool) (cost : ℕ → ℕ) (parts : ℕ) where
         };
   }
 
-  -- what is never true
   pub stands-never : (c : ℕ) → StandsFor (λ a. false) (λ v. false) c (λ a. false)
   stands-never c = record { onto = λ a ag h few. h; back = λ b ag h. absurd (cc) }
 
@@ -69,7 +68,7 @@ module _ (known : ℕ → Option Bool) (cost : ℕ → ℕ) (parts : ℕ) where
     right-le : (a : Assignment) → faults_in known cost parts o a ≤ faults_in known cost parts (λ v. m v || o v) a
     right-le a = cost_among-le g o (λ v. m v || o v) a (λ v p. or_right _ _ p)
 
-    -- one of two of the same cost
+    -- either of two tests of the same cost
     pub stands-or : (c : ℕ) (u w : Assignment → Bool) → StandsFor t m c u → StandsFor s o c w → StandsFor (λ a. t a || s a) (λ v. m v || o v) c (λ a. u a || w a)
     stands-or c u w x y = record {
       onto = λ a ag h few. ⊎_elim
@@ -82,7 +81,7 @@ module _ (known : ℕ → Option Bool) (cost : ℕ → ℕ) (parts : ℕ) where
           (or_cases (u b) (w b) h);
     }
 
-    -- or of two of which the first costs more, if it can be true at all
+    -- either of two tests, of which the first costs more, if it can be true at all
     pub stands-other : (c : ℕ) (d : Option ℕ) (w : Assignment → Bool) → IsCost known cost parts t m d → ((n : ℕ) → d ≡ Some n → c < n) → StandsFor s o c w → StandsFor (λ a. t a || s a) (λ v. m v || o v) c w
     stands-other c d w is dear y = record {
       onto = λ a ag h few. ⊎_elim
@@ -92,7 +91,7 @@ module _ (known : ℕ → Option Bool) (cost : ℕ → ℕ) (parts : ℕ) where
       back = λ b ag h. let r = y.back b ag h in record { by = r.by; agrees = r.agrees; holds = or_right _ _ r.holds; cheap = r.cheap; fewer = r.fewer };
     }
 
-    -- both of two that share no variable
+    -- both of two tests that share no variable
     pub stands-and : (c d : ℕ) (u w : Assignment → Bool) → ((v : ℕ) → (m v && o v) ≡ false) → IsCost known cost parts t m (Some c) → IsCost known cost parts s o (Some d)
         → StandsFor t m c u → StandsFor s o d w → StandsFor (λ a. t a && s a) (λ v. m v || o v) (c + d) (λ a. u a && w a)
     stands-and c d u w apart is_t is_s x y = record {

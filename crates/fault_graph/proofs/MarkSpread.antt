@@ -8,7 +8,7 @@ use Rattle.minimiser.proofs.SpreadMarks.{child_before}
 use Rattle.minimiser.specs.inner.Swept.{is_child}
 use Rattle.fault_graph.specs.inner.Marks.{mark_of, HasMarkedParent, AreMarks}
 
--- a mark that spreads stays, or is that of a child that costs something, and no more
+-- a new mark is an old one, or that of a child that costs something, and no more
 mark-new : (kids values : List ℕ) (cost j mark : ℕ) → mark_of kids values cost j mark ≡ 1
     → (mark ≡ 1) ⊎ ((is_child kids j ≡ true) × (0 < get_or values j 0) × (get_or values j 0 ≤ cost))
 mark-new kids values cost j mark e = grind (arith, and_left, ltb-true, leb-true)
@@ -23,7 +23,7 @@ module _ (graph : Graph) (ok : IsGraph graph) (values xs : List ℕ) (from : ℕ
   abbrev at : ℕ
   at = from - 1
 
-  -- a marked node is met, and marks its children that cost something and no more
+  -- a marked node marks its children that cost something and no more
   pub marks-met : (ys kids : List ℕ) → 0 < from → from ≤ length graph.nodes → length xs ≡ length graph.nodes → kids ≡ (node_at graph.nodes (from - 1)).kids → get_or xs (from - 1) 0 ≡ 1
       → ((j : ℕ) → j < length xs → get_or ys j 0 ≡ mark_of kids values (get_or values (from - 1) 0) j (get_or xs j 0)) → AreMarks graph.nodes values ys (from - 1)
   marks-met ys kids some few long same m spreads = record {

@@ -1,4 +1,4 @@
--- What stands for a node costs what the node does.
+-- The replacement of a node costs what the node does.
 use Rattle.std.proofs.Common.{◌≡◌, ℕ, ◌≤◌, Bool, true, List, length, Option, Some, refl, subst, arith}
 use Rattle.state_rules.specs.Assignments.{Assignment}
 use Rattle.state_rules.proofs.Members.{AtMost, AtMost-le}
@@ -10,7 +10,7 @@ use Rattle.minimiser.proofs.LeastOfModels.{from_bounds}
 use Rattle.minimiser.proofs.Derivations.{is_cost}
 use Rattle.fault_graph.proofs.LeastNodes.{StandsFor}
 
--- what is among some variables is no more than what is among all
+-- some variables cost no more than all
 pub faults_in-all : (known : ℕ → Option Bool) (cost : ℕ → ℕ) (parts : ℕ) (m : ℕ → Bool) (a : Assignment) → faults_in known cost parts m a ≤ all_faults known cost parts a
 faults_in-all known cost parts m a = faults_in-le known cost parts m (λ v. true) a (λ v p. refl)
 
@@ -22,7 +22,7 @@ module _ (graph small : Graph) (evidence costs : List ℕ) (ok : IsGraph graph) 
       let low : c ≤ faults_in (known_at evidence) (part_cost costs) (length costs) (λ v. mentions graph.nodes v k) a = subst (λ o. AtMost o (faults_in (known_at evidence) (part_cost costs) (length costs) (λ v. mentions graph.nodes v k) a)) is ((is_cost graph evidence costs ok k).bound a ag h) in
       omega (arith, low, faults_in-all (known_at evidence) (part_cost costs) (length costs) (λ v. mentions graph.nodes v k) a)
 
-  -- what makes the node true at its least cost makes the other true
+  -- what makes the node true at its least cost makes its replacement true
   pub over : (a : Assignment) → Agrees (known_at evidence) (part_cost costs) (length costs) a → is_true graph.nodes k a ≡ true → all_faults (known_at evidence) (part_cost costs) (length costs) a ≤ c → is_true small.nodes p a ≡ true
   over a ag h few = stands.onto a ag h (omega (arith, few, faults_in-all (known_at evidence) (part_cost costs) (length costs) (λ v. mentions graph.nodes v k) a))
 

@@ -25,7 +25,6 @@ module _ (graph : Graph) (evidence costs : List ℕ) (most : ℕ) (within : leng
     by_member [] h m = absurd m
     by_member (d ∷ ds) h m = omega arith
 
-  -- the first diagnosis
   pub first-passes-all : (d : List Bool) → ModelWithin graph evidence costs most (get_or (diagnoses_under graph evidence costs) 0 d)
   first-passes-all d = diagnosis-out graph evidence costs most e _ (In-at all 0 d some)
 

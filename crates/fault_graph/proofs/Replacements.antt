@@ -53,7 +53,7 @@ module _ (graph : Graph) (evidence costs : List ℕ) (ok : IsGraph graph) (keep 
   abbrev pub StandsAt : ℕ → ℕ → (Assignment → Bool) → Type 0
   StandsAt k c u = StandsFor (known_at evidence) (part_cost costs) (length costs) (λ a. is_true graph.nodes k a) (λ v. mentions graph.nodes v k) c u
 
-  -- a child that stays costs no more, and has what stands for it
+  -- a child that stays costs no more, and has a replacement
   pub record Stays (c j : ℕ) : Type 0 where
     pub cost : ℕ
     pub is : least_at graph evidence costs j ≡ Some cost
@@ -70,7 +70,7 @@ module _ (graph : Graph) (evidence costs : List ℕ) (ok : IsGraph graph) (keep 
   costs-of : (j d : ℕ) → least_at graph evidence costs j ≡ Some d → IsCost kn price n (λ a. T a j) (λ v. M v j) (Some d)
   costs-of j d e = subst (λ o. IsCost kn price n (λ a. T a j) (λ v. M v j) o) e (is_cost graph evidence costs ok j)
 
-  -- each child of an and costs no more than it
+  -- each child of an And node costs no more than it
   ands : (kids : List ℕ) (c : ℕ) → Apart graph evidence costs ok kids → ChildrenStand kids c → ((j d : ℕ) → In j kids → least_at graph evidence costs j ≡ Some d → d ≤ c) → (s : ℕ) → sum_costs (map (least_at graph evidence costs) kids) ≡ Some s
       → StandsFor kn price n (λ a. list_all (λ b. b) (map (T a) kids)) (λ v. list_any (λ b. b) (map (M v) kids)) s (λ a. list_all (λ b. b) (map (λ p. U p a) (map place (filter keep kids))))
   ands [] c apart h low s e = subst (λ m. StandsFor kn price n (λ a. true) (λ v. false) m (λ a. true)) (same_Some 0 s e) (stands-free kn price n (part_cost-none costs) (λ a. true) (λ v. false) (as_cost kn price n _ _ _ (true_is kn price n)))
@@ -97,7 +97,7 @@ module _ (graph : Graph) (evidence costs : List ℕ) (ok : IsGraph graph) (keep 
             (subst (λ o. IsCost kn price n (λ a. list_all (λ b. b) (map (T a) kids)) (λ v. list_any (λ b. b) (map (M v) kids)) o) er (kids-cost graph evidence costs ok kids (apart-tail graph evidence costs ok j kids apart)))
             (subst (λ m. StandsAt j m (λ a. true)) (sym free) (stands-free kn price n (part_cost-none costs) (λ a. T a j) (λ v. M v j) (costs-of j 0 (el ∙ ap Some free)))) more)
 
-  -- each child of an or costs at least as much as it
+  -- each child of an Or node costs at least as much as it
   ors : (kids : List ℕ) (c : ℕ) → 0 < c → ChildrenStand kids c → ((j d : ℕ) → In j kids → least_at graph evidence costs j ≡ Some d → c ≤ d)
       → StandsFor kn price n (λ a. list_any (λ b. b) (map (T a) kids)) (λ v. list_any (λ b. b) (map (M v) kids)) c (λ a. list_any (λ b. b) (map (λ p. U p a) (map place (filter keep kids))))
   ors [] c dear h high = stands-never kn price n c
@@ -117,7 +117,7 @@ module _ (graph : Graph) (evidence costs : List ℕ) (ok : IsGraph graph) (keep 
   says : (k : Option Bool) (w c : ℕ) (positive : Bool) → literal_cost (leaf_of positive k) w positive ≡ Some c → 0 < c → (positive ≡ false) × (w ≡ c)
   says k w c positive e dear = grind arith
 
-  -- What costs something has the same kind over the children that stay standing for it.
+  -- The replacement of a node that costs something has the same kind, over the children that stay.
   pub node-stands : (k c : ℕ) (what : NodeKind) (kids : List ℕ) → slice_get graph.nodes k ≡ Some (record { what = what; kids = kids }) → least_at graph evidence costs k ≡ Some c → 0 < c → ChildrenStand kids c
       → StandsAt k c (λ a. truth_by a what (map (λ p. U p a) (map place (filter keep kids))))
   unfolding Apart

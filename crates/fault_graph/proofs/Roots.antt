@@ -1,4 +1,4 @@
--- A graph whose last node stands for the root is minimised, and so is a true one where nothing is wrong.
+-- A graph whose last node replaces the root is minimised, and so is a true one if the root costs nothing.
 use Rattle.std.proofs.Common.{◌≡◌, ℕ, ◌+◌, ◌-◌, ◌<◌, ◌≤◌, List, [], ◌∷◌, ◌++◌, length, get_or, All, Some, refl, ap, sym, ◌∙◌, subst, arith, length-append}
 use Rattle.state_rules.specs.Graphs.{Node, Graph, true_node, is_true, mentions, AreNodes, IsGraph, edges, truth_by}
 use Rattle.state_rules.proofs.NodeValues.{value_of-last}
@@ -49,7 +49,7 @@ module _ (graph : Graph) (evidence costs : List ℕ) (ok : IsGraph graph) (long 
         small = small sound;
       }
 
-  -- where the root costs nothing
+  -- the root costs nothing
   pub free-root : total_cost costs < 2147483647 → (most : ℕ) → LeastIs graph costs evidence most → (values : List ℕ) → AreLeastCosts graph evidence costs values → All (λ c. 0 < c) costs → get_or values (length graph.nodes - 1) 0 ≡ 0
       → IsWhole (true_node ∷ [])
   free-root total most least_most values v dears z =

@@ -1,4 +1,4 @@
--- A graph whose root stands for that of another has the same least cost and the same diagnoses.
+-- A graph whose root replaces that of another has the same least cost and the same diagnoses.
 use Rattle.std.proofs.Common.{◌≡◌, ℕ, zero, suc, ◌+◌, ◌-◌, ◌<◌, ◌≤◌, Bool, true, false, ◌&&◌, List, length, All, Option, Some, ap, sym, ◌∙◌, subst, arith}
 use Rattle.std.specs.Prelude.{nat_le}
 use Rattle.std.specs.List.{filter}
@@ -21,7 +21,7 @@ use Rattle.fault_graph.proofs.PlaceCosts.{high, over, place-cost}
 
 -- ---- sums and bits
 
--- numbers that are no greater and not less together are the same
+-- numbers that are each no greater, and together not less, are the same
 total-same : (f g : ℕ → ℕ) → ((v : ℕ) → f v ≤ g v) → (a n : ℕ) → total g a n ≤ total f a n → (v : ℕ) → a ≤ v → v < a + n → g v ≤ f v
 total-same f g h a zero few v low high = absurd (omega arith)
 total-same f g h a (suc n) few v low high = grind (arith, f, total-le, h, cases_eq, total-same f g h (a + 1) n)
@@ -32,7 +32,7 @@ same_fault k w x y dear p q h g = grind arith
 
 -- ---- what passes two tests
 
--- the diagnoses are the states that pass and cost no more than the least
+-- the diagnoses are the states that pass and cost at most the least
 diagnoses-same : (costs : List ℕ) (n most : ℕ) (p q : Test) → ((h : List Bool) → length h ≡ n → p h ≡ true → cost costs h ≤ most → q h ≡ true) → ((h : List Bool) → length h ≡ n → q h ≡ true → cost costs h ≤ most → p h ≡ true)
     → filter (λ h. is_at_most (cost costs h) (Some most)) (passing n p) ≡ filter (λ h. is_at_most (cost costs h) (Some most)) (passing n q)
 diagnoses-same costs n most p q to from =
@@ -61,7 +61,7 @@ module _ (graph small : Graph) (evidence costs : List ℕ) (ok : IsGraph graph) 
   pub small-least : least_under small evidence costs ≡ Some (held_cost costs evidence + c)
   small-least = least_is small evidence costs sound long-small within-small ∙ ap (AddHeld (held_cost costs evidence)) (place-cost graph small evidence costs ok sound _ _ c is stands)
 
-  -- a state that the graph allows at the least cost, the other allows too
+  -- a state that the graph allows at the least cost is allowed by the other
   to : (h : List Bool) → length h ≡ n → has_model graph (fits_evidence evidence) n h ≡ true → cost costs h ≤ held_cost costs evidence + c → has_model small (fits_evidence evidence) n h ≡ true
   to h l m few =
       let a = assignment_of graph evidence costs ok long within h l m in

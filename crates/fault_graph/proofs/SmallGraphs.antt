@@ -1,4 +1,4 @@
--- The nodes of the smaller graph, one after the other, and the places of what stands for the nodes so far.
+-- The nodes of the smaller graph, one after the other, and the places of the replacements so far.
 use Rattle.std.proofs.Common.{◌≡◌, ◌≢◌, ℕ, ◌+◌, ◌-◌, ◌<◌, ◌≤◌, Bool, true, false, List, [], ◌∷◌, ◌++◌, map, length, take, get_or, set, All, Option, Some, refl, ap, sym, ◌∙◌, subst, arith, inl, inr, ⊎_elim, length-append, get_or-set_same, get_or-set_other}
 use Rattle.std.specs.Prelude.{◌⊎◌, slice_get, nat_lt}
 use Rattle.std.specs.List.{list_any, filter}
@@ -42,14 +42,14 @@ use Rattle.fault_graph.proofs.Roots.{IsWhole, whole}
 row-le : (values places : List ℕ) (cost : ℕ) (kids : List ℕ) → length (kept_children values places cost kids) ≤ length kids
 row-le values places cost kids = omega (arith, length-map (filter (keeps values cost) kids) (λ k. get_or places k 0), length-filter-le (keeps values cost) kids)
 
--- a sum of nothing costs nothing
+-- if each child costs nothing, so does their sum
 free-sum : (C : ℕ → Option ℕ) (kids : List ℕ) (c : ℕ) → sum_costs (map C kids) ≡ Some c → ((j d : ℕ) → In j kids → C j ≡ Some d → d ≡ 0) → c ≡ 0
 free-sum C [] c e h = sym (same_Some 0 c e)
 free-sum C (k ∷ kids) c e h =
     let s = from_add (C k) (sum_costs (map C kids)) c e in
     omega (arith, s.sum_is, h k s.left (inl refl) s.left_is, free-sum C kids s.right s.right_is (λ j d i. h j d (inr i)))
 
--- what is in a row is the place of a child that stays
+-- an item of a row is the place of a child that stays
 row-source : (keep : ℕ → Bool) (place : ℕ → ℕ) (kids : List ℕ) (q : ℕ) → In q (map place (filter keep kids)) → (j : ℕ) × In j kids × (keep j ≡ true) × (place j ≡ q)
 row-source keep place kids q m = let x = from_map place q (filter keep kids) m in let r = In-filter keep x.item kids x.is_in in (x.item, r.0, r.1, sym x.gives)
 
@@ -70,7 +70,7 @@ keeps-not values cost j e = grind (arith, and_from, lt-ltb, le-leb, cases_lt)
 -- ---- the nodes so far
 
 module _ (graph : Graph) (evidence costs : List ℕ) where
-  -- the nodes of the graph before one were met: of those that are marked and cost something it is known what stands for them
+  -- the nodes of the graph before `at` are done: those that are marked and cost something have a replacement
   pub record IsBuilt (values marks places : List ℕ) (nodes : List Node) (at : ℕ) : Type 0 where
     pub are : AreNodes graph.vars nodes
     pub few : length nodes ≤ at
@@ -81,7 +81,7 @@ module _ (graph : Graph) (evidence costs : List ℕ) where
     pub joins : AllJoin nodes
     pub needed : (p : ℕ) → p < length nodes → IsNeeded graph values marks places nodes at p
 
-  -- as much room as the graph has leaves room for what stands for the next node
+  -- there is room for the replacement of the next node if there is as much as the graph has
   pub has-room : (values marks places : List ℕ) (nodes : List Node) (at : ℕ) → at < length graph.nodes → IsBuilt values marks places nodes at
       → (length nodes < length graph.nodes) × (edges nodes + length (node_at graph.nodes at).kids ≤ edges graph.nodes)
   has-room values marks places nodes at lt is =
@@ -99,7 +99,7 @@ module _ (graph : Graph) (evidence costs : List ℕ) (ok : IsGraph graph) (long 
   cost-value : (k c : ℕ) → k < length graph.nodes → least_at graph evidence costs k ≡ Some c → get_or values k 0 ≡ c
   cost-value k c h e = cost_in-is (get_or values k 0) c (value-is graph evidence costs values v k h ∙ e)
 
-  -- a node that is passed over
+  -- a node that is not marked
   pub built-past : (places : List ℕ) (nodes : List Node) (at : ℕ) → at < length graph.nodes → IsBuilt graph evidence costs values marks places nodes at → get_or places at 0 ≢ 1
       → IsBuilt graph evidence costs values marks places nodes (at + 1)
   built-past places nodes at lt is none = record {
@@ -196,7 +196,7 @@ module _ (graph : Graph) (evidence costs : List ℕ) (ok : IsGraph graph) (long 
       inside = λ w h. inside w (sym (value_of-last (mention_by w) nodes (record { what = what; kids = row })) ∙ h);
     }
 
-    -- one child that stays stands for the node
+    -- one child that stays replaces the node
     only : (p : ℕ) → row ≡ p ∷ [] → IsPlace graph evidence costs nodes at c p
     only p one = record {
       there = ltb-true p (length nodes) (and_left _ _ (subst (λ ks. are_below (length nodes) ks ≡ true) one below-all));
@@ -233,7 +233,7 @@ module _ (graph : Graph) (evidence costs : List ℕ) (ok : IsGraph graph) (long 
     pub from-pushed : AreFrom graph evidence costs (nodes ++ record { what = what; kids = row } ∷ [])
     from-pushed = from-push graph evidence costs nodes (record { what = what; kids = row }) c is.from (record { node = at; dear = omega arith; is = cost-is; place = pushed }) or-child
 
-    -- an and or an or that costs something has a child that stays
+    -- an And node or an Or node that costs something has a child that stays
     joined : length row ≢ 1 → Joins what (length row)
     joined many = by_kind what refl where
       out : row ≡ [] → (j : ℕ) → In j kids → keep j ≡ false
@@ -260,11 +260,11 @@ module _ (graph : Graph) (evidence costs : List ℕ) (ok : IsGraph graph) (long 
       by_kind And o = some (no-and o)
       by_kind Or o = some (no-or o)
 
-    -- what waits for this node is in its row
+    -- a place that waits for this node is in its row
     in-row : (q : ℕ) (w : Waits graph values marks places at q) → w.parent ≡ at → In q row
     in-row q w s = grind (arith, get_or_from_slice_get, graph.nodes, w.there, In-map, In-filtered)
 
-    -- what waits for another goes on
+    -- a place that waits for another node goes on
     carry : (new : List Node) (p q : ℕ) → Waits graph values marks places at q → (In q row → IsNeeded graph values marks (set places at p) new (at + 1) q) → IsNeeded graph values marks (set places at p) new (at + 1) q
     carry new p q w met = ⊎_elim
         (λ (s : w.parent ≡ at). met (in-row q w s))
@@ -294,14 +294,14 @@ module _ (graph : Graph) (evidence costs : List ℕ) (ok : IsGraph graph) (long 
     needed-only : (p : ℕ) → row ≡ p ∷ [] → at < root → at < length places → (q : ℕ) → q < length nodes → IsNeeded graph values marks (set places at p) nodes (at + 1) q
     needed-only p one early room q h = grind (arith, carry, waits)
 
-    -- where the node is the last of the graph, all that is there is needed
+    -- if the node is the last of the graph, all that is there is needed
     pub all-needed : length graph.nodes ≤ at + 1 → (q : ℕ) → q < length nodes → HasParent (nodes ++ record { what = what; kids = row } ∷ []) q
     all-needed end q h = by_need (is.needed q h) where
       by_need : IsNeeded graph values marks places nodes at q → HasParent (nodes ++ record { what = what; kids = row } ∷ []) q
       by_need (inl x) = parent-more nodes (record { what = what; kids = row }) q x
       by_need (inr w) = parent-last nodes (record { what = what; kids = row }) q (in-row q w (omega (arith, end, w.from, w.within)))
 
-    -- what stands for the node is there now
+    -- the replacement of the node is there now
     noted : (new : List Node) (p : ℕ) → at < length places → AreNodes graph.vars new → length new ≤ at + 1 → edges new ≤ edges (take (at + 1) graph.nodes)
         → ((k d q : ℕ) → IsPlace graph evidence costs nodes k d q → IsPlace graph evidence costs new k d q) → IsPlace graph evidence costs new at c p
         → AreFrom graph evidence costs new → AllJoin new → ((q : ℕ) → q < length new → IsNeeded graph values marks (set places at p) new (at + 1) q) → IsBuilt graph evidence costs values marks (set places at p) new (at + 1)

@@ -1,4 +1,4 @@
--- What is at the places of the smaller graph: for which nodes, and for which parents these are needed.
+-- The nodes at the places of the smaller graph: which nodes they replace, and which parents need them.
 use Rattle.std.proofs.Common.{◌≡◌, ◌≢◌, ℕ, suc, ◌+◌, ◌<◌, ◌≤◌, true, List, [], ◌∷◌, ◌++◌, length, get_or, Some, refl, ap, sym, ◌∙◌, subst, arith, inl, inr, ⊎_elim, length-append}
 use Rattle.std.specs.Prelude.{◌⊎◌, Contains}
 use Rattle.std.proofs.lemmas.List.{get_or_append_left}
@@ -20,10 +20,10 @@ In-Contains [] x m = absurd m
 In-Contains (y ∷ xs) x (inl e) = (0, omega arith, sym e)
 In-Contains (y ∷ xs) x (inr m) = let more = In-Contains xs x m in (suc more.0, omega (arith, more.1), more.2)
 
--- ---- what stands for a node
+-- ---- the replacement of a node
 
 module _ (graph : Graph) (evidence costs : List ℕ) where
-  -- what is at a place for a node, with no variable that the node has not
+  -- the replacement of a node at a place, with no other variables than the node
   pub record IsPlace (nodes : List Node) (k c p : ℕ) : Type 0 where
     pub there : p < length nodes
     pub stands : StandsFor (known_at evidence) (part_cost costs) (length costs) (λ a. is_true graph.nodes k a) (λ v. mentions graph.nodes v k) c (λ a. is_true nodes p a)
@@ -46,7 +46,7 @@ module _ (graph : Graph) (evidence costs : List ℕ) where
   pub from-more : (nodes : List Node) (node : Node) (c p : ℕ) → IsFrom nodes c p → IsFrom (nodes ++ node ∷ []) c p
   from-more nodes node c p is = record { node = is.node; dear = is.dear; is = is.is; place = place-more nodes node is.node c p is.place }
 
-  -- each place is that of a node; and those of an or and of its children are of nodes of one cost
+  -- each place is that of a node; an Or node and its children are at places of nodes of one cost
   pub record AreFrom (nodes : List Node) : Type 0 where
     pub each : (p : ℕ) → p < length nodes → (c : ℕ) × IsFrom nodes c p
     pub ors : (p q : ℕ) → p < length nodes → (node_at nodes p).what ≡ Or → In q (node_at nodes p).kids → (c : ℕ) × IsFrom nodes c p × IsFrom nodes c q
@@ -70,7 +70,7 @@ module _ (graph : Graph) (evidence costs : List ℕ) where
         (cases_eq p (length nodes));
   }
 
--- each and and each or joins two or more
+-- each And node and each Or node has two or more children
 abbrev pub AllJoin : List Node → Type 0
 AllJoin nodes = (p : ℕ) → p < length nodes → Joins (node_at nodes p).what (length (node_at nodes p).kids)
 
@@ -96,7 +96,7 @@ parent-last nodes node p m = record {
 }
 
 module _ (graph : Graph) (values marks : List ℕ) where
-  -- at a place stands a child that stays, of a marked node from one on
+  -- at a place is a child that stays, of a marked node from `at` on
   pub record Waits (places : List ℕ) (at p : ℕ) : Type 0 where
     pub parent : ℕ
     pub from : at ≤ parent
@@ -108,11 +108,11 @@ module _ (graph : Graph) (values marks : List ℕ) where
     pub stays : keeps values (get_or values parent 0) child ≡ true
     pub there : get_or places child 0 ≡ p
 
-  -- a place is that of a child already, or of one whose parent comes
+  -- a place is that of a child already, or of one whose parent is to come
   abbrev pub IsNeeded : List ℕ → List Node → ℕ → ℕ → Type 0
   IsNeeded places nodes at p = HasParent nodes p ⊎ Waits places at p
 
-  -- what waits for another parent than the next goes on
+  -- a place that waits for another parent than the next goes on
   pub waits-on : (places new : List ℕ) (at p : ℕ) (w : Waits places at p) → w.parent ≢ at → get_or new w.child 0 ≡ p → Waits new (at + 1) p
   waits-on places new at p w ne there = record {
     parent = w.parent;

@@ -14,7 +14,7 @@ use Rattle.fault_graph.specs.Small.{HasParent, SaysFaulty, Joins, IsSmall}
 use Rattle.fault_graph.proofs.PlaceCosts.{place-cost}
 use Rattle.fault_graph.proofs.SmallPlaces.{IsFrom, AreFrom}
 
--- what costs something is a part
+-- the variable of a literal that costs something is a part's
 paid : (costs : List ℕ) (var c : ℕ) → part_cost costs var ≡ c → 0 < c → var ≤ length costs
 paid costs var c e dear = grind (arith, get_or_past)
 
@@ -50,6 +50,5 @@ module _ (graph small : Graph) (evidence costs : List ℕ) (ok : IsGraph graph) 
     by_kind c dear (Literal positive var) kids e = says evidence costs var c positive e dear
     by_kind c dear what kids e = tt
 
--- one true node
 pub small-true : (evidence costs : List ℕ) (vars : ℕ) → IsSmall evidence costs (record { nodes = true_node ∷ []; vars = vars })
 small-true evidence costs vars = grind arith

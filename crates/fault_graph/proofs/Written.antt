@@ -15,7 +15,7 @@ slice_get-set_other (x ∷ xs) zero (suc k) v ne = refl
 slice_get-set_other (x ∷ xs) (suc i) zero v ne = refl
 slice_get-set_other (x ∷ xs) (suc i) (suc k) v ne = slice_get-set_other xs i k v (λ e. ne (ap suc e))
 
--- the next of a list is written, and those before it are as they should be
+-- one more item of a list is written, and those before it are right
 pub written-next : {A : Type 0} (xs : List A) (i : ℕ) (v : A) (f : ℕ → A) → i < length xs → ((k : ℕ) → k < i → slice_get xs k ≡ Some (f k)) → v ≡ f i → (k : ℕ) → k < i + 1 → slice_get (set xs i v) k ≡ Some (f k)
 written-next xs i v f lt before here k h = ⊎_elim
     (λ (e : k ≡ i). ap (slice_get (set xs i v)) e ∙ slice_get-set_same xs i v lt ∙ ap Some (here ∙ ap f (sym e)))

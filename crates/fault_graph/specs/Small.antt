@@ -10,20 +10,21 @@ pub record HasParent (nodes : List Node) (node : ℕ) : Type 0 where
   pub within : parent < length nodes
   pub child : Contains (node_at nodes parent).kids node
 
--- where it is a literal, it says that an open part is faulty; so many variables are parts
+-- a literal says that an open part is faulty; the first `parts` variables are parts
 abbrev pub SaysFaulty : List ℕ → ℕ → NodeKind → Type 0
 SaysFaulty evidence parts (Literal positive var) = (positive ≡ false) × (var ≤ parts) × (slice_index evidence (var - 1) ≡ 0)
 SaysFaulty evidence parts And = ⊤
 SaysFaulty evidence parts Or = ⊤
 
--- an and or an or with so many children joins two or more
+-- an And node or an Or node has two or more children
 abbrev pub Joins : NodeKind → ℕ → Type 0
 Joins (Literal positive var) kids = ⊤
 Joins And kids = 1 < kids
 Joins Or kids = 1 < kids
 
--- Each node but the root, which is the last, costs something, is a child of another, and joins two or more. An or costs
--- what each of its children does, so that all of them are on states of least cost. There is no wire, no part that is held, and no literal that says ok.
+-- Each node except the root, the last one, costs something, is a child of another and, unless a literal, has two or more children.
+-- An Or node costs what each of its children does, so that each of them makes it true at its least cost. There is no wire, no part that is
+-- held, and no literal that says ok.
 pub record IsSmall (evidence costs : List ℕ) (small : Graph) : Type 0 where
   pub dear : (node : ℕ) → node + 1 < length small.nodes → IsSomeAnd (least_at small evidence costs node) (λ cost. 0 < cost)
   pub needed : (node : ℕ) → node + 1 < length small.nodes → HasParent small.nodes node

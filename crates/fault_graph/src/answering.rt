@@ -15,10 +15,9 @@ use probe_report::Blame;
 use std::sync::ledger::Ledger;
 
 impl MinimisedGraph {
-    /// The least cost, with the first diagnosis in the state, as [`diagnosis_lister::first`] gives them.
+    /// Returns the least cost, and writes the first diagnosis to the state, as [`diagnosis_lister::first`] does.
     ///
-    /// It takes one pass over the graph, and none if what is kept is of this evidence, which then stays. The others are over what
-    /// is kept.
+    /// It makes one pass over the graph, or none if what is kept is of this evidence, which then stays. The others are over what is kept.
     #[tactic(auto, using(crate::proofs::Rules::last_minimised_one))]
     pub fn first<L: Ledger>(
         &mut self,
@@ -48,7 +47,6 @@ impl MinimisedGraph {
         ensures stays { IsOf evidence.old self.old → self.new ≡ self.old }
         ensures serves { Serves graph.now costs.now self.new }
 
-        // One pass over the graph, and the others over what was minimised; these alone if the evidence is as before.
         ensures steps { steps.new ≤ steps.old + 1 + (fault_count (bits_of state.new) + 1) }
         ensures again { IsOf evidence.old self.old → steps.new ≤ steps.old + (fault_count (bits_of state.new) + 1) }
     {
@@ -60,10 +58,9 @@ impl MinimisedGraph {
         first_in(&small, evidence, costs, values, state, steps)
     }
 
-    /// Whether there is a diagnosis after the state, which it then becomes, as with [`diagnosis_lister::next`].
+    /// Finds the first diagnosis after the state, and writes it to the state, as [`diagnosis_lister::next`] does.
     ///
-    /// It takes one pass over the graph, and none if what is kept is of this evidence, which then stays. The others are over what
-    /// is kept.
+    /// It makes one pass over the graph, or none if what is kept is of this evidence, which then stays. The others are over what is kept.
     #[tactic(auto, using(crate::proofs::Rules::last_minimised_one))]
     pub fn next<L: Ledger>(
         &mut self,
@@ -95,7 +92,6 @@ impl MinimisedGraph {
         ensures stays { IsOf evidence.old self.old → self.new ≡ self.old }
         ensures serves { Serves graph.now costs.now self.new }
 
-        // One pass over the graph, and the others over what was minimised; these alone if the evidence is as before.
         ensures steps { steps.new
             ≤ steps.old + 1 + (fault_count (bits_of state.old) + fault_count (bits_of state.new) + 1) }
         ensures again { IsOf evidence.old self.old
@@ -109,10 +105,9 @@ impl MinimisedGraph {
         next_in(&small, evidence, costs, values, state, steps)
     }
 
-    /// Whether each part is faulty in all diagnoses, in some or in none, as with [`blame_all`].
+    /// Writes whether each part is faulty in all diagnoses, in some or in none, as [`blame_all`] does.
     ///
-    /// It takes one pass over the graph, and none if what is kept is of this evidence, which then stays. The others are over what
-    /// is kept.
+    /// It makes one pass over the graph, or none if what is kept is of this evidence, which then stays. The others are over what is kept.
     #[tactic(auto, using(crate::proofs::Rules::last_minimised_one))]
     pub fn blame_all<L: Ledger>(
         &mut self,
@@ -143,7 +138,6 @@ impl MinimisedGraph {
         ensures stays { IsOf evidence.old self.old → self.new ≡ self.old }
         ensures serves { Serves graph.now costs.now self.new }
 
-        // One pass over the graph, and the others over what was minimised; these alone if the evidence is as before.
         ensures steps { steps.new ≤ steps.old + 1
             + (2 * fault_count (slice_index_or (diagnoses_under graph.now evidence.old costs.now) 0 []) + 2) }
         ensures again { IsOf evidence.old self.old → steps.new ≤ steps.old
@@ -159,7 +153,7 @@ impl MinimisedGraph {
     }
 }
 
-// There is no diagnosis.
+// Writes that there is no diagnosis.
 fn tell_none(verdicts: &mut [Blame])
     ensures { (part : ℕ) → part < length verdicts.old → slice_get verdicts.new part ≡ Some Blame.Inconsistent }
 {

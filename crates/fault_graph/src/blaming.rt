@@ -13,10 +13,10 @@ use node_store::GraphView;
 use probe_report::{Blame, blame_faulty};
 use std::sync::ledger::Ledger;
 
-/// What [`blame`](probe_report::blame) says of each part, in their order.
+/// Writes what [`blame`](probe_report::blame) returns for each part, in their order.
 ///
-/// One pass and one sweep say which parts are faulty in no diagnosis, and only those of the first one can be faulty in all: a pass
-/// for each of them. The state is spoilt; the evidence is the same afterwards.
+/// One pass and one sweep find the parts that are faulty in no diagnosis. Only those of the first diagnosis can be faulty in all: a pass
+/// for each of them. The state is overwritten; the evidence is the same afterwards.
 #[tactic(auto, using(crate::proofs::Rules::few_faults))]
 pub fn blame_all<L: Ledger>(
     graph: &GraphView<'_>,
@@ -42,7 +42,7 @@ pub fn blame_all<L: Ledger>(
     ensures evidence { evidence.new ≡ evidence.old }
     ensures state { All (λ s. s < 2) state.new }
 
-    // How many passes are made at most.
+    // The most passes.
     ensures steps { steps.new ≤ steps.old + 2 * length costs.now + 2 }
     ensures few_steps { steps.new ≤ steps.old
         + 2 * fault_count (slice_index_or (diagnoses_under graph.now evidence.old costs.now) 0 []) + 2 }
@@ -59,7 +59,7 @@ pub fn blame_all<L: Ledger>(
     );
 }
 
-// The verdict on each part by its word, and on an open one by whether it is faulty in some diagnosis: Sometimes, for the time being.
+// Writes a verdict on each part from its word, and on an open part that is faulty in some diagnosis: Sometimes, for the time being.
 fn presume(evidence: &[u32], suspects: &[u32], verdicts: &mut [Blame])
     requires long { length verdicts.old ≤ length evidence.now }
     requires suspects { length verdicts.old ≤ length suspects.now }
@@ -81,7 +81,7 @@ fn presumed(word: u32, suspect: u32) -> Blame
     }
 }
 
-// Asks for each open part that is faulty in one diagnosis whether it is so in all. The others, if they are faulty in some
+// Checks for each open part that is faulty in one diagnosis whether it is so in all. The others, if they are faulty in some
 // diagnosis, are ok in this one.
 #[tactic(auto, using(crate::proofs::Rules::few_faults))]
 fn confirm<L: Ledger>(

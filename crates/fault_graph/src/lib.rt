@@ -1,4 +1,4 @@
-//! A smaller graph that has the same diagnoses under evidence: what is on derivations of least cost and costs something.
+//! A smaller graph with the same diagnoses under evidence: the nodes on derivations of least cost that cost something.
 #![tactic(auto)]
 
 mod answering;

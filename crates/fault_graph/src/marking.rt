@@ -4,8 +4,8 @@ ghost use Rattle.fault_graph.specs.inner.Marks.{AreMarks, mark_of};
 use crate::minimising::MARKED;
 use node_store::Graph;
 
-// Marks the root, which costs something, and from each marked node on its children that cost something and no more: all such children of
-// an And, and those of an Or that make it true at its cost.
+// Marks the root, which costs something, and the children of each marked node that cost something and no more than it: all such
+// children of an And node, and those of an Or node that make it true at its cost.
 #[tactic(auto, using(crate::proofs::Rules::sizes_of_pieces))]
 pub(crate) fn mark(graph: &Graph, values: &[u32], places: &mut [u32])
     requires values { length values.now ≡ length graph.now.nodes }

@@ -12,16 +12,16 @@ use std::alloc::Global;
 use std::marker::Model;
 use std::sync::ledger::Ledger;
 
-/// Answers what is asked of a graph from a smaller one, which it makes when the evidence is other than before.
+/// Answers questions about a graph from a smaller one, which it makes when the evidence changes.
 ///
-/// Its memory is taken when it is made.
+/// Its memory is allocated when it is made.
 #[derive(Drop)]
 pub struct MinimisedGraph {
-    // what was minimised last: its variables, if there is something, the evidence it was minimised under, and its nodes
+    // what was minimised last: its variables, if there is something, its evidence, and its nodes
     vars: Option<u32>,
     evidence: Vec<u32>,
     nodes: SmallNodes,
-    // the place of what stands for each node of the graph
+    // for each node of the graph, the place of the node that replaces it
     places: Vec<u32>,
 }
 
@@ -48,7 +48,7 @@ impl Model for MinimisedGraph {
 }
 
 impl MinimisedGraph {
-    /// With room for whatever is minimised from a graph. Nothing is minimised yet. The only error is that there is no memory.
+    /// Returns one with room for whatever is minimised from `graph`. Nothing is minimised yet. The only error is lack of memory.
     pub fn new(alloc: Global, graph: &Graph) -> Result<MinimisedGraph, Memory>
         ensures made { IfOk result (λ made. made ≡ record {
           nodes = length graph.now.nodes;
@@ -67,9 +67,9 @@ impl MinimisedGraph {
         })
     }
 
-    /// Whether some state agrees with the evidence; and then the graph is minimised under it.
+    /// Returns whether some state agrees with the evidence. If so, the graph is then minimised under it.
     ///
-    /// It takes one pass over the graph, and none if what is kept is of this evidence, which then stays.
+    /// It makes one pass over the graph, or none if what is kept is of this evidence, which then stays.
     #[tactic(auto, using(crate::proofs::Rules::last_minimised_one))]
     pub fn prepare<L: Ledger>(
         &mut self,
@@ -116,7 +116,7 @@ impl MinimisedGraph {
         true
     }
 
-    /// What was minimised last.
+    /// Returns what was minimised last.
     pub(crate) fn minimised(&self) -> GraphView<'_>
         requires { IsSome self.now.last }
         ensures { IfSome self.now.last (λ last. result ≡ last.small) }

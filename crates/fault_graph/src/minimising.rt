@@ -14,7 +14,7 @@ use std::sync::ledger::Ledger;
 /// Marks a node that costs something and is on a derivation of least cost.
 pub(crate) const MARKED: u32 = 1;
 
-// The least cost; the nodes are then those of the smaller graph. If nothing is wrong, that is one true node.
+// Returns the least cost; the nodes are then those of the smaller graph. If the root costs nothing, that is one true node.
 #[tactic(auto, using(crate::proofs::Rules::sizes_of_pieces))]
 pub(crate) fn minimise<L: Ledger>(
     nodes: &mut SmallNodes,

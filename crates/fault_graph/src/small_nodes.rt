@@ -9,7 +9,7 @@ use state_rules::NodeKind;
 use std::alloc::Global;
 use std::marker::Model;
 
-/// The nodes of one small graph after the other, in memory that is taken when it is made.
+/// The nodes of one small graph after the other, in memory that is allocated when it is made.
 #[derive(Drop)]
 pub(crate) struct SmallNodes {
     kinds: Vec<NodeKind>,
@@ -39,7 +39,7 @@ impl Model for SmallNodes {
 }
 
 impl SmallNodes {
-    /// No nodes, with room for so many, and for so many children of all of them.
+    /// Returns no nodes, with room for `nodes` nodes and for `kids` children of all of them.
     pub(crate) fn new(alloc: Global, nodes: usize, kids: usize) -> Result<SmallNodes, Memory>
         ensures { IfOk result (λ made. made ≡ record { nodes = []; node_room = nodes; child_room = kids }) }
     {
@@ -52,7 +52,7 @@ impl SmallNodes {
         })
     }
 
-    /// Walks the nodes in order.
+    /// Iterates over the nodes in order.
     #[tactic(auto, using(crate::proofs::Rules::sizes_of_pieces))]
     pub(crate) fn walk(&self) -> Walk<'_>
         ensures { result ≡ self.now.nodes }
@@ -60,7 +60,7 @@ impl SmallNodes {
         Walk::new(&self.kinds, Lists::new(&self.ends, &self.kids))
     }
 
-    /// Lets go of all nodes.
+    /// Drops all nodes.
     pub(crate) fn clear(&mut self)
         ensures { self.new ≡ record self.old { nodes = [] } }
     {
@@ -69,8 +69,8 @@ impl SmallNodes {
         self.kids.clear();
     }
 
-    /// Adds a node over the places of the children that cost something, and no more than so much. If it need not stay a node of its own
-    /// and one child is left, nothing is added. Gives the place of what stands for the node: itself, or that child.
+    /// Adds a node over the places of the children that cost something, and at most `cost`. If `own` is false and one child is left,
+    /// nothing is added. Returns the place of the node that replaces this one: itself, or that child.
     #[tactic(auto, using(crate::proofs::Rules::sizes_of_pieces))]
     pub(crate) fn add(
         &mut self,
@@ -106,7 +106,7 @@ impl SmallNodes {
     }
 }
 
-// Adds the places of the children that cost something, and no more than so much.
+// Adds the places of the children that cost something, and at most `cost`.
 fn gather(all: &mut Vec<u32>, kids: &[u32], values: &[u32], places: &[u32], cost: u32)
     requires kids { All (λ k. k < length values.now) kids.now }
     requires places { length places.now ≡ length values.now }

@@ -65,7 +65,7 @@ module _ {A : Type 0} where
   pub sum-all : (items : List A) (ends : List ℕ) → EndAt (length items) 0 ends → sum_by length (pieces items 0 ends) ≡ length items
   sum-all items ends e = omega (arith, sum-from items 0 ends e)
 
-  -- A list was written after the others, and where it ends after the places where they end.
+  -- A list and its end were added after the others.
   pub pushed : (items more longer : List A) (ends moved : List ℕ) (len : ℕ) → longer ≡ items ++ more → moved ≡ ends ++ len ∷ [] → len ≡ length longer → EndAt (length items) 0 ends
       → EndAt (length longer) 0 moved × (pieces longer 0 moved ≡ pieces items 0 ends ++ more ∷ [])
   pushed items more longer ends moved len e f n h = (

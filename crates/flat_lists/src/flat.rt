@@ -29,7 +29,7 @@ impl<T> Model for FlatLists<T> {
 }
 
 impl<T> FlatLists<T> {
-    /// No lists.
+    /// Returns no lists.
     pub fn new(alloc: Global) -> FlatLists<T>
         ensures { result ≡ [] }
     {
@@ -39,21 +39,21 @@ impl<T> FlatLists<T> {
         }
     }
 
-    /// The number of lists.
+    /// Returns the number of lists.
     pub fn len(&self) -> usize
         ensures { result ≡ length self.now }
     {
         self.ends.len()
     }
 
-    /// The number of items of all lists.
+    /// Returns the number of items of all lists.
     pub fn item_count(&self) -> usize
         ensures { result ≡ sum_by length self.now }
     {
         self.items.len()
     }
 
-    /// The list at a place.
+    /// Returns the list at a place.
     pub fn list(&self, at: usize) -> &[T]
         requires { at < length self.now }
         ensures { result.now ≡ slice_index_or self.now at [] }
@@ -61,7 +61,7 @@ impl<T> FlatLists<T> {
         self.lists().list(at)
     }
 
-    /// Walks the lists in order.
+    /// Iterates over the lists in order.
     pub fn lists(&self) -> Lists<'_, T>
         ensures { result ≡ self.now }
     {

@@ -5,9 +5,9 @@ ghost use Rattle.flat_lists.specs.Flat.{pieces, EndAt, start_at};
 
 use std::marker::Model;
 
-/// The lists that are left of a walk over all of them, from the first to the last.
+/// Iterates over lists in order. Its value is the lists that are left.
 ///
-/// One who asks all lists is faster by it than list by list: where one ends the next begins.
+/// A walk over all lists is faster than access by place: the next list begins where one ends.
 #[derive(Debug, Drop)]
 pub struct Lists<'a, T> {
     ends: &'a [usize],
@@ -31,7 +31,7 @@ impl<'a, T> Model for Lists<'a, T> {
 }
 
 impl<'a, T> Lists<'a, T> {
-    /// The lists of these items, by the places where each list ends.
+    /// Returns the lists of these items; `ends` are the places where they end.
     pub fn new(ends: &'a [usize], items: &'a [T]) -> Lists<'a, T>
         requires { EndAt (length items.now) 0 ends.now }
         ensures { result ≡ pieces items.now 0 ends.now }
@@ -43,7 +43,7 @@ impl<'a, T> Lists<'a, T> {
         }
     }
 
-    /// A walk over the same lists.
+    /// Returns another iterator over the lists that are left.
     pub fn again(&self) -> Lists<'a, T>
         ensures { result ≡ self.now }
     {
@@ -54,7 +54,7 @@ impl<'a, T> Lists<'a, T> {
         }
     }
 
-    /// The list at a place of those that are left.
+    /// Returns the list at a place among those that are left.
     pub fn list(&self, at: usize) -> &'a [T]
         requires { at < length self.now }
         ensures { result.now ≡ slice_index_or self.now at [] }
@@ -83,7 +83,7 @@ impl<'a, T> Iterator for Lists<'a, T> {
     }
 }
 
-// Where the list at a place begins, by where the first one begins and the places where the lists end.
+// Returns where the list at place `at` begins.
 fn start_at(start: usize, ends: &[usize], at: usize) -> usize
     requires { at < length ends.now }
     ensures { result ≡ start_at start ends.now at }

@@ -20,7 +20,7 @@ fault None cost false = cost
 fault None cost true = 0
 fault (Some b) cost x = 0
 
--- what is known of each variable, what it costs if it is false, and how many variables there are whose cost may not be 0
+-- what is known of each variable, its cost if it is false, and how many variables have a cost that may not be 0
 abbrev pub open_weights : (ℕ → Option Bool) → (ℕ → ℕ) → ℕ → Weights
 open_weights known cost parts = record { known = known; weight = λ v b. fault (known v) (cost v) b; parts = parts }
 
@@ -49,7 +49,7 @@ pub record Sum (c d : Option ℕ) (n : ℕ) : Type 0 where
 pub from_add : (c d : Option ℕ) (n : ℕ) → add_costs c d ≡ Some n → Sum c d n
 from_add c d n e = grind arith
 
--- ---- the least of some costs, and of others
+-- ---- the least of two sets of costs
 
 module _ (C D : ℕ → Type 0) where
   pub least-or : (c d : Option ℕ) → IsLeast C c → IsLeast D d → IsLeast (λ n. C n ⊎ D n) (min_costs c d)
@@ -60,7 +60,7 @@ module _ (C D : ℕ → Type 0) where
 
 -- ---- the nodes
 
--- a literal costs what its bit does, if that is allowed
+-- a literal has the cost of its bit, if that is allowed
 literal_weight : (positive : Bool) (k : Option Bool) (w : ℕ) → literal_cost (leaf_of positive k) w positive ≡ cond (agrees_at k positive) (Some (fault k w positive)) None
 literal_weight positive k w = grind arith
 
@@ -77,7 +77,7 @@ module _ (known : ℕ → Option Bool) (cost : ℕ → ℕ) (parts : ℕ) where
   abbrev pub all_faults : Assignment → ℕ
   all_faults a = cost_among (open_weights known cost parts) (λ v. true) a
 
-  -- among more variables there are no fewer
+  -- more variables cost no less
   pub faults_in-le : (m o : ℕ → Bool) (a : Assignment) → ((v : ℕ) → m v ≡ true → o v ≡ true) → faults_in m a ≤ faults_in o a
   faults_in-le m o a h = cost_among-le g m o a h
 
@@ -90,7 +90,7 @@ module _ (known : ℕ → Option Bool) (cost : ℕ → ℕ) (parts : ℕ) where
     pub holds : t by ≡ true
     pub cheap : all_faults by ≤ n
 
-  -- The cost is the least at which the node is true: t is its truth, and m says which variables it mentions.
+  -- The least cost at which a node is true: `t` is its truth, and `m` are the variables that it mentions.
   pub record IsLeastCost (t : Assignment → Bool) (m : ℕ → Bool) (c : Option ℕ) : Type 0 where
     pub least : IsLeast (TestCost (open_weights known cost parts) m t) c
     pub local : Depends m t
@@ -104,7 +104,7 @@ module _ (known : ℕ → Option Bool) (cost : ℕ → ℕ) (parts : ℕ) where
   abbrev At : (Assignment → Bool) → (ℕ → Bool) → ℕ → Type 0
   At t m n = TestCost g m t n
 
-  -- over more variables it is the same
+  -- more variables do not change it
   pub widened : (t : Assignment → Bool) (m o : ℕ → Bool) (c : Option ℕ) → ((v : ℕ) → m v ≡ true → o v ≡ true) → IsLeastCost t m c → IsLeast (TestCost (open_weights known cost parts) o t) c
   widened t m o c within is = least-wider g free m o (λ a. t a ≡ true) within (λ a b h e. is.local a b h ∙ e) c is.least
 
@@ -116,16 +116,15 @@ module _ (known : ℕ → Option Bool) (cost : ℕ → ℕ) (parts : ℕ) where
     local = is.local;
   }
 
-  -- what is true anyway costs nothing
+  -- a test that is always true costs nothing
   pub true_is : IsLeastCost (λ a. true) (λ v. false) (Some 0)
   true_is = record { least = (cost-none g (λ a. true ≡ true) refl, λ n x. omega arith); local = λ a b h. refl }
 
-  -- what is never true has no cost
+  -- a test that is never true has no cost
   pub false_is : IsLeastCost (λ a. false) (λ v. false) None
   false_is = record { least = λ n x. false≢true x.meets; local = λ a b h. refl }
 
   module _ (t u : Assignment → Bool) (m o : ℕ → Bool) (c d : Option ℕ) (is_t : IsLeastCost t m c) (is_u : IsLeastCost u o d) where
-    -- one of two
     pub or_is : IsLeastCost (λ a. t a || u a) (λ v. m v || o v) (min_costs c d)
     or_is = record {
       least = least-same (λ n. At t (λ v. m v || o v) n ⊎ At u (λ v. m v || o v) n) (At (λ a. t a || u a) (λ v. m v || o v)) (cost-any g t u _) (any-costs g t u _)
@@ -133,7 +132,7 @@ module _ (known : ℕ → Option Bool) (cost : ℕ → ℕ) (parts : ℕ) where
       local = depends-any g t u m o is_t.local is_u.local;
     }
 
-    -- both of two that share no variable
+    -- both of two tests that share no variable
     pub and_is : ((v : ℕ) → (m v && o v) ≡ false) → IsLeastCost (λ a. t a && u a) (λ v. m v || o v) (add_costs c d)
     and_is apart = record {
       least = least-same (SumOf (At t m) (At u o)) (At (λ a. t a && u a) (λ v. m v || o v)) (cost-all g t u m o apart is_t.local is_u.local) (all-costs g t u m o apart is_t.local is_u.local)
@@ -141,7 +140,7 @@ module _ (known : ℕ → Option Bool) (cost : ℕ → ℕ) (parts : ℕ) where
       local = depends-all g t u m o is_t.local is_u.local;
     }
 
-  -- the cost of a literal, whose variable costs nothing where it is not among the parts'
+  -- the cost of a literal; a variable of no part costs nothing
   module _ (none : (v : ℕ) → ((1 ≤ v) → (v < 1 + parts) → ⊥) → cost v ≡ 0) where
     pub only_parts : OnlyParts (open_weights known cost parts)
     only_parts v b out = grind arith

@@ -38,13 +38,13 @@ all-child f [] k m e = absurd m
 all-child f (j ∷ kids) k (inl q) e = ap f q ∙ and_left _ _ e
 all-child f (j ∷ kids) k (inr m) e = all-child f kids k m (and_right (f j) _ e)
 
--- an or costs no more than a child
+-- an Or node costs no more than a child
 pub cheapest-child : (C : ℕ → Option ℕ) (kids : List ℕ) (j d : ℕ) → In j kids → C j ≡ Some d → AtMost (cheapest (map C kids)) d
 cheapest-child C [] j d m e = absurd m
 cheapest-child C (i ∷ kids) j d (inl q) e = AtMost-min_left (C i) (cheapest (map C kids)) d (subst (λ o. AtMost o d) (sym (ap C (sym q) ∙ e)) (omega arith))
 cheapest-child C (i ∷ kids) j d (inr r) e = AtMost-min_right (C i) (cheapest (map C kids)) d (cheapest-child C kids j d r e)
 
--- and an and no less
+-- and an And node no less
 pub sum-child : (C : ℕ → Option ℕ) (kids : List ℕ) (c j : ℕ) → sum_costs (map C kids) ≡ Some c → In j kids → (d : ℕ) × (C j ≡ Some d) × (d ≤ c)
 sum-child C [] c j e m = absurd m
 sum-child C (k ∷ kids) c j e (inl q) = let s = from_add (C k) (sum_costs (map C kids)) c e in (s.left, ap C q ∙ s.left_is, omega (arith, s.sum_is))
@@ -119,13 +119,13 @@ module _ (graph : Graph) (evidence costs : List ℕ) (ok : IsGraph graph) where
 
   -- ---- from the root to a node
 
-  -- an assignment that makes a node true at a cost
+  -- an assignment that makes node `k` true, and costs at most `c`
   pub record Achieves (k c : ℕ) (a : Assignment) : Type 0 where
     pub agrees : Agrees (known_at evidence) (part_cost costs) (length costs) a
     pub holds : is_true graph.nodes k a ≡ true
     pub cheap : all_faults (known_at evidence) (part_cost costs) (length costs) a ≤ c
 
-  -- it goes on to the root: there is one that makes the root true at a cost, with the same bits of the node's variables
+  -- it extends to the root: an assignment with the same bits of the node's variables makes the root true, and costs at most `most`
   pub record Extends (k most : ℕ) (a : Assignment) : Type 0 where
     pub by : Assignment
     pub achieves : Achieves (length graph.nodes - 1) most by
@@ -134,7 +134,7 @@ module _ (graph : Graph) (evidence costs : List ℕ) (ok : IsGraph graph) where
   pub extends-le : (k c d : ℕ) (a : Assignment) → c ≤ d → Extends k c a → Extends k d a
   extends-le k c d a le x = record { by = x.by; achieves = record { agrees = x.achieves.agrees; holds = x.achieves.holds; cheap = omega (arith, x.achieves.cheap) }; same = x.same }
 
-  -- Outside of the node, the rest of a derivation of the root costs no more than this.
+  -- Outside node `k`, the rest of a derivation of the root costs at most `o`.
   abbrev pub Outside : ℕ → ℕ → Type 0
   Outside k o = (c : ℕ) (a : Assignment) → Achieves k c a → Extends k (o + c) a
 
@@ -178,7 +178,7 @@ module _ (graph : Graph) (evidence costs : List ℕ) (ok : IsGraph graph) where
         same = λ v t. y.as_right v (any-child (M v) kids k m t) ∙ more.same v t;
       }
 
-  -- the children of an and: the other children are true too
+  -- the children of an And node: the other children are true too
   pub outside-and : (p : ℕ) (kids : List ℕ) (o : ℕ) → slice_get graph.nodes p ≡ Some (record { what = And; kids = kids }) → Outside p o → (k : ℕ) → In k kids → (d : ℕ) → C k ≡ Some d → (r : ℕ) → C p ≡ Some (r + d) → Outside k (o + r)
   unfolding Apart
   outside-and p kids o e out k m d f r is x a h =
@@ -186,20 +186,18 @@ module _ (graph : Graph) (evidence costs : List ℕ) (ok : IsGraph graph) where
       let y = out (r + x) b.by (record { agrees = b.agrees; holds = true-at p _ e b.by ∙ b.holds; cheap = b.cheap }) in
       extends-le k (o + (r + x)) (o + r + x) a (omega arith) (record { by = y.by; achieves = y.achieves; same = λ v t. y.same v (mention-at p _ e v ∙ any-child (M v) kids k m t) ∙ b.same v t })
 
-  -- and of an or
   pub outside-or : (p : ℕ) (kids : List ℕ) (o : ℕ) → slice_get graph.nodes p ≡ Some (record { what = Or; kids = kids }) → Outside p o → (k : ℕ) → In k kids → Outside k o
   outside-or p kids o e out k m x a h =
       let y = out x a (record { agrees = h.agrees; holds = true-at p _ e a ∙ any-child (T a) kids k m h.holds; cheap = h.cheap }) in
       record { by = y.by; achieves = y.achieves; same = λ v t. y.same v (mention-at p _ e v ∙ any-child (M v) kids k m t) }
 
-  -- the node is part of making the root true at its least cost
+  -- the node is in a derivation of the root at its least cost
   abbrev pub Useful : ℕ → Type 0
   Useful k = (c m : ℕ) → C k ≡ Some c → C root ≡ Some m → (o : ℕ) × Outside k o × (o + c ≡ m)
 
   pub useful-root : Useful root
   useful-root c m e f = (0, outside-root, (let same = same_Some c m (sym e ∙ f) in omega arith))
 
-  -- the children of an and
   pub useful-and : (p : ℕ) (kids : List ℕ) (c : ℕ) → slice_get graph.nodes p ≡ Some (record { what = And; kids = kids }) → C p ≡ Some c → Useful p → (k : ℕ) → In k kids → Useful k
   useful-and p kids c e is useful k i d m f g =
       let u = useful c m is g in
@@ -207,14 +205,14 @@ module _ (graph : Graph) (evidence costs : List ℕ) (ok : IsGraph graph) where
       let same : own.0 ≡ d = same_Some own.0 d (sym own.1 ∙ f) in
       (u.0 + (c - d), outside-and p kids u.0 e u.1 k i d f (c - d) (is ∙ ap Some (omega (arith, own.2, same))), omega (arith, own.2, same, u.2))
 
-  -- the children of an or that cost as much
+  -- the children of an Or node that cost as much
   pub useful-or : (p : ℕ) (kids : List ℕ) (c : ℕ) → slice_get graph.nodes p ≡ Some (record { what = Or; kids = kids }) → C p ≡ Some c → Useful p → (k : ℕ) → In k kids → C k ≡ Some c → Useful k
   useful-or p kids c e is useful k i s d m f g =
       let u = useful c m is g in
       let same = same_Some d c (sym f ∙ s) in
       (u.0, outside-or p kids u.0 e u.1 k i, omega (arith, u.2, same))
 
-  -- an assignment that makes the root true at a cost, with a false variable
+  -- an assignment that makes the root true at a cost, and makes a variable false
   pub record FalseAt (most var : ℕ) : Type 0 where
     pub by : Assignment
     pub achieves : Achieves (length graph.nodes - 1) most by
@@ -229,9 +227,9 @@ module _ (graph : Graph) (evidence costs : List ℕ) (ok : IsGraph graph) where
       let x = extends-le k (u.0 + price var) m r.by (omega (arith, u.2)) (u.1 (price var) r.by (record { agrees = r.agrees; holds = r.holds; cheap = r.cheap })) in
       record { by = x.by; achieves = x.achieves; at = x.same var (mention-at k _ e var ∙ eq-eqb var var refl) ∙ not-true (r.by var) (sym (true-at k _ e r.by) ∙ r.holds) }
 
-  -- ---- what costs more than it has to
+  -- ---- costs above the least
 
-  -- a true child of an and: it costs no more above its least cost than the and does
+  -- a true child of an And node: it is no further above its least cost than the node
   pub record ChildExcess (kids : List ℕ) (c j : ℕ) (a : Assignment) : Type 0 where
     pub holds : is_true graph.nodes j a ≡ true
     pub cost : ℕ
@@ -253,7 +251,7 @@ module _ (graph : Graph) (evidence costs : List ℕ) (ok : IsGraph graph) where
       (λ (q : j ≡ i). subst (λ x. ChildExcess (i ∷ kids) c x a) (sym q) (record { holds = here; cost = sum.left; is = sum.left_is; excess = omega (arith, all, low_there, sum.sum_is) }))
       (λ (r : In j kids). let x = child-excess a ag kids rest there sum.right sum.right_is j r in record { holds = x.holds; cost = x.cost; is = x.is; excess = omega (arith, all, low_here, x.excess, sum.sum_is) }) m
 
-  -- a true child of an or that costs no more than it has to: it costs as much
+  -- a true child of an Or node that is true at its least cost: it costs as much
   pub or-child : (a : Assignment) → Agrees kn price n a → (k : ℕ) (kids : List ℕ) (c : ℕ) → slice_get graph.nodes k ≡ Some (record { what = Or; kids = kids }) → C k ≡ Some c → faults_in kn price n (λ v. M v k) a ≤ c
       → (j : ℕ) → In j kids → T a j ≡ true → C j ≡ Some c
   or-child a ag k kids c e is few j m h = by_cost (C j) refl ((is_cost j).bound a ag h) where
@@ -276,7 +274,7 @@ module _ (graph : Graph) (evidence costs : List ℕ) (ok : IsGraph graph) where
     faults-le : (m o : ℕ → Bool) → ((v : ℕ) → m v ≡ true → o v ≡ true) → faults m ≤ faults o
     faults-le m o h = faults_in-le kn price n m o a h
 
-    -- variables among which the faulty one is cost more than those among which it is not
+    -- variables with the faulty one cost more than those without it
     pub faults-lt : (m o : ℕ → Bool) → ((v : ℕ) → m v ≡ true → o v ≡ true) → m p ≡ false → o p ≡ true → faults m < faults o
     faults-lt m o h e f =
         let more = cost_among-apart (open_weights kn price n) m (λ v. eqb p v) a (one_apart m p e) in
@@ -288,7 +286,7 @@ module _ (graph : Graph) (evidence costs : List ℕ) (ok : IsGraph graph) where
     bound-at : (k c : ℕ) → T a k ≡ true → C k ≡ Some c → c ≤ faults (λ v. M v k)
     bound-at k c h e = subst (λ o. AtMost o (faults (λ v. M v k))) e ((is_cost k).bound a agree h)
 
-    -- a node that is true, costs no more than it has to, and has the faulty variable below it
+    -- a node that is true at its least cost, with the faulty variable at it or below
     pub record OnFault (k : ℕ) : Type 0 where
       pub holds : is_true graph.nodes k a ≡ true
       pub has : mentions graph.nodes p k ≡ true
@@ -304,7 +302,6 @@ module _ (graph : Graph) (evidence costs : List ℕ) (ok : IsGraph graph) where
       pub is_in : In child kids
       pub on : OnFault child
 
-    -- some child of an and
     on-and : (k : ℕ) (kids : List ℕ) → slice_get graph.nodes k ≡ Some (record { what = And; kids = kids }) → OnFault k → ChildOnFault kids
     unfolding Apart
     on-and k kids e on =
@@ -313,7 +310,7 @@ module _ (graph : Graph) (evidence costs : List ℕ) (ok : IsGraph graph) where
         let most = faults-le (MA kids) (λ v. M v k) (λ v q. mention-at k _ e v ∙ q) in
         record { child = j.item; is_in = j.is_in; on = record { holds = x.holds; has = j.passes; cost = x.cost; is = x.is; tight = omega (arith, x.excess, on.tight, most) } }
 
-    -- some child of an or, that costs as much
+    -- some child of an Or node that costs as much
     pub record CheapChild (kids : List ℕ) (cost : ℕ) : Type 0 where
       pub child : ℕ
       pub is_in : In child kids
@@ -338,7 +335,7 @@ module _ (graph : Graph) (evidence costs : List ℕ) (ok : IsGraph graph) where
           };
         }
 
-    -- Marks that go from the root to all children of an and and to the cheap children of an or come to a literal that says faulty.
+    -- Marks that spread from the root to all children of And nodes and to cheap children of Or nodes reach a literal that says faulty.
     module _ (Marked : ℕ → Type 0)
         (ands : (k : ℕ) (kids : List ℕ) (c : ℕ) → slice_get graph.nodes k ≡ Some (record { what = And; kids = kids })
         → least_at graph evidence costs k ≡ Some c → Marked k → (j : ℕ) → In j kids → Marked j)

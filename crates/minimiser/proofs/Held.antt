@@ -1,4 +1,4 @@
--- The cost of the parts that are held to be faulty, one after the other; and what all parts cost.
+-- The cost of the parts that are held to be faulty, one after the other; and the cost of all parts.
 use Rattle.std.proofs.Common.{◌≡◌, ℕ, zero, suc, ◌+◌, ◌<◌, ◌≤◌, List, [], ◌∷◌, length, get_or, drop, refl, arith}
 use Rattle.std.proofs.lemmas.List.{drop_all, drop_more}
 use Rattle.std.proofs.lemmas.List.Sums.{sum_by-cons, sum_by-drop_more}

@@ -1,4 +1,4 @@
--- The least cost of the models of a graph is what the costs of its nodes say.
+-- The least cost of the models of a graph, from the costs of its nodes.
 use Rattle.std.proofs.Common.{◌≡◌, ℕ, zero, suc, ◌+◌, ◌-◌, ◌<◌, ◌≤◌, Bool, true, cond, ◌&&◌, List, [], ◌∷◌, ◌++◌, length, take, drop, get_or, Option, Some, refl, ap, sym, ◌∙◌, subst, arith, length-append, length-drop}
 use Rattle.std.specs.Prelude.{option_map}
 use Rattle.std.proofs.lemmas.Bool.{and_from}
@@ -28,7 +28,7 @@ use Rattle.minimiser.proofs.Nodes.{is_cost}
 one_cost : (k : Option Bool) (c : ℕ) (b : Bool) → agrees_at k b ≡ true → cond b 0 c ≡ held_one c k + fault k c b
 one_cost k c b e = grind arith
 
--- what the held parts cost, as a sum over their variables
+-- the cost of the held parts, as a sum over their variables
 held-total : (f : ℕ → ℕ) (v : ℕ) (costs evidence : List ℕ) → length costs ≤ length evidence → ((i : ℕ) → i < length costs → f (v + i) ≡ held_one (get_or costs i 0) (known_of (get_or evidence i 0))) → total f v (length costs) ≡ held_cost costs evidence
 held-total f v [] evidence m e = refl
 held-total f v (c ∷ costs) [] m e = absurd (omega arith)
@@ -36,7 +36,7 @@ held-total f v (c ∷ costs) (w ∷ evidence) m e =
     let first : v + 0 ≡ v = omega arith in
     omega (arith, ap f (sym first) ∙ e zero (omega arith), held-total f (v + 1) costs evidence (omega arith) (λ i lt. ap f (let s : v + 1 + i ≡ v + suc i = omega arith in s) ∙ e (suc i) (omega arith)))
 
--- a variable that is no part's costs nothing
+-- a variable of no part costs nothing
 pub part_cost-none : (costs : List ℕ) (v : ℕ) → ((1 ≤ v) → (v < 1 + length costs) → ⊥) → part_cost costs v ≡ 0
 part_cost-none costs v h = grind (arith, get_or_past)
 
@@ -144,7 +144,7 @@ module _ (graph : Graph) (evidence costs : List ℕ) (ok : IsGraph graph) (long 
       let same : (i : ℕ) → i < length costs → bit_in h i ≡ assignment (h ++ r.item) (1 + i) = λ i g. sym (bit_in-front h r.item i (omega arith)) ∙ ap (bit_in (h ++ r.item)) (less_one i) in
       record { by = assignment (h ++ r.item); agrees = agree; holds = and_right (fits_evidence evidence (h ++ r.item)) _ r.passes; cost_is = cost_by_bits h (assignment (h ++ r.item)) l same agree; bits = same }
 
-  -- The least cost of a model is that of the held parts and of the root.
+  -- The least cost of a model is the cost of the held parts and the least cost at the root.
   pub least_is : least costs (models graph evidence (length costs)) ≡ AddHeld held (least_at graph evidence costs root)
   least_is = least-in costs (length costs) (has_model graph (fits_evidence evidence) (length costs)) (AddHeld held (least_at graph evidence costs root))
       (least-more (TestCost (open_weights kn price (length costs)) (λ v. true) truth_of) (StateCost costs (length costs) (has_model graph (fits_evidence evidence) (length costs))) held

@@ -1,4 +1,4 @@
--- The states that a graph allows, as evidence is changed.
+-- The states that a graph allows, when evidence changes.
 use Rattle.std.proofs.Common.{◌≡◌, ◌≢◌, ℕ, ◌-◌, ◌<◌, ◌≤◌, Bool, true, ◌&&◌, List, [], ◌∷◌, ◌++◌, length, get_or, Some, None, refl, ap, sym, ◌∙◌, subst, arith, length-append}
 use Rattle.std.proofs.lemmas.Bool.{leb-true}
 use Rattle.std.proofs.lemmas.Option.{same_Some}
@@ -24,7 +24,7 @@ Agree-bit b bit e = grind arith
 pub Agree-same : (bit : Bool) → Agree (word_of bit) bit
 Agree-same bit = grind arith
 
--- evidence that says as much, or more of open parts
+-- evidence that says the same, and may say more of open parts
 pub record Refines (parts : ℕ) (old new : List ℕ) : Type 0 where
   pub long : length new ≡ length old
   pub kept : (k : ℕ) → get_or old k 0 ≢ 0 → get_or new k 0 ≡ get_or old k 0
@@ -39,7 +39,7 @@ pub record HasState (graph : Graph) (evidence costs : List ℕ) (most : ℕ) : T
   pub passes : ModelWithin graph evidence costs most state
 
 module _ (graph : Graph) (costs : List ℕ) (within : length costs ≤ graph.vars) where
-  -- what the evidence says of the parts is so in a state that it allows
+  -- a state that the evidence allows has the bits that the evidence says of parts
   pub model-agrees : (evidence : List ℕ) (h : List Bool) → length evidence ≡ graph.vars → length h ≡ length costs → has_model graph (fits_evidence evidence) (length costs) h ≡ true
       → (i : ℕ) → i < length costs → Agree (get_or evidence i 0) (bit_in h i)
   model-agrees evidence h long l m i lt =
@@ -47,7 +47,7 @@ module _ (graph : Graph) (costs : List ℕ) (within : length costs ≤ graph.var
       let len : length r.item ≡ graph.vars - length costs = bits_length (graph.vars - length costs) r.item r.is_in in
       grind (arith, bit_in-front, fits_evidence-at, length-append)
 
-  -- a state that the evidence allows is allowed by others that say the same of the other variables, and nothing else of it
+  -- a state that the evidence allows is allowed by other evidence that it agrees with and that says the same of the other variables
   pub model-moved : (evidence others : List ℕ) (h : List Bool) → length evidence ≡ graph.vars → length others ≡ graph.vars → length h ≡ length costs → has_model graph (fits_evidence evidence) (length costs) h ≡ true
       → ((i : ℕ) → i < length costs → Agree (get_or others i 0) (bit_in h i)) → ((i : ℕ) → length costs ≤ i → get_or others i 0 ≡ get_or evidence i 0) → has_model graph (fits_evidence others) (length costs) h ≡ true
   model-moved evidence others h long long' l m agree same =
@@ -75,7 +75,7 @@ module _ (graph : Graph) (costs : List ℕ) (within : length costs ≤ graph.var
       let s = (least-out costs (length costs) _ (Some most) e).0 in
       record { state = s.state; passes = record { long = s.long; model = s.passes; cheap = omega (arith, s.cost_is) } }
 
-  -- a state that passes under evidence that says more shows that their least cost is the same
+  -- if a state of least cost passes under evidence that says more, the least cost is the same
   pub least-refined : (old new : List ℕ) (most : ℕ) (h : List Bool) → length old ≡ graph.vars → Refines (length costs) old new → LeastIs graph costs old most → ModelWithin graph new costs most h → LeastIs graph costs new most
   least-refined old new most h long r e p = least-in costs (length costs) (has_model graph (fits_evidence new) (length costs)) (Some most) (
     record { state = h; long = p.long; passes = p.model; cost_is = omega (arith, p.cheap, low h p.long p.model) },

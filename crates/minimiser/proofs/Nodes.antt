@@ -39,7 +39,7 @@ module _ (known : ℕ → Option Bool) (price : ℕ → ℕ) (parts : ℕ) (none
     abbrev C : ℕ → Option ℕ
     C k = cost_at (values (node_cost known price) graph.nodes) k
 
-    -- the cost at a node, by those of its children
+    -- the cost at a node follows from those of its children
     pub cost-of : (i : ℕ) → i < length graph.nodes → C i ≡ cost_by known price (node_at graph.nodes i).what (map C (node_at graph.nodes i).kids)
     cost-of i h =
         let f = node_cost known price in

@@ -86,7 +86,7 @@ node_fits_room graph evidence costs i most n before ok few e v = if_some _ most 
 
 -- ---- the whole pass
 
--- A node is at a place, and others after it.
+-- node `n` is at place `i`, and `others` after it
 pub record StandsAt (graph : Graph) (i : ℕ) (n : Node) (others : List Node) : Type 0 where
   pub there : slice_get graph.nodes i ≡ Some n
   pub behind : drop (i + 1) graph.nodes ≡ others
@@ -115,7 +115,7 @@ is_least graph evidence costs xs ok long within v = least_is graph evidence cost
     ∙ (λ j. AddHeld (held_cost costs evidence) (cost_at (sym v j) (length graph.nodes - 1)))
     ∙ ap (AddHeld (held_cost costs evidence)) (cost_at-map xs (length graph.nodes - 1) (omega (arith, length-least_costs graph evidence costs xs v, ok.some)))
 
--- no value of a node that has a cost is above what all parts cost
+-- the value of a node that has a cost is at most the cost of all parts
 pub value_small : (graph : Graph) (evidence costs : List ℕ) (k : ℕ) (xs : List ℕ) → IsGraph graph → AreLeastCosts graph evidence costs xs → k < length xs
     → (get_or xs k 0 ≡ 4294967295 → ⊥) → get_or xs k 0 ≤ total_cost costs
 unfolding costs_to

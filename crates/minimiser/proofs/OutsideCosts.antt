@@ -25,7 +25,7 @@ use Rattle.minimiser.proofs.SpreadMarks.{no-kids, child-out, child_before}
 lowered-is : (b : Bool) (cost old new : ℕ) → new ≡ lowered b cost old → (new ≤ old) × (b ≡ true → new ≤ cost) × ((new ≡ old) ⊎ ((b ≡ true) × (new ≡ cost)))
 lowered-is b cost old new e = grind arith
 
--- one more node lowers what is outside its children
+-- one more node lowers the costs outside its children
 module _ (graph : Graph) (ok : IsGraph graph) (values xs ys : List ℕ) (at : ℕ) (lt : at < length graph.nodes) (s : AreOutsideCosts graph.nodes values xs (at + 1))
     (lowers : (k : ℕ) → k < length graph.nodes → get_or ys k 0 ≡ lowered (is_child (node_at graph.nodes at).kids k) (outside_below graph.nodes values xs at k) (get_or xs k 0)) where
   moves : (k : ℕ) → k < length graph.nodes → (get_or ys k 0 ≤ get_or xs k 0) × (is_child (node_at graph.nodes at).kids k ≡ true → get_or ys k 0 ≤ outside_below graph.nodes values xs at k)
@@ -77,7 +77,7 @@ module _ (graph : Graph) (evidence costs : List ℕ) (ok : IsGraph graph) (vs os
     abbrev faults : ℕ → ℕ
     faults k = faults_in (known_at evidence) (part_cost costs) (length costs) (λ v. mentions graph.nodes v k) a
 
-    -- what is true comes to no more with the rest at a true child than at the node
+    -- the cost of a true child and that outside it are no more than those of the node
     pub child-fits : (k j : ℕ) → k < length graph.nodes → is_child (node_at graph.nodes k).kids j ≡ true → is_true graph.nodes k a ≡ true → is_true graph.nodes j a ≡ true → O j + faults j ≤ O k + faults k
     unfolding Apart
     child-fits k j h i t u =

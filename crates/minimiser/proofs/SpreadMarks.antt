@@ -1,4 +1,4 @@
--- Marks spread from the root. They say of each literal whether it is part of making the root true at its least cost.
+-- Marks spread from the root. They say of each literal whether it is in a derivation of the root at its least cost.
 use Rattle.std.proofs.Common.{◌≡◌, ◌≢◌, ℕ, zero, suc, ◌+◌, ◌-◌, ◌<◌, ◌≤◌, Bool, true, false, cond, eqb, ◌&&◌, ◌||◌, List, [], ◌∷◌, length, get_or, min, All, Option, Some, None, refl, ap, sym, ◌∙◌, subst, arith, inl, inr, ⊎_elim}
 use Rattle.std.proofs.lemmas.Bool.Decides.{nat_tests}
 use Rattle.std.specs.Prelude.{◌==◌, slice_get, nat_le, IsSome}
@@ -37,7 +37,7 @@ mark-in v h g = and_from _ _ (le-leb _ _ h) (lt-ltb _ _ g)
 mark-out : (v : ℕ) → has_mark v ≡ true → (2147483648 ≤ v) × (v < 4294967295)
 mark-out v e = (leb-true _ _ (and_left _ _ e), ltb-true _ _ (and_right (nat_le 2147483648 v) _ e))
 
--- a cost has no mark, and what stands for none has none
+-- neither a cost nor the number that means none has a mark
 no-mark : (v : ℕ) → IsValue v → has_mark v ≡ false
 no-mark v h = false_from_ne_true (has_mark v) (λ e. ⊎_elim (λ (q : v < 2147483647). omega (arith, (mark-out v e).0)) (λ (q : v ≡ 4294967295). omega (arith, (mark-out v e).1)) h)
 
@@ -53,7 +53,7 @@ child-in [] j m = absurd m
 child-in (k ∷ kids) j (inl q) = ap (λ b. b || is_child kids j) (eq-eqb k j (sym q))
 child-in (k ∷ kids) j (inr r) = ap (λ b. eqb k j || b) (child-in kids j r) ∙ or-true (eqb k j)
 
--- a value that spreads from a marked node: it stays, or it was low and is marked
+-- a value when a marked node spreads: it stays, or it was low and is marked
 data Spread (kids : List ℕ) (cost j v : ℕ) : ℕ → Type 0 where
   stays : Spread kids cost j v v
   grows : is_child kids j ≡ true → v ≤ cost → Spread kids cost j v (v + 2147483648)
@@ -76,7 +76,7 @@ own-cost : (v c : ℕ) → unmarked v ≡ c → has_mark v ≡ true → (v - 214
 own-cost v c e m = grind arith
 
 module _ (nodes : List Node) (cs : List ℕ) where
-  -- a marked node is met, and marks its children that cost no more
+  -- a marked node marks its children that cost no more
   module _ (xs ys : List ℕ) (at : ℕ) (lt : at < length nodes) (before : (j : ℕ) → is_child (node_at nodes at).kids j ≡ true → j < at)
       (s : IsSwept nodes cs xs (at + 1)) (m : has_mark (get_or xs at 0) ≡ true)
       (spreads : (j : ℕ) → j < length nodes → get_or ys j 0 ≡ spread_value (node_at nodes at).kids (get_or xs at 0 - 2147483648) j (get_or xs j 0)) where
@@ -115,7 +115,7 @@ module _ (nodes : List Node) (cs : List ℕ) where
 pub no-kids : (graph : Graph) → IsGraph graph → (k j var : ℕ) (positive : Bool) (kids : List ℕ) → slice_get graph.nodes k ≡ Some (record { what = Literal positive var; kids = kids }) → In j kids → ⊥
 no-kids graph ok k j var positive kids e i = subst (In j) (literal graph.vars var positive kids (fits-get graph.vars graph.nodes k _ ok.nodes.fit e).kind).alone i
 
--- children are before their parents
+-- children come before their parents
 pub children_before : (graph : Graph) (k : ℕ) (kids : List ℕ) → IsGraph graph → k < length graph.nodes → kids ≡ (node_at graph.nodes k).kids → All (λ j. j < k) kids
 children_before graph k _ ok h e = subst (λ ks. All (λ j. j < k) ks) (sym e) (children_below graph k (node_at graph.nodes k) ok (slice_get-get_or graph.nodes k true_node h))
 
@@ -139,9 +139,9 @@ module _ (graph : Graph) (evidence costs : List ℕ) (ok : IsGraph graph) (total
         default (x ∷ xs) zero d h = refl
         default (x ∷ xs) (suc k) d h = default xs k d (omega arith)
 
--- ---- the look at all nodes
+-- ---- all nodes are looked at
 
--- the least of the suspects of so many nodes
+-- the least of the suspects of the first `at` nodes
 pub record IsLeastSuspect (suspect : ℕ → Option ℕ) (parts at first : ℕ) : Type 0 where
   pub within : first ≤ parts
   pub found : first < parts → (k : ℕ) × (k < at) × (suspect k ≡ Some first)
@@ -161,7 +161,7 @@ module _ (suspect : ℕ → Option ℕ) (parts : ℕ) where
     all = grind arith;
   }
 
--- the suspects of so many nodes are flagged
+-- the suspects of the first `at` nodes are flagged
 pub record AreFlagged (suspect : ℕ → Option ℕ) (state : List ℕ) (at : ℕ) : Type 0 where
   pub small : All (λ s. s < 2) state
   pub found : (part : ℕ) → part < length state → get_or state part 0 ≡ 1 → (k : ℕ) × (k < at) × (suspect k ≡ Some part)
@@ -174,7 +174,7 @@ module _ (graph : Graph) (evidence costs : List ℕ) (ok : IsGraph graph) (long 
   room : length cs ≡ length graph.nodes
   room = length-least_costs graph evidence costs cs v
 
-  -- the least cost is that of the held parts and of the root
+  -- the least cost is that of the held parts and that at the root
   pub record RootCost : Type 0 where
     pub cost : ℕ
     pub is : least_at graph evidence costs (length graph.nodes - 1) ≡ Some cost
@@ -205,7 +205,7 @@ module _ (graph : Graph) (evidence costs : List ℕ) (ok : IsGraph graph) (long 
           let same : get_or cs k 0 ≡ get_or cs p 0 = omega arith in
           useful-or graph evidence costs ok p kids (get_or cs p 0) e (cost-of p hp mp) useful k (child-out kids k i) (cost-of k hk mk ∙ ap Some same)
 
-    -- each marked node is part of making the root true at its least cost
+    -- each marked node is in a derivation of the root at its least cost
     marked-useful : (fuel k : ℕ) → length graph.nodes ≤ k + fuel → k < length graph.nodes → IsMarked xs k → Useful graph evidence costs ok k
     marked-useful zero k f h m = absurd (omega arith)
     marked-useful (suc fuel) k f h m = ⊎_elim
@@ -252,7 +252,7 @@ module _ (graph : Graph) (evidence costs : List ℕ) (ok : IsGraph graph) (long 
         let his : get_or cs j 0 ≡ d = cost_in-is (get_or cs j 0) d (value-is graph evidence costs cs v j (omega arith) ∙ g) in
         s.down k j (omega arith) h m (omega arith) (subst (λ (n : Node). is_child n.kids j ≡ true) (sym at) (child-in node.kids j i)) (omega arith)
 
-    -- where an open part is faulty in a state of least cost, a marked literal says so
+    -- if an open part is faulty in a state of least cost, a marked literal says so
     pub suspect-found : All (λ c. 0 < c) costs → (part : ℕ) → part < length costs → get_or evidence part 0 ≡ 0 → (h : List Bool) → LeastState graph evidence costs h → bit_in h part ≡ false
         → (k : ℕ) × (k < length graph.nodes) × (suspect_at graph.nodes evidence (length costs) xs k ≡ Some part)
     suspect-found dears part lt open_ h is q =

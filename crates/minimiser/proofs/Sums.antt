@@ -34,7 +34,7 @@ add_costs-zero c = grind arith
 min_costs-none : (c : Option ℕ) → c ≡ min_costs c None
 min_costs-none c = grind arith
 
--- What stands for no cost is the greatest number: a sum that is cut there stands for none just where one of both does, unless the whole sum is none.
+-- The greatest number means no cost. A sum that is cut there means none exactly if one of both does, unless the whole sum is none.
 cut_sum : (a b : ℕ) (c all : Option ℕ) → a ≤ 4294967295 → b ≤ 4294967295 → IfSome all (λ n. n < 2147483647)
     → add_costs (cost_in a) (add_costs (cost_in b) c) ≡ all → add_costs (cost_in (min (a + b) 4294967295)) c ≡ all
 cut_sum a b c all h g small is = grind arith

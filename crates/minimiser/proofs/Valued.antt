@@ -1,4 +1,4 @@
--- What the numbers of nodes say that are their least costs.
+-- Numbers that are the least costs of nodes.
 use Rattle.std.proofs.Common.{◌≡◌, ℕ, ◌<◌, ◌≤◌, true, List, length, get_or, Option, Some, None, refl, ap, sym, ◌∙◌, arith}
 use Rattle.std.proofs.Math.Seq.{take-length}
 use Rattle.state_rules.specs.Assignments.{Assignment}
@@ -21,7 +21,7 @@ module _ (graph : Graph) (evidence costs : List ℕ) (cs : List ℕ) (v : AreLea
   value-is k h = sym (cost_at-map cs k (omega (arith, length-least_costs graph evidence costs cs v))) ∙ ap (λ xs. cost_at xs k) v
       ∙ (λ i. cost_at (values (node_cost (known_at evidence) (part_cost costs)) (take-length graph.nodes i)) k)
 
-  -- a node that is true has a cost, and no less than that is below it
+  -- a true node has a cost, and what is faulty below it costs no less
   pub record HasLeast (a : Assignment) (k : ℕ) : Type 0 where
     pub is : least_at graph evidence costs k ≡ Some (get_or cs k 0)
     pub low : get_or cs k 0 ≤ faults_in (known_at evidence) (part_cost costs) (length costs) (λ u. mentions graph.nodes u k) a

@@ -5,7 +5,7 @@ use Rattle.state_rules.specs.Ranking.{cost}
 use Rattle.state_rules.specs.Graphs.{Graph}
 use Rattle.conditioner.specs.Models.{has_model, fits_evidence, least_under}
 
--- a state of the parts that the graph allows under the evidence, and that costs no more than this
+-- a state of the parts that the graph allows under the evidence, and that costs at most `most`
 pub record ModelWithin (graph : Graph) (evidence costs : List ℕ) (most : ℕ) (h : List Bool) : Type 0 where
   pub long : length h ≡ length costs
   pub model : has_model graph (fits_evidence evidence) (length costs) h ≡ true
@@ -25,7 +25,7 @@ pub record Suspect (graph : Graph) (evidence costs : List ℕ) (part : ℕ) : Ty
   pub is_least : LeastState graph evidence costs state
   pub faulty : bit_in state part ≡ false
 
--- the open parts before one are ok in all states of least cost
+-- the open parts before `n` are ok in all states of least cost
 abbrev pub OkBelow : Graph → List ℕ → List ℕ → ℕ → Type 0
 OkBelow graph evidence costs n =
     (part : ℕ) → part < n → slice_index evidence part ≡ 0 → (h : List Bool) → LeastState graph evidence costs h → bit_in h part ≡ true

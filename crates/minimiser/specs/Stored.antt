@@ -5,11 +5,11 @@ use Rattle.state_rules.specs.Graphs.{Graph}
 use Rattle.minimiser.specs.Costs.{node_cost, known_at, part_cost}
 use Rattle.minimiser.specs.declared.pass.TheConstants.{NONE}
 
--- the greatest number stands for no cost
+-- the greatest number means no cost
 abbrev pub cost_in : ℕ → Option ℕ
 cost_in n = if n == NONE then None else Some n
 
--- the least costs at the first nodes of a graph
+-- the least costs at the first `i` nodes of a graph
 unfoldable pub costs_to : Graph → List ℕ → List ℕ → ℕ → List (Option ℕ)
 costs_to graph evidence costs i = values (node_cost (known_at evidence) (part_cost costs)) (take i graph.nodes)
 

@@ -1,4 +1,4 @@
-//! The least cost of the health states that a graph allows under evidence, and that at each of its nodes; and the parts
+//! The least cost of the health states that a graph allows under evidence, and the least cost at each of its nodes; and the parts
 //! that are faulty in some diagnosis. Passes are counted.
 #![tactic(auto)]
 

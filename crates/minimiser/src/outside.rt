@@ -6,8 +6,8 @@ use crate::pass::NONE;
 use node_store::Graph;
 use state_rules::NodeKind;
 
-/// Outside each node, what the rest of a derivation of the root costs at least, from the values that [`least`](crate::least) left: one
-/// sweep over the nodes, from the root down. Outside a node that has no value the number says nothing.
+/// Writes for each node the least cost of the rest of a derivation of the root outside it, from the values that [`least`](crate::least)
+/// left: one sweep over the nodes, from the root down. The number of a node that has no value means nothing.
 pub fn put_outside_costs(graph: &Graph, values: &[u32], outside: &mut [u32])
     requires values { length values.now ≡ length graph.now.nodes }
     requires room { length outside.old ≡ length graph.now.nodes }
@@ -29,7 +29,7 @@ pub fn put_outside_costs(graph: &Graph, values: &[u32], outside: &mut [u32])
     }
 }
 
-// Lowers what is outside the children of a node to what it lets the rest cost.
+// Lowers the costs outside the children of a node to those by way of this node.
 fn lower_children(
     what: NodeKind,
     own: u32,
@@ -49,7 +49,7 @@ fn lower_children(
     }
 }
 
-// What the other children of an And cost, if it and one of its children cost so much.
+// Returns the cost of the other children of an And node, from its cost and that of one child.
 fn others_cost(what: NodeKind, own: u32, child: u32) -> u32
     ensures { result ≡ others_cost what own child }
 {

@@ -14,15 +14,15 @@ use std::sync::ledger::Ledger;
 /// All parts together cost less than this, so that a cost leaves the highest bit of its number free.
 pub const TOTAL_LIMIT: u32 = 2_147_483_647;
 
-/// What means no cost.
+/// The number that means no cost.
 pub const NONE: u32 = u32::MAX;
 
-/// The least cost of a health state that some bits of the other variables make a model: it agrees with the evidence, and the graph
-/// is true under them. `None` if there is none.
+/// Returns the least cost of a health state that is a model with some bits of the other variables: it agrees with the evidence, and the
+/// graph is true under them. `None` if there is none.
 ///
-/// The parts are the first variables, and each has a cost. One that is fixed to faulty counts also if the graph does not mention
-/// it, and one that is open and not mentioned counts as ok. One call is one pass over the nodes, which leaves the least cost at each
-/// in `values`, for [`first_suspect`](crate::first_suspect) and [`find_suspects`](crate::find_suspects).
+/// The parts are the first variables, and each has a cost. A part that is fixed to faulty counts even if the graph does not mention it;
+/// an open part that is not mentioned counts as ok. A call makes one pass over the nodes, and leaves the least cost at each in `values`,
+/// for [`first_suspect`](crate::first_suspect) and [`find_suspects`](crate::find_suspects).
 pub fn least<L: Ledger>(
     graph: &Graph,
     evidence: &[u32],
@@ -43,7 +43,7 @@ pub fn least<L: Ledger>(
     least_in(&graph.view(), evidence, costs, values, steps)
 }
 
-/// What [`least`] does, in a graph whose nodes may lie anywhere.
+/// Does the same as [`least`] in a graph whose nodes may lie anywhere.
 pub fn least_in<L: Ledger>(
     graph: &GraphView<'_>,
     evidence: &[u32],
@@ -70,7 +70,7 @@ pub fn least_in<L: Ledger>(
     }
 }
 
-/// The pass that [`least`] makes, for one who needs the least cost at each node alone.
+/// Makes the pass of [`least`], for a caller that needs only the least cost at each node.
 pub fn put_least_costs<L: Ledger>(
     graph: &GraphView<'_>,
     evidence: &[u32],
@@ -96,7 +96,7 @@ pub fn put_least_costs<L: Ledger>(
     }
 }
 
-// The least cost at a node, from those of the nodes before it.
+// Returns the least cost at a node, from those of the nodes before it.
 fn node_value(node: &NodeRef<'_>, evidence: &[u32], costs: &[u32], values: &[u32]) -> u32
     requires fits { node_fits (length evidence.now) (length values.now) node.now ≡ true }
     requires evidence { All (λ w. w < 3) evidence.now }
@@ -121,9 +121,9 @@ fn node_value(node: &NodeRef<'_>, evidence: &[u32], costs: &[u32], values: &[u32
     }
 }
 
-// That of a gate over two children, as most are.
+// Returns the value of a node with two children, as most have.
 //
-// What stands for no cost is the greatest number, so that a sum with it is not below it.
+// The greatest number means no cost, so that a sum with it is not below it.
 fn pair_value(what: NodeKind, one: u32, other: u32) -> u32
     requires gate { (what ≡ NodeKind.And) ⊎ (what ≡ NodeKind.Or) }
     requires small { what ≡ NodeKind.And → IfSome (sum_costs (cost_in one ∷ cost_in other ∷ [])) (λ n. n < TOTAL_LIMIT) }
@@ -135,7 +135,7 @@ fn pair_value(what: NodeKind, one: u32, other: u32) -> u32
     value.min(u64::from(NONE)) as u32
 }
 
-// One of two numbers, by what a gate is. Both are worked out before, so that no branch depends on it.
+// Returns one of two numbers, by the kind of a node. Both are computed before, so that no branch depends on it.
 fn either(what: NodeKind, of_and: u64, of_or: u64) -> u64
     requires gate { (what ≡ NodeKind.And) ⊎ (what ≡ NodeKind.Or) }
     ensures and { what ≡ NodeKind.And → result ≡ of_and }
@@ -147,7 +147,7 @@ fn either(what: NodeKind, of_and: u64, of_or: u64) -> u64
     }
 }
 
-/// What the failure of a variable's part costs, and 0 for one that is no part's.
+/// Returns the cost of the failure of a variable's part, and 0 for a variable of no part.
 pub fn part_cost(var: u32, costs: &[u32]) -> u32
     requires { 1 ≤ var }
     ensures { result ≡ part_cost costs.now var }
@@ -192,7 +192,7 @@ fn or_value(values: &[u32], kids: &[u32]) -> u32
     best
 }
 
-// What the parts cost together that the evidence fixes to faulty.
+// Returns the cost of the parts that the evidence fixes to faulty.
 #[tactic(auto, using(crate::proofs::Held::held_steps))]
 pub(crate) fn held_cost(evidence: &[u32], costs: &[u32]) -> u32
     requires evidence { All (λ w. w < 3) evidence.now }

@@ -12,10 +12,10 @@ use state_rules::NodeKind;
 /// Marks a node in its value. Costs are below it.
 const MARK: u32 = TOTAL_LIMIT + 1;
 
-/// The first open part that is faulty in some state of least cost, parts being counted from 0.
+/// Returns the first open part that is faulty in some state of least cost. Parts are counted from 0.
 ///
-/// The values are those that [`least`](crate::least) left if some state agrees with the evidence. They are spoilt. One sweep over
-/// the nodes, from the root down, and one look at them.
+/// The values are those that [`least`](crate::least) left, and some state agrees with the evidence. They are overwritten. The call makes
+/// one sweep over the nodes, from the root down, and one look at them.
 pub fn first_suspect(
     graph: &GraphView<'_>,
     evidence: &[u32],
@@ -44,9 +44,9 @@ pub fn first_suspect(
     if first == parts { None } else { Some(first) }
 }
 
-/// All open parts that are faulty in some state of least cost: 1 for each of them in the state, and 0 for every other part.
+/// Writes all open parts that are faulty in some state of least cost to `state`: 1 for each of them, and 0 for every other part.
 ///
-/// The values are as for [`first_suspect`]. They are spoilt.
+/// The values are as for [`first_suspect`]. They are overwritten.
 pub fn find_suspects(
     graph: &GraphView<'_>,
     evidence: &[u32],
@@ -77,8 +77,8 @@ pub fn find_suspects(
     }
 }
 
-// Marks the root, and from each marked node on its children that cost no more. All children of an And are such, and those of an Or that
-// make it true at its cost.
+// Marks the root, and the children of each marked node that cost no more than it. These are all children of an And node, and those of
+// an Or node that make it true at its cost.
 fn sweep(graph: &GraphView<'_>, values: &mut [u32])
     requires room { length values.old ≡ length graph.now.nodes }
     requires values { All IsValue values.old }
@@ -114,7 +114,7 @@ fn spread(values: &mut [u32], kids: &[u32], cost: u32)
     }
 }
 
-// The part of a marked open literal that says faulty.
+// Returns the part of a marked open literal that says faulty.
 fn suspect_at(
     graph: &GraphView<'_>,
     evidence: &[u32],

@@ -1,4 +1,4 @@
--- The costs of a condition, by those of its parts.
+-- The costs of a compound condition.
 use Rattle.std.proofs.Common.{◌≡◌, ℕ, ◌+◌, ◌<◌, ◌≤◌, Bool, true, false, cond, ◌&&◌, ◌||◌, refl, ap, sym, ◌∙◌, subst, arith, eqb, inl, inr, ⊎_elim}
 use Rattle.std.specs.Prelude.{◌⊎◌}
 use Rattle.std.proofs.lemmas.Bool.{eqb-true, eq-eqb, cases_lt, cases_cond, false≢true, false_from_ne_true, and_parts}
@@ -10,11 +10,11 @@ use Rattle.state_rules.proofs.Cases.{usual_bit, usual_bit-agrees, agrees_cond}
 use Rattle.node_costs.specs.Costs.{Weights, cost_among, Agrees, Local, CostOf, SumOf}
 use Rattle.node_costs.proofs.Totals.{total-same, total-le, total-add, total-none, total-one, total-off}
 
--- no variables are of both
+-- no variable is in both sets
 abbrev pub Apart : (ℕ → Bool) → (ℕ → Bool) → Type 0
 Apart m o = (v : ℕ) → (m v && o v) ≡ false
 
--- a variable is not among others
+-- a variable that is not in a set is apart from it
 pub one_apart : (m : ℕ → Bool) (var : ℕ) → m var ≡ false → Apart m (λ v. eqb var v)
 one_apart m var out v = false_from_ne_true (m v && eqb var v) (λ h. let p = and_parts (m v) (eqb var v) h in false≢true (sym out ∙ ap m (eqb-true var v p.1) ∙ p.0))
 
@@ -35,7 +35,7 @@ apart_cond true false n e = omega arith
 apart_cond false q n e = omega arith
 
 module _ (g : Weights) where
-  -- ---- what an assignment costs
+  -- ---- the cost of an assignment
 
   pub cost_among-same : (m o : ℕ → Bool) (a b : Assignment) → ((v : ℕ) → 1 ≤ v → v < 1 + g.parts → cond (m v) (g.weight v (a v)) 0 ≡ cond (o v) (g.weight v (b v)) 0) → cost_among g m a ≡ cost_among g o b
   cost_among-same m o a b h = total-same (λ v. cond (m v) (g.weight v (a v)) 0) (λ v. cond (o v) (g.weight v (b v)) 0) 1 g.parts h
@@ -67,7 +67,7 @@ module _ (g : Weights) where
     either = λ v. cases_cond (m v) (a v) (b v) (cond (m v) (a v) (b v)) refl;
   }
 
-  -- it costs no more than both
+  -- it costs at most as much as both
   pub joined-le : (m o n : ℕ → Bool) (a b : Assignment) (x : Joined m o a b) → cost_among g n x.by ≤ cost_among g n a + cost_among g n b
   joined-le m o n a b x =
       let f : ℕ → ℕ = λ v. cond (n v) (g.weight v (a v)) 0 in
@@ -125,7 +125,7 @@ module _ (g : Weights) where
   pub cost-or : (m : ℕ → Bool) (P Q : Assignment → Type 0) (n : ℕ) → CostOf g m P n ⊎ CostOf g m Q n → CostOf g m (λ a. P a ⊎ Q a) n
   cost-or m P Q n s = ⊎_elim (λ c. cost-to m P (λ a. P a ⊎ Q a) (λ a p. inl p) n c) (λ c. cost-to m Q (λ a. P a ⊎ Q a) (λ a q. inr q) n c) s
 
-  -- ---- what is known, and true where nothing is
+  -- ---- what is known, and true if nothing is
 
   abbrev pub usual : Assignment
   usual v = usual_bit (g.known v)
@@ -133,7 +133,6 @@ module _ (g : Weights) where
   pub usual-agrees : Agrees g usual
   usual-agrees v = usual_bit-agrees (g.known v)
 
-  -- no variables at all
   pub cost_among-none : (a : Assignment) → cost_among g (λ v. false) a ≡ 0
   cost_among-none a = total-none 1 g.parts
 
@@ -184,7 +183,6 @@ module _ (g : Weights) where
     by_test v true e = rw e (subst (λ u. agrees_at (g.known u) bit ≡ true) (eqb-true _ _ e) is.allowed)
     by_test v false e = rw e (usual-agrees v)
 
-  -- a literal
   pub literal-costs : OnlyParts → (var : ℕ) (bit : Bool) (n : ℕ) → CostOf g (λ v. eqb var v) (λ a. same_bit bit (a var) ≡ true) n → LiteralCost var bit n
   literal-costs only_parts var bit n c = bit-costs only_parts var bit n (cost-to _ _ _ (λ a e. sym (same_bit-equal bit (a var) e)) n c)
 
@@ -194,7 +192,7 @@ module _ (g : Weights) where
   -- ---- one variable more
 
   module _ (only_parts : OnlyParts) (m : ℕ → Bool) (P : Assignment → Type 0) (var : ℕ) (out : m var ≡ false) (on_p : Local m P) where
-    -- with a bit of it
+    -- with this bit
     pub cost-set : (bit : Bool) (n : ℕ) → SumOf (CostOf g m P) (LiteralCost var bit) n → CostOf g (λ v. m v || eqb var v) (λ a. P a × (a var ≡ bit)) n
     cost-set bit n s = cost-and m (λ v. eqb var v) P (λ a. a var ≡ bit) (one_apart m var out) on_p (λ a b h e. h var (eq-eqb var var refl) ∙ e) n
         (record { left = s.left; right = s.right; on_left = s.on_left; on_right = cost-bit only_parts var bit s.right s.on_right; sum_is = s.sum_is })
@@ -204,7 +202,7 @@ module _ (g : Weights) where
         let s = and-costs m (λ v. eqb var v) P (λ a. a var ≡ bit) (one_apart m var out) n c in
         record { left = s.left; right = s.right; on_left = s.on_left; on_right = bit-costs only_parts var bit s.right s.on_right; sum_is = s.sum_is }
 
-    -- with either
+    -- with either bit
     pub cost-either : (n : ℕ) → SumOf (CostOf g m P) (LiteralCost var true) n ⊎ SumOf (CostOf g m P) (LiteralCost var false) n → CostOf g (λ v. m v || eqb var v) P n
     cost-either n s = ⊎_elim (λ x. cost-to _ _ _ (λ a p. p.0) n (cost-set true n x)) (λ x. cost-to _ _ _ (λ a p. p.0) n (cost-set false n x)) s
 
@@ -223,7 +221,7 @@ module _ (g : Weights) where
   abbrev pub Free : Type 0
   Free = (v : ℕ) → g.weight v (usual v) ≡ 0
 
-  -- as an assignment has some variables, and usual elsewhere
+  -- an assignment that is `a` on the variables `m`, and usual elsewhere
   pub record Trimmed (m : ℕ → Bool) (a : Assignment) : Type 0 where
     pub by : Assignment
     pub agrees : Agrees g by

@@ -1,5 +1,5 @@
--- What holds of all nodes of a decomposable graph, since it holds of tests that are always and never true, of literals, of one of two tests,
--- and of both of two that share no variable.
+-- A fact holds of all nodes of a decomposable graph if it holds of tests that are always and never true, of literals, of either of two
+-- tests, and of both of two tests that share no variable.
 use Rattle.std.proofs.Common.{◌≡◌, ℕ, ◌<◌, Bool, true, false, ◌&&◌, ◌||◌, List, [], ◌∷◌, map, length, refl, sym, subst, arith, inl, inr, eqb}
 use Rattle.std.specs.Prelude.{nat_lt}
 use Rattle.std.specs.List.{list_any, list_all}
@@ -21,7 +21,7 @@ all-below n [] k all m = absurd m
 all-below n (j ∷ kids) k all (inl q) = subst (λ x. x < n) (sym q) (ltb-true j n (and_parts (nat_lt j n) (are_below n kids) all).0)
 all-below n (j ∷ kids) k all (inr r) = all-below n kids k (and_parts (nat_lt j n) (are_below n kids) all).1 r
 
--- a value is of a test and of the variables that the test is about
+-- a value fits a test and the variables of the test
 module _ {D : Type 0} (literal : ℕ → Bool → D) (all_of any_of : List D → D) (Is : (Assignment → Bool) → (ℕ → Bool) → D → Type 0) where
   abbrev pub value_by : NodeKind → List D → D
   value_by (Literal positive var) values = literal var positive
@@ -36,7 +36,7 @@ module _ {D : Type 0} (literal : ℕ → Bool → D) (all_of any_of : List D →
     pub of_either : (t u : Assignment → Bool) (m o : ℕ → Bool) (c : D) (cs : List D) → Is t m c → Is u o (any_of cs) → Is (λ a. t a || u a) (λ v. m v || o v) (any_of (c ∷ cs))
 
   module _ (laws : AreLaws) where
-    -- what holds of children holds of a node
+    -- if it holds of the children, it holds of the node
     module _ (T : ℕ → Assignment → Bool) (M : ℕ → ℕ → Bool) (V : ℕ → D) where
       pub children_and : (kids : List ℕ) → ((k : ℕ) → In k kids → Is (T k) (M k) (V k)) → ((v : ℕ) → at_most_one (map (λ k. M k v) kids) ≡ true)
           → Is (λ a. list_all (λ b. b) (map (λ k. T k a) kids)) (λ v. list_any (λ b. b) (map (λ k. M k v) kids)) (all_of (map V kids))
@@ -55,7 +55,7 @@ module _ {D : Type 0} (literal : ℕ → Bool → D) (all_of any_of : List D →
       node_is And kids are apart = children_and kids are apart
       node_is Or kids are apart = children_or kids are
 
-    -- and so of all nodes, the values of which are by those of their children
+    -- so it holds of all nodes, whose values follow from those of their children
     pub all_nodes : (graph : Graph) → IsGraph graph → (V : ℕ → D) → ((i : ℕ) → i < length graph.nodes → V i ≡ value_by (node_at graph.nodes i).what (map V (node_at graph.nodes i).kids))
         → (k : ℕ) → k < length graph.nodes → Is (λ a. is_true graph.nodes k a) (λ v. mentions graph.nodes v k) (V k)
     all_nodes graph ok V by_children k inside = each_below (λ i. Is (λ a. is_true graph.nodes i a) (λ v. mentions graph.nodes v i) (V i)) (length graph.nodes)

@@ -1,4 +1,4 @@
--- What states cost, and the least of it.
+-- The costs of states, and the least one.
 use Rattle.std.proofs.Common.{◌≡◌, ℕ, zero, suc, ◌+◌, ◌<◌, Bool, true, false, cond, List, [], ◌∷◌, length, get_or, Option, Some, None, refl, ap, sym, ◌∙◌, subst, arith}
 use Rattle.state_rules.specs.Bits.{bit_in, lists_of_bits}
 use Rattle.state_rules.specs.Ranking.{Test, cost, least, passing, states}
@@ -24,7 +24,7 @@ pub cost-cons : (c : ℕ) (costs : List ℕ) (b : Bool) (bits : List Bool) → c
 cost-cons c costs true bits = omega arith
 cost-cons c costs false bits = refl
 
--- a sum over the variables of the parts
+-- the cost of a state as a sum over variables
 pub cost-total : (f : ℕ → ℕ) (v : ℕ) (costs : List ℕ) (h : List Bool) → length h ≡ length costs → ((i : ℕ) → i < length costs → f (v + i) ≡ cond (bit_in h i) 0 (get_or costs i 0)) → cost costs h ≡ total f v (length costs)
 cost-total f v [] h l e = refl
 cost-total f v (c ∷ costs) [] l e = absurd (omega arith)

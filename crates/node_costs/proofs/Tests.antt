@@ -1,4 +1,4 @@
--- The costs of tests, and the rows that tell them.
+-- The costs of tests, and rows of bits for them.
 use Rattle.std.proofs.Common.{◌≡◌, ℕ, ◌+◌, ◌<◌, ◌≤◌, Bool, true, ◌&&◌, ◌||◌, refl, sym, ◌∙◌, subst, ⊎_elim}
 use Rattle.std.specs.Prelude.{◌⊎◌, ◌==◌}
 use Rattle.std.proofs.lemmas.Bool.{and_parts, and_from, or_cases, or_left, or_right}
@@ -9,7 +9,7 @@ use Rattle.node_costs.specs.Costs.{Weights, Agrees, TestCost, CostOf, SumOf, IsR
 use Rattle.node_costs.proofs.Conditions.{Apart, OnlyParts, literal-costs, cost-literal, cost-as, cost-to, cost-or, or-costs, cost-and, and-costs}
 use Rattle.node_costs.proofs.Sets.{row-as, row-one}
 
--- what holds of a test and of variables holds of others that are the same
+-- what holds of a test and its variables holds of equal ones
 pub same_tests : (Is : (Assignment → Bool) → (ℕ → Bool) → Type 0) {t u : Assignment → Bool} {m o : ℕ → Bool} → ((a : Assignment) → t a ≡ u a) → ((v : ℕ) → m v ≡ o v) → Is t m → Is u o
 same_tests Is e f is = subst (λ (p : (Assignment → Bool) × (ℕ → Bool)). Is p.0 p.1) (λ i. ((λ a. e a i), (λ v. f v i))) is
 
@@ -42,11 +42,11 @@ module _ (g : Weights) (t u : Assignment → Bool) where
 -- ---- rows
 
 module _ (g : Weights) (limit : ℕ) (has : ℕ → Bool) where
-  -- a condition that says the same, of variables that are the same as far as they are parts'
+  -- an equivalent condition, and variables that are the same among the parts
   pub row-cost : (m o : ℕ → Bool) (P Q : Assignment → Type 0) → ((a : Assignment) → Agrees g a → P a → Q a) → ((a : Assignment) → Agrees g a → Q a → P a) → ((v : ℕ) → 1 ≤ v → v < 1 + g.parts → m v ≡ o v)
       → IsRow has limit (CostOf g m P) → IsRow has limit (CostOf g o Q)
   row-cost m o P Q to from same is = row-as limit has _ _ (cost-as g m o P Q to same) (cost-as g o m Q P from (λ v l h. sym (same v l h))) is
 
-  -- a literal that is allowed
+  -- an allowed literal
   pub row-literal : OnlyParts g → (var : ℕ) (bit : Bool) → agrees_at (g.known var) bit ≡ true → ((n : ℕ) → n < limit → has n ≡ (n == g.weight var bit)) → IsRow has limit (TestCost g (λ v. var == v) (λ a. same_bit bit (a var)))
   row-literal only_parts var bit allowed one = row-one limit has _ (g.weight var bit) (cost-literal g only_parts var bit (g.weight var bit) (record { allowed = allowed; weight_is = refl })) (λ n c. sym (literal-costs g only_parts var bit n c).weight_is) one

@@ -1,3 +1,3 @@
-//! Definitions: what an assignment costs, and the costs at which a condition can be met under what is known of the variables. They
-//! hold no code: the proofs of what is asked of graphs go by them.
+//! Definitions: the cost of an assignment, and the costs at which a condition can be met under what is known of the variables. There is
+//! no code: proofs about questions to graphs use them.
 #![tactic(auto)]

@@ -1,4 +1,4 @@
--- Two nodes are equal where the kept ones are.
+-- Two nodes are equal if the kept ones are.
 use Rattle.std.proofs.Common.{◌≡◌, ℕ, zero, suc, Bool, true, false, List, [], ◌∷◌, map, Some, ap, refl, sym, ◌∙◌, subst, arith}
 use Rattle.std.specs.Prelude.{slice_get, nat_eq}
 use Rattle.std.specs.List.{IsDistinct, AllByRecursion}
@@ -51,7 +51,7 @@ eq_of w z k l e = grind (arith, items_eq)
 eq_shown : (x y : Kept) → shown x ≡ shown y → eq-value.it x y ≡ true
 eq_shown x y e = eq_of x.what y.what x.kids y.kids e
 
--- no node after the first is shown as it is
+-- no later node is shown as the first one is
 first_apart : (x : Kept) (xs : List Kept) (i : ℕ) → AllByRecursion (λ y. eq-value.it x y ≡ false) xs → slice_get (map shown xs) i ≡ Some (shown x) → ⊥
 first_apart x [] i all e = (cc)
 first_apart x (y ∷ xs) zero all e = let s : shown y ≡ shown x = cc in let t = eq_shown x y (sym s) in let f = all.0 in (cc)

@@ -18,7 +18,7 @@ use Rattle.node_store.specs.Stores.{Stored, EachOnce, IsStore, IsUsed, is_bare, 
 use Rattle.node_store.specs.inner.Freezing.{AreBefore, IsClosed, IsChildOfMarked, IsBelow, IsCopy, IsCopied}
 use Rattle.node_store.proofs.NodesBelow.{the_at}
 
--- children come before
+-- children come before their parents
 pub before : (vars : ℕ) (nodes : List Node) → AreNodes vars nodes → AreBefore nodes
 before vars nodes are i node there = below-each i node.kids (fits-get vars nodes i node are.fit there).below
 
@@ -165,7 +165,7 @@ module _ (vars : ℕ) (nodes : List Node) (marks : List Bool) (copies : List Nod
       by k m (inl h) = subst (IsCopy nodes k (copies ++ record { what = node.what; kids = kids } ∷ [])) (sym (get_or_append_left numbers (length copies ∷ []) 0 k (omega (arith, is.long)))) (copy-more nodes copies (record { what = node.what; kids = kids }) k (slice_index numbers k) (is.same k h m))
       by k m (inr e) = subst (IsCopy nodes k (copies ++ record { what = node.what; kids = kids } ∷ [])) (sym (get_or_push numbers (length copies) 0 k (omega (arith, is.long)))) (subst (λ k. IsCopy nodes k (copies ++ record { what = node.what; kids = kids } ∷ []) (length copies)) (sym e) new_copy)
 
--- ---- no node in vain
+-- ---- each node is used, and none is there twice
 
 within_bits : (bs : List Bool) (i : ℕ) → bit_in bs i ≡ true → i < length bs
 within_bits [] i m = absurd (let never : ⊥ = cc in never)
@@ -181,7 +181,7 @@ unmapped f ks x (j, h, e) =
     let k = get_or ks j 0 in
     (k, (j, inside, get_or_from_slice_get ks j k k (slice_get-get_or ks j 0 inside)), sym (get_or-map f ks j 0 x inside) ∙ e)
 
--- a list of such numbers is known by what a function that says them apart gives
+-- a function that keeps such numbers apart keeps lists of them apart
 map_apart : (P : ℕ → Type 0) (f : ℕ → ℕ) → ((a b : ℕ) → P a → P b → f a ≡ f b → a ≡ b) → (xs ys : List ℕ) → All P xs → All P ys → map f xs ≡ map f ys → xs ≡ ys
 map_apart P f apart [] [] p q e = refl
 map_apart P f apart [] (y ∷ ys) p q e = absurd (let never : ⊥ = cc in never)
@@ -206,7 +206,7 @@ module _ (store : Stored) (root : ℕ) (marks : List Bool) (copies : List Node) 
           subst (Contains (map (slice_index numbers) node.kids)) e (mapped (slice_index numbers) node.kids k has),
         )
 
-  -- numbers tell marked nodes apart
+  -- marked nodes have different numbers
   abbrev IsTaken : ℕ → Type 0
   IsTaken k = (k < length marks) × (bit_in marks k ≡ true)
 
@@ -294,7 +294,7 @@ module _ (store : Stored) (root : ℕ) (marks : List Bool) (copies : List Node) 
   bare_same : (what : NodeKind) (ks : List ℕ) → is_bare what (map (slice_index numbers) ks) ≡ is_bare what ks
   bare_same what ks = grind (arith, length-map)
 
-  -- a copy of a child is that of a child
+  -- a child of a copy is the copy of a child
   all_not_bare : HasNoBareChild store.nodes → HasNoBareChild copies
   all_not_bare none i k node child e has f =
       let a = copied.origin i (slice_get_within copies i node e) in

@@ -1,4 +1,4 @@
--- What a node means that a store made.
+-- The meaning of a node that a store made.
 use Rattle.std.proofs.Common.{◌≡◌, ℕ, List, [], ◌∷◌, ◌++◌, length, Some, refl, ap, sym, ◌∙◌, subst, inl, inr}
 use Rattle.std.specs.Prelude.{slice_get}
 use Rattle.state_rules.proofs.Lists.{slice_get-last}
@@ -8,7 +8,7 @@ use Rattle.state_rules.proofs.NodeValues.{value_of-get, value_of-last, value_of-
 use Rattle.state_rules.proofs.NodesFit.{fits-get}
 use Rattle.node_store.specs.Stores.{EachOnce, AddsAtMost, Means}
 
--- A node is at its number, if the others stay.
+-- A node at its number has its meaning if the others stay.
 pub Means-from : (vars : ℕ) (old new : List Node) (kind : NodeKind) (kids : List ℕ) (number : ℕ) → AreNodes vars new → EachOnce new → slice_get new number ≡ Some (record { what = kind; kids = kids })
     → AddsAtMost old (record { what = kind; kids = kids }) new → Means old new kind kids number
 Means-from vars old new kind kids number are once there (inl e) =

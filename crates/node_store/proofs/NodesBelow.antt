@@ -25,11 +25,11 @@ the_at (x ∷ xs) (suc i) h = the_at xs i (omega arith)
 pub length-shown : (xs : List Kept) → length (map shown xs) ≡ length xs
 length-shown xs = length-map xs shown
 
--- one more node from the end on
+-- marks are closed from one node lower on
 pub marks_more : (nodes : List Node) (old new : List Bool) (from at root : ℕ) (kids : List ℕ) (node : Node) → at + 1 ≡ from → slice_get nodes at ≡ Some node → kids ≡ node.kids → Marks old at kids new → IsClosedFrom from nodes old → AreBefore nodes → IsClosedFrom at nodes new
 marks_more nodes old new from at root kids node e there same marks closed before_ i n le m f = grind arith
 
--- nothing is marked but the root and the children of what is
+-- only the root and the children of marked nodes are marked
 pub only_more : (nodes : List Node) (old new : List Bool) (at root : ℕ) (kids : List ℕ) (node : Node) → slice_get nodes at ≡ Some node → kids ≡ node.kids → Marks old at kids new
     → ((i : ℕ) → bit_in old i ≡ true → (i ≡ root) ⊎ IsChildOfMarked nodes old i) → (i : ℕ) → bit_in new i ≡ true → (i ≡ root) ⊎ IsChildOfMarked nodes new i
 only_more nodes old new at root kids node there same marks only i m = grind arith

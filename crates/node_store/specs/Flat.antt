@@ -3,7 +3,7 @@ use Rattle.std.specs.Prelude.{ℕ, List, [], ◌∷◌}
 use Rattle.state_rules.specs.declared.nodes.NodeKind.{NodeKind}
 use Rattle.state_rules.specs.Graphs.{Node}
 
--- the nodes of these kinds, each over the children that are at its place
+-- the nodes of these kinds, each with the children at its place
 abbrev pub nodes_of : List NodeKind → List (List ℕ) → List Node
 nodes_of [] lists = []
 nodes_of (kind ∷ kinds) [] = []

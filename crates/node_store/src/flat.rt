@@ -8,7 +8,7 @@ use state_rules::NodeKind;
 use std::alloc::Global;
 use std::marker::Model;
 
-/// Nodes in order, whatever they are. Their children are one after the other in one vector.
+/// Any nodes, in order. Their children are one after the other in one vector.
 #[derive(Debug, Drop)]
 pub struct Nodes {
     kinds: Vec<NodeKind>,
@@ -29,7 +29,7 @@ impl Model for Nodes {
 }
 
 impl Nodes {
-    /// No nodes.
+    /// Returns no nodes.
     pub fn new(alloc: Global) -> Nodes
         ensures { result ≡ [] }
     {
@@ -39,7 +39,7 @@ impl Nodes {
         }
     }
 
-    /// The number of nodes.
+    /// Returns the number of nodes.
     pub fn len(&self) -> usize
         ensures { result ≡ length self.now }
     {
@@ -53,14 +53,14 @@ impl Nodes {
         self.len() == 0
     }
 
-    /// The number of children of all nodes.
+    /// Returns the number of children of all nodes.
     pub fn edges(&self) -> usize
         ensures { result ≡ edges self.now }
     {
         self.kids.item_count()
     }
 
-    /// What a node is.
+    /// Returns the kind of a node.
     pub fn what(&self, node: usize) -> NodeKind
         requires { node < length self.now }
         ensures { result ≡ (node_at self.now node).what }
@@ -68,7 +68,7 @@ impl Nodes {
         self.walk().what(node)
     }
 
-    /// The children of a node.
+    /// Returns the children of a node.
     pub fn kids(&self, node: usize) -> &[u32]
         requires { node < length self.now }
         ensures { result.now ≡ (node_at self.now node).kids }
@@ -76,7 +76,7 @@ impl Nodes {
         self.walk().kids(node)
     }
 
-    /// Walks the nodes in order.
+    /// Iterates over the nodes in order.
     pub fn walk(&self) -> Walk<'_>
         ensures { result ≡ self.now }
     {

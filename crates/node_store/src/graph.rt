@@ -9,12 +9,12 @@ use state_rules::NodeKind;
 use std::alloc::Global;
 use std::marker::Model;
 
-/// A builder takes at most so many nodes.
+/// The most nodes that a builder takes.
 pub const NODE_LIMIT: usize = 2_147_483_648;
 
-/// A graph of literals, ands and ors, each over earlier nodes. The last node is the root.
+/// A graph of literal nodes, And nodes and Or nodes. Children are earlier nodes. The last node is the root.
 ///
-/// It has a node, the variable of each literal is 1 to `vars`, and no two children of one And share a variable.
+/// It has a node, the variable of each literal is 1 to `vars`, and no two children of an And node share a variable.
 #[derive(Debug, Drop)]
 pub struct Graph {
     nodes: Nodes,
@@ -33,7 +33,7 @@ impl Model for Graph {
 }
 
 impl Graph {
-    /// Nodes that are a graph, as one.
+    /// Returns the graph of these nodes.
     pub fn new(nodes: Nodes, vars: u32) -> Graph
         requires { IsGraph (record { nodes = nodes; vars = vars }) }
         ensures { result ≡ record { nodes = nodes; vars = vars } }
@@ -41,14 +41,14 @@ impl Graph {
         Graph { nodes, vars }
     }
 
-    /// The same graph, for calls that take a graph whose nodes lie anywhere.
+    /// Returns the same graph, for calls that take a graph whose nodes lie anywhere.
     pub fn view(&self) -> GraphView<'_>
         ensures { result ≡ self.now }
     {
         GraphView::new(self.nodes.walk(), self.vars)
     }
 
-    /// The number of nodes.
+    /// Returns the number of nodes.
     pub fn len(&self) -> u32
         ensures len { result ≡ length self.now.nodes }
         ensures valid { IsGraph self.now }
@@ -57,14 +57,14 @@ impl Graph {
         self.nodes.len() as u32
     }
 
-    /// The number of children of all nodes.
+    /// Returns the number of children of all nodes.
     pub fn edges(&self) -> u64
         ensures { result ≡ edges self.now.nodes }
     {
         self.nodes.edges() as u64
     }
 
-    /// The greatest variable.
+    /// Returns the greatest variable.
     pub fn vars(&self) -> u32
         ensures vars { result ≡ self.now.vars }
         ensures valid { IsGraph self.now }
@@ -72,7 +72,7 @@ impl Graph {
         self.vars
     }
 
-    /// Walks the nodes in order, the root last.
+    /// Iterates over the nodes in order, the root last.
     pub fn walk(&self) -> Walk<'_>
         ensures nodes { result ≡ self.now.nodes }
         ensures valid { IsGraph self.now }
@@ -80,7 +80,7 @@ impl Graph {
         self.nodes.walk()
     }
 
-    /// What a node is.
+    /// Returns the kind of a node.
     pub fn what(&self, node: u32) -> NodeKind
         requires { node < length self.now.nodes }
         ensures what { result ≡ (node_at self.now.nodes node).what }
@@ -89,7 +89,7 @@ impl Graph {
         self.nodes.what(node as usize)
     }
 
-    /// The children of a node.
+    /// Returns the children of a node.
     pub fn kids(&self, node: u32) -> &[u32]
         requires { node < length self.now.nodes }
         ensures kids { result.now ≡ (node_at self.now.nodes node).kids }
@@ -119,7 +119,7 @@ impl Model for GraphBuilder {
 }
 
 impl GraphBuilder {
-    /// A builder with no node.
+    /// Returns a builder with no node.
     pub fn new(alloc: Global, vars: u32) -> Result<GraphBuilder, Memory>
         ensures { IfOk result (λ builder. builder ≡ record { nodes = []; vars = vars }) }
     {
@@ -129,10 +129,10 @@ impl GraphBuilder {
         })
     }
 
-    /// Adds a node, and gives its number.
+    /// Adds a node, and returns its number.
     ///
-    /// A literal has no child, and its variable is 1 to `vars`. The children of an And or an Or are nodes that are there, and
-    /// those of an And share no variable.
+    /// A literal has no children, and its variable is 1 to `vars`. The children of an And node or an Or node are nodes of the builder, and
+    /// those of an And node share no variable.
     pub fn push(&mut self, kind: NodeKind, kids: &[u32]) -> Result<u32, Memory>
         requires fits { node_fits self.old.vars (length self.old.nodes)
             (record { what = kind; kids = kids.now }) ≡ true }
@@ -149,7 +149,7 @@ impl GraphBuilder {
         Ok(number)
     }
 
-    /// The graph of these nodes; or the builder, exactly if it has none.
+    /// Returns the graph of these nodes; or the builder, exactly if it has none.
     pub fn finish(self) -> Result<Graph, GraphBuilder>
         ensures ok { IfOk result (λ graph. graph ≡ self) }
         ensures some { OnOk result (0 < length self.nodes) }

@@ -22,14 +22,14 @@ impl BuildHasher for Nearby {
     }
 }
 
-/// Keeps the last two words that were written, and the others mixed.
+/// Keeps the last two words that were written, and a mix of the others.
 ///
-/// Of a node these words are the numbers of its children; what is not four bytes long is passed over, since nodes of the same
-/// children seldom differ by it. A table takes the group of a hash from its low bits, and separates the hashes in a group by its
-/// high ones. So nodes have one group whose last children are the same except for 4 numbers, and whose other children are the same but
-/// for 64: those that are made one after the other, and few more. The groups themselves lie anywhere. Were they in the order of the
-/// children, full ones would lie side by side, and a search would walk through all of them. Nodes that share their last child are
-/// spread over as many groups as there are 64 numbers among the others. The high bits mix all children.
+/// The words of a node are the numbers of its children. A write of another length than four bytes is ignored: nodes with the same children
+/// seldom differ by it. A table takes the group of a hash from its low bits, and separates the hashes in a group by its high bits. Nodes
+/// have one group if they differ only in the lowest 2 bits of the last child and the lowest 6 bits of the one before: those that are made
+/// one after the other, and few more. The groups themselves lie anywhere. In the order of the children, full groups would lie side by
+/// side, and a search would walk through all of them. Nodes with the same last child are spread over one group for each 64 numbers of
+/// the others. The high bits mix all children.
 #[derive(Clone, Copy, Debug)]
 pub struct NearHasher {
     others: u32,
@@ -61,7 +61,7 @@ impl Hasher for NearHasher {
     }
 }
 
-// Both, in a way that each bit depends on most of theirs.
+// Mixes two words, so that each bit depends on most of theirs.
 fn mix(hash: u32, word: u32) -> u32
     ensures { result ≡ mixed hash word }
 {

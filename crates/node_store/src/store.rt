@@ -18,23 +18,22 @@ use state_rules::{CHILD_LIMIT, NodeKind};
 use std::alloc::Global;
 use std::marker::Model;
 
-/// A store makes at most so many nodes.
+/// The most times that a store makes a node.
 pub const MADE_LIMIT: u64 = 2_147_483_648;
 
 /// A store has fewer variables than this.
 pub const VARIABLE_LIMIT: u32 = 536_870_912;
 
-// Children as they are kept. Two need no memory of their own.
+// Children as a store keeps them. Two need no memory of their own.
 type Children = SmallVec<u32, 2>;
 
-// A node as it is kept.
 #[derive(Debug, PartialEq, Eq, Hash, Drop)]
 struct Kept {
     what: NodeKind,
     kids: Children,
 }
 
-/// Nodes that are shared: each is there once, and its number is its place.
+/// Shared nodes: each is there once, and its number is its place.
 #[derive(Debug, Drop)]
 pub struct Store {
     nodes: IndexSet<Kept, Nearby>,
@@ -56,7 +55,7 @@ impl Model for Store {
 }
 
 impl Store {
-    /// A store of the two literals of each variable.
+    /// Returns a store of the two literal nodes of each variable.
     pub fn new(alloc: Global, vars: u32) -> Result<Store, Memory>
         requires { vars < VARIABLE_LIMIT }
         ensures literals { IfOk result (λ store. store
@@ -76,7 +75,7 @@ impl Store {
         })
     }
 
-    /// The node of a literal, whose variable is 1 to `vars`.
+    /// Returns the node of a literal, whose variable is 1 to `vars`.
     pub fn literal(&self, var: u32, positive: bool) -> u32
         requires some { 1 ≤ var }
         requires within { var ≤ self.now.vars }
@@ -90,7 +89,7 @@ impl Store {
         2 * (var - 1) + u32::from(!positive)
     }
 
-    /// The node that is true if all of its children are. Each is a node of the store. No two of them, at
+    /// Returns the And node of these children, which is true if all of them are. They are nodes of the store, and no two of them, at
     /// different places, share a variable. After lack of memory the store is as it was.
     pub fn and(&mut self, kids: &[u32]) -> Result<u32, Memory>
         requires kids { All (λ k. k < length self.old.nodes) kids.now }
@@ -106,8 +105,8 @@ impl Store {
         self.add(NodeKind::And, kids)
     }
 
-    /// The node that is true if one of its children is. Each is a node of the store. After lack of memory the
-    /// store is as it was.
+    /// Returns the Or node of these children, which is true if one of them is. They are nodes of the store. After lack of memory the store
+    /// is as it was.
     pub fn or(&mut self, kids: &[u32]) -> Result<u32, Memory>
         requires kids { All (λ k. k < length self.old.nodes) kids.now }
         requires few { length kids.now < CHILD_LIMIT }
@@ -121,15 +120,15 @@ impl Store {
         self.add(NodeKind::Or, kids)
     }
 
-    /// Makes room for so many more nodes, so that the table need not grow while they come. The store is as it was, also after
-    /// lack of memory.
+    /// Makes room for `room` more nodes, so that the table need not grow when they are added. The store is as it was, also after lack of
+    /// memory.
     pub fn reserve(&mut self, room: usize) -> Result<(), Memory>
         ensures { self.new ≡ self.old }
     {
         self.nodes.reserve(room)
     }
 
-    /// How often a node was made, also if an equal one was there.
+    /// Returns how often a node was made, also if an equal one was there.
     pub fn made(&self) -> u64
         ensures made { result ≡ self.now.made }
         ensures valid { IsStore self.now }
@@ -137,14 +136,14 @@ impl Store {
         self.made
     }
 
-    /// How many children were handed in.
+    /// Returns how many children were handed in.
     pub fn handed(&self) -> u64
         ensures { result ≡ self.now.handed }
     {
         self.handed
     }
 
-    /// The graph of a node and of those below it, which is its root. If there is no memory the store comes back.
+    /// Returns the graph of `root` and the nodes below it. If there is no memory, it returns the store.
     pub fn freeze(self, root: u32) -> Result<Graph, (Store, Memory)>
         requires { root < length self.nodes }
         ensures ok { IfOk result (λ graph. IsFrozen self root graph) }
@@ -157,7 +156,7 @@ impl Store {
         }
     }
 
-    // The same of a store that stays.
+    // Returns the same graph, and the store stays.
     fn frozen(&self, root: u32) -> Result<Graph, Memory>
         requires { root < length self.now.nodes }
         ensures ok { IfOk result (λ graph. IsFrozen self.now root graph) }
@@ -170,7 +169,7 @@ impl Store {
         Ok(Graph::new(copies, self.vars))
     }
 
-    // Makes a node, or takes the equal one.
+    // Makes a node, or takes an equal one.
     fn add(&mut self, what: NodeKind, kids: &[u32]) -> Result<u32, Memory>
         requires fits { node_fits self.old.vars (length self.old.nodes)
             (record { what = what; kids = kids.now }) ≡ true }
@@ -191,7 +190,7 @@ impl Store {
     }
 }
 
-// Adds a node unless it is there, and gives its place.
+// Adds a node unless it is there, and returns its place.
 fn insert(
     alloc: Global,
     nodes: &mut IndexSet<Kept, Nearby>,
@@ -210,7 +209,7 @@ fn insert(
     Ok(place)
 }
 
-// Children as they are kept. Most nodes have two, and then nothing is copied in a loop.
+// Returns children as a store keeps them. Most nodes have two: then no loop copies them.
 fn kept_children(alloc: Global, kids: &[u32]) -> Result<Children, Memory>
     ensures { IfOk result (λ kept. kept.items ≡ kids.now) }
 {
@@ -220,7 +219,6 @@ fn kept_children(alloc: Global, kids: &[u32]) -> Result<Children, Memory>
     }
 }
 
-// Adds a literal that is not there yet.
 fn add_literal(
     alloc: Global,
     nodes: &mut IndexSet<Kept, Nearby>,
@@ -236,7 +234,7 @@ fn add_literal(
     Ok(())
 }
 
-// Which nodes up to a root are the root or below it.
+// Returns which nodes are `root` or below it.
 fn below(alloc: Global, nodes: &[Kept], root: usize) -> Result<Vec<bool>, Memory>
     requires root { root < length nodes.now }
     requires kids { AreBefore (map shown nodes.now) }
@@ -250,7 +248,7 @@ fn below(alloc: Global, nodes: &[Kept], root: usize) -> Result<Vec<bool>, Memory
     Ok(below)
 }
 
-// Marks the children of a node that is marked.
+// Marks the children of a node if it is marked.
 fn mark(below: &mut [bool], at: usize, kids: &[u32])
     requires at { at < length below.old }
     requires kids { All (λ k. k < at) kids.now }
@@ -264,7 +262,7 @@ fn mark(below: &mut [bool], at: usize, kids: &[u32])
     }
 }
 
-// The nodes that are marked, each over the numbers that its children have now.
+// Returns the marked nodes, with the new numbers of their children.
 fn copied(alloc: Global, nodes: &[Kept], below: &[bool], vars: u32) -> Result<Nodes, Memory>
     requires long { length below.now ≤ length nodes.now }
     requires few { length nodes.now < 2 ^ 32 }
@@ -289,7 +287,7 @@ fn copied(alloc: Global, nodes: &[Kept], below: &[bool], vars: u32) -> Result<No
     Ok(copies)
 }
 
-// Makes `kids` the numbers of children.
+// Makes `kids` the new numbers of the children.
 fn renumber(kids: &mut Vec<u32>, old: &[u32], numbers: &[u32]) -> Result<(), Memory>
     requires { All (λ k. k < length numbers.now) old.now }
     ensures { OnOk result (kids.new.items ≡ map (slice_index numbers.now) old.now) }

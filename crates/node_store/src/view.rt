@@ -24,7 +24,7 @@ impl<'a> Model for GraphView<'a> {
 }
 
 impl<'a> GraphView<'a> {
-    /// Nodes that are a graph, as one.
+    /// Returns the graph of these nodes.
     pub fn new(nodes: Walk<'a>, vars: u32) -> GraphView<'a>
         requires { IsGraph (record { nodes = nodes; vars = vars }) }
         ensures { result ≡ record { nodes = nodes.entry; vars = vars } }
@@ -32,7 +32,7 @@ impl<'a> GraphView<'a> {
         GraphView { nodes, vars }
     }
 
-    /// The number of nodes.
+    /// Returns the number of nodes.
     pub fn len(&self) -> u32
         ensures len { result ≡ length self.now.nodes }
         ensures valid { IsGraph self.now }
@@ -41,7 +41,7 @@ impl<'a> GraphView<'a> {
         self.nodes.len() as u32
     }
 
-    /// The greatest variable.
+    /// Returns the greatest variable.
     pub fn vars(&self) -> u32
         ensures vars { result ≡ self.now.vars }
         ensures valid { IsGraph self.now }
@@ -49,7 +49,7 @@ impl<'a> GraphView<'a> {
         self.vars
     }
 
-    /// Walks the nodes in order, the root last.
+    /// Iterates over the nodes in order, the root last.
     pub fn walk(&self) -> Walk<'a>
         ensures nodes { result ≡ self.now.nodes }
         ensures valid { IsGraph self.now }
@@ -57,7 +57,7 @@ impl<'a> GraphView<'a> {
         self.nodes.again()
     }
 
-    /// What a node is.
+    /// Returns the kind of a node.
     pub fn what(&self, node: u32) -> NodeKind
         requires { node < length self.now.nodes }
         ensures what { result ≡ (node_at self.now.nodes node).what }
@@ -66,7 +66,7 @@ impl<'a> GraphView<'a> {
         self.nodes.what(node as usize)
     }
 
-    /// The children of a node.
+    /// Returns the children of a node.
     pub fn kids(&self, node: u32) -> &'a [u32]
         requires { node < length self.now.nodes }
         ensures kids { result.now ≡ (node_at self.now.nodes node).kids }

@@ -7,10 +7,10 @@ use flat_lists::Lists;
 use state_rules::NodeKind;
 use std::marker::Model;
 
-/// A node, whose children stay where they lie.
+/// A node, whose children are borrowed.
 #[derive(Debug, Drop)]
 pub struct NodeRef<'a> {
-    /// What it is.
+    /// Its kind.
     pub what: NodeKind,
     /// Its children.
     pub kids: &'a [u32],
@@ -24,9 +24,9 @@ impl<'a> Model for NodeRef<'a> {
     ghost view = { λ n. record { what = n.what; kids = n.kids.now } };
 }
 
-/// The nodes that are left of a walk over all of them, from the first to the last.
+/// Iterates over nodes in order. Its value is the nodes that are left.
 ///
-/// One who asks all nodes is faster by it than node by node: where the children of one end those of the next begin.
+/// A walk over all nodes is faster than access by number: the children of the next node begin where those of one end.
 #[derive(Debug, Drop)]
 pub struct Walk<'a> {
     kinds: &'a [NodeKind],
@@ -47,7 +47,7 @@ impl<'a> Model for Walk<'a> {
 }
 
 impl<'a> Walk<'a> {
-    /// The nodes of these kinds, which have these children.
+    /// Returns the nodes of these kinds, with these children.
     pub fn new(kinds: &'a [NodeKind], kids: Lists<'a, u32>) -> Walk<'a>
         requires { length kids ≡ length kinds.now }
         ensures { result ≡ nodes_of kinds.now kids.entry }
@@ -55,21 +55,21 @@ impl<'a> Walk<'a> {
         Walk { kinds, kids }
     }
 
-    /// A walk over the same nodes.
+    /// Returns another iterator over the nodes that are left.
     pub fn again(&self) -> Walk<'a>
         ensures { result ≡ self.now }
     {
         Walk::new(self.kinds, self.kids.again())
     }
 
-    /// The number of nodes that are left.
+    /// Returns the number of nodes that are left.
     pub fn len(&self) -> usize
         ensures { result ≡ length self.now }
     {
         self.kinds.len()
     }
 
-    /// What the node at a place of those that are left is.
+    /// Returns the kind of a node, counted from the first that is left.
     pub fn what(&self, node: usize) -> NodeKind
         requires { node < length self.now }
         ensures { result ≡ (node_at self.now node).what }
@@ -78,7 +78,7 @@ impl<'a> Walk<'a> {
         kinds[node]
     }
 
-    /// Its children.
+    /// Returns the children of a node, counted from the first that is left.
     pub fn kids(&self, node: usize) -> &'a [u32]
         requires { node < length self.now }
         ensures { result.now ≡ (node_at self.now node).kids }

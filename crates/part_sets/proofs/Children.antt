@@ -19,7 +19,7 @@ module _ (graph : Graph) (at : ℕ) (kids : List ℕ) (ok : IsGraph graph) (insi
   pub mention-is : (v : ℕ) → mentions graph.nodes v at ≡ mention_by v (node_at graph.nodes at).what (map (mentions graph.nodes v) kids)
   mention-is v = value_of-at (mention_by v) graph.nodes at inside (fits-at graph.vars graph.nodes at ok.nodes.fit inside).below ∙ ap (λ ks. mention_by v (node_at graph.nodes at).what (map (mentions graph.nodes v) ks)) (sym are)
 
-  -- a literal has a variable that is there
+  -- a literal has a variable of the graph
   pub literal-fits : (var : ℕ) (positive : Bool) → Literal positive var ≡ (node_at graph.nodes at).what → (1 ≤ var) × (var ≤ graph.vars)
   literal-fits var positive e =
       let is = literal graph.vars var positive (node_at graph.nodes at).kids (subst (λ w. kind_fits graph.vars w (node_at graph.nodes at).kids ≡ true) (sym e) (fits-at graph.vars graph.nodes at ok.nodes.fit inside).kind) in

@@ -24,7 +24,7 @@ pub none_lacking : (parts : ℕ) (outer inner : List ℕ) (some more : ℕ → B
     → (p : ℕ) → p < parts → (has_number outer p && not (has_number inner p)) ≡ false
 none_lacking parts outer inner some more on_inner on_outer same p lt = grind arith
 
--- the words of the nodes before one
+-- the words of the nodes before `n`
 abbrev pub AreFlags : Graph → ℕ → List ℕ → ℕ → Type 0
 AreFlags graph parts lacking n = (k : ℕ) → k < n → (get_or lacking k 0 ≡ 0) ↔ LacksNone graph parts k
 

@@ -30,14 +30,14 @@ module _ (outer inner : List ℕ) (at : ℕ) (small : (k : ℕ) → get_or inner
   missing-bit : (p : ℕ) → at ≤ p → p / 32 ≡ at / 32 → is_missing p ≡ (bit_at gap (p - at) == 1)
   missing-bit p le e = grind (arith, gap-bit)
 
-  -- where the gap is empty, none is missing in the word
+  -- if the gap is empty, none is missing in the word
   pub none_missing : gap ≡ 0 → (p : ℕ) → at ≤ p → p < (at / 32 + 1) * 32 → is_missing p ≡ false
   none_missing e p le lt = missing-bit p le (omega arith) ∙ ap (λ g. bit_at g (p - at) == 1) e ∙ ap (λ m. m == 1) (bit_at-zero (p - at))
 
   pub gap-fits : get_or outer (at / 32) 0 < 2 ^ 32 → gap < 2 ^ 32
   gap-fits small_outer = grind (arith, and_le_l)
 
-  -- and otherwise its lowest bit is the first
+  -- else its lowest bit is the first
   module _ (some : 0 < gap) (fits : gap < 2 ^ 32) where
     abbrev pub lowest : ℕ
     lowest = trailing_zeros w32 gap

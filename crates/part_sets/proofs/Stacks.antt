@@ -1,4 +1,4 @@
--- Sets that stand one after the other.
+-- Sets that are one after the other.
 use Rattle.std.proofs.Common.{◌≡◌, ℕ, ◌+◌, ◌*◌, ◌≤◌, List, ◌++◌, length, take, drop, refl, ap, sym, ◌∙◌, arith}
 use Rattle.std.proofs.lemmas.List.{take-append-le, drop-append-le, drop_at, take_at, length-drop}
 use Rattle.part_sets.specs.Numbers.{set_at}

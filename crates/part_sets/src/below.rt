@@ -12,7 +12,7 @@ use node_store::Graph;
 use state_rules::NodeKind;
 use std::alloc::Global;
 
-// The sets of the parts below the nodes of a graph, and after them the set of all parts.
+// Returns the sets of the parts below the nodes of a graph, and after them the set of all parts.
 pub(crate) fn parts_below(alloc: Global, graph: &Graph, parts: usize) -> Result<Vec<u32>, Memory>
     requires { parts ≤ PART_LIMIT }
     ensures sets { IfOk result (λ below. AreBelow graph.now parts below.items) }
@@ -35,7 +35,7 @@ fn put_all(graph: &Graph, parts: usize, below: &mut [u32])
     put_every(all, parts);
 }
 
-/// Puts the sets of the parts below the nodes of a graph, one after the other.
+/// Writes the sets of the parts below the nodes of a graph, one after the other.
 pub fn put_nodes(graph: &Graph, parts: usize, below: &mut [u32])
     requires parts { parts ≤ PART_LIMIT }
     requires long { length below.old ≡ length graph.now.nodes * part_words parts }
@@ -50,7 +50,7 @@ pub fn put_nodes(graph: &Graph, parts: usize, below: &mut [u32])
     }
 }
 
-// The parts below a node, from those below the nodes before it.
+// Writes the parts below a node, from those below the nodes before it.
 fn put_node(graph: &Graph, parts: usize, earlier: &[u32], at: u32, set: &mut [u32])
     requires parts { parts ≤ PART_LIMIT }
     requires at { at < length graph.now.nodes }
@@ -67,7 +67,7 @@ fn put_node(graph: &Graph, parts: usize, earlier: &[u32], at: u32, set: &mut [u3
     }
 }
 
-// The part of a variable, if it is one's.
+// Writes the part of a variable, if it has one.
 fn put_variable(var: u32, parts: usize, set: &mut [u32])
     requires var { 1 ≤ var }
     requires long { length set.old ≡ part_words parts }
@@ -80,7 +80,7 @@ fn put_variable(var: u32, parts: usize, set: &mut [u32])
     }
 }
 
-// The numbers that one of some sets has.
+// Writes the numbers that are in any of the children's sets.
 fn put_joined(kids: &[u32], sets: &[u32], set: &mut [u32])
     requires room { (j : ℕ) → j < length kids.now
         → slice_index kids.now j * length set.old + length set.old ≤ length sets.now }
@@ -94,7 +94,7 @@ fn put_joined(kids: &[u32], sets: &[u32], set: &mut [u32])
     }
 }
 
-// Each number below one.
+// Writes each number below `count`.
 fn put_every(set: &mut [u32], count: usize)
     requires { length set.old ≡ part_words count }
     ensures { ArePartsOf count (λ v. true) set.new }

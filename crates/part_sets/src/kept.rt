@@ -10,17 +10,17 @@ use node_store::Graph;
 use std::alloc::Global;
 use std::marker::Model;
 
-/// Sets are kept of at most so many parts.
+/// The most parts of which sets are kept.
 pub const PART_LIMIT: usize = 4_096;
 
-/// For each node of a graph the parts below it, and for each or whether a child of it lacks one of them. The parts are the first
+/// For each node of a graph the parts below it, and for each Or node whether a child of it lacks one of them. The parts are the first
 /// variables.
 #[derive(Drop)]
 pub struct PartSets {
     // for each node the parts below it, and after them all parts
     below: Vec<u32>,
-    // for each node a word that is 0 if it is no or, or no child of it lacks a part; and after them one that is 0 where the last node
-    // lacks none at all
+    // for each node a word that is 0 if it is no Or node, or no child of it lacks a part; and after them one that is 0 if the root lacks no
+    // part
     lacking: Vec<u32>,
 }
 
@@ -33,7 +33,7 @@ impl Model for PartSets {
 }
 
 impl PartSets {
-    /// The sets of a graph with so many parts among its variables. `Err` means that memory ran out.
+    /// Returns the sets of a graph whose first `parts` variables are parts. `Err` means that memory ran out.
     pub fn new(alloc: Global, graph: &Graph, parts: usize) -> Result<PartSets, Memory>
         requires few { parts ≤ PART_LIMIT }
         ensures for_graph { IfOk result (λ sets. AreFor graph.now parts sets) }
@@ -44,15 +44,15 @@ impl PartSets {
         Ok(PartSets { below, lacking })
     }
 
-    /// For each node the parts below it, one set after the other, and at the end all parts.
+    /// Returns for each node the parts below it, one set after the other, and at the end all parts.
     pub fn below(&self) -> &[u32]
         ensures { result.now ≡ self.now.below }
     {
         &self.below
     }
 
-    /// For each node a word that is 0 exactly if the node is no or, or no child of it lacks a part of it; and at the end one that
-    /// is 0 exactly if the last node lacks no part.
+    /// Returns for each node a word that is 0 exactly if the node is no Or node, or no child of it lacks a part of it; and at the end one
+    /// that is 0 exactly if the root lacks no part.
     pub fn lacking(&self) -> &[u32]
         ensures { result.now ≡ self.now.lacking }
     {

@@ -12,8 +12,8 @@ use node_store::Graph;
 use state_rules::NodeKind;
 use std::alloc::Global;
 
-// For each node a word that is 0 if it is no or, or no child of it lacks a part; and after them one that is 0 where the last node
-// lacks none at all.
+// Returns for each node a word that is 0 if it is no Or node, or no child of it lacks a part; and after them one that is 0 if the root
+// lacks no part.
 pub(crate) fn nodes_lacking(
     alloc: Global,
     graph: &Graph,
@@ -43,14 +43,13 @@ fn put_lacking(graph: &Graph, below: &[u32], parts: usize, lacking: &mut [u32])
     lacking[root + 1] = flag(lacks(below, parts, root + 1, root));
 }
 
-// The word of a node.
 fn flag(lacks: bool) -> u32
     ensures { (result ≡ 0) ↔ (lacks ≡ false) }
 {
     u32::from(lacks)
 }
 
-// Whether a node is an Or of which a child lacks a part.
+// Whether a node is an Or node with a child that lacks a part.
 fn child_lacks(graph: &Graph, below: &[u32], parts: usize, at: u32) -> bool
     requires parts { parts ≤ PART_LIMIT }
     requires below { AreBelow graph.now parts below.now }
@@ -79,7 +78,7 @@ fn one_lacks(graph: &Graph, below: &[u32], parts: usize, at: u32) -> bool
     false
 }
 
-// Whether a set has a part that another has not.
+// Whether the set `outer` has a part that `inner` has not.
 fn lacks(below: &[u32], parts: usize, outer: usize, inner: usize) -> bool
     requires parts { parts ≤ PART_LIMIT }
     requires outer { outer * part_words parts + part_words parts ≤ length below.now }

@@ -7,14 +7,14 @@ use crate::kept::PART_LIMIT;
 /// How many numbers a word holds.
 pub const WIDTH: usize = 32;
 
-/// How many words a set of so many parts has.
+/// Returns how many words a set of `parts` parts has.
 pub fn part_words(parts: usize) -> usize
     ensures { result ≡ part_words parts }
 {
     parts.div_ceil(WIDTH)
 }
 
-/// One of several sets that are one after the other.
+/// Returns one of several sets that are one after the other.
 pub fn set_at(sets: &[u32], k: usize, size: usize) -> &[u32]
     requires { k * size + size ≤ length sets.now }
     ensures set { result.now ≡ set_at sets.now k size }
@@ -49,7 +49,6 @@ pub fn put_one(set: &mut [u32], number: usize)
     }
 }
 
-// Adds a number to a set.
 pub(crate) fn add_one(set: &mut [u32], number: usize)
     requires { number < 32 * length set.old }
     ensures { (n : ℕ) → has_number set.new n ≡ (has_number set.old n || (n == number)) }
@@ -57,7 +56,7 @@ pub(crate) fn add_one(set: &mut [u32], number: usize)
     set[number / WIDTH] |= 1 << (number % WIDTH);
 }
 
-// Adds to a set the numbers of another.
+// Adds the numbers of another set to a set.
 pub(crate) fn add_all(set: &mut [u32], other: &[u32])
     requires { length other.now ≡ length set.old }
     ensures { (n : ℕ) → n < 32 * length set.old
@@ -68,8 +67,8 @@ pub(crate) fn add_all(set: &mut [u32], other: &[u32])
     }
 }
 
-/// The first number from one on that the outer set has and the inner one has not. If there is none it is the number after both
-/// sets, or the one to begin from, if that is greater.
+/// Returns the first number from `from` on that the outer set has and the inner one has not. If there is none, returns the number after
+/// both sets, or `from` if that is greater.
 pub fn next_missing(outer: &[u32], inner: &[u32], from: usize) -> usize
     requires inner { length inner.now ≡ length outer.now }
     requires few { length outer.now ≤ part_words PART_LIMIT }

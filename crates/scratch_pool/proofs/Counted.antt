@@ -23,15 +23,15 @@ out_within (b ∷ out) (suc n) e = let rest = out_within out n e in omega (arith
 abbrev is_free : Bool → ℕ
 is_free out = cond (not out) 1 0
 
--- one less is free when one is handed out
+-- one block less is free after one is handed out
 pub count-taken : (out : List Bool) (n : ℕ) → n < length out → get_or out n true ≡ false → count_by not (set out n true) + 1 ≡ count_by not out
 count-taken out n l e = grind (arith, sum_by-set)
 
--- and one more when one is given back
+-- one block more is free after one is given back
 pub count-given : (out : List Bool) (n : ℕ) → get_or out n false ≡ true → count_by not (set out n false) ≡ count_by not out + 1
 count-given out n e = grind (arith, sum_by-set, out_within)
 
--- where a block is out, not all are free
+-- if a block is out, not all are free
 pub count-less : (out : List Bool) (n : ℕ) → get_or out n false ≡ true → count_by not out < length out
 count-less out n e =
     let more = count-given out n e in
@@ -39,7 +39,6 @@ count-less out n e =
     let long = length-set out n false in
     omega (arith, more, most, long)
 
--- a block keeps its words when another is written
 pub block-stays : (pool : Blocks) (a b : ℕ) → length pool.words ≡ length pool.out * pool.size → IsOut pool a → IsOut pool b → b ≢ a
     → (new : List ℕ) → length new ≡ pool.size → block_words (with_block pool a new) b ≡ block_words pool b
 block-stays pool a b all out_a out_b ne new long = grind (arith, block-below, out_within, written-apart)

@@ -1,4 +1,4 @@
--- What follows for those who hold blocks and runs: what is lent to one is zeroed, and is written by no other.
+-- Facts for holders of blocks and runs: lent words are zeroed, and no other holder writes them.
 use Rattle.std.proofs.Common.{◌≡◌, ◌≢◌, ℕ, ◌+◌, ◌*◌, ◌≤◌, ◌<◌, true, false, List, [], ◌∷◌, length, replicate, refl, sym, ◌∙◌, subst, arith, inr, get_or-set_same, get_or-set_other}
 use Rattle.std.specs.Prelude.{Contains}
 use Rattle.std.proofs.lemmas.List.{length-replicate, get_or_default}
@@ -75,7 +75,7 @@ run-others region sound run other held held_other ne new long =
     written-apart region.words run.start new (omega (arith, lies, long, room)) other.start other.len
     (subst (λ n. Apart run.start n other.start other.len) (sym long) (contained-apart region.runs run other sound.0 held held_other ne))
 
--- one block less is free, and one more
+-- one block less is free, or one more
 pub taken-free : (pool : Blocks) (number : ℕ) → IsFree pool number → free_blocks (taken pool number) + 1 ≡ free_blocks pool
 taken-free pool number inside = count-taken pool.out number inside.0 inside.1
 
@@ -89,6 +89,6 @@ taken-stays_out pool number other within out = grind (arith, get_or-set_same, ge
 pub given-stays_out : (pool : Blocks) (number other : ℕ) → other ≢ number → IsOut pool other → IsOut (given pool number) other
 given-stays_out pool number other ne out = get_or-set_other pool.out number other false false ne ∙ out
 
--- the one that was carved is the region's, and every other one stays so
+-- the carved run is the region's, and all others stay so
 pub carved-held : (region : Carved) (run : Span) → Contains (carved region run).runs run
 carved-held region run = Contains-append_right region.runs (run ∷ []) run (0, omega arith, refl)

@@ -13,7 +13,7 @@ Apart start len other other_len = (start + len ≤ other) ⊎ (other + other_len
 pub length-written : (words : List ℕ) (start : ℕ) (new : List ℕ) → length (written words start new) ≡ length words
 length-written words start new = sym (length_refill (length words) words (take start words ++ (new ++ drop (length new) (drop start words))) refl)
 
--- as many words are there as are asked for
+-- as many words as `len`
 pub length-words_at : (words : List ℕ) (start len : ℕ) → start + len ≤ length words → length (words_at words start len) ≡ len
 length-words_at words start len fits = length-take-le len (drop start words) (let e = length-drop start words in omega (arith, e, fits))
 
@@ -33,7 +33,7 @@ module _ (words : List ℕ) (start : ℕ) (new : List ℕ) (fits : start + lengt
   length-all : length (front ++ (new ++ back)) ≡ length words
   length-all = grind (arith, length-append, length-front, length-back)
 
-  -- where they fit nothing is cut
+  -- if they fit nothing is cut
   pub written-whole : written words start new ≡ front ++ (new ++ back)
   written-whole = grind (arith, drop_all, length-all, append-nil, take_all)
 

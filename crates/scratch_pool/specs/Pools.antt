@@ -2,25 +2,25 @@
 use Rattle.std.specs.Prelude.{◌≡◌, ℕ, ◌*◌, ◌<◌, Bool, true, false, not, List, count_by, length, slice_index_or, slice_set}
 use Rattle.scratch_pool.specs.Words.{words_at, written, zeroed}
 
--- blocks of so many words one after the other, and which of them are out
+-- blocks of `size` words one after the other, and which of them are out
 pub record Blocks : Type 0 where
   pub size : ℕ
   pub words : List ℕ
   pub out : List Bool
 
--- a block that is out, and so this pool's
+-- whether a block is out, and so of this pool
 abbrev pub IsOut : Blocks → ℕ → Type 0
 IsOut pool number = slice_index_or pool.out number false ≡ true
 
--- how many blocks are not out
+-- the number of blocks that are not out
 abbrev pub free_blocks : Blocks → ℕ
 free_blocks pool = count_by not pool.out
 
--- a block that is not out
+-- whether a block of this pool is not out
 abbrev pub IsFree : Blocks → ℕ → Type 0
 IsFree pool number = (number < length pool.out) × (slice_index_or pool.out number true ≡ false)
 
--- the words are those of the blocks
+-- the pool has exactly the words of its blocks
 abbrev pub IsSound : Blocks → Type 0
 IsSound pool = length pool.words ≡ length pool.out * pool.size
 
@@ -40,6 +40,6 @@ taken pool number = record {
   out = slice_set pool.out number true;
 }
 
--- and after it was given back
+-- the pool after a block was given back
 abbrev pub given : Blocks → ℕ → Blocks
 given pool number = record pool { out = slice_set pool.out number false }

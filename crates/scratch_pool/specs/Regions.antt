@@ -8,11 +8,11 @@ pub record Carved : Type 0 where
   pub words : List ℕ
   pub runs : List Span
 
--- how many words are in runs
+-- the number of words in runs
 abbrev pub words_used : List Span → ℕ
 words_used runs = sum_by (λ (run : Span). run.len) runs
 
--- and how many are in none
+-- the number of words in no run
 abbrev pub free_words : Carved → ℕ
 free_words region = length region.words - words_used region.runs
 
@@ -31,7 +31,7 @@ carved region run = record {
   runs = region.runs ++ run ∷ [];
 }
 
--- the run that was carved last
+-- whether this run was carved last
 abbrev pub IsLast : List Span → Span → Type 0
 IsLast runs run = (front : List Span) × (runs ≡ front ++ run ∷ [])
 

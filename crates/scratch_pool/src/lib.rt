@@ -1,4 +1,4 @@
-//! Words that are taken from the system once and lent again and again: blocks of one size, and runs of any.
+//! Words that are allocated once and lent again and again: blocks of one size, and runs of any.
 #![tactic(auto)]
 
 mod parts;

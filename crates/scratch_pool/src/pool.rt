@@ -7,7 +7,7 @@ use crate::parts::{part, zero};
 use std::alloc::Global;
 use std::marker::Model;
 
-/// The words of all blocks of a pool are fewer.
+/// All blocks of a pool together have fewer words than this.
 pub const POOL_LIMIT: u32 = 268_435_456;
 
 /// A block of a pool, known by its number. It is not `Drop`, so that it has to be given back.
@@ -48,7 +48,7 @@ impl Model for Pool {
 impl Pool {
     ghost use Rattle.scratch_pool.specs.Lending.{LendsBlock};
 
-    /// A pool of so many blocks of so many words. None is out.
+    /// Returns a pool of `blocks` blocks of `words` words. None is out.
     pub fn new(alloc: Global, blocks: u32, words: u32) -> Result<Pool, Memory>
         requires { blocks * words < POOL_LIMIT }
         ensures { IfOk result (λ pool. pool ≡ record {
@@ -67,7 +67,7 @@ impl Pool {
         })
     }
 
-    /// How many blocks are not out.
+    /// Returns how many blocks are not out.
     pub fn free(&self) -> u32
         ensures { result ≡ free_blocks self.now }
     {
@@ -104,7 +104,7 @@ impl Pool {
         self.free += 1;
     }
 
-    /// The words of a block.
+    /// Returns the words of a block.
     pub fn words(&self, block: &Block) -> &[u32]
         requires { IsOut self.now block.now }
         ensures { result.now ≡ block_words self.now block.now }
@@ -112,7 +112,7 @@ impl Pool {
         part(&self.words, block.number as usize * self.size, self.size)
     }
 
-    /// The words of a block, for writing. All other blocks stay as they are.
+    /// Returns the words of a block, for writing. All other blocks stay as they are.
     pub fn words_mut(&mut self, block: &Block) -> &mut [u32]
         requires { IsOut self.old block.now }
         ensures value { result.now ≡ block_words self.old block.now }
@@ -125,7 +125,6 @@ impl Pool {
     }
 }
 
-// A block that is not out.
 fn find_free(out: &[bool]) -> Option<usize>
     ensures none { IfNone result (count_by not out.now ≡ 0) }
     ensures some { IfSome result (λ number.

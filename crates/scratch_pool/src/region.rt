@@ -7,10 +7,10 @@ use crate::parts::{part, zero};
 use std::alloc::Global;
 use std::marker::Model;
 
-/// The words of a region are fewer.
+/// A region has fewer words than this.
 pub const REGION_LIMIT: usize = 4_294_967_296;
 
-/// As many runs may be carved at one time.
+/// The most runs that may be carved at one time.
 pub const RUN_LIMIT: usize = 16;
 
 /// Where a run begins, and how many words it has.
@@ -57,7 +57,7 @@ impl Model for Region {
 impl Region {
     ghost use Rattle.scratch_pool.specs.Lending.{LendsRun};
 
-    /// A region of so many words. None is carved.
+    /// Returns a region of `words` words. None is carved.
     pub fn new(alloc: Global, words: usize) -> Result<Region, Memory>
         requires { words < REGION_LIMIT }
         ensures { IfOk result (λ region. region ≡ record { words = replicate words 0; runs = [] }) }
@@ -69,14 +69,14 @@ impl Region {
         })
     }
 
-    /// How many words are in no run.
+    /// Returns how many words are in no run.
     pub fn free(&self) -> usize
         ensures { result ≡ free_words self.now }
     {
         self.words.len() - self.used
     }
 
-    /// Carves a run after the last one, with all its words 0.
+    /// Carves a run of `n` words after the last one, all of them 0.
     pub fn carve(&mut self, n: usize) -> Option<Run>
         requires some { 1 ≤ n }
         requires few { length self.old.runs < RUN_LIMIT }
@@ -111,7 +111,7 @@ impl Region {
         self.used = span.start;
     }
 
-    /// The words of a run.
+    /// Returns the words of a run.
     pub fn run(&self, run: &Run) -> &[u32]
         requires { Contains self.now.runs run.now }
         ensures { result.now ≡ run_words self.now run.now }
@@ -119,7 +119,7 @@ impl Region {
         part(&self.words, run.span.start, run.span.len)
     }
 
-    /// The words of a run, for writing. All other runs stay as they are.
+    /// Returns the words of a run, for writing. All other runs stay as they are.
     pub fn run_mut(&mut self, run: &Run) -> &mut [u32]
         requires { Contains self.old.runs run.now }
         ensures value { result.now ≡ run_words self.old run.now }

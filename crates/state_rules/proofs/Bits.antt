@@ -20,7 +20,7 @@ same_bit-refl bit = grind arith
 pub same_bit-equal : (x y : Bool) → same_bit x y ≡ true → x ≡ y
 same_bit-equal bit other e = grind arith
 
--- where not both are 1 and the second is, the first is not
+-- if not both bits are 1 and the second is, the first is 0
 pub not_left : (x y : Bool) → (x && y) ≡ false → y ≡ true → x ≡ false
 not_left bit y e f = grind arith
 
@@ -38,7 +38,7 @@ pointwise-equal [] others e = grind arith
 pointwise-equal (b ∷ bits) [] e = absurd (false≢true e)
 pointwise-equal (b ∷ bits) (c ∷ others) e = grind (arith, pointwise-equal bits others)
 
--- a bit of a list that is made of the first numbers of another
+-- a bit of a list that is made of the first `n` numbers of another
 pub bit_in-map : (f : ℕ → Bool) (xs : List ℕ) (n i : ℕ) → i < n → n ≤ length xs → bit_in (map f (take n xs)) i ≡ f (get_or xs i 0)
 bit_in-map f xs zero i lt h = absurd (omega arith)
 bit_in-map f [] (suc n) i lt h = absurd (omega arith)
@@ -58,8 +58,8 @@ pub row_number-push : (bits : List Bool) (b : Bool) → row_number (bits ++ b �
 row_number-push [] b = omega arith
 row_number-push (c ∷ bits) b = grind (arith, row_number-push bits b, pow_more 2 (length bits))
 
--- ---- all lists of so many bits
+-- ---- all lists of `n` bits
 
--- a test of lists of one bit more, by their first bit
+-- a test of lists of one bit more, split by their first bit
 pub any-suc : (p : List Bool → Bool) (n : ℕ) → list_any p (lists_of_bits (suc n)) ≡ (list_any (λ bits. p (false ∷ bits)) (lists_of_bits n) || list_any (λ bits. p (true ∷ bits)) (lists_of_bits n))
 any-suc p n = grind (arith, list_any-append, list_any-map)

@@ -6,7 +6,7 @@ use Rattle.state_rules.specs.Cases.{agrees_at, agrees}
 
 -- ---- one bit
 
--- what is known, and 1 where nothing is
+-- the known bit, or 1 if nothing is known
 abbrev pub usual_bit : Option Bool → Bool
 usual_bit None = true
 usual_bit (Some b) = b
@@ -29,14 +29,14 @@ agrees-from [] bits each = refl
 agrees-from (k ∷ known) [] each = refl
 agrees-from (k ∷ known) (b ∷ bits) each = and_from _ _ (each 0 (omega arith)) (agrees-from known bits (λ i h. each (suc i) (omega arith)))
 
--- what is known at a place is asked of the bit there
+-- agreement includes the test at place `n`
 pub agrees-place : (ks : List (Option Bool)) (bits : List Bool) (n : ℕ) → n < length bits → agrees ks bits ≡ (agrees ks bits && agrees_at (get_or ks n None) (bit_in bits n))
 agrees-place [] bits n within = refl
 agrees-place (k ∷ ks) [] n within = absurd (omega (arith, within))
 agrees-place (k ∷ ks) (b ∷ bits) zero within = grind arith
 agrees-place (k ∷ ks) (b ∷ bits) (suc n) within = grind (arith, agrees-place ks bits n)
 
--- a bit that becomes known at an open place is asked of the bit there too
+-- a bit that becomes known at an open place adds the test of the bit there
 pub agrees-set : (ks : List (Option Bool)) (bits : List Bool) (n : ℕ) (bit : Bool) → n < length ks → n < length bits → get_or ks n None ≡ None
     → (agrees ks bits && same_bit bit (bit_in bits n)) ≡ agrees (set ks n (Some bit)) bits
 agrees-set [] bits n bit room within is_open = absurd (omega (arith, room))

@@ -1,4 +1,4 @@
--- Children of a node: which of them are true, and that at most one is. What holds of the nodes below a number, one after the other.
+-- The children of a node: whether one of them, or at most one, is true. Facts about the nodes below a number.
 use Rattle.std.proofs.Common.{◌≡◌, ℕ, zero, suc, ◌+◌, ◌<◌, ◌≤◌, Bool, true, false, ◌&&◌, List, [], ◌∷◌, map, refl, sym, arith}
 use Rattle.std.specs.Prelude.{nat_lt}
 use Rattle.std.specs.List.{list_any, range_with_len}
@@ -6,14 +6,14 @@ use Rattle.std.proofs.lemmas.Bool.{false≢true, and_parts, and_from, lt-ltb, lt
 use Rattle.state_rules.specs.Graphs.{at_most_one}
 use Rattle.state_rules.proofs.NodeValues.{are_below}
 
--- where a fact holds of a number as soon as it holds of those below it, it holds of all below n
+-- strong induction over the numbers below `n`
 pub each_below : (P : ℕ → Type 0) (n : ℕ) → ((i : ℕ) → i < n → ((k : ℕ) → k < i → P k) → P i) → (m : ℕ) → m ≤ n → (k : ℕ) → k < m → P k
 each_below P n step zero most k h = absurd (omega arith)
 each_below P n step (suc m) most k h = grind (arith, each_below P n step m)
 
--- ---- any of them
+-- ---- one of them
 
--- where f is true of a child, g is, and something else holds
+-- if `f` of a child implies `g` of it and `Q`, then `f` of some child implies `g` of some child and `Q`
 pub any_more : (Q : Type 0) (f g : ℕ → Bool) (own : ℕ) (kids : List ℕ) → are_below own kids ≡ true → ((k : ℕ) → k < own → f k ≡ true → (g k ≡ true) × Q)
     → list_any (λ b. b) (map f kids) ≡ true → (list_any (λ b. b) (map g kids) ≡ true) × Q
 any_more Q f g own [] below more any = absurd (let no : false ≡ true = any in cc)
@@ -35,7 +35,7 @@ not_both bit bs e = grind arith
 pub at_most_one-from : (b : Bool) (bs : List Bool) → (list_any (λ x. x) bs ≡ true → b ≡ false) → at_most_one bs ≡ true → at_most_one (b ∷ bs) ≡ true
 at_most_one-from bit bs h e = grind arith
 
--- fewer are true
+-- if `f` implies `g`, at most one child has `f` if at most one has `g`
 pub at_most_one-less : (f g : ℕ → Bool) (own : ℕ) (kids : List ℕ) → are_below own kids ≡ true → ((k : ℕ) → k < own → f k ≡ true → g k ≡ true)
     → at_most_one (map g kids) ≡ true → at_most_one (map f kids) ≡ true
 at_most_one-less f g own [] below less e = refl
@@ -50,7 +50,7 @@ at_most_one-less f g own (child ∷ kids) below less e =
       off true true false h e f = absurd (let no : false ≡ true = e in cc)
       off true false x h e f = absurd (let no : false ≡ true = h refl in cc)
 
--- ---- numbers that follow each other
+-- ---- consecutive numbers
 
 pub range-below : (start len end : ℕ) → start + len ≤ end → are_below end (range_with_len start len) ≡ true
 range-below start zero end few = refl

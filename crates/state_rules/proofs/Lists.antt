@@ -26,23 +26,21 @@ list_all-both p xs ys h k = list_all-append p xs ys ∙ and_from (list_all p xs)
 pub length-filter-le : {A : Type 0} (p : A → Bool) (xs : List A) → length (filter p xs) ≤ length xs
 length-filter-le p xs = omega (arith, length-filter p xs, count_by-le-length p xs)
 
--- what passes two tests
+-- two filters are one by both tests
 pub filter-filter : {A : Type 0} (p q : A → Bool) (xs : List A) → filter p (filter q xs) ≡ filter (λ x. q x && p x) xs
 filter-filter p q [] = refl
 filter-filter p q (x ∷ xs) = grind (arith, filter-filter p q xs)
 
--- what is at a place stays there where more follows
+-- appending items keeps what is at a place
 pub slice_get-before : {A : Type 0} (xs ys : List A) (i : ℕ) (x : A) → slice_get xs i ≡ Some x → slice_get (xs ++ ys) i ≡ Some x
 slice_get-before [] ys i x e = absurd (cc)
 slice_get-before (y ∷ xs) ys zero x e = e
 slice_get-before (y ∷ xs) ys (suc i) x e = slice_get-before xs ys i x e
 
--- one more item is after all others
 pub slice_get-last : {A : Type 0} (xs : List A) (x : A) → slice_get (xs ++ x ∷ []) (length xs) ≡ Some x
 slice_get-last [] x = refl
 slice_get-last (y ∷ xs) x = slice_get-last xs x
 
--- one number more at the end
 pub range_more : (a n : ℕ) → range_with_len a (n + 1) ≡ range_with_len a n ++ (a + n) ∷ []
 range_more a n = sym (map-id (range_with_len a (n + 1))) ∙ map-range_with_len_more (λ (k : ℕ). k) a n (a + n) (omega arith) ∙ ap (λ ks. ks ++ (a + n) ∷ []) (map-id (range_with_len a n))
 
@@ -54,7 +52,7 @@ pub AllByRecursion-append : {A : Type 0} (P : A → Type 0) (xs ys : List A) →
 AllByRecursion-append P [] ys h k = k
 AllByRecursion-append P (x ∷ xs) ys h k = (h.0, AllByRecursion-append P xs ys h.1 k)
 
--- ---- what nothing passes, and all
+-- ---- tests that always fail, or always pass
 
 pub any-never : {A : Type 0} (xs : List A) → list_any (λ _. false) xs ≡ false
 any-never [] = refl

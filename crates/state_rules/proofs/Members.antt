@@ -10,7 +10,6 @@ abbrev pub In : {A : Type 0} → A → List A → Type 0
 In x [] = ⊥
 In x (y ∷ ys) = (x ≡ y) ⊎ In x ys
 
--- what is at a place of a list is in it
 pub In-at : {A : Type 0} (xs : List A) (i : ℕ) (d : A) → i < length xs → In (get_or xs i d) xs
 In-at [] i d h = absurd (omega arith)
 In-at (x ∷ xs) zero d h = inl refl
@@ -45,7 +44,7 @@ from_map f y [] h = absurd h
 from_map f y (x ∷ xs) (inl e) = record { item = x; is_in = inl refl; gives = e }
 from_map f y (x ∷ xs) (inr h) = let r = from_map f y xs h in record { item = r.item; is_in = inr r.is_in; gives = r.gives }
 
--- each list of n bits is among them, and no other list is
+-- all lists of `n` bits are in `lists_of_bits n`, and no other list is
 pub bits_in : (bits : List Bool) → In bits (lists_of_bits (length bits))
 bits_in [] = inl refl
 bits_in (false ∷ bits) = In-append_left _ _ _ (In-map (λ bs. false ∷ bs) bits _ (bits_in bits))
@@ -72,7 +71,6 @@ any_in p x [] h e = absurd h
 any_in p x (y ∷ ys) (inl q) e = rw (subst (λ z. p z ≡ true) q e) refl
 any_in p x (y ∷ ys) (inr h) e = or_right _ _ (any_in p x ys h e)
 
--- what is in a filtered list
 pub In-filter : {A : Type 0} (p : A → Bool) (x : A) (xs : List A) → In x (filter p xs) → In x xs × (p x ≡ true)
 In-filter p x [] m = absurd m
 In-filter {A} p x (y ∷ ys) m = grind (arith, In-filter p x ys)
@@ -86,7 +84,7 @@ pub empty-none : {A : Type 0} (xs : List A) → ((x : A) → In x xs → ⊥) �
 empty-none [] h = refl
 empty-none (x ∷ xs) h = absurd (h x (inl refl))
 
--- tests that agree on a list pass the same of it
+-- tests that agree on a list filter it alike
 pub filter_same : {A : Type 0} (p q : A → Bool) (xs : List A) → ((x : A) → In x xs → p x ≡ q x) → filter p xs ≡ filter q xs
 filter_same p q [] h = refl
 filter_same p q (x ∷ xs) h = λ i. cond (h x (inl refl) i) (x ∷ filter_same p q xs (λ y m. h y (inr m)) i) (filter_same p q xs (λ y m. h y (inr m)) i)
@@ -95,7 +93,7 @@ pub any_same : {A : Type 0} (p q : A → Bool) (xs : List A) → ((x : A) → In
 any_same p q [] h = refl
 any_same p q (x ∷ xs) h = λ i. h x (inl refl) i || any_same p q xs (λ y m. h y (inr m)) i
 
--- a cost is there, at most n
+-- whether there is a cost, at most `n`
 abbrev pub AtMost : Option ℕ → ℕ → Type 0
 AtMost None n = ⊥
 AtMost (Some c) n = c ≤ n

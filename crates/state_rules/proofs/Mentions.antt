@@ -70,7 +70,7 @@ IsUsed-mentioned nodes v i mentioned = grind (arith, IsUsed-from, all-false)
 pub IsUsed-shared : (nodes : List Node) (node : Node) (v : ℕ) → shares nodes node v ≡ true → IsUsed nodes v
 IsUsed-shared nodes node v shared = grind (arith, IsUsed-from, unshared)
 
--- and lies in their range
+-- a variable from 1 to `vars`
 pub record InRange (vars v : ℕ) : Type 0 where
   pub low : 1 ≤ v
   pub high : v ≤ vars

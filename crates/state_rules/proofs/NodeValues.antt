@@ -1,4 +1,4 @@
--- Values of nodes: each is by the node's kind and the values of its children.
+-- Values of nodes: each follows from the node's kind and the values of its children.
 use Rattle.std.proofs.Common.{◌≡◌, ℕ, suc, ◌<◌, Bool, true, List, [], ◌∷◌, ◌++◌, map, length, get_or, Some, All, refl, arith, length-append}
 use Rattle.std.specs.Prelude.{nat_lt, slice_get}
 use Rattle.std.specs.List.{list_all}
@@ -23,7 +23,7 @@ are_below-from own (child ∷ kids) all = and_from _ _ (lt-ltb child own (all 0 
 pub below-each : (own : ℕ) (kids : List ℕ) → are_below own kids ≡ true → All (λ k. k < own) kids
 below-each own kids below k d h = ltb-true (get_or kids k d) own (list_all-at (λ child. nat_lt child own) kids k d below h)
 
--- where two functions agree below a number, they agree on children that are below it
+-- functions that agree below a number agree on children below it
 pub map-below : {A : Type 0} (f g : ℕ → A) (own : ℕ) (kids : List ℕ) → are_below own kids ≡ true → ((k : ℕ) → k < own → f k ≡ g k) → map f kids ≡ map g kids
 map-below f g own [] below same = refl
 map-below f g own (child ∷ kids) below same = grind (arith, map-below f g own kids)
@@ -47,10 +47,10 @@ module _ (by_kind : NodeKind → List Bool → Bool) where
       → value_of nodes i ≡ by_kind node.what (map (value_of nodes) node.kids)
   value_of-get nodes i node there below = grind (arith, get_or_from_slice_get, value_of-at, slice_get_within)
 
-  -- that of a last node is by those before it
+  -- the value of the last node follows from the values before it
   pub value_of-last : (nodes : List Node) (node : Node) → value_of (nodes ++ node ∷ []) (length nodes) ≡ value node (values value nodes)
   value_of-last nodes node = grind (arith, length-append nodes (node ∷ []), values-at value (nodes ++ node ∷ []) (length nodes) true_node, node_at-last nodes node, take-append_seam nodes (node ∷ []))
 
-  -- and those before it stay
+  -- one more node keeps the values before it
   pub value_of-before : (nodes : List Node) (node : Node) (k : ℕ) → k < length nodes → value_of (nodes ++ node ∷ []) k ≡ value_of nodes k
   value_of-before nodes node k h = grind (arith, length-append nodes (node ∷ []), values-before value (nodes ++ node ∷ []) (length nodes) true_node, take-append_seam nodes (node ∷ []))

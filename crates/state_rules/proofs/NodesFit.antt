@@ -1,4 +1,4 @@
--- Nodes that stand as those of a graph, and one more after them.
+-- Nodes that fit a graph, and one more after them.
 use Rattle.std.proofs.Common.{◌≡◌, ℕ, zero, suc, ◌+◌, ◌<◌, ◌≤◌, Bool, true, List, [], ◌∷◌, ◌++◌, length, Some, sym, ◌∙◌, subst, arith, zero-add}
 use Rattle.std.specs.Prelude.{slice_get}
 use Rattle.std.specs.List.{AllByRecursion}
@@ -21,7 +21,7 @@ nodes_fit-at vars own (node ∷ nodes) (suc i) all inside =
     subst (λ o. node_fits vars o (node_at nodes i) ≡ true) there
     (nodes_fit-at vars (own + 1) nodes i (and_parts (node_fits vars own node) (nodes_fit vars (own + 1) nodes) all).1 (omega arith))
 
--- a node of a graph, by its number
+-- what holds of the node with number `own`
 pub record Fits (vars own : ℕ) (node : Node) : Type 0 where
   pub below : are_below own node.kids ≡ true
   pub kind : kind_fits vars node.what node.kids ≡ true
@@ -32,7 +32,7 @@ fits vars own node is = let parts = and_parts (are_below own node.kids) (kind_fi
 pub fits-at : (vars : ℕ) (nodes : List Node) (i : ℕ) → nodes_fit vars 0 nodes ≡ true → i < length nodes → Fits vars i (node_at nodes i)
 fits-at vars nodes i all inside = fits vars i (node_at nodes i) (subst (λ o. node_fits vars o (node_at nodes i) ≡ true) (zero-add i) (nodes_fit-at vars 0 nodes i all inside))
 
--- a literal has no children, and a variable that is there
+-- a literal node has no children and a variable of the graph
 pub record IsLiteral (vars var : ℕ) (kids : List ℕ) : Type 0 where
   pub alone : kids ≡ []
   pub low : 1 ≤ var

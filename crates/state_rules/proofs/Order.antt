@@ -16,7 +16,7 @@ before-at (false ∷ h) (false ∷ k) (suc n) l m alike e f = before-at h k n (o
 before-at (true ∷ h) (true ∷ k) (suc n) l m alike e f = before-at h k n (omega arith) (omega arith) (λ i g. alike (suc i) (omega arith)) e f
 before-at (true ∷ h) (false ∷ k) (suc n) l m alike e f = let same : true ≡ false = alike zero (omega arith) in absurd (cc)
 
--- where a later state differs first from an earlier one
+-- the first place at which two states differ: there the earlier state is faulty
 pub record Differs (h k : List Bool) : Type 0 where
   pub at : ℕ
   pub within : at < length h
@@ -58,7 +58,7 @@ same_bits (b ∷ h) (c ∷ k) e alike =
     let one : b ≡ c = alike zero (omega arith) in
     let more : h ≡ k = same_bits h k (omega arith) (λ i g. alike (suc i) (omega arith)) in λ i. one i ∷ more i
 
--- each state is before those after it
+-- whether each state is before all that follow it
 abbrev pub Sorted : List (List Bool) → Type 0
 Sorted [] = Unit {0}
 Sorted (x ∷ xs) = ((y : List Bool) → In y xs → is_before x y ≡ true) × Sorted xs
@@ -91,7 +91,7 @@ pub Sorted-filter : (p : List Bool → Bool) (xs : List (List Bool)) → Sorted 
 Sorted-filter p [] s = tt
 Sorted-filter p (x ∷ xs) s = grind (arith, In-filter, Sorted-filter p xs s.1)
 
--- a state of a sorted list before which none stands is its first
+-- the state that is before all others is the first of a sorted list
 pub first-sorted : (xs : List (List Bool)) (h d : List Bool) → Sorted xs → In h xs → ((k : List Bool) → In k xs → (k ≡ h) ⊎ (is_before h k ≡ true)) → get_or xs 0 d ≡ h
 first-sorted [] h d s m low = absurd m
 first-sorted (x ∷ xs) h d s m low = grind (arith, not_both_before)

@@ -1,4 +1,4 @@
--- Values of items, each by the values of the items before.
+-- Values of items, each from the values of the items before it.
 use Rattle.std.proofs.Common.{◌≡◌, ℕ, ◌+◌, ◌<◌, List, [], ◌∷◌, ◌++◌, length, get_or, take, drop, refl, ◌∙◌, arith}
 use Rattle.std.proofs.lemmas.List.{length_push, get_or_push, get_or_append_left, drop_more, take-append-drop, length-take-le}
 use Rattle.state_rules.specs.Values.{values_after, values}
@@ -23,10 +23,10 @@ module _ {N A : Type 0} (f : N → List A → A) where
     length-before : length (values f (take k ns)) ≡ k
     length-before = length-values_after [] (take k ns) ∙ (let e = length-take-le k ns (omega arith) in omega arith)
 
-    -- a value is by the values before it
+    -- a value follows from the values before it
     pub values-at : (d : A) → get_or (values f ns) k d ≡ f (get_or ns k x) (values f (take k ns))
     values-at d = grind (arith, split, values_after-keeps, length_push, length-before, get_or_push)
 
-    -- and those are the same in the whole list
+    -- the values before it are those in the whole list
     pub values-before : (j : ℕ) (d : A) → j < k → get_or (values f (take k ns)) j d ≡ get_or (values f ns) j d
     values-before j d m = grind (arith, values_after-keeps (values f (take k ns)) (get_or ns k x ∷ drop (k + 1) ns) j d, length-before, split)

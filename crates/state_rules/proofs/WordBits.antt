@@ -1,4 +1,4 @@
--- The bits of what is made of words: of ands and ors of them, and of a word of one bit.
+-- Bits of words: of bitwise conjunctions and disjunctions, and of a word with one bit.
 use Rattle.std.proofs.Common.{◌≡◌, ℕ, ◌+◌, ◌*◌, ◌%◌, ◌^◌, ◌<◌, min, max, false, ◌&&◌, ◌||◌, ◌==◌, List, map, length, take, get_or, ap, ◌∙◌, arith}
 use Rattle.std.specs.Prelude.{bit_and, bit_or}
 use Rattle.std.specs.Int.{bit_at}
@@ -24,13 +24,13 @@ has_bit-and x y b = ap (λ n. n == 1) (bit_at_and x y b) ∙ and-bits (bit_at x 
 pub has_bit-zero : (b : ℕ) → has_bit 0 b ≡ false
 has_bit-zero b = ap (λ n. n == 1) (bit_at-zero b)
 
--- one bit alone, in a word of so many bits
+-- only bit `k` of this word of `width` bits is 1
 pub one_bit : (width k b : ℕ) → k < width → has_bit (1 * 2 ^ k % 2 ^ width) b ≡ (b == k)
 one_bit width k b lt = grind (arith, one_shl, bit_at-pow_same, bit_at-pow_other)
 
 -- ---- the words of some children, joined
 
--- the words of the children before a place were joined, and then one more
+-- the joined words of the children before a place, and one word more
 pub joined_more : (word : ℕ → ℕ) (kids : List ℕ) (i any b : ℕ) → i < length kids → has_bit any b ≡ list_any (λ x. x) (map (λ k. has_bit (word k) b) (take i kids))
     → has_bit (bit_or any (word (get_or kids i 0))) b ≡ list_any (λ x. x) (map (λ k. has_bit (word k) b) (take (i + 1) kids))
 joined_more word kids i any b lt joined = grind (arith, has_bit-or any (word (get_or kids i 0)) b, any-push, take_more kids i 0 lt, map-append)

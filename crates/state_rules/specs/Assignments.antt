@@ -6,6 +6,6 @@ use Rattle.state_rules.specs.Bits.{bit_in}
 abbrev pub Assignment : Type 0
 Assignment = ℕ → Bool
 
--- variable 1 has the first bit
+-- bits as an assignment: variable 1 has the first bit
 abbrev pub assignment : List Bool → Assignment
 assignment bits v = bit_in bits (v - 1)

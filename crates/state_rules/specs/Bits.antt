@@ -7,7 +7,7 @@ abbrev pub number_of_bit : Bool → ℕ
 number_of_bit false = 0
 number_of_bit true = 1
 
--- the number of ones is odd
+-- whether the number of ones is odd
 abbrev pub has_odd_ones : List Bool → Bool
 has_odd_ones bits = count_by (λ b. b) bits % 2 == 1
 
@@ -16,11 +16,11 @@ abbrev pub row_number : List Bool → ℕ
 row_number [] = 0
 row_number (b ∷ bs) = number_of_bit b + 2 * row_number bs
 
--- the bit at a place, and 0 past the end
+-- the bit at place `i`, and 0 past the end
 abbrev pub bit_in : List Bool → ℕ → Bool
 bit_in bs i = slice_index_or bs i false
 
--- two lists have the same first n bits
+-- whether two lists have the same first `n` bits
 abbrev pub AlikeBelow : ℕ → List Bool → List Bool → Type 0
 AlikeBelow n h k = (i : ℕ) → i < n → bit_in h i ≡ bit_in k i
 
@@ -28,7 +28,7 @@ abbrev pub same_bit : Bool → Bool → Bool
 same_bit true b = b
 same_bit false b = not b
 
--- whether a number has the bit of this place, the lowest being at 0
+-- whether bit `place` of a number is 1; the lowest bit is at 0
 abbrev pub has_bit : ℕ → ℕ → Bool
 has_bit n place = bit_at n place == 1
 

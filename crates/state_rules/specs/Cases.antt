@@ -7,7 +7,7 @@ pub record Case : Type 0 where
   pub seen : List (Option Bool)
   pub held : List (Option Bool)
 
--- nothing is known of so many wires and parts
+-- the case in which nothing is known
 abbrev pub empty_case : ℕ → ℕ → Case
 empty_case wires parts = record { seen = replicate wires None; held = replicate parts None }
 
@@ -16,7 +16,7 @@ abbrev pub agrees_at : Option Bool → Bool → Bool
 agrees_at None bit = true
 agrees_at (Some known) bit = same_bit known bit
 
--- no bit contradicts what is known of it
+-- whether no bit contradicts what is known of it
 abbrev pub agrees : List (Option Bool) → List Bool → Bool
 agrees [] bits = true
 agrees (known ∷ rest) [] = true

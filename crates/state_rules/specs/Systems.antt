@@ -1,4 +1,4 @@
--- What sessions are asked over. What a session is answered follows from a system, and from how many sessions may be open.
+-- What sessions ask about. Their answers follow from a system, and from how many sessions may be open.
 use Rattle.std.specs.Prelude.{ℕ, Bool, false, List, Option, None}
 use Rattle.state_rules.specs.declared.extras.Extras.{Extras}
 use Rattle.state_rules.specs.Cases.{Case}
@@ -7,7 +7,7 @@ use Rattle.state_rules.specs.Ranking.{least, diagnoses}
 abbrev pub no_extras : Extras
 no_extras = record { levels = None; least = false }
 
--- the text of each graph for a case, or none if it is left open: the graph of the consistent states, and that of the diagnoses
+-- for each case the text of the graph of the consistent states, and that of the graph of the diagnoses; `None` leaves a text open
 pub record Texts : Type 0 where
   pub dnnf : Option (Case → List ℕ)
   pub least : Option (Case → List ℕ)
@@ -15,7 +15,7 @@ pub record Texts : Type 0 where
 abbrev pub open_texts : Texts
 open_texts = record { dnnf = None; least = None }
 
--- the names of parts and wires, what the failure of each part costs, the health states that agree with a case, which extras are offered
+-- the names of parts and wires, the cost of each part's failure, the health states that agree with a case, which extras are offered
 -- (`levels`, `leastnnf`), and the texts of the graphs, if they are fixed
 pub record System : Type 0 where
   pub parts : List (List ℕ)
@@ -25,14 +25,14 @@ pub record System : Type 0 where
   pub extras : Extras
   pub texts : Texts
 
--- the same with these extras, or with these texts
+-- the same system with these extras, or with these texts
 abbrev pub with_extras : Extras → System → System
 with_extras extras system = record system { extras = extras }
 
 abbrev pub with_texts : Texts → System → System
 with_texts texts system = record system { texts = texts }
 
--- the least cost of a state that agrees with a case, and the states that have it
+-- the least cost of a state that agrees with a case, and the states of that cost
 abbrev pub least_cost : System → Case → Option ℕ
 least_cost system known = least system.costs (system.consistent known)
 

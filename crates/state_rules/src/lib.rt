@@ -1,5 +1,5 @@
-//! Definitions: health states and their order, what sessions are asked over, and graphs of literals, ands and ors, which say which
-//! states are allowed.
+//! Definitions: health states and their order, the systems that sessions ask about, and graphs of literal nodes, And nodes and Or nodes,
+//! which say which states are allowed.
 #![tactic(auto)]
 
 mod extras;

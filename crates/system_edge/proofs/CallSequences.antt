@@ -10,7 +10,7 @@ appends_later (Some xs) None c bs h k = absurd h
 appends_later (Some xs) (Some ys) None bs h k = absurd k
 appends_later (Some xs) (Some ys) (Some zs) bs h k = k ∙ h
 
--- a text was written except for the rest of it
+-- a text was written, except `rest` at its end
 abbrev pub WroteTo : Option (List ℕ) → Option (List ℕ) → List ℕ → List ℕ → Type 0
 WroteTo a b text rest = (part : List ℕ) × (text ≡ part ++ rest) × Appends a b part
 

@@ -1,4 +1,4 @@
-//! The real shelf, source, sink and words: a few lines over std, which the system's side is trusted to serve.
+//! The real shelf, source, sink and words: a few lines over std. That the system serves them is trusted.
 ghost use Rattle.std.specs.Prelude.{◌≡◌, None, refl};
 ghost use Rattle.std.specs.Io.{ReadsAtMost};
 ghost use Rattle.std.specs.Io.KnownBytes.{ReadConsumes};
@@ -11,7 +11,7 @@ use std::fs::File;
 use std::io::{ErrorKind, Read, Write};
 use std::{env, fs};
 
-// Reads once, and again as long as a signal interrupts it.
+// Reads, and reads again as long as a signal interrupts it.
 fn read_from<R: Read>(input: &mut R, into: &mut [u8]) -> Result<usize, ReadFailed>
     ensures room { ReadsAtMost result into.new }
     ensures bytes { ReadConsumes (R.remaining input.old) (R.remaining input.new) result into.new }
@@ -26,8 +26,7 @@ fn read_from<R: Read>(input: &mut R, into: &mut [u8]) -> Result<usize, ReadFaile
     Err(ReadFailed)
 }
 
-/// Files, by their paths. Each pick opens its file anew and lets go of the one before. Which files there are and what
-/// they hold is not shown.
+/// Files, by their paths. Each pick opens its file anew and drops the one before. Which files there are and what they hold is not shown.
 #[derive(Drop)]
 pub struct FileShelf {
     rt: HostRuntime,
@@ -37,7 +36,7 @@ pub struct FileShelf {
 }
 
 impl FileShelf {
-    /// No file is open yet.
+    /// Returns a shelf with no open file.
     pub fn new(rt: HostRuntime) -> Self
         ensures taken { ⟦<FileShelf as Source>⟧.taken result ≡ 0 }
         ensures faults { ⟦<FileShelf as Source>⟧.faults result ≡ 0 }
@@ -93,7 +92,7 @@ impl Shelf for FileShelf {
     ghost may_stays = { λ a b name same. (λ h. h, λ h. h) };
 
     fn pick(&mut self, name: &str) -> Result<(), ReadFailed> {
-        // Nothing is left to read of an earlier file where this one cannot be opened.
+        // If this file cannot be opened, nothing is left to read of an earlier one.
         self.file = fs::open(&self.rt, name).ok();
         if self.file.is_none() {
             self.faults = self.faults.saturating_add(1);
@@ -113,7 +112,7 @@ pub struct StdSource<R: Read + Drop> {
 }
 
 impl<R: Read + Drop> StdSource<R> {
-    /// Nothing is read yet.
+    /// Returns a source over this reader.
     pub fn new(input: R) -> Self
         ensures left { ⟦<StdSource<R> as Source>⟧.left result ≡ R.remaining input }
         ensures taken { ⟦<StdSource<R> as Source>⟧.taken result ≡ 0 }
@@ -165,7 +164,7 @@ pub struct StdSink<W: Write + Drop> {
 }
 
 impl<W: Write + Drop> StdSink<W> {
-    /// Nothing is written yet.
+    /// Returns a sink over this writer.
     pub fn new(out: W) -> Self
         ensures got { ⟦<StdSink<W> as Sink>⟧.got result ≡ W.contents out }
         ensures faults { ⟦<StdSink<W> as Sink>⟧.faults result ≡ 0 }
@@ -209,8 +208,8 @@ impl<W: Write + Drop> Sink for StdSink<W> {
     }
 }
 
-/// The words after the program's name. If they cannot be had as text there are none, so that they are answered as
-/// wrong words. An error is lack of memory.
+/// Returns the words after the program's name. If they cannot be read as text, there are none, so that they are answered as wrong words.
+/// An error is lack of memory.
 pub fn words_of(rt: &HostRuntime, alloc: Global) -> Result<Vec<String>, Memory> {
     let mut words = Vec::new(alloc);
     match env::args(rt) {

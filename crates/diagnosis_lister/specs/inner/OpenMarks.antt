@@ -13,6 +13,6 @@ is_marked mark = nat_le 2 mark
 abbrev pub marked_bits : List ℕ → List Bool
 marked_bits marks = map (λ mark. mark % 2 == 0) marks
 
--- the open parts are marked, and no others
+-- exactly the open parts are marked
 abbrev pub AreMarks : List ℕ → List ℕ → Type 0
 AreMarks evidence marks = (k : ℕ) → k < length marks → is_marked (slice_index marks k) ≡ (slice_index evidence k == 0)

@@ -5,7 +5,7 @@ use Rattle.minimiser.specs.inner.Swept.{is_child}
 use Rattle.fault_graph.specs.inner.Rows.{keeps}
 use Rattle.fault_graph.specs.declared.minimising.TheConstants.{MARKED}
 
--- a child is marked if it costs something, and no more
+-- a child is marked if it costs something, and at most `cost`
 abbrev pub mark_of : List ℕ → List ℕ → ℕ → ℕ → ℕ → ℕ
 mark_of kids values cost node mark = if is_child kids node && keeps values cost node then MARKED else mark
 
@@ -17,8 +17,8 @@ pub record HasMarkedParent (nodes : List Node) (values marks : List ℕ) (node :
   pub child : is_child (node_at nodes parent).kids node ≡ true
   pub cheap : slice_index values node ≤ slice_index values parent
 
--- The root is marked, and nothing that costs nothing, or more; of each marked node from one on the children that cost something and no
--- more than it, and no others.
+-- The root is marked. Marked nodes cost something, and no more than the root. Of each marked node from `from` on, the children that cost
+-- something and no more than it are marked, and no others.
 pub record AreMarks (nodes : List Node) (values marks : List ℕ) (from : ℕ) : Type 0 where
   pub root : slice_index marks (length nodes - 1) ≡ MARKED
   pub dear : (k : ℕ) → k < length nodes → slice_index marks k ≡ MARKED → 0 < slice_index values k

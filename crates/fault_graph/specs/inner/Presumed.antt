@@ -1,4 +1,4 @@
--- A first guess at the verdicts, before the parts are asked for that are faulty in the first diagnosis.
+-- A first guess at the verdicts, before the faulty parts of the first diagnosis are checked.
 use Rattle.std.specs.Prelude.{◌≡◌, ℕ, zero, suc, ◌==◌, List, ◌⊎◌, Some, slice_get, if◌then◌else◌}
 use Rattle.state_rules.specs.Graphs.{Graph}
 use Rattle.minimiser.specs.LeastStates.{Suspect}
@@ -6,7 +6,7 @@ use Rattle.probe_report.specs.declared.verdicts.Blame.{Blame}
 use Rattle.probe_report.specs.declared.verdicts.Blame.TheVariants.{Always, Sometimes, Never}
 use Rattle.probe_report.specs.Verdicts.{blame_of}
 
--- by a part's word, and by 1 if it is open and faulty in some diagnosis
+-- from a part's word, and from 1 if it is open and faulty in some diagnosis
 abbrev pub presumed : ℕ → ℕ → Blame
 presumed zero suspect = if suspect == 1 then Sometimes else Never
 presumed (suc zero) suspect = Never

@@ -1,4 +1,4 @@
--- What the parts cost that are fixed to faulty.
+-- The cost of the parts that are fixed to faulty.
 use Rattle.std.specs.Prelude.{ℕ, ◌+◌, Bool, true, false, List, [], ◌∷◌, Option, Some, None}
 use Rattle.conditioner.specs.Evidence.{known_of}
 
@@ -7,7 +7,7 @@ held_one cost None = 0
 held_one cost (Some true) = 0
 held_one cost (Some false) = cost
 
--- what the parts cost that are fixed to faulty
+-- the cost of these parts together
 abbrev pub held_cost : List ℕ → List ℕ → ℕ
 held_cost [] evidence = 0
 held_cost (c ∷ costs) [] = 0

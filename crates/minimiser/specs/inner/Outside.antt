@@ -1,4 +1,4 @@
--- What the rest of a derivation of the root costs outside each node.
+-- The cost of the rest of a derivation of the root, outside each node.
 use Rattle.std.specs.Prelude.{◌≡◌, ℕ, ◌+◌, ◌-◌, ◌<◌, ◌≤◌, ◌⊎◌, min, Bool, true, List, length, slice_index, if◌then◌else◌}
 use Rattle.state_rules.specs.declared.nodes.NodeKind.{NodeKind}
 use Rattle.state_rules.specs.declared.nodes.NodeKind.TheVariants.{Literal, And, Or}
@@ -8,26 +8,26 @@ use Rattle.minimiser.specs.inner.Swept.{is_child}
 abbrev pub lowered : Bool → ℕ → ℕ → ℕ
 lowered lower cost old = if lower then min old cost else old
 
--- what the other children of an and cost, if it and one of its children cost so much
+-- the cost of the other children of an And node, from its cost and that of one child
 abbrev pub others_cost : NodeKind → ℕ → ℕ → ℕ
 others_cost (Literal positive var) own child = 0
 others_cost And own child = own - child
 others_cost Or own child = 0
 
--- what a node lets the rest of a derivation cost outside a child of it
+-- the cost outside a child of a node, by way of that node
 abbrev pub outside_below : List Node → List ℕ → List ℕ → ℕ → ℕ → ℕ
 outside_below nodes values outside node child =
     slice_index outside node + others_cost (node_at nodes node).what (slice_index values node) (slice_index values child)
 
--- some parent lets the rest cost no more than this
+-- by way of some parent, the cost outside a node is no higher than this
 pub record HasOutsideParent (nodes : List Node) (values outside : List ℕ) (node : ℕ) : Type 0 where
   pub parent : ℕ
   pub within : parent < length nodes
   pub child : is_child (node_at nodes parent).kids node ≡ true
   pub cheap : outside_below nodes values outside parent node ≤ slice_index outside node
 
--- The least costs outside all nodes that have a value, of which those from one on have lowered their children's. Costs from the limit
--- on are none.
+-- The least costs outside all nodes that have a value, when the nodes from `from` on have lowered those of their children. Costs from
+-- the limit on are none.
 pub record AreOutsideCosts (nodes : List Node) (values outside : List ℕ) (from : ℕ) : Type 0 where
   pub root : slice_index outside (length nodes - 1) ≡ 0
   pub down : (parent child : ℕ) → from ≤ parent → parent < length nodes → is_child (node_at nodes parent).kids child ≡ true

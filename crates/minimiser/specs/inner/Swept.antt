@@ -5,11 +5,11 @@ use Rattle.state_rules.specs.declared.nodes.NodeKind.{NodeKind}
 use Rattle.state_rules.specs.declared.nodes.NodeKind.TheVariants.{Literal, And, Or}
 use Rattle.state_rules.specs.Graphs.{Node, node_at}
 
--- a cost, or what stands for none
+-- a cost, or the number that means none
 abbrev pub IsValue : ℕ → Type 0
 IsValue value = (value < 2147483647) ⊎ (value ≡ 4294967295)
 
--- a cost has no bit so high, and the greatest number stands for no cost
+-- a mark is the highest bit, which no cost has; the greatest number means no cost
 abbrev pub has_mark : ℕ → Bool
 has_mark value = nat_le 2147483648 value && nat_lt value 4294967295
 
@@ -22,7 +22,7 @@ IsMarked values node = has_mark (slice_index values node) ≡ true
 abbrev pub is_child : List ℕ → ℕ → Bool
 is_child kids node = list_any (λ k. k == node) kids
 
--- a child's value is marked if it is at most a cost
+-- a child's value gets a mark if it is at most `cost`
 abbrev pub spread_value : List ℕ → ℕ → ℕ → ℕ → ℕ
 spread_value kids cost node value = if is_child kids node && nat_le value cost then value + 2147483648 else value
 
@@ -34,7 +34,7 @@ pub record HasMarkedParent (nodes : List Node) (costs values : List ℕ) (node :
   pub child : is_child (node_at nodes parent).kids node ≡ true
   pub cheap : slice_index costs node ≤ slice_index costs parent
 
--- the costs with marks: at the root, and below it, if the nodes from one on have marked their children that cost no more
+-- the costs with marks, at the root and below it, when the nodes from `from` on have marked their children that cost no more
 pub record IsSwept (nodes : List Node) (costs values : List ℕ) (from : ℕ) : Type 0 where
   pub kept : (k : ℕ) → k < length nodes → unmarked (slice_index values k) ≡ slice_index costs k
   pub root : IsMarked values (length nodes - 1)
@@ -49,7 +49,7 @@ suspect_of evidence parts (Literal positive var) =
 suspect_of evidence parts And = None
 suspect_of evidence parts Or = None
 
--- of a marked node
+-- the same, of a marked node
 abbrev pub suspect_at : List Node → List ℕ → ℕ → List ℕ → ℕ → Option ℕ
 suspect_at nodes evidence parts values node =
     if has_mark (slice_index values node) then suspect_of evidence parts (node_at nodes node).what else None

@@ -8,38 +8,38 @@ use Rattle.state_rules.specs.Graphs.{Node, is_true, mentions, AreNodes, edges}
 abbrev pub AreBefore : List Node → Type 0
 AreBefore nodes = (i : ℕ) (node : Node) → slice_get nodes i ≡ Some node → All (λ k. k < i) node.kids
 
--- from a place on, the children of what is marked are marked
+-- from `from` on, the children of marked nodes are marked
 abbrev pub IsClosedFrom : ℕ → List Node → List Bool → Type 0
 IsClosedFrom from nodes marks = (i : ℕ) (node : Node) → from ≤ i → bit_in marks i ≡ true → slice_get nodes i ≡ Some node → All (λ k. bit_in marks k ≡ true) node.kids
 
 abbrev pub IsClosed : List Node → List Bool → Type 0
 IsClosed nodes marks = IsClosedFrom 0 nodes marks
 
--- a node is a child of one that is marked
+-- a node is a child of a marked one
 abbrev pub IsChildOfMarked : List Node → List Bool → ℕ → Type 0
 IsChildOfMarked nodes marks i = (j : ℕ) × (node : Node) × (bit_in marks j ≡ true) × (slice_get nodes j ≡ Some node) × Contains node.kids i
 
--- the root is marked, the children of what is marked are, and nothing else is
+-- the root and the children of marked nodes are marked, and nothing else is
 pub record IsBelow (nodes : List Node) (root : ℕ) (marks : List Bool) : Type 0 where
   pub long : length marks ≡ root + 1
   pub has : bit_in marks root ≡ true
   pub closed : IsClosed nodes marks
   pub only : (i : ℕ) → bit_in marks i ≡ true → (i ≡ root) ⊎ IsChildOfMarked nodes marks i
 
--- the children of a node are marked if it is, and no other node
+-- the children of node `at` become marked if it is, and no other node does
 pub record Marks (old : List Bool) (at : ℕ) (kids : List ℕ) (new : List Bool) : Type 0 where
   pub kept : (i : ℕ) → bit_in old i ≡ true → bit_in new i ≡ true
   pub above : (i : ℕ) → at ≤ i → bit_in new i ≡ bit_in old i
   pub marked : bit_in old at ≡ true → All (λ k. bit_in new k ≡ true) kids
   pub only : (i : ℕ) → bit_in new i ≡ true → (bit_in old i ≡ true) ⊎ ((bit_in old at ≡ true) × Contains kids i)
 
--- one node means what another does
+-- node `number` of `copies` means what node `k` of `nodes` does
 pub record IsCopy (nodes : List Node) (k : ℕ) (copies : List Node) (number : ℕ) : Type 0 where
   pub within : number < length copies
   pub truth : (a : Assignment) → is_true copies number a ≡ is_true nodes k a
   pub variables : (v : ℕ) → mentions copies v number ≡ mentions nodes v k
 
--- the marked ones of the first nodes are copied, and these are their numbers
+-- the marked nodes of the first `count` are copied, and `numbers` are the numbers of the copies
 pub record IsCopied (vars : ℕ) (nodes : List Node) (marks : List Bool) (copies : List Node) (numbers : List ℕ) (count : ℕ) : Type 0 where
   pub long : length numbers ≡ count
   pub are : AreNodes vars copies

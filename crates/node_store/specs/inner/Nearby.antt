@@ -5,7 +5,7 @@ use Rattle.node_store.specs.declared.nearby.NearHasher.{NearHasher}
 abbrev pub mixed : ℕ → ℕ → ℕ
 mixed hash word = let product = bit_xor hash word * 0x9E3779B1 in bit_xor (product / 2 ^ 32) (bit_and product 0xFFFFFFFF)
 
--- what is kept after a write
+-- the hasher after a write
 abbrev pub after : NearHasher → List ℕ → NearHasher
 after h (a ∷ b ∷ c ∷ d ∷ []) = record { others = mixed h.others h.before; before = h.last; last = a + b * 256 + c * 65536 + d * 16777216 }
 after h bytes = h

@@ -1,7 +1,6 @@
 use Rattle.std.proofs.Common.{◌≡◌, ◌≢◌, ℕ, ◌<◌, ◌≤◌, get_or, All}
 use Rattle.conditioner.proofs.evidence.fix_ok.Given as goal
 
--- the parts so far
 abbrev pub invariant-loop-part : goal.invariant-loop-part
 invariant-loop-part l = record {
   small : All (λ w. w < 3) l.evidence;

@@ -17,7 +17,7 @@ use Rattle.diagnosis_lister.proofs.FirstAndNext.{has-least, least-has}
 use Rattle.diagnosis_lister.proofs.leaving.leave.Goals as goal
 use Rattle.diagnosis_lister.proofs.leaving.leave.Goals.{then-mark-ge2, else-mark-ge2, then-mark-eq1+then-not-is_false+else-reaches, else-mark-eq1, else-mark-eq1-via-then-mark-eq1+else-not-is_false, else-mark-eq1-via-else-mark-eq1}
 
--- a word that is not said to be that of a faulty part is another one
+-- a word that does not say faulty is not 2
 not_two : (said : Bool) {word old : ℕ} → said ≡ (word == 2) → said ≡ false → word ≡ old → old ≢ 2
 not_two said is other same e = false≢true (sym other ∙ (is ∙ eq-eqb _ _ (same ∙ e)))
 

@@ -3,6 +3,5 @@ use Rattle.std.specs.Prelude.{slice_get}
 use Rattle.probe_report.specs.declared.verdicts.Blame.TheVariants.{Inconsistent}
 use Rattle.fault_graph.proofs.answering.tell_none.Given as goal
 
--- the verdicts so far
 abbrev pub invariant-loop-verdict : goal.invariant-loop-verdict
 invariant-loop-verdict l = (part : ℕ) → part < l.verdict-index → slice_get l.verdicts part ≡ Some Inconsistent

@@ -10,7 +10,7 @@ use Rattle.minimiser.proofs.Sums.{two_children}
 use Rattle.minimiser.proofs.pass.node_value.Goals as goal
 use Rattle.minimiser.proofs.pass.node_value.Goals.{In-len2}
 
--- what its two children cost
+-- the costs of its two children
 both : (c : In-len2) → map (cost_at (map cost_in c.args.values.now)) c.node.inside.kids.now
     ≡ cost_in (slice_index c.args.values.now (slice_index c.node.inside.kids.now 0)) ∷ cost_in (slice_index c.args.values.now (slice_index c.node.inside.kids.now 1)) ∷ []
 both c =

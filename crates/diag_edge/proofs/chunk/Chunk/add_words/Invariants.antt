@@ -3,7 +3,7 @@ use Rattle.std.specs.List.{flat_map}
 use Rattle.diag_edge.specs.Adding.{Grown}
 use Rattle.diag_edge.proofs.chunk.Chunk.add_words.Given as goal
 
--- those before the place were added
+-- the words before the place were added
 abbrev pub invariant-loop-word : goal.invariant-loop-word
 invariant-loop-word g l =
     let O = g.O.Sink in

@@ -33,7 +33,7 @@ pub struct Inputs<'a> {
 }
 
 impl<'a> Inputs<'a> {
-    /// Walks the names and the marks, in order.
+    /// Iterates over the names and the marks, in order.
     pub fn tokens(self) -> Tokens<'a>
         ensures { tokens_left result ≡ input_tokens self.entry }
     {

@@ -68,7 +68,7 @@ some-settled (b ∷ bits) front rest =
       half shorter c = any_same (λ inner. test (c ∷ inner)) (λ inner. (same_bit b c && below c inner) && rest) tails (λ inner _. ap (λ t. t && rest) (front-bits front c inner bits b))
           ∙ by_bit (same_bit b c) c (shorter c)
 
--- for some bits of the inner variables, the clauses hold exactly if the rest does
+-- some bits of the inner variables make all clauses true exactly if the rest is true
 pub some-hold : (clauses : List Clause) (bits front : List Bool) (rest : Bool)
     → ((inner : List Bool) → Settles (assignment (front ++ inner)) (length front + 1) clauses bits rest)
     → list_any (λ inner. all_hold (assignment (front ++ inner)) clauses) (lists_of_bits (length bits)) ≡ rest

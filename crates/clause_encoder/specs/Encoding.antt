@@ -136,7 +136,7 @@ is_wide inputs = nat_lt NARROW_LIMIT inputs
 abbrev pub any_gate_clauses : Gate → ℕ → ℕ → List ℕ → ℕ → List Clause
 any_gate_clauses gate h z xs y = if is_wide (length xs) then wide_clauses gate h z xs y else gate_clauses gate h xs y
 
--- the number of inner variables of a part with `ports` ports: one for each input except the first and the last
+-- the number of inner variables of a part with `ports` ports: if it has a chain, one for each input except the first and the last
 abbrev pub inner_count : Rule → ℕ → ℕ
 inner_count (OfTable t) ports = 0
 inner_count (OfGate gate) ports = if is_wide (ports - 1) then ports - 3 else 0

@@ -182,7 +182,7 @@ fn push_narrow(
     }
 }
 
-// If the part is ok, the output is the conjunction of the inputs. What is not `as_is` is negated.
+// If the part is ok, the output is the conjunction of the inputs. A side that is not `.._as_is` is negated.
 fn push_and(
     writer: &mut Writer,
     health: u32,

@@ -41,7 +41,7 @@ is_used types above wires used =
     is_plain_name used.name
     && (takes_args types above used.kind (length used.args) && list_all (λ wire. nat_lt wire wires) used.args)
 
--- Whether names are plain, no two wires and no two parts share one, and the ports are the first wires.
+-- Whether names are plain, no two wires and no two parts share one, the ports are the first wires, and each part fits.
 abbrev pub is_block : List Shape → List Block → Block → Bool
 is_block types above block =
     (list_all is_plain_name block.wires && are_distinct block.wires)

@@ -11,7 +11,7 @@ pub enum LangFault {
     Line,
     /// A word must be a name, 1 to 64 name bytes without a dot, and is not.
     Name,
-    /// A gate, type, block, port, wire or part has this name already, or the type has a cost.
+    /// A gate, type, block, port, wire or part has this name already, or the type already has a cost.
     Twice,
     /// The kind is no gate and is not closed above, an argument is no wire of the block, or the top is no block.
     Unknown,

@@ -24,7 +24,7 @@ allowed-none : (graph : Graph) (parts : ℕ) → passing parts (has_model graph 
 allowed-none graph parts =
     filter_same (has_model graph (λ _. false) parts) (λ _. false) (states parts) (λ state m. any-never (lists_of_bits (graph.vars - parts))) ∙ filter-never (states parts)
 
--- no bit is both bits
+-- no bit equals both `bit` and its negation
 never_both : (bit b : Bool) → (same_bit (not bit) b && same_bit bit b) ≡ false
 never_both true true = refl
 never_both true false = refl

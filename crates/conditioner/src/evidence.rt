@@ -79,7 +79,7 @@ pub fn leaf(evidence: &[u32], var: u32, positive: bool) -> Leaf
     }
 }
 
-/// Fixes each open variable at places `from` up to `to`, counted from 0, to true: a part to ok. `to` is not included.
+/// Fixes each open variable from place `from` to before place `to`, counted from 0, to true: a part to ok.
 pub fn fix_ok(evidence: &mut [u32], from: usize, to: usize)
     requires evidence { All (λ w. w < 3) evidence.old }
     requires to { to ≤ length evidence.old }

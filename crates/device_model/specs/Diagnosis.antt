@@ -24,6 +24,5 @@ fitting_system parts wires costs fits_by = record {
   texts = open_texts;
 }
 
--- the system of a device
 abbrev pub device_system : Device → System
 device_system device = fitting_system (part_names device.parts) device.wires (part_costs device) (fits device)

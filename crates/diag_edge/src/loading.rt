@@ -17,7 +17,7 @@ pub enum LoadError {
     Failed,
     /// The file has more than `limit` bytes.
     Long { limit: u64 },
-    /// There was no memory.
+    /// Memory ran out.
     Memory,
 }
 

@@ -8,7 +8,7 @@ use crate::{Memory, Sink, WriteFailed};
 use std::alloc::Global;
 use std::marker::Model;
 
-/// Keeps the bytes that it gets, in room that it allocates at once. Chosen calls fail.
+/// Keeps the bytes that it gets, up to a room that `new` allocates. Chosen calls fail.
 #[derive(Drop)]
 pub struct MemSink {
     bytes: Vec<u8>,

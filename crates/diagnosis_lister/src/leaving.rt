@@ -32,8 +32,8 @@ fn follow(evidence: &mut [u32], state: &[u32]) -> usize
     state.len()
 }
 
-// Returns the last part at which a later diagnosis can leave the state: it is the same before the part, and ok there if the state has
-// faulty. The evidence is then fixed up to it. It makes a pass for each part that is faulty in the state, at most.
+// Returns the last part at which a later diagnosis can leave the state: it is the same before the part, and ok there, where the state is
+// faulty. The evidence is then fixed up to the part. Makes at most one pass for each part that is faulty in the state.
 pub(crate) fn leave<L: Ledger>(
     graph: &GraphView<'_>,
     evidence: &mut [u32],

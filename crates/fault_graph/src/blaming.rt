@@ -13,7 +13,7 @@ use node_store::GraphView;
 use probe_report::{Blame, blame_faulty};
 use std::sync::ledger::Ledger;
 
-/// Writes what [`blame`](probe_report::blame) returns for each part, in their order.
+/// Writes what [`blame`](probe_report::blame) returns for each part, in order.
 ///
 /// One pass and one sweep find the parts that are faulty in no diagnosis. Only those of the first diagnosis can be faulty in all: a pass
 /// for each of them. The state is overwritten; the evidence is the same afterwards.

@@ -1,4 +1,4 @@
-//! A smaller graph with the same diagnoses under evidence: the nodes on derivations of least cost that cost something.
+//! A smaller graph with the same diagnoses under evidence: the nodes that cost something on derivations of least cost.
 #![tactic(auto)]
 
 mod answering;

@@ -39,7 +39,7 @@ impl Model for SmallNodes {
 }
 
 impl SmallNodes {
-    /// Returns no nodes, with room for `nodes` nodes and for `kids` children of all of them.
+    /// Returns an empty list with room for `nodes` nodes and `kids` children of all of them.
     pub(crate) fn new(alloc: Global, nodes: usize, kids: usize) -> Result<SmallNodes, Memory>
         ensures { IfOk result (λ made. made ≡ record { nodes = []; node_room = nodes; child_room = kids }) }
     {

@@ -29,7 +29,7 @@ impl<T> Model for FlatLists<T> {
 }
 
 impl<T> FlatLists<T> {
-    /// Returns no lists.
+    /// Returns an empty list of lists.
     pub fn new(alloc: Global) -> FlatLists<T>
         ensures { result ≡ [] }
     {

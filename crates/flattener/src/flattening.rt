@@ -25,7 +25,7 @@ pub enum FlattenError {
     TooManyWires { count: u64 },
     /// More than 4,096 instances of blocks below the top.
     TooManyBlocks { count: u64 },
-    /// The longest path of a part, a wire or an instance has more than 255 bytes.
+    /// The longest path of a part, a wire or an instance has more than 255 bytes: `length`.
     PathTooLong { length: u64 },
     /// Memory ran out.
     Memory,

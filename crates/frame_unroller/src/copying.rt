@@ -25,7 +25,7 @@ pub(crate) struct Copies {
     pub(crate) wires: Vec<Name>,
 }
 
-/// Makes all copies for `frames` frames. Their numbers of copies, wires and clauses are within the limits.
+/// Makes all copies for `frames` frames. The numbers of copies, wires and clauses are within the limits.
 pub(crate) fn copies_over(
     alloc: Global,
     seq: &Sequential,

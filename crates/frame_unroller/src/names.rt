@@ -6,7 +6,6 @@ ghost use Rattle.frame_unroller.specs.Times.{four_digits, wire_at, copy_at};
 use device_model::Name;
 use std::alloc::{AllocError, Global};
 
-// Writes a time in four digits.
 fn four_digits(time: u32) -> [u8; 4]
     requires { time < 10000 }
     ensures { result ≡ four_digits time }

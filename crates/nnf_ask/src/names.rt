@@ -58,7 +58,6 @@ pub fn ask_names(alloc: Global, health: u32, vars: u32) -> Result<(Vec<Name>, Ve
     Ok((parts, wires))
 }
 
-// Writes a number in five digits.
 fn five_digits(number: u32) -> [u8; 5]
     requires { number < 100000 }
     ensures { result ≡ five_digits number }

@@ -29,7 +29,6 @@ pub fn write_nnf<O: Sink>(graph: &Graph, vars: u32, out: &mut O) -> Result<(), W
     put_lines(out, graph, vars)
 }
 
-// Writes the lines of a graph.
 fn put_lines<O: Sink>(out: &mut O, graph: &Graph, vars: u32) -> Result<(), WriteFailed>
     ensures bytes { Puts (O.got out.old) (O.got out.new) result
         (graph_text (record graph.now { vars = vars })) }
@@ -42,7 +41,6 @@ fn put_lines<O: Sink>(out: &mut O, graph: &Graph, vars: u32) -> Result<(), Write
     text.finish(out)
 }
 
-// Adds the lines of all nodes.
 #[tactic(auto, using(crate::proofs::Extended::extending))]
 fn add_nodes<O: Sink>(text: &mut GraphText, out: &mut O, graph: &Graph)
     ensures { Extends (O.shown out.old) (O.shown out.new) text.old text.new

@@ -29,7 +29,7 @@ impl Model for Nodes {
 }
 
 impl Nodes {
-    /// Returns no nodes.
+    /// Returns an empty list of nodes.
     pub fn new(alloc: Global) -> Nodes
         ensures { result ≡ [] }
     {

@@ -26,7 +26,7 @@ impl BuildHasher for Nearby {
 ///
 /// The words of a node are the numbers of its children. A write of another length than four bytes is ignored: nodes with the same children
 /// seldom differ by it. A table takes the group of a hash from its low bits, and separates the hashes in a group by its high bits. Nodes
-/// have one group if they differ only in the lowest 2 bits of the last child and the lowest 6 bits of the one before: those that are made
+/// are in one group if they differ only in the lowest 2 bits of the last child and the lowest 6 bits of the one before: those that are made
 /// one after the other, and few more. The groups themselves lie anywhere. In the order of the children, full groups would lie side by
 /// side, and a search would walk through all of them. Nodes with the same last child are spread over one group for each 64 numbers of
 /// the others. The high bits mix all children.

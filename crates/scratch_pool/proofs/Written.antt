@@ -13,7 +13,6 @@ Apart start len other other_len = (start + len ≤ other) ⊎ (other + other_len
 pub length-written : (words : List ℕ) (start : ℕ) (new : List ℕ) → length (written words start new) ≡ length words
 length-written words start new = sym (length_refill (length words) words (take start words ++ (new ++ drop (length new) (drop start words))) refl)
 
--- as many words as `len`
 pub length-words_at : (words : List ℕ) (start len : ℕ) → start + len ≤ length words → length (words_at words start len) ≡ len
 length-words_at words start len fits = length-take-le len (drop start words) (let e = length-drop start words in omega (arith, e, fits))
 

@@ -1,4 +1,4 @@
-//! The real shelf, source, sink and words: a few lines over std. That the system serves them is trusted.
+//! The real shelf, source, sink and words: a few lines over std. That the system serves these is trusted.
 ghost use Rattle.std.specs.Prelude.{◌≡◌, None, refl};
 ghost use Rattle.std.specs.Io.{ReadsAtMost};
 ghost use Rattle.std.specs.Io.KnownBytes.{ReadConsumes};

@@ -7,7 +7,7 @@ use Rattle.component_lang.specs.Designs.{is_plain_name, is_block, are_blocks}
 use Rattle.component_lang.specs.Kinds.{OpenType, Section, Outside, InType, InBlock, AfterTop, Reader, kind_named}
 use Rattle.component_lang.specs.TypeRows.{shape_of}
 
--- whether a plain name means no gate, type or block
+-- whether a name is plain and means no gate, type or block
 abbrev pub is_free : Reader → Name → Bool
 is_free reader name = is_plain_name name && not (is_some (kind_named reader name))
 

@@ -1,7 +1,7 @@
--- Marks of open parts in the evidence of a state.
+-- Marks in a state, for the parts that evidence leaves open.
 use Rattle.std.specs.Prelude.{◌≡◌, ℕ, zero, suc, ◌+◌, ◌%◌, ◌<◌, Bool, List, map, length, slice_index, ◌==◌, nat_le}
 
--- a part's word of the state, marked if its variable is open
+-- a part's word in the state, marked if its variable is open
 abbrev pub mark_of : ℕ → ℕ → ℕ
 mark_of zero s = s + 2
 mark_of (suc word) s = s

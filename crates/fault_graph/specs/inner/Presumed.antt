@@ -6,7 +6,7 @@ use Rattle.probe_report.specs.declared.verdicts.Blame.{Blame}
 use Rattle.probe_report.specs.declared.verdicts.Blame.TheVariants.{Always, Sometimes, Never}
 use Rattle.probe_report.specs.Verdicts.{blame_of}
 
--- from a part's word, and from 1 if it is open and faulty in some diagnosis
+-- the guess for a part, from its word and `suspect`: 1 if it is open and faulty in some diagnosis
 abbrev pub presumed : ℕ → ℕ → Blame
 presumed zero suspect = if suspect == 1 then Sometimes else Never
 presumed (suc zero) suspect = Never

@@ -19,7 +19,7 @@ abbrev pub outside_below : List Node → List ℕ → List ℕ → ℕ → ℕ �
 outside_below nodes values outside node child =
     slice_index outside node + others_cost (node_at nodes node).what (slice_index values node) (slice_index values child)
 
--- by way of some parent, the cost outside a node is no higher than this
+-- by way of some parent, the cost outside a node is at most its number in `outside`
 pub record HasOutsideParent (nodes : List Node) (values outside : List ℕ) (node : ℕ) : Type 0 where
   pub parent : ℕ
   pub within : parent < length nodes

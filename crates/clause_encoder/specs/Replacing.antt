@@ -10,6 +10,6 @@ variable_for variables v = slice_index_or variables (v - 1) 0
 abbrev pub literal_for : List ℕ → ℤ → ℤ
 literal_for variables l = literal (is_positive l) (variable_for variables (var_of l))
 
--- The clauses over the variables 1 to `vars` that replace the others; they are tidy again.
+-- The clauses with `variables`, from 1 to `vars`, in place of their own; they are tidy again.
 abbrev pub replaced : List ℕ → ℕ → ClauseList → ClauseList
 replaced variables vars cnf = record { vars = vars; clauses = tidy (map (map (literal_for variables)) cnf.clauses) }

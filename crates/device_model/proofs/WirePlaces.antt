@@ -1,4 +1,4 @@
--- The places of the wires: from sorted wires with their positions, the place in order of the wire of each position.
+-- Sorted wires with their positions give the place in order of the wire at each position.
 use Rattle.std.proofs.Common.{◌≡◌, ◌≢◌, ℕ, zero, suc, ◌+◌, ◌<◌, inl, inr, true, List, [], ◌∷◌, ◌++◌, map, length, take, get_or, slice_index, refl, sym, ap, subst, ◌∙◌, arith}
 use Rattle.std.specs.Prelude.{nat_lt}
 use Rattle.std.specs.List.{All, AllPairs, list_all, position_or_len}

@@ -18,7 +18,7 @@ pub record Last : Type 0 where
   pub evidence : List ℕ
   pub small : Graph
 
--- room for that many nodes, children of all of them, and variables, and what was minimised last
+-- room for `nodes` nodes, `kids` children of all of them and `vars` variables, and what was minimised last
 pub record Kept : Type 0 where
   pub nodes : ℕ
   pub kids : ℕ

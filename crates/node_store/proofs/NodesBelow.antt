@@ -25,7 +25,7 @@ the_at (x ∷ xs) (suc i) h = the_at xs i (omega arith)
 pub length-shown : (xs : List Kept) → length (map shown xs) ≡ length xs
 length-shown xs = length-map xs shown
 
--- marks are closed from one node lower on
+-- marks are closed from the next lower node on
 pub marks_more : (nodes : List Node) (old new : List Bool) (from at root : ℕ) (kids : List ℕ) (node : Node) → at + 1 ≡ from → slice_get nodes at ≡ Some node → kids ≡ node.kids → Marks old at kids new → IsClosedFrom from nodes old → AreBefore nodes → IsClosedFrom at nodes new
 marks_more nodes old new from at root kids node e there same marks closed before_ i n le m f = grind arith
 

@@ -1,4 +1,4 @@
--- What the steps that build a device state about each other's results.
+-- What one step that builds a device promises to the next.
 use Rattle.std.specs.Prelude.{◌≡◌, ◌≢◌, ℕ, ◌+◌, ◌<◌, ◌≤◌, List, [], ◌∷◌, length, map, slice_index, Option, Some, None, Result, Err, slice_index_or}
 use Rattle.text_rules.specs.Names.{Name}
 use Rattle.device_model.specs.declared.component.Component.{Component}

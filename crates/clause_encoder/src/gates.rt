@@ -269,7 +269,7 @@ fn push_table(
     push_side(writer, table, false, health, ports)
 }
 
-// If the part is ok, or if it is faulty, its ports have no row that it does not allow then.
+// If the part is ok (if `ok`) or faulty (if not), its ports have no row outside the table's.
 #[tactic(auto, using(crate::proofs::WrittenClauses::row_below))]
 fn push_side(
     writer: &mut Writer,

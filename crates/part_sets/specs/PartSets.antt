@@ -41,7 +41,7 @@ pub record Kept : Type 0 where
   pub below : List ℕ
   pub lacking : List ℕ
 
--- it is kept of this graph, whose first `parts` variables are parts
+-- `kept` is that of this graph, whose first `parts` variables are parts
 pub record AreFor (graph : Graph) (parts : ℕ) (kept : Kept) : Type 0 where
   pub below : AreBelow graph parts kept.below
   pub lacking : AreLacking graph parts kept.lacking

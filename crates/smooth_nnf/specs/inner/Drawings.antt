@@ -89,7 +89,7 @@ word_parts word bits = filter (λ part. has_bit bits (part - (32 * word + 1))) (
 abbrev pub part_count : Drawing → ℕ → ℕ
 part_count drawing node = length (filter (λ part. mentions drawing.graph.nodes part node) (range_with_len 1 drawing.parts))
 
--- the same for words, if the first one has number `word`
+-- the parts of the bits of words, if the first word has number `word`
 abbrev pub set_parts : ℕ → List ℕ → List ℕ
 set_parts word [] = []
 set_parts word (bits ∷ words) = word_parts word bits ++ set_parts (word + 1) words

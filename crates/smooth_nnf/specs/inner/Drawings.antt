@@ -64,7 +64,7 @@ abbrev pub filled_line : Drawing → Option ℕ → ℕ → Node
 filled_line drawing over node =
     and_over (slice_index drawing.lines node ∷ fillers drawing.evidence drawing.parts (missing_in drawing over node))
 
--- `over` is a node of the graph, if it is one
+-- the node, if there is one, is in the graph
 abbrev pub IsNodeOf : Drawing → Option ℕ → Type 0
 IsNodeOf drawing None = Unit {0}
 IsNodeOf drawing (Some node) = node < length drawing.graph.nodes

@@ -210,7 +210,6 @@ fn write_in<O: Sink, L: Ledger>(
     put_lines(&drawing, count + 1, out)
 }
 
-// Writes all lines.
 #[tactic(auto, using(crate::proofs::Rules::joined_texts))]
 fn put_lines<O: Sink>(drawing: &Drawing<'_>, count: u32, out: &mut O) -> Result<(), WriteFailed>
     requires count { count ≡ length (all_lines (shown drawing.now)) }

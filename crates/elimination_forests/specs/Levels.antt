@@ -5,8 +5,7 @@ use Rattle.elimination_forests.specs.Branches.{order, same_list, living, branch}
 use Rattle.elimination_forests.specs.declared.forks.Forks.{Forks}
 use Rattle.elimination_forests.specs.Forests.{trees, chain}
 
--- where a list leads if the next variable has this bit: the place of what is left among the living lists of the next level, or none if that
--- is dead
+-- where a list leads by a bit of the next variable: the place of what is left among the next level's living lists, or none if it is dead
 abbrev pub leads_to : List Clause → ℕ → List Bool → Bool → Option ℕ
 leads_to clauses i list bit = position (λ next. same_list next (branch clauses i list bit)) (living clauses (i + 1))
 

@@ -85,7 +85,7 @@ pub(crate) fn clause_of(cnf: &Cnf, number: u32) -> &[i32]
     }
 }
 
-/// Whether an active clause goes to one of `trees` trees: it is the only one, or has an unmarked variable of the clause.
+/// Whether an active clause goes to `tree`: it is the only one of `trees`, or has an unmarked variable of the clause.
 pub(crate) fn goes_to(
     cnf: &Cnf,
     trees: u32,

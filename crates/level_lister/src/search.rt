@@ -71,7 +71,6 @@ impl Search<'_> {
         }
     }
 
-    // Finds the first state after another.
     #[tactic(auto, using(crate::proofs::Rules::fixed_words))]
     fn find_after<L: Ledger>(
         &self,

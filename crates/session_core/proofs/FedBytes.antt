@@ -47,7 +47,7 @@ last_line_alike [] (b ∷ k) e = absurd (kept-some b k (sym e ∙ kept-none))
 last_line_alike (b ∷ l) [] e = absurd (kept-some b l (e ∙ kept-none))
 last_line_alike (b ∷ l) (c ∷ k) e = (e, refl)
 
--- lines with the same part that counts have the same moves
+-- lines of which the same is kept have the same moves
 module _ (one : Table → List ℕ → List Step) (h : IsCut one) where
   alike_moves : (t : Table) (l k : List ℕ) → kept l ≡ kept k → one t l ≡ one t k
   alike_moves t l k e = sym (h.same t l) ∙ ap (one t) e ∙ h.same t k

@@ -107,7 +107,6 @@ impl Basis {
         })
     }
 
-    /// Returns the names of the parts.
     pub(crate) fn parts(&self) -> &[Name]
         ensures names { result.now ≡ self.now.parts }
         ensures basis { IsBasis self.now }
@@ -115,7 +114,6 @@ impl Basis {
         &self.parts
     }
 
-    /// Returns the names of the wires.
     pub(crate) fn wires(&self) -> &[Name]
         ensures names { result.now ≡ self.now.wires }
         ensures basis { IsBasis self.now }
@@ -123,7 +121,6 @@ impl Basis {
         &self.wires
     }
 
-    /// Returns the name of a wire.
     pub(crate) fn wire_name(&self, wire: u32) -> &[u8]
         requires { wire < length self.now.wires }
         ensures { result.now ≡ slice_index_or self.now.wires wire [] }

@@ -19,7 +19,6 @@ use probe_report::Blame;
 use script_lang::LineRefusal;
 use session_rules::Refusal;
 
-// Writes why a line is refused.
 pub(crate) fn put_line_refusal<O: Sink>(
     out: &mut O,
     refusal: LineRefusal,

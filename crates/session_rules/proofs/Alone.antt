@@ -137,7 +137,7 @@ module _ (system : System) (limit : ℕ) (s : Name) where
       ap (λ l. entry_of s (left_by [] (moves system 1 [] l))) asked ∙ own_moves s (outcome system s false None Start) [] in
       grind (arith, open-alone)
 
-  -- from an answer on it is a dialogue from some table
+  -- the answers from one on are those from some table
   from_answer : (table : Table) (lines : List (List ℕ)) (before later : List Answer) (opening : Answer) → among table lines ≡ before ++ opening ∷ later
       → (t : Table) × (bytes : List ℕ) × (rest : List (List ℕ)) × (opening ∷ later ≡ among t (bytes ∷ rest))
   from_answer table [] [] later opening e = absurd (let never : ⊥ = cc in never)

@@ -7,7 +7,7 @@ use std::cmp::Ordering;
 use std::marker::Model;
 use text_rules::SHORT_NAME_LIMIT;
 
-/// The name of a session, in memory of its own value only.
+/// The name of a session, without allocated memory.
 #[derive(Drop)]
 pub(crate) struct ShortName {
     bytes: [u8; SHORT_NAME_LIMIT],

@@ -116,7 +116,7 @@ module _ (parts : ℕ) (more : List Node) where
       to : ((nat_le 1 v && nat_le v parts) && missing v) ≡ true → list_any (λ b. b) (map (λ p. p == v) chosen) ≡ true
       to all = grind (arith, nat_tests, and_parts, any-child, chosen-has, leb-true, eq-eqb)
 
-    -- each of it once
+    -- each part once
     pub fillers-once : (v : ℕ) → at_most_one (map (mentions (literal_pairs parts ++ more) v) (fillers evidence parts missing)) ≡ true
     fillers-once v = ap at_most_one (fillers-values (mention_by v)) ∙ once 1 parts where
       once : (s n : ℕ) → at_most_one (map (λ p. p == v) (filter missing (range_with_len s n))) ≡ true

@@ -95,7 +95,6 @@ impl<'a> Drawing<'a> {
         part_words(self.parts as usize)
     }
 
-    // Returns the number of parts below a node.
     #[tactic(auto, using(crate::proofs::Rules::parts_below_node))]
     pub(crate) fn part_count(&self, node: u32) -> u32
         requires { node < length self.now.graph.nodes }

@@ -42,7 +42,7 @@ struct Asked<'a> {
 }
 
 /// Writes the graph of the diagnoses that a graph allows under evidence, one word a variable: 0 if it is open, 1 if true, 2 if false. The
-/// parts are the first variables, and each has a cost.
+/// parts are the first variables, and each costs more than 0.
 ///
 /// The text is smooth and decomposable. It has at most a line for each node of the graph and each of its edges, two for each part, and one
 /// more. The region lends 2 words for each node, and a set of parts for each. No memory is taken. Fails if a write fails.
@@ -210,7 +210,6 @@ fn write_in<O: Sink, L: Ledger>(
     put_lines(&drawing, count + 1, out)
 }
 
-// Writes all lines.
 #[tactic(auto, using(crate::proofs::Rules::joined_texts))]
 fn put_lines<O: Sink>(drawing: &Drawing<'_>, count: u32, out: &mut O) -> Result<(), WriteFailed>
     requires count { count ≡ length (all_lines (shown drawing.now)) }

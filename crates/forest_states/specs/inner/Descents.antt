@@ -144,11 +144,11 @@ meets_marked marks clause = list_any (λ l. bit_in marks (var_of l)) clause
 abbrev pub within_marked : ℕ → List Bool → Clause → Bool
 within_marked v marks clause = list_all (λ l. (v == var_of l) || bit_in marks (var_of l)) clause
 
--- whether a variable that is not marked is in a tree
+-- whether a variable is not marked, and is in the tree
 abbrev pub is_in_tree : List Bool → List ℕ → ℕ → ℕ → Bool
 is_in_tree marks numbers tree v = not (bit_in marks v) && (slice_index_or numbers v 0 == tree)
 
--- whether an active clause goes to one of `trees` trees
+-- whether an active clause goes to this tree of `trees`
 abbrev pub goes_to : List Clause → ℕ → List Bool → List ℕ → ℕ → ℕ → Bool
 goes_to clauses trees marks numbers tree n = (trees == 1) || list_any (λ l. is_in_tree marks numbers tree (var_of l)) (clause_at clauses n)
 

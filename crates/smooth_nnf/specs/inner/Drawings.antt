@@ -64,7 +64,7 @@ abbrev pub filled_line : Drawing → Option ℕ → ℕ → Node
 filled_line drawing over node =
     and_over (slice_index drawing.lines node ∷ fillers drawing.evidence drawing.parts (missing_in drawing over node))
 
--- `over` is a node of the graph, if it is one
+-- the node, if there is one, is in the graph
 abbrev pub IsNodeOf : Drawing → Option ℕ → Type 0
 IsNodeOf drawing None = Unit {0}
 IsNodeOf drawing (Some node) = node < length drawing.graph.nodes
@@ -89,7 +89,7 @@ word_parts word bits = filter (λ part. has_bit bits (part - (32 * word + 1))) (
 abbrev pub part_count : Drawing → ℕ → ℕ
 part_count drawing node = length (filter (λ part. mentions drawing.graph.nodes part node) (range_with_len 1 drawing.parts))
 
--- the same for words, if the first one has number `word`
+-- the parts of the bits of words, if the first word has number `word`
 abbrev pub set_parts : ℕ → List ℕ → List ℕ
 set_parts word [] = []
 set_parts word (bits ∷ words) = word_parts word bits ++ set_parts (word + 1) words

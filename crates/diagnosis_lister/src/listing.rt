@@ -92,7 +92,8 @@ pub fn first_in<L: Ledger>(
     Some(fewest)
 }
 
-/// Finds the first diagnosis after the state, and writes it to the state. The state need not be a diagnosis.
+/// Finds the first diagnosis after the state, and writes it to the state. Returns whether there is one, and if not, why. The state need
+/// not be a diagnosis.
 ///
 /// The evidence is the same afterwards. If there is none, the state stays. The call makes at most one pass, and one more for each faulty
 /// part of the state and of the diagnosis; each pass has at most one sweep.

@@ -17,7 +17,8 @@ use std::sync::ledger::Ledger;
 impl MinimisedGraph {
     /// Returns the least cost, and writes the first diagnosis to the state, as [`diagnosis_lister::first`] does.
     ///
-    /// It makes one pass over the graph, or none if what is kept is of this evidence, which then stays. The others are over what is kept.
+    /// It makes at most one pass over the graph, and none if what is kept is of this evidence and so stays. The other passes are over
+    /// what is kept.
     #[tactic(auto, using(crate::proofs::Rules::last_minimised_one))]
     pub fn first<L: Ledger>(
         &mut self,
@@ -60,7 +61,8 @@ impl MinimisedGraph {
 
     /// Finds the first diagnosis after the state, and writes it to the state, as [`diagnosis_lister::next`] does.
     ///
-    /// It makes one pass over the graph, or none if what is kept is of this evidence, which then stays. The others are over what is kept.
+    /// It makes at most one pass over the graph, and none if what is kept is of this evidence and so stays. The other passes are over
+    /// what is kept.
     #[tactic(auto, using(crate::proofs::Rules::last_minimised_one))]
     pub fn next<L: Ledger>(
         &mut self,
@@ -107,7 +109,8 @@ impl MinimisedGraph {
 
     /// Writes whether each part is faulty in all diagnoses, in some or in none, as [`blame_all`] does.
     ///
-    /// It makes one pass over the graph, or none if what is kept is of this evidence, which then stays. The others are over what is kept.
+    /// It makes at most one pass over the graph, and none if what is kept is of this evidence and so stays. The other passes are over
+    /// what is kept.
     #[tactic(auto, using(crate::proofs::Rules::last_minimised_one))]
     pub fn blame_all<L: Ledger>(
         &mut self,

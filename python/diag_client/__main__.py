@@ -7,7 +7,7 @@ import functools
 import os
 import sys
 
-from . import bench, board, draw, progress, shell
+from . import bench, board, draw, interrupts, progress, shell
 from .errors import DiagError, sentence
 
 
@@ -53,6 +53,7 @@ def main() -> int:
     open_streams()
     words = draw.read_words(words_of())
     try:
+        interrupts.raise_again()
         if words.command == "bench":
             return bench.run(words)
         given = progress.options_in(words)
@@ -62,7 +63,7 @@ def main() -> int:
             return shell.run(service, functools.partial(board.begin, table=words.patterns))
     except KeyboardInterrupt:
         print("diag_client: interrupted", file=sys.stderr)
-        return 130
+        return interrupts.STATUS
     except BrokenPipeError:
         # Nobody reads what is written. Python would try once more at its end.
         os.dup2(os.open(os.devnull, os.O_WRONLY), sys.stdout.fileno())

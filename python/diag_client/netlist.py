@@ -8,6 +8,7 @@ import re
 import sys
 from collections.abc import Sequence
 
+from . import interrupts
 from .devices import MADE, MADE_BY, NAMES, is_made_here
 from .errors import DiagError, sentence
 from .files import write_whole
@@ -173,7 +174,11 @@ def main(words: Sequence[str] | None = None) -> int:
     parser.add_argument("-o", "--output", metavar="OUT", type=pathlib.Path, help="a .bench or .dev; else FILE with that ending")
     given = parser.parse_args(words)
     try:
+        interrupts.raise_again()
         print("\n".join(convert(given.file, given.output)))
+    except KeyboardInterrupt:
+        print("diag-netlist: interrupted", file=sys.stderr)
+        return interrupts.STATUS
     except (DiagError, OSError) as error:
         print(f"diag-netlist: {'' if isinstance(error, OSError) else f'{given.file}: '}{sentence(error)}", file=sys.stderr)
         return 1

@@ -20,7 +20,7 @@ from .files import write_whole
 from .progress import Progress
 from .replies import AnyLines, Lines
 from .service import LIMITS, Service
-from .session import CHANGES, Session, at_odds, case_lines
+from .session import CHANGES, NAME_RULE, Session, at_odds, case_lines
 
 try:
     import readline
@@ -55,7 +55,7 @@ CURES = {
     "full": f"each pattern is a session, and a search opens one more for each: at most {LIMITS['sessions'][1] // 2} patterns can be searched, and one fewer by probe",
 }
 # What is said of a name that is none.
-NAMES = "a name has up to 255 printable ASCII characters, that of a pattern up to 64, and none of ( ) , = #"
+NAMES = f"the name of a pattern has {NAME_RULE}; that of a wire or a part has up to 255"
 # Replies that mean that nothing is wrong.
 NOTHING_WRONG = ("diag", "min 0", "level 0")
 

@@ -68,7 +68,7 @@ class Texts(unittest.TestCase):
             ("open P1\nsee P1 a=0 b=1", "line 2: not understood"),
             ("open P 1", "no reading in it"),
             ("# cannot reach c", "line 1: no wire c"),
-            ("open <b>", "no name of a pattern"),
+            ("open (b)", "no name of a pattern"),
             ("", "no reading in it"),
         ):
             self.assertIn(wanted, self.refused(text, cases.read_script), text)
@@ -76,12 +76,12 @@ class Texts(unittest.TestCase):
     def test_patterns(self):
         case = Case().with_pattern().with_pattern("x")
         self.assertEqual([row.name for row in case.patterns], ["P1", "P2", "x"])
+        self.assertEqual(case.with_pattern("t:01<b>").pattern.name, "t:01<b>")
         self.assertEqual(case.without_pattern("P2").now, 1)
         self.assertEqual(Case().without_pattern("P1"), Case())
-        for name in ("x", "a b", "", "<", "y" * 41):
-            if name:
-                with self.assertRaises(Bad):
-                    case.with_pattern(name)
+        for name in ("x", "a b", "a,b", "#", "é", "y" * 65):
+            with self.subTest(name), self.assertRaises(Bad):
+                case.with_pattern(name)
 
 
 @needs_program

@@ -54,6 +54,8 @@ CURES = {
     "line too long": "a line has at most 1048576 bytes", "no levels": "start the terminal with --levels C", "no least": "start the terminal with --least",
     "full": f"each pattern is a session, and a search opens one more for each: at most {LIMITS['sessions'][1] // 2} patterns can be searched, and one fewer by probe",
 }
+# What a refusal begins with.
+REFUSED = "refused: "
 # What is said of a name that is none.
 NAMES = f"the name of a pattern has {NAME_RULE}; that of a wire or a part has up to 255"
 # Replies that mean that nothing is wrong.
@@ -100,9 +102,9 @@ class Shell(cmd.Cmd):
         try:
             return bool(super().onecmd(line))
         except Refused as refused:
-            self.refuse(f"refused: {self.why(refused)}")
+            self.refuse(f"{REFUSED}{self.why(refused)}")
         except Inconsistent:
-            print("no set of faulty parts explains what was seen and held")
+            self.say("no set of faulty parts explains what was seen and held")
         except KeyboardInterrupt:
             if not self.use_rawinput:
                 raise
@@ -114,6 +116,10 @@ class Shell(cmd.Cmd):
                 raise
             self.refuse(sentence(error))
         return False
+
+    def say(self, text: str) -> None:
+        """Prints an answer."""
+        print(text)
 
     def refuse(self, text: str) -> None:
         """Says why something was not done."""
@@ -197,14 +203,14 @@ class Shell(cmd.Cmd):
         """The next measurement."""
         rows = self._waited("best", lambda: self.session.rank_probes(rest.split() or None))
         told = [str(row) for row in rows if row.reduction > 0][:BEST]
-        print("\n".join(told) or "no wire splits the diagnoses at hand")
+        self.say("\n".join(told) or "no wire splits the diagnoses at hand")
         return False
 
     def do_case(self, _: str) -> bool:
         """What was seen and held."""
         self._waited("case", self.service.catch_up)
-        print("seen:", " ".join(f"{wire}={bit}" for wire, bit in self.session.seen.items()) or "nothing")
-        print("held:", " ".join(f"{part}={mode}" for part, mode in self.session.held.items()) or "nothing")
+        self.say("seen: " + (" ".join(f"{wire}={bit}" for wire, bit in self.session.seen.items()) or "nothing"))
+        self.say("held: " + (" ".join(f"{part}={mode}" for part, mode in self.session.held.items()) or "nothing"))
         return False
 
     def do_expect(self, rest: str) -> bool:
@@ -215,12 +221,12 @@ class Shell(cmd.Cmd):
             if wire not in bits:
                 # An unknown name is refused.
                 self.session.probe(wire)
-                print(f"{wire} may be 0 or 1: the inputs that were seen do not fix it")
+                self.say(f"{wire} may be 0 or 1: the inputs that were seen do not fix it")
                 continue
             seen = self.session.seen.get(wire, bits[wire])
-            print(f"{wire} should be {bits[wire]}" + (f", and was seen as {seen}" if seen != bits[wire] else ""))
+            self.say(f"{wire} should be {bits[wire]}" + (f", and was seen as {seen}" if seen != bits[wire] else ""))
         if not wires and not bits:
-            print("the inputs that were seen fix no wire")
+            self.say("the inputs that were seen fix no wire")
         return False
 
     def do_load(self, rest: str) -> bool:
@@ -257,7 +263,7 @@ class Shell(cmd.Cmd):
         case = self._waited("picture", lambda: picture.Case.of(self.session))
         written = graphviz.render(picture.dot_text(read_device(self.service.file), case, self.service.title), out)
         if written == out:
-            print("wrote", written)
+            self.say(f"wrote {written}")
         else:
             self.refuse(f"{graphviz.NO_DOT}; wrote {written} alone")
         return False
@@ -320,9 +326,9 @@ class Shell(cmd.Cmd):
             raise ValueError("there is one session here, which is open to the end")
         text = " ".join([*words, ""])
         if command in CHANGES and (" =" in text or "= " in text):
-            raise ValueError(f"refused: write {command} name=value without blanks around =; nothing of this line was taken")
+            raise ValueError(f"{REFUSED}write {command} name=value without blanks around =; nothing of this line was taken")
         if command == "see" and (why := at_odds(words[1:], self.service.other_names)):
-            raise ValueError(f"refused: {why}")
+            raise ValueError(f"{REFUSED}{why}")
         if len(words) > 2 and command in self.for_each:
             return Asked([[command, word] for word in words[1:]], command in CHANGES)
         return Asked([words])
@@ -357,7 +363,7 @@ class Shell(cmd.Cmd):
                 if refusals:
                     self.has_refused = True
                     whys = map(self.why, refusals)
-                    told = [f"refused: {next(whys)}" if request.refusal(line) else text for line, text in zip(lines, told)]
+                    told = [f"{REFUSED}{next(whys)}" if request.refusal(line) else text for line, text in zip(lines, told)]
                 texts += map(in_words, told) if self.prompt else told
             if not request.is_answered:
                 break

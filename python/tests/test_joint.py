@@ -258,6 +258,18 @@ class Board(unittest.TestCase):
             "probe 16 - 1", "ok", "no set of faulty parts explains what was seen and held"])
         self.assertEqual(status, 1)
 
+    def test_a_refusal_is_of_no_pattern(self):
+        """The pattern is named before an answer alone."""
+        with tempfile.TemporaryDirectory() as folder:
+            table = pathlib.Path(folder, "readings.csv")
+            table.write_text(TABLE)
+            told, _, _ = self.told(
+                ["this probe 99", "expect 99", "after 99", "level", "see 1=0", "this probe 99 16", "picture nowhere/out.svg"],
+                "--patterns", table)
+        self.assertEqual([text.partition(" (")[0] for text in told[1:-1]], [
+            "refused: no wire", "refused: no wire", "refused: no part", "refused: no levels", "ok", "refused: no wire",
+            "pattern one alone:", "probe 16 2 1"])
+
     @unittest.skipUnless(shell.readline, "there is no completion")
     def test_completion(self):
         """With several patterns names are completed as with one."""

@@ -6,8 +6,8 @@ import os
 import pathlib
 
 
-def write_whole(path: pathlib.Path, data: bytes) -> None:
-    """Writes a file beside its place, and then puts it there. What was there before stays until all is written."""
+def write_whole(path: pathlib.Path, data: bytes, mode: int = 0o666) -> None:
+    """Writes a file beside its place, and then puts it there. What was there before stays until all is written. `mode` says who may use it."""
     if path.exists() and not path.is_file():
         # A pipe or a device, such as /dev/stdout, has no place to be put at.
         path.write_bytes(data)
@@ -15,7 +15,8 @@ def write_whole(path: pathlib.Path, data: bytes) -> None:
     place = path.resolve()
     beside = place.with_name(f".{place.name}.{os.getpid()}")
     try:
-        beside.write_bytes(data)
+        with open(beside, "wb", opener=lambda name, flags: os.open(name, flags, mode)) as file:
+            file.write(data)
         os.replace(beside, place)
     except OSError as error:
         # It is said of the file that was asked for.

@@ -483,9 +483,7 @@ def run(service: Service, begin: Callable[[Service, Session], Shell] = Shell) ->
     for stream in (sys.stdin, sys.stdout):
         if isinstance(stream, io.TextIOWrapper):
             stream.reconfigure(errors="surrogateescape")
-    keep = readline is not None and sys.stdin.isatty()
-    if keep:
-        _read_history()
+    keep = readline is not None and sys.stdin.isatty() and _read_history()
     try:
         with service.session("S") as session:
             shell = begin(service, session)
@@ -499,20 +497,33 @@ def run(service: Service, begin: Callable[[Service, Session], Shell] = Shell) ->
                 service.stop()
     finally:
         if keep:
-            try:
-                readline.write_history_file(history_file())
-            except OSError as error:
-                print(f"diag_client: history {history_file()}: {sentence(error)}", file=sys.stderr)
+            _write_history()
     return int(shell.has_refused and not shell.use_rawinput)
 
 
-def _read_history() -> None:
+def _read_history() -> bool:
+    """Reads the lines of earlier runs. If they are there and cannot be read, it says so, and they are not to be written over."""
     readline.set_completer_delims(" \t\n")
-    readline.set_history_length(HISTORY_LINES)
+    path = history_file()
     try:
-        readline.read_history_file(history_file())
-    except OSError:
-        pass
+        lines = path.read_text(encoding="utf-8", errors="surrogateescape").split("\n") if path.exists() else []
+    except OSError as error:
+        print(f"diag_client: no lines are kept: {sentence(error)}", file=sys.stderr)
+        return False
+    for line in filter(None, lines):
+        readline.add_history(line.replace("\0", ""))
+    return True
+
+
+def _write_history() -> None:
+    """Writes the last lines. `readline` itself would empty the file first, and lose them if the disk is full."""
+    count = readline.get_current_history_length()
+    items = map(readline.get_history_item, range(max(0, count - HISTORY_LINES) + 1, count + 1))
+    text = "".join(f"{line}\n" for line in items if line)
+    try:
+        write_whole(history_file(), text.encode("utf-8", "surrogateescape"), 0o600)
+    except OSError as error:
+        print(f"diag_client: the lines of this run are not kept: {sentence(error)}", file=sys.stderr)
 
 
 def _pieces() -> Iterator[list[str]]:

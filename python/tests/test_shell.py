@@ -285,6 +285,55 @@ class Lines(unittest.TestCase):
             self.assertEqual(complete(f"load {folder}/c"), [f"{folder}/case.script"])
 
 
+@unittest.skipUnless(shell.readline, "there is no readline")
+class History(unittest.TestCase):
+    """The lines that were typed, in a file."""
+
+    def setUp(self):
+        self.file = pathlib.Path(self.enterContext(tempfile.TemporaryDirectory()), "history")
+        self.enterContext(mock.patch.dict("os.environ", DIAG_HISTORY=str(self.file)))
+        shell.readline.clear_history()
+        self.addCleanup(shell.readline.clear_history)
+
+    def written(self):
+        """What is said when it is written."""
+        with contextlib.redirect_stderr(io.StringIO()) as said:
+            shell._write_history()
+        return said.getvalue()
+
+    def test_last_lines(self):
+        for number in range(shell.HISTORY_LINES + 1):
+            shell.readline.add_history(f"see a{number}=1")
+        self.assertEqual(self.written(), "")
+        shell.readline.clear_history()
+        self.assertTrue(shell._read_history())
+        shell.readline.add_history("min")
+        self.assertEqual(self.written(), "")
+        lines = self.file.read_text().split("\n")
+        self.assertEqual((lines[0], lines[-3:], len(lines)), ("see a2=1", ["see a1000=1", "min", ""], shell.HISTORY_LINES + 1))
+        self.assertEqual(self.file.stat().st_mode & 0o777, 0o600)
+
+    def test_full_disk(self):
+        """The file stays as it is."""
+        self.file.write_text("min\n")
+        shell.readline.add_history("see a=1")
+        limit = resource.getrlimit(resource.RLIMIT_FSIZE)
+        try:
+            resource.setrlimit(resource.RLIMIT_FSIZE, (0, limit[1]))
+            said = self.written()
+        finally:
+            resource.setrlimit(resource.RLIMIT_FSIZE, limit)
+        self.assertEqual(said, f"diag_client: the lines of this run are not kept: {self.file}: file too large\n")
+        self.assertEqual((self.file.read_text(), os.listdir(self.file.parent)), ("min\n", ["history"]))
+
+    def test_unreadable(self):
+        """What cannot be read is not written over."""
+        self.file.mkdir()
+        with contextlib.redirect_stderr(io.StringIO()) as said:
+            self.assertFalse(shell._read_history())
+        self.assertEqual(said.getvalue(), f"diag_client: no lines are kept: {self.file}: is a directory\n")
+
+
 class Interrupts(unittest.TestCase):
     """The first interrupt lets go of a reply, and the second one of the program. The case stays."""
 

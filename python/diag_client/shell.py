@@ -219,9 +219,12 @@ class Shell(cmd.Cmd):
         wires = [self.service.other_names.get(wire, wire) for wire in rest.split()]
         for wire in wires or bits:
             if wire not in bits:
-                # An unknown name is refused.
-                self.session.probe(wire)
-                self.say(f"{wire} may be 0 or 1: the inputs that were seen do not fix it")
+                # An unknown name is refused, and the others are answered all the same.
+                try:
+                    self.session.probe(wire)
+                    self.say(f"{wire} may be 0 or 1: the inputs that were seen do not fix it")
+                except Refused as refused:
+                    self.refuse(f"{REFUSED}{self.why(refused)}")
                 continue
             seen = self.session.seen.get(wire, bits[wire])
             self.say(f"{wire} should be {bits[wire]}" + (f", and was seen as {seen}" if seen != bits[wire] else ""))

@@ -150,7 +150,7 @@ class Lines(unittest.TestCase):
         self.assertEqual(self.say("expect 22 16"), ["22 should be 0, and was seen as 1", "16 should be 1"])
         self.assertEqual(self.say("unsee 2 6", "expect 23"), ["2 readings taken back", "23 may be 0 or 1: the inputs that were seen do not fix it"])
         self.assertIn("10 should be 1", self.say("expect"))
-        self.assertIn("no wire", self.say("expect 99")[0])
+        self.assertEqual(self.say("expect 99 10"), ["refused: no wire (error 9): 99", "10 should be 1"])
         self.assertEqual(self.say("unsee 1 3", "expect")[1], "the inputs that were seen fix no wire")
 
     def test_nothing_is_wrong(self):

@@ -1,9 +1,10 @@
-"""A file that is written whole or not at all."""
+"""A file that is written whole or not at all, and the standard streams."""
 
 from __future__ import annotations
 
 import os
 import pathlib
+import sys
 
 
 def write_whole(path: pathlib.Path, data: bytes, mode: int = 0o666) -> None:
@@ -24,3 +25,18 @@ def write_whole(path: pathlib.Path, data: bytes, mode: int = 0o666) -> None:
         raise
     finally:
         beside.unlink(missing_ok=True)
+
+
+def open_streams() -> None:
+    """Opens the standard streams that were closed: nothing comes in, and what goes out is gone."""
+    for name, mode in (("stdin", "r"), ("stdout", "w"), ("stderr", "w")):
+        if getattr(sys, name) is None:
+            setattr(sys, name, open(os.devnull, mode, encoding="utf-8"))
+
+
+def drop_unwritten() -> None:
+    """Drops what standard output does not take, since nobody reads it or the disk is full. At its end Python would try it once more."""
+    try:
+        sys.stdout.flush()
+    except OSError:
+        os.dup2(os.open(os.devnull, os.O_WRONLY), sys.stdout.fileno())

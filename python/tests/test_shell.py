@@ -224,13 +224,22 @@ class Lines(unittest.TestCase):
         self.assertLess(sum(len(call.args[0]) for call in follow.call_args_list), 5)
 
     def test_nobody_reads(self):
-        """It ends without a word."""
-        words, python = [sys.executable, "-m", "diag_client", "shell", str(C17)], {"PYTHONPATH": str(TOP / "python")}
+        """It ends without a word, whether what it prints is written at once or at its end."""
+        words, python = [sys.executable, "-m", "diag_client", "shell", str(C17)], {"PYTHONPATH": str(TOP / "python"), "PYTHONUNBUFFERED": ""}
         pipes = dict.fromkeys(("stdin", "stdout", "stderr"), subprocess.PIPE)
-        with subprocess.Popen(words, env=os.environ | python, **pipes) as shell_run:
-            shell_run.stdout.close()
-            self.assertEqual(shell_run.communicate(b"min\n")[1], b"")
-        self.assertEqual(shell_run.returncode, 1)
+        for line in (b"min\n", b"case\n"):
+            with subprocess.Popen(words, env=os.environ | python, **pipes) as shell_run:
+                shell_run.stdout.close()
+                self.assertEqual(shell_run.communicate(line)[1], b"")
+            self.assertEqual(shell_run.returncode, 1)
+
+    def test_full_disk(self):
+        """It says so once."""
+        words, python = [sys.executable, "-m", "diag_client", "shell", str(C17)], {"PYTHONPATH": str(TOP / "python"), "PYTHONUNBUFFERED": ""}
+        for line in (b"min\n", b"case\n"):
+            with open("/dev/full", "wb") as full:
+                done = subprocess.run(words, input=line, stdout=full, stderr=subprocess.PIPE, env=os.environ | python)
+            self.assertEqual((done.returncode, done.stderr), (1, b"diag_client: no space left on device\n"))
 
     def test_closed_streams(self):
         """Nothing comes from one, and what goes into one is gone."""

@@ -8,7 +8,7 @@ import sys
 
 
 def write_whole(path: pathlib.Path, data: bytes, mode: int = 0o666) -> None:
-    """Writes a file beside its place, and then puts it there. What was there before stays until all is written. `mode` is that of the new one."""
+    """Writes a file beside its place, and then puts it there, with this mode. What was there before stays until all is written."""
     if path.exists() and not path.is_file():
         # A pipe or a device, such as /dev/stdout, has no place to be put at.
         path.write_bytes(data)

@@ -236,8 +236,8 @@ class Shell(cmd.Cmd):
         """The case of a script."""
         text = _path(rest, "load FILE: which script?").read_text(encoding="utf-8", errors="surrogateescape")
         rows = case_lines(text)
-        if not rows:
-            raise ValueError("nothing is seen or held in this script")
+        if not any(row[0] in CHANGES and len(row) > 1 for row in rows):
+            raise ValueError("nothing is seen or held in this script, whose lines are such as `see S a=0`")
         self.carry_out([Asked(rows, is_counted=True)])
         return False
 

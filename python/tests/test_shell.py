@@ -121,6 +121,11 @@ class Lines(unittest.TestCase):
             script.write_text(script.read_text() + "see S 99=1\n")
             self.assertEqual(self.say(f"load {script}"), ["2 readings taken, 1 part held, 1 refused: no wire (error 9): 99"])
             self.assertEqual((dict(self.session.seen), dict(self.session.held)), ({"1": 0, "22": 1}, {"10": "ok"}))
+            # Lines without the name of a session, and a netlist, are no script.
+            for text in ("see 1=0\n", "10 = NAND(1, 3)\n"):
+                script.write_text(text)
+                self.assertIn("nothing is seen or held in this script", self.say(f"load {script}")[0])
+            script.write_text("open S\n")
             # Only a saved case is written over.
             pathlib.Path(folder, "c17.bench").write_text("INPUT(a)\n")
             self.assertIn("not a saved case", self.say("save ~/c17.bench")[0])

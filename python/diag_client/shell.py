@@ -132,6 +132,7 @@ class Shell(cmd.Cmd):
             if not self.service.is_behind:
                 print("\ninterrupted")
             elif self.was_interrupted:
+                print()
                 self._restart()
             else:
                 self.was_interrupted = True

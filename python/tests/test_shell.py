@@ -374,7 +374,7 @@ class Interrupts(unittest.TestCase):
         self.say("see a=1 b=0")
         self.assertIn("Ctrl-C once more", self.interrupted("min"))
         # It waits for the reply to the line before it.
-        self.assertIn("the case is as it was", self.interrupted("see c=1"))
+        self.assertEqual(self.interrupted("see c=1"), "\nthe program was started anew, and the case is as it was\n")
         self.assertEqual(dict(self.session.seen), {"a": 1, "b": 0, "c": 1})
         self.assertEqual(self.say("see d=1"), "ok\n")
 

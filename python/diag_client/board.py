@@ -4,7 +4,7 @@ from __future__ import annotations
 
 import itertools
 import sys
-from collections.abc import Sequence
+from collections.abc import Collection, Sequence
 from typing import Any
 
 from .errors import DiagError, Inconsistent, Refused
@@ -99,14 +99,14 @@ class BoardShell(Shell):
             patterns[name].hold(self.session.held)
             self.take(patterns)
         self.session = self.sessions[name]
-        print(f"pattern {name}: {len(self.session.seen)} readings")
+        print(f"pattern {name}: {_count_of(self.session.seen, 'reading')}")
         return False
 
     def do_patterns(self, _: str) -> bool:
         """All patterns."""
         self.service.catch_up()
         for name, session in self.sessions.items():
-            print("*" if session is self.session else " ", f"{name}: {len(session.seen)} readings")
+            print("*" if session is self.session else " ", f"{name}: {_count_of(session.seen, 'reading')}")
         return False
 
     def do_this(self, rest: str) -> bool:
@@ -123,7 +123,7 @@ class BoardShell(Shell):
         if len(self.sessions) == 1:
             return super()._saved()
         text = "".join(f"open {name}\n{session.script()}" for name, session in self.sessions.items())
-        return text, f"{len(self.sessions)} patterns, {len(self.session.held)} parts held"
+        return text, f"{len(self.sessions)} patterns, {_count_of(self.session.held, 'part')} held"
 
     def do_load(self, rest: str) -> bool:
         """A script that was saved: one pattern, or many."""
@@ -151,7 +151,8 @@ class BoardShell(Shell):
         held = {part: mode for session in opened.values() for part, mode in session.held.items()}
         self.session.hold(held)
         self._hold_in_all()
-        print(f"{len(names)} patterns, {sum(len(session.seen) for session in opened.values())} readings, {len(held)} parts held")
+        readings = [wire for session in opened.values() for wire in session.seen]
+        print(f"{len(names)} patterns, {_count_of(readings, 'reading')}, {_count_of(held, 'part')} held")
         return False
 
     def complete_pattern(self, text: str, *_: Any) -> list[str]:
@@ -282,6 +283,15 @@ class BoardShell(Shell):
         among = {row.wire for row in self.session.probe_each(words)}
         rows = [row for row in self._together().rank_probes() if row.reduction > 0 and (not among or row.wire in among)]
         self.say("\n".join(map(str, rows[:BEST])) or "no wire splits the diagnoses at hand")
+
+
+def _count_of(found: Collection[str], noun: str) -> str:
+    """How many there are.
+
+    >>> _count_of(["a"], "part"), _count_of([], "part")
+    ('1 part', '0 parts')
+    """
+    return f"{len(found)} {noun}{'' if len(found) == 1 else 's'}"
 
 
 def begin(service: Service, session: Session, table: str | None = None) -> BoardShell:

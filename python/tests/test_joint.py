@@ -214,12 +214,12 @@ class Board(unittest.TestCase):
                 "--patterns", table)
             self.assertEqual(told, [
                 f"2 patterns of {table}; the present one is one", "min 1 10", "diag 10", "diag 22", "end", "ok", "min 1 22",
-                "pattern three: 0 readings", "ok", "pattern three alone:", "min 0", f"wrote {saved}: 3 patterns, 1 parts held",
-                "  one: 7 readings", "  two: 7 readings", "* three: 1 readings", "diag 22"])
+                "pattern three: 0 readings", "ok", "pattern three alone:", "min 0", f"wrote {saved}: 3 patterns, 1 part held",
+                "  one: 7 readings", "  two: 7 readings", "* three: 1 reading", "diag 22"])
             self.assertEqual(status, 0)
             told, _, _ = self.told([f"load {saved}", "patterns", "min", "pattern two", "case"])
             self.assertEqual(told, [
-                "3 patterns, 15 readings, 1 parts held", "* one: 7 readings", "  two: 7 readings", "  three: 1 readings", "min 1 22",
+                "3 patterns, 15 readings, 1 part held", "* one: 7 readings", "  two: 7 readings", "  three: 1 reading", "min 1 22",
                 "pattern two: 7 readings", "pattern two alone:", "seen: 1=1 2=0 3=1 6=0 7=0 22=0 23=0", "held: 10=ok"])
 
     def test_patterns_by_hand(self):

@@ -64,7 +64,7 @@ NOTHING_WRONG = ("diag", "min 0", "level 0")
 
 def history_file() -> pathlib.Path:
     """Where lines are kept: as DIAG_HISTORY says, else in the home folder."""
-    return pathlib.Path(os.environ.get("DIAG_HISTORY") or pathlib.Path.home() / ".diag_history")
+    return pathlib.Path(os.environ.get("DIAG_HISTORY") or os.path.expanduser("~/.diag_history"))
 
 
 @dataclasses.dataclass(slots=True)
@@ -479,7 +479,7 @@ def _path(rest: str, question: str) -> pathlib.Path:
     """The file that a command names."""
     if not rest.strip():
         raise ValueError(question)
-    return pathlib.Path(rest.strip()).expanduser()
+    return pathlib.Path(os.path.expanduser(rest.strip()))
 
 
 def run(service: Service, begin: Callable[[Service, Session], Shell] = Shell) -> int:

@@ -131,6 +131,8 @@ class Lines(unittest.TestCase):
             self.assertIn("not a saved case", self.say("save ~/c17.bench")[0])
             self.assertEqual(len(self.say("save ~/case.script", "save", "load")), 3)
             self.assertEqual(self.say("load ~/nowhere"), [f"{folder}/nowhere: no such file or directory"])
+            self.assertEqual(self.say("load ~nobody-here/x"), ["~nobody-here/x: no such file or directory"])
+            self.assertEqual(self.say("picture ~nobody-here/x.svg"), ["~nobody-here/x.svg: there is no folder ~nobody-here"])
             self.assertEqual(sorted(path.name for path in pathlib.Path(folder).iterdir()), ["c17.bench", "case.script"])
 
     def test_saving_touches_no_other_file(self):

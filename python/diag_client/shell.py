@@ -111,9 +111,11 @@ class Shell(cmd.Cmd):
             self.interrupt()
         except BrokenPipeError:
             raise
-        except (DiagError, OSError, ValueError, TypeError) as error:
-            if isinstance(error, Ended) and not self.use_rawinput:
+        except Ended as ended:
+            if not self.use_rawinput:
                 raise
+            self.refuse(f"{ended}. The next command starts it anew, and the case stays")
+        except (DiagError, OSError, ValueError, TypeError) as error:
             self.refuse(sentence(error))
         return False
 

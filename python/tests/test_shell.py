@@ -14,7 +14,7 @@ import tempfile
 import unittest
 from unittest import mock
 
-from support import C17, EXAMPLES, SOON, TOP, interrupt_at, needs_program, replies, stand_in
+from support import C17, EXAMPLES, SOON, TOP, interrupt_at, kill, needs_program, replies, stand_in
 
 from diag_client import Proposal, Service, manual, shell
 
@@ -179,6 +179,13 @@ class Lines(unittest.TestCase):
                 self.shell = shell.Shell(service, session)
                 self.assertEqual(self.say("see y=1"), ["refused: no wire (error 9): y"])
                 self.assertEqual(self.say("min"), ["inconsistent"])
+
+    def test_the_program_ends(self):
+        self.shell.use_rawinput = True
+        self.say("see 22=1")
+        kill(self.service)
+        self.assertRegex(self.say("min")[0], r"signal 9 \(Killed\)\. The next command starts it anew")
+        self.assertEqual(self.say("min"), ["the program was started anew, and the case is as it was", "min 0"])
 
     def test_help(self):
         told = self.say("?")

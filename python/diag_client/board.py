@@ -76,6 +76,7 @@ class BoardShell(Shell):
         elif command in TOGETHER:
             if words and command in self.commands and not self.commands[command].words:
                 raise ValueError(f"{command}: nothing follows it")
+            self._revive()
             try:
                 getattr(self, f"_{command}")(words)
             finally:
@@ -90,6 +91,7 @@ class BoardShell(Shell):
             raise ValueError("pattern NAME: which pattern? a name without blanks; `patterns` lists them")
         name = rest.strip()
         if name not in self.sessions:
+            self._revive()
             self.service.catch_up()
             patterns = dict(self.sessions)
             # The one that the terminal began with is a pattern if something was seen in it.
@@ -133,6 +135,7 @@ class BoardShell(Shell):
             return super().do_load(rest)
         if self.session.seen or self.session.held or len(self.sessions) > 1:
             raise ValueError(f"there are {len(names)} patterns in this script: load it before anything is seen or held")
+        self._revive()
         opened: dict[str, Session] = {}
         try:
             for name in names:

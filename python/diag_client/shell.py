@@ -158,8 +158,7 @@ class Shell(cmd.Cmd):
 
     def carry_out(self, asked: Sequence[Asked]) -> None:
         """Asks what these lines ask, all at once, and prints the replies as they come."""
-        if not self.service.is_running and self.use_rawinput:
-            self._restart()
+        self._revive()
         for row in asked:
             is_piece = len(row.rows) > 1 and not row.is_counted
             row.requests = [self.session.piece(row.rows)] if is_piece else self.session.requests(row.rows)
@@ -391,12 +390,16 @@ class Shell(cmd.Cmd):
 
     def _waited(self, what: str, ask: Callable[[], Any]) -> Any:
         """What is answered. If that takes longer, a terminal shows for how long."""
-        if not self.service.is_running and self.use_rawinput:
-            self._restart()
+        self._revive()
         with Progress(what):
             answer = ask()
         self.was_interrupted = False
         return answer
+
+    def _revive(self) -> None:
+        """Starts the program anew if it has ended and somebody is at a terminal."""
+        if not self.service.is_running and self.use_rawinput:
+            self._restart()
 
     def _restart(self) -> None:
         with Progress("starting the program anew"):

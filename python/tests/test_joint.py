@@ -10,7 +10,7 @@ import tempfile
 import unittest
 from unittest import mock
 
-from support import C17, EXAMPLES, TOP, needs_program
+from support import C17, EXAMPLES, TOP, kill, needs_program
 
 from diag_client import BadTable, DiagError, Inconsistent, Refused, Service, board, holding, shell
 from diag_client.tables import read_table
@@ -283,6 +283,19 @@ class Board(unittest.TestCase):
                     for name, value in ends.items():
                         stack.enter_context(mock.patch(f"readline.{name}", return_value=value))
                     self.assertEqual([terminal.complete(text, place) for place in range(len(found))], found)
+
+    def test_the_program_ends(self):
+        """Whatever is asked next starts it anew."""
+        with Service(C17) as service, mock.patch("sys.stdin", io.StringIO()):
+            terminal = board.BoardShell(service, service.session("S"))
+            terminal.take(service.patterns(ROWS))
+            terminal.use_rawinput = True
+            for line, answer in (("min", "min 1 10"), ("pattern three", "pattern three: 0 readings")):
+                kill(service)
+                with contextlib.redirect_stdout(io.StringIO()) as told:
+                    terminal.onecmd(line)
+                    terminal.onecmd(line)
+                self.assertEqual(told.getvalue().splitlines()[1:], ["the program was started anew, and the case is as it was", answer])
 
     def test_the_example(self):
         """The commands of the example have the output that its page shows."""

@@ -43,6 +43,11 @@ class Texts(unittest.TestCase):
         self.assertEqual(cases.read_readings("a@0002=1", known), [("", {"a@0002": 1})])
         with self.assertRaisesRegex(Bad, "a has a reading for each time: write a@0001 for the first"):
             cases.read_readings("a=1", known)
+        for text in ("a@1=1", "a@0003=1"):
+            with self.assertRaisesRegex(Bad, f"{text[:-2]} is at no time of these: the first is a@0001"):
+                cases.read_readings(text, known)
+        with self.assertRaisesRegex(Bad, "no wire b@1: names"):
+            cases.read_readings("b@1=1", known)
 
     def test_rows_are_patterns(self):
         case = cases.take_readings(Case(), cases.read_readings("a,b\n0,1\n1,0\n", KNOWN))
@@ -66,6 +71,7 @@ class Texts(unittest.TestCase):
             ("open P1\nhold P1 h=ok", "line 2: no part h"),
             ("open P1\nhold P1 g=fine", "line 2: g=fine"),
             ("open P1\nsee P1 a=0 b=1", "line 2: not understood"),
+            ("see a=0", "such as `see P1 a=0`"),
             ("open P 1", "no reading in it"),
             ("# cannot reach c", "line 1: no wire c"),
             ("open (b)", "no name of a pattern"),

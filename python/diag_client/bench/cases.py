@@ -107,6 +107,8 @@ class Known:
         here = self.others.get(wire, wire)
         if here not in self.wires and here in self.reachable:
             raise Bad(f"{wire} has a reading for each time: write {wire}@0001 for the first")
+        if here not in self.wires and (timeless := here.rpartition("@")[0]) in self.reachable and timeless not in self.wires:
+            raise Bad(f"{shown(wire)} is at no time of these: the first is {timeless}@0001")
         if here not in self.wires:
             raise Bad(f"no wire {shown(wire)}: names are those in the drawing, capital and small letters are not the same")
         # A name is kept once, however often it is entered.
@@ -180,7 +182,7 @@ def _take(words: list[str], known: Known, seen: dict[str, dict[str, int]], held:
         case ["unhold", _, part]:
             held.pop(known.mode(part, "ok")[0], None)
         case [("see" | "unsee" | "hold" | "unhold"), *_]:
-            raise Bad(f"not understood: {shown(' '.join(words))}")
+            raise Bad(f"not understood: {shown(' '.join(words))}: lines are such as `see P1 a=0`")
         case _:
             pass
 

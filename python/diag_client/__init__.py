@@ -13,6 +13,7 @@ examples.
 measure 10: of 2 diagnoses 1 goes on with 0 and 1 with 1, so that 1.0 are expected to be left
 """
 
+from . import interrupts as interrupts  # noqa: F401 # First, for what an interrupt does while the rest is loaded.
 from .advice import Proposal
 from .errors import DiagError, Ended, Inconsistent, NotBuilt, OtherProcess, Refused, TimedOut
 from .holding import JointProgress

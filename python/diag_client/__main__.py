@@ -7,8 +7,9 @@ import functools
 import os
 import sys
 
-from . import bench, board, draw, progress, shell
+from . import bench, board, draw, interrupts, progress, shell
 from .errors import DiagError, sentence
+from .files import drop_unwritten, open_streams
 
 
 def words_of() -> argparse.ArgumentParser:
@@ -41,35 +42,37 @@ def words_of() -> argparse.ArgumentParser:
     return parser
 
 
-def open_streams() -> None:
-    """Opens the standard streams that were closed: nothing comes in, and what goes out is gone."""
-    for name, mode in (("stdin", "r"), ("stdout", "w"), ("stderr", "w")):
-        if getattr(sys, name) is None:
-            setattr(sys, name, open(os.devnull, mode, encoding="utf-8"))
+def run(words: argparse.Namespace) -> int:
+    """Does what the words say, and gives the exit status."""
+    if words.command == "bench":
+        return bench.run(words)
+    given = progress.options_in(words)
+    if words.command == "picture":
+        return draw.draw(words, lambda: progress.serve(words.file, **given))
+    with progress.serve(words.file, **given) as service:
+        return shell.run(service, functools.partial(board.begin, table=words.patterns))
 
 
 def main() -> int:
-    """Does what the words say, and gives the exit status."""
+    """Does what the command line says, and gives the exit status, whatever goes wrong."""
     open_streams()
     words = draw.read_words(words_of())
     try:
-        if words.command == "bench":
-            return bench.run(words)
-        given = progress.options_in(words)
-        if words.command == "picture":
-            return draw.draw(words, lambda: progress.serve(words.file, **given))
-        with progress.serve(words.file, **given) as service:
-            return shell.run(service, functools.partial(board.begin, table=words.patterns))
+        interrupts.raise_again()
+        status = run(words)
+        sys.stdout.flush()
+        return status
     except KeyboardInterrupt:
         print("diag_client: interrupted", file=sys.stderr)
-        return 130
+        return interrupts.STATUS
     except BrokenPipeError:
-        # Nobody reads what is written. Python would try once more at its end.
-        os.dup2(os.open(os.devnull, os.O_WRONLY), sys.stdout.fileno())
+        # Nobody reads what is written.
         return 1
     except (DiagError, OSError, ValueError) as error:
         print("diag_client:", progress.as_options(sentence(error)), file=sys.stderr)
         return 1
+    finally:
+        drop_unwritten()
 
 
 if __name__ == "__main__":

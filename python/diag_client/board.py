@@ -4,7 +4,7 @@ from __future__ import annotations
 
 import itertools
 import sys
-from collections.abc import Sequence
+from collections.abc import Collection, Sequence
 from typing import Any
 
 from .errors import DiagError, Inconsistent, Refused
@@ -13,7 +13,7 @@ from .joint import Joint
 from .replies import Probe
 from .service import Service
 from .session import Session
-from .shell import BEST, MORE, Asked, Shell, _path, in_words
+from .shell import BEST, MORE, REFUSED, Asked, Shell, _path, in_words
 
 MORE_PATTERNS = {
     "pattern": ("pattern NAME", "begins a test pattern of the same board, or goes back to one; see belongs to it, hold to the board"),
@@ -38,6 +38,8 @@ class BoardShell(Shell):
         self._has_line = False
         # Whether a line is asked of the present pattern alone.
         self._is_one = False
+        # What is still to be printed before an answer.
+        self._heading = ""
         # How many diagnoses of all patterns were printed, and the number of changes when they were.
         self._told_since = (0, 0)
 
@@ -53,7 +55,17 @@ class BoardShell(Shell):
 
     def onecmd(self, line: str) -> bool:
         """Carries out a line, as one of `all` or of `this` if there are several patterns and it is for all of them or for the present one."""
-        return super().onecmd(f"{self._whose(line.split(None, 1))} {line.strip()}".lstrip())
+        try:
+            return super().onecmd(f"{self._whose(line.split(None, 1))} {line.strip()}".lstrip())
+        finally:
+            self._heading = ""
+
+    def say(self, text: str) -> None:
+        """Prints an answer, and before the first of a line whose it is."""
+        self._clear()
+        for part in filter(None, (self._heading, text)):
+            print(part)
+        self._heading = ""
 
     def do_all(self, rest: str) -> bool:
         """What is asked of all patterns together, and what is said of the board."""
@@ -64,6 +76,7 @@ class BoardShell(Shell):
         elif command in TOGETHER:
             if words and command in self.commands and not self.commands[command].words:
                 raise ValueError(f"{command}: nothing follows it")
+            self._revive()
             try:
                 getattr(self, f"_{command}")(words)
             finally:
@@ -78,6 +91,7 @@ class BoardShell(Shell):
             raise ValueError("pattern NAME: which pattern? a name without blanks; `patterns` lists them")
         name = rest.strip()
         if name not in self.sessions:
+            self._revive()
             self.service.catch_up()
             patterns = dict(self.sessions)
             # The one that the terminal began with is a pattern if something was seen in it.
@@ -87,14 +101,14 @@ class BoardShell(Shell):
             patterns[name].hold(self.session.held)
             self.take(patterns)
         self.session = self.sessions[name]
-        print(f"pattern {name}: {len(self.session.seen)} readings")
+        print(f"pattern {name}: {_count_of(self.session.seen, 'reading')}")
         return False
 
     def do_patterns(self, _: str) -> bool:
         """All patterns."""
         self.service.catch_up()
         for name, session in self.sessions.items():
-            print("*" if session is self.session else " ", f"{name}: {len(session.seen)} readings")
+            print("*" if session is self.session else " ", f"{name}: {_count_of(session.seen, 'reading')}")
         return False
 
     def do_this(self, rest: str) -> bool:
@@ -103,7 +117,7 @@ class BoardShell(Shell):
         if command not in TOGETHER + ALONE:
             raise ValueError(f"this COMMAND: one of {', '.join(TOGETHER)}")
         if len(self.sessions) > 1:
-            print(f"pattern {self.session.name} alone:")
+            self._heading = f"pattern {self.session.name} alone:"
         ask = getattr(self, f"do_{command}", None)
         return bool(ask(rest[len(command):])) if ask else self._ask_one(rest)
 
@@ -111,7 +125,7 @@ class BoardShell(Shell):
         if len(self.sessions) == 1:
             return super()._saved()
         text = "".join(f"open {name}\n{session.script()}" for name, session in self.sessions.items())
-        return text, f"{len(self.sessions)} patterns, {len(self.session.held)} parts held"
+        return text, f"{len(self.sessions)} patterns, {_count_of(self.session.held, 'part')} held"
 
     def do_load(self, rest: str) -> bool:
         """A script that was saved: one pattern, or many."""
@@ -121,6 +135,7 @@ class BoardShell(Shell):
             return super().do_load(rest)
         if self.session.seen or self.session.held or len(self.sessions) > 1:
             raise ValueError(f"there are {len(names)} patterns in this script: load it before anything is seen or held")
+        self._revive()
         opened: dict[str, Session] = {}
         try:
             for name in names:
@@ -139,7 +154,8 @@ class BoardShell(Shell):
         held = {part: mode for session in opened.values() for part, mode in session.held.items()}
         self.session.hold(held)
         self._hold_in_all()
-        print(f"{len(names)} patterns, {sum(len(session.seen) for session in opened.values())} readings, {len(held)} parts held")
+        readings = [wire for session in opened.values() for wire in session.seen]
+        print(f"{len(names)} patterns, {_count_of(readings, 'reading')}, {_count_of(held, 'part')} held")
         return False
 
     def complete_pattern(self, text: str, *_: Any) -> list[str]:
@@ -160,6 +176,14 @@ class BoardShell(Shell):
         if not self._is_one and self._whose(words):
             raise ValueError("not one of many lines")
         return super()._asked(words)
+
+    def _told(self, row: Asked, begin: str) -> list[str]:
+        texts = super()._told(row, begin)
+        place = next((place for place, text in enumerate(texts) if not text.startswith(REFUSED)), None)
+        if self._heading and place is not None:
+            texts.insert(place, self._heading)
+            self._heading = ""
+        return texts
 
     def _ask_one(self, line: str) -> bool:
         self._is_one = True
@@ -194,14 +218,10 @@ class BoardShell(Shell):
             self._has_line = False
             print("\r\x1b[K", end="", file=sys.stderr, flush=True)
 
-    def _say(self, text: str) -> None:
-        self._clear()
-        print(text)
-
     def _min(self, _: list[str]) -> None:
         least = self._together().minimum()
         told = " ".join(["min", str(least.cost), *least.faulty])
-        self._say(in_words(told) if self.prompt else told)
+        self.say(in_words(told) if self.prompt else told)
 
     def _next(self, _: list[str]) -> None:
         self._tell_diagnoses(1)
@@ -220,10 +240,10 @@ class BoardShell(Shell):
         begin, _ = self._told_since
         end = begin + most
         for told, diagnosis in enumerate(itertools.islice(self._together().diagnoses(end), begin, None), begin + 1):
-            self._say(" ".join(["diag", *diagnosis.faulty]))
+            self.say(" ".join(["diag", *diagnosis.faulty]))
             self._told_since = (told, changes)
         if self._told_since[0] < end:
-            self._say("end")
+            self.say("end")
 
     def _probe(self, words: list[str]) -> None:
         if not words:
@@ -233,19 +253,19 @@ class BoardShell(Shell):
                 self._tell_costs(self.session.probe(wire))
             except Refused as refused:
                 # The other wires are asked all the same.
-                self.refuse(f"refused: {self.why(refused)}")
+                self.refuse(f"{REFUSED}{self.why(refused)}")
 
     def _probes(self, _: list[str]) -> None:
         for alone in self.session.probes():
             self._tell_costs(alone)
-        self._say("end")
+        self.say("end")
 
     def _tell_costs(self, alone: Probe) -> None:
         """The least costs for all patterns if a wire was seen as 0 in the present one too, and if it was seen as 1."""
         costs = ["-" if cost is None else self._cost_with(alone.wire, bit) for bit, cost in enumerate((alone.if_zero, alone.if_one))]
         if costs == ["-", "-"]:
             raise Inconsistent(self.session.name)
-        self._say(f"probe {alone.wire} {costs[0]} {costs[1]}")
+        self.say(f"probe {alone.wire} {costs[0]} {costs[1]}")
 
     def _cost_with(self, wire: str, bit: int) -> str:
         with self.session.copy() as other:
@@ -258,14 +278,23 @@ class BoardShell(Shell):
 
     def _blame(self, _: list[str]) -> None:
         for row in self._together().blame():
-            self._say(f"blame {row.part} {row.verdict}")
-        self._say("end")
+            self.say(f"blame {row.part} {row.verdict}")
+        self.say("end")
 
     def _best(self, words: list[str]) -> None:
         # An unknown name is refused.
         among = {row.wire for row in self.session.probe_each(words)}
         rows = [row for row in self._together().rank_probes() if row.reduction > 0 and (not among or row.wire in among)]
-        self._say("\n".join(map(str, rows[:BEST])) or "no wire splits the diagnoses at hand")
+        self.say("\n".join(map(str, rows[:BEST])) or "no wire splits the diagnoses at hand")
+
+
+def _count_of(found: Collection[str], noun: str) -> str:
+    """How many there are.
+
+    >>> _count_of(["a"], "part"), _count_of([], "part")
+    ('1 part', '0 parts')
+    """
+    return f"{len(found)} {noun}{'' if len(found) == 1 else 's'}"
 
 
 def begin(service: Service, session: Session, table: str | None = None) -> BoardShell:

@@ -95,7 +95,7 @@ def lines_of(script: Iterable[str], name: str | None) -> tuple[str, list[list[st
     while own and own[-1][0] == "close":
         own.pop()
     if about is None or not own or own[0][0] != "open":
-        raise DiagError(f"the script opens no session {about}" if about else "the script opens no session")
+        raise DiagError(f"the script opens no session{f' {about}' if name else ''}: its lines are such as `open S` and `see S a=0`")
     return about, own
 
 

@@ -1,13 +1,14 @@
-"""A file that is written whole or not at all."""
+"""A file that is written whole or not at all, and the standard streams."""
 
 from __future__ import annotations
 
 import os
 import pathlib
+import sys
 
 
-def write_whole(path: pathlib.Path, data: bytes) -> None:
-    """Writes a file beside its place, and then puts it there. What was there before stays until all is written."""
+def write_whole(path: pathlib.Path, data: bytes, mode: int = 0o666) -> None:
+    """Writes a file beside its place, and then puts it there, with this mode. What was there before stays until all is written."""
     if path.exists() and not path.is_file():
         # A pipe or a device, such as /dev/stdout, has no place to be put at.
         path.write_bytes(data)
@@ -15,7 +16,8 @@ def write_whole(path: pathlib.Path, data: bytes) -> None:
     place = path.resolve()
     beside = place.with_name(f".{place.name}.{os.getpid()}")
     try:
-        beside.write_bytes(data)
+        with open(beside, "wb", opener=lambda name, flags: os.open(name, flags, mode)) as file:
+            file.write(data)
         os.replace(beside, place)
     except OSError as error:
         # It is said of the file that was asked for.
@@ -23,3 +25,18 @@ def write_whole(path: pathlib.Path, data: bytes) -> None:
         raise
     finally:
         beside.unlink(missing_ok=True)
+
+
+def open_streams() -> None:
+    """Opens the standard streams that were closed: nothing comes in, and what goes out is gone."""
+    for name, mode in (("stdin", "r"), ("stdout", "w"), ("stderr", "w")):
+        if getattr(sys, name) is None:
+            setattr(sys, name, open(os.devnull, mode, encoding="utf-8"))
+
+
+def drop_unwritten() -> None:
+    """Drops what standard output does not take, since nobody reads it or the disk is full. At its end Python would try it once more."""
+    try:
+        sys.stdout.flush()
+    except OSError:
+        os.dup2(os.open(os.devnull, os.O_WRONLY), sys.stdout.fileno())

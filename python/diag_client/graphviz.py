@@ -38,7 +38,7 @@ def layout(text: str, form: str) -> bytes:
 
 def check_output(path: str | os.PathLike[str]) -> pathlib.Path:
     """The path to write to, ~ replaced. Raises `DiagError` if its ending is no form that can be drawn, or its folder is not there."""
-    path = pathlib.Path(path).expanduser()
+    path = pathlib.Path(os.path.expanduser(path))
     form = path.suffix.lower()
     if not form[1:]:
         raise DiagError(f"{path}: its ending says which form it has; give it one, such as {path.name}.svg")

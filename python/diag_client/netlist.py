@@ -8,9 +8,10 @@ import re
 import sys
 from collections.abc import Sequence
 
+from . import interrupts
 from .devices import MADE, MADE_BY, NAMES, is_made_here
 from .errors import DiagError, sentence
-from .files import write_whole
+from .files import drop_unwritten, open_streams, write_whole
 from .netlist_circuit import Circuit, Node, UnusableNetlist, kind_of
 from .netlist_readers import READERS, TABLES, TO_PLAIN_CELLS
 
@@ -172,11 +173,21 @@ def main(words: Sequence[str] | None = None) -> int:
     parser.add_argument("file", metavar="FILE", type=pathlib.Path, help="BLIF or JSON (.blif, .json) of yosys, or a .bench of ABC")
     parser.add_argument("-o", "--output", metavar="OUT", type=pathlib.Path, help="a .bench or .dev; else FILE with that ending")
     given = parser.parse_args(words)
+    open_streams()
     try:
-        print("\n".join(convert(given.file, given.output)))
+        interrupts.raise_again()
+        print("\n".join(convert(given.file, given.output)), flush=True)
+    except KeyboardInterrupt:
+        print("diag-netlist: interrupted", file=sys.stderr)
+        return interrupts.STATUS
+    except BrokenPipeError:
+        # Nobody reads what is said.
+        return 1
     except (DiagError, OSError) as error:
         print(f"diag-netlist: {'' if isinstance(error, OSError) else f'{given.file}: '}{sentence(error)}", file=sys.stderr)
         return 1
+    finally:
+        drop_unwritten()
     return 0
 
 

@@ -15,8 +15,9 @@ from .service import LIMITS, Service
 
 # So many seconds pass before anything is shown, and between two times that it is shown.
 PAUSE = 1.0
-# An option as it is given in Python.
+# An option as it is given in Python, and one that a text begins with.
 OPTION = re.compile(rf"\b({'|'.join(LIMITS)})=(\w+)")
+NAMED = re.compile(rf"^({'|'.join(LIMITS)}) is ")
 
 
 class Progress:
@@ -74,8 +75,10 @@ def as_options(text: str) -> str:
 
     >>> as_options("try narrow=True, then budget=8388608")
     'try --narrow, then --budget 8388608'
+    >>> as_options("frames is from 1 to 64, not 0")
+    '--frames is from 1 to 64, not 0'
     """
-    return OPTION.sub(r"--\1 \2", text.replace("narrow=True", "--narrow"))
+    return NAMED.sub(r"--\1 is ", OPTION.sub(r"--\1 \2", text.replace("narrow=True", "--narrow")))
 
 
 def options_in(words: argparse.Namespace) -> dict[str, Any]:

@@ -21,6 +21,9 @@ if TYPE_CHECKING:
 
 BLANKS = " \t\r\n"
 BLANK = re.compile(f"[{BLANKS}]")
+# What a session, and so a pattern, may be called.
+SESSION_NAME = re.compile("(?:(?![(),=#])[!-~]){1,64}")
+NAME_RULE = "1 to 64 printable ASCII characters, no blanks and none of ( ) , = #"
 # True is written as 1.
 BITS = {0: "0", 1: "1"}
 FIRST_PAGE = 8

@@ -20,7 +20,7 @@ from .files import write_whole
 from .progress import Progress
 from .replies import AnyLines, Lines
 from .service import LIMITS, Service
-from .session import CHANGES, Session, at_odds, case_lines
+from .session import CHANGES, NAME_RULE, Session, at_odds, case_lines
 
 try:
     import readline
@@ -54,15 +54,17 @@ CURES = {
     "line too long": "a line has at most 1048576 bytes", "no levels": "start the terminal with --levels C", "no least": "start the terminal with --least",
     "full": f"each pattern is a session, and a search opens one more for each: at most {LIMITS['sessions'][1] // 2} patterns can be searched, and one fewer by probe",
 }
+# What a refusal begins with.
+REFUSED = "refused: "
 # What is said of a name that is none.
-NAMES = "a name has up to 255 printable ASCII characters, that of a pattern up to 64, and none of ( ) , = #"
+NAMES = f"the name of a pattern has {NAME_RULE}; that of a wire or a part has up to 255"
 # Replies that mean that nothing is wrong.
 NOTHING_WRONG = ("diag", "min 0", "level 0")
 
 
 def history_file() -> pathlib.Path:
     """Where lines are kept: as DIAG_HISTORY says, else in the home folder."""
-    return pathlib.Path(os.environ.get("DIAG_HISTORY") or pathlib.Path.home() / ".diag_history")
+    return pathlib.Path(os.environ.get("DIAG_HISTORY") or os.path.expanduser("~/.diag_history"))
 
 
 @dataclasses.dataclass(slots=True)
@@ -100,20 +102,26 @@ class Shell(cmd.Cmd):
         try:
             return bool(super().onecmd(line))
         except Refused as refused:
-            self.refuse(f"refused: {self.why(refused)}")
+            self.refuse(f"{REFUSED}{self.why(refused)}")
         except Inconsistent:
-            print("no set of faulty parts explains what was seen and held")
+            self.say("no set of faulty parts explains what was seen and held")
         except KeyboardInterrupt:
             if not self.use_rawinput:
                 raise
             self.interrupt()
         except BrokenPipeError:
             raise
-        except (DiagError, OSError, ValueError, TypeError) as error:
-            if isinstance(error, Ended) and not self.use_rawinput:
+        except Ended as ended:
+            if not self.use_rawinput:
                 raise
+            self.refuse(f"{ended}. The next command starts it anew, and the case stays")
+        except (DiagError, OSError, ValueError, TypeError) as error:
             self.refuse(sentence(error))
         return False
+
+    def say(self, text: str) -> None:
+        """Prints an answer."""
+        print(text)
 
     def refuse(self, text: str) -> None:
         """Says why something was not done."""
@@ -126,6 +134,7 @@ class Shell(cmd.Cmd):
             if not self.service.is_behind:
                 print("\ninterrupted")
             elif self.was_interrupted:
+                print()
                 self._restart()
             else:
                 self.was_interrupted = True
@@ -149,8 +158,7 @@ class Shell(cmd.Cmd):
 
     def carry_out(self, asked: Sequence[Asked]) -> None:
         """Asks what these lines ask, all at once, and prints the replies as they come."""
-        if not self.service.is_running and self.use_rawinput:
-            self._restart()
+        self._revive()
         for row in asked:
             is_piece = len(row.rows) > 1 and not row.is_counted
             row.requests = [self.session.piece(row.rows)] if is_piece else self.session.requests(row.rows)
@@ -197,14 +205,14 @@ class Shell(cmd.Cmd):
         """The next measurement."""
         rows = self._waited("best", lambda: self.session.rank_probes(rest.split() or None))
         told = [str(row) for row in rows if row.reduction > 0][:BEST]
-        print("\n".join(told) or "no wire splits the diagnoses at hand")
+        self.say("\n".join(told) or "no wire splits the diagnoses at hand")
         return False
 
     def do_case(self, _: str) -> bool:
         """What was seen and held."""
         self._waited("case", self.service.catch_up)
-        print("seen:", " ".join(f"{wire}={bit}" for wire, bit in self.session.seen.items()) or "nothing")
-        print("held:", " ".join(f"{part}={mode}" for part, mode in self.session.held.items()) or "nothing")
+        self.say("seen: " + (" ".join(f"{wire}={bit}" for wire, bit in self.session.seen.items()) or "nothing"))
+        self.say("held: " + (" ".join(f"{part}={mode}" for part, mode in self.session.held.items()) or "nothing"))
         return False
 
     def do_expect(self, rest: str) -> bool:
@@ -213,22 +221,25 @@ class Shell(cmd.Cmd):
         wires = [self.service.other_names.get(wire, wire) for wire in rest.split()]
         for wire in wires or bits:
             if wire not in bits:
-                # An unknown name is refused.
-                self.session.probe(wire)
-                print(f"{wire} may be 0 or 1: the inputs that were seen do not fix it")
+                # An unknown name is refused, and the others are answered all the same.
+                try:
+                    self.session.probe(wire)
+                    self.say(f"{wire} may be 0 or 1: the inputs that were seen do not fix it")
+                except Refused as refused:
+                    self.refuse(f"{REFUSED}{self.why(refused)}")
                 continue
             seen = self.session.seen.get(wire, bits[wire])
-            print(f"{wire} should be {bits[wire]}" + (f", and was seen as {seen}" if seen != bits[wire] else ""))
+            self.say(f"{wire} should be {bits[wire]}" + (f", and was seen as {seen}" if seen != bits[wire] else ""))
         if not wires and not bits:
-            print("the inputs that were seen fix no wire")
+            self.say("the inputs that were seen fix no wire")
         return False
 
     def do_load(self, rest: str) -> bool:
         """The case of a script."""
         text = _path(rest, "load FILE: which script?").read_text(encoding="utf-8", errors="surrogateescape")
         rows = case_lines(text)
-        if not rows:
-            raise ValueError("nothing is seen or held in this script")
+        if not any(row[0] in CHANGES and len(row) > 1 for row in rows):
+            raise ValueError("nothing is seen or held in this script, whose lines are such as `see S a=0`")
         self.carry_out([Asked(rows, is_counted=True)])
         return False
 
@@ -257,7 +268,7 @@ class Shell(cmd.Cmd):
         case = self._waited("picture", lambda: picture.Case.of(self.session))
         written = graphviz.render(picture.dot_text(read_device(self.service.file), case, self.service.title), out)
         if written == out:
-            print("wrote", written)
+            self.say(f"wrote {written}")
         else:
             self.refuse(f"{graphviz.NO_DOT}; wrote {written} alone")
         return False
@@ -320,9 +331,9 @@ class Shell(cmd.Cmd):
             raise ValueError("there is one session here, which is open to the end")
         text = " ".join([*words, ""])
         if command in CHANGES and (" =" in text or "= " in text):
-            raise ValueError(f"refused: write {command} name=value without blanks around =; nothing of this line was taken")
+            raise ValueError(f"{REFUSED}write {command} name=value without blanks around =; nothing of this line was taken")
         if command == "see" and (why := at_odds(words[1:], self.service.other_names)):
-            raise ValueError(f"refused: {why}")
+            raise ValueError(f"{REFUSED}{why}")
         if len(words) > 2 and command in self.for_each:
             return Asked([[command, word] for word in words[1:]], command in CHANGES)
         return Asked([words])
@@ -357,7 +368,7 @@ class Shell(cmd.Cmd):
                 if refusals:
                     self.has_refused = True
                     whys = map(self.why, refusals)
-                    told = [f"refused: {next(whys)}" if request.refusal(line) else text for line, text in zip(lines, told)]
+                    told = [f"{REFUSED}{next(whys)}" if request.refusal(line) else text for line, text in zip(lines, told)]
                 texts += map(in_words, told) if self.prompt else told
             if not request.is_answered:
                 break
@@ -379,12 +390,16 @@ class Shell(cmd.Cmd):
 
     def _waited(self, what: str, ask: Callable[[], Any]) -> Any:
         """What is answered. If that takes longer, a terminal shows for how long."""
-        if not self.service.is_running and self.use_rawinput:
-            self._restart()
+        self._revive()
         with Progress(what):
             answer = ask()
         self.was_interrupted = False
         return answer
+
+    def _revive(self) -> None:
+        """Starts the program anew if it has ended and somebody is at a terminal."""
+        if not self.service.is_running and self.use_rawinput:
+            self._restart()
 
     def _restart(self) -> None:
         with Progress("starting the program anew"):
@@ -469,7 +484,7 @@ def _path(rest: str, question: str) -> pathlib.Path:
     """The file that a command names."""
     if not rest.strip():
         raise ValueError(question)
-    return pathlib.Path(rest.strip()).expanduser()
+    return pathlib.Path(os.path.expanduser(rest.strip()))
 
 
 def run(service: Service, begin: Callable[[Service, Session], Shell] = Shell) -> int:
@@ -477,9 +492,7 @@ def run(service: Service, begin: Callable[[Service, Session], Shell] = Shell) ->
     for stream in (sys.stdin, sys.stdout):
         if isinstance(stream, io.TextIOWrapper):
             stream.reconfigure(errors="surrogateescape")
-    keep = readline is not None and sys.stdin.isatty()
-    if keep:
-        _read_history()
+    keep = readline is not None and sys.stdin.isatty() and _read_history()
     try:
         with service.session("S") as session:
             shell = begin(service, session)
@@ -493,20 +506,33 @@ def run(service: Service, begin: Callable[[Service, Session], Shell] = Shell) ->
                 service.stop()
     finally:
         if keep:
-            try:
-                readline.write_history_file(history_file())
-            except OSError as error:
-                print(f"diag_client: history {history_file()}: {sentence(error)}", file=sys.stderr)
+            _write_history()
     return int(shell.has_refused and not shell.use_rawinput)
 
 
-def _read_history() -> None:
+def _read_history() -> bool:
+    """Reads the lines of earlier runs. If they are there and cannot be read, it says so, and they are not to be written over."""
     readline.set_completer_delims(" \t\n")
-    readline.set_history_length(HISTORY_LINES)
+    path = history_file()
     try:
-        readline.read_history_file(history_file())
-    except OSError:
-        pass
+        lines = path.read_text(encoding="utf-8", errors="surrogateescape").split("\n") if path.exists() else []
+    except OSError as error:
+        print(f"diag_client: no lines are kept: {sentence(error)}", file=sys.stderr)
+        return False
+    for line in filter(None, lines):
+        readline.add_history(line.replace("\0", ""))
+    return True
+
+
+def _write_history() -> None:
+    """Writes the last lines. `readline` itself would empty the file first, and lose them if the disk is full."""
+    count = readline.get_current_history_length()
+    items = map(readline.get_history_item, range(max(0, count - HISTORY_LINES) + 1, count + 1))
+    text = "".join(f"{line}\n" for line in items if line)
+    try:
+        write_whole(history_file(), text.encode("utf-8", "surrogateescape"), 0o600)
+    except OSError as error:
+        print(f"diag_client: the lines of this run are not kept: {sentence(error)}", file=sys.stderr)
 
 
 def _pieces() -> Iterator[list[str]]:

@@ -11,7 +11,7 @@ import pathlib
 from collections.abc import Iterable, Mapping, Sequence
 
 from .errors import DiagError, shown
-from .session import BLANKS
+from .session import BLANKS, NAME_RULE, SESSION_NAME
 
 # The column that names the patterns.
 NAME = "pattern"
@@ -82,8 +82,8 @@ def _row(where: str, place: int, header: Sequence[str], row: Sequence[str], name
     name = f"p{place}"
     for column, (wire, cell) in enumerate(zip(header, row, strict=True), 1):
         if wire == NAME:
-            if not cell or any(byte in cell for byte in BLANKS):
-                raise BadTable(f"{where}, column {column}: not the name of a pattern, which has no blanks: {shown(cell)!r}")
+            if not SESSION_NAME.fullmatch(cell):
+                raise BadTable(f"{where}, column {column}: not the name of a pattern, which has {NAME_RULE}: {shown(cell)!r}")
             name = cell
         elif cell not in ("", "0", "1"):
             raise BadTable(f"{where}, column {column} ({wire}): not 0, 1 or empty: {shown(cell)!r}")

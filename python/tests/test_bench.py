@@ -43,6 +43,11 @@ class Texts(unittest.TestCase):
         self.assertEqual(cases.read_readings("a@0002=1", known), [("", {"a@0002": 1})])
         with self.assertRaisesRegex(Bad, "a has a reading for each time: write a@0001 for the first"):
             cases.read_readings("a=1", known)
+        for text in ("a@1=1", "a@0003=1"):
+            with self.assertRaisesRegex(Bad, f"{text[:-2]} is at no time of these: the first is a@0001"):
+                cases.read_readings(text, known)
+        with self.assertRaisesRegex(Bad, "no wire b@1: names"):
+            cases.read_readings("b@1=1", known)
 
     def test_rows_are_patterns(self):
         case = cases.take_readings(Case(), cases.read_readings("a,b\n0,1\n1,0\n", KNOWN))
@@ -66,9 +71,10 @@ class Texts(unittest.TestCase):
             ("open P1\nhold P1 h=ok", "line 2: no part h"),
             ("open P1\nhold P1 g=fine", "line 2: g=fine"),
             ("open P1\nsee P1 a=0 b=1", "line 2: not understood"),
+            ("see a=0", "such as `see P1 a=0`"),
             ("open P 1", "no reading in it"),
             ("# cannot reach c", "line 1: no wire c"),
-            ("open <b>", "no name of a pattern"),
+            ("open (b)", "no name of a pattern"),
             ("", "no reading in it"),
         ):
             self.assertIn(wanted, self.refused(text, cases.read_script), text)
@@ -76,12 +82,12 @@ class Texts(unittest.TestCase):
     def test_patterns(self):
         case = Case().with_pattern().with_pattern("x")
         self.assertEqual([row.name for row in case.patterns], ["P1", "P2", "x"])
+        self.assertEqual(case.with_pattern("t:01<b>").pattern.name, "t:01<b>")
         self.assertEqual(case.without_pattern("P2").now, 1)
         self.assertEqual(Case().without_pattern("P1"), Case())
-        for name in ("x", "a b", "", "<", "y" * 41):
-            if name:
-                with self.assertRaises(Bad):
-                    case.with_pattern(name)
+        for name in ("x", "a b", "a,b", "#", "é", "y" * 65):
+            with self.subTest(name), self.assertRaises(Bad):
+                case.with_pattern(name)
 
 
 @needs_program

@@ -16,6 +16,7 @@ from support import C17, EXAMPLES, needs_program, replies, stand_in
 from diag_client import (
     Blame, Diagnosis, Ended, Inconsistent, Level, Minimum, NotBuilt, Probe, Refused, Service, Verdict, find_program, service,
 )
+from diag_client.session import SESSION_NAME
 
 ZERO = {"1": 0, "2": 0, "3": 0, "6": 0, "7": 0}
 CASE = {**ZERO, "22": 1, "23": 0}
@@ -385,6 +386,14 @@ class Services(unittest.TestCase):
             sessions[1].see({"22": 1})
             self.assertEqual([len(session.seen) for session in sessions], [0, 1, 0])
             self.assertEqual(sessions[2].name, "2")
+
+    def test_names(self):
+        """A table and the page take just the names that the program takes."""
+        names = [*map(chr, range(ord("!"), 128)), "a" * 64, "a" * 65, "t:01", "é", "a\x01"]
+        with Service(C17) as served:
+            told = served.batch(f"open {name}" for name in names)
+        taken = [name for name, lines in zip(names, told, strict=True) if lines == [f"{name} open"]]
+        self.assertEqual([name for name in names if SESSION_NAME.fullmatch(name)], taken)
 
     def test_threads(self):
         """Several threads share a service by a lock."""

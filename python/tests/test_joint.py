@@ -10,7 +10,7 @@ import tempfile
 import unittest
 from unittest import mock
 
-from support import C17, EXAMPLES, TOP, needs_program
+from support import C17, EXAMPLES, TOP, kill, needs_program
 
 from diag_client import BadTable, DiagError, Inconsistent, Refused, Service, board, holding, shell
 from diag_client.tables import read_table
@@ -152,6 +152,7 @@ class Tables(unittest.TestCase):
                 "1,2\n0,1\n0\n": "row 3, column 2: 1 cells, and the first row has 2",
                 "1,2\n0,1,1\n": "row 2, column 3: 3 cells, and the first row has 2",
                 "pattern,1\na b,1\n": "row 2, column 1: not the name of a pattern",
+                "pattern,1\na=,1\n": "row 2, column 1: not the name of a pattern, which has 1 to 64",
                 "1,pattern\n1,a\n0,a\n": "row 3, column 2: a second pattern 'a'",
             }.items():
                 path.write_text(text)
@@ -191,9 +192,8 @@ class Tables(unittest.TestCase):
 
     def test_a_refusal_opens_none(self):
         with Service(C17, narrow=False, sessions=2) as service:
-            for rows in (["pattern", "1"], ["a", 0], ["b", 1], ["c", 1]), (["pattern", "1"], ["a", 0], ["b=", 1]):
-                with self.assertRaises(Refused):
-                    service.patterns(rows)
+            with self.assertRaises(Refused):
+                service.patterns([["pattern", "1"], ["a", 0], ["b", 1], ["c", 1]])
             self.assertEqual(list(service.patterns([["pattern", "1"], ["a", 0], ["b", 1]])), ["a", "b"])
 
 
@@ -214,12 +214,12 @@ class Board(unittest.TestCase):
                 "--patterns", table)
             self.assertEqual(told, [
                 f"2 patterns of {table}; the present one is one", "min 1 10", "diag 10", "diag 22", "end", "ok", "min 1 22",
-                "pattern three: 0 readings", "ok", "pattern three alone:", "min 0", f"wrote {saved}: 3 patterns, 1 parts held",
-                "  one: 7 readings", "  two: 7 readings", "* three: 1 readings", "diag 22"])
+                "pattern three: 0 readings", "ok", "pattern three alone:", "min 0", f"wrote {saved}: 3 patterns, 1 part held",
+                "  one: 7 readings", "  two: 7 readings", "* three: 1 reading", "diag 22"])
             self.assertEqual(status, 0)
             told, _, _ = self.told([f"load {saved}", "patterns", "min", "pattern two", "case"])
             self.assertEqual(told, [
-                "3 patterns, 15 readings, 1 parts held", "* one: 7 readings", "  two: 7 readings", "  three: 1 readings", "min 1 22",
+                "3 patterns, 15 readings, 1 part held", "* one: 7 readings", "  two: 7 readings", "  three: 1 reading", "min 1 22",
                 "pattern two: 7 readings", "pattern two alone:", "seen: 1=1 2=0 3=1 6=0 7=0 22=0 23=0", "held: 10=ok"])
 
     def test_patterns_by_hand(self):
@@ -258,6 +258,18 @@ class Board(unittest.TestCase):
             "probe 16 - 1", "ok", "no set of faulty parts explains what was seen and held"])
         self.assertEqual(status, 1)
 
+    def test_a_refusal_is_of_no_pattern(self):
+        """The pattern is named before an answer alone."""
+        with tempfile.TemporaryDirectory() as folder:
+            table = pathlib.Path(folder, "readings.csv")
+            table.write_text(TABLE)
+            told, _, _ = self.told(
+                ["this probe 99", "expect 99", "after 99", "level", "see 1=0", "this probe 99 16", "picture nowhere/out.svg"],
+                "--patterns", table)
+        self.assertEqual([text.partition(" (")[0] for text in told[1:-1]], [
+            "refused: no wire", "refused: no wire", "refused: no part", "refused: no levels", "ok", "refused: no wire",
+            "pattern one alone:", "probe 16 2 1"])
+
     @unittest.skipUnless(shell.readline, "there is no completion")
     def test_completion(self):
         """With several patterns names are completed as with one."""
@@ -271,6 +283,19 @@ class Board(unittest.TestCase):
                     for name, value in ends.items():
                         stack.enter_context(mock.patch(f"readline.{name}", return_value=value))
                     self.assertEqual([terminal.complete(text, place) for place in range(len(found))], found)
+
+    def test_the_program_ends(self):
+        """Whatever is asked next starts it anew."""
+        with Service(C17) as service, mock.patch("sys.stdin", io.StringIO()):
+            terminal = board.BoardShell(service, service.session("S"))
+            terminal.take(service.patterns(ROWS))
+            terminal.use_rawinput = True
+            for line, answer in (("min", "min 1 10"), ("pattern three", "pattern three: 0 readings")):
+                kill(service)
+                with contextlib.redirect_stdout(io.StringIO()) as told:
+                    terminal.onecmd(line)
+                    terminal.onecmd(line)
+                self.assertEqual(told.getvalue().splitlines()[1:], ["the program was started anew, and the case is as it was", answer])
 
     def test_the_example(self):
         """The commands of the example have the output that its page shows."""

@@ -65,7 +65,11 @@ class Says(InCheckout):
         self.assertEqual(self.run_diag(), (2, "", HELP))
 
     def test_version(self):
-        self.assertEqual(self.run_diag("--version")[1], "diag, commit unknown\nthe program is proved and built from these sources\n")
+        """By the times of the files a program that was copied here looks as one that was built here."""
+        for _ in range(2):
+            told = self.run_diag("--version")[1].splitlines()
+            self.assertEqual(told[0], "diag, commit unknown")
+            self.assertEqual(told[1:], ["by the times of the files the program is built from these sources; `diag --build` makes sure, and proves it"])
 
     @unittest.skipUnless(shutil.which("git"), "there is no git")
     def test_version_in_a_repository(self):
@@ -95,7 +99,7 @@ class IsCurrent(InCheckout):
         self.assertIn("no checksum", said)
         self.assertEqual(self.is_current(), (True, ""))
         record = (self.top / "crates/diag/out/diag.sources").read_text()
-        self.assertRegex(record, r"\Asources [0-9a-f]{64}\nprogram [0-9a-f]{64}\n\Z")
+        self.assertRegex(record, r"\Asources [0-9a-f]{64}\nprogram [0-9a-f]{64}\nknown by times\nfile [0-9]+:[0-9]+\n\Z")
 
     def test_program_from_elsewhere(self):
         (self.top / "crates/diag/out/diag.o").unlink()
@@ -145,6 +149,20 @@ class IsCurrent(InCheckout):
             (copy / "crates/low/src/lib.rt").write_text("fn other() {}\n")
             os.utime(copy / "crates/low/src/lib.rt", (1, 1))
             self.assertEqual(self.is_current(copy), (False, ""))
+
+    def test_folder_from_elsewhere(self):
+        """A record that came with its program is newer than all sources, and all the same they are compared."""
+        self.is_current()
+        for text, wanted in (("fn low() {}\n", True), ("fn other() {}\n", False)):
+            other = self.elsewhere / f"other{wanted}"
+            other.mkdir()
+            make_checkout(other)
+            (other / "crates/low/src/lib.rt").write_text(text)
+            out = other / "crates/diag/out"
+            shutil.copytree(self.top / "crates/diag/out", out)
+            wait_past(out, out / "diag")
+            (out / "diag.sources").touch()
+            self.assertEqual(self.is_current(other), (wanted, ""))
 
 
 class Hints(InCheckout):
@@ -285,7 +303,15 @@ class Builds(InCheckout):
         folder = self.top / "crates/diag"
         self.assertRegex(self.said_to_rt.read_text(), rf"\A{folder}: rt all check --jobs [0-9]+\n{folder}: rt run -- load 1\n\Z")
         self.assertEqual(self.is_current(), (True, ""))
+        self.assertIn("\nthe program is proved and built from these sources\n", self.run_diag("--version")[1])
         self.assertIn("is built from these sources already\n", self.build()[2])
+        # A program of the gate is built again.
+        self.wait_past("diag.sources")
+        (folder / "out/diag.o").touch()
+        self.wait_past("diag.o")
+        put_program(self.top, "#!/bin/sh\n")
+        self.assertTrue(self.is_current()[0])
+        self.assertIn("all is proved; compiling the program\n", self.build()[2])
 
     def test_nothing_follows(self):
         """A file after it is a mistake, and half an hour would be lost."""

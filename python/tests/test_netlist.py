@@ -423,8 +423,13 @@ class ByHand(Converts):
 
     def test_command(self):
         words = [sys.executable, "-m", "diag_client.netlist", VERILOG / "gray.blif", "-o", self.folder / "gray.bench"]
-        done = subprocess.run(words, capture_output=True, text=True, env={**os.environ, "PYTHONPATH": str(TOP / "python")}, check=True)
+        env = {**os.environ, "PYTHONPATH": str(TOP / "python"), "PYTHONUNBUFFERED": ""}
+        done = subprocess.run(words, capture_output=True, text=True, env=env, check=True)
         self.assertIn("14 gates, 3 flip-flops, 2 inputs\n", done.stdout)
+        # The disk is full, or nobody reads.
+        for closed, told in ((">/dev/full", "diag-netlist: no space left on device\n"), (">&-", ""), ("| true", "")):
+            done = subprocess.run(["bash", "-c", f'"$@" {closed}', "bash", *words], stderr=subprocess.PIPE, text=True, env=env)
+            self.assertEqual(done.stderr, told, closed)
 
     def test_odd_files(self):
         for name in ("empty.blif", "binary.blif", "binary.bench", "binary.json", "folder.bench", "other.v", "nowhere.blif"):

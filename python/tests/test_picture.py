@@ -327,7 +327,10 @@ class Served(unittest.TestCase):
             self.assertEqual(pathlib.Path(folder, "out.dot").read_text(), STORED.read_text())
 
     def test_says_what_is_wrong(self):
+        script = pathlib.Path(self.enterContext(tempfile.TemporaryDirectory()), "typed")
+        script.write_text("see 1=0\n")
         for words, why in (
+            ((C17, script), "the script opens no session: its lines are such as `open S` and `see S a=0`"),
             ((C17, "-", "--session", "T"), "opens no session T"),
             (("nowhere.bench",), ": nowhere.bench: no such file or directory\n"),
             (("nowhere.nnf",), ": nowhere.nnf: a graph (.nnf) is asked in the terminal, by `shell FILE --health N`\n"),

@@ -14,7 +14,7 @@ import tempfile
 import unittest
 from unittest import mock
 
-from support import C17, EXAMPLES, SOON, TOP, interrupt_at, needs_program, replies, stand_in
+from support import C17, EXAMPLES, SOON, TOP, interrupt_at, kill, needs_program, replies, stand_in
 
 from diag_client import Proposal, Service, manual, shell
 
@@ -121,11 +121,18 @@ class Lines(unittest.TestCase):
             script.write_text(script.read_text() + "see S 99=1\n")
             self.assertEqual(self.say(f"load {script}"), ["2 readings taken, 1 part held, 1 refused: no wire (error 9): 99"])
             self.assertEqual((dict(self.session.seen), dict(self.session.held)), ({"1": 0, "22": 1}, {"10": "ok"}))
+            # Lines without the name of a session, and a netlist, are no script.
+            for text in ("see 1=0\n", "10 = NAND(1, 3)\n"):
+                script.write_text(text)
+                self.assertIn("nothing is seen or held in this script", self.say(f"load {script}")[0])
+            script.write_text("open S\n")
             # Only a saved case is written over.
             pathlib.Path(folder, "c17.bench").write_text("INPUT(a)\n")
             self.assertIn("not a saved case", self.say("save ~/c17.bench")[0])
             self.assertEqual(len(self.say("save ~/case.script", "save", "load")), 3)
             self.assertEqual(self.say("load ~/nowhere"), [f"{folder}/nowhere: no such file or directory"])
+            self.assertEqual(self.say("load ~nobody-here/x"), ["~nobody-here/x: no such file or directory"])
+            self.assertEqual(self.say("picture ~nobody-here/x.svg"), ["~nobody-here/x.svg: there is no folder ~nobody-here"])
             self.assertEqual(sorted(path.name for path in pathlib.Path(folder).iterdir()), ["c17.bench", "case.script"])
 
     def test_saving_touches_no_other_file(self):
@@ -150,7 +157,7 @@ class Lines(unittest.TestCase):
         self.assertEqual(self.say("expect 22 16"), ["22 should be 0, and was seen as 1", "16 should be 1"])
         self.assertEqual(self.say("unsee 2 6", "expect 23"), ["2 readings taken back", "23 may be 0 or 1: the inputs that were seen do not fix it"])
         self.assertIn("10 should be 1", self.say("expect"))
-        self.assertIn("no wire", self.say("expect 99")[0])
+        self.assertEqual(self.say("expect 99 10"), ["refused: no wire (error 9): 99", "10 should be 1"])
         self.assertEqual(self.say("unsee 1 3", "expect")[1], "the inputs that were seen fix no wire")
 
     def test_nothing_is_wrong(self):
@@ -172,6 +179,13 @@ class Lines(unittest.TestCase):
                 self.shell = shell.Shell(service, session)
                 self.assertEqual(self.say("see y=1"), ["refused: no wire (error 9): y"])
                 self.assertEqual(self.say("min"), ["inconsistent"])
+
+    def test_the_program_ends(self):
+        self.shell.use_rawinput = True
+        self.say("see 22=1")
+        kill(self.service)
+        self.assertRegex(self.say("min")[0], r"signal 9 \(Killed\)\. The next command starts it anew")
+        self.assertEqual(self.say("min"), ["the program was started anew, and the case is as it was", "min 0"])
 
     def test_help(self):
         told = self.say("?")
@@ -224,13 +238,22 @@ class Lines(unittest.TestCase):
         self.assertLess(sum(len(call.args[0]) for call in follow.call_args_list), 5)
 
     def test_nobody_reads(self):
-        """It ends without a word."""
-        words, python = [sys.executable, "-m", "diag_client", "shell", str(C17)], {"PYTHONPATH": str(TOP / "python")}
+        """It ends without a word, whether what it prints is written at once or at its end."""
+        words, python = [sys.executable, "-m", "diag_client", "shell", str(C17)], {"PYTHONPATH": str(TOP / "python"), "PYTHONUNBUFFERED": ""}
         pipes = dict.fromkeys(("stdin", "stdout", "stderr"), subprocess.PIPE)
-        with subprocess.Popen(words, env=os.environ | python, **pipes) as shell_run:
-            shell_run.stdout.close()
-            self.assertEqual(shell_run.communicate(b"min\n")[1], b"")
-        self.assertEqual(shell_run.returncode, 1)
+        for line in (b"min\n", b"case\n"):
+            with subprocess.Popen(words, env=os.environ | python, **pipes) as shell_run:
+                shell_run.stdout.close()
+                self.assertEqual(shell_run.communicate(line)[1], b"")
+            self.assertEqual(shell_run.returncode, 1)
+
+    def test_full_disk(self):
+        """It says so once."""
+        words, python = [sys.executable, "-m", "diag_client", "shell", str(C17)], {"PYTHONPATH": str(TOP / "python"), "PYTHONUNBUFFERED": ""}
+        for line in (b"min\n", b"case\n"):
+            with open("/dev/full", "wb") as full:
+                done = subprocess.run(words, input=line, stdout=full, stderr=subprocess.PIPE, env=os.environ | python)
+            self.assertEqual((done.returncode, done.stderr), (1, b"diag_client: no space left on device\n"))
 
     def test_closed_streams(self):
         """Nothing comes from one, and what goes into one is gone."""
@@ -285,6 +308,55 @@ class Lines(unittest.TestCase):
             self.assertEqual(complete(f"load {folder}/c"), [f"{folder}/case.script"])
 
 
+@unittest.skipUnless(shell.readline, "there is no readline")
+class History(unittest.TestCase):
+    """The lines that were typed, in a file."""
+
+    def setUp(self):
+        self.file = pathlib.Path(self.enterContext(tempfile.TemporaryDirectory()), "history")
+        self.enterContext(mock.patch.dict("os.environ", DIAG_HISTORY=str(self.file)))
+        shell.readline.clear_history()
+        self.addCleanup(shell.readline.clear_history)
+
+    def written(self):
+        """What is said when it is written."""
+        with contextlib.redirect_stderr(io.StringIO()) as said:
+            shell._write_history()
+        return said.getvalue()
+
+    def test_last_lines(self):
+        for number in range(shell.HISTORY_LINES + 1):
+            shell.readline.add_history(f"see a{number}=1")
+        self.assertEqual(self.written(), "")
+        shell.readline.clear_history()
+        self.assertTrue(shell._read_history())
+        shell.readline.add_history("min")
+        self.assertEqual(self.written(), "")
+        lines = self.file.read_text().split("\n")
+        self.assertEqual((lines[0], lines[-3:], len(lines)), ("see a2=1", ["see a1000=1", "min", ""], shell.HISTORY_LINES + 1))
+        self.assertEqual(self.file.stat().st_mode & 0o777, 0o600)
+
+    def test_full_disk(self):
+        """The file stays as it is."""
+        self.file.write_text("min\n")
+        shell.readline.add_history("see a=1")
+        limit = resource.getrlimit(resource.RLIMIT_FSIZE)
+        try:
+            resource.setrlimit(resource.RLIMIT_FSIZE, (0, limit[1]))
+            said = self.written()
+        finally:
+            resource.setrlimit(resource.RLIMIT_FSIZE, limit)
+        self.assertEqual(said, f"diag_client: the lines of this run are not kept: {self.file}: file too large\n")
+        self.assertEqual((self.file.read_text(), os.listdir(self.file.parent)), ("min\n", ["history"]))
+
+    def test_unreadable(self):
+        """What cannot be read is not written over."""
+        self.file.mkdir()
+        with contextlib.redirect_stderr(io.StringIO()) as said:
+            self.assertFalse(shell._read_history())
+        self.assertEqual(said.getvalue(), f"diag_client: no lines are kept: {self.file}: is a directory\n")
+
+
 class Interrupts(unittest.TestCase):
     """The first interrupt lets go of a reply, and the second one of the program. The case stays."""
 
@@ -311,7 +383,7 @@ class Interrupts(unittest.TestCase):
         self.say("see a=1 b=0")
         self.assertIn("Ctrl-C once more", self.interrupted("min"))
         # It waits for the reply to the line before it.
-        self.assertIn("the case is as it was", self.interrupted("see c=1"))
+        self.assertEqual(self.interrupted("see c=1"), "\nthe program was started anew, and the case is as it was\n")
         self.assertEqual(dict(self.session.seen), {"a": 1, "b": 0, "c": 1})
         self.assertEqual(self.say("see d=1"), "ok\n")
 

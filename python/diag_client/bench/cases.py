@@ -11,7 +11,7 @@ from collections.abc import Collection, Iterable, Mapping
 
 from ..errors import shown
 from ..replies import Mode
-from ..session import at_odds
+from ..session import NAME_RULE, SESSION_NAME, at_odds
 from ..tables import NAME as NAME_COLUMN
 from ..tables import BadTable, rows_of
 
@@ -19,7 +19,6 @@ MOST_PATTERNS = 100
 # A case is a script of at most so many lines.
 MOST_LINES = 20_000
 MOST_TEXT = 2000
-NAME = re.compile(r"[A-Za-z0-9_.-]{1,40}")
 # Lines of a saved case that the program passes over.
 UNREACHABLE, REPLACED = "# cannot reach ", "# replaced "
 
@@ -70,8 +69,8 @@ class Case:
         names = {pattern.name for pattern in self.patterns}
         if not name:
             name = next(made for number in range(1, len(names) + 2) if (made := f"P{number}") not in names)
-        if not NAME.fullmatch(name):
-            raise Bad(f"{shown(name)!r} is no name of a pattern: use 1 to 40 letters, digits, dots, lines and underscores")
+        if not SESSION_NAME.fullmatch(name):
+            raise Bad(f"{shown(name)!r} is no name of a pattern: use {NAME_RULE}")
         if name in names:
             raise Bad(f"there is a pattern {name} already: choose another name")
         if len(names) >= MOST_PATTERNS:
@@ -108,6 +107,8 @@ class Known:
         here = self.others.get(wire, wire)
         if here not in self.wires and here in self.reachable:
             raise Bad(f"{wire} has a reading for each time: write {wire}@0001 for the first")
+        if here not in self.wires and (timeless := here.rpartition("@")[0]) in self.reachable and timeless not in self.wires:
+            raise Bad(f"{shown(wire)} is at no time of these: the first is {timeless}@0001")
         if here not in self.wires:
             raise Bad(f"no wire {shown(wire)}: names are those in the drawing, capital and small letters are not the same")
         # A name is kept once, however often it is entered.
@@ -181,7 +182,7 @@ def _take(words: list[str], known: Known, seen: dict[str, dict[str, int]], held:
         case ["unhold", _, part]:
             held.pop(known.mode(part, "ok")[0], None)
         case [("see" | "unsee" | "hold" | "unhold"), *_]:
-            raise Bad(f"not understood: {shown(' '.join(words))}")
+            raise Bad(f"not understood: {shown(' '.join(words))}: lines are such as `see P1 a=0`")
         case _:
             pass
 

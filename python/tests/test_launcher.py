@@ -164,6 +164,28 @@ class IsCurrent(InCheckout):
             (out / "diag.sources").touch()
             self.assertEqual(self.is_current(other), (wanted, ""))
 
+    def test_many_at_once(self):
+        """Each compares the checksums and writes the record, and none reads one that another has begun."""
+        self.is_current()
+        out = self.top / "crates/diag/out"
+        for _ in range(5):
+            self.wait_past("diag.sources")
+            (self.top / "crates/low/src/lib.rt").touch()
+            runs = [subprocess.Popen([self.top / "diag", "--path"], stdout=subprocess.DEVNULL) for _ in range(8)]
+            self.assertEqual([run.wait() for run in runs], [0] * len(runs))
+        self.assertEqual(sorted(os.listdir(out)), ["diag", "diag.o", "diag.sources"])
+
+    def test_signs_in_the_path(self):
+        """Those that a pattern is made of stand for themselves: what is beside the program is no source."""
+        copy = self.elsewhere / "[a] *"
+        shutil.copytree(self.top, copy)
+        out = copy / "crates/diag/out"
+        wait_past(out, out / "diag.o")
+        put_program(copy, FAKE_PROGRAM)
+        wait_past(out, out / "diag")
+        (out / "stdout").touch()
+        self.assertEqual(self.is_current(copy)[0], True)
+
 
 class Hints(InCheckout):
     """One line on standard error after a status from 1 to 5, and nothing else but what the program says."""

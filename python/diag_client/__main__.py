@@ -56,8 +56,12 @@ def run(words: argparse.Namespace) -> int:
 def main() -> int:
     """Does what the command line says, and gives the exit status, whatever goes wrong."""
     open_streams()
-    words = draw.read_words(words_of())
     try:
+        try:
+            words = draw.read_words(words_of())
+        finally:
+            # It may be the help.
+            sys.stdout.flush()
         interrupts.raise_again()
         status = run(words)
         sys.stdout.flush()

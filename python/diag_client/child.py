@@ -289,13 +289,14 @@ class Child:
             self._hang_up()
 
     def _hear(self) -> None:
-        """What is said on standard error is passed on, and the last line kept."""
+        """What is said on standard error is passed on, if it is taken, and the last line kept."""
         came = os.read(self._errors.fileno(), PIECE)
         if not came:
             self._ignore(self._errors)
             return
         text = self._text(came)
-        print(text, end="", file=sys.stderr, flush=True)
+        with contextlib.suppress(OSError):
+            print(text, end="", file=sys.stderr, flush=True)
         self._said = (self._said + text)[-SAID:]
 
     def _hang_up(self) -> None:

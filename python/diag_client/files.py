@@ -2,6 +2,7 @@
 
 from __future__ import annotations
 
+import contextlib
 import os
 import pathlib
 import sys
@@ -13,7 +14,8 @@ def write_whole(path: pathlib.Path, data: bytes, mode: int = 0o666) -> None:
         # A pipe or a device, such as /dev/stdout, has no place to be put at.
         path.write_bytes(data)
         return
-    place = path.resolve()
+    # `resolve` has an error of its own for links that lead to each other.
+    place = pathlib.Path(os.path.realpath(path))
     beside = place.with_name(f".{place.name}.{os.getpid()}")
     try:
         with open(beside, "wb", opener=lambda name, flags: os.open(name, flags, mode)) as file:
@@ -24,7 +26,8 @@ def write_whole(path: pathlib.Path, data: bytes, mode: int = 0o666) -> None:
         error.filename, error.filename2 = str(path), None
         raise
     finally:
-        beside.unlink(missing_ok=True)
+        with contextlib.suppress(OSError):
+            beside.unlink()
 
 
 def open_streams() -> None:
@@ -35,8 +38,9 @@ def open_streams() -> None:
 
 
 def drop_unwritten() -> None:
-    """Drops what standard output does not take, since nobody reads it or the disk is full. At its end Python would try it once more."""
-    try:
-        sys.stdout.flush()
-    except OSError:
-        os.dup2(os.open(os.devnull, os.O_WRONLY), sys.stdout.fileno())
+    """Drops what standard output and error do not take, since nobody reads it or the disk is full. At its end Python would try it again."""
+    for stream in (sys.stdout, sys.stderr):
+        try:
+            stream.flush()
+        except OSError:
+            os.dup2(os.open(os.devnull, os.O_WRONLY), stream.fileno())

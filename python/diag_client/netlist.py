@@ -172,9 +172,13 @@ def main(words: Sequence[str] | None = None) -> int:
     parser = argparse.ArgumentParser(prog="diag-netlist", description=__doc__.split(": ")[1].strip() if __doc__ else None)
     parser.add_argument("file", metavar="FILE", type=pathlib.Path, help="BLIF or JSON (.blif, .json) of yosys, or a .bench of ABC")
     parser.add_argument("-o", "--output", metavar="OUT", type=pathlib.Path, help="a .bench or .dev; else FILE with that ending")
-    given = parser.parse_args(words)
     open_streams()
     try:
+        try:
+            given = parser.parse_args(words)
+        finally:
+            # It may be the help.
+            sys.stdout.flush()
         interrupts.raise_again()
         print("\n".join(convert(given.file, given.output)), flush=True)
     except KeyboardInterrupt:

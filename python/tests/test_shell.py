@@ -7,6 +7,7 @@ import os
 import pathlib
 import re
 import resource
+import shlex
 import signal
 import subprocess
 import sys
@@ -16,7 +17,7 @@ from unittest import mock
 
 from support import C17, EXAMPLES, SOON, TOP, interrupt_at, kill, needs_program, replies, stand_in
 
-from diag_client import Proposal, Service, manual, shell
+from diag_client import Proposal, Service, find_program, manual, shell
 
 
 @needs_program
@@ -255,6 +256,27 @@ class Lines(unittest.TestCase):
                 done = subprocess.run(words, input=line, stdout=full, stderr=subprocess.PIPE, env=os.environ | python)
             self.assertEqual((done.returncode, done.stderr), (1, b"diag_client: no space left on device\n"))
 
+    def test_help_that_nobody_reads(self):
+        """The help goes as any other output does."""
+        python = {"PYTHONPATH": str(TOP / "python"), "PYTHONUNBUFFERED": ""}
+        for words in (["diag_client", "--help"], ["diag_client", "shell", "--help"], ["diag_client.netlist", "--help"]):
+            for closed, told in ((">/dev/full", "no space left on device\n"), ("| true", "")):
+                shell_run = ["bash", "-c", f'"$@" {closed}', "bash", sys.executable, "-m", *words]
+                done = subprocess.run(shell_run, stderr=subprocess.PIPE, text=True, env=os.environ | python)
+                self.assertEqual(done.stderr.partition(": ")[2] or done.stderr, told, (words, closed))
+
+    def test_what_is_said_besides(self):
+        """What the program says on standard error may be lost, and its answers are not."""
+        speaks = pathlib.Path(self.enterContext(tempfile.TemporaryDirectory()), "speaks")
+        speaks.write_text(f'#!/bin/sh\necho note >&2\nexec {shlex.quote(str(find_program()))} "$@"\n')
+        speaks.chmod(0o755)
+        words = [sys.executable, "-m", "diag_client", "shell", str(C17), "--program", speaks]
+        with open("/dev/full", "wb") as full:
+            done = subprocess.run(
+                words, input=b"min\n", stdout=subprocess.PIPE, stderr=full, env=os.environ | {"PYTHONPATH": str(TOP / "python")}
+            )
+        self.assertEqual((done.returncode, done.stdout), (0, b"min 0\n"))
+
     def test_closed_streams(self):
         """Nothing comes from one, and what goes into one is gone."""
         words, python = [sys.executable, "-m", "diag_client", "shell", str(C17)], {"PYTHONPATH": str(TOP / "python")}
@@ -348,6 +370,16 @@ class History(unittest.TestCase):
             resource.setrlimit(resource.RLIMIT_FSIZE, limit)
         self.assertEqual(said, f"diag_client: the lines of this run are not kept: {self.file}: file too large\n")
         self.assertEqual((self.file.read_text(), os.listdir(self.file.parent)), ("min\n", ["history"]))
+
+    def test_odd_paths(self):
+        """A link that leads to itself is replaced; of a path below a file it says what was asked for."""
+        self.file.symlink_to(self.file)
+        self.assertTrue(shell._read_history())
+        self.assertEqual(self.written(), "")
+        self.assertTrue(self.file.is_file())
+        below = self.file / "below"
+        with mock.patch.dict("os.environ", DIAG_HISTORY=str(below)):
+            self.assertEqual(self.written(), f"diag_client: the lines of this run are not kept: {below}: not a directory\n")
 
     def test_unreadable(self):
         """What cannot be read is not written over."""

@@ -143,11 +143,11 @@ class BoardShell(Shell):
                 opened[name].load(text, name)
         except BaseException:
             for session in opened.values():
-                if session is self.session:
-                    session.unsee(*session.seen)
-                    session.unhold(*session.held)
-                else:
+                if session is not self.session:
                     session.abandon()
+            # Nothing was seen or held before.
+            self.session.unsee(*self.session.seen)
+            self.session.unhold(*self.session.held)
             raise
         self.take(opened)
         # What is held is held for the board.

@@ -136,7 +136,12 @@ class Session:
         """
         # An opening that an interrupt left unanswered will open it, unless another session has the name.
         will_open = self._opened_by is not None and not self._opened_by.is_answered and not self.service.has_open(self.name)
-        if (self._is_open or will_open) and self.service.is_running:
+        if not self.service.is_running:
+            # It is not to be opened again by `Service.restart`.
+            if self._is_open:
+                self._is_open = False
+                self.service.note_closed(self)
+        elif self._is_open or will_open:
             with contextlib.suppress(DiagError):
                 self.service.send([self._closing()])
 

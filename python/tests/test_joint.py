@@ -12,7 +12,7 @@ from unittest import mock
 
 from support import C17, EXAMPLES, TOP, kill, needs_program
 
-from diag_client import BadTable, DiagError, Inconsistent, Refused, Service, board, holding, shell
+from diag_client import BadTable, DiagError, Inconsistent, Refused, Service, Session, board, holding, shell
 from diag_client.tables import read_table
 from diag_client.replies import Verdict
 from diag_client.session import case_lines
@@ -296,6 +296,27 @@ class Board(unittest.TestCase):
                     terminal.onecmd(line)
                     terminal.onecmd(line)
                 self.assertEqual(told.getvalue().splitlines()[1:], ["the program was started anew, and the case is as it was", answer])
+
+    def test_the_program_ends_while_a_script_is_loaded(self):
+        """No session is left open, so that the script may be loaded again."""
+        with Service(C17) as service, mock.patch("sys.stdin", io.StringIO()), tempfile.TemporaryDirectory() as folder:
+            script = pathlib.Path(folder, "case.script")
+            script.write_text("open one\nsee one 1=0\nopen two\nsee two 1=1\n")
+            terminal = board.BoardShell(service, service.session("S"))
+            terminal.use_rawinput = True
+            load = Session.load
+
+            def load_first(session, *given):
+                if session.name == "two":
+                    kill(service)
+                load(session, *given)
+
+            with mock.patch.object(Session, "load", load_first), contextlib.redirect_stdout(io.StringIO()) as told:
+                terminal.onecmd(f"load {script}")
+            self.assertIn("The next command starts it anew", told.getvalue())
+            with contextlib.redirect_stdout(io.StringIO()) as told:
+                terminal.onecmd(f"load {script}")
+            self.assertEqual(told.getvalue().splitlines()[1:], ["2 patterns, 2 readings, 0 parts held"])
 
     def test_the_example(self):
         """The commands of the example have the output that its page shows."""

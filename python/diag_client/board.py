@@ -307,7 +307,7 @@ def begin(service: Service, session: Session, table: str | None = None) -> Board
             shell.take(service.patterns(table))
         except Refused as refused:
             raise DiagError(f"{table}: {shell.why(refused)}") from None
-        print(f"{len(shell.sessions)} patterns of {table}; the present one is {shell.session.name}")
+        print(f"{_count_of(shell.sessions, 'pattern')} of {table}; the present one is {shell.session.name}")
     return shell
 
 

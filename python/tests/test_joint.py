@@ -222,6 +222,12 @@ class Board(unittest.TestCase):
                 "3 patterns, 15 readings, 1 part held", "* one: 7 readings", "  two: 7 readings", "  three: 1 reading", "min 1 22",
                 "pattern two: 7 readings", "pattern two alone:", "seen: 1=1 2=0 3=1 6=0 7=0 22=0 23=0", "held: 10=ok"])
 
+    def test_one_pattern(self):
+        with tempfile.TemporaryDirectory() as folder:
+            table = pathlib.Path(folder, "readings.csv")
+            table.write_text("1,22\n0,1\n")
+            self.assertEqual(self.told(["case"], "--patterns", table)[0][0], f"1 pattern of {table}; the present one is p1")
+
     def test_patterns_by_hand(self):
         told, status, _ = self.told(
             ["pattern one", "see 1=0 3=0 22=1 16=1", "pattern two", "see 1=1 3=1 22=0 16=1", "min", "unhold 10", "blame", "best", "min 1",

@@ -99,7 +99,7 @@ class IsCurrent(InCheckout):
         self.assertIn("no checksum", said)
         self.assertEqual(self.is_current(), (True, ""))
         record = (self.top / "crates/diag/out/diag.sources").read_text()
-        self.assertRegex(record, r"\Asources [0-9a-f]{64}\nprogram [0-9a-f]{64}\nknown by times\nfile [0-9]+:[0-9]+\n\Z")
+        self.assertRegex(record, r"\Asources [0-9a-f]{64}\nprogram [0-9a-f]{64}\nknown by times\nfile [0-9]+:[0-9]+ of [0-9.]+\n\Z")
 
     def test_program_from_elsewhere(self):
         (self.top / "crates/diag/out/diag.o").unlink()
@@ -163,6 +163,17 @@ class IsCurrent(InCheckout):
             wait_past(out, out / "diag")
             (out / "diag.sources").touch()
             self.assertEqual(self.is_current(other), (wanted, ""))
+
+    def test_record_put_back(self):
+        """A record that is copied onto itself, or touched, is newer than all sources, and all the same they are compared."""
+        self.is_current()
+        record = self.top / "crates/diag/out/diag.sources"
+        kept = record.read_text()
+        (self.top / "crates/low/src/lib.rt").write_text("fn other() {}\n")
+        for change in (lambda: record.write_text(kept), record.touch):
+            self.wait_past("../../low/src/lib.rt")
+            change()
+            self.assertEqual(self.is_current(), (False, ""))
 
     def test_many_at_once(self):
         """Each compares the checksums and writes the record, and none reads one that another has begun."""

@@ -78,6 +78,7 @@ class BoardShell(Shell):
                 raise ValueError(f"{command}: nothing follows it")
             self._revive()
             try:
+                self._hold_in_all()
                 getattr(self, f"_{command}")(words)
             finally:
                 self._clear()
@@ -90,9 +91,9 @@ class BoardShell(Shell):
         if len(rest.split()) != 1:
             raise ValueError("pattern NAME: which pattern? a name without blanks; `patterns` lists them")
         name = rest.strip()
+        self._revive()
+        self._hold_in_all()
         if name not in self.sessions:
-            self._revive()
-            self.service.catch_up()
             patterns = dict(self.sessions)
             # The one that the terminal began with is a pattern if something was seen in it.
             if len(patterns) == 1 and not self.session.seen:
@@ -124,6 +125,7 @@ class BoardShell(Shell):
     def _saved(self) -> tuple[str, str]:
         if len(self.sessions) == 1:
             return super()._saved()
+        self._hold_in_all()
         text = "".join(f"open {name}\n{session.script()}" for name, session in self.sessions.items())
         return text, f"{len(self.sessions)} patterns, {_count_of(self.session.held, 'part')} held"
 
@@ -193,7 +195,8 @@ class BoardShell(Shell):
             self._is_one = False
 
     def _hold_in_all(self) -> None:
-        """In each pattern what is held in the present one."""
+        """In each pattern what is held in the present one. An interrupt, or the end of the program, may have come in between."""
+        self.service.catch_up()
         held = self.session.held
         for session in self.sessions.values():
             if session is not self.session:

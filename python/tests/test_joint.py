@@ -303,6 +303,21 @@ class Board(unittest.TestCase):
                     terminal.onecmd(line)
                 self.assertEqual(told.getvalue().splitlines()[1:], ["the program was started anew, and the case is as it was", answer])
 
+    def test_interrupt_of_hold(self):
+        """What only the present pattern was told of, all are told of before anything is asked of all, or another is the present one."""
+        with Service(C17) as service, mock.patch("sys.stdin", io.StringIO()), contextlib.redirect_stdout(io.StringIO()):
+            terminal = board.BoardShell(service, service.session("S"))
+            terminal.take(service.patterns(ROWS))
+            terminal.use_rawinput = True
+            one, two = terminal.sessions.values()
+            for line, after in (("hold 10=bad", "min"), ("unhold 10", "min"), ("hold 10=bad", "pattern two"), ("unhold 10", "pattern one")):
+                with mock.patch.object(terminal, "_hold_in_all", side_effect=KeyboardInterrupt):
+                    terminal.onecmd(line)
+                self.assertNotEqual(one.held, two.held)
+                wanted = dict(terminal.session.held)
+                terminal.onecmd(after)
+                self.assertEqual((one.held, two.held), (wanted, wanted), (line, after))
+
     def test_the_program_ends_while_a_script_is_loaded(self):
         """No session is left open, so that the script may be loaded again."""
         with Service(C17) as service, mock.patch("sys.stdin", io.StringIO()), tempfile.TemporaryDirectory() as folder:

@@ -17,10 +17,10 @@ COMMANDS = ("diag-bench", "diag-netlist", "diag-picture", "diag-shell")
 
 def _is_command() -> bool:
     """Whether Python was started to run a command of this package: one that is installed, or by `-m diag_client`."""
-    name = os.path.basename((getattr(sys, "argv", None) or [""])[0])
-    modules = {word.removeprefix("-m").partition(".")[0] for word in sys.orig_argv}
-    # Python calls a module so while it loads the module's package.
-    return name in COMMANDS or (name == "-m" and "diag_client" in modules)
+    argv = getattr(sys, "argv", None) or [""]
+    # While Python loads a package for `-m`, it calls the module `-m`. Its name stands before the words that follow it.
+    module = next(iter(sys.orig_argv[-len(argv):]), "").removeprefix("-m").partition(".")[0]
+    return os.path.basename(argv[0]) in COMMANDS or (argv[0] == "-m" and module == "diag_client")
 
 
 def _end(number: int, frame: types.FrameType | None) -> None:

@@ -45,8 +45,13 @@ class Interrupts(unittest.TestCase):
     def test_another_program(self):
         """One that imports the package is told."""
         (self.folder / "selectors.py").write_text(INTERRUPT)
-        status, told = self.run_python("-c", "import diag_client")
-        self.assertEqual((status, told.splitlines()[-1]), (-signal.SIGINT, "KeyboardInterrupt"))
+        package = self.folder / "other"
+        package.mkdir()
+        (package / "__init__.py").write_text("import diag_client")
+        (package / "__main__.py").touch()
+        for words in (["-c", "import diag_client"], ["-m", "other", "diag_client"]):
+            status, told = self.run_python(*words)
+            self.assertEqual((status, told.splitlines()[-1]), (-signal.SIGINT, "KeyboardInterrupt"))
 
     def test_at_work(self):
         program = self.folder / "program"

@@ -1,6 +1,5 @@
 -- The drivers of signals.
-use Rattle.std.proofs.Common.{◌≡◌, Bool, true, false, cond, List, [], ◌∷◌, Option, Some, None, is_some, refl, sym, ap, ◌∙◌, arith}
-use Rattle.std.specs.Prelude.{◌||◌}
+use Rattle.std.proofs.Common.{◌≡◌, Bool, true, false, cond, List, [], ◌∷◌, Option, Some, None, is_some, refl, sym, arith}
 use Rattle.std.specs.List.{flat_map}
 use Rattle.std.specs.Map.{lookup, keys_of}
 use Rattle.std.proofs.lemmas.Map.Made.{is_some-lookup}
@@ -14,7 +13,7 @@ use Rattle.bench_reader.specs.declared.kinds.NamedKind.{NamedKind}
 use Rattle.bench_reader.specs.Statements.{Statement, Input, Output, Gate}
 use Rattle.bench_reader.specs.Signals.{driven_by_gate, driven}
 use Rattle.bench_reader.specs.inner.Steps.{Signals}
-use Rattle.text_rules.proofs.NameLemmas.{same_if_equal, equal_if_same}
+use Rattle.text_rules.proofs.NameLemmas.{same_if_equal, equal_if_same, same_name-Decides}
 
 abbrev pub is_gate : Option Driver → Bool
 is_gate None = false
@@ -47,22 +46,11 @@ pub record Drives (ds : Signals) (above : List Statement) : Type 0 where
 pub Drives-none : Drives [] []
 Drives-none = record { all = λ m. refl; gates = λ m. refl; once = refl }
 
-some_too : (b : Bool) (driver : Driver) (o : Option Driver) (a : Bool) → a ≡ is_some o → (b || a) ≡ is_some (cond b (Some driver) o)
-some_too bit driver o a h = grind arith
-
 pub Drives-gate : (ds : Signals) (above : List Statement) (o : Name) (k : NamedKind) (is : List Name) → Drives ds above → Drives (insert_entry same_name ds o ByGate) (Gate o k is ∷ above)
 Drives-gate ds above o k is h = grind (arith, lookup-insert, repeated-insert)
 
 pub Drives-input : (ds : Signals) (above : List Statement) (s : Name) → is_gate (driver_of ds s) ≡ false → Drives ds above → Drives (insert_entry same_name ds s Outside) (Input s ∷ above)
-Drives-input ds above s free h = record {
-  all = λ m. some_too (same_name m s) Outside (driver_of ds m) (is_among (flat_map driven above) m) (h.all m) ∙ ap is_some (sym (lookup-insert m s Outside ds));
-  gates = λ m. h.gates m ∙ by m (same_name m s) refl ∙ ap is_gate (sym (lookup-insert m s Outside ds));
-  once = repeated-insert s Outside ds h.once;
-}
-  where
-    by : (m : Name) (b : Bool) → same_name m s ≡ b → is_gate (driver_of ds m) ≡ is_gate (cond b (Some Outside) (driver_of ds m))
-    by m true e = ap (λ (k : Name). is_gate (driver_of ds k)) (equal_if_same m s e) ∙ free
-    by m false e = refl
+Drives-input ds above s free h = grind (arith, same_name-Decides, lookup-insert, repeated-insert)
 
 pub Drives-output : (ds : Signals) (above : List Statement) (s : Name) → Drives ds above → Drives ds (Output s ∷ above)
 Drives-output ds above s h = record { all = h.all; gates = h.gates; once = h.once }

@@ -1,10 +1,9 @@
 -- The tokens of the text after the first opening bracket of a line are the tokens after its first bracket token.
 use Rattle.std.proofs.Common.{◌≡◌, ℕ, ◌==◌, Bool, true, false, not, List, [], ◌∷◌, ◌++◌, codes, refl, sym, ap, ◌∙◌, arith}
 use Rattle.std.specs.List.{list_all, position_or_len}
-use Rattle.std.proofs.lemmas.Bool.{and_parts, and_from, not_from_false, false≢true}
 use Rattle.text_rules.specs.Names.{same_name}
 use Rattle.text_rules.specs.Tokens.{ends_word, before_tokens, tokens}
-use Rattle.text_rules.proofs.NameLemmas.{equal_if_same}
+use Rattle.text_rules.proofs.NameLemmas.{same_name-Decides}
 use Rattle.bench_reader.specs.Statements.{has_no_mark}
 use Rattle.bench_reader.specs.inner.Lines.{behind_bracket}
 
@@ -45,32 +44,23 @@ on_byte b line behind other is before after e none =
   where
     by : (ends : Bool) (ts : List (List ℕ)) → ends_word true line ≡ ends → tokens true line ≡ ts → (before after : List (List ℕ)) → before_tokens ends b ts ≡ before ++ (codes "(" ∷ after)
         → none_opens before ≡ true → tokens true (behind_bracket line) ≡ after
-    by ends ts goes all [] after e none = absurd (false≢true (sym (word_is_other ends b ts after (codes "(") other e)))
-    by ends [] goes all (token ∷ []) after e none = absurd (let no : ⊥ = cc in no)
-    by ends [] goes all (token ∷ next ∷ before) after e none = absurd (let no : ⊥ = cc in no)
+    by ends ts goes all [] after e none = grind (arith, word_is_other)
+    by ends [] goes all (token ∷ before) after e none = grind arith
     by true (t ∷ ts) goes all (token ∷ before) after e none = grind arith
-    by false (t ∷ ts) goes all (token ∷ before) after e none =
-        let rest : ts ≡ before ++ (codes "(" ∷ after) = cc in
-        behind (t ∷ before) after (all ∙ ap (λ us. t ∷ us) rest)
-        (and_from _ _ (not_from_false _ (rest_is_other ts line t goes all)) (and_parts (not (is_open token)) (none_opens before) none).1)
+    by false (t ∷ ts) goes all (token ∷ before) after e none = grind (arith, rest_is_other, behind (t ∷ before) after)
 
 pub tokens_behind : (line : List ℕ) → IsBehind line
-tokens_behind [] [] after e none = absurd (let no : ⊥ = cc in no)
-tokens_behind [] (token ∷ before) after e none = absurd (let no : ⊥ = cc in no)
+tokens_behind [] [] after e none = grind arith
+tokens_behind [] (token ∷ before) after e none = grind arith
 tokens_behind (b ∷ line) before after e none = grind (arith, later, on_mark, on_byte, tokens_behind line)
 
 -- a word without a mark is no opening bracket
 unmarked_is_other : (word : List ℕ) → has_no_mark word ≡ true → is_open word ≡ false
-unmarked_is_other word h = by (is_open word) refl
-  where
-    by : (b : Bool) → is_open word ≡ b → b ≡ false
-    by false e = refl
-    by true e = absurd (let bracket = equal_if_same word (codes "(") e in let no : false ≡ true = sym (ap has_no_mark bracket) ∙ h in cc)
+unmarked_is_other word h = grind (arith, same_name-Decides)
 
 -- the tokens after the opening bracket of a gate
 pub tokens_of_inputs : (line output kind bracket : List ℕ) (left behind ts : List (List ℕ)) → tokens true line ≡ output ∷ codes "=" ∷ left → left ≡ kind ∷ behind → behind ≡ bracket ∷ ts
     → bracket ≡ codes "(" → has_no_mark output ≡ true → has_no_mark kind ≡ true → tokens true (behind_bracket line) ≡ ts
 tokens_of_inputs line output kind bracket left behind ts e f g b o k =
     let whole : tokens true line ≡ (output ∷ codes "=" ∷ kind ∷ []) ++ (codes "(" ∷ ts) = cc in
-    tokens_behind line (output ∷ codes "=" ∷ kind ∷ []) ts whole
-    (and_from _ _ (not_from_false _ (unmarked_is_other output o)) (and_from _ _ (not_from_false _ (unmarked_is_other kind k)) refl))
+    tokens_behind line (output ∷ codes "=" ∷ kind ∷ []) ts whole (grind (arith, unmarked_is_other))

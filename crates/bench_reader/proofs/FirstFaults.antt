@@ -1,16 +1,15 @@
 -- The netlist of a text, from what its lines say, drive and use.
-use Rattle.std.proofs.Common.{◌≡◌, ℕ, suc, inl, inr, Bool, true, false, List, [], ◌∷◌, ◌++◌, map, length, Option, Some, None, Ok, Err, nat_lt, refl, sym, ap, subst, ◌∙◌, arith}
+use Rattle.std.proofs.Common.{◌≡◌, ℕ, suc, inl, inr, Bool, true, false, List, [], ◌∷◌, ◌++◌, map, length, Option, Some, None, Ok, Err, refl, sym, ap, subst, ◌∙◌, arith}
 use Rattle.std.specs.Prelude.{Result, if◌then◌else◌}
 use Rattle.std.specs.List.{filter_map, flat_map, list_all}
 use Rattle.std.specs.Map.{keys_of}
-use Rattle.std.proofs.lemmas.Bool.{and_parts, or_parts, ltb-false}
+use Rattle.std.proofs.lemmas.Bool.{or_parts, ltb-false}
 use Rattle.std.proofs.lemmas.List.{length-map}
 use Rattle.text_rules.specs.Expected.{IsExpectedFault}
 use Rattle.text_rules.specs.Names.{Name, is_short_name, is_among}
 use Rattle.text_rules.specs.TextLines.{all_lines}
 use Rattle.state_rules.proofs.Members.{In}
 use Rattle.device_model.specs.declared.component.Component.{Component}
-use Rattle.device_model.specs.declared.limits.TheConstants.{PART_LIMIT, WIRE_LIMIT}
 use Rattle.device_model.specs.declared.building.BuildError.{BuildError}
 use Rattle.device_model.specs.declared.building.BuildError.TheVariants.{Memory as NoMemory}
 use Rattle.device_model.specs.TruthTable.{TruthTable}
@@ -24,12 +23,12 @@ use Rattle.device_model.proofs.Repeats.{is_among-among, among_from_test}
 use Rattle.device_model.proofs.SortedDevices.{list_all-among, list_all-from_among, component_name}
 use Rattle.device_model.proofs.CallerLemmas.{sorted_distinct-same_tests, only_memory as only_memory_of}
 use Rattle.device_model.proofs.BuiltDevices.{CanBeBuilt, built-over}
-use Rattle.bench_reader.specs.declared.fault.BenchFault.TheVariants.{DrivenTwice, Undriven, TooMany}
+use Rattle.bench_reader.specs.declared.fault.BenchFault.TheVariants.{Undriven, TooMany}
 use Rattle.bench_reader.specs.declared.fault.BenchError.{BenchError}
 use Rattle.bench_reader.specs.declared.kinds.FlipFlops.{FlipFlops}
 use Rattle.bench_reader.specs.declared.statement.NumberedStatement.{NumberedStatement}
 use Rattle.bench_reader.specs.Faults.{Fault, fault_at, told, unless_fault}
-use Rattle.bench_reader.specs.Statements.{Statement, Input, Output, Gate}
+use Rattle.bench_reader.specs.Statements.{Statement}
 use Rattle.bench_reader.specs.Signals.{driven, driven_by_gate, used, driven_twice, undriven}
 use Rattle.bench_reader.specs.Netlists.{part_of, device_of, fault_in, statement_in, readings, netlist_with}
 use Rattle.bench_reader.specs.inner.Lines.{unnumbered, with_number}
@@ -61,9 +60,7 @@ all_driven_named (s ∷ statements) h = grind (arith, all_driven_named statement
 
 gates_pass : (p : Name → Bool) (statements : List Statement) → list_all p (flat_map driven statements) ≡ true → list_all (λ s. list_all p (driven_by_gate s)) statements ≡ true
 gates_pass p [] h = refl
-gates_pass p (Input signal ∷ statements) h = gates_pass p statements (and_parts (p signal) (list_all p (flat_map driven statements)) h).1
-gates_pass p (Output signal ∷ statements) h = gates_pass p statements h
-gates_pass p (Gate output kind inputs ∷ statements) h = grind (arith, gates_pass p statements)
+gates_pass p (s ∷ statements) h = grind (arith, gates_pass p statements)
 
 -- ---- the device of statements without a fault
 
@@ -145,9 +142,7 @@ module _ (statements : List (ℕ × Statement)) where
 
     without_twice : device_or_fault statements ≡ unless_together statements [] (map (fault_at Undriven) (undriven there statements))
         (if is_too_large (map said statements) (device_of (map said statements)).wires then fault_at TooMany 0 ∷ [] else [])
-    without_twice =
-        let large = is_too_large (map said statements) (device_of (map said statements)).wires in
-        ap (λ ls. unless_together statements (map (fault_at DrivenTwice) ls) (map (fault_at Undriven) (undriven there statements)) (if large then fault_at TooMany 0 ∷ [] else [])) split.0
+    without_twice = grind (arith, split)
 
     first : IsFirst (first_undriven (keys_of signals) statements) (undriven there statements)
     first = first_without there (keys_of signals) (λ m. ap (λ ns. is_among ns m) (there-said statements) ∙ sym (members m)) statements
@@ -167,17 +162,7 @@ module _ (statements : List (ℕ × Statement)) where
 
       module _ (few : is_too_large (map said statements) (keys_of signals) ≡ false) where
         pub all_faultless : list_all is_faultless (map said statements) ≡ true → AreFaultless (map said statements) (keys_of signals)
-        all_faultless h =
-            let two = or_parts (nat_lt PART_LIMIT (length (flat_map driven_by_gate (map said statements)))) (nat_lt WIRE_LIMIT (length (keys_of signals))) few in
-            record {
-              faultless = h;
-              gates_once = gates_once statements [] split.0;
-              once = split.1.once;
-              members = members;
-              uses = all_used (keys_of signals) statements used_so;
-              few_parts = ltb-false PART_LIMIT _ two.0;
-              few_wires = ltb-false WIRE_LIMIT _ two.1;
-            }
+        all_faultless h = grind (arith, split, gates_once, members, all_used, or_parts, ltb-false)
 
         pub is_made : device_or_fault statements ≡ Ok (device_of (map said statements))
         is_made = without_undriven ∙ ap (λ b. unless_together statements [] [] (if b then fault_at TooMany 0 ∷ [] else [])) few

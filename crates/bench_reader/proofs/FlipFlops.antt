@@ -3,13 +3,12 @@ use Rattle.std.proofs.Common.{◌≡◌, ℕ, ◌+◌, ◌<◌, ◌≤◌, Bool,
 use Rattle.std.specs.Prelude.{◌||◌, if◌then◌else◌}
 use Rattle.std.specs.List.{list_any, list_all, filter, filter_map, flat_map, enumerate_from}
 use Rattle.std.specs.Result.{result_map_both}
-use Rattle.std.proofs.lemmas.Bool.{and_parts}
 use Rattle.std.proofs.lemmas.List.{drop_more}
 use Rattle.std.proofs.lemmas.List.Folds.{list_any-append, list_all-map}
 use Rattle.std.proofs.Math.Bool.{or-false}
 use Rattle.indexmap.specs.IndexSet.{insert_key}
 use Rattle.text_rules.specs.Names.{Name, same_name, is_among, is_short_name}
-use Rattle.text_rules.proofs.NameLemmas.{equal_if_same}
+use Rattle.text_rules.proofs.NameLemmas.{same_name-Decides}
 use Rattle.text_rules.specs.TextLines.{all_lines}
 use Rattle.state_rules.proofs.Members.{In-at}
 use Rattle.device_model.specs.declared.component.Component.{Component}
@@ -20,17 +19,11 @@ use Rattle.device_model.proofs.SortedDevices.{component_name, list_all-among, li
 use Rattle.device_model.proofs.SortedLists.{itself}
 use Rattle.bench_reader.specs.declared.kinds.FlipFlops.{FlipFlops}
 use Rattle.bench_reader.specs.declared.kinds.FlipFlops.TheVariants.{Taken}
-use Rattle.bench_reader.specs.declared.kinds.NamedKind.{NamedKind}
-use Rattle.bench_reader.specs.declared.kinds.NamedKind.TheVariants.{Sequential as KeepsItsValue}
-use Rattle.bench_reader.specs.declared.statement.Inputs.{Inputs}
-use Rattle.bench_reader.specs.declared.statement.Statement.{Statement as StatementRead}
-use Rattle.bench_reader.specs.declared.statement.Statement.TheVariants.{Gate as GateRead}
 use Rattle.bench_reader.specs.Faults.{Fault, unless_fault}
-use Rattle.bench_reader.specs.Statements.{Statement, Input, Output, Gate}
+use Rattle.bench_reader.specs.Statements.{Statement}
 use Rattle.bench_reader.specs.Signals.{driven, driven_by_gate}
 use Rattle.bench_reader.specs.Netlists.{part_of, device_of, fault_in, statement_in, faults_together, readings, netlist_with}
-use Rattle.bench_reader.specs.SequentialNetlists.{flip_flop, flip_flops, places_where, sequential_netlist, HasShortNames}
-use Rattle.bench_reader.specs.inner.Lines.{meaning}
+use Rattle.bench_reader.specs.SequentialNetlists.{flip_flops, places_where, sequential_netlist, HasShortNames}
 use Rattle.bench_reader.specs.inner.Steps.{statements_or_fault, device_or_fault, is_faultless}
 use Rattle.bench_reader.proofs.Lines.{said, read_are_faultless}
 use Rattle.bench_reader.proofs.Parts.{names-parts, names-joined}
@@ -41,26 +34,7 @@ use Rattle.bench_reader.proofs.FirstFaults.{all_driven_named, is_read, both}
 pub kept-insert : (ks : List (Bor Name)) (k : Bor Name) (name : Name)
     → list_any (λ (j : Bor Name). same_name name j.now) (insert_key (λ (a b : Bor Name). same_name a.now b.now) ks k)
     ≡ (list_any (λ (j : Bor Name). same_name name j.now) ks || same_name name k.now)
-kept-insert ks k name = by (list_any (λ (j : Bor Name). same_name k.now j.now) ks) refl (same_name name k.now) refl
-  where
-    test : Bor Name → Bool
-    test j = same_name name j.now
-
-    there : (b c : Bool) → b ≡ true → (c ≡ true → b ≡ true)
-    there b c e _ = e
-
-    by : (b : Bool) → list_any (λ (j : Bor Name). same_name k.now j.now) ks ≡ b → (c : Bool) → same_name name k.now ≡ c
-        → list_any test (if b then ks else ks ++ k ∷ []) ≡ (list_any test ks || c)
-    by true e true f =
-        let same = equal_if_same name k.now f in
-        let found : list_any test ks ≡ true = ap (λ (n : Name). list_any (λ (j : Bor Name). same_name n j.now) ks) same ∙ e in
-        rw found refl
-    by true e false f = sym (or-false (list_any test ks))
-    by false e c f = list_any-append test ks (k ∷ []) ∙ ap (λ b. list_any test ks || (b || false)) f ∙ ap (λ b. list_any test ks || b) (or-false c)
-
-pub named_flip_flop : (statement : StatementRead) (output : Bor Name) (kind : NamedKind) (inputs : Inputs) (name : Name)
-    → statement ≡ GateRead output kind inputs → kind ≡ KeepsItsValue → is_among (flip_flop (meaning statement)) name ≡ same_name name output.now
-named_flip_flop statement output kind inputs name is keeps = grind arith
+kept-insert ks k name = grind (arith, same_name-Decides, list_any-append, or-false)
 
 -- ---- the places of parts
 
@@ -77,8 +51,7 @@ module _ (test : Name → Bool) (parts : List Component) (i : ℕ) (part : Compo
 
   pub places-taken : (done whole : List ℕ) → test part.name ≡ true → whole ≡ done ++ places_from test i (part_names (drop i parts))
       → whole ≡ (done ++ i ∷ []) ++ places_from test (i + 1) (part_names (drop (i + 1) parts))
-  places-taken done whole e inv =
-      inv ∙ ap (λ ps. done ++ ps) (places-next true e) ∙ sym (append_assoc done (i ∷ []) (places_from test (i + 1) (part_names (drop (i + 1) parts))))
+  places-taken done whole e inv = grind (arith, append_assoc, places-next true)
 
   pub places-left : (done whole : List ℕ) → test part.name ≡ false → whole ≡ done ++ places_from test i (part_names (drop i parts))
       → whole ≡ done ++ places_from test (i + 1) (part_names (drop (i + 1) parts))
@@ -88,9 +61,7 @@ module _ (test : Name → Bool) (parts : List Component) (i : ℕ) (part : Compo
 
 gates_named : (statements : List Statement) → list_all is_short_name (flat_map driven statements) ≡ true → list_all is_short_name (flat_map driven_by_gate statements) ≡ true
 gates_named [] h = refl
-gates_named (Input signal ∷ statements) h = gates_named statements (and_parts (is_short_name signal) (list_all is_short_name (flat_map driven statements)) h).1
-gates_named (Output signal ∷ statements) h = gates_named statements h
-gates_named (Gate output kind inputs ∷ statements) h = grind (arith, gates_named statements)
+gates_named (s ∷ statements) h = grind (arith, gates_named statements)
 
 is_few : (name : Name) → is_short_name name ≡ true → length name ≤ 64
 is_few name h = grind arith

@@ -9,3 +9,4 @@ pub mod Parts
 pub mod FirstFaults
 pub mod FlipFlops
 mod Examples
+pub mod Rules

@@ -1,8 +1,8 @@
 -- The readings of lines, line by line.
-use Rattle.std.proofs.Common.{◌≡◌, ℕ, ◌+◌, true, List, [], ◌∷◌, ◌++◌, map, drop, get_or, length, Option, Some, None, Ok, append_assoc, refl, subst, ◌<◌, drop-drop, arith}
+use Rattle.std.proofs.Common.{◌≡◌, ℕ, ◌+◌, true, List, [], ◌∷◌, ◌++◌, map, drop, get_or, length, Option, Some, None, Ok, append_assoc, refl, ◌<◌, drop-drop, arith}
 use Rattle.std.specs.Prelude.{Result}
 use Rattle.std.specs.List.{list_all, filter_map, enumerate_from, flat_map}
-use Rattle.std.proofs.lemmas.Bool.{and_parts, and_from}
+use Rattle.std.proofs.lemmas.Bool.{and_from}
 use Rattle.std.proofs.lemmas.List.{drop_more, map-append}
 use Rattle.bench_reader.specs.declared.fault.BenchFault.{BenchFault}
 use Rattle.bench_reader.specs.declared.kinds.FlipFlops.{FlipFlops}
@@ -39,20 +39,10 @@ read_are_faultless flip_flops n (line ∷ lines) = grind (arith, and_from, read_
 
 -- ---- statements one after the other
 
--- if the statements left have no fault, the next one has none, nor have those after it
-pub faultless_next : {S : Type 0} (means : S → Statement) (statements : List S) (i : ℕ) (default : S) → i < length statements → list_all is_faultless (map means (drop i statements)) ≡ true
-    → is_faultless (means (get_or statements i default)) ≡ true
-faultless_next means statements i default l h = grind (arith, drop_more)
-
 pub faultless_rest : {S : Type 0} (means : S → Statement) (statements : List S) (i : ℕ) → list_all is_faultless (map means (drop i statements)) ≡ true
     → list_all is_faultless (map means (drop (i + 1) statements)) ≡ true
 faultless_rest means statements i h =
-    let e : drop 1 (drop i statements) ≡ drop (i + 1) statements = simp drop-drop refl in
-    subst (λ ss. list_all is_faultless (map means ss) ≡ true) e (by (drop i statements) h)
-  where
-    by : (ss : List _) → list_all is_faultless (map means ss) ≡ true → list_all is_faultless (map means (drop 1 ss)) ≡ true
-    by [] g = refl
-    by (s ∷ ss) g = (and_parts (is_faultless (means s)) (list_all is_faultless (map means ss)) g).1
+    let e : drop 1 (drop i statements) ≡ drop (i + 1) statements = simp drop-drop refl in grind arith
 
 -- the next statement adds its items
 pub items-more : {S A B : Type 0} (items : Statement → List A) (shown : A → B) (means : S → Statement) (statements : List S) (i : ℕ) (default : S) (whole done found : List B)

@@ -1,10 +1,10 @@
 -- Statements from tokens.
-use Rattle.std.proofs.Common.{◌≡◌, ℕ, ◌<◌, ◌≤◌, Bool, true, false, List, [], ◌∷◌, length, get_or, Option, Some, None, codes, is_some, refl, ap, arith}
-use Rattle.std.specs.Prelude.{◌&&◌, option_map, if◌then◌else◌}
+use Rattle.std.proofs.Common.{◌≡◌, ℕ, ◌<◌, ◌≤◌, true, List, [], ◌∷◌, length, get_or, Option, Some, None, codes, is_some, ap, arith}
+use Rattle.std.specs.Prelude.{option_map}
 use Rattle.std.specs.List.{filter}
 use Rattle.std.proofs.lemmas.List.Sums.{length-filter, count_by-le-length}
-use Rattle.text_rules.specs.Names.{Name, same_name, is_short_name}
-use Rattle.text_rules.proofs.NameLemmas.{equal_if_same}
+use Rattle.text_rules.specs.Names.{Name, is_short_name}
+use Rattle.text_rules.proofs.NameLemmas.{same_name-Decides}
 use Rattle.text_rules.proofs.TokenLemmas.{length-tokens}
 use Rattle.bench_reader.specs.declared.kinds.FlipFlops.{FlipFlops}
 use Rattle.bench_reader.specs.declared.kinds.NamedKind.{NamedKind}
@@ -38,27 +38,12 @@ with_more x mark ts o w m h = grind arith
 listed_words : (ts : List (List ℕ)) → IsEvidence ts (listed_from ts)
 listed_words [] = tt
 listed_words (x ∷ []) = tt
-listed_words (x ∷ m ∷ []) = by (has_no_mark x) (same_name m (codes ")")) refl refl
-  where
-    by : (b d : Bool) → has_no_mark x ≡ b → same_name m (codes ")") ≡ d → IsEvidence (x ∷ m ∷ []) (if b && d then Some (x ∷ []) else None)
-    by true true w e = rw (equal_if_same m (codes ")") e, w) refl
-    by true false w e = tt
-    by false d w e = tt
-listed_words (x ∷ m ∷ y ∷ ts) = by (has_no_mark x) (same_name m (codes ",")) refl refl (listed_words (y ∷ ts))
-  where
-    by : (b d : Bool) → has_no_mark x ≡ b → same_name m (codes ",") ≡ d → IsEvidence (y ∷ ts) (listed_from (y ∷ ts))
-        → IsEvidence (x ∷ m ∷ y ∷ ts) (if b && d then option_map (λ (names : List Name). x ∷ names) (listed_from (y ∷ ts)) else None)
-    by true true w e h = with_more x m (y ∷ ts) (listed_from (y ∷ ts)) w (equal_if_same m (codes ",") e) h
-    by true false w e h = tt
-    by false d w e h = tt
+listed_words (x ∷ m ∷ []) = grind (arith, same_name-Decides)
+listed_words (x ∷ m ∷ y ∷ ts) = grind (arith, same_name-Decides, with_more, listed_words (y ∷ ts))
 
 input_words : (ts : List (List ℕ)) → IsEvidence ts (inputs_in ts)
 input_words [] = tt
-input_words (m ∷ []) = by (same_name m (codes ")")) refl
-  where
-    by : (b : Bool) → same_name m (codes ")") ≡ b → IsEvidence (m ∷ []) (if b then Some [] else None)
-    by true e = rw (equal_if_same m (codes ")") e) refl
-    by false e = tt
+input_words (m ∷ []) = grind (arith, same_name-Decides)
 input_words (x ∷ y ∷ ts) = listed_words (x ∷ y ∷ ts)
 
 -- ---- gates

@@ -1,24 +1,23 @@
 -- The statements that drive a signal again: either there is none and the signals are found, or the first is reported.
-use Rattle.std.proofs.Common.{◌≡◌, ℕ, Bool, true, false, List, [], ◌∷◌, map, Option, Some, None, is_some, refl, sym, ap, subst, ◌∙◌, arith}
-use Rattle.std.specs.Prelude.{◌||◌, Result, Ok, Err, if◌then◌else◌}
+use Rattle.std.proofs.Common.{◌≡◌, ℕ, true, false, List, [], ◌∷◌, map, is_some, refl, ◌∙◌, arith}
+use Rattle.std.specs.Prelude.{◌||◌, Result, Ok, Err}
 use Rattle.std.specs.List.{flat_map}
 use Rattle.std.specs.Map.{keys_of}
-use Rattle.std.proofs.lemmas.Bool.{true≢false, or_right}
+use Rattle.std.proofs.lemmas.Bool.{or_right}
 use Rattle.std.proofs.lemmas.List.Folds.{list_any-append}
 use Rattle.std.proofs.Math.Bool.{or-false}
 use Rattle.indexmap.specs.IndexMap.{insert_entry}
 use Rattle.text_rules.specs.Names.{Name, same_name, is_among}
 use Rattle.device_model.specs.Building.{repeated}
-use Rattle.bench_reader.specs.declared.signals.Driver.{Driver}
 use Rattle.bench_reader.specs.declared.signals.Driver.TheVariants.{Outside, Gate as ByGate}
 use Rattle.bench_reader.specs.declared.fault.BenchFault.TheVariants.{DrivenTwice}
 use Rattle.bench_reader.specs.Faults.{Fault, fault_at}
 use Rattle.bench_reader.specs.Statements.{Statement, Input, Output, Gate}
 use Rattle.bench_reader.specs.Signals.{driven_by_gate, driven, is_driven_twice, driven_twice}
-use Rattle.bench_reader.specs.inner.Steps.{Signals, and_then, if_free, unless_gate, driven_more, signals_from}
+use Rattle.bench_reader.specs.inner.Steps.{Signals, driven_more, signals_from}
 use Rattle.bench_reader.proofs.Drivers.{is_gate, driver_of, Drives, Drives-gate, Drives-input, Drives-output}
 use Rattle.bench_reader.proofs.Lines.{said}
-use Rattle.text_rules.proofs.NameLemmas.{same_if_equal, equal_if_same}
+use Rattle.text_rules.proofs.NameLemmas.{same_if_equal, same_name-Decides}
 
 -- the drivers are those of the statements above and below
 pub record Ends (ds : Signals) (above below : List Statement) : Type 0 where
@@ -36,34 +35,19 @@ module _ (f : ℕ × Statement) (statements : List (ℕ × Statement)) (above : 
   step_on ds more e t h = grind arith
 
   step_off : (ds : Signals) → driven_more ds f ≡ Err (fault_at DrivenTwice f.0) → is_driven_twice above f.1 ≡ true → Splits (signals_from ds (f ∷ statements)) (f ∷ statements) above
-  step_off ds e t =
-      subst (λ (o : Result Signals Fault). Splits o (f ∷ statements) above) (sym (ap (λ r. and_then r (λ (ms : Signals). signals_from ms statements)) e))
-      (driven_twice (f.1 ∷ above) statements, refl, ap (λ (b : Bool). if b then f.0 ∷ driven_twice (f.1 ∷ above) statements else driven_twice (f.1 ∷ above) statements) t)
+  step_off ds e t = rw (e, t) (driven_twice (f.1 ∷ above) statements, refl, refl)
 
 pub splits : (statements : List (ℕ × Statement)) (above : List Statement) (ds : Signals) → Drives ds above → Splits (signals_from ds statements) statements above
 splits [] above ds h = (refl, record { all = λ m. or-false (is_among (flat_map driven above) m) ∙ h.all m; once = h.once })
 splits ((line, Output s) ∷ statements) above ds h = step_on (line, Output s) statements above ds ds refl refl (splits statements (Output s ∷ above) ds (Drives-output ds above s h))
 splits ((line, Gate o k is) ∷ statements) above ds h =
-    by (driver_of ds o) refl (splits statements (Gate o k is ∷ above) (insert_entry same_name ds o ByGate) (Drives-gate ds above o k is h))
-  where
-    more : Signals
-    more = insert_entry same_name ds o ByGate
-
-    by : (d : Option Driver) → driver_of ds o ≡ d → Splits (signals_from more statements) statements (Gate o k is ∷ above)
-        → Splits (signals_from ds ((line, Gate o k is) ∷ statements)) ((line, Gate o k is) ∷ statements) above
-    by None e rest = step_on (line, Gate o k is) statements above ds more (ap (λ (d : Option Driver). if_free line d more) e) (h.all o ∙ ap is_some e) rest
-    by (Some d) e rest = step_off (line, Gate o k is) statements above ds (ap (λ (d : Option Driver). if_free line d more) e) (h.all o ∙ ap is_some e)
+    let more = insert_entry same_name ds o ByGate in
+    let rest : Splits (signals_from more statements) statements (Gate o k is ∷ above) = splits statements (Gate o k is ∷ above) more (Drives-gate ds above o k is h) in
+    grind (arith, step_on (line, Gate o k is) statements above ds more, step_off (line, Gate o k is) statements above ds, rest, h.all o)
 splits ((line, Input s) ∷ statements) above ds h =
-    by (driver_of ds s) refl (λ free. splits statements (Input s ∷ above) (insert_entry same_name ds s Outside) (Drives-input ds above s free h))
-  where
-    more : Signals
-    more = insert_entry same_name ds s Outside
-
-    by : (d : Option Driver) → driver_of ds s ≡ d → (is_gate (driver_of ds s) ≡ false → Splits (signals_from more statements) statements (Input s ∷ above))
-        → Splits (signals_from ds ((line, Input s) ∷ statements)) ((line, Input s) ∷ statements) above
-    by None e rest = step_on (line, Input s) statements above ds more (ap (λ (d : Option Driver). unless_gate line d more) e) (h.gates s ∙ ap is_gate e) (rest (ap is_gate e))
-    by (Some Outside) e rest = step_on (line, Input s) statements above ds more (ap (λ (d : Option Driver). unless_gate line d more) e) (h.gates s ∙ ap is_gate e) (rest (ap is_gate e))
-    by (Some ByGate) e rest = step_off (line, Input s) statements above ds (ap (λ (d : Option Driver). unless_gate line d more) e) (h.gates s ∙ ap is_gate e)
+    let more = insert_entry same_name ds s Outside in
+    let rest : is_gate (driver_of ds s) ≡ false → Splits (signals_from more statements) statements (Input s ∷ above) = λ free. splits statements (Input s ∷ above) more (Drives-input ds above s free h) in
+    grind (arith, step_on (line, Input s) statements above ds more, step_off (line, Input s) statements above ds, rest, h.gates s)
 
 -- ---- gates drive different signals
 
@@ -78,17 +62,8 @@ still_above f above m e = list_any-append (same_name m) (driven f) (flat_map dri
 gates_apart : (statements : List (ℕ × Statement)) (above : List Statement) (m : Name) → driven_twice above statements ≡ [] → is_among (flat_map driven above) m ≡ true
     → is_among (flat_map driven_by_gate (map said statements)) m ≡ false
 gates_apart [] above m h e = refl
-gates_apart ((line, Input s) ∷ statements) above m h e = gates_apart statements (Input s ∷ above) m (twice_parts (line, Input s) statements above h).1 (still_above (Input s) above m e)
-gates_apart ((line, Output s) ∷ statements) above m h e = gates_apart statements (Output s ∷ above) m (twice_parts (line, Output s) statements above h).1 (still_above (Output s) above m e)
-gates_apart ((line, Gate o k is) ∷ statements) above m h e =
-    by (same_name m o) refl (gates_apart statements (Gate o k is ∷ above) m (twice_parts (line, Gate o k is) statements above h).1 (still_above (Gate o k is) above m e))
-  where
-    by : (b : Bool) → same_name m o ≡ b → is_among (flat_map driven_by_gate (map said statements)) m ≡ false → (b || is_among (flat_map driven_by_gate (map said statements)) m) ≡ false
-    by false g rest = rest
-    by true g rest = absurd (true≢false (sym e ∙ ap (λ (n : Name). is_among (flat_map driven above) n) (equal_if_same m o g) ∙ (twice_parts (line, Gate o k is) statements above h).0))
+gates_apart (f ∷ statements) above m h e = grind (arith, same_name-Decides, still_above, twice_parts, gates_apart statements (f.1 ∷ above) m)
 
 pub gates_once : (statements : List (ℕ × Statement)) (above : List Statement) → driven_twice above statements ≡ [] → repeated (flat_map driven_by_gate (map said statements)) ≡ []
 gates_once [] above h = refl
-gates_once ((line, Input s) ∷ statements) above h = gates_once statements (Input s ∷ above) (twice_parts (line, Input s) statements above h).1
-gates_once ((line, Output s) ∷ statements) above h = gates_once statements (Output s ∷ above) (twice_parts (line, Output s) statements above h).1
-gates_once ((line, Gate o k is) ∷ statements) above h = grind (arith, gates_apart, same_if_equal, gates_once statements (Gate o k is ∷ above))
+gates_once (f ∷ statements) above h = grind (arith, gates_apart, same_if_equal, twice_parts, gates_once statements (f.1 ∷ above))

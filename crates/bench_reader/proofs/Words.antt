@@ -1,9 +1,7 @@
 -- Words in letters of any case.
-use Rattle.std.proofs.Common.{◌≡◌, ℕ, Bool, true, List, [], ◌∷◌, map, refl, arith, ◌↔◌, IsTrue}
+use Rattle.std.proofs.Common.{◌≡◌, ℕ, true, List, [], ◌∷◌, map, refl, arith}
 use Rattle.std.specs.List.{list_all}
 use Rattle.std.specs.Char.{to_ascii_lowercase}
-use Rattle.std.proofs.lemmas.Slice.Eq.{bytes_eq-Decides}
-use Rattle.text_rules.specs.Names.{same_name}
 use Rattle.device_model.specs.declared.gates.Kind.{Kind}
 use Rattle.device_model.specs.Gates.{word}
 use Rattle.bench_reader.specs.Statements.{capitals}
@@ -19,11 +17,6 @@ pub lower_from_capitals : (word keyword : List ℕ) → list_all is_capital keyw
 lower_from_capitals [] keyword h e = grind arith
 lower_from_capitals (b ∷ word) [] h e = cc
 lower_from_capitals (b ∷ word) (k ∷ keyword) h e = grind (arith, lower_from_capitals word keyword)
-
--- words with the same small letters have the same capitals
-pub spells_in_any_case-test : (test : Bool) (word keyword : List ℕ) → list_all is_capital keyword ≡ true
-    → (IsTrue test ↔ (map to_ascii_lowercase word ≡ map to_ascii_lowercase keyword)) → test ≡ same_name (capitals word) keyword
-spells_in_any_case-test test word keyword h e = grind (arith, capitals_from_lower, lower_from_capitals, bytes_eq-Decides)
 
 -- the words of gates are in capital letters
 pub capitals-kind : (kind : Kind) → list_all is_capital (word kind) ≡ true

@@ -17,6 +17,7 @@ use device_model::{BuildError, Component, Device, Name, WIRE_LIMIT, Wires};
 use std::alloc::{AllocError, Global};
 
 // Returns the place of a driven signal's wire.
+#[tactic(auto, using(crate::proofs::Rules::signals_in_order))]
 fn place_of(signals: &Signals<'_>, signal: &[u8]) -> u32
     requires { length signals.now.entries ≤ WIRE_LIMIT }
     ensures { result ≡ place_in (keys_of (signals_in signals.now)) signal.now }
@@ -91,6 +92,7 @@ fn parts_of(
     Ok(parts)
 }
 
+#[tactic(auto, using(crate::proofs::Rules::signals_in_order))]
 fn wires_of(alloc: Global, signals: &Signals<'_>) -> Result<Vec<Name>, AllocError>
     requires { list_all is_short_name (keys_of (signals_in signals.now)) ≡ true }
     ensures { IfOk result (λ wires. wires.items ≡ keys_of (signals_in signals.now)) }
@@ -103,6 +105,7 @@ fn wires_of(alloc: Global, signals: &Signals<'_>) -> Result<Vec<Name>, AllocErro
 }
 
 /// Builds the device of statements without a fault and their driven signals. The only error is lack of memory.
+#[tactic(auto, using(crate::proofs::Rules::device_of_parts))]
 pub fn assemble(
     alloc: Global,
     signals: &Signals<'_>,

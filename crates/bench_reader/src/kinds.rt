@@ -40,6 +40,7 @@ impl NamedKind {
 }
 
 // Whether a word, in letters of any case, is the keyword, which is in capital letters.
+#[tactic(auto, using(crate::proofs::Rules::words_in_any_case))]
 pub fn spells_in_any_case(word: &[u8], keyword: &[u8]) -> bool
     requires { list_all is_capital keyword.now ≡ true }
     ensures { result ≡ same_name (capitals word.now) keyword.now }
@@ -48,6 +49,7 @@ pub fn spells_in_any_case(word: &[u8], keyword: &[u8]) -> bool
 }
 
 // Finds the gate that a word names, in letters of any case.
+#[tactic(auto, using(crate::proofs::Rules::words_of_gates))]
 fn gate_spelled(word: &[u8]) -> Option<Kind>
     ensures { result ≡ gate_named (capitals word.now) }
 {

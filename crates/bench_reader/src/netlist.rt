@@ -17,6 +17,7 @@ use std::alloc::Global;
 use text_rules::{Lines, TEXT_LIMIT};
 
 // Reads the statements of the lines; the error is the first fault of a single line.
+#[tactic(auto, using(crate::proofs::Rules::lines_counted))]
 pub(crate) fn statements_in<'a>(
     alloc: Global,
     flip_flops: FlipFlops,
@@ -48,6 +49,7 @@ fn is_too_large(signals: &Signals<'_>, statements: &[NumberedStatement<'_>]) -> 
 }
 
 // Builds the device of statements that have no fault by themselves; the error is their first fault together.
+#[tactic(auto, using(crate::proofs::Rules::faults_together))]
 pub(crate) fn device_of(
     alloc: Global,
     statements: &[NumberedStatement<'_>],
@@ -75,6 +77,7 @@ pub(crate) fn device_of(
 ///
 /// The device has a part for each gate, and a wire for each gate and for each signal from outside. Memory may run out at
 /// any time; any other error is the fault of the text.
+#[tactic(auto, using(crate::proofs::Rules::statements_read))]
 pub fn read_bench(alloc: Global, text: &[u8]) -> Result<Device, BenchError>
     requires { length text.now ≤ TEXT_LIMIT }
     ensures { Fulfils (λ device. device) told (netlist text.now) result }

@@ -87,6 +87,7 @@ fn delayed_in<'a>(
 ///
 /// The device has a part for each gate and each flip-flop, and a wire for each of them and for each signal from outside. Memory
 /// may run out at any time; any other error is the fault of the text.
+#[tactic(auto, using(crate::proofs::Rules::statements_read))]
 pub fn read_sequential(alloc: Global, text: &[u8]) -> Result<Sequential, BenchError>
     requires { length text.now ≤ TEXT_LIMIT }
     ensures read { Fulfils (λ seq. seq) told (sequential_netlist text.now) result }

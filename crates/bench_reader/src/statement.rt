@@ -174,6 +174,7 @@ fn statement_of<'a>(
 }
 
 // Counts the inputs of a gate, if each may name a signal.
+#[tactic(auto, using(crate::proofs::Rules::names_counted))]
 fn count_names(inputs: Inputs<'_>) -> Option<usize>
     ensures { result ≡ count_names (input_names inputs.entry) }
 {
@@ -203,6 +204,7 @@ fn kind_fault(flip_flops: FlipFlops, kind: NamedKind, inputs: usize) -> Option<B
 }
 
 // Finds the fault of a statement: a name, else its kind, else its number of inputs.
+#[tactic(auto, using(crate::proofs::Rules::faults_of_gates))]
 fn fault_of(flip_flops: FlipFlops, statement: &Statement<'_>) -> Option<BenchFault>
     ensures { result ≡ statement_fault flip_flops (meaning statement.now) }
 {

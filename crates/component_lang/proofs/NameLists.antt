@@ -1,5 +1,5 @@
 -- Lists of names as the code keeps them.
-use Rattle.std.proofs.Common.{◌≡◌, ℕ, ◌+◌, ◌≤◌, Bool, true, false, not, List, [], ◌∷◌, ◌++◌, map, length, Option, Some, None, Result, Ok, Err, Bor, refl, sym, append_assoc, length-append, arith}
+use Rattle.std.proofs.Common.{◌≡◌, ℕ, ◌+◌, ◌≤◌, Bool, true, false, not, List, [], ◌∷◌, ◌++◌, map, length, Option, Some, None, Result, Ok, Err, Bor, refl, sym, ap, ◌∙◌, append_assoc, length-append, arith}
 use Rattle.std.specs.Prelude.{◌&&◌, ◌||◌, position, nat_lt, if◌then◌else◌}
 use Rattle.std.specs.List.{list_any, list_all, position_or_len}
 use Rattle.std.proofs.lemmas.Bool.Decides.{same_from_decides}
@@ -11,6 +11,7 @@ use Rattle.text_rules.proofs.NameLemmas.{same_name-Decides, same_if_equal, equal
 use Rattle.state_rules.proofs.Lists.{list_any-map}
 use Rattle.device_model.specs.Building.{place_in}
 use Rattle.device_model.proofs.SortedDevices.{none_given}
+use Rattle.device_model.proofs.Tables.{position-map}
 use Rattle.component_lang.specs.declared.fault.LangFault.{LangFault}
 use Rattle.component_lang.specs.declared.fault.LangFault.TheVariants.{Name as NoName, Twice}
 use Rattle.component_lang.specs.Designs.{is_plain_name, are_distinct}
@@ -27,6 +28,11 @@ same_key a b = same_name a.now b.now
 pub keys-insert : (ks : List (Bor Name)) (k : Bor Name) → map bytes (insert_key same_key ks k) ≡ insert_key same_name (map bytes ks) k.now
 keys-insert ks k = grind (arith, list_any-map, map-append)
 
+-- the place of a name among keys
+pub position-keys : (name : Name) (ks : List (Bor Name)) (names : List Name) {o : Option ℕ} → map bytes ks ≡ names → o ≡ position (λ (k : Bor Name). same_name name k.now) ks
+    → position (same_name name) names ≡ o
+position-keys name ks names same is = ap (position (same_name name)) (sym same) ∙ sym (position-map bytes (same_name name) ks) ∙ sym is
+
 -- ---- added names
 
 pub same_name-sym : (a b : Name) → same_name a b ≡ same_name b a
@@ -40,15 +46,6 @@ are_distinct-cons n names = grind arith
 any_after : (above : List Name) (n : Name) (names : List Name) → list_any (is_among (above ++ n ∷ [])) names ≡ (list_any (is_among above) names || is_among names n)
 any_after above n [] = refl
 any_after above n (m ∷ names) = grind (arith, list_any-append, same_name-sym, any_after above n names)
-
-abbrev pub if_plain : {A : Type 0} → Bool → Result A LangFault → Result A LangFault
-if_plain p r = if p then r else Err NoName
-
-abbrev pub if_new : {A : Type 0} → Bool → Result A LangFault → Result A LangFault
-if_new n r = if n then r else Err Twice
-
-pub with_name-plain : (above : List Name) (n : Name) → is_plain_name n ≡ true → with_name above n ≡ Ok (insert_key same_name above n, not (is_among above n))
-with_name-plain above n h = grind arith
 
 -- `above` with `names` after it, if these are new and earlier ones were (`new`)
 abbrev pub more_names : Bool → List Name → List Name → Result (List Name) LangFault
@@ -71,10 +68,7 @@ with_name-length above n added new h = grind (arith, length-append)
 
 -- ---- places
 
-abbrev found_or : Bool → List ℕ → Option (List ℕ)
-found_or b xs = if b then Some xs else None
-
--- the places `done`, then those of `names`; `known` is whether each earlier name has one
+-- the places of names after those of names above, of which not all may be known
 abbrev pub more_places : Bool → List ℕ → List Name → List Name → Result (Option (List ℕ)) LangFault
 more_places known done wires names =
     if list_all is_plain_name names then Ok (if known && list_all (is_among wires) names then Some (done ++ map (place_in wires) names) else None) else Err NoName

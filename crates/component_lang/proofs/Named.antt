@@ -1,5 +1,5 @@
 -- What the names of types and blocks mean.
-use Rattle.std.proofs.Common.{◌≡◌, ℕ, ◌+◌, ◌<◌, Bool, true, false, not, List, [], ◌∷◌, ◌++◌, map, length, Option, Some, None, is_some, refl, ap, ◌∙◌, arith}
+use Rattle.std.proofs.Common.{◌≡◌, ℕ, ◌+◌, ◌<◌, Bool, true, false, not, List, [], ◌∷◌, ◌++◌, map, length, Option, Some, is_some, refl, ap, ◌∙◌, arith}
 use Rattle.std.specs.Prelude.{position}
 use Rattle.std.specs.List.{enumerate_from}
 use Rattle.std.specs.Map.{lookup}
@@ -51,7 +51,7 @@ blocks-placed place [] = refl
 blocks-placed place (b ∷ blocks) = ap (λ ks. (b.name, OfBlock place) ∷ ks) (blocks-placed (place + 1) blocks)
 
 -- a name means a gate, else a type, else a block
-kind_named-split : (reader : Reader) (name : Name) → kind_named reader name
+pub kind_named-split : (reader : Reader) (name : Name) → kind_named reader name
     ≡ option_or (option_map Gate (gate_named name)) (option_or (option_map OfShape (position (same_name name) (type_names reader.types))) (option_map OfBlock (position (same_name name) (block_names reader.blocks))))
 kind_named-split reader name =
     let found = same_name name in
@@ -62,14 +62,6 @@ kind_named-split reader name =
     let blocks = map (λ (b : ℕ × Block). (b.1.name, OfBlock b.0)) (enumerate_from 0 reader.blocks) in
     lookup-append found (map (λ (e : Name × Kind). (e.0, Gate e.1)) gate_words) (types ++ blocks)
     ∙ (λ i. option_or (gate i) ((lookup-append found types blocks ∙ (λ k. option_or (type k) (block k))) i))
-
-pub kind_named-type : (reader : Reader) (name : Name) (place : ℕ) → gate_named name ≡ None → position (same_name name) (type_names reader.types) ≡ Some place
-    → kind_named reader name ≡ Some (OfShape place)
-kind_named-type reader name place g t = grind (arith, kind_named-split)
-
-pub kind_named-block : (reader : Reader) (name : Name) (o : Option ℕ) → gate_named name ≡ None → position (same_name name) (type_names reader.types) ≡ None
-    → position (same_name name) (block_names reader.blocks) ≡ o → kind_named reader name ≡ option_map OfBlock o
-kind_named-block reader name o g t b = grind (arith, kind_named-split)
 
 -- ---- free names
 

@@ -1,9 +1,9 @@
 -- Each line keeps a reader sound, and adds no more to it than it has words.
-use Rattle.std.proofs.Common.{◌≡◌, ℕ, ◌+◌, ◌-◌, ◌^◌, ◌<◌, ◌≤◌, Bool, true, false, not, List, [], ◌∷◌, ◌++◌, map, length, codes, Option, Some, None, Result, Ok, Err, is_some, unwrap_or, refl, length-append, length-take, arith}
-use Rattle.std.specs.Prelude.{◌==◌, nat_lt, ◌&&◌, if◌then◌else◌}
+use Rattle.std.proofs.Common.{◌≡◌, ℕ, ◌+◌, ◌-◌, ◌^◌, ◌<◌, ◌≤◌, Bool, true, false, not, List, [], ◌∷◌, ◌++◌, map, length, codes, Option, Some, None, Result, Ok, Err, unwrap_or, refl, length-append, length-take, arith}
+use Rattle.std.specs.Prelude.{◌==◌, nat_lt, if◌then◌else◌}
 use Rattle.std.specs.List.{list_all, prefix_len}
 use Rattle.std.specs.Result.{result_map_both}
-use Rattle.std.proofs.lemmas.Bool.{and_parts, and_from, ltb-true, lt-ltb}
+use Rattle.std.proofs.lemmas.Bool.{and_parts, ltb-true, lt-ltb}
 use Rattle.std.proofs.lemmas.Nat.{pow_pos}
 use Rattle.text_rules.specs.Names.{Name, same_name, is_among}
 use Rattle.text_rules.specs.Numbers.{plain_number_in}
@@ -11,16 +11,16 @@ use Rattle.text_rules.specs.TextLines.{uncommented}
 use Rattle.text_rules.specs.Tokens.{words}
 use Rattle.text_rules.proofs.TokenLemmas.{length-tokens}
 use Rattle.device_model.specs.declared.limits.TheConstants.{COST_LIMIT}
-use Rattle.device_model.specs.TruthTable.{has_few_ports, is_cost}
+use Rattle.device_model.specs.TruthTable.{is_cost}
 use Rattle.device_model.specs.Building.{place_in}
 use Rattle.component_lang.specs.declared.design.UsedKind.{UsedKind}
 use Rattle.component_lang.specs.declared.design.Block.{Block}
 use Rattle.component_lang.specs.declared.fault.LangFault.{LangFault}
-use Rattle.component_lang.specs.declared.fault.LangFault.TheVariants.{Line as NotHere, Name as NoName, Twice, Ports, Row, Cost}
-use Rattle.component_lang.specs.Designs.{is_plain_name, used_names, takes_args, is_block, are_blocks}
+use Rattle.component_lang.specs.declared.fault.LangFault.TheVariants.{Line as NotHere, Name as NoName, Twice}
+use Rattle.component_lang.specs.Designs.{is_plain_name, used_names, is_block, are_blocks}
 use Rattle.component_lang.specs.Kinds.{OpenType, Section, Outside, InType, InBlock, AfterTop, Reader, kind_named}
 use Rattle.component_lang.specs.TypeRows.{is_row, row_in, with_row}
-use Rattle.component_lang.specs.DesignLines.{at, type_line, block_line, wire_line, part_of, part_line, outside, in_type, in_block, at_section, after_line, top_line}
+use Rattle.component_lang.specs.DesignLines.{at, type_line, block_line, ok_line, bad_line, cost_line, wire_line, part_of, part_line, outside, in_type, in_block, at_section, after_line, top_line}
 use Rattle.component_lang.specs.inner.Sound.{is_free, is_sound_type, is_sound_block, is_sound_section, is_sound, open_wires, reader_size}
 use Rattle.component_lang.proofs.RowSets.{row_in-fits, with_row-fits}
 use Rattle.component_lang.proofs.NameLists.{among_position}
@@ -58,32 +58,11 @@ module _ (reader : Reader) (n : ℕ) (blocks_sound : are_blocks reader.types [] 
   outside-keeps : (line : List Name) → length reader.types + length reader.blocks + length line ≤ n → Keeps n (outside reader line)
   outside-keeps [] l = tt
   outside-keeps (word ∷ []) l = tt
-  outside-keeps (word ∷ name ∷ ports) l =
-      either-keeps n (same_name word (codes "type")) _ _ (type_line-keeps name ports (omega arith))
-      (either-keeps n (same_name word (codes "block")) _ _ (block_line-keeps name ports (omega arith))
-      (either-keeps n (same_name word (codes "top") && (length ports == 0)) _ (Err NotHere) (top_line-keeps name (omega arith)) tt))
+  outside-keeps (word ∷ name ∷ ports) l = grind (arith, type_line-keeps name ports, block_line-keeps name ports, top_line-keeps name)
 
   -- ---- in a type
 
   module _ (open_type : OpenType) (sound : is_sound_type reader open_type ≡ true) where
-    free : is_free reader open_type.name ≡ true
-    free = (and_parts (is_free reader open_type.name) _ sound).0
-
-    few : has_few_ports open_type.ports ≡ true
-    few = (and_parts (has_few_ports open_type.ports) _ (and_parts (is_free reader open_type.name) _ sound).1).0
-
-    ok_test : nat_lt open_type.ok (2 ^ (2 ^ open_type.ports)) ≡ true
-    ok_test = (and_parts _ _ (and_parts (has_few_ports open_type.ports) _ (and_parts (is_free reader open_type.name) _ sound).1).1).0
-
-    bad_and_cost : (nat_lt (unwrap_or open_type.bad (2 ^ (2 ^ open_type.ports) - 1)) (2 ^ (2 ^ open_type.ports)) && is_cost (unwrap_or open_type.cost 1)) ≡ true
-    bad_and_cost = (and_parts (nat_lt open_type.ok (2 ^ (2 ^ open_type.ports))) _ (and_parts (has_few_ports open_type.ports) _ (and_parts (is_free reader open_type.name) _ sound).1).1).1
-
-    bad_test : nat_lt (unwrap_or open_type.bad (2 ^ (2 ^ open_type.ports) - 1)) (2 ^ (2 ^ open_type.ports)) ≡ true
-    bad_test = (and_parts _ (is_cost (unwrap_or open_type.cost 1)) bad_and_cost).0
-
-    cost_test : is_cost (unwrap_or open_type.cost 1) ≡ true
-    cost_test = (and_parts (nat_lt (unwrap_or open_type.bad (2 ^ (2 ^ open_type.ports) - 1)) (2 ^ (2 ^ open_type.ports))) _ bad_and_cost).1
-
     bad_fits : (o : Option ℕ) → nat_lt (unwrap_or o (2 ^ (2 ^ open_type.ports) - 1)) (2 ^ (2 ^ open_type.ports)) ≡ true → unwrap_or o 0 < 2 ^ (2 ^ open_type.ports)
     bad_fits o h = grind arith
 
@@ -97,16 +76,9 @@ module _ (reader : Reader) (n : ℕ) (blocks_sound : are_blocks reader.types [] 
     in_type-keeps [] l = tt
     in_type-keeps (word ∷ []) l = grind (arith, are_blocks-types, length-append)
     in_type-keeps (word ∷ value ∷ []) l =
-        either-keeps n (same_name word (codes "ok")) _ _
-        (if-keeps n (is_row open_type.ports value) Row (Ok (at reader (InType (record open_type { ok = with_row open_type.ok (row_in value) })))) (λ is.
-        (and_from _ _ blocks_sound (and_from _ _ free (and_from _ _ few (and_from _ _ (more_fits open_type.ok value (ltb-true open_type.ok (2 ^ (2 ^ open_type.ports)) ok_test) is) bad_and_cost))), omega arith)))
-        (either-keeps n (same_name word (codes "bad")) _ _
-        (if-keeps n (is_row open_type.ports value) Row (Ok (at reader (InType (record open_type { bad = Some (with_row (unwrap_or open_type.bad 0) (row_in value)) })))) (λ is.
-        (and_from _ _ blocks_sound (and_from _ _ free (and_from _ _ few (and_from _ _ ok_test (and_from _ _ (more_fits (unwrap_or open_type.bad 0) value (bad_fits open_type.bad bad_test) is) cost_test)))), omega arith)))
-        (either-keeps n (same_name word (codes "cost")) _ (Err NotHere)
-        (if-keeps n (not (is_some open_type.cost)) Twice _ (λ first.
-        if-keeps n (is_some (plain_number_in 4 1 COST_LIMIT value)) Cost (Ok (at reader (InType (record open_type { cost = plain_number_in 4 1 COST_LIMIT value })))) (λ is.
-        (and_from _ _ blocks_sound (and_from _ _ free (and_from _ _ few (and_from _ _ ok_test (and_from _ _ bad_test (cost-fits value))))), omega arith)))) tt))
+        either-keeps n (same_name word (codes "ok")) (ok_line reader open_type value) _ (grind (arith, more_fits open_type.ok value, ltb-true))
+        (either-keeps n (same_name word (codes "bad")) (bad_line reader open_type value) _ (grind (arith, more_fits (unwrap_or open_type.bad 0) value, bad_fits open_type.bad))
+        (either-keeps n (same_name word (codes "cost")) (cost_line reader open_type value) (Err NotHere) (grind (arith, cost-fits value)) tt))
     in_type-keeps (word ∷ value ∷ more ∷ line) l = tt
 
   -- ---- in a block
@@ -129,34 +101,20 @@ module _ (reader : Reader) (n : ℕ) (blocks_sound : are_blocks reader.types [] 
     part_line-keeps name kind args l =
         if-keeps n (list_all is_plain_name (name ∷ kind ∷ args)) NoName _ (λ plain.
         unless-keeps n (is_among (used_names block.parts) name) Twice _ (λ new.
-        of_kind (and_parts _ _ plain).0 new (kind_named reader kind) (list_all (is_among block.wires) args) refl))
+        of_kind (kind_named reader kind) (list_all (is_among block.wires) args) refl (and_parts _ _ plain).0 new))
       where
-        places : List ℕ
-        places = map (place_in block.wires) args
-
-        fitting : is_plain_name name ≡ true → is_among (used_names block.parts) name ≡ false → list_all (is_among block.wires) args ≡ true
-            → (is : UsedKind) (b : Bool) → takes_args reader.types reader.blocks is (length places) ≡ b
-            → Keeps n (result_map_both (λ part. at reader (InBlock (record block { parts = block.parts ++ part ∷ [] }))) (λ what. what) (if b then Ok (record { name = name; kind = is; args = places }) else Err Ports))
-        fitting plain new wired is true fits = (
-          and_from _ _ blocks_sound (and_from _ _ block_free (block-part reader.types reader.blocks block (record { name = name; kind = is; args = places }) block_sound
-              (and_from _ _ plain (and_from _ _ fits (places_below args wired))) new)),
-          omega arith,
-        )
-        fitting plain new wired is false fits = tt
-
-        of_kind : is_plain_name name ≡ true → is_among (used_names block.parts) name ≡ false → (o : Option UsedKind) (b : Bool) → list_all (is_among block.wires) args ≡ b
-            → Keeps n (result_map_both (λ part. at reader (InBlock (record block { parts = block.parts ++ part ∷ [] }))) (λ what. what) (part_of reader name o (if b then Some places else None)))
-        of_kind plain new None b wired = tt
-        of_kind plain new (Some is) false wired = tt
-        of_kind plain new (Some is) true wired = fitting plain new wired is (takes_args reader.types reader.blocks is (length places)) refl
+        of_kind : (o : Option UsedKind) (b : Bool) → list_all (is_among block.wires) args ≡ b → is_plain_name name ≡ true → is_among (used_names block.parts) name ≡ false
+            → Keeps n (result_map_both (λ part. at reader (InBlock (record block { parts = block.parts ++ part ∷ [] }))) (λ what. what) (part_of reader name o (if b then Some (map (place_in block.wires) args) else None)))
+        of_kind None b wired plain new = tt
+        of_kind (Some is) false wired plain new = tt
+        of_kind (Some is) true wired plain new =
+            grind (arith, block_free, block-part reader.types reader.blocks block (record { name = name; kind = is; args = map (place_in block.wires) args }) block_sound, places_below args wired)
 
     in_block-keeps : (line : List (List ℕ)) → length reader.types + length reader.blocks + length block.wires + length line ≤ n → Keeps n (in_block reader block line)
     in_block-keeps [] l = tt
     in_block-keeps (word ∷ []) l = grind (arith, are_blocks-more, length-append)
-    in_block-keeps (word ∷ name ∷ []) l = if-keeps n (same_name word (codes "wire")) NotHere _ (λ e. wire_line-keeps (name ∷ []) (omega arith))
-    in_block-keeps (word ∷ name ∷ second ∷ rest) l =
-        either-keeps n (same_name word (codes "wire")) _ _ (wire_line-keeps (name ∷ second ∷ rest) (omega arith))
-        (either-keeps n (same_name word (codes "part")) _ (Err NotHere) (part_line-keeps name second rest (omega arith)) tt)
+    in_block-keeps (word ∷ name ∷ []) l = grind (arith, wire_line-keeps (name ∷ []))
+    in_block-keeps (word ∷ name ∷ second ∷ rest) l = grind (arith, wire_line-keeps (name ∷ second ∷ rest), part_line-keeps name second rest)
 
 -- ---- lines
 

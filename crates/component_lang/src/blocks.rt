@@ -76,6 +76,7 @@ impl<'a> OpenBlock<'a> {
     }
 
     /// Adds the wires that a line names.
+    #[tactic(auto, using(crate::proofs::Rules::wires_within))]
     pub fn with_wires(
         mut self,
         first: &'a [u8],

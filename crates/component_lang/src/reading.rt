@@ -40,6 +40,7 @@ fn has_few_ports(ports: usize) -> bool
 }
 
 // Reads `type NAME PORT ..`.
+#[tactic(auto, using(crate::proofs::Rules::ports_within))]
 fn start_type<'a>(
     alloc: Global,
     library: &Library<'a>,
@@ -77,6 +78,7 @@ fn top_of(library: &Library<'_>, name: &[u8]) -> Result<u32, LineError>
 }
 
 // Reads a line outside of types and blocks, from its first word and the rest.
+#[tactic(auto, using(crate::proofs::Rules::ports_within))]
 fn outside<'a>(
     alloc: Global,
     library: &Library<'a>,
@@ -169,6 +171,7 @@ fn in_block<'a>(
 }
 
 // Reads a line and returns the place of the next one.
+#[tactic(auto, using(crate::proofs::Rules::words_within))]
 fn after_line<'a>(
     alloc: Global,
     library: &mut Library<'a>,
@@ -195,6 +198,7 @@ fn after_line<'a>(
 /// Reads the design of a text of at most 16,777,216 bytes.
 ///
 /// Memory may run out at any time; any other error is the first fault of the text.
+#[tactic(auto, using(crate::proofs::Rules::lines_within))]
 pub fn read_lang(alloc: Global, text: &[u8]) -> Result<Design, LangError>
     requires { length text.now ≤ TEXT_LIMIT }
     ensures read { Fulfils (λ made. made) told (design text.now) result }

@@ -27,6 +27,7 @@ pub struct OpenType<'a> {
 }
 
 // Returns the number of the row, if the word is `ports` characters 0 and 1.
+#[tactic(auto, using(crate::proofs::Rules::rows_within))]
 fn row_in(ports: u8, word: &[u8]) -> Option<u64>
     requires { ports ≤ TYPE_PORT_LIMIT }
     ensures { result ≡ (if is_row ports word.now then Some (row_in word.now) else None) }
@@ -46,6 +47,7 @@ fn row_in(ports: u8, word: &[u8]) -> Option<u64>
 }
 
 // Adds a row to a set of rows.
+#[tactic(auto, using(crate::proofs::Rules::row_added))]
 fn with_row(rows: u64, row: u64) -> u64
     requires { row < 64 }
     ensures { result ≡ with_row rows row }
@@ -55,6 +57,7 @@ fn with_row(rows: u64, row: u64) -> u64
 
 impl<'a> OpenType<'a> {
     /// Allows a row if the part is ok.
+    #[tactic(auto, using(crate::proofs::Rules::rows_within))]
     pub fn with_ok(self, word: &[u8]) -> Result<OpenType<'a>, LineError>
         requires { self.ports ≤ TYPE_PORT_LIMIT }
         ensures { (reader : Reader) → Fulfils (λ open_type. at reader (InType (open_type_in open_type))) fault_told
@@ -70,6 +73,7 @@ impl<'a> OpenType<'a> {
     }
 
     /// Allows a row if the part is faulty.
+    #[tactic(auto, using(crate::proofs::Rules::rows_within))]
     pub fn with_bad(self, word: &[u8]) -> Result<OpenType<'a>, LineError>
         requires { self.ports ≤ TYPE_PORT_LIMIT }
         ensures { (reader : Reader) → Fulfils (λ open_type. at reader (InType (open_type_in open_type))) fault_told

@@ -39,6 +39,7 @@ pub fn add_name<'a>(names: &mut IndexSet<&'a [u8]>, word: &'a [u8]) -> Result<bo
 }
 
 /// Adds the names left in a line to the end of a list. None of them may be there already or occur twice.
+#[tactic(auto, using(crate::proofs::Rules::first_name))]
 pub fn add_names<'a>(names: &mut IndexSet<&'a [u8]>, words: Tokens<'a>) -> Result<(), LineError>
     ensures { Fulfils (λ _. names_in names.new) fault_told (with_names (names_in names.old) (tokens_left words.entry)) result }
 {

@@ -1,21 +1,12 @@
 use Rattle.std.proofs.Common.{map, ap, sym, ◌∙◌}
-use Rattle.std.specs.List.{list_all}
 use Rattle.text_rules.specs.Names.{is_among}
 use Rattle.device_model.specs.Devices.{part_names}
 use Rattle.bench_reader.specs.declared.kinds.FlipFlops.TheVariants.{Taken}
 use Rattle.bench_reader.specs.SequentialNetlists.{flip_flops, places_where}
-use Rattle.bench_reader.specs.inner.Lines.{unnumbered, with_number}
-use Rattle.bench_reader.specs.inner.Steps.{device_or_fault, is_faultless}
-use Rattle.bench_reader.proofs.FirstFaults.{said-with_number, are_faultless}
+use Rattle.bench_reader.specs.inner.Lines.{with_number}
+use Rattle.bench_reader.specs.inner.Steps.{device_or_fault}
 use Rattle.bench_reader.proofs.FlipFlops.{netlist-short, device_read, is_sequential}
 use Rattle.bench_reader.proofs.sequential.read_sequential.Goals as goal
-
-pub device_of-requires : goal.device_of-requires
-device_of-requires c =
-    let statements = c.in_ok-statements.statements.items in
-    ap (λ ss. list_all is_faultless (map unnumbered ss)) c.deref.ensures.value
-    ∙ ap (list_all is_faultless) (sym (said-with_number statements))
-    ∙ are_faultless Taken c.args.text.now (map with_number statements) c.in_ok-statements.ensures
 
 pub returns-clause-read : goal.returns-clause-read
 returns-clause-read c =

@@ -1,12 +1,7 @@
 use Rattle.std.proofs.Common.{refl, ◌∙◌, arith}
-use Rattle.component_lang.proofs.RowSets.{row-zero, row-one, row-room, bits-more}
+use Rattle.component_lang.proofs.RowSets.{row-zero, row-one, bits-more}
 use Rattle.component_lang.proofs.types.row_in.Goals as goal
 use Rattle.component_lang.proofs.types.row_in.Goals.{in-48, in-49}
-
-pub overflow_add-row : goal.overflow_add-row
-overflow_add-row c =
-    let room = row-room c.args.word.now c.loop-place.place c.loop-place.row c.loop-place-test.true (omega arith) c.loop-place.invariant.number in
-    omega arith
 
 pub loop-place-preserved : goal.loop-place-preserved
 loop-place-preserved c =

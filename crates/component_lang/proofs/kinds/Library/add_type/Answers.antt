@@ -1,5 +1,4 @@
-use Rattle.std.proofs.Common.{◌≡◌, ◌<◌, ◌++◌, ◌∷◌, [], vec_len, ap, ◌∙◌, arith}
-use Rattle.std.specs.Prelude.{if◌then◌else◌, vec_capacity}
+use Rattle.std.proofs.Common.{arith}
 use Rattle.component_lang.specs.declared.design.Shape.{Shape}
 use Rattle.component_lang.specs.inner.Views.{library_in}
 use Rattle.component_lang.proofs.NameLists.{keys-more}
@@ -8,9 +7,5 @@ use Rattle.component_lang.proofs.kinds.Library.add_type.Goals as goal
 
 pub invariant_of-self-2-clause-types_named : goal.invariant_of-self-2-clause-types_named
 invariant_of-self-2-clause-types_named c =
-    let room : vec_len c.reserve.new.self < vec_capacity c.reserve.new.self = omega (arith, c.in_ok-reserve.ensures.ok) in
-    let behind : c.push.new.self.items ≡ c.args.self.now.types.items ++ c.args.shape ∷ [] =
-    c.push.ensures.items ∙ ap (λ b. if b then c.reserve.new.self.items ++ c.args.shape ∷ [] else c.reserve.new.self.items) (c.push.ensures.succeeds room) ∙ ap (λ xs. xs ++ c.args.shape ∷ []) c.in_ok-reserve.ensures.items in
-    let free = free_names (library_in c.args.self.now) c.args.name.now c.requires.free in
-    keys-more (λ (x : Shape). x.name) c.args.self.now.type_names.keys c.insert.new.self.keys c.args.name c.args.self.now.types.items c.push.new.self.items c.args.shape
-    c.args.self.now.types_named c.in_ok-insert.ensures.keys free.no_type c.requires.named behind
+    let self = c.args.self.now in
+    grind (arith, free_names (library_in self) c.args.name.now c.requires.free, keys-more (λ (x : Shape). x.name) self.type_names.keys c.insert.new.self.keys c.args.name, c.in_ok-insert.ensures.keys, c.in_ok-reserve.ensures.ok, c.in_ok-reserve.ensures.items, c.push.ensures.items, c.push.ensures.succeeds)

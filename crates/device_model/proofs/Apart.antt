@@ -1,5 +1,5 @@
 -- Lists of different names.
-use Rattle.std.proofs.Common.{◌≡◌, inl, inr, Bool, false, List, [], ◌∷◌, ◌++◌, map, refl, sym, ap, subst, ◌∙◌, arith}
+use Rattle.std.proofs.Common.{◌≡◌, inl, inr, Bool, false, List, [], ◌∷◌, ◌++◌, map, refl, ap, ◌∙◌, arith}
 use Rattle.std.specs.Prelude.{if◌then◌else◌}
 use Rattle.text_rules.specs.Names.{Name, is_among}
 use Rattle.state_rules.proofs.Members.{In, In-append, from_map}
@@ -26,10 +26,7 @@ Different-rising (n ∷ ns) h = ((λ m. Below-irreflexive n (Below-among itself 
 
 pub Different-append : (xs ys : List Name) → Different xs → Different ys → ((n : Name) → In n xs → In n ys → ⊥) → Different (xs ++ ys)
 Different-append [] ys h g apart = g
-Different-append (x ∷ xs) ys h g apart = (
-  (λ m. elim (In-append x xs ys m) [ inl a ↦ h.0 a | inr a ↦ apart x (inl refl) a ]),
-  Different-append xs ys h.1 g (λ n a b. apart n (inr a) b),
-)
+Different-append (x ∷ xs) ys h g apart = ((λ m. elim (In-append x xs ys m) [ inl a ↦ h.0 a | inr a ↦ apart x (inl refl) a ]), Different-append xs ys h.1 g (λ n a b. apart n (inr a) b))
 
 pub Different-right : (xs ys : List Name) → Different (xs ++ ys) → Different ys
 Different-right [] ys h = h
@@ -38,7 +35,4 @@ Different-right (x ∷ xs) ys h = Different-right xs ys h.1
 -- an injective map keeps names different
 pub Different-made : (make : Name → Name) → ((m n : Name) → make m ≡ make n → m ≡ n) → (ns : List Name) → Different ns → Different (map make ns)
 Different-made make tells [] h = tt
-Different-made make tells (n ∷ ns) h = (
-  (λ m. let r = from_map make (make n) ns m in h.0 (subst (λ (k : Name). In k ns) (sym (tells n r.item r.gives)) r.is_in)),
-  Different-made make tells ns h.1,
-)
+Different-made make tells (n ∷ ns) h = ((λ m. let r = from_map make (make n) ns m in grind (arith, tells n r.item)), Different-made make tells ns h.1)

@@ -1,8 +1,7 @@
 -- If parts and wires have no fault, the result is the device of these parts over the names of their wires.
-use Rattle.std.proofs.Common.{◌≡◌, ℕ, ◌+◌, ◌≤◌, Bool, true, cond, not, nat_lt, List, [], ◌∷◌, map, length, get_or, Some, None, Ok, refl, sym, ap, ◌∙◌, arith}
+use Rattle.std.proofs.Common.{◌≡◌, ℕ, ◌≤◌, Bool, true, not, nat_lt, List, [], ◌∷◌, map, length, get_or, None, Ok, refl, ap, ◌∙◌, arith}
 use Rattle.std.specs.Prelude.{position}
 use Rattle.std.specs.List.{list_all, position_or_len}
-use Rattle.std.proofs.lemmas.Bool.{and_parts, and_from, lt-ltb, le-ltb}
 use Rattle.std.proofs.lemmas.Simd.{map-map}
 use Rattle.text_rules.specs.Names.{Name, is_among}
 use Rattle.device_model.specs.declared.limits.TheConstants.{PART_LIMIT, WIRE_LIMIT}
@@ -19,14 +18,11 @@ use Rattle.device_model.proofs.SortedLists.{itself}
 
 -- if each item passes a test, none fails it
 pub none_fails : {A : Type 0} (p : A → Bool) (xs : List A) → list_all p xs ≡ true → None ≡ position (λ x. not (p x)) xs
-none_fails p xs h = sym (ap (λ n. cond (nat_lt n (length xs)) (Some n) None) (past xs h)
-    ∙ ap (λ b. cond b (Some (length xs)) None) (le-ltb (length xs) (length xs) (omega arith)))
+none_fails p xs h = grind (arith, past xs h)
   where
     past : (xs : List _) → list_all p xs ≡ true → position_or_len (λ x. not (p x)) xs ≡ length xs
     past [] e = refl
-    past (x ∷ xs) e =
-        let two = and_parts (p x) (list_all p xs) e in
-        ap (λ b. cond (not (not b)) (1 + position_or_len (λ y. not (p y)) xs) 0) two.0 ∙ (let rest = past xs two.1 in omega arith)
+    past (x ∷ xs) e = grind (arith, past xs)
 
 -- the wire at a place
 abbrev pub wire_at : List Name → ℕ → Name
@@ -74,6 +70,4 @@ joined-wired wires part h = over part.wires h
   where
     over : (names : List Name) → list_all (is_among wires) names ≡ true → list_all (λ port. nat_lt port (length wires)) (map (place_in wires) names) ≡ true
     over [] g = refl
-    over (n ∷ names) g =
-        let two = and_parts (is_among wires n) (list_all (is_among wires) names) g in
-        and_from _ _ (lt-ltb (place_in wires n) (length wires) (position_or_len-among wires n (among_from_test n wires two.0))) (over names two.1)
+    over (n ∷ names) g = grind (arith, position_or_len-among, among_from_test, over names)

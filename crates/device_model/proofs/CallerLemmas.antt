@@ -10,8 +10,8 @@ use Rattle.device_model.specs.declared.building.BuildError.{BuildError}
 use Rattle.device_model.specs.declared.building.BuildError.TheVariants.{Memory}
 use Rattle.device_model.specs.TruthTable.{TruthTable}
 use Rattle.device_model.specs.Order.{sorted_distinct}
-use Rattle.device_model.specs.Devices.{Device, IsDevice}
-use Rattle.device_model.specs.Building.{place_in, device_of, built, reason}
+use Rattle.device_model.specs.Devices.{Device}
+use Rattle.device_model.specs.Building.{place_in, built, reason}
 use Rattle.device_model.proofs.Ordered.{Rises-sorted_distinct, among_sorted_distinct, sorted_distinct-has, sorted_distinct-is}
 use Rattle.device_model.proofs.SortedLists.{itself, Rises-from_names_rise}
 use Rattle.device_model.proofs.Repeats.{is_among-among, among_from_test}
@@ -46,12 +46,7 @@ get_or-place_in names n m =
 
 -- ---- devices
 
--- `d` is `device_of` these, and is a device
-pub record IsBuilt (parts : List Component) (wires : List Name) (tables : List TruthTable) (d : Device) : Type 0 where
-  pub made : d ≡ device_of parts wires tables
-  pub valid : IsDevice d
-
--- If parts and wires make a device, the only error is lack of memory.
+-- Where parts and wires make a device, nothing else can be wanting than memory.
 pub only_memory : (parts : List Component) (wires : List Name) (tables : List TruthTable) (device : Device) → built parts wires tables ≡ Ok device
     → (error : BuildError) → IsExpectedFault (reason error) (built parts wires tables) → error ≡ Memory
 only_memory parts wires tables device made error h = grind arith

@@ -1,5 +1,5 @@
 -- The cost of a failure of each part of a device.
-use Rattle.std.proofs.Common.{◌≡◌, ℕ, ◌<◌, true, List, length, get_or, ap, subst, ◌∙◌, arith}
+use Rattle.std.proofs.Common.{◌≡◌, ℕ, ◌<◌, true, List, length, get_or, arith}
 use Rattle.std.specs.Prelude.{slice_get, slice_index}
 use Rattle.std.proofs.lemmas.List.{get_or-map}
 use Rattle.std.proofs.lemmas.Option.{slice_get_cases, slice_get_read}
@@ -8,7 +8,7 @@ use Rattle.device_model.specs.declared.gates.Rule.TheVariants.{Table}
 use Rattle.device_model.specs.declared.component.Component.{Component}
 use Rattle.device_model.specs.TruthTable.{TruthTable}
 use Rattle.device_model.specs.Gates.{rule}
-use Rattle.device_model.specs.Devices.{Device, IsDevice, rows_take, takes_ports, has_arity, rule_cost, part_costs}
+use Rattle.device_model.specs.Devices.{Device, IsDevice, rows_take, has_arity, rule_cost, part_costs}
 use Rattle.device_model.proofs.SortedDevices.{list_all-among}
 
 table_there : (tables : List TruthTable) (t ports : ℕ) → rows_take (slice_get tables t) ports ≡ true → t < length tables
@@ -20,10 +20,7 @@ module _ (device : Device) (place : ℕ) (part : Component) (within : place < le
 
   -- the table of a part of a type exists
   pub has_table : (t : ℕ) → IsDevice device → rule part.kind ≡ Table t → t < length device.tables
-  has_table t valid e =
-      let arity = ap (has_arity device.tables) is
-      ∙ list_all-among (has_arity device.tables) device.parts valid.arities (get_or device.parts place part) (In-at device.parts place part within) in
-      table_there device.tables t (length part.ports) (subst (λ r. takes_ports device.tables r (length part.ports) ≡ true) e arity)
+  has_table t valid e = grind (arith, list_all-among (has_arity device.tables) device.parts valid.arities part, In-at device.parts place part within, table_there device.tables t (length part.ports))
 
   -- and the part has its table's cost
   pub table-cost : (t : ℕ) (rows : TruthTable) → IsDevice device → rule part.kind ≡ Table t → rows ≡ get_or device.tables t rows

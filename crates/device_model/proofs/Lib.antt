@@ -15,3 +15,4 @@ mod NameSearch
 pub mod BuildAnswers
 mod Examples
 pub mod BuiltDevices
+mod Rules

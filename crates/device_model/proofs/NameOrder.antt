@@ -1,7 +1,6 @@
 -- The order of names.
-use Rattle.std.proofs.Common.{◌≡◌, true, false, refl, sym, ap, subst, ◌∙◌, arith}
+use Rattle.std.proofs.Common.{◌≡◌, true, false, sym, ap, subst, ◌∙◌, arith}
 use Rattle.std.specs.Ordering.{nat_cmp, is_lt, is_eq, ordering_reverse}
-use Rattle.std.specs.declared.cmp.Ordering.{Ordering}
 use Rattle.std.specs.declared.cmp.Ordering.TheVariants.{Less, Equal, Greater}
 use Rattle.std.specs.Cmp.Lexicographic.{slice_cmp}
 use Rattle.std.proofs.lemmas.Bool.{false_from_ne_true}
@@ -36,11 +35,8 @@ same_if_tied a b e = (bytes_eq-Decides a b).0 (sym (is_eq-slice_cmp a b) ∙ ap 
 pub above_if_greater : (a b : Name) → slice_cmp nat_cmp a b ≡ Greater → Below b a
 above_if_greater a b e = nat_list_cmp_total.antisymm b a ∙ ap ordering_reverse e
 
-by_order : (a b : Name) (o : Ordering) → slice_cmp nat_cmp a b ≡ o → Compared a b
-by_order a b o e = grind (arith, same_if_tied, above_if_greater)
-
 pub compared : (a b : Name) → Compared a b
-compared a b = by_order a b (slice_cmp nat_cmp a b) refl
+compared a b = grind (arith, same_if_tied, above_if_greater)
 
 pub name_below-Below : (a b : Name) → Below a b → name_below a b ≡ true
 name_below-Below a b h = ap is_lt h

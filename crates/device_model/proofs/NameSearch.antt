@@ -1,5 +1,5 @@
 -- The result of a binary search by name among items whose names rise.
-use Rattle.std.proofs.Common.{◌≡◌, ℕ, ◌<◌, inl, inr, false, List, [], ◌∷◌, map, length, get_or, Some, None, Result, Ok, Err, refl, sym, ap, ◌∙◌, arith}
+use Rattle.std.proofs.Common.{◌≡◌, ℕ, ◌<◌, false, List, [], ◌∷◌, map, length, get_or, Some, None, Result, Ok, Err, refl, sym, arith}
 use Rattle.std.specs.Ordering.{nat_cmp, ordering_index}
 use Rattle.std.specs.Result.{result_ok}
 use Rattle.std.specs.declared.cmp.Ordering.{Ordering}
@@ -37,15 +37,10 @@ module _ {A : Type 0} (name : A → Name) where
   looked_up [] wanted (Ok place) up l tied = absurd (omega (arith, l))
   looked_up [] wanted (Err place) up l parted = refl
   looked_up (x ∷ xs) wanted (Ok place) up l tied =
-      sym (place_there (map name (x ∷ xs)) place wanted (Rises-map name (x ∷ xs) up) (omega (arith, l, length-map (x ∷ xs) name))
-      (get_or-map name (x ∷ xs) place x [] l ∙ same_if_tied (name (get_or (x ∷ xs) place x)) wanted (tied x)))
+      sym (place_there (map name (x ∷ xs)) place wanted (Rises-map name (x ∷ xs) up) (grind (arith, length-map)) (grind (arith, get_or-map, same_if_tied, tied x)))
   looked_up (x ∷ xs) wanted (Err place) up l parted = sym (no_place (map name (x ∷ xs)) wanted other)
     where
       other : (k : ℕ) → k < length (map name (x ∷ xs)) → same_name wanted (get_or (map name (x ∷ xs)) k []) ≡ false
       other k h =
-          let within : k < length (x ∷ xs) = omega (arith, h, length-map (x ∷ xs) name) in
-          let item = name (get_or (x ∷ xs) k x) in
-          ap (same_name wanted) (get_or-map name (x ∷ xs) k x [] within) ∙ elim (cases_lt k place) [
-            | inl before ↦ same_name-above wanted item ((parted (searchable (x ∷ xs) wanted up)).0 k x (omega arith) before)
-            | inr behind ↦ same_name-below wanted item (above_if_greater item wanted ((parted (searchable (x ∷ xs) wanted up)).1 k x behind within))
-          ]
+          let said = parted (searchable (x ∷ xs) wanted up) in
+          grind (arith, length-map, get_or-map, cases_lt k place, said.0 k x, said.1 k x, above_if_greater, same_name-above, same_name-below)

@@ -1,5 +1,5 @@
 -- Lists of items by rising name: `sorted_distinct` makes the only one with the same items.
-use Rattle.std.proofs.Common.{◌≡◌, ◌⊎◌, inl, inr, List, [], ◌∷◌, refl, sym, ap, subst, ◌∙◌, arith}
+use Rattle.std.proofs.Common.{◌≡◌, ◌⊎◌, inl, inr, List, [], ◌∷◌, refl, sym, subst, arith}
 use Rattle.text_rules.specs.Names.{Name}
 use Rattle.text_rules.proofs.NameLemmas.{same_if_equal}
 use Rattle.state_rules.proofs.Members.{In}
@@ -19,8 +19,7 @@ module _ {A : Type 0} (name : A → Name) where
 
   pub Below-among : (n : Name) (ys : List A) (y : A) → BelowAll n ys → In y ys → Below n (name y)
   Below-among n [] y h m = absurd m
-  Below-among n (x ∷ xs) y h (inl e) = subst (λ (z : A). Below n (name z)) (sym e) h.0
-  Below-among n (x ∷ xs) y h (inr m) = Below-among n xs y h.1 m
+  Below-among n (x ∷ xs) y h m = grind (arith, Below-among n xs y h.1)
 
   pub BelowAll-trans : (m n : Name) (ys : List A) → Below m n → BelowAll n ys → BelowAll m ys
   BelowAll-trans m n [] b h = tt
@@ -87,23 +86,14 @@ module _ {A : Type 0} (name : A → Name) where
 
   pub NamesTell-rising : (ys : List A) → Rises ys → NamesTell ys
   NamesTell-rising [] r x y m n e = absurd m
-  NamesTell-rising (z ∷ zs) r x y (inl e) (inl g) same' = e ∙ sym g
-  NamesTell-rising (z ∷ zs) r x y (inl e) (inr n) same' = let l = Below-among (name z) zs y r.0 n in absurd (Below-irreflexive (name y) (subst (λ (m : Name). Below m (name y)) (sym (ap name e) ∙ same') l))
-  NamesTell-rising (z ∷ zs) r x y (inr m) (inl g) same' = let l = Below-among (name z) zs x r.0 m in absurd (Below-irreflexive (name x) (subst (λ (m : Name). Below m (name x)) (sym (ap name g) ∙ sym same') l))
-  NamesTell-rising (z ∷ zs) r x y (inr m) (inr n) same' = NamesTell-rising zs r.1 x y m n same'
+  NamesTell-rising (z ∷ zs) r x y m n e = grind (arith, Below-among (name z) zs x r.0, Below-among (name z) zs y r.0, Below-irreflexive, NamesTell-rising zs r.1 x y)
 
   abbrev pub Within : List A → List A → Type 0
   Within xs ys = (z : A) → In z xs → In z ys
 
   -- two rising lists of the same items have equal heads
   same_heads : (x : A) (xs : List A) (y : A) (ys : List A) → Rises (x ∷ xs) → Rises (y ∷ ys) → Within (x ∷ xs) (y ∷ ys) → Within (y ∷ ys) (x ∷ xs) → x ≡ y
-  same_heads x xs y ys r s to back = elim (to x (inl refl)) [
-    | inl e ↦ e
-    | inr m ↦ elim (back y (inl refl)) [
-      | inl e ↦ sym e
-      | inr n ↦ absurd (Below-asymmetric (name x) (name y) (Below-among (name x) xs y r.0 n) (Below-among (name y) ys x s.0 m))
-    ]
-  ]
+  same_heads x xs y ys r s to back = grind (arith, to x, back y, Below-asymmetric, Below-among)
 
   tail_within : (x : A) (xs : List A) (y : A) (ys : List A) → Rises (x ∷ xs) → x ≡ y → Within (x ∷ xs) (y ∷ ys) → Within xs ys
   tail_within x xs y ys r e to z m = grind (arith, Below-irreflexive, Below-among)

@@ -1,8 +1,8 @@
 -- Sorted parts and wires make a device, and it is the device of the parts and wires as they were given.
-use Rattle.std.proofs.Common.{◌≡◌, ℕ, ◌+◌, ◌<◌, ◌≤◌, inl, inr, Bool, true, false, cond, not, nat_lt, List, [], ◌∷◌, map, length, get_or, Some, None, refl, ap, subst, ◌∙◌, arith}
+use Rattle.std.proofs.Common.{◌≡◌, ℕ, ◌+◌, ◌<◌, ◌≤◌, inl, inr, Bool, true, false, cond, not, nat_lt, List, [], ◌∷◌, map, length, get_or, Some, None, refl, ap, ◌∙◌, arith}
 use Rattle.std.specs.Prelude.{position}
 use Rattle.std.specs.List.{list_all, position_or_len}
-use Rattle.std.proofs.lemmas.Bool.{ltb-true, lt-ltb, and_parts, and_from}
+use Rattle.std.proofs.lemmas.Bool.{and_from}
 use Rattle.std.proofs.lemmas.List.{length-map}
 use Rattle.std.proofs.lemmas.List.Sums.{fails_before_first}
 use Rattle.std.proofs.lemmas.List.Folds.{list_all-map}
@@ -21,8 +21,7 @@ use Rattle.device_model.proofs.SortedLists.{itself, Contains-from_among, Rises-m
 
 pub list_all-among : {A : Type 0} (p : A → Bool) (xs : List A) → list_all p xs ≡ true → (x : A) → In x xs → p x ≡ true
 list_all-among p [] h x m = absurd m
-list_all-among p (y ∷ ys) h x (inl e) = ap p e ∙ (and_parts (p y) (list_all p ys) h).0
-list_all-among p (y ∷ ys) h x (inr m) = list_all-among p ys (and_parts (p y) (list_all p ys) h).1 x m
+list_all-among p (y ∷ ys) h x m = grind (arith, list_all-among p ys)
 
 pub list_all-from_among : {A : Type 0} (p : A → Bool) (xs : List A) → ((x : A) → In x xs → p x ≡ true) → list_all p xs ≡ true
 list_all-from_among p [] h = refl
@@ -31,12 +30,9 @@ list_all-from_among p (x ∷ xs) h = and_from (p x) (list_all p xs) (h x (inl re
 pub none_given : (b : Bool) (i : ℕ) → cond b (Some i) None ≡ None → b ≡ false
 none_given b i h = grind arith
 
-among_place : {A : Type 0} (xs : List A) (x : A) → In x xs → (k : ℕ) × (k < length xs) × (get_or xs k x ≡ x)
-among_place xs x m = Contains-from_among xs x m
-
 -- if no item fails a test, each passes
 pub list_all-from_position : {A : Type 0} (p : A → Bool) (xs : List A) → position (λ x. not (p x)) xs ≡ None → list_all p xs ≡ true
-list_all-from_position p xs h = grind (arith, list_all-from_among, among_place, fails_before_first)
+list_all-from_position p xs h = grind (arith, list_all-from_among, Contains-from_among, fails_before_first)
 
 -- ---- lengths and maps of lists in order
 
@@ -66,20 +62,11 @@ module _ {A : Type 0} (name : A → Name) where
 
 pub position_or_len-among : (ns : List Name) (n : Name) → In n ns → position_or_len (same_name n) ns < length ns
 position_or_len-among [] n m = absurd m
-position_or_len-among (x ∷ ns) n (inl e) = rw (same_if_equal n x e) (omega arith)
-position_or_len-among (x ∷ ns) n (inr m) = grind (arith, position_or_len-among ns n m)
+position_or_len-among (x ∷ ns) n m = grind (arith, same_if_equal, position_or_len-among ns n)
 
 -- the place of a port's wire in the sorted wires is below their number
 place_in-fits : (wires : List Name) (port : ℕ) → port < length wires → place_in (sorted_distinct itself wires) (get_or wires port []) < length (sorted_distinct itself wires)
-place_in-fits wires port l =
-    let r = sorted_distinct-has itself wires (get_or wires port []) (In-at wires port [] l) in
-    position_or_len-among (sorted_distinct itself wires) (get_or wires port []) (subst (λ (n : Name). In n (sorted_distinct itself wires)) r.2 r.1)
-
-test_less : (a b : ℕ) → nat_lt a b ≡ true → a < b
-test_less a b h = ltb-true a b h
-
-less_test : (a b : ℕ) → a < b → nat_lt a b ≡ true
-less_test a b h = lt-ltb a b h
+place_in-fits wires port l = grind (arith, position_or_len-among, sorted_distinct-has itself wires (get_or wires port []) (In-at wires port [] l))
 
 renumbered-has_wires : (wires : List Name) (part : Component) → has_wires (length wires) part ≡ true → has_wires (length (sorted_distinct itself wires)) (renumbered wires part) ≡ true
 renumbered-has_wires wires part h = over part.ports h
@@ -87,9 +74,7 @@ renumbered-has_wires wires part h = over part.ports h
     over : (ports : List ℕ) → list_all (λ port. nat_lt port (length wires)) ports ≡ true
         → list_all (λ port. nat_lt port (length (sorted_distinct itself wires))) (map (λ port. place_in (sorted_distinct itself wires) (get_or wires port [])) ports) ≡ true
     over [] g = refl
-    over (p ∷ ps) g =
-        let two = and_parts (nat_lt p (length wires)) (list_all (λ port. nat_lt port (length wires)) ps) g in
-        and_from _ _ (less_test _ _ (place_in-fits wires p (test_less p (length wires) two.0))) (over ps two.1)
+    over (p ∷ ps) g = grind (arith, place_in-fits, over ps)
 
 abbrev pub component_name : Component → Name
 component_name part = part.name

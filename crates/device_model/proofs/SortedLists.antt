@@ -1,9 +1,9 @@
 -- Lists sorted by name: neighbours, and what permutations keep.
-use Rattle.std.proofs.Common.{◌≡◌, ℕ, zero, suc, ◌+◌, ◌<◌, ◌≤◌, ◌⊎◌, inl, inr, true, false, List, [], ◌∷◌, map, length, get_or, Contains, add-one, refl, sym, subst, arith}
+use Rattle.std.proofs.Common.{◌≡◌, ℕ, suc, ◌+◌, ◌<◌, ◌≤◌, ◌⊎◌, inl, inr, true, false, List, [], ◌∷◌, map, length, get_or, Contains, add-one, refl, sym, subst, arith}
 use Rattle.std.specs.List.Sorted.{IsPermutation}
 use Rattle.std.proofs.lemmas.List.Sorted.{Contains-permutation}
 use Rattle.text_rules.specs.Names.{Name, name_below, names_rise}
-use Rattle.state_rules.proofs.Members.{In}
+use Rattle.state_rules.proofs.Members.{In, In-at}
 use Rattle.device_model.proofs.NameOrder.{Below, Below-trans, compared, name_below-Below}
 use Rattle.device_model.proofs.Ordered.{BelowAll, BelowAll-trans, Rises}
 
@@ -13,12 +13,7 @@ Contains-from_among (y ∷ ys) x (inl e) = (0, omega arith, sym e)
 Contains-from_among (y ∷ ys) x (inr m) = let r = Contains-from_among ys x m in (suc r.0, omega (arith, r.1), r.2)
 
 pub among_from_Contains : {A : Type 0} (xs : List A) (x : A) → Contains xs x → In x xs
-among_from_Contains xs x h = by xs h.0 h.1 h.2
-  where
-    by : (ys : List _) (k : ℕ) → k < length ys → get_or ys k x ≡ x → In x ys
-    by [] k l e = absurd (omega arith)
-    by (y ∷ ys) zero l e = inl (sym e)
-    by (y ∷ ys) (suc k) l e = inr (by ys k (omega arith) e)
+among_from_Contains xs x h = subst (λ y. In y xs) h.2 (In-at xs h.0 x h.1)
 
 pub among_permutation : {A : Type 0} (xs ys : List A) → IsPermutation xs ys → (x : A) → In x xs → In x ys
 among_permutation xs ys h x m = among_from_Contains ys x (Contains-permutation xs ys x h (Contains-from_among xs x m))
@@ -33,48 +28,38 @@ AtMost-trans a b c given h = grind (arith, Below-trans)
 pub AtMost-from_test : (a b : Name) → name_below b a ≡ false → AtMost a b
 AtMost-from_test a b h = grind (arith, compared)
 
+abbrev pub AtMostAll : Name → List Name → Type 0
+AtMostAll n [] = Unit {0}
+AtMostAll n (m ∷ ms) = AtMost n m × AtMostAll n ms
+
+-- no name is before an earlier one
+abbrev pub Ascends : List Name → Type 0
+Ascends [] = Unit {0}
+Ascends (n ∷ ns) = AtMostAll n ns × Ascends ns
+
+pub AtMost-among : (n : Name) (ms : List Name) (m : Name) → AtMostAll n ms → In m ms → AtMost n m
+AtMost-among n [] m h is_in = absurd is_in
+AtMost-among n (k ∷ ms) m h is_in = grind (arith, AtMost-among n ms m h.1)
+
+AtMostAll-trans : (m n : Name) (ns : List Name) → AtMost m n → AtMostAll n ns → AtMostAll m ns
+AtMostAll-trans m n [] b h = tt
+AtMostAll-trans m n (k ∷ ns) b h = (AtMost-trans m n k b h.0, AtMostAll-trans m n ns b h.1)
+
 module _ {A : Type 0} (name : A → Name) where
-  abbrev pub AtMostAll : Name → List A → Type 0
-  AtMostAll n [] = Unit {0}
-  AtMostAll n (y ∷ ys) = AtMost n (name y) × AtMostAll n ys
-
-  -- no item's name is before that of an earlier one
-  abbrev pub Ascends : List A → Type 0
-  Ascends [] = Unit {0}
-  Ascends (x ∷ xs) = AtMostAll (name x) xs × Ascends xs
-
-  pub AtMost-among : (n : Name) (ys : List A) (y : A) → AtMostAll n ys → In y ys → AtMost n (name y)
-  AtMost-among n [] y h m = absurd m
-  AtMost-among n (x ∷ xs) y h (inl e) = subst (λ (z : A). AtMost n (name z)) (sym e) h.0
-  AtMost-among n (x ∷ xs) y h (inr m) = AtMost-among n xs y h.1 m
-
-  AtMostAll-trans : (m n : Name) (ys : List A) → AtMost m n → AtMostAll n ys → AtMostAll m ys
-  AtMostAll-trans m n [] b h = tt
-  AtMostAll-trans m n (y ∷ ys) b h = (AtMost-trans m n (name y) b h.0, AtMostAll-trans m n ys b h.1)
-
-  pub Ascends-from_neighbours : (xs : List A) → ((k : ℕ) (d : A) → suc k < length xs → AtMost (name (get_or xs k d)) (name (get_or xs (suc k) d))) → Ascends xs
+  Ascends-from_neighbours : (xs : List A) → ((k : ℕ) (d : A) → suc k < length xs → AtMost (name (get_or xs k d)) (name (get_or xs (suc k) d))) → Ascends (map name xs)
   Ascends-from_neighbours [] h = tt
   Ascends-from_neighbours (x ∷ []) h = (tt, tt)
   Ascends-from_neighbours (x ∷ y ∷ ys) h =
-      let rest : Ascends (y ∷ ys) = Ascends-from_neighbours (y ∷ ys) (λ k d l. h (suc k) d (omega arith)) in
-      let first : AtMost (name x) (name y) = h 0 x (omega arith) in
-      ((first, AtMostAll-trans (name x) (name y) ys first rest.0), rest)
+      let rest : Ascends (map name (y ∷ ys)) = Ascends-from_neighbours (y ∷ ys) (λ k d l. h (suc k) d (omega arith)) in
+      ((h 0 x (omega arith), AtMostAll-trans (name x) (name y) (map name ys) (h 0 x (omega arith)) rest.0), rest)
 
-  pub Ascends-from_sort : (xs : List A) → ((k : ℕ) (d : A) → 0 ≤ k → k + 1 < length xs → name_below (name (get_or xs (k + 1) d)) (name (get_or xs k d)) ≡ false) → Ascends xs
-  Ascends-from_sort xs h = Ascends-from_neighbours xs (λ k d l. AtMost-from_test (name (get_or xs k d)) (name (get_or xs (suc k) d)) (subst (λ (n : ℕ). name_below (name (get_or xs n d)) (name (get_or xs k d)) ≡ false) (add-one k) (h k d (omega arith) (omega arith))))
+  pub Ascends-from_sort : (xs : List A) → ((k : ℕ) (d : A) → 0 ≤ k → k + 1 < length xs → name_below (name (get_or xs (k + 1) d)) (name (get_or xs k d)) ≡ false) → Ascends (map name xs)
+  Ascends-from_sort xs h = Ascends-from_neighbours xs (λ k d l. AtMost-from_test (name (get_or xs k d)) (name (get_or xs (suc k) d)) (rw (← add-one k) (h k d (omega arith) (omega arith))))
 
 abbrev pub itself : Name → Name
 itself n = n
 
 module _ {A : Type 0} (name : A → Name) where
-  AtMostAll-map : (n : Name) (xs : List A) → AtMostAll name n xs → AtMostAll itself n (map name xs)
-  AtMostAll-map n [] h = tt
-  AtMostAll-map n (x ∷ xs) h = (h.0, AtMostAll-map n xs h.1)
-
-  pub Ascends-map : (xs : List A) → Ascends name xs → Ascends itself (map name xs)
-  Ascends-map [] h = tt
-  Ascends-map (x ∷ xs) h = (AtMostAll-map (name x) xs h.0, Ascends-map xs h.1)
-
   BelowAll-map : (n : Name) (xs : List A) → BelowAll name n xs → BelowAll itself n (map name xs)
   BelowAll-map n [] h = tt
   BelowAll-map n (x ∷ xs) h = (h.0, BelowAll-map n xs h.1)

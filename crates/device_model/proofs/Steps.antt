@@ -1,11 +1,11 @@
 -- What the loops and sorts that build a device keep.
-use Rattle.std.proofs.Common.{◌≡◌, ◌≢◌, ℕ, zero, suc, ◌+◌, ◌-◌, ◌<◌, ◌≤◌, inl, inr, true, false, List, [], ◌∷◌, ◌++◌, map, length, get_or, set, Some, Err, slice_index, add-one, refl, sym, ap, subst, ◌∙◌, arith}
+use Rattle.std.proofs.Common.{◌≡◌, ◌≢◌, ℕ, zero, suc, ◌+◌, ◌<◌, inl, inr, List, [], ◌∷◌, ◌++◌, map, length, get_or, set, Some, Err, slice_index, add-one, refl, sym, ap, subst, ◌∙◌, arith}
 use Rattle.std.specs.List.{All, AllPairs}
 use Rattle.std.specs.List.Sorted.{IsPermutation}
-use Rattle.std.proofs.lemmas.List.{get_or-map, length-map, get_or_default, get_or-set_same, get_or-set_other}
+use Rattle.std.proofs.lemmas.List.{get_or_default, get_or-set_same, get_or-set_other}
 use Rattle.std.proofs.lemmas.Bool.{cases_eq}
 use Rattle.std.proofs.lemmas.List.Sorted.{IsPermutation-sym}
-use Rattle.text_rules.specs.Names.{Name, same_name}
+use Rattle.text_rules.specs.Names.{Name}
 use Rattle.device_model.specs.declared.building.BuildError.{BuildError}
 use Rattle.device_model.specs.Order.{sorted_distinct}
 use Rattle.device_model.specs.Building.{repeated}
@@ -13,7 +13,6 @@ use Rattle.device_model.specs.inner.Sorting.{numbered_from, NeighboursDiffer, Is
 use Rattle.device_model.proofs.Ordered.{Rises, sorted_distinct-is}
 use Rattle.device_model.proofs.SortedLists.{itself, Ascends, among_permutation}
 use Rattle.device_model.proofs.Repeats.{first_repeat_is_least, unless_name-repeated, Rises-from_neighbours, repeated-rising}
-use Rattle.text_rules.proofs.NameLemmas.{same_if_equal, equal_if_same}
 
 pub numbered_from-push : (p : ℕ) (ns : List Name) (n : Name) → numbered_from p (ns ++ n ∷ []) ≡ numbered_from p ns ++ (n, p + length ns) ∷ []
 numbered_from-push p [] n = ap (λ (q : ℕ). (n, q) ∷ []) (omega arith)
@@ -23,18 +22,8 @@ pub map-numbered_from : (p : ℕ) (ns : List Name) → map (λ (w : Name × ℕ)
 map-numbered_from p [] = refl
 map-numbered_from p (n ∷ ns) = ap (λ (ms : List Name). n ∷ ms) (map-numbered_from (p + 1) ns)
 
-module _ {A : Type 0} (name : A → Name) (xs : List A) (place : ℕ) (d e : A) (from : 1 ≤ place) (to : place < length xs) (before : NeighboursDiffer (map name xs) place) where
-  pub repeat_found : same_name (name (get_or xs (place - 1) d)) (name (get_or xs place e)) ≡ true → IsFirstRepeat (map name xs) (Some place)
-  repeat_found h = grind (arith, length-map, get_or-map, equal_if_same)
-
-  pub repeat_passed : same_name (name (get_or xs (place - 1) d)) (name (get_or xs place e)) ≡ false → NeighboursDiffer (map name xs) (place + 1)
-  repeat_passed h k l same_names = elim (cases_eq (k + 1) place) [
-    | inl g ↦ grind (arith, get_or-map, same_if_equal)
-    | inr n ↦ before k (omega arith) same_names
-  ]
-
 -- a sort of names, if neighbours differ and if not
-module _ (ns ms : List Name) (moved : IsPermutation ns ms) (up : Ascends itself ms) where
+module _ (ns ms : List Name) (moved : IsPermutation ns ms) (up : Ascends ms) where
   pub Rises-sorted : NeighboursDiffer ms (length ms) → Rises itself ms
   Rises-sorted h = Rises-from_neighbours ms up (λ k l e. h k (omega arith) (subst (λ (j : ℕ). get_or ms k [] ≡ get_or ms j []) (sym (add-one k)) e))
 
@@ -59,7 +48,5 @@ pub places_more : (places : List ℕ) (wires : List (Name × ℕ)) (i : ℕ) (v 
     → (k : ℕ) (w : Name × ℕ) → k < i + 1 → slice_index (set places v.1 i) (get_or wires k w).1 ≡ k
 places_more places wires i v within is same_length below distinct before k w l = elim (cases_eq k i) [
   | inl e ↦ grind (arith, get_or_default, get_or-set_same)
-  | inr n ↦ (
-      let other : (get_or wires k w).1 ≢ v.1 = λ g. distinct k i w (omega arith) within (g ∙ ap (λ (u : Name × ℕ). u.1) (is ∙ get_or_default wires i v w within)) in
-      get_or-set_other places v.1 (get_or wires k w).1 i 0 other ∙ before k w (omega arith))
+  | inr n ↦ grind (arith, distinct k i w, get_or_default, get_or-set_other, before k w)
 ]

@@ -47,11 +47,7 @@ Rises-get_or name (x ∷ xs) (suc i) (suc j) d h l k = Rises-get_or name xs i j 
 pub place_in-rising : (ns : List Name) (k : ℕ) → Rises itself ns → k < length ns → position_or_len (same_name (get_or ns k [])) ns ≡ k
 place_in-rising [] k h l = absurd (omega arith)
 place_in-rising (n ∷ ns) zero h l = rw (same_if_equal n n refl) refl
-place_in-rising (n ∷ ns) (suc k) h l =
-    let m = get_or ns k [] in
-    let other = same_name-above m n (Below-among itself n ns m h.0 (In-at ns k [] (omega arith))) in
-    let rest = place_in-rising ns k h.1 (omega arith) in
-    rw (other, rest) (omega arith)
+place_in-rising (n ∷ ns) (suc k) h l = grind (arith, same_name-above, Below-among itself n ns, In-at ns k [], place_in-rising ns k h.1)
 
 abbrev pub wire_name : Name × ℕ → Name
 wire_name w = w.0
@@ -65,44 +61,31 @@ module _ (wires : List Name) (ss : List (Name × ℕ)) (moved : IsPermutation (n
   rising = Rises-unmap wire_name ss (subst (Rises itself) (sym named) (Rises-sorted_distinct itself wires))
 
   tells : (w : Name × ℕ) → In w ss → (w.1 < length wires) × (w.0 ≡ get_or wires w.1 [])
-  tells w m =
-      let r = numbered-tells 0 wires w (among_permutation ss (numbered_from 0 wires) (IsPermutation-sym (numbered_from 0 wires) ss moved) w m) in
-      let e : r.0 ≡ w.1 = omega (arith, r.2) in
-      (omega (arith, r.1), r.3 ∙ ap (λ (k : ℕ). get_or wires k []) e)
+  tells w m = grind (arith, numbered-tells 0 wires w (among_permutation ss (numbered_from 0 wires) (IsPermutation-sym (numbered_from 0 wires) ss moved) w m))
 
   pub positions_fit : All (λ w. w.1 < length ss) ss
   positions_fit k d l = omega (arith, (tells (get_or ss k d) (In-at ss k d l)).0, length-wires)
 
   pub positions_differ : AllPairs (λ v w. v.1 ≢ w.1) ss
   positions_differ i j d l k e =
-      let a = get_or ss i d in
-      let b = get_or ss j d in
-      let x = tells a (In-at ss i d (omega arith)) in
-      let y = tells b (In-at ss j d k) in
-      let same_names : a.0 ≡ b.0 = x.1 ∙ ap (λ (p : ℕ). get_or wires p []) e ∙ sym y.1 in
-      Below-irreflexive b.0 (subst (λ (n : Name). Below n b.0) same_names (Rises-get_or wire_name ss i j d rising l k))
+      let up = Rises-get_or wire_name ss i j d rising l k in
+      grind (arith, tells (get_or ss i d) (In-at ss i d (omega arith)), tells (get_or ss j d) (In-at ss j d k), Below-irreflexive)
 
   module _ (places : List ℕ) (filled : (k : ℕ) (w : Name × ℕ) → k < length ss → slice_index places (get_or ss k w).1 ≡ k) where
     -- the place of a position is that of its wire in the sorted wires
     place_of_position : (port : ℕ) → port < length wires → slice_index places port ≡ place_in (sorted_distinct itself wires) (get_or wires port [])
     place_of_position port l =
-        let name = get_or wires port [] in
-        let w : Name × ℕ = (name, port) in
+        let w : Name × ℕ = (get_or wires port [], port) in
         let r = Contains-from_among ss w (among_permutation (numbered_from 0 wires) ss moved w (numbered-has 0 wires port port l (omega arith))) in
-        let k = r.0 in
-        let at_place : slice_index places port ≡ k = sym (ap (λ (v : Name × ℕ). slice_index places v.1) r.2) ∙ filled k w r.1 in
-        let name_there : get_or (map wire_name ss) k [] ≡ name = get_or-map wire_name ss k w [] r.1 ∙ ap wire_name r.2 in
-        let within : k < length (map wire_name ss) = omega (arith, r.1, length-map ss wire_name) in
         let up : Rises itself (map wire_name ss) = subst (Rises itself) (sym named) (Rises-sorted_distinct itself wires) in
-        grind (arith, place_in-rising)
+        let at_place : slice_index places port ≡ r.0 = sym (ap (λ (v : Name × ℕ). slice_index places v.1) r.2) ∙ filled r.0 w r.1 in
+        let name_there : get_or (map wire_name ss) r.0 [] ≡ w.0 = get_or-map wire_name ss r.0 w [] r.1 ∙ ap wire_name r.2 in
+        grind (arith, length-map, place_in-rising)
 
     ports_placed : (ports : List ℕ) → ((p : ℕ) → In p ports → p < length wires)
         → map (slice_index places) ports ≡ map (λ port. place_in (sorted_distinct itself wires) (get_or wires port [])) ports
     ports_placed [] h = refl
-    ports_placed (p ∷ ps) h =
-        let first = place_of_position p (h p (inl refl)) in
-        let rest = ports_placed ps (λ q m. h q (inr m)) in
-        cc
+    ports_placed (p ∷ ps) h = cc (place_of_position p (h p (inl refl)), ports_placed ps (λ q m. h q (inr m)))
 
     part_placed : (part : Component) → has_wires (length wires) part ≡ true → with_places places part ≡ renumbered wires part
     part_placed part h = grind (arith, ports_placed, list_all-among)
@@ -122,10 +105,8 @@ module _ (wires : List Name) (ss : List (Name × ℕ)) (moved : IsPermutation (n
 pub ports_fit : (parts : List Component) (n m : ℕ) → m ≡ n → list_all (has_wires n) parts ≡ true → All (λ p. All (λ port. port < m) p.ports) (sorted_distinct component_name parts)
 ports_fit parts n m e h k d l i f b =
     let p = get_or (sorted_distinct component_name parts) k d in
-    let joined = list_all-sorted_distinct component_name (has_wires n) parts h in
-    let one = list_all-among (has_wires n) (sorted_distinct component_name parts) joined p (In-at (sorted_distinct component_name parts) k d l) in
-    let port = get_or p.ports i f in
-    omega (arith, ltb-true port n (list_all-among (λ q. nat_lt q n) p.ports one port (In-at p.ports i f b)))
+    let one = list_all-among (has_wires n) (sorted_distinct component_name parts) (list_all-sorted_distinct component_name (has_wires n) parts h) p (In-at (sorted_distinct component_name parts) k d l) in
+    omega (arith, ltb-true (get_or p.ports i f) n (list_all-among (λ q. nat_lt q n) p.ports one (get_or p.ports i f) (In-at p.ports i f b)))
 
 -- the first items, after a write over them
 pub written_back : {A : Type 0} (n : ℕ) (xs zs : List A) → n ≡ length xs → take n (xs ++ zs) ≡ xs

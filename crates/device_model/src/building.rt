@@ -87,6 +87,7 @@ impl Device {
     /// Sorts parts and wires by name. A port is a place in the given `wires` and becomes the wire's place in order.
     ///
     /// Memory may run out at any time. Any other error is the first in the order of `BuildError` that applies.
+    #[tactic(auto, using(crate::proofs::Rules::sorted_places))]
     pub fn build(
         alloc: Global,
         parts: Vec<Component>,

@@ -1,10 +1,9 @@
 -- The given copies build the device of the copies.
-use Rattle.std.proofs.Common.{◌≡◌, ℕ, ◌-◌, ◌≤◌, inl, inr, true, List, [], ◌∷◌, ◌++◌, map, length, Ok, refl, sym, ap, ◌∙◌, arith}
+use Rattle.std.proofs.Common.{◌≡◌, ℕ, ◌-◌, ◌≤◌, inl, inr, true, List, [], ◌∷◌, map, length, Ok, refl, sym, ap, subst, ◌∙◌, arith}
 use Rattle.std.specs.Prelude.{nat_lt}
 use Rattle.std.specs.List.{flat_map, list_all}
-use Rattle.std.proofs.lemmas.List.{length-append, length-map, map-append, take-append-drop}
+use Rattle.std.proofs.lemmas.List.{length-append, length-map, length-take, length-drop, map-append}
 use Rattle.std.proofs.lemmas.List.Folds.{list_all-append, list_all-map}
-use Rattle.std.proofs.lemmas.Bool.{and_from}
 use Rattle.std.proofs.lemmas.Simd.{map-map}
 use Rattle.text_rules.specs.Expected.{IsExpectedFault}
 use Rattle.text_rules.specs.Names.{Name}
@@ -17,21 +16,20 @@ use Rattle.device_model.specs.TruthTable.{TruthTable}
 use Rattle.device_model.specs.Order.{sorted_distinct}
 use Rattle.device_model.specs.Gates.{rule}
 use Rattle.device_model.specs.Devices.{Device, IsDevice, part_names, takes_ports, has_arity, has_wires}
-use Rattle.device_model.specs.Building.{NamedPart, joined, reason, repeated, built, device_over}
+use Rattle.device_model.specs.Building.{joined, reason, built}
 use Rattle.device_model.proofs.Ordered.{Rises, sorted_distinct-is}
-use Rattle.device_model.proofs.SortedLists.{Rises-from_names_rise, Rises-unmap, Rises-map}
+use Rattle.device_model.proofs.SortedLists.{itself, Rises-from_names_rise, Rises-unmap, Rises-map}
 use Rattle.device_model.proofs.Apart.{repeated-Different, Different-rising}
 use Rattle.device_model.proofs.SortedDevices.{component_name, list_all-among, list_all-from_among}
-use Rattle.device_model.proofs.BuiltDevices.{wire_at as name_at, named, CanBeBuilt, built-over}
+use Rattle.device_model.proofs.BuiltDevices.{named, CanBeBuilt, built-over}
 use Rattle.device_model.proofs.CallerLemmas.{only_memory as only_memory_of}
 use Rattle.bench_reader.specs.declared.sequential.Sequential.{Sequential}
 use Rattle.frame_unroller.specs.Times.{times, wire_at}
 use Rattle.frame_unroller.specs.Frames.{inputs, output}
 use Rattle.frame_unroller.specs.Diagnosis.{frame_wires}
 use Rattle.frame_unroller.specs.Unrolling.{Copy, copies, named_copy, frame_device}
-use Rattle.frame_unroller.specs.inner.Copying.{position_at, given_copy, AreCopies}
+use Rattle.frame_unroller.specs.inner.Copying.{given_copy, AreCopies}
 use Rattle.frame_unroller.proofs.Members.{both_pass}
-use Rattle.frame_unroller.proofs.Order.{Rises-made}
 use Rattle.frame_unroller.proofs.Wires.{wires_differ, positions-named, positions-within}
 use Rattle.frame_unroller.proofs.Copies.{copy_name, times_in_order, IsCopy, are_copies}
 
@@ -55,35 +53,17 @@ module _ (seq : Sequential) (frames : ℕ) (valid : IsDevice seq.device) where
   -- ---- one copy
 
   module _ (c : Copy) (is : IsCopy seq frames c) where
-    wired : list_all (λ port. nat_lt port (length names)) c.part.ports ≡ true
-    wired = list_all-among (has_wires (length names)) seq.device.parts valid.joined c.part is.there
-
     parted : (list_all (λ port. nat_lt port (length names)) (inputs c.part) ≡ true) × (list_all (λ port. nat_lt port (length names)) (output c.part) ≡ true)
-    parted = both_pass (λ port. nat_lt port (length names)) (length c.part.ports - 1) c.part.ports wired
+    parted = both_pass (λ port. nat_lt port (length names)) (length c.part.ports - 1) c.part.ports (list_all-among (has_wires (length names)) seq.device.parts valid.joined c.part is.there)
 
     named_given : named given (given_copy (length names) c) ≡ named_copy names c
-    named_given =
-        ap (λ (ws : List Name). record { name = copy_name c; kind = c.part.kind; wires = ws })
-        (map-append (name_at given) (map (position_at (length names) c.before) (inputs c.part)) (map (position_at (length names) c.now) (output c.part))
-        ∙ (λ i. positions-named names frames c.before is.some (omega (arith, is.order, is.few)) (inputs c.part) parted.0 i
-        ++ positions-named names frames c.now (omega (arith, is.some, is.order)) is.few (output c.part) parted.1 i))
+    named_given = grind (arith, is.some, is.order, is.few, parted, map-append, positions-named names frames c.before, positions-named names frames c.now)
 
     given_wired : has_wires (length given) (given_copy (length names) c) ≡ true
-    given_wired =
-        list_all-append (λ port. nat_lt port (length given)) (map (position_at (length names) c.before) (inputs c.part)) (map (position_at (length names) c.now) (output c.part))
-        ∙ and_from _ _ (positions-within names frames c.before is.some (omega (arith, is.order, is.few)) (inputs c.part) parted.0)
-        (positions-within names frames c.now (omega (arith, is.some, is.order)) is.few (output c.part) parted.1)
+    given_wired = grind (arith, is.some, is.order, is.few, parted, list_all-append, positions-within names frames c.before, positions-within names frames c.now)
 
     given_long : length (given_copy (length names) c).ports ≡ length c.part.ports
-    given_long =
-        omega (
-          arith,
-          length-append (map (position_at (length names) c.before) (inputs c.part)) (map (position_at (length names) c.now) (output c.part)),
-          length-map (inputs c.part) (position_at (length names) c.before),
-          length-map (output c.part) (position_at (length names) c.now),
-          length-append (inputs c.part) (output c.part),
-          ap length (take-append-drop (length c.part.ports - 1) c.part.ports),
-        )
+    given_long = grind (arith, length-append, length-map, length-take, length-drop)
 
     given_arity : has_arity seq.device.tables (given_copy (length names) c) ≡ true
     given_arity = ap (takes_ports seq.device.tables (rule c.part.kind)) given_long ∙ list_all-among (has_arity seq.device.tables) seq.device.parts valid.arities c.part is.there
@@ -91,10 +71,7 @@ module _ (seq : Sequential) (frames : ℕ) (valid : IsDevice seq.device) where
   -- ---- all copies
 
   each : (c : Copy) → In c cs → IsCopy seq frames c
-  each c m = are_copies seq frames c m
-
-  names_are : part_names (map (given_copy (length names)) cs) ≡ map copy_name cs
-  names_are = map-map component_name (given_copy (length names)) cs
+  each = are_copies seq frames
 
   given-parts : map (named given) (map (given_copy (length names)) cs) ≡ map (named_copy names) cs
   given-parts = map-map (named given) (given_copy (length names)) cs ∙ map-same (λ c. named given (given_copy (length names) c)) (named_copy names) cs (λ c m. named_given c (each c m))
@@ -102,34 +79,33 @@ module _ (seq : Sequential) (frames : ℕ) (valid : IsDevice seq.device) where
   in_order : sorted_distinct component_name (map (joined (frame_wires seq frames)) (map (named_copy names) cs)) ≡ map (λ c. joined (frame_wires seq frames) (named_copy names c)) cs
   in_order =
       let make : Copy → Component = λ c. joined (frame_wires seq frames) (named_copy names c) in
+      let rises : Rises itself (map component_name (map make cs)) = subst (Rises itself) (sym (map-map component_name make cs)) (Rises-map copy_name cs rise) in
       ap (sorted_distinct component_name) (map-map (joined (frame_wires seq frames)) (named_copy names) cs)
-      ∙ sorted_distinct-is component_name (map make cs) (map make cs) (Rises-made component_name make cs rise) (λ z m. m) (λ z m. m)
+      ∙ sorted_distinct-is component_name (map make cs) (map make cs) (Rises-unmap component_name (map make cs) rises) (λ z m. m) (λ z m. m)
 
   module _ (few_parts : length cs ≤ PART_LIMIT) (few_wires : length given ≤ WIRE_LIMIT) where
     can_be_built : CanBeBuilt (map (given_copy (length names)) cs) given seq.device.tables
     can_be_built = record {
       few_parts = omega (arith, length-map cs (given_copy (length names)), few_parts);
       few_wires = few_wires;
-      parts_once = ap repeated names_are ∙ repeated-Different (map copy_name cs) (Different-rising (map copy_name cs) (Rises-map copy_name cs rise));
+      parts_once = grind (arith, map-map, repeated-Different, Different-rising, Rises-map, rise);
       wires_once = repeated-Different given (wires_differ names 1 frames (Rises-from_names_rise names valid.wires_rise));
-      arities = list_all-map (has_arity seq.device.tables) (given_copy (length names)) cs
-          ∙ list_all-from_among (λ c. has_arity seq.device.tables (given_copy (length names) c)) cs (λ c m. given_arity c (each c m));
+      arities = grind (arith, list_all-map, list_all-from_among, given_arity, each);
       wired = grind (arith, list_all-map, list_all-from_among, given_wired, each);
     }
 
     built-frames : built (map (given_copy (length names)) cs) given seq.device.tables ≡ Ok (frame_device seq frames)
-    built-frames =
-        built-over (map (given_copy (length names)) cs) given seq.device.tables can_be_built
-        ∙ ap (λ (ps : List NamedPart). Ok (device_over ps given seq.device.tables)) given-parts
-        ∙ ap (λ (ps : List Component). Ok (record { parts = ps; wires = frame_wires seq frames; tables = seq.device.tables })) in_order
+    built-frames = built-over (map (given_copy (length names)) cs) given seq.device.tables can_be_built ∙ rw (given-parts, in_order)
 
-    module _ (parts : List Component) (places : List ℕ) (wires : List Name) (tables : List TruthTable) (are : AreCopies seq frames parts places wires) (t : tables ≡ seq.device.tables) where
-      built-here : built parts wires tables ≡ Ok (frame_device seq frames)
-      built-here = (λ i. built (are.parts_are i) (are.wires_are i) (t i)) ∙ built-frames
+  module _ (parts : List Component) (places : List ℕ) (wires : List Name) (tables : List TruthTable) (are : AreCopies seq frames parts places wires)
+      (few_parts : length parts ≤ PART_LIMIT) (few_wires : length wires ≤ WIRE_LIMIT) (t : tables ≡ seq.device.tables) where
+    built-here : built parts wires tables ≡ Ok (frame_device seq frames)
+    built-here = (λ i. built (are.parts_are i) (are.wires_are i) (t i))
+        ∙ built-frames (omega (arith, few_parts, ap length are.parts_are, length-map cs (given_copy (length names)))) (omega (arith, few_wires, ap length are.wires_are))
 
-      pub device_made : (device : Device) → built parts wires tables ≡ Ok device → device ≡ frame_device seq frames
-      device_made device h = let both = sym built-here ∙ h in let same : frame_device seq frames ≡ device = cc in sym same
+    pub device_made : (device : Device) → built parts wires tables ≡ Ok device → device ≡ frame_device seq frames
+    device_made device h = let both = sym built-here ∙ h in cc
 
-      -- The only error is lack of memory.
-      pub only_memory : (error : BuildError) → IsExpectedFault (reason error) (built parts wires tables) → error ≡ NoMemory
-      only_memory = only_memory_of parts wires tables _ built-here
+    -- Nothing else can be wanting than memory.
+    pub only_memory : (error : BuildError) → IsExpectedFault (reason error) (built parts wires tables) → error ≡ NoMemory
+    only_memory = only_memory_of parts wires tables _ built-here

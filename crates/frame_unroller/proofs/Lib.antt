@@ -9,4 +9,5 @@ pub mod CopyClauses
 pub mod TimeCopies
 pub mod ClauseCounts
 pub mod UnrollRefusals
+pub mod Rules
 mod Examples

@@ -18,29 +18,21 @@ among-flat_map f (x ∷ xs) y m = elim (In-append y (f x) (flat_map f xs) m) [
 
 pub among-range : (a n t : ℕ) → In t (range_with_len a n) → (a ≤ t) × (t < a + n)
 among-range a zero t m = absurd m
-among-range a (suc n) t (inl e) = (omega (arith, e), omega (arith, e))
-among-range a (suc n) t (inr m) = let r = among-range (a + 1) n t m in (omega (arith, r.0), omega (arith, r.1))
+among-range a (suc n) t m = grind (arith, among-range (a + 1) n t)
 
 pub among-enumerate : {A : Type 0} (a : ℕ) (xs : List A) (e : ℕ × A) → In e (enumerate_from a xs) → (a ≤ e.0) × (e.0 < a + length xs) × In e.1 xs
 among-enumerate a [] e m = absurd m
-among-enumerate a (x ∷ xs) e (inl is) = grind arith
-among-enumerate a (x ∷ xs) e (inr m) = let r = among-enumerate (a + 1) xs e m in (omega (arith, r.0), omega (arith, r.1), inr r.2)
+among-enumerate a (x ∷ xs) e m = grind (arith, among-enumerate (a + 1) xs e)
 
 -- ---- tests
 
-pub list_all-flat_map : {A B : Type 0} (p : B → Bool) (f : A → List B) (xs : List A) → list_all p (flat_map f xs) ≡ list_all (λ x. list_all p (f x)) xs
-list_all-flat_map p f [] = refl
-list_all-flat_map p f (x ∷ xs) = list_all-append p (f x) (flat_map f xs) ∙ ap (λ b. list_all p (f x) && b) (list_all-flat_map p f xs)
-
-pub list_all-same : {A : Type 0} (p q : A → Bool) (xs : List A) → ((x : A) → In x xs → p x ≡ q x) → list_all p xs ≡ list_all q xs
-list_all-same p q [] h = refl
-list_all-same p q (x ∷ xs) h = λ i. h x (inl refl) i && list_all-same p q xs (λ y m. h y (inr m)) i
+pub list_all-flat_map : {A B : Type 0} (p : B → Bool) (q : A → Bool) (f : A → List B) (xs : List A) → ((x : A) → In x xs → list_all p (f x) ≡ q x) → list_all p (flat_map f xs) ≡ list_all q xs
+list_all-flat_map p q f [] h = refl
+list_all-flat_map p q f (x ∷ xs) h = list_all-append p (f x) (flat_map f xs) ∙ (λ i. h x (inl refl) i && list_all-flat_map p q f xs (λ y m. h y (inr m)) i)
 
 -- if all items pass, those before a place and from it on do
 pub both_pass : {A : Type 0} (p : A → Bool) (n : ℕ) (xs : List A) → list_all p xs ≡ true → (list_all p (take n xs) ≡ true) × (list_all p (drop n xs) ≡ true)
-both_pass p n xs h =
-    and_parts (list_all p (take n xs)) (list_all p (drop n xs))
-    (sym (list_all-append p (take n xs) (drop n xs)) ∙ ap (list_all p) (take-append-drop n xs) ∙ h)
+both_pass p n xs h = and_parts (list_all p (take n xs)) (list_all p (drop n xs)) (sym (list_all-append p (take n xs) (drop n xs)) ∙ ap (list_all p) (take-append-drop n xs) ∙ h)
 
 -- ---- joined lists of one length
 

@@ -1,8 +1,7 @@
 -- The copies for a time, part by part.
-use Rattle.std.proofs.Common.{◌≡◌, ℕ, zero, suc, ◌+◌, ◌-◌, ◌*◌, ◌<◌, ◌≤◌, Bool, true, false, not, cond, List, [], ◌∷◌, ◌++◌, map, length, drop, get_or, refl, sym, ap, ◌∙◌, append_assoc, arith}
-use Rattle.std.specs.Prelude.{nat_lt, if◌then◌else◌}
+use Rattle.std.proofs.Common.{◌≡◌, ℕ, zero, suc, ◌+◌, ◌-◌, ◌*◌, ◌<◌, ◌≤◌, Bool, false, not, List, [], ◌∷◌, ◌++◌, map, length, get_or, refl, sym, ap, ◌∙◌, arith}
 use Rattle.std.specs.List.{flat_map, filter, enumerate_from, range_with_len, count_by}
-use Rattle.std.proofs.lemmas.List.{drop_more, map-append, length-append, flat_map_more}
+use Rattle.std.proofs.lemmas.List.{map-append, length-append, flat_map_more}
 use Rattle.std.proofs.lemmas.List.Sums.{length-filter}
 use Rattle.text_rules.specs.Names.{Name}
 use Rattle.state_rules.proofs.Lists.{range_more}
@@ -12,29 +11,6 @@ use Rattle.frame_unroller.specs.Frames.{is_delayed}
 use Rattle.frame_unroller.specs.Times.{wire_at}
 use Rattle.frame_unroller.specs.Unrolling.{Copy, copies_of, copies_for, copies}
 use Rattle.frame_unroller.specs.inner.Copying.{given_copy, AreCopies}
-
-module _ (seq : Sequential) (t : ℕ) where
-  abbrev pub copy : ℕ → Component → ℕ → Copy
-  copy place part before = record { place = place; part = part; before = before; now = t }
-
-  none : (place : ℕ) (part : Component) (before : ℕ) → before ≡ (if is_delayed seq place then t - 1 else t) → before ≤ 0 → copies_of seq t (place, part) ≡ []
-  none place part before is low = grind arith
-
-  -- ---- one more part
-
-  module _ {B : Type 0} (shown : Copy → B) (parts : List Component) (place : ℕ) (part : Component) (lt : place < length parts) (is : part ≡ get_or parts place part)
-      (whole done : List B) (inv : whole ≡ done ++ map shown (flat_map (copies_of seq t) (enumerate_from place (drop place parts)))) where
-    abbrev rest : List B
-    rest = map shown (flat_map (copies_of seq t) (enumerate_from (place + 1) (drop (place + 1) parts)))
-
-    next : whole ≡ done ++ (map shown (copies_of seq t (place, part)) ++ rest)
-    next = grind (arith, drop_more)
-
-    pub copied : (before : ℕ) → before ≡ (if is_delayed seq place then t - 1 else t) → 0 < before → whole ≡ (done ++ shown (copy place part before) ∷ []) ++ rest
-    copied before same some = grind (arith, next, append_assoc)
-
-    pub left_out : (before : ℕ) → before ≡ (if is_delayed seq place then t - 1 else t) → before ≤ 0 → whole ≡ done ++ rest
-    left_out before same low = next ∙ ap (λ (cs : List Copy). done ++ (map shown cs ++ rest)) (none place part before same low)
 
 -- ---- the number of copies
 
@@ -55,28 +31,11 @@ module _ (seq : Sequential) where
   length-first [] a (p ∷ parts) many said = absurd (omega arith)
   length-first (b ∷ delays) a [] many said = absurd (omega arith)
   length-first (b ∷ delays) a (p ∷ parts) many said =
-      omega (
-        arith,
-        length-append (copies_of seq 1 (a, p)) (flat_map (copies_of seq 1) (enumerate_from (a + 1) parts)),
-        here b (said 0 (omega arith) ∙ ap (is_delayed seq) (at a)),
-        length-first delays (a + 1) parts (omega arith) (λ k lt. said (suc k) (omega arith) ∙ ap (is_delayed seq) (later a k)),
-      )
-    where
-      at : (a : ℕ) → a + 0 ≡ a
-      at a = omega arith
-
-      later : (a k : ℕ) → a + suc k ≡ (a + 1) + k
-      later a k = omega arith
-
-      no_more : (n : ℕ) → 0 + n ≡ n
-      no_more n = omega arith
-
-      one_more : (n : ℕ) → 1 + n ≡ suc n
-      one_more n = omega arith
-
-      here : (b : Bool) → b ≡ is_delayed seq a → length (copies_of seq 1 (a, p)) + length (filter not delays) ≡ length (cond (not b) (b ∷ filter not delays) (filter not delays))
-      here true e = ap (λ (c : Bool). length (if nat_lt 0 (if c then 1 - 1 else 1) then copy seq 1 a p (if c then 1 - 1 else 1) ∷ [] else []) + length (filter not delays)) (sym e) ∙ no_more (length (filter not delays))
-      here false e = ap (λ (c : Bool). length (if nat_lt 0 (if c then 1 - 1 else 1) then copy seq 1 a p (if c then 1 - 1 else 1) ∷ [] else []) + length (filter not delays)) (sym e) ∙ one_more (length (filter not delays))
+      let later : (k : ℕ) → a + suc k ≡ (a + 1) + k = λ k. omega arith in
+      let at : a + 0 ≡ a = omega arith in
+      let rest = length-first delays (a + 1) parts (omega arith) (λ k lt. said (suc k) (omega arith) ∙ ap (is_delayed seq) (later k)) in
+      let here : b ≡ is_delayed seq a = said 0 (omega arith) ∙ ap (is_delayed seq) at in
+      grind (arith, length-append)
 
   pub length-copies : (delays : List Bool) (frames : ℕ) → 1 ≤ frames → length delays ≡ length seq.device.parts
       → ((k : ℕ) → k < length seq.device.parts → get_or delays k false ≡ is_delayed seq k)

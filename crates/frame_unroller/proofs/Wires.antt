@@ -3,7 +3,6 @@ use Rattle.std.proofs.Common.{◌≡◌, ℕ, zero, suc, ◌+◌, ◌-◌, ◌*�
 use Rattle.std.specs.Prelude.{nat_lt}
 use Rattle.std.specs.List.{list_all, flat_map, range_with_len}
 use Rattle.std.proofs.Math.Nat.{mul-le-mul_right}
-use Rattle.std.proofs.lemmas.Bool.{and_parts, and_from, ltb-true, lt-ltb}
 use Rattle.std.proofs.lemmas.List.{length-append, length-map, get_or-map, drop_at, append_cancel_right}
 use Rattle.text_rules.specs.Names.{Name}
 use Rattle.state_rules.proofs.Members.{from_map}
@@ -25,40 +24,33 @@ last_five n = drop (length n - 5) n
 tells_time : (t : ℕ) (w : Name) → last_five (wire_at t w) ≡ 64 ∷ four_digits t
 tells_time t w = grind (arith, length-append, drop_at)
 
-tells_wire : (t : ℕ) (v w : Name) → wire_at t v ≡ wire_at t w → v ≡ w
-tells_wire t v w e = append_cancel_right v w (64 ∷ four_digits t) e
-
 -- a lower time has other digits
-times_differ : (t u : ℕ) → t < u → 64 ∷ four_digits t ≡ 64 ∷ four_digits u → ⊥
-times_differ t u lt e = grind arith
+times_differ : (t u : ℕ) (v w : Name) → t < u → wire_at t v ≡ wire_at u w → ⊥
+times_differ t u v w lt e = let digits = sym (tells_time t v) ∙ ap last_five e ∙ tells_time u w in grind (arith, digits)
 
 module _ (wires : List Name) where
   pub wires_differ : (a n : ℕ) → Rises itself wires → Different (flat_map (λ t. map (wire_at t) wires) (range_with_len a n))
   wires_differ a zero rise = tt
   wires_differ a (suc n) rise =
       Different-append (map (wire_at a) wires) (flat_map (λ t. map (wire_at t) wires) (range_with_len (a + 1) n))
-      (Different-made (wire_at a) (tells_wire a) wires (Different-rising wires rise)) (wires_differ (a + 1) n rise)
+      (Different-made (wire_at a) (λ v w e. append_cancel_right v w (64 ∷ four_digits a) e) wires (Different-rising wires rise)) (wires_differ (a + 1) n rise)
       (λ m first later.
-      let r = from_map (wire_at a) m wires first in
       let s = among-flat_map (λ t. map (wire_at t) wires) (range_with_len (a + 1) n) m later in
+      let r = from_map (wire_at a) m wires first in
       let u = from_map (wire_at s.0) m wires s.2 in
-      times_differ a s.0 (omega (arith, (among-range (a + 1) n s.0 s.1).0))
-      (sym (ap last_five r.gives ∙ tells_time a r.item) ∙ ap last_five u.gives ∙ tells_time s.0 u.item))
+      times_differ a s.0 r.item u.item (omega (arith, among-range (a + 1) n s.0 s.1)) (sym r.gives ∙ u.gives))
 
   -- ---- places
 
-  each_long : (t : ℕ) → length (map (wire_at t) wires) ≡ length wires
-  each_long t = length-map wires (wire_at t)
-
   pub length-wires : (n : ℕ) → length (flat_map (λ t. map (wire_at t) wires) (range_with_len 1 n)) ≡ n * length wires
-  length-wires n = length-chunks (λ t. map (wire_at t) wires) (length wires) each_long 1 n
+  length-wires n = length-chunks (λ t. map (wire_at t) wires) (length wires) (λ t. length-map wires (wire_at t)) 1 n
 
   module _ (frames t : ℕ) (some : 1 ≤ t) (few : t ≤ frames) where
     abbrev given : List Name
     given = flat_map (λ t. map (wire_at t) wires) (range_with_len 1 frames)
 
     given_at : (w : ℕ) → w < length wires → get_or given (position_at (length wires) t w) [] ≡ wire_at t (get_or wires w [])
-    given_at w lt = grind (arith, get_or-chunks, each_long, get_or-map)
+    given_at w lt = grind (arith, get_or-chunks, length-map, get_or-map)
 
     pub positions-named : (ports : List ℕ) → list_all (λ port. nat_lt port (length wires)) ports ≡ true
         → map (name_at given) (map (position_at (length wires) t) ports) ≡ wires_at wires t ports
@@ -69,8 +61,5 @@ module _ (wires : List Name) where
         → list_all (λ port. nat_lt port (length given)) (map (position_at (length wires) t) ports) ≡ true
     positions-within [] h = refl
     positions-within (p ∷ ports) h =
-        let two = and_parts (nat_lt p (length wires)) (list_all (λ port. nat_lt port (length wires)) ports) h in
-        let few : (t - 1) + 1 ≤ frames = omega arith in
-        let most = mul-le-mul_right (length wires) few in
-        let lt = ltb-true p (length wires) two.0 in
-        and_from _ _ (lt-ltb (position_at (length wires) t p) (length given) (omega (arith, most, lt, length-wires frames))) (positions-within ports two.1)
+        let most : ((t - 1) + 1) * length wires ≤ frames * length wires = mul-le-mul_right (length wires) (omega arith) in
+        grind (arith, length-wires, positions-within ports)

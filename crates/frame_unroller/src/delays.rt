@@ -20,6 +20,7 @@ pub(crate) fn delays_of(alloc: Global, seq: &Sequential) -> Result<Vec<bool>, Al
 }
 
 /// Counts the copies in `frames` frames: one for each part and each time, except a delayed part at the first.
+#[tactic(auto, using(crate::proofs::Rules::copies_counted))]
 pub(crate) fn copy_count(seq: &Sequential, delays: &[bool], frames: u32) -> u64
     requires some { 1 ≤ frames }
     requires few { frames ≤ FRAME_LIMIT }

@@ -119,6 +119,7 @@ fn unroll_by(alloc: Global, seq: &Sequential, copies: Copies) -> Result<Unrolled
 }
 
 // Builds the device of copies; returns the places of their parts too.
+#[tactic(auto, using(crate::proofs::Built::device_made))]
 fn device_of(
     alloc: Global,
     seq: &Sequential,
@@ -151,6 +152,7 @@ fn device_of(
 }
 
 // Replaces the health of each copy by that of its part. There are `parts` parts.
+#[tactic(auto, using(crate::proofs::Rules::shared_variables))]
 fn shared(alloc: Global, list: &Cnf, places: &[u32], parts: u32) -> Result<Cnf, AllocError>
     requires many { length places.now ≤ list.now.vars }
     requires places { All (λ place. place < parts) places.now }

@@ -22,21 +22,13 @@ pub faults-kept : (parts : ℕ) (old new : List ℕ) → length new ≡ length o
 faults-kept zero old new l kept = omega arith
 faults-kept (suc n) [] new l kept = omega arith
 faults-kept (suc n) (v ∷ old) [] l kept = absurd (omega arith)
-faults-kept (suc n) (v ∷ old) (w ∷ new) l kept = omega (
-  arith,
-  fault_count-cons (not (v == 2)) (fixed_bits n old),
-  fault_count-cons (not (w == 2)) (fixed_bits n new),
-  one-kept v w (kept zero),
-  faults-kept n old new (omega arith) (λ k e. kept (suc k) e),
-)
+faults-kept (suc n) (v ∷ old) (w ∷ new) l kept = omega (arith, fault_count-cons (not (v == 2)) (fixed_bits n old), fault_count-cons (not (w == 2)) (fixed_bits n new), one-kept v w (kept zero), faults-kept n old new (omega arith) (λ k e. kept (suc k) e))
 
 -- an open part is fixed to faulty
 pub faults-added : (parts : ℕ) (evidence : List ℕ) (i : ℕ) → i < parts → parts ≤ length evidence → get_or evidence i 0 ≡ 0 → fault_count (fixed_bits parts (set evidence i 2)) ≡ fault_count (fixed_bits parts evidence) + 1
 faults-added zero evidence i h l e = absurd (omega arith)
 faults-added (suc n) [] i h l e = absurd (omega arith)
-faults-added (suc n) (w ∷ evidence) zero h l e =
-    let none : fault_of w ≡ 0 = (λ i. fault_of (e i)) in
-    omega (arith, none, fault_count-cons false (fixed_bits n evidence), fault_count-cons (not (w == 2)) (fixed_bits n evidence))
+faults-added (suc n) (w ∷ evidence) zero h l e = let none : fault_of w ≡ 0 = (λ i. fault_of (e i)) in omega (arith, none, fault_count-cons false (fixed_bits n evidence), fault_count-cons (not (w == 2)) (fixed_bits n evidence))
 faults-added (suc n) (w ∷ evidence) (suc i) h l e = grind (arith, fault_count-cons, faults-added n evidence i)
 
 -- no more parts are faulty than there are

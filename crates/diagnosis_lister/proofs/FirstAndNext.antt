@@ -1,7 +1,7 @@
 -- The first state of least cost, and the next.
 use Rattle.std.proofs.Common.{◌≡◌, ℕ, ◌≤◌, Bool, true, List, [], length, get_or, Some, None, sym, arith}
 use Rattle.std.specs.List.{filter}
-use Rattle.state_rules.specs.Ranking.{cost, least, diagnoses, is_at_most, is_before, rest, states}
+use Rattle.state_rules.specs.Ranking.{cost, least, is_at_most, is_before, rest, states}
 use Rattle.state_rules.specs.Graphs.{Graph}
 use Rattle.state_rules.proofs.Members.{In, In-filter, In-filtered, empty-none}
 use Rattle.state_rules.proofs.Order.{Sorted, Sorted-states, Sorted-filter, first-sorted}
@@ -42,21 +42,21 @@ module _ (graph : Graph) (evidence costs : List ℕ) (most : ℕ) (e : LeastIs g
   some_model ms q later f = grind arith
 
   pub step-end : (point : List Bool) → NoneAfter (ModelWithin graph evidence costs most) point 0 → End ≡ step_of (models graph evidence (length costs)) (rest (diagnoses_under graph evidence costs) (Some point))
-  step-end point none = sym (some_model (models graph evidence (length costs)) e (rest (diagnoses_under graph evidence costs) (Some point)) (no-next point none))
+  step-end point none = grind (arith, some_model, no-next point none)
 
   some_later : (ms : List (List Bool)) → least costs ms ≡ Some most → (h : List Bool) (later : List (List Bool)) → In h later → step_of ms later ≡ Found
   some_later ms q h later m = grind arith
 
   pub step-found : (point h : List Bool) → IsFirst (Later point) h → Found ≡ step_of (models graph evidence (length costs)) (rest (diagnoses_under graph evidence costs) (Some point))
-  step-found point h is = sym (some_later (models graph evidence (length costs)) e h (rest (diagnoses_under graph evidence costs) (Some point)) (later-in point h is.meets))
+  step-found point h is = grind (arith, some_later, later-in point h is.meets)
 
 -- ---- no state
 
 pub none-first : (graph : Graph) (evidence costs : List ℕ) (d : List Bool) → least_under graph evidence costs ≡ None → d ≡ get_or (diagnoses_under graph evidence costs) 0 d
-none-first graph evidence costs d e = λ i. get_or (diagnoses costs (sym (least-none costs (models graph evidence (length costs)) e) i)) 0 d
+none-first graph evidence costs d e = simp (least-none costs (models graph evidence (length costs)) e)
 
 pub none-next : (graph : Graph) (evidence costs : List ℕ) (point d : List Bool) → least_under graph evidence costs ≡ None → d ≡ get_or (rest (diagnoses_under graph evidence costs) (Some point)) 0 d
-none-next graph evidence costs point d e = λ i. get_or (rest (diagnoses costs (sym (least-none costs (models graph evidence (length costs)) e) i)) (Some point)) 0 d
+none-next graph evidence costs point d e = simp (least-none costs (models graph evidence (length costs)) e)
 
 -- ---- states of least cost
 

@@ -4,3 +4,5 @@ pub mod Allowing
 pub mod Points
 pub mod FixedParts
 pub mod FirstAndNext
+pub mod Settled
+pub mod Rules

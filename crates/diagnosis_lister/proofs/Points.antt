@@ -1,8 +1,8 @@
 -- The last part at which a later state can leave a point.
-use Rattle.std.proofs.Common.{◌≡◌, ◌≢◌, ℕ, ◌+◌, ◌<◌, ◌≤◌, Bool, true, false, List, length, get_or, set, refl, ap, sym, ◌∙◌, subst, arith, inr, ⊎_elim}
+use Rattle.std.proofs.Common.{◌≡◌, ◌≢◌, ℕ, ◌+◌, ◌<◌, ◌≤◌, Bool, true, false, List, length, get_or, set, sym, ◌∙◌, subst, arith, inr, ⊎_elim}
 use Rattle.std.specs.Prelude.{◌⊎◌}
 use Rattle.std.proofs.Math.ListN.{length-set}
-use Rattle.std.proofs.lemmas.Bool.{cases_lt, cases_eq}
+use Rattle.std.proofs.lemmas.Bool.{cases_lt}
 use Rattle.std.proofs.lemmas.List.{get_or-set_same, get_or-set_other}
 use Rattle.state_rules.specs.Bits.{bit_in, AlikeBelow}
 use Rattle.state_rules.specs.Ranking.{is_before}
@@ -68,11 +68,8 @@ module _ {vars parts : ℕ} {P : List ℕ → List Bool → Type 0} (allows : Al
       pub tried-kept : (k : ℕ) → get_or old k 0 ≢ 0 → get_or (set evidence j 1) k 0 ≡ get_or old k 0
       tried-kept k ne = grind (arith, here, apart)
 
-      tried-behind : (k : ℕ) → j + 1 ≤ k → get_or (set evidence j 1) k 0 ≡ get_or old k 0
-      tried-behind k h = apart k (λ q. absurd (omega arith)) ∙ f.behind k h
-
       pub tried-refines : Refines parts old (set evidence j 1)
-      tried-refines = record { long = length-set evidence j 1 ∙ same; kept = tried-kept; others = λ k g. tried-behind k (omega arith) }
+      tried-refines = grind (arith, length-set, tried-kept, apart)
 
       -- a later state that leaves the point at the part agrees with the evidence that is tried
       tried : (h : List Bool) → P old h → AlikeBelow j h point → bit_in h j ≡ true → P (set evidence j 1) h
@@ -103,17 +100,8 @@ module _ {vars parts : ℕ} {P : List ℕ → List Bool → Type 0} (allows : Al
     } where
       by_place : (k : List Bool) → P old k × (is_before point k ≡ true) → Differs point k → (k ≡ h) ⊎ (is_before h k ≡ true)
       by_place k p d = ⊎_elim
-          (λ (q : d.at < part). inr (before-at h k d.at (omega (arith, allows.long is.meets, d.within)) (omega (arith, allows.long p.0, d.within)) (λ i lt. alike h is.meets i (omega arith) ∙ d.alike i lt)
-          (alike h is.meets d.at q ∙ d.faulty) d.ok))
-          (λ (q : part ≤ d.at). ⊎_elim
-          (λ same_place. is.before k (allows.more long leaves-refines p.0 (agrees same_place)))
-          (λ (ne : d.at ≢ part). absurd (l.follows.none k p.0 (λ i lt. sym (d.alike i (omega arith))) p.1))
-          (cases_eq d.at part)) (cases_lt d.at part) where
+          (λ (q : d.at < part). let a = alike h is.meets d.at q in inr (before-at h k d.at (omega (arith, allows.long is.meets, d.within)) (omega (arith, allows.long p.0, d.within)) (λ i lt. alike h is.meets i (omega arith) ∙ d.alike i lt) (a ∙ d.faulty) d.ok))
+          (λ (q : part ≤ d.at). let n = l.follows.none k p.0 in let m = is.before k in let w = allows.more long leaves-refines p.0 in grind (arith, agrees))
+          (cases_lt d.at part) where
             agrees : d.at ≡ part → (i : ℕ) → i < parts → Agree (get_or new i 0) (bit_in k i)
-            agrees at i lt = ⊎_elim
-                (λ (q : i < part). subst (λ w. Agree w (bit_in k i)) (sym (l.follows.front i (omega arith) ∙ ap word_of (d.alike i (omega arith)))) (Agree-same (bit_in k i)))
-                (λ (q : part ≤ i). ⊎_elim
-                (λ here. subst (λ w. Agree w (bit_in k i)) (sym (ap (λ j. get_or new j 0) here ∙ l.ok)) (subst (λ b. Agree 1 b) (sym (ap (bit_in k) (here ∙ sym at) ∙ d.ok)) refl))
-                (λ (ne : i ≢ part). subst (λ w. Agree w (bit_in k i)) (sym (l.follows.behind i (omega arith))) (allows.agrees long p.0 i lt))
-                (cases_eq i part))
-                (cases_lt i part)
+            agrees at i lt = grind (arith, Agree-same, allows.agrees long p.0 i lt)

@@ -13,6 +13,7 @@ use node_store::GraphView;
 use std::sync::ledger::Ledger;
 
 // Fixes the open parts as the state has them, up to the first part that is held otherwise. Returns how many parts these are, with that one.
+#[tactic(auto, using(crate::proofs::Rules::followed_points))]
 fn follow(evidence: &mut [u32], state: &[u32]) -> usize
     requires long { length state.now ≤ length evidence.old }
     requires evidence { All (λ w. w < 3) evidence.old }

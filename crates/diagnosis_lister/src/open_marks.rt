@@ -31,6 +31,7 @@ pub(crate) fn unmark(state: &mut [u32])
 }
 
 // Writes what the evidence says of the parts to the state, and opens the parts that were open.
+#[tactic(auto, using(crate::proofs::Rules::states_read))]
 pub(crate) fn write_back(evidence: &mut [u32], state: &mut [u32])
     requires { length state.old ≤ length evidence.old }
     ensures evidence { (k : ℕ) → k < length state.old → slice_index evidence.new k

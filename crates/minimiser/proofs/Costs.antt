@@ -24,12 +24,6 @@ fault (Some b) cost x = 0
 abbrev pub open_weights : (ℕ → Option Bool) → (ℕ → ℕ) → ℕ → Weights
 open_weights known cost parts = record { known = known; weight = λ v b. fault (known v) (cost v) b; parts = parts }
 
-pub AtMost-min_left : (c d : Option ℕ) (n : ℕ) → AtMost c n → AtMost (min_costs c d) n
-AtMost-min_left c d n h = grind arith
-
-pub AtMost-min_right : (c d : Option ℕ) (n : ℕ) → AtMost d n → AtMost (min_costs c d) n
-AtMost-min_right c d n h = grind arith
-
 pub and_left : (x y : Bool) → (x && y) ≡ true → x ≡ true
 and_left x y e = (and_parts x y e).0
 

@@ -2,25 +2,24 @@
 use Rattle.std.proofs.Common.{◌≡◌, ℕ, zero, suc, ◌+◌, ◌-◌, ◌<◌, ◌≤◌, Bool, true, false, eqb, ◌&&◌, ◌||◌, List, [], ◌∷◌, map, length, Option, Some, None, refl, ap, sym, ◌∙◌, subst, arith, inl, inr, ⊎_elim}
 use Rattle.std.specs.Prelude.{slice_get}
 use Rattle.std.specs.List.{list_all, list_any}
-use Rattle.std.proofs.lemmas.Bool.{and_from, cases_lt, or_cases, false≢true, eqb-true, eq-eqb, not-true, true_from_ne_false}
+use Rattle.std.proofs.lemmas.Bool.{and_from, cases_lt, or_cases, eqb-true, eq-eqb, not-true, true_from_ne_false}
 use Rattle.std.proofs.lemmas.List.{get_or_past}
 use Rattle.std.proofs.lemmas.Option.{get_or_from_slice_get, slice_get_within, same_Some, slice_get-get_or}
 use Rattle.state_rules.proofs.Bits.{same_bit-equal}
 use Rattle.state_rules.specs.Assignments.{Assignment}
-use Rattle.state_rules.specs.Values.{values}
 use Rattle.state_rules.proofs.Lists.{list_any-map}
 use Rattle.state_rules.proofs.Members.{In, Passing, any_from, any_in, AtMost}
 use Rattle.state_rules.proofs.Values.{length-values_after}
 use Rattle.state_rules.specs.declared.nodes.NodeKind.{NodeKind}
 use Rattle.state_rules.specs.declared.nodes.NodeKind.TheVariants.{Literal, And, Or}
-use Rattle.state_rules.specs.Graphs.{at_most_one, Node, Graph, true_node, truth, truth_by, mention_by, mentions, is_true, IsGraph, node_at}
+use Rattle.state_rules.specs.Graphs.{at_most_one, Node, Graph, true_node, truth_by, mention_by, mentions, is_true, IsGraph, node_at}
 use Rattle.state_rules.proofs.NodeValues.{are_below, value_of-get}
 use Rattle.state_rules.proofs.Children.{at_most_one-tail, not_both}
 use Rattle.state_rules.proofs.NodesFit.{fits-get, apart-get}
 use Rattle.conditioner.specs.Evidence.{leaf_of}
 use Rattle.minimiser.specs.Costs.{part_cost, known_at, sum_costs, cheapest, cost_by, literal_cost, least_at}
 use Rattle.node_costs.proofs.Conditions.{one_apart, cost_among-apart, cost_among-one, join, joined-le}
-use Rattle.minimiser.proofs.Costs.{fault, open_weights, only_parts, as_cost, IsCost, Agrees, faults_in, faults_in-le, all_faults, and_left, and_right, from_add, AtMost-min_left, AtMost-min_right}
+use Rattle.minimiser.proofs.Costs.{fault, open_weights, only_parts, as_cost, IsCost, Agrees, faults_in, faults_in-le, all_faults, and_left, and_right, from_add}
 pub use Rattle.node_costs.proofs.Nodes.{all-below}
 use Rattle.minimiser.proofs.Nodes as nodes
 use Rattle.minimiser.proofs.LeastOfModels.{part_cost-none}
@@ -35,22 +34,17 @@ child-with f kids e = any_from f kids (sym (list_any-map (λ b. b) f kids) ∙ e
 
 pub all-child : (f : ℕ → Bool) (kids : List ℕ) (k : ℕ) → In k kids → list_all (λ b. b) (map f kids) ≡ true → f k ≡ true
 all-child f [] k m e = absurd m
-all-child f (j ∷ kids) k (inl q) e = ap f q ∙ and_left _ _ e
-all-child f (j ∷ kids) k (inr m) e = all-child f kids k m (and_right (f j) _ e)
+all-child f (j ∷ kids) k m e = grind (arith, all-child f kids k)
 
 -- an Or node costs no more than a child
 pub cheapest-child : (C : ℕ → Option ℕ) (kids : List ℕ) (j d : ℕ) → In j kids → C j ≡ Some d → AtMost (cheapest (map C kids)) d
 cheapest-child C [] j d m e = absurd m
-cheapest-child C (i ∷ kids) j d (inl q) e = AtMost-min_left (C i) (cheapest (map C kids)) d (subst (λ o. AtMost o d) (sym (ap C (sym q) ∙ e)) (omega arith))
-cheapest-child C (i ∷ kids) j d (inr r) e = AtMost-min_right (C i) (cheapest (map C kids)) d (cheapest-child C kids j d r e)
+cheapest-child C (i ∷ kids) j d m e = grind (arith, cheapest-child C kids j d)
 
 -- and an And node no less
 pub sum-child : (C : ℕ → Option ℕ) (kids : List ℕ) (c j : ℕ) → sum_costs (map C kids) ≡ Some c → In j kids → (d : ℕ) × (C j ≡ Some d) × (d ≤ c)
 sum-child C [] c j e m = absurd m
-sum-child C (k ∷ kids) c j e (inl q) = let s = from_add (C k) (sum_costs (map C kids)) c e in (s.left, ap C q ∙ s.left_is, omega (arith, s.sum_is))
-sum-child C (k ∷ kids) c j e (inr r) =
-    let s = from_add (C k) (sum_costs (map C kids)) c e in
-    let more = sum-child C kids s.right j s.right_is r in (more.0, more.1, omega (arith, more.2, s.sum_is))
+sum-child C (k ∷ kids) c j e m = let s = from_add (C k) (sum_costs (map C kids)) c e in grind (arith, sum-child C kids s.right j s.right_is)
 
 module _ (graph : Graph) (evidence costs : List ℕ) (ok : IsGraph graph) where
   abbrev kn : ℕ → Option Bool
@@ -264,7 +258,7 @@ module _ (graph : Graph) (evidence costs : List ℕ) (ok : IsGraph graph) where
   -- ---- from the root to a fault
 
   pub node-there : (k : ℕ) (a : Assignment) → T a k ≡ true → k < length graph.nodes
-  node-there k a h = ⊎_elim (λ p. p) (λ p. absurd (false≢true (sym (get_or_past (values (truth a) graph.nodes) k false (omega (arith, length-values_after (truth a) [] graph.nodes))) ∙ h))) (cases_lt k (length graph.nodes))
+  node-there k a h = grind (arith, get_or_past, length-values_after, cases_lt)
 
   module _ (a : Assignment) (agree : Agrees (known_at evidence) (part_cost costs) (length costs) a) (p : ℕ) (low : 1 ≤ p) (high : p < 1 + length costs) (false_at : a p ≡ false)
       (dear : 0 < fault (known_at evidence p) (part_cost costs p) (a p)) where

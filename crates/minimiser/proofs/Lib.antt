@@ -9,3 +9,4 @@ pub mod Derivations
 pub mod Valued
 pub mod SpreadMarks
 pub mod OutsideCosts
+pub mod Rules

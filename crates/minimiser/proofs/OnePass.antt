@@ -1,15 +1,14 @@
 -- One more node, and all of them.
-use Rattle.std.proofs.Common.{◌≡◌, ℕ, zero, suc, ◌+◌, ◌-◌, ◌<◌, ◌≤◌, ◌^◌, Bool, true, cond, List, [], ◌∷◌, ◌++◌, map, length, take, drop, set, get_or, All, Option, Some, None, refl, ap, sym, ◌∙◌, arith, add-one, zero-add}
+use Rattle.std.proofs.Common.{◌≡◌, ℕ, zero, suc, ◌+◌, ◌-◌, ◌<◌, ◌≤◌, Bool, true, cond, List, [], ◌∷◌, ◌++◌, map, length, take, drop, set, get_or, All, Option, Some, None, refl, ap, sym, ◌∙◌, arith, add-one, zero-add}
 use Rattle.std.specs.Prelude.{slice_get, IfSome}
-use Rattle.std.proofs.lemmas.Bool.{ltb-true}
 use Rattle.std.proofs.Math.ListN.{length-map}
 use Rattle.std.proofs.Math.Seq.{take-length}
-use Rattle.std.proofs.lemmas.List.{length-take-le, length-drop, take_all}
+use Rattle.std.proofs.lemmas.List.{length-take-le, length-drop, take_all, take_more_set, map-append}
 use Rattle.std.proofs.lemmas.Option.{slice_get-get_or, get_or_from_slice_get, slice_get_within}
 use Rattle.state_rules.specs.Values.{values}
 use Rattle.state_rules.proofs.Values.{length-values_after, values_after-append, values-at}
 use Rattle.state_rules.specs.declared.nodes.NodeKind.{NodeKind}
-use Rattle.state_rules.specs.declared.nodes.NodeKind.TheVariants.{Literal, And}
+use Rattle.state_rules.specs.declared.nodes.NodeKind.TheVariants.{Literal}
 use Rattle.state_rules.specs.Graphs.{Node, Graph, mentions, true_node, node_at, node_fits, IsGraph}
 use Rattle.state_rules.proofs.NodeValues.{below-each}
 use Rattle.state_rules.proofs.NodesFit.{nodes_fit-at, fits-get, literal}
@@ -51,9 +50,6 @@ cost_small graph evidence costs k ok n e =
 
 pub children_below : (graph : Graph) (i : ℕ) (n : Node) → IsGraph graph → slice_get graph.nodes i ≡ Some n → All (λ k. k < i) n.kids
 children_below graph i n ok e = below-each i n.kids (fits-get graph.vars graph.nodes i n ok.nodes.fit e).below
-
-pub few_children : (graph : Graph) (i : ℕ) (kids : List ℕ) → IsGraph graph → slice_get graph.nodes i ≡ Some (record { what = And; kids = kids }) → length kids < 2 ^ 32
-few_children graph i kids ok e = ltb-true (length kids) 4294967296 (fits-get graph.vars graph.nodes i _ ok.nodes.fit e).kind
 
 pub the_node : (nodes : List Node) (i : ℕ) (w : NodeKind) (ks : List ℕ) → i < length nodes → w ≡ (node_at nodes i).what → ks ≡ (node_at nodes i).kids
     → slice_get nodes i ≡ Some (record { what = w; kids = ks })
@@ -124,11 +120,7 @@ value_small graph evidence costs k xs ok v h ne = cost_small graph evidence cost
 
 -- the values so far, after one more is written
 pub written : (values : List ℕ) (i v : ℕ) → i < length values → map cost_in (take (i + 1) (set values i v)) ≡ map cost_in (take i values) ++ cost_in v ∷ []
-written values i v h = rw (add-one i) (go values i h) where
-  go : (xs : List ℕ) (i : ℕ) → i < length xs → map cost_in (take (suc i) (set xs i v)) ≡ map cost_in (take i xs) ++ cost_in v ∷ []
-  go [] i h = absurd (omega arith)
-  go (x ∷ xs) zero h = refl
-  go (x ∷ xs) (suc i) h = λ j. cost_in x ∷ go xs i (omega arith) j
+written values i v h = rw (take_more_set values i v h) (simp map-append)
 
 pub all_valued : (graph : Graph) (evidence costs : List ℕ) (i : ℕ) (left : List Node) (xs : List ℕ) → length xs ≡ length graph.nodes → drop i graph.nodes ≡ left → left ≡ []
     → map cost_in (take i xs) ≡ costs_to graph evidence costs i → AreLeastCosts graph evidence costs xs

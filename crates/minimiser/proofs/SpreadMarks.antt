@@ -1,10 +1,9 @@
 -- Marks spread from the root. They say of each literal whether it is in a derivation of the root at its least cost.
-use Rattle.std.proofs.Common.{◌≡◌, ◌≢◌, ℕ, zero, suc, ◌+◌, ◌-◌, ◌<◌, ◌≤◌, Bool, true, false, cond, eqb, ◌&&◌, ◌||◌, List, [], ◌∷◌, length, get_or, min, All, Option, Some, None, refl, ap, sym, ◌∙◌, subst, arith, inl, inr, ⊎_elim}
+use Rattle.std.proofs.Common.{◌≡◌, ◌≢◌, ℕ, zero, suc, ◌+◌, ◌-◌, ◌<◌, ◌≤◌, Bool, true, false, cond, ◌&&◌, List, [], ◌∷◌, length, get_or, min, All, Option, Some, None, refl, ap, sym, ◌∙◌, subst, arith, inl, inr, ⊎_elim}
 use Rattle.std.proofs.lemmas.Bool.Decides.{nat_tests}
-use Rattle.std.specs.Prelude.{◌==◌, slice_get, nat_le, IsSome}
-use Rattle.std.proofs.lemmas.Bool.{and_from, cases_lt, eqb-true, eq-eqb, leb-true, le-leb, ltb-true, lt-ltb, cases_eq, false_from_ne_true}
+use Rattle.std.specs.Prelude.{slice_get, nat_le, IsSome}
+use Rattle.std.proofs.lemmas.Bool.{cases_lt, leb-true, cases_eq}
 use Rattle.std.proofs.lemmas.Option.{slice_get-get_or, slice_get_within, get_or_from_slice_get, same_Some}
-use Rattle.std.proofs.Math.Bool.{or-true}
 use Rattle.state_rules.specs.Bits.{bit_in}
 use Rattle.state_rules.specs.declared.nodes.NodeKind.{NodeKind}
 use Rattle.state_rules.specs.declared.nodes.NodeKind.TheVariants.{Literal, And, Or}
@@ -15,7 +14,7 @@ use Rattle.conditioner.specs.Evidence.{known_of}
 use Rattle.conditioner.specs.Models.{total_cost}
 use Rattle.minimiser.specs.Costs.{part_cost, known_at, least_at}
 use Rattle.minimiser.specs.inner.Held.{held_cost}
-use Rattle.minimiser.specs.Stored.{cost_in, AreLeastCosts}
+use Rattle.minimiser.specs.Stored.{AreLeastCosts}
 use Rattle.minimiser.specs.LeastStates.{Suspect, LeastState, OkBelow}
 use Rattle.minimiser.specs.inner.Swept.{IsValue, has_mark, unmarked, IsMarked, is_child, spread_value, HasMarkedParent, IsSwept, suspect_of, suspect_at}
 use Rattle.minimiser.proofs.Costs.{fault, and_left, and_right}
@@ -25,24 +24,12 @@ use Rattle.minimiser.proofs.OnePass.{value_small, length-least_costs, children_b
 use Rattle.minimiser.proofs.Valued.{cost_in-is, value-is}
 use Rattle.minimiser.proofs.Derivations.{sum-child, cheapest-child, Useful, useful-root, useful-and, useful-or, useful-literal, on-root, descend, costs-at, below, all-below}
 use Rattle.minimiser.proofs.Models.{LeastIs}
+use Rattle.std.proofs.lemmas.List.{get_or_default}
 
 pub some-least : (o : Option ℕ) → IsSome o → (m : ℕ) × (o ≡ Some m)
 some-least o h = grind arith
 
 -- ---- marks of values
-
-mark-in : (v : ℕ) → 2147483648 ≤ v → v < 4294967295 → has_mark v ≡ true
-mark-in v h g = and_from _ _ (le-leb _ _ h) (lt-ltb _ _ g)
-
-mark-out : (v : ℕ) → has_mark v ≡ true → (2147483648 ≤ v) × (v < 4294967295)
-mark-out v e = (leb-true _ _ (and_left _ _ e), ltb-true _ _ (and_right (nat_le 2147483648 v) _ e))
-
--- neither a cost nor the number that means none has a mark
-no-mark : (v : ℕ) → IsValue v → has_mark v ≡ false
-no-mark v h = false_from_ne_true (has_mark v) (λ e. ⊎_elim (λ (q : v < 2147483647). omega (arith, (mark-out v e).0)) (λ (q : v ≡ 4294967295). omega (arith, (mark-out v e).1)) h)
-
-marked : (v : ℕ) → v < 2147483647 → has_mark (v + 2147483648) ≡ true
-marked v h = mark-in (v + 2147483648) (omega arith) (omega arith)
 
 pub child-out : (kids : List ℕ) (j : ℕ) → is_child kids j ≡ true → In j kids
 child-out [] j e = absurd (cc)
@@ -50,8 +37,7 @@ child-out (k ∷ kids) j e = grind (arith, child-out kids j)
 
 pub child-in : (kids : List ℕ) (j : ℕ) → In j kids → is_child kids j ≡ true
 child-in [] j m = absurd m
-child-in (k ∷ kids) j (inl q) = ap (λ b. b || is_child kids j) (eq-eqb k j (sym q))
-child-in (k ∷ kids) j (inr r) = ap (λ b. eqb k j || b) (child-in kids j r) ∙ or-true (eqb k j)
+child-in (k ∷ kids) j m = grind (arith, child-in kids j)
 
 -- a value when a marked node spreads: it stays, or it was low and is marked
 data Spread (kids : List ℕ) (cost j v : ℕ) : ℕ → Type 0 where
@@ -93,7 +79,7 @@ module _ (nodes : List Node) (cs : List ℕ) where
     small = omega (arith, own-is.0, own-is.1)
 
     moves : (j : ℕ) → j < length nodes → Spread kids own j (get_or xs j 0) (get_or ys j 0)
-    moves j h = subst (Spread kids own j (get_or xs j 0)) (sym (spreads j h)) (spread-is kids own j (get_or xs j 0))
+    moves j h = rw (spreads j h) (spread-is kids own j (get_or xs j 0))
 
     more : (j : ℕ) → j < length nodes → has_mark (get_or xs j 0) ≡ true → has_mark (get_or ys j 0) ≡ true
     more j h q = spread-marked kids own j (get_or xs j 0) (get_or ys j 0) small (moves j h) q
@@ -131,13 +117,8 @@ one_less i = omega arith
 
 module _ (graph : Graph) (evidence costs : List ℕ) (ok : IsGraph graph) (total : total_cost costs < 2147483647) (cs : List ℕ) (v : AreLeastCosts graph evidence costs cs) where
   pub are-values : All IsValue cs
-  are-values k d h = subst IsValue (default cs k d h) (⊎_elim (λ (q : get_or cs k 0 ≡ 4294967295). inr q)
-      (λ (ne : get_or cs k 0 ≢ 4294967295). inl (omega (arith, total, value_small graph evidence costs k cs ok v h ne)))
-      (cases_eq (get_or cs k 0) 4294967295)) where
-        default : (xs : List ℕ) (k d : ℕ) → k < length xs → get_or xs k 0 ≡ get_or xs k d
-        default [] k d h = absurd (omega arith)
-        default (x ∷ xs) zero d h = refl
-        default (x ∷ xs) (suc k) d h = default xs k d (omega arith)
+  are-values k d h = ⊎_elim (λ (q : get_or cs k 0 ≡ 4294967295). inr (grind (arith, get_or_default)))
+      (λ (ne : get_or cs k 0 ≢ 4294967295). let small = value_small graph evidence costs k cs ok v h ne in inl (grind (arith, get_or_default))) (cases_eq (get_or cs k 0) 4294967295)
 
 -- ---- all nodes are looked at
 
@@ -184,9 +165,10 @@ module _ (graph : Graph) (evidence costs : List ℕ) (ok : IsGraph graph) (long 
   root-cost = grind (arith, least_is)
 
   pub root-low : get_or cs (length graph.nodes - 1) 0 < 2147483647
-  root-low = ⊎_elim (λ q. q)
-      (λ q. absurd (cc (sym (value-is graph evidence costs cs v (length graph.nodes - 1) (omega (arith, ok.some))) ∙ ap cost_in q, root-cost.is)))
-      (are-values graph evidence costs ok total cs v (length graph.nodes - 1) 0 (omega (arith, ok.some, room)))
+  root-low =
+      let root = are-values graph evidence costs ok total cs v (length graph.nodes - 1) 0 (omega (arith, ok.some, room)) in
+      let value = value-is graph evidence costs cs v (length graph.nodes - 1) (omega (arith, ok.some)) in
+      let cost = root-cost.is in grind arith
 
   module _ (xs : List ℕ) (s : IsSwept graph.nodes cs xs 0) where
     -- the cost of a marked node
@@ -227,13 +209,9 @@ module _ (graph : Graph) (evidence costs : List ℕ) (ok : IsGraph graph) (long 
     suspect-sound k part h e = by_mark (has_mark (get_or xs k 0)) refl e where
       by_kind : IsMarked xs k → (what : NodeKind) (kids : List ℕ) → slice_get graph.nodes k ≡ Some (record { what = what; kids = kids }) → suspect_of evidence (length costs) what ≡ Some part → Suspect graph evidence costs part
       by_kind m (Literal true var) kids f q = absurd (cc)
-      by_kind m (Literal false var) kids f q = by_test (nat_le var (length costs) && (get_or evidence (var - 1) 0 == 0)) refl q where
-        by_test : (b : Bool) → (nat_le var (length costs) && (get_or evidence (var - 1) 0 == 0)) ≡ b → cond b (Some (var - 1)) None ≡ Some part → Suspect graph evidence costs part
-        by_test true t r =
-            let same : var - 1 ≡ part = same_Some (var - 1) part r in
-            subst (Suspect graph evidence costs) same
-            (literal-suspect k var kids f (marked-useful (length graph.nodes) k (omega arith) h m) (literal_at graph k var false kids ok f).0 (leb-true _ _ (and_left _ _ t)) (eqb-true _ _ (and_right (nat_le var (length costs)) _ t)))
-        by_test false t r = absurd (cc)
+      by_kind m (Literal false var) kids f q =
+          let u = literal-suspect k var kids f (marked-useful (length graph.nodes) k (omega arith) h m) (literal_at graph k var false kids ok f).0 in
+          grind (arith, nat_tests)
       by_kind m And kids f q = absurd (cc)
       by_kind m Or kids f q = absurd (cc)
 

@@ -1,5 +1,5 @@
 -- Costs of children, one after another.
-use Rattle.std.proofs.Common.{◌≡◌, ℕ, zero, suc, ◌+◌, ◌<◌, ◌≤◌, min, List, [], ◌∷◌, map, length, get_or, drop, All, Option, Some, None, refl, ap, ◌∙◌, arith}
+use Rattle.std.proofs.Common.{◌≡◌, ℕ, zero, suc, ◌+◌, ◌<◌, ◌≤◌, min, List, [], ◌∷◌, map, length, get_or, drop, All, Option, Some, refl, ◌∙◌, arith}
 use Rattle.std.specs.Prelude.{IfSome}
 use Rattle.std.proofs.lemmas.List.{drop_more}
 use Rattle.minimiser.specs.Costs.{add_costs, min_costs, cost_at, sum_costs, cheapest}
@@ -28,12 +28,6 @@ here values kids i = get_or values (get_or kids i 0) 0
 pub cost_in-some : (v : ℕ) → (v ≡ 4294967295 → ⊥) → cost_in v ≡ Some v
 cost_in-some v h = grind arith
 
-add_costs-zero : (c : Option ℕ) → c ≡ add_costs c (Some 0)
-add_costs-zero c = grind arith
-
-min_costs-none : (c : Option ℕ) → c ≡ min_costs c None
-min_costs-none c = grind arith
-
 -- The greatest number means no cost. A sum that is cut there means none exactly if one of both does, unless the whole sum is none.
 cut_sum : (a b : ℕ) (c all : Option ℕ) → a ≤ 4294967295 → b ≤ 4294967295 → IfSome all (λ n. n < 2147483647)
     → add_costs (cost_in a) (add_costs (cost_in b) c) ≡ all → add_costs (cost_in (min (a + b) 4294967295)) c ≡ all
@@ -52,14 +46,11 @@ two_children values (k ∷ m ∷ n ∷ kids) e h = absurd (omega arith)
 
 pub sum_two : (a b : ℕ) → a ≤ 4294967295 → b ≤ 4294967295 → IfSome (sum_costs (cost_in a ∷ cost_in b ∷ [])) (λ n. n < 2147483647)
     → cost_in (min (a + b) 4294967295) ≡ sum_costs (cost_in a ∷ cost_in b ∷ [])
-sum_two a b x y small = add_costs-zero (cost_in (min (a + b) 4294967295)) ∙ cut_sum a b (Some 0) (sum_costs (cost_in a ∷ cost_in b ∷ [])) x y small refl
-
-cost_in-min : (a b : ℕ) → a ≤ 4294967295 → b ≤ 4294967295 → cost_in (min a b) ≡ min_costs (cost_in a) (cost_in b)
-cost_in-min a b h g = grind arith
+sum_two a b x y small = let cut = cut_sum a b (Some 0) (sum_costs (cost_in a ∷ cost_in b ∷ [])) x y small refl in grind arith
 
 pub least_step : (values kids : List ℕ) (i best : ℕ) → i < length kids → get_or kids i 0 < length values → best ≤ 4294967295 → get_or values (get_or kids i 0) 0 ≤ 4294967295
     → min_costs (cost_in (min best (get_or values (get_or kids i 0) 0))) (cheapest (child_costs values (drop (i + 1) kids))) ≡ min_costs (cost_in best) (cheapest (child_costs values (drop i kids)))
 least_step values kids i best h g x y = grind (arith, least-drop)
 
 pub least_two : (a b : ℕ) → a ≤ 4294967295 → b ≤ 4294967295 → cost_in (min a b) ≡ cheapest (cost_in a ∷ cost_in b ∷ [])
-least_two a b x y = cost_in-min a b x y ∙ ap (min_costs (cost_in a)) (min_costs-none (cost_in b))
+least_two a b x y = grind arith

@@ -1,10 +1,9 @@
 -- Numbers that are the least costs of nodes.
-use Rattle.std.proofs.Common.{◌≡◌, ℕ, ◌<◌, ◌≤◌, true, List, length, get_or, Option, Some, None, refl, ap, sym, ◌∙◌, arith}
+use Rattle.std.proofs.Common.{◌≡◌, ℕ, ◌<◌, ◌≤◌, true, List, length, get_or, Some, ap, sym, ◌∙◌, arith}
 use Rattle.std.proofs.Math.Seq.{take-length}
 use Rattle.state_rules.specs.Assignments.{Assignment}
 use Rattle.state_rules.specs.Values.{values}
 use Rattle.state_rules.specs.Graphs.{Graph, is_true, mentions, IsGraph}
-use Rattle.state_rules.proofs.Members.{AtMost}
 use Rattle.minimiser.specs.Costs.{part_cost, known_at, cost_at, node_cost, least_at}
 use Rattle.minimiser.specs.Stored.{cost_in, costs_to, AreLeastCosts}
 use Rattle.minimiser.proofs.Costs.{Agrees, faults_in}
@@ -27,7 +26,7 @@ module _ (graph : Graph) (evidence costs : List ℕ) (cs : List ℕ) (v : AreLea
     pub low : get_or cs k 0 ≤ faults_in (known_at evidence) (part_cost costs) (length costs) (λ u. mentions graph.nodes u k) a
 
   pub has_least : IsGraph graph → (a : Assignment) → Agrees (known_at evidence) (part_cost costs) (length costs) a → (k : ℕ) → k < length graph.nodes → is_true graph.nodes k a ≡ true → HasLeast a k
-  has_least ok a agree k h e = by_cost (least_at graph evidence costs k) refl ((is_cost graph evidence costs ok k).bound a agree e) where
-    by_cost : (o : Option ℕ) → least_at graph evidence costs k ≡ o → AtMost o (faults_in (known_at evidence) (part_cost costs) (length costs) (λ u. mentions graph.nodes u k) a) → HasLeast a k
-    by_cost None q b = absurd b
-    by_cost (Some c) q b = let w = cost_in-is (get_or cs k 0) c (value-is k h ∙ q) in record { is = q ∙ ap Some (sym w); low = omega arith }
+  has_least ok a agree k h e =
+      let low = (is_cost graph evidence costs ok k).bound a agree e in
+      let value = value-is k h in
+      grind (arith, cost_in-is)

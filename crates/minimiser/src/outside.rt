@@ -8,6 +8,7 @@ use state_rules::NodeKind;
 
 /// Writes for each node the least cost of the rest of a derivation of the root outside it, from the values that [`least`](crate::least)
 /// left: one sweep over the nodes, from the root down. The number of a node that has no value means nothing.
+#[tactic(auto, using(crate::proofs::SpreadMarks::children_before))]
 pub fn put_outside_costs(graph: &Graph, values: &[u32], outside: &mut [u32])
     requires values { length values.now ≡ length graph.now.nodes }
     requires room { length outside.old ≡ length graph.now.nodes }

@@ -44,6 +44,7 @@ pub fn least<L: Ledger>(
 }
 
 /// Does the same as [`least`] in a graph whose nodes may lie anywhere.
+#[tactic(auto, using(crate::proofs::Rules::root_costs))]
 pub fn least_in<L: Ledger>(
     graph: &GraphView<'_>,
     evidence: &[u32],
@@ -71,6 +72,7 @@ pub fn least_in<L: Ledger>(
 }
 
 /// Makes the pass of [`least`], for a caller that needs only the least cost at each node.
+#[tactic(auto, using(crate::proofs::Rules::pass_ends))]
 pub fn put_least_costs<L: Ledger>(
     graph: &GraphView<'_>,
     evidence: &[u32],
@@ -124,6 +126,7 @@ fn node_value(node: &NodeRef<'_>, evidence: &[u32], costs: &[u32], values: &[u32
 // Returns the value of a node with two children, as most have.
 //
 // The greatest number means no cost, so that a sum with it is not below it.
+#[tactic(auto, using(crate::proofs::Rules::pair_costs))]
 fn pair_value(what: NodeKind, one: u32, other: u32) -> u32
     requires gate { (what ≡ NodeKind.And) ⊎ (what ≡ NodeKind.Or) }
     requires small { what ≡ NodeKind.And → IfSome (sum_costs (cost_in one ∷ cost_in other ∷ [])) (λ n. n < TOTAL_LIMIT) }
@@ -169,6 +172,7 @@ fn literal_value(leaf: Leaf, positive: bool, cost: u32) -> u32
     }
 }
 
+#[tactic(auto, using(crate::proofs::Sums::sum_step))]
 fn and_value(values: &[u32], kids: &[u32]) -> u32
     requires kids { All (λ k. k < length values.now) kids.now }
     requires small { IfSome (sum_costs (map (cost_at (map cost_in values.now)) kids.now)) (λ n. n < TOTAL_LIMIT) }
@@ -181,6 +185,7 @@ fn and_value(values: &[u32], kids: &[u32]) -> u32
     total
 }
 
+#[tactic(auto, using(crate::proofs::Sums::least_step))]
 fn or_value(values: &[u32], kids: &[u32]) -> u32
     requires { All (λ k. k < length values.now) kids.now }
     ensures { cost_in result ≡ cheapest (map (cost_at (map cost_in values.now)) kids.now) }

@@ -16,6 +16,7 @@ const MARK: u32 = TOTAL_LIMIT + 1;
 ///
 /// The values are those that [`least`](crate::least) left, and some state agrees with the evidence. They are overwritten. The call makes
 /// one sweep over the nodes, from the root down, and one look at them.
+#[tactic(auto, using(crate::proofs::Rules::swept_costs))]
 pub fn first_suspect(
     graph: &GraphView<'_>,
     evidence: &[u32],
@@ -47,6 +48,7 @@ pub fn first_suspect(
 /// Writes all open parts that are faulty in some state of least cost to `state`: 1 for each of them, and 0 for every other part.
 ///
 /// The values are as for [`first_suspect`]. They are overwritten.
+#[tactic(auto, using(crate::proofs::Rules::swept_costs))]
 pub fn find_suspects(
     graph: &GraphView<'_>,
     evidence: &[u32],
@@ -79,6 +81,7 @@ pub fn find_suspects(
 
 // Marks the root, and the children of each marked node that cost no more than it. These are all children of an And node, and those of
 // an Or node that make it true at its cost.
+#[tactic(auto, using(crate::proofs::Rules::met_children))]
 fn sweep(graph: &GraphView<'_>, values: &mut [u32])
     requires room { length values.old ≡ length graph.now.nodes }
     requires values { All IsValue values.old }

@@ -16,6 +16,3 @@ pub found-bit : (var first b : ℕ) → first ≤ var → var - first < 64 → h
 found-bit var first b low high = one_bit 64 (var - first) b high ∙ by (cases_eq b (var - first)) where
   by : (b ≡ var - first) ⊎ (b ≡ var - first → ⊥) → (b == (var - first)) ≡ (var == first + b)
   by x = grind arith
-
-pub no-bit : (var first b : ℕ) → b < 64 → (var < first) ⊎ (64 ≤ var - first) → has_bit 0 b ≡ (var == first + b)
-no-bit var first b small out = grind arith

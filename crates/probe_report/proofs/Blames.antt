@@ -1,11 +1,9 @@
 -- In which diagnoses a part is faulty.
-use Rattle.std.proofs.Common.{◌≡◌, ℕ, eqb, ◌<◌, ◌≤◌, Bool, true, false, not, cond, ◌&&◌, ◌||◌, List, [], ◌∷◌, map, length, Option, Some, None, refl, ap, sym, ◌∙◌, inl, inr, arith}
+use Rattle.std.proofs.Common.{◌≡◌, ℕ, ◌<◌, ◌≤◌, Bool, true, false, not, cond, ◌&&◌, List, [], ◌∷◌, map, length, Some, None, refl, sym, ◌∙◌, inl, inr, arith}
 use Rattle.std.specs.List.{list_all, list_any}
-use Rattle.std.specs.Option.{option_eq}
-use Rattle.std.proofs.Math.Bool.{and-false}
 use Rattle.std.proofs.lemmas.Bool.{and_from}
 use Rattle.state_rules.specs.Bits.{bit_in, same_bit}
-use Rattle.state_rules.specs.Ranking.{least, passing, diagnoses}
+use Rattle.state_rules.specs.Ranking.{least, passing}
 use Rattle.state_rules.proofs.Lists.{list_any-map}
 use Rattle.state_rules.proofs.Members.{In, any_in}
 use Rattle.state_rules.specs.Graphs.{Graph}
@@ -15,14 +13,6 @@ use Rattle.minimiser.proofs.Models.{LeastIs, least-some, least-none, diagnosis-i
 use Rattle.probe_report.specs.declared.verdicts.Blame.TheVariants.{Always, Sometimes, Never, Inconsistent}
 use Rattle.probe_report.specs.Verdicts.{verdict, blame_of}
 use Rattle.probe_report.proofs.ModelsWithBit.{bit-out, bit-in}
-
--- ---- tests of a cost
-
-pub is-cost : (cost : Option ℕ) (n : ℕ) → option_eq eqb cost (Some n) ≡ true → cost ≡ Some n
-is-cost cost n e = grind arith
-
-pub is-no-cost : (cost : Option ℕ) (n : ℕ) → option_eq eqb cost (Some n) ≡ false → cost ≡ Some n → ⊥
-is-no-cost cost n e q = grind arith
 
 -- ---- verdicts
 
@@ -36,15 +26,15 @@ module _ (f : List Bool → Bool) where
 
   all-false : (ds : List (List Bool)) (d : List Bool) → In d ds → f d ≡ false → list_all id (map f ds) ≡ false
   all-false [] d m e = absurd m
-  all-false (x ∷ ds) d (inl q) e = ap (λ b. b && list_all id (map f ds)) (ap f (sym q) ∙ e)
-  all-false (x ∷ ds) d (inr r) e = ap (λ b. f x && b) (all-false ds d r e) ∙ and-false (f x)
+  all-false (x ∷ ds) d (inl q) e = grind arith
+  all-false (x ∷ ds) d (inr r) e = grind (arith, all-false ds d r e)
 
   any-true : (ds : List (List Bool)) (d : List Bool) → In d ds → f d ≡ true → list_any id (map f ds) ≡ true
   any-true ds d m e = list_any-map id f ds ∙ any_in f d ds m e
 
   any-false : (ds : List (List Bool)) → ((d : List Bool) → In d ds → f d ≡ false) → list_any id (map f ds) ≡ false
   any-false [] h = refl
-  any-false (d ∷ ds) h = (λ i. h d (inl refl) i || any-false ds (λ x m. h x (inr m)) i)
+  any-false (d ∷ ds) h = rw (h d (inl refl)) (any-false ds (λ x m. h x (inr m)))
 
   verdict-some : (ds : List (List Bool)) (d : List Bool) → In d ds → (a b : Bool) → list_all id (map f ds) ≡ a → list_any id (map f ds) ≡ b → verdict (map f ds) ≡ cond a Always (cond b Sometimes Never)
   verdict-some [] d m a b e g = absurd m
@@ -85,21 +75,15 @@ module _ (graph : Graph) (evidence costs : List ℕ) (i most : ℕ) (lt : i < le
   abbrev HasLeast : Bool → Type 0
   HasLeast bit = least costs (passing (length costs) (has_model graph (λ bits. fits_evidence evidence bits && same_bit bit (bit_in bits i)) (length costs))) ≡ Some most
 
-  -- a diagnosis without the one bit has the other
-  only : (bit : Bool) → (HasLeast (not bit) → ⊥) → (h : List Bool) → ModelWithin graph evidence costs most h → bit_in h i ≡ bit
-  only bit none h p = grind (arith, bit-in)
-
   pub is-never : (HasLeast false → ⊥) → Never ≡ blame_of graph evidence costs i
-  is-never none = all-ok (only true none)
+  is-never none = all-ok (λ h p. grind (arith, bit-in))
 
   pub is-always : (HasLeast true → ⊥) → Always ≡ blame_of graph evidence costs i
-  is-always none = all-faulty (only false none)
+  is-always none = all-faulty (λ h p. grind (arith, bit-in))
 
   pub is-sometimes : HasLeast false → HasLeast true → Sometimes ≡ blame_of graph evidence costs i
   is-sometimes has other =
-      let s = bit-out graph evidence costs i false lt most has in
-      let t = bit-out graph evidence costs i true lt most other in
-      some-differ s.state t.state s.passes t.passes s.has t.has
+      let s = bit-out graph evidence costs i false lt most has in let t = bit-out graph evidence costs i true lt most other in grind (arith, some-differ)
 
 pub is-inconsistent : (graph : Graph) (evidence costs : List ℕ) (i : ℕ) → least_under graph evidence costs ≡ None → Inconsistent ≡ blame_of graph evidence costs i
-is-inconsistent graph evidence costs i e = λ j. verdict (map (λ state. not (bit_in state i)) (diagnoses costs (sym (least-none costs (models graph evidence (length costs)) e) j)))
+is-inconsistent graph evidence costs i e = simp (least-none costs (models graph evidence (length costs)) e)

@@ -18,7 +18,7 @@ use Rattle.node_costs.proofs.Totals.{total-same}
 use Rattle.minimiser.specs.Costs.{part_cost, known_at, literal_cost, least_at}
 use Rattle.minimiser.specs.Stored.{AreLeastCosts}
 use Rattle.minimiser.specs.inner.Swept.{is_child}
-use Rattle.minimiser.proofs.Costs.{fault, Agrees, faults_in, faults_in-le, all_faults}
+use Rattle.minimiser.proofs.Costs.{Agrees, faults_in, faults_in-le, all_faults}
 use Rattle.minimiser.proofs.Sums.{cost_in-some}
 use Rattle.minimiser.proofs.OnePass.{cost_small}
 use Rattle.minimiser.proofs.Derivations.{any-child, all-child, child-with, is_cost, true-at, mention-at, costs-at, below, all-below, Achieves}
@@ -111,9 +111,6 @@ module _ (graph : Graph) (evidence costs : List ℕ) (ok : IsGraph graph) (vs os
 
     open-here : (v : ℕ) → v - 1 ≡ var - 1 → known_at evidence v ≡ None
     open-here v e = ap (λ i. known_of (get_or evidence i 0)) e ∙ ap known_of open_
-
-    no_fault : (k : Option Bool) (x : Bool) → fault k 0 x ≡ 0
-    no_fault k x = grind arith
 
     -- the faults are the same if all but the variable is the same
     quiet : (ks ls : ℕ → Option Bool) (a b : Assignment) → ((v : ℕ) → 1 ≤ v → v ≢ var → (ks v ≡ ls v) × (a v ≡ b v)) → all_faults ks (part_cost costs) (length costs) a ≡ all_faults ls (part_cost costs) (length costs) b

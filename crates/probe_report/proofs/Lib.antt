@@ -5,3 +5,4 @@ pub mod Bits
 pub mod Exits
 pub mod Marks
 pub mod Probed
+pub mod Rules

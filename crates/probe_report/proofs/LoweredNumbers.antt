@@ -1,19 +1,13 @@
 -- Numbers that are lowered, one cost after another.
-use Rattle.std.proofs.Common.{◌≡◌, ℕ, ◌+◌, ◌<◌, ◌≤◌, Bool, true, ◌||◌, List, length, take, get_or, ap, ◌∙◌, arith}
+use Rattle.std.proofs.Common.{◌≡◌, ℕ, ◌+◌, ◌<◌, ◌≤◌, ◌||◌, List, length, take, get_or, ap, ◌∙◌, arith}
 use Rattle.std.specs.Prelude.{◌⊎◌, ◌==◌}
-use Rattle.std.proofs.lemmas.Bool.{cases_lt}
 use Rattle.std.proofs.lemmas.List.{take_more}
 use Rattle.state_rules.proofs.Lists.{any-push}
 use Rattle.minimiser.specs.inner.Swept.{is_child}
-use Rattle.minimiser.specs.inner.Outside.{lowered}
 use Rattle.probe_report.specs.inner.Outside.{IsLowered}
 use Rattle.probe_report.specs.inner.Leaving.{LowersBlock}
 
 -- ---- one number
-
--- to one cost, or not
-pub lowered-is : (b : Bool) (cost old : ℕ) → IsLowered (λ c. (b ≡ true) × (c ≡ cost)) old (lowered b cost old)
-lowered-is b cost old = grind (arith, cases_lt)
 
 -- to some costs, and then to others
 pub lowered-then : {P Q R : ℕ → Type 0} (a b c : ℕ) → IsLowered P a b → IsLowered Q b c → ((x : ℕ) → P x → R x) → ((x : ℕ) → Q x → R x) → ((x : ℕ) → R x → P x ⊎ Q x) → IsLowered R a c

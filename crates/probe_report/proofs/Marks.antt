@@ -2,7 +2,6 @@
 use Rattle.std.proofs.Common.{◌≡◌, ◌≢◌, ℕ, ◌+◌, ◌-◌, ◌<◌, ◌≤◌, Bool, true, false, not, List, map, length, take, get_or, refl, ap, sym, ◌∙◌, arith, inl, inr, ⊎_elim}
 use Rattle.std.specs.Prelude.{◌⊎◌, ◌==◌}
 use Rattle.std.specs.List.{list_any}
-use Rattle.std.proofs.Math.Bool.{beq}
 use Rattle.std.proofs.lemmas.Bool.{or_right, eqb-true, eq-eqb, false≢true, not-true, cases_eq}
 use Rattle.state_rules.proofs.Lists.{list_any-map, any-never}
 use Rattle.state_rules.specs.declared.nodes.NodeKind.TheVariants.{Literal, Or}
@@ -35,10 +34,6 @@ module _ (values marks kids : List ℕ) (mark outside start i : ℕ) (lt : i < l
   narrower : (place cost : ℕ) → (l : Left (i + 1) place cost) → Left i place cost ⊎ (get_or kids i 0 ≡ l.child)
   narrower place cost l = grind (arith, is_child-more)
 
-  left-bits : (place : ℕ) → start ≤ place → place < start + 64 → is_left start mark (mark_at marks (get_or kids i 0)) place ≡ true
-      → (has_bit mark (place - start) ≡ true) × (has_bit (mark_at marks (get_or kids i 0)) (place - start) ≡ false)
-  left-bits place h g e = grind arith
-
   pub left-more : (a b c : List ℕ) → length b ≡ length a → LowersBlock start (λ p. LeftChild values marks (take i kids) mark outside start p) a b → get_or values (get_or kids i 0) 0 < 2147483647
       → ((p : ℕ) → p < length b → get_or c p 0 ≡ lowered (is_left start mark (mark_at marks (get_or kids i 0)) p) (outside + get_or values (get_or kids i 0) 0) (get_or b p 0))
       → LowersBlock start (λ p. LeftChild values marks (take (i + 1) kids) mark outside start p) a c
@@ -46,22 +41,14 @@ module _ (values marks kids : List ℕ) (mark outside start i : ℕ) (lt : i < l
       block-then {P = Left i} {Q = λ p x. (is_left start mark (mark_at marks child) p ≡ true) × (x ≡ outside + get_or values child 0)} {R = Left (i + 1)} start a b c long before
       (grind arith)
       wider
-      (λ p x h g q. let bits = left-bits p h g q.0 in
-      record { child = child; is_child_of = is_child-more kids i child lt ∙ or_right (is_child (take i kids) child) (child == child) (eq-eqb child child refl); has = bits.0; lacks = bits.1; value = small; is = q.1 })
-      (λ p x h g l. ⊎_elim (λ w. inl w)
-      (λ (e : child ≡ l.child). inr (
-        grind arith,
-        l.is ∙ ap (λ k. outside + get_or values k 0) (sym e),
-      ))
-      (narrower p x l))
+      (λ p x h g q. record { child = child; is_child_of = is_child-more kids i child lt ∙ or_right (is_child (take i kids) child) (child == child) (eq-eqb child child refl); has = grind arith; lacks = grind arith; value = small; is = q.1 })
+      (λ p x h g l. ⊎_elim (λ w. inl w) (λ (e : child ≡ l.child). inr (grind arith, grind arith)) (narrower p x l))
 
   -- a child that mentions all that its parent does, or has no value, changes nothing
   pub left-same : (a b : List ℕ) → LowersBlock start (λ p. LeftChild values marks (take i kids) mark outside start p) a b → (mark_at marks (get_or kids i 0) ≡ mark) ⊎ (2147483647 ≤ get_or values (get_or kids i 0) 0)
       → LowersBlock start (λ p. LeftChild values marks (take (i + 1) kids) mark outside start p) a b
   left-same a b before why = block-as {P = Left i} {R = Left (i + 1)} start a b before (λ p x h g. wider p x)
-      (λ p x h g l. ⊎_elim (λ w. w)
-      (λ (e : child ≡ l.child). absurd (grind (arith, false≢true)))
-      (narrower p x l))
+      (λ p x h g l. ⊎_elim (λ w. w) (λ (e : child ≡ l.child). absurd (grind (arith, false≢true))) (narrower p x l))
 
 -- ---- one more node
 
@@ -94,10 +81,7 @@ module _ (graph : Graph) (ok : IsGraph graph) (first at : ℕ) (lt : at < length
       ∙ sym (ap (mention_by (first + b) (node_at graph.nodes at).what) (map-below (λ (k : ℕ). false) (mentions graph.nodes (first + b)) at (node_at graph.nodes at).kids under (λ k h. sym (before k b h small))))
 
   none-more : ((b : ℕ) → b < 64 → mention_by (first + b) (node_at graph.nodes at).what (map (λ (k : ℕ). false) (node_at graph.nodes at).kids) ≡ false) → NoneMarked graph.nodes first (at + 1)
-  none-more none node b h small = ⊎_elim
-      (λ (e : node ≡ at). ap (mentions graph.nodes (first + b)) e ∙ node-mentions b small ∙ none b small)
-      (λ (ne : node ≢ at). before node b (omega arith) small)
-      (cases_eq node at)
+  none-more none node b h small = ⊎_elim (λ (e : node ≡ at). rw e (node-mentions b small ∙ none b small)) (λ (ne : node ≢ at). before node b (omega arith) small) (cases_eq node at)
 
   pub none-literal : (var mark : ℕ) (positive : Bool) → Literal positive var ≡ (node_at graph.nodes at).what → ((b : ℕ) → b < 64 → has_bit mark b ≡ (var == first + b)) → mark ≡ 0 → NoneMarked graph.nodes first (at + 1)
   none-literal var mark positive e is none = grind (arith, none-more)
@@ -107,13 +91,11 @@ module _ (graph : Graph) (ok : IsGraph graph) (first at : ℕ) (lt : at < length
 
 -- unset marks are right if no node so far mentions one of the variables
 pub marked-none : (nodes : List Node) (first at : ℕ) (marks : List ℕ) → NoneMarked nodes first at → ((node : ℕ) → node < at → mark_at marks node ≡ 0) → IsMarked nodes first at marks
-marked-none nodes first at marks none clear node b h small = ap (λ m. has_bit m b) (clear node h) ∙ has_bit-zero b ∙ sym (none node b h small)
+marked-none nodes first at marks none clear node b h small = grind (arith, has_bit-zero)
 
 pub none-left : (nodes : List Node) (values outside : List ℕ) (parts start at : ℕ) (list : List ℕ) → NoneMarked nodes (parts + start + 1) at → LowersBlock start (λ p x. (node : ℕ) × (node < at) × AtChild nodes values outside (parts + p + 1) node x) list list
 none-left nodes values outside parts start at list none = block-none {P = λ p x. (node : ℕ) × (node < at) × AtChild nodes values outside (parts + p + 1) node x} start list
-    (λ p x h g m.
-    let same : parts + start + 1 + (p - start) ≡ parts + p + 1 = omega arith in
-    false≢true (sym (sym (ap (λ v. mentions nodes v m.0) same) ∙ none m.0 (p - start) m.1 (omega arith)) ∙ m.2.has))
+    (λ p x h g m. grind (arith, none m.0 (p - start)))
 
 module _ (graph : Graph) (ok : IsGraph graph) (values outside marks : List ℕ) (parts start at : ℕ) (lt : at < length graph.nodes) (marked : IsMarked graph.nodes (parts + start + 1) (at + 1) marks) where
   abbrev Met : ℕ → ℕ → ℕ → Type 0
@@ -182,14 +164,3 @@ module _ (nodes : List Node) (outside : List ℕ) (var : ℕ) (bit : Bool) (at :
 
   pub literal-all : (a b : ℕ) → length nodes ≤ at → IsLowered (λ x. (node : ℕ) × (node < at) × AtLiteral nodes outside var bit node x) a b → IsLowered (With nodes outside var bit) a b
   literal-all a b past before = lowered-as {P = Said at} {R = With nodes outside var bit} a b before (λ x m. (m.0, m.2)) (λ x m. (m.0, omega (arith, past, m.1.within), m.1))
-
--- ---- signs
-
-pub beq-true : (a b : Bool) → beq a b ≡ true → a ≡ b
-beq-true a b e = grind (arith, false≢true)
-
-pub beq-false : (a b : Bool) → beq a b ≡ false → a ≡ b → ⊥
-beq-false a b e f = grind arith
-
-pub same_sign : {v w : ℕ} {p q : Bool} → Literal p v ≡ Literal q w → p ≡ q
-same_sign e = cc

@@ -1,5 +1,5 @@
 -- The final numbers of the wires.
-use Rattle.std.proofs.Common.{◌≡◌, ℕ, zero, suc, ◌+◌, ◌-◌, ◌<◌, ◌≤◌, Bool, true, false, cond, List, [], ◌∷◌, length, get_or, set, Option, Some, None, refl, ap, sym, ◌∙◌, subst, arith, inl, inr}
+use Rattle.std.proofs.Common.{◌≡◌, ℕ, zero, suc, ◌+◌, ◌-◌, ◌<◌, ◌≤◌, Bool, true, false, cond, List, [], ◌∷◌, length, get_or, set, Option, Some, None, refl, ap, sym, ◌∙◌, arith, inl, inr}
 use Rattle.std.specs.Prelude.{◌⊎◌, nat_lt}
 use Rattle.std.proofs.Math.ListN.{length-set}
 use Rattle.std.proofs.lemmas.Bool.{ltb-true, eqb-false}
@@ -28,9 +28,7 @@ use Rattle.probe_report.proofs.ModelsWithBit.{with-true, with-false, with-open, 
 held-le : (costs evidence : List ℕ) → held_cost costs evidence ≤ total_cost costs
 held-le [] evidence = omega arith
 held-le (c ∷ costs) [] = omega arith
-held-le (c ∷ costs) (w ∷ evidence) = omega (arith, sum_by-cons (λ (x : ℕ). x) c costs, held-le costs evidence, one (known_of w)) where
-  one : (k : Option Bool) → held_one c k ≤ c
-  one k = grind arith
+held-le (c ∷ costs) (w ∷ evidence) = grind (arith, sum_by-cons (λ (x : ℕ). x) c costs, held-le costs evidence)
 
 -- a variable of no part does not change it
 held-same : (costs evidence : List ℕ) (i w : ℕ) → length costs ≤ i → held_cost costs (set evidence i w) ≡ held_cost costs evidence
@@ -102,10 +100,10 @@ module _ (graph : Graph) (evidence costs : List ℕ) (ok : IsGraph graph) (long 
     by_word : (w : ℕ) → get_or evidence (length costs + wire) 0 ≡ w → cost_in (settled w fewest held bit best) ≡ least_with graph evidence costs (length costs + wire + 1) bit
     by_word zero q = open-is fewest held best q h small (lowest q)
     by_word (suc zero) q = known-is fewest held best e fits true q
-    by_word (suc (suc n)) q = let two : n ≡ 0 = omega (arith, q, said) in known-is fewest held best e fits false (q ∙ ap (λ m. suc (suc m)) two)
+    by_word (suc (suc zero)) q = known-is fewest held best e fits false q
+    by_word (suc (suc (suc n))) q = absurd (omega arith)
 
 -- a number lowered to the costs without a literal, and then to those with one
 pub exits-lowered : (nodes : List Node) (vs os : List ℕ) (var : ℕ) (bit : Bool) (none mid best : ℕ) → none ≡ 4294967295 → IsLowered (Without nodes vs os var) none mid → IsLowered (With nodes os var bit) mid best
     → IsLowered (λ c. Without nodes vs os var c ⊎ With nodes os var bit c) 4294967295 best
-exits-lowered nodes vs os var bit none mid best e without literals = subst (λ n. IsLowered (λ c. Without nodes vs os var c ⊎ With nodes os var bit c) n best) e
-    (lowered-then {P = Without nodes vs os var} {Q = With nodes os var bit} {R = λ c. Without nodes vs os var c ⊎ With nodes os var bit c} none mid best without literals (λ x p. inl p) (λ x q. inr q) (λ x r. r))
+exits-lowered nodes vs os var bit none mid best e without literals = rw e at (lowered-then {R = λ c. Without nodes vs os var c ⊎ With nodes os var bit c} none mid best without literals (λ x p. inl p) (λ x q. inr q) (λ x r. r))

@@ -76,6 +76,7 @@ impl NodeCosts<'_> {
     }
 
     // If a node is an Or node, lowers the numbers of the wires that it mentions and one of its children does not.
+    #[tactic(auto, using(minimiser::proofs::SpreadMarks::children_before))]
     fn lower_node(&self, marks: &[u32], at: u32, start: usize, list: &mut [u32])
         requires at { at < length self.now.graph.now.nodes }
         requires marks { length marks.now ≡ 2 * length self.now.graph.now.nodes }

@@ -30,6 +30,7 @@ pub(crate) fn first_marked(graph: &Graph, first: u32) -> u32
 }
 
 // Returns which of the 64 variables from `first` on a node mentions, from the marks of the nodes before it.
+#[tactic(auto, using(minimiser::proofs::SpreadMarks::children_before))]
 pub(crate) fn mark_of(graph: &Graph, marks: &[u32], at: u32, first: u32) -> u64
     requires at { at < length graph.now.nodes }
     requires room { length marks.now ≡ 2 * length graph.now.nodes }
@@ -43,6 +44,7 @@ pub(crate) fn mark_of(graph: &Graph, marks: &[u32], at: u32, first: u32) -> u64
 }
 
 // Returns the bit of a variable, or 0 if it has none.
+#[tactic(auto, using(crate::proofs::Rules::variable_bits))]
 fn literal_mark(var: u32, first: u32) -> u64
     ensures { (b : ℕ) → b < WIDTH → has_bit result b ≡ (var == first + b) }
 {

@@ -1,11 +1,8 @@
-use Rattle.std.proofs.Common.{◌<◌, length, sym, ◌∙◌, arith}
+use Rattle.std.proofs.Common.{◌<◌, length, ◌∙◌, arith}
 use Rattle.std.proofs.lemmas.List.{length-take-le}
 use Rattle.std.proofs.lemmas.Option.{slice_get_within}
-use Rattle.minimiser.proofs.OnePass.{walked, fits_here, node_fits_room, goes_on, written, all_valued, none_yet}
+use Rattle.minimiser.proofs.OnePass.{walked, fits_here, node_fits_room, goes_on, written}
 use Rattle.minimiser.proofs.pass.put_least_costs.Goals as goal
-
-pub loop-node-init : goal.loop-node-init
-loop-node-init g c = (sym (c.into_iter-node-iterator.ensures.into_iter_gives ∙ c.walk-node-items.ensures.nodes), none_yet c.args.graph.now c.args.evidence.now c.args.costs.now)
 
 pub node_value-value-requires-clause-fits : goal.node_value-value-requires-clause-fits
 node_value-value-requires-clause-fits g c =
@@ -27,6 +24,3 @@ loop-node-preserved g c =
       written c.loop-node.values c.loop-node.at c.node_value-value.result (omega (arith, inside, c.loop-node.auto.values, c.requires.room))
           ∙ goes_on _ _ _ _ _ _ _ at.there c.loop-node.invariant.1 c.node_value-value.ensures,
     )
-
-pub returns-clause-values : goal.returns-clause-values
-returns-clause-values g c = all_valued _ _ _ _ _ _ (omega (arith, c.loop-node.auto.values, c.requires.room)) c.loop-node.invariant.0 c.in-None.ensures.steps.0 c.loop-node.invariant.1

@@ -1,6 +1,6 @@
 -- No constant is a child.
-use Rattle.std.proofs.Common.{◌≡◌, ◌≢◌, ℕ, zero, suc, ◌+◌, ◌<◌, true, false, List, [], ◌∷◌, ◌++◌, map, length, Option, Some, arith, append_assoc}
-use Rattle.std.specs.Prelude.{slice_get, IfSome, Contains, ◌==◌}
+use Rattle.std.proofs.Common.{◌≡◌, ◌≢◌, ℕ, zero, suc, ◌+◌, ◌<◌, true, false, List, [], ◌∷◌, ◌++◌, map, length, Some, arith, append_assoc}
+use Rattle.std.specs.Prelude.{slice_get, Contains, ◌==◌}
 use Rattle.std.proofs.lemmas.List.{nil_from_length}
 use Rattle.std.proofs.lemmas.List.Elements.{All-contains}
 use Rattle.std.proofs.lemmas.Option.{slice_get_within}
@@ -17,9 +17,6 @@ use Rattle.dnnf_compiler.specs.inner.Making.{IsMaker, IsJoin}
 use Rattle.dnnf_compiler.proofs.MadeNodes.{grows_by, kept_in, adds_store, get-push}
 
 -- ---- a node that mentions a variable is no constant
-
-filled : (x : ℕ) (ks : List ℕ) → (length (x ∷ ks) == 0) ≡ false
-filled x ks = grind arith
 
 silent : (nodes : List Node) (v : ℕ) (what : NodeKind) (ks : List ℕ) → is_bare what ks ≡ true → mention_by v what (map (mentions nodes v) ks) ≡ false
 silent nodes v what ks e = grind (arith, nil_from_length)
@@ -49,10 +46,9 @@ first_bare vars nodes mid new a b is one e two f parent number n child there has
 
 -- ---- one of two
 
-pub join_both : (m : Maker) (s : Stored) (off on : Option ℕ) (first second node : ℕ) → IsMaker m → off ≡ Some first → on ≡ Some second → IfSome off (λ n. n < length m.store.nodes) → IfSome on (λ n. n < length m.store.nodes)
-    → IfSome off (IsPlain m.store.nodes) → IfSome on (IsPlain m.store.nodes) → Makes m.store s Or (first ∷ second ∷ []) node → Means m.store.nodes s.nodes Or (first ∷ second ∷ []) node → IsStore s
-    → IsJoin m (record m { store = s }) off on node
-join_both m s off on first second node is e f off_in on_in off_plain on_plain makes means store =
+pub join_both : (m : Maker) (s : Stored) (first second node : ℕ) → IsMaker m → first < length m.store.nodes → second < length m.store.nodes → IsPlain m.store.nodes first → IsPlain m.store.nodes second
+    → Makes m.store s Or (first ∷ second ∷ []) node → Means m.store.nodes s.nodes Or (first ∷ second ∷ []) node → IsStore s → IsJoin m (record m { store = s }) (Some first) (Some second) node
+join_both m s first second node is first_in second_in first_plain second_plain makes means store =
     grind (arith, adds_store m s 2 is store (kept_in m.store.nodes s.nodes either makes.nodes) bare (grows_by m.store.nodes s.nodes Or either.kids node makes.nodes means), slice_get_within s.nodes node) where
       either : Node
       either = record { what = Or; kids = first ∷ second ∷ [] }

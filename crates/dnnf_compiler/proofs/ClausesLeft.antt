@@ -113,9 +113,8 @@ each_spot vars (tree v below beside) base is = grind (
 
 pub down_base : (vars : ℕ) (forest : Forest) (base : Place) → is_once (variables forest) ≡ true → list_all (λ u. not (is_among base.bound u)) (variables forest) ≡ true → list_all (fits vars) (variables forest) ≡ true
     → AllByRecursion (IsDown forest base) base.lists → IsBase vars forest base
-down_base vars forest base once free fit down = grind (arith, each_more (IsDown forest base) _ base.lists along down) where
-  along : (list : List Bool) → IsDown forest base list → some_passes (λ c. meets (variables forest) c && not (is_along forest base.bound c)) base.clauses list ≡ false
-  along list is = fail_by (λ c. not (is_along forest base.bound c)) (λ c. meets (variables forest) c && not (is_along forest base.bound c)) (λ c e. grind arith) base.clauses list is.along
+down_base vars forest base once free fit down =
+    grind (arith, each_more (IsDown forest base) _ base.lists (λ list is. fail_by (λ c. not (is_along forest base.bound c)) (λ c. meets (variables forest) c && not (is_along forest base.bound c)) (λ c e. grind arith) base.clauses list is.along) down)
 
 -- ---- after a variable is assigned
 

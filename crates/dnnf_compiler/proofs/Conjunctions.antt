@@ -2,7 +2,7 @@
 use Rattle.std.proofs.Common.{◌≡◌, ◌≢◌, ℕ, ◌+◌, ◌<◌, ◌≤◌, Bool, not, ◌&&◌, List, [], ◌∷◌, ◌++◌, map, length, drop, get_or, refl, arith, inl, inr}
 use Rattle.std.specs.Prelude.{◌==◌}
 use Rattle.std.specs.List.{list_any, list_all, filter, AllByRecursion}
-use Rattle.std.proofs.lemmas.List.{drop_more, append_assoc}
+use Rattle.std.proofs.lemmas.List.{drop_more, append_assoc, nil_from_length}
 use Rattle.std.proofs.lemmas.Bool.Decides.{nat_tests}
 use Rattle.std.proofs.lemmas.List.Elements.{All-contains, All-from_recursion}
 use Rattle.std.proofs.lemmas.List.Folds.{list_all-map}
@@ -17,7 +17,7 @@ use Rattle.dnnf_compiler.specs.declared.maker.Maker.{Maker}
 use Rattle.dnnf_compiler.specs.inner.Joining.{IsPlain}
 use Rattle.dnnf_compiler.specs.inner.Making.{IsMaker, Adds}
 use Rattle.dnnf_compiler.specs.inner.Meeting.{AreApart, IsMeet}
-use Rattle.dnnf_compiler.proofs.MadeNodes.{grows_by, kept_in, adds_not, adds_store}
+use Rattle.dnnf_compiler.proofs.MadeNodes.{grows_by, kept_in, adds_store}
 use Rattle.dnnf_compiler.proofs.Bare.{bare_push}
 
 -- ---- lists of nodes
@@ -29,6 +29,10 @@ each_more P Q (x ∷ xs) h each = (h x each.0, each_more P Q xs h each.1)
 pub all_same : {X : Type 0} (f g : X → Bool) (xs : List X) → ((x : X) → In x xs → f x ≡ g x) → list_all f xs ≡ list_all g xs
 all_same f g [] h = refl
 all_same f g (x ∷ xs) h = λ j. h x (inl refl) j && all_same f g xs (λ y m. h y (inr m)) j
+
+pub one : (xs : List ℕ) → length xs ≡ 1 → xs ≡ get_or xs 0 0 ∷ []
+one [] h = absurd (omega arith)
+one (x ∷ xs) h = grind (arith, nil_from_length)
 
 -- ---- nodes that are always true are left out
 
@@ -58,30 +62,31 @@ module _ (m : Maker) (is : IsMaker m) where
 
   -- ---- what is made
 
-  module _ (kids kept : List ℕ) (e : kept ≡ filter (keeps_of m) kids) where
-    pub kept_apart : AreApart its kids → AreApart its kept
-    kept_apart apart v = grind (arith, e, one_kept v kids, apart v)
+  module _ (kids : List ℕ) where
+    -- the children that are kept
+    abbrev kept : List ℕ
+    kept = filter (keeps_of m) kids
 
-    pub kept_few : length kept ≤ length kids
-    kept_few = grind (arith, e, length-filter-le (keeps_of m) kids)
+    pub kept_apart : AreApart its kids → AreApart its kept
+    kept_apart apart v = grind (arith, one_kept v kids, apart v)
 
     -- what is made says what the kept nodes say
     meet_by : (new : Maker) (node : ℕ) → Adds m new 1 (length kids) → node < length new.store.nodes → (length kids ≤ 1 → Adds m new 0 0)
         → ((a : Assignment) → is_true new.store.nodes node a ≡ list_all (λ k. is_true its k a) kept) → ((v : ℕ) → mentions new.store.nodes v node ≡ list_any (mentions its v) kept) → IsMeet m new kids node
     meet_by new node adds within alone truth variables =
-        let says : (a : Assignment) → is_true new.store.nodes node a ≡ list_all (λ k. is_true its k a) kids = λ a. grind (arith, e, truth a, all_kept a kids) in
-        let names : (v : ℕ) → mentions new.store.nodes v node ≡ list_any (mentions its v) kids = λ v. grind (arith, e, variables v, any_kept v kids) in
+        let says : (a : Assignment) → is_true new.store.nodes node a ≡ list_all (λ k. is_true its k a) kids = λ a. grind (arith, truth a, all_kept a kids) in
+        let names : (v : ℕ) → mentions new.store.nodes v node ≡ list_any (mentions its v) kids = λ v. grind (arith, variables v, any_kept v kids) in
         grind (arith, adds, within, alone)
 
     pub meet_none : kept ≡ [] → IsMeet m m kids m.yes
-    meet_none empty = meet_by m m.yes (adds_not m 1 (length kids) is) is.yes.within (λ h. adds_not m 0 0 is) (λ a. grind (arith, empty, is.yes)) (λ v. grind (arith, empty, is.yes))
+    meet_none empty = meet_by m m.yes (grind (arith, is)) is.yes.within (λ h. grind (arith, is)) (λ a. grind (arith, empty, is.yes)) (λ v. grind (arith, empty, is.yes))
 
     pub meet_one : (k : ℕ) → kept ≡ k ∷ [] → AllByRecursion (λ k. (k < length its) × IsPlain its k) kept → IsMeet m m kids k
-    meet_one k one plain = meet_by m k (adds_not m 1 (length kids) is) (grind (arith, one, plain)) (λ h. adds_not m 0 0 is) (λ a. grind (arith, one)) (λ v. grind (arith, one))
+    meet_one k one plain = meet_by m k (grind (arith, is)) (grind (arith, one, plain)) (λ h. grind (arith, is)) (λ a. grind (arith, one)) (λ v. grind (arith, one))
 
     pub meet_more : (s : Stored) (node : ℕ) → 2 ≤ length kept → AllByRecursion (λ k. (k < length its) × IsPlain its k) kept → Makes m.store s And kept node → Means its s.nodes And kept node → IsStore s
         → IsMeet m (record m { store = s }) kids node
-    meet_more s node several plain makes means store = meet_by (record m { store = s }) node adds (slice_get_within s.nodes node itself makes.there) (λ h. absurd (omega (arith, kept_few)))
+    meet_more s node several plain makes means store = meet_by (record m { store = s }) node adds (slice_get_within s.nodes node itself makes.there) (λ h. absurd (omega (arith, length-filter-le (keeps_of m) kids)))
         (λ a. grind (arith, means, list_all-map)) (λ v. grind (arith, means, list_any-map)) where
           itself : Node
           itself = record { what = And; kids = kept }
@@ -90,7 +95,7 @@ module _ (m : Maker) (is : IsMaker m) where
           adds = grind (
             arith,
             makes,
-            kept_few,
+            length-filter-le,
             adds_store m s (length kids) is store (kept_in its s.nodes itself makes.nodes)
                 (bare_push m.store.vars its s.nodes itself is.store.nodes makes.nodes is.bare (λ k. All-contains (λ k. (k < length its) × IsPlain its k) kept k (All-from_recursion (λ k. (k < length its) × IsPlain its k) kept plain))) (grows_by its s.nodes And kept node makes.nodes means),
           )

@@ -26,9 +26,6 @@ new_maker s s' s0 top bottom make_yes mean_yes make_no mean_no store bare = grin
 
 -- ---- nodes are added
 
-pub adds_not : (m : Maker) (more kids : ℕ) → IsMaker m → Adds m m more kids
-adds_not m more kids is = grind arith
-
 pub adds_then : (old mid new : Maker) (more kids more' children' all all_children : ℕ) → Adds old mid more kids → Adds mid new more' children' → all ≡ more + more' → all_children ≡ kids + children' → Adds old new all all_children
 adds_then old mid new more kids more' children' all all_children a b e f = grind arith
 

@@ -1,11 +1,11 @@
 -- The way up along a forest: the last step first.
-use Rattle.std.proofs.Common.{Bool, ◌≡◌, ℕ, zero, suc, ◌+◌, ◌*◌, ◌<◌, ◌≤◌, true, List, [], ◌∷◌, ◌++◌, map, length, drop, replicate, Some, refl, ap, sym, ◌∙◌, subst, arith, add-one, inl, length-append}
+use Rattle.std.proofs.Common.{Bool, ◌≡◌, ℕ, zero, suc, ◌+◌, ◌*◌, ◌≤◌, true, List, [], ◌∷◌, ◌++◌, map, length, drop, replicate, Some, refl, ap, sym, ◌∙◌, subst, arith, add-one, inl, length-append}
 use Rattle.std.specs.Prelude.{slice_get, reverse, Vec}
 use Rattle.std.specs.declared.alloc.Global.{Global}
 use Rattle.std.specs.List.{flat_map, AllByRecursion}
 use Rattle.std.proofs.lemmas.List.{append-nil, nil_from_length, drop_more, drop-drop, length-drop, length-reverse, reverse-append}
 use Rattle.std.proofs.lemmas.List.Elements.{All-from_recursion}
-use Rattle.std.proofs.lemmas.Option.{slice_get-get_or}
+use Rattle.std.proofs.lemmas.Option.{slice_get-get_or, slice_get_within}
 use Rattle.std.proofs.lemmas.List.Concat.{flat_map-append}
 use Rattle.state_rules.specs.Assignments.{Assignment}
 use Rattle.state_rules.specs.Graphs.{IsGraph, is_true}
@@ -79,15 +79,12 @@ record IsAfter (vars most sum i : ℕ) (steps : List Step) (forks : List Forks) 
   each : AllByRecursion (IsSpot vars) spots
   narrow : AllByRecursion (λ (s : Spot). width s.below ≤ most) spots
 
-drop_next : {X : Type 0} (i : ℕ) (xs : List X) → drop 1 (drop i xs) ≡ drop (suc i) xs
-drop_next i xs = drop-drop 1 i xs ∙ ap (λ n. drop n xs) (add-one i)
-
 after_next : (vars most sum i : ℕ) (steps : List Step) (forks : List Forks) (spots : List Spot) → IsAfter vars most sum i steps forks spots → IsAfter vars most sum (suc i) steps forks (advance spots)
-after_next vars most sum i steps forks [] is = grind (arith, drop_next i steps, drop_next i forks)
+after_next vars most sum i steps forks [] is = grind (arith, drop-drop 1 i steps, drop-drop 1 i forks)
 after_next vars most sum i steps forks (s ∷ spots) is = grind (
   arith,
-  drop_next i steps,
-  drop_next i forks,
+  drop-drop 1 i steps,
+  drop-drop 1 i forks,
   are_on most s.below (decided s.v s.place),
   flat_map-append,
   sum_next s spots,
@@ -100,12 +97,7 @@ all_after : (vars most sum i : ℕ) (steps : List Step) (forks : List Forks) (sp
 all_after vars most sum zero steps forks spots is = is
 all_after vars most sum (suc i) steps forks spots is = after_next vars most sum i steps forks (spots_at spots i) (all_after vars most sum i steps forks spots is)
 
--- ---- the place of a step, and those that are after it
-
-pub record IsNext (first_spots : List Spot) (i : ℕ) : Type 0 where
-  pub spot : Spot
-  pub rest : List Spot
-  pub are : spots_at first_spots i ≡ spot ∷ rest
+-- ---- the place of a step
 
 head_at : {X : Type 0} (i : ℕ) (x : X) (xs ys : List X) → x ∷ ys ≡ drop i xs → slice_get xs i ≡ Some x
 head_at i x xs ys e = grind (arith, e, drop_more xs i x, slice_get-get_or xs i x, length-drop i xs)
@@ -127,10 +119,18 @@ pub record IsClimbing (cnf : ClauseList) (most : ℕ) (m : Maker) (stack : List 
   pub made : m.store.made ≤ 2 + 3 * all_sum spots
   pub handed : m.store.handed ≤ (4 + 2 * most) * all_sum spots
 
+-- The place of a step: its nodes may be made, and then those of the step are.
+pub record IsNext (cnf : ClauseList) (most : ℕ) (m : Maker) (stack : List (Vec ℕ Global)) (step : Step) (fork : Forks) (spots : List Spot) : Type 0 where
+  pub spot : Spot
+  pub rest : List Spot
+  pub ready : IsReady m step fork stack spot rest
+  pub more : (new : Maker) (under : List (Vec ℕ Global)) (numbers : Vec ℕ Global) → IsRaised m new under numbers.items spot rest → IsClimbing cnf most new (under ++ numbers ∷ []) spots
+
 -- The conjunction of the nodes on the root of the forest may be made, and its graph is right.
-pub record IsRoot (cnf : ClauseList) (forest : Forest) (m : Maker) (kids : List ℕ) : Type 0 where
-  pub meetable : AreMeetable m kids
-  pub right : (new : Maker) (node : ℕ) (compiled : Compiled) → IsMeet m new kids node → IsGraph compiled.graph → IsFrozen new.store node compiled.graph → compiled.made ≡ new.store.made
+pub record IsRoot (cnf : ClauseList) (forest : Forest) (m : Maker) (top : List (Vec ℕ Global)) (numbers : List ℕ) : Type 0 where
+  pub held : AreHeld top numbers
+  pub meetable : AreMeetable m (taken top numbers)
+  pub right : (new : Maker) (node : ℕ) (compiled : Compiled) → IsMeet m new (taken top numbers) node → IsGraph compiled.graph → IsFrozen new.store node compiled.graph → compiled.made ≡ new.store.made
       → IsCompiledAlong forest cnf compiled
 
 -- the children of a place's nodes
@@ -149,12 +149,6 @@ module _ (cnf : ClauseList) (steps : List Step) (forks : List Forks) (forest : F
     each_spot cnf.vars forest (root cnf.clauses) (root_base cnf forest is.forest_is (clauses-valid cnf valid).2),
   ))
 
-  pub next_way : is_clause_list cnf ≡ true → (i : ℕ) → i < length steps → IsNext (start cnf forest) i
-  next_way valid i h = by (spots_at (start cnf forest) i) refl where
-    by : (spots : List Spot) → spots_at (start cnf forest) i ≡ spots → IsNext (start cnf forest) i
-    by [] e = absurd (omega (arith, h, ap length (sym (ap (flat_map its_steps) e) ∙ (its_after valid i).steps_are), length-drop i steps))
-    by (spot ∷ rest) e = record { spot = spot; rest = rest; are = e }
-
   pub climb_first : is_clause_list cnf ≡ true → (i : ℕ) (m : Maker) (stack : List (Vec ℕ Global)) → i ≡ length steps → IsMaker m → m.store.vars ≡ cnf.vars → m.store.made ≡ 2 → m.store.handed ≡ 0 → stack ≡ []
       → IsClimbing cnf (width forest) m stack (spots_at (start cnf forest) i)
   climb_first valid i m stack e made vars two no_child empty = by (spots_at (start cnf forest) i) (ap length (its_after valid i).steps_are) where
@@ -162,20 +156,17 @@ module _ (cnf : ClauseList) (steps : List Step) (forks : List Forks) (forest : F
     by [] same = grind (arith, made, vars, two, no_child, empty)
     by (spot ∷ rest) same = absurd (omega (arith, e, same, length-drop i steps))
 
-  module _ (valid : is_clause_list cnf ≡ true) (i : ℕ) (m : Maker) (stack : List (Vec ℕ Global)) (next : IsNext (start cnf forest) i) (climbing : IsClimbing cnf (width forest) m stack (spots_at (start cnf forest) (suc i))) where
-    known : IsAfter cnf.vars (width forest) BUDGET_LIMIT i steps forks (next.spot ∷ next.rest)
-    known = subst (IsAfter cnf.vars (width forest) BUDGET_LIMIT i steps forks) next.are (its_after valid i)
-
-    climbed : IsClimbing cnf (width forest) m stack (spots_below next.spot ++ next.rest)
-    climbed = subst (λ spots. IsClimbing cnf (width forest) m stack (advance spots)) next.are climbing
-
-    pub climb_ready : (step : Step) (fork : Forks) → slice_get steps i ≡ Some step → slice_get forks i ≡ Some fork → IsReady m step fork stack next.spot next.rest
-    climb_ready step fork step_there forks_there =
-        grind (arith, step_there, forks_there, head_at i (its_step next.spot) steps _ known.steps_are, head_at i (forks_at next.spot.v next.spot.below next.spot.place) forks _ known.forks_are, climbing, climbed, known, sum_next next.spot next.rest)
-
-    pub climb_more : (new : Maker) (under : List (Vec ℕ Global)) (numbers : Vec ℕ Global) → IsRaised m new under numbers.items next.spot next.rest
-        → IsClimbing cnf (width forest) new (under ++ numbers ∷ []) (spots_at (start cnf forest) i)
-    climb_more new under numbers raised = grind (arith, next.are, raised, climbing, climbed, known, sum_next next.spot next.rest, are_on 0 next.spot.below (decided next.spot.v next.spot.place), children_few m.store.handed new.store.handed (trees next.spot.below) (width forest), reverse-append under (numbers ∷ []))
+  pub next_way : is_clause_list cnf ≡ true → (i : ℕ) (m : Maker) (stack : List (Vec ℕ Global)) (step : Step) (fork : Forks) → IsClimbing cnf (width forest) m stack (spots_at (start cnf forest) (suc i))
+      → slice_get steps i ≡ Some step → slice_get forks i ≡ Some fork → IsNext cnf (width forest) m stack step fork (spots_at (start cnf forest) i)
+  next_way valid i m stack step fork climbing step_there forks_there = by (spots_at (start cnf forest) i) climbing (its_after valid i) where
+    by : (spots : List Spot) → IsClimbing cnf (width forest) m stack (advance spots) → IsAfter cnf.vars (width forest) BUDGET_LIMIT i steps forks spots → IsNext cnf (width forest) m stack step fork spots
+    by [] climbed known = absurd (omega (arith, slice_get_within steps i step step_there, ap length known.steps_are, length-drop i steps))
+    by (spot ∷ rest) climbed known = record {
+      spot = spot;
+      rest = rest;
+      ready = grind (arith, step_there, forks_there, head_at i (its_step spot) steps _ known.steps_are, head_at i (forks_at spot.v spot.below spot.place) forks _ known.forks_are, climbed, known, sum_next spot rest);
+      more = λ new under numbers raised. grind (arith, raised, climbed, known, sum_next spot rest, are_on 0 spot.below (decided spot.v spot.place), children_few m.store.handed new.store.handed (trees spot.below) (width forest), reverse-append under (numbers ∷ []));
+    }
 
   -- ---- the root of the forest
 
@@ -193,7 +184,7 @@ module _ (cnf : ClauseList) (steps : List Step) (forks : List Forks) (forest : F
       its_begin : AreBegun m.store.nodes forest (root cnf.clauses) top all
       its_begin = begun m.store.nodes forest (root cnf.clauses) top all (root_base cnf forest is.forest_is (clauses-valid cnf valid).2).once (inl refl) levels
 
-      pub top_many : length top ≡ trees forest
+      top_many : length top ≡ trees forest
       top_many = sym (length-levels m.store.nodes (spots_on forest (root cnf.clauses)) top levels) ∙ length-spots forest (root cnf.clauses)
 
       begin_zero : (part_forest : Forest) → begins part_forest (root cnf.clauses) all ≡ replicate (trees part_forest) 0
@@ -204,21 +195,15 @@ module _ (cnf : ClauseList) (steps : List Step) (forks : List Forks) (forest : F
         same_numbers : begins forest (root cnf.clauses) all ≡ numbers
         same_numbers = grind (arith, begin_zero forest, long, many, top_many, zeros)
 
-        pub root_held : AreHeld top numbers
-        root_held = subst (AreHeld top) same_numbers its_begin.held
+        held : AreHeld top numbers
+        held = subst (AreHeld top) same_numbers its_begin.held
 
-        module _ (kids : List ℕ) (e : kids ≡ taken top numbers) where
-          children_are : taken top (begins forest (root cnf.clauses) all) ≡ kids
-          children_are = ap (taken top) same_numbers ∙ sym e
-
-          children_many : length kids ≡ trees forest
-          children_many = ap length e ∙ length-taken top numbers root_held ∙ top_many
-
-          pub root_is : IsRoot cnf forest m kids
-          root_is = record {
-            meetable = grind (arith, climbing, All-from_recursion, children_are, its_begin, children_many, trees_few forest (root cnf.clauses) all (inl refl), is.few, are_on 0 forest (root cnf.clauses));
-            right = λ new node compiled meet valid_graph frozen made.
-                let says : (a : Assignment) → is_true new.store.nodes node a ≡ all_hold a cnf.clauses =
-                λ a. grind (arith, meet.truth a, children_are, its_begin.truth a, down_holds forest (root cnf.clauses) a all (root_down cnf forest is.forest_is (clauses-valid cnf valid).2), root_holds cnf.clauses a) in
-                grind (arith, valid_graph, frozen, meet.adds, meet.alone, made, climbing, says, children_many, are_on 0 forest (root cnf.clauses), children_few m.store.handed new.store.handed (width forest) (width forest) 1);
-          }
+        pub root_is : IsRoot cnf forest m top numbers
+        root_is = record {
+          held = held;
+          meetable = grind (arith, climbing, All-from_recursion, same_numbers, its_begin, length-taken top numbers held, top_many, trees_few forest (root cnf.clauses) all (inl refl), is.few, are_on 0 forest (root cnf.clauses));
+          right = λ new node compiled meet valid_graph frozen made.
+              let says : (a : Assignment) → is_true new.store.nodes node a ≡ all_hold a cnf.clauses =
+              λ a. grind (arith, meet.truth a, same_numbers, its_begin.truth a, down_holds forest (root cnf.clauses) a all (root_down cnf forest is.forest_is (clauses-valid cnf valid).2), root_holds cnf.clauses a) in
+              grind (arith, valid_graph, frozen, meet.adds, meet.alone, made, climbing, says, length-taken top numbers held, top_many, are_on 0 forest (root cnf.clauses), children_few m.store.handed new.store.handed (width forest) (width forest) 1);
+        }

@@ -105,6 +105,7 @@ impl Maker {
     }
 
     /// Makes the node that is true if all of these are. Leaves out `yes`, and makes no node if one is `no`, or if at most one is left.
+    #[tactic(auto, using(crate::proofs::Rules::kept_children))]
     pub(crate) fn meet(&mut self, alloc: Global, kids: &[u32]) -> Result<u32, AllocError>
         requires { AreMeetable self.old kids.now }
         ensures { IfOk result (IsMeet self.old self.new kids.now) }
@@ -131,6 +132,7 @@ impl Maker {
     }
 
     // Makes the node that is true if one of two is.
+    #[tactic(auto, using(crate::proofs::Bare::join_both))]
     fn join(&mut self, zero: Option<u32>, one: Option<u32>) -> Result<u32, AllocError>
         requires maker { IsMaker self.old }
         requires zero { IfSome zero (λ node. node < length self.old.store.nodes) }

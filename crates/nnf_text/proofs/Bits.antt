@@ -1,10 +1,10 @@
 -- Words joined one after the other, and the bit of a variable in a rising list.
-use Rattle.std.proofs.Common.{◌≡◌, ℕ, ◌+◌, ◌*◌, ◌%◌, ◌^◌, ◌<◌, ◌≤◌, Bool, false, not, ◌&&◌, ◌||◌, ◌==◌, List, [], ◌∷◌, ◌++◌, map, length, take, get_or, sym, ap, ◌∙◌, arith, inl, inr}
+use Rattle.std.proofs.Common.{◌≡◌, ℕ, ◌+◌, ◌*◌, ◌%◌, ◌^◌, ◌<◌, ◌≤◌, Bool, not, ◌&&◌, ◌||◌, ◌==◌, List, [], ◌∷◌, ◌++◌, map, length, take, get_or, ap, ◌∙◌, arith}
 use Rattle.std.proofs.lemmas.Bool.Decides.{nat_tests}
-use Rattle.std.specs.Prelude.{bit_and, bit_or, ◌⊎◌}
+use Rattle.std.specs.Prelude.{bit_and, bit_or}
 use Rattle.std.specs.List.{list_any}
 use Rattle.std.specs.List.Sorted.{IsStrictlyIncreasing}
-use Rattle.std.proofs.lemmas.Bool.{cases_eq, cases_lt, eq-eqb, ne_eqb}
+use Rattle.std.proofs.lemmas.Bool.{cases_eq, cases_lt, ne_eqb}
 use Rattle.std.proofs.lemmas.List.{take_more, map-append, get_or_past}
 use Rattle.std.proofs.lemmas.List.Kept.{AllPairs-from_increasing}
 use Rattle.state_rules.specs.Graphs.{at_most_one}
@@ -24,10 +24,7 @@ pub both_more : (column kids : List ℕ) (i any twice word : ℕ) → i < length
     → IsJoined column (take (i + 1) kids) (bit_or any word) (bit_or twice (bit_and any word))
 both_more column kids i any twice word lt is joined = record {
   some = λ b. ap (λ w. has_bit (bit_or any w) b) is ∙ joined_more (λ k. get_or column k 0) kids i any b lt (joined.some b);
-  more = λ b.
-      has_bit-or twice (bit_and any word) b ∙ (λ j. joined.more b j || (has_bit-and any word b ∙ (λ k. joined.some b k && has_bit (is k) b)) j)
-      ∙ sym (more-than-one (map (has column b) (take i kids)) (has column b (get_or kids i 0)))
-      ∙ ap (λ bs. not (at_most_one bs)) (sym (longer b));
+  more = λ b. grind (arith, is, has_bit-or twice (bit_and any word) b, has_bit-and any word b, joined.some b, joined.more b, more-than-one (map (has column b) (take i kids)) (has column b (get_or kids i 0)), longer b);
 } where
   longer : (b : ℕ) → map (has column b) (take (i + 1) kids) ≡ map (has column b) (take i kids) ++ has column b (get_or kids i 0) ∷ []
   longer b = ap (map (has column b)) (take_more kids i 0 lt) ∙ map-append (has column b) (take i kids) (get_or kids i 0 ∷ [])
@@ -38,17 +35,8 @@ pub in_order : (xs : List ℕ) → IsStrictlyIncreasing xs → (i j : ℕ) → i
 in_order xs rise i j le h = grind (arith, nat_tests, cases_lt, AllPairs-from_increasing)
 
 module _ (variables : List ℕ) (rise : IsStrictlyIncreasing variables) (short : length variables ≤ 64) (var : ℕ) (some : 0 < var) where
-  pairs : (i j : ℕ) → i < j → j < length variables → get_or variables i 0 < get_or variables j 0
-  pairs i j h g = AllPairs-from_increasing variables rise i j 0 h g
-
-  other_places : (place b : ℕ) → place < length variables → get_or variables place 0 ≡ var → (b ≡ place → ⊥) → (var == get_or variables b 0) ≡ false
-  other_places place b inside is other = grind (arith, nat_tests, ne_eqb, cases_lt, pairs, get_or_past)
-
   pub found-bit : (place word : ℕ) → place < length variables → get_or variables place 0 ≡ var → word ≡ 1 * 2 ^ place % 18446744073709551616 → (b : ℕ) → b < 64 → has_bit word b ≡ (var == get_or variables b 0)
-  found-bit place word inside is w b small = ap (λ n. has_bit n b) w ∙ one_bit 64 place b (omega arith) ∙ by (cases_eq b place) where
-    by : (b ≡ place) ⊎ (b ≡ place → ⊥) → (b == place) ≡ (var == get_or variables b 0)
-    by (inl same) = eq-eqb b place same ∙ sym (eq-eqb var (get_or variables b 0) (sym is ∙ ap (λ i. get_or variables i 0) (sym same)))
-    by (inr other) = ne_eqb b place other ∙ sym (other_places place b inside is other)
+  found-bit place word inside is w b small = grind (arith, nat_tests, one_bit 64 place b, cases_eq b place, ne_eqb, cases_lt, AllPairs-from_increasing variables rise, get_or_past)
 
   pub no-bit : ((k : ℕ) → k < length variables → get_or variables k 0 ≡ var → ⊥) → (b : ℕ) → b < 64 → has_bit 0 b ≡ (var == get_or variables b 0)
   no-bit none b small = grind (arith, nat_tests, has_bit-zero, ne_eqb, cases_lt, none, get_or_past)

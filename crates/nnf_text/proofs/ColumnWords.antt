@@ -1,15 +1,13 @@
 -- What the words of a column mean.
-use Rattle.std.proofs.Common.{◌≡◌, ℕ, ◌+◌, ◌-◌, ◌^◌, ◌<◌, ◌≤◌, Bool, true, false, not, ◌==◌, List, ◌++◌, min, length, take, drop, Option, Some, None, get_or, set, w64, All, sym, ap, ◌∙◌, subst, arith, inl, inr}
+use Rattle.std.proofs.Common.{◌≡◌, ℕ, ◌+◌, ◌-◌, ◌^◌, ◌<◌, ◌≤◌, Bool, true, false, List, ◌++◌, min, length, take, drop, Option, Some, None, get_or, set, w64, All, sym, ap, ◌∙◌, arith, inl, inr}
 use Rattle.std.proofs.lemmas.Bool.Decides.{nat_tests}
 use Rattle.std.specs.Prelude.{◌⊎◌}
 use Rattle.std.specs.Int.{bit_at, trailing_zeros}
-use Rattle.std.specs.Option.{option_or}
 use Rattle.std.proofs.lemmas.Bool.{eq-eqb, cases_lt, ltb-true, ltb-false}
 use Rattle.std.proofs.lemmas.Nat.Bits.{bit_at-trailing_zeros}
 use Rattle.std.proofs.lemmas.List.{get_or-set_same, get_or-set_other, get_or_past, take_all, length-drop}
 use Rattle.std.proofs.Math.Seq.{take-add}
 use Rattle.std.proofs.lemmas.List.Folds.{find-append}
-use Rattle.state_rules.specs.declared.nodes.NodeKind.{NodeKind}
 use Rattle.state_rules.specs.Graphs.{Node, node_at, mention_by, mentions, nodes_fit, shares}
 use Rattle.state_rules.proofs.NodeValues.{map-below, below-each, value_of-at}
 use Rattle.state_rules.proofs.NodesFit.{fits-at, apart_at-below}
@@ -30,13 +28,7 @@ pub record IsMarked (nodes : List Node) (variables : List ℕ) (i : ℕ) (column
 
 -- the children of a node have words
 pub have_words : (vars : ℕ) (nodes : List Node) (i len : ℕ) (kids : List ℕ) → nodes_fit vars 0 nodes ≡ true → i < length nodes → i ≤ len → kids ≡ (node_at nodes i).kids → All (λ child. child < len) kids
-have_words vars nodes i len kids fit inside le is k d h =
-    let below = below-each i (node_at nodes i).kids (fits-at vars nodes i fit inside).below in
-    omega (arith, subst (All (λ child. child < i)) (sym is) below k d h)
-
--- the word of a node, from its kind and its children
-pub IsWord-of : (column kids : List ℕ) (what : NodeKind) (node : Node) (variables : List ℕ) (word twice : ℕ) → what ≡ node.what → kids ≡ node.kids → IsWord column what kids variables word twice → IsWord column node.what node.kids variables word twice
-IsWord-of column kids what node variables word twice e f is = subst (λ ks. IsWord column node.what ks variables word twice) f (subst (λ w. IsWord column w kids variables word twice) e is)
+have_words vars nodes i len kids fit inside le is k d h = grind (arith, is, below-each i (node_at nodes i).kids (fits-at vars nodes i fit inside).below)
 
 module _ (vars : ℕ) (nodes : List Node) (variables : List ℕ) (i : ℕ) (column : List ℕ) (marked : IsMarked nodes variables i column) (fit : nodes_fit vars 0 nodes ≡ true) (lt : i < length nodes) (long : length column ≡ length nodes)
     (word twice : ℕ) (is : IsWord column (node_at nodes i).what (node_at nodes i).kids variables word twice) where
@@ -48,23 +40,17 @@ module _ (vars : ℕ) (nodes : List Node) (variables : List ℕ) (i : ℕ) (colu
       ∙ sym (value_of-at (mention_by (get_or variables b 0)) nodes i lt below)
 
   twice-right : (b : ℕ) → b < 64 → has_bit twice b ≡ share nodes i (get_or variables b 0)
-  twice-right b small =
-      is.more b small
-      ∙ ap not (apart_at-below (has column b) (mentions nodes (get_or variables b 0)) i (node_at nodes i).what (node_at nodes i).kids (fits-at vars nodes i fit lt).below (λ k h. marked.words k b h small))
+  twice-right b small = grind (arith, is.more b small, apart_at-below (has column b) (mentions nodes (get_or variables b 0)) i (node_at nodes i).what (node_at nodes i).kids (fits-at vars nodes i fit lt).below (λ k h. marked.words k b h small))
 
   word-at : (k b : ℕ) → b < 64 → (k < i) ⊎ (k ≡ i) → has (set column i word) b k ≡ mentions nodes (get_or variables b 0) k
   word-at k b small given = grind (arith, nat_tests, get_or-set_other, marked.words, get_or-set_same, word-right)
 
   none-at : twice ≡ 0 → (k b : ℕ) → b < 64 → (k < i) ⊎ (k ≡ i) → share nodes k (get_or variables b 0) ≡ false
-  none-at zero_twice k b small (inl before) = marked.none k b before small
-  none-at zero_twice k b small (inr here) = ap (λ n. share nodes n (get_or variables b 0)) here ∙ sym (twice-right b small) ∙ ap (λ n. has_bit n b) zero_twice ∙ has_bit-zero b
-
-  before_or_here : (k : ℕ) → k < i + 1 → (k < i) ⊎ (k ≡ i)
-  before_or_here k h = elim (cases_lt k i) [ inl below ↦ inl below | inr not_below ↦ inr (omega arith) ]
+  none-at zero_twice k b small given = grind (arith, nat_tests, twice-right b small, has_bit-zero, marked.none k b)
 
   -- the next node has no children that share
   pub marked_more : twice ≡ 0 → IsMarked nodes variables (i + 1) (set column i word)
-  marked_more zero_twice = grind (arith, nat_tests, word-at, before_or_here, none-at)
+  marked_more zero_twice = grind (arith, nat_tests, word-at, cases_lt, none-at)
 
   module _ (short : length variables ≤ 64) (some : 0 < twice) (fits : twice < 2 ^ 64) (place : ℕ) (e : place ≡ trailing_zeros w64 twice) where
     in_word : place < 64
@@ -81,9 +67,7 @@ module _ (vars : ℕ) (nodes : List Node) (variables : List ℕ) (i : ℕ) (colu
     pub marked_first : IsFirstOf nodes variables i (get_or variables place 0)
     marked_first = record {
       inside = lt;
-      found = find-first_at (share nodes i) variables place marked_inside is_shared (λ b h.
-          let unset : bit_at twice b ≡ 0 = (bit_at-trailing_zeros w64 twice some fits).2 b (omega (arith, e)) in
-          sym (twice-right b (omega (arith, in_word))) ∙ ap (λ n. n == 1) unset);
+      found = find-first_at (share nodes i) variables place marked_inside is_shared (λ b h. grind (arith, e, in_word, twice-right b, (bit_at-trailing_zeros w64 twice some fits).2 b));
       before = λ k h. find-none_at (share nodes k) variables (λ b g. marked.none k b h (omega arith));
     }
 
@@ -95,10 +79,10 @@ marked_all nodes variables i column short past marked k h = find-none_at (share 
 
 module _ (nodes : List Node) (xs ys : List ℕ) where
   not_first : (k : ℕ) → first_of nodes xs k ≡ None → first_of nodes (xs ++ ys) k ≡ first_of nodes ys k
-  not_first k none = find-append (share nodes k) xs ys ∙ ap (λ o. option_or o (first_of nodes ys k)) none
+  not_first k none = grind (arith, find-append)
 
   first_here : (k v : ℕ) → first_of nodes xs k ≡ Some v → first_of nodes (xs ++ ys) k ≡ Some v
-  first_here k v found = find-append (share nodes k) xs ys ∙ ap (λ o. option_or o (first_of nodes ys k)) found
+  first_here k v found = grind (arith, find-append)
 
   pub earlier-first : (a b : Option (ℕ × ℕ)) → FirstOf nodes xs a → FirstOf nodes ys b → FirstOf nodes (xs ++ ys) (earlier a b)
   earlier-first None None none more = λ k h. not_first k (none k h) ∙ more k h

@@ -1,30 +1,22 @@
 -- How a text grows by one text and then another.
-use Rattle.std.proofs.Common.{◌≡◌, ℕ, zero, suc, ◌+◌, ◌<◌, ◌≤◌, List, [], ◌++◌, refl, arith, length, take, get_or, Option, Some, None, Result, Ok, Err, sym, ap, ◌∙◌, subst, append_assoc, append-nil}
+use Rattle.std.proofs.Common.{◌≡◌, ℕ, zero, suc, ◌+◌, ◌<◌, ◌≤◌, List, [], ◌++◌, refl, arith, length, take, get_or, Option, Some, None, Result, sym, ap, ◌∙◌, subst, append_assoc, append-nil}
 use Rattle.std.specs.List.{flat_map, range_with_len}
 use Rattle.std.proofs.lemmas.List.{take_more, flat_map_more, take_all}
-use Rattle.diag_edge.specs.Edge.{AppendsPrefix, Rose, Writing, Puts, HasCause}
+use Rattle.diag_edge.specs.Edge.{Rose, Writing, Puts, HasCause}
 use Rattle.diag_edge.proofs.GrownBytes.{begins_first}
 use Rattle.diag_edge.proofs.Added.{grown_none, grown_more, part_more, put_all}
 use Rattle.nnf_text.specs.Extending.{Grows, Extends, Ends}
 
-none : (a : Writing) (p : Option (List ℕ)) → Grows a a p p []
-none a (Some p) = (grown_none a.got p, refl)
-none a None = refl
-
 pub extends_none : (a : Writing) (p : Option (List ℕ)) → Extends a a p p []
-extends_none a p = record { grows = none a p }
+extends_none a p = grind (arith, grown_none)
 
 -- ---- one text and then another
 
 more : (a b c : Writing) (p q s : Option (List ℕ)) (xs ys : List ℕ) → Grows a b p q xs → Grows b c q s ys → Grows a c p s (xs ++ ys)
 more a b c (Some p) (Some q) (Some s) xs ys (g, e) (h, f) = (grown_more _ _ _ p q s xs ys g h, f ∙ e)
 more a b c (Some p) (Some q) None xs ys (g, e) (h, f) = (part_more _ _ _ p q xs ys g h, subst (λ n. Rose n c.faults) e f)
-more a b c (Some p) None (Some s) xs ys g h = absurd h
-more a b c (Some p) None None xs ys (g, f) h =
-    subst (λ w. Grows a w (Some p) None (xs ++ ys)) (sym h) (subst (λ t. AppendsPrefix a.got b.got t) (append_assoc p xs ys) (begins_first a.got b.got (p ++ xs) ys g), f)
-more a b c None (Some q) s xs ys g h = absurd g
-more a b c None None (Some s) xs ys g h = absurd h
-more a b c None None None xs ys g h = h ∙ g
+more a b c (Some p) None s xs ys g h = grind (arith, append_assoc, begins_first a.got b.got (p ++ xs) ys)
+more a b c None q s xs ys g h = grind arith
 
 pub extends_on : (a b c : Writing) (p q s : Option (List ℕ)) (xs ys zs : List ℕ) → Extends a b p q xs → Extends b c q s ys → xs ++ ys ≡ zs → Extends a c p s zs
 extends_on a b c p q s xs ys zs g h e = subst (Extends a c p s) e (record { grows = more a b c p q s xs ys g.grows h.grows })
@@ -63,9 +55,7 @@ pub ruleset extending = (extends_on, extends_three, extends_none, extends_each, 
 
 whole : {T E : Type 0} (a b c : Writing) (q : Option (List ℕ)) (r : Result T E) (text : List ℕ) → Grows a b (Some []) q text → Ends b c q r → Puts a.got c.got r text × HasCause a.faults c.faults r
 whole a b c (Some q) r text (g, e) (h, f) = (put_all a.got b.got c.got [] q text text r refl refl g h, subst (λ n. HasCause n c.faults r) e f)
-whole a b c None (Ok v) text g (failed, same) = absurd (let no : ⊥ = cc in no)
-whole a b c None (Err e) text (g, f) (failed, same) =
-    (subst (λ w. AppendsPrefix a.got w.got text) (sym same) g, record { stayed = tt; rose = subst (λ w. Rose a.faults w.faults) (sym same) f })
+whole a b c None r text g h = grind arith
 
 pub extends_whole : {T E : Type 0} (a b c : Writing) (ga gc : Option (List ℕ)) (fa fc : ℕ) (p q : Option (List ℕ)) (r : Result T E) (text : List ℕ)
     → a ≡ record { got = ga; faults = fa } → c ≡ record { got = gc; faults = fc } → p ≡ Some [] → Extends a b p q text → Ends b c q r → Puts ga gc r text × HasCause fa fc r

@@ -9,3 +9,4 @@ pub mod Sparse
 pub mod Bits
 pub mod ColumnWords
 pub mod FirstShared
+pub mod Rules

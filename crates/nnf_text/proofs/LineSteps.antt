@@ -1,33 +1,24 @@
 -- The nodes of a text, line by line.
-use Rattle.std.proofs.Common.{◌≡◌, ℕ, ◌+◌, true, false, not, List, [], ◌∷◌, ◌++◌, length, Option, Some, None, Ok, Err, ap, ◌∙◌, arith, append_assoc, append-nil}
+use Rattle.std.proofs.Common.{◌≡◌, ℕ, ◌+◌, true, false, List, [], ◌∷◌, ◌++◌, length, Option, Some, None, Ok, Err, ap, ◌∙◌, arith, append_assoc, append-nil}
 use Rattle.std.proofs.lemmas.Bool.Decides.{nat_tests}
 use Rattle.std.specs.Prelude.{nat_lt}
 use Rattle.std.specs.List.{list_all, filter_map, cons_option, enumerate_from}
-use Rattle.std.proofs.lemmas.Bool.{cond-true, cond-false, not_from_false}
 use Rattle.std.proofs.lemmas.List.{length-append}
 use Rattle.text_rules.specs.Expected.{IsExpectedFault}
 use Rattle.state_rules.specs.Graphs.{Node, Graph, edges}
-use Rattle.nnf_text.specs.GraphTexts.{Header, node_of, node_fault, variable_fits, node_at_line, line_fault, fault_at, differs, LineFault, WrongLine, WrongChild, Refusal, AtLine, Parsed, read_unless, parsed_below, parsed, checked_if, read_graph}
+use Rattle.nnf_text.specs.GraphTexts.{Header, node_of, variable_fits, node_at_line, line_fault, fault_at, differs, LineFault, WrongLine, WrongChild, Refusal, AtLine, Parsed, read_unless, parsed_below, parsed, checked_if, read_graph}
 use Rattle.nnf_text.specs.inner.Reading.{filled_from, nodes_behind, if_counted}
 use Rattle.nnf_text.proofs.Options.{none≢some}
 
 -- ---- one line
 
--- the result of a line, from its node
-abbrev by_node : ℕ → ℕ → List Node → Option Node → Parsed
-by_node vars line done o = read_unless (record { nodes = done ++ cons_option o []; vars = vars }) (cons_option (fault_at line (node_fault vars (length done) o)) [])
-
 module _ (vars line : ℕ) (done : List Node) (ws : List (List ℕ)) (node : Node) (is : node_of ws ≡ Some node) where
-  line-node : (fault : Option LineFault) → node_fault vars (length done) (Some node) ≡ fault
-      → nodes_behind vars done ((line, ws) ∷ []) ≡ read_unless (record { nodes = done ++ node ∷ []; vars = vars }) (cons_option (fault_at line fault) [])
-  line-node fault e = ap (by_node vars line done) is ∙ ap (λ f. read_unless (record { nodes = done ++ node ∷ []; vars = vars }) (cons_option (fault_at line f) [])) e
-
   pub line-child : list_all (λ child. nat_lt child (length done)) node.kids ≡ false → nodes_behind vars done ((line, ws) ∷ []) ≡ Err (AtLine line WrongChild)
-  line-child late = line-node (Some WrongChild) (cond-true _ _ _ (not_from_false _ late))
+  line-child late = grind (arith, nat_tests, is)
 
   pub line-right : list_all (λ child. nat_lt child (length done)) node.kids ≡ true → variable_fits vars node.what ≡ true
       → nodes_behind vars done ((line, ws) ∷ []) ≡ Ok (record { nodes = done ++ node ∷ []; vars = vars })
-  line-right early fits = line-node None (cond-false _ _ _ (ap not early) ∙ cond-true _ _ _ fits)
+  line-right early fits = grind (arith, nat_tests, is)
 
 -- ---- the lines after it
 
@@ -49,20 +40,14 @@ module _ (vars number : ℕ) (done : List Node) (lines : List (List ℕ)) where
   right_first : (more : List Node) (o : Option Node) (fault : Option LineFault) → (o ≡ None → fault ≡ Some WrongLine) → first_by o fault ≡ Ok (record { nodes = more; vars = vars }) → whole_by o fault ≡ nodes_behind vars more rest
   right_first more o fault form e = grind (arith, nat_tests, none≢some, length-append, append_assoc)
 
-  wrong_first : (o : Option Node) (fault : Option LineFault) (r : Refusal) → first_by o fault ≡ Err r → whole_by o fault ≡ Err r
-  wrong_first o fault r e = grind (arith, nat_tests)
-
-  no_form : (o : Option Node) → o ≡ None → node_fault vars (length done) o ≡ Some WrongLine
-  no_form o e = ap (node_fault vars (length done)) e
-
   -- a line that is read adds its node
   pub line-more : (line : List ℕ) (more : List Node) → nodes_behind vars done (filled_from number (line ∷ [])) ≡ Ok (record { nodes = more; vars = vars })
       → nodes_behind vars done (filled_from number (line ∷ lines)) ≡ nodes_behind vars more rest
-  line-more line more e = grind (arith, nat_tests, append-nil, right_first, no_form)
+  line-more line more e = grind (arith, nat_tests, append-nil, right_first)
 
   -- a refusal of the first line is that of all
   pub line-refused : (line : List ℕ) (r : Refusal) → nodes_behind vars done (filled_from number (line ∷ [])) ≡ Err r → nodes_behind vars done (filled_from number (line ∷ lines)) ≡ Err r
-  line-refused line r e = grind (arith, nat_tests, wrong_first)
+  line-refused line r e = grind (arith, nat_tests)
 
 -- ---- refusals
 
@@ -71,12 +56,6 @@ pub refused-too : (fault : Option Refusal) (a b : Parsed) → ((r : Refusal) →
 refused-too fault a b more h = grind (arith, nat_tests)
 
 -- ---- a whole text
-
-unless-more : (graph : Graph) (faults others : List Refusal) (given : Graph) → read_unless graph faults ≡ Ok given → read_unless graph (faults ++ others) ≡ read_unless given others
-unless-more graph faults others given e = grind (arith, nat_tests)
-
-unless-refused : (graph : Graph) (faults others : List Refusal) (r : Refusal) → read_unless graph faults ≡ Err r → read_unless graph (faults ++ others) ≡ Err r
-unless-refused graph faults others r e = grind (arith, nat_tests)
 
 module _ (text : List ℕ) (header : Header) (lines : List (ℕ × List (List ℕ))) (below : parsed text ≡ parsed_below lines (Some header)) where
   abbrev with_nodes : List Node → Graph
@@ -96,11 +75,11 @@ module _ (text : List ℕ) (header : Header) (lines : List (ℕ × List (List �
 
   -- the refusal of a line is that of the text
   pub read-line : (fault : Option Refusal) → IsExpectedFault fault (nodes_behind header.vars [] lines) → IsExpectedFault fault (read_graph text)
-  read-line fault h = refused-too fault (nodes_behind header.vars [] lines) (read_graph text) (λ r f. ap checked_if (grouped ∙ unless-refused (with_nodes all_nodes) all_faults (counts all_nodes) r f)) h
+  read-line fault h = refused-too fault (nodes_behind header.vars [] lines) (read_graph text) (λ r f. grind (arith, nat_tests, grouped)) h
 
   module _ (nodes : List Node) (read : nodes_behind header.vars [] lines ≡ Ok (with_nodes nodes)) where
     parsed-counted : parsed text ≡ if_counted header nodes
-    parsed-counted = grind (arith, nat_tests, grouped, unless-more)
+    parsed-counted = grind (arith, nat_tests, grouped)
 
     -- and so is that of a count
     pub read-counts : (fault : Option Refusal) → IsExpectedFault fault (if_counted header nodes) → IsExpectedFault fault (read_graph text)

@@ -15,10 +15,10 @@ use Rattle.text_rules.proofs.NumberLemmas.{decimal_digits, number_in-decimal}
 use Rattle.text_rules.proofs.SpacedLines.{is_line_word, is_word_line, words_of_lines, lines_are_neat}
 use Rattle.state_rules.specs.declared.nodes.NodeKind.{NodeKind}
 use Rattle.state_rules.specs.declared.nodes.NodeKind.TheVariants.{Literal, And}
-use Rattle.state_rules.specs.Graphs.{Node, Graph, kind_fits, node_fits, nodes_fit, IsGraph, edges}
+use Rattle.state_rules.specs.Graphs.{Node, Graph, kind_fits, nodes_fit, IsGraph, edges}
 use Rattle.state_rules.specs.declared.nodes.TheConstants.{CHILD_LIMIT}
 use Rattle.state_rules.proofs.NodeValues.{are_below}
-use Rattle.state_rules.proofs.NodesFit.{Fits, fits}
+use Rattle.state_rules.proofs.NodesFit.{Fits}
 use Rattle.nnf_text.specs.GraphTexts.{small_number, great_number, numbers, literal_of, literal_with, counted, node_of, node_fault, line_fault, node_at_line, has_words, filled_lines, header_of, differs, Refusal, Parsed, read_unless, parsed}
 use Rattle.nnf_text.specs.WrittenGraphs.{literal_word, child_words, kind_words, node_words, header_words, graph_text}
 
@@ -80,14 +80,11 @@ module _ (vars own : ℕ) (few : own < 2 ^ 32) (vars_fit : vars < 2 ^ 32) where
   kind-read : (kind : NodeKind) (kids : List ℕ) → are_below own kids ≡ true → kind_fits vars kind kids ≡ true → node_of (kind_words kind kids) ≡ Some (record { what = kind; kids = kids })
   kind-read kind kids below is = grind (arith, nat_tests, and_parts, leb-true, literal_of-word, nil_from_length, eqb-true, few-kids, node_of-and, counted-kids, small-from)
 
-  kind-right : (kind : NodeKind) (kids : List ℕ) → are_below own kids ≡ true → kind_fits vars kind kids ≡ true → node_fault vars own (Some (record { what = kind; kids = kids })) ≡ None
-  kind-right kind kids below is = grind (arith, nat_tests, cond-false, cond-true, and_parts)
-
   node-read : (node : Node) → Fits vars own node → node_of (node_words node) ≡ Some node
   node-read node is = kind-read node.what node.kids is.below is.kind
 
   node-right : (node : Node) → Fits vars own node → node_fault vars own (node_of (node_words node)) ≡ None
-  node-right node is = ap (node_fault vars own) (node-read node is) ∙ kind-right node.what node.kids is.below is.kind
+  node-right node is = grind (arith, nat_tests, cond-false, cond-true, and_parts, node-read node is)
 
 -- ---- all nodes
 
@@ -103,19 +100,13 @@ module _ (vars : ℕ) (vars_fit : vars < 2 ^ 32) where
 
 -- ---- the words of each line
 
-small_literal : (positive : Bool) (var : ℕ) → var < 2 ^ 32 → is_line_word (literal_word positive var) ≡ true
-small_literal positive var small = grind (arith, nat_tests, decimal-is_line_word, minus_word)
-
 numbers-are_words : (ns : List ℕ) → are_small ns ≡ true → list_all is_line_word (map decimal ns) ≡ true
 numbers-are_words [] all = refl
 numbers-are_words (n ∷ ns) all = grind (arith, nat_tests, and_parts, ltb-true, and_from, decimal-is_line_word, numbers-are_words ns)
 
-kids-are_words : (kids : List ℕ) → length kids < 2 ^ 32 → are_small kids ≡ true → list_all is_line_word (child_words kids) ≡ true
-kids-are_words kids few small = and_from _ _ (decimal-is_line_word (length kids) (omega arith)) (numbers-are_words kids small)
-
 module _ (vars own : ℕ) (few : own < 2 ^ 32) (vars_fit : vars < 2 ^ 32) where
   kind-is_line : (kind : NodeKind) (kids : List ℕ) → are_below own kids ≡ true → kind_fits vars kind kids ≡ true → is_word_line (kind_words kind kids) ≡ true
-  kind-is_line kind kids below is = grind (arith, nat_tests, and_parts, leb-true, and_from, small_literal, few-kids, kids-are_words, small-from)
+  kind-is_line kind kids below is = grind (arith, nat_tests, and_parts, leb-true, and_from, minus_word, few-kids, decimal-is_line_word, numbers-are_words, small-from)
 
 lines-are : (vars own : ℕ) (nodes : List Node) → own + length nodes ≤ 2 ^ 32 → vars < 2 ^ 32 → nodes_fit vars own nodes ≡ true → list_all is_word_line (map node_words nodes) ≡ true
 lines-are vars own [] few vars_fit are = refl
@@ -125,9 +116,7 @@ lines-are vars own (node ∷ nodes) few vars_fit are = grind (arith, nat_tests, 
 
 pub edges-le : (vars own : ℕ) (nodes : List Node) → nodes_fit vars own nodes ≡ true → edges nodes ≤ length nodes * CHILD_LIMIT
 edges-le vars own [] are = omega arith
-edges-le vars own (node ∷ nodes) are =
-    let parts = and_parts (node_fits vars own node) (nodes_fit vars (own + 1) nodes) are in
-    omega (arith, few-kids vars node.what node.kids (fits vars own node parts.0).kind, edges-le vars (own + 1) nodes parts.1, sum_by-cons (λ (n : Node). length n.kids) node nodes)
+edges-le vars own (node ∷ nodes) are = grind (arith, nat_tests, and_parts, few-kids vars node.what node.kids, edges-le vars (own + 1) nodes, sum_by-cons (λ (n : Node). length n.kids) node nodes)
 
 -- ---- the whole text
 
@@ -138,15 +127,9 @@ header-read : (vars : ℕ) (nodes : List Node) → 0 < length nodes → length n
     → header_of (header_words (record { nodes = nodes; vars = vars })) ≡ Some (record { nodes = length nodes; edges = edges nodes; vars = vars })
 header-read vars nodes some few small vars_fit = grind (arith, nat_tests, small_number-decimal, great_number-decimal)
 
-filled-line : (n : ℕ) (ws : List (List ℕ)) → is_word_line ws ≡ true → has_words (n, ws) ≡ true
-filled-line n ws is = grind (arith, nat_tests)
-
 filled-all : (n : ℕ) (lines : List (List (List ℕ))) → list_all is_word_line lines ≡ true → filter has_words (enumerate_from n lines) ≡ enumerate_from n lines
 filled-all n [] all = refl
-filled-all n (ws ∷ lines) all = grind (arith, nat_tests, and_parts, cond-true, filled-line, filled-all (n + 1) lines)
-
-differs-none : (n : ℕ) → differs n n ≡ []
-differs-none n = cond-true _ _ _ (eq-eqb n n refl)
+filled-all n (ws ∷ lines) all = grind (arith, nat_tests, and_parts, cond-true, filled-all (n + 1) lines)
 
 -- nodes over `vars` variables of which a text can be written
 pub record IsList (vars : ℕ) (nodes : List Node) : Type 0 where
@@ -178,16 +161,13 @@ module _ (vars : ℕ) (nodes : List Node) (is : IsList vars nodes) where
 
   pub graph_text-read : parsed (graph_text (record { nodes = nodes; vars = vars })) ≡ Ok (record { nodes = nodes; vars = vars })
   unfolding read_below
-  graph_text-read = grind (arith, nat_tests, filled, header-read, few-edges, nodes-read, nodes-right, differs-none)
+  graph_text-read = grind (arith, nat_tests, filled, header-read, few-edges, nodes-read, nodes-right)
 
 -- ---- a graph, over more variables than it has
 
-kind-wider : (vars more : ℕ) (kind : NodeKind) (kids : List ℕ) → vars ≤ more → kind_fits vars kind kids ≡ true → kind_fits more kind kids ≡ true
-kind-wider vars more kind kids le is = grind (arith, nat_tests, and_parts, leb-true, and_from, le-leb)
-
 nodes-wider : (vars more own : ℕ) (nodes : List Node) → vars ≤ more → nodes_fit vars own nodes ≡ true → nodes_fit more own nodes ≡ true
 nodes-wider vars more own [] le all = refl
-nodes-wider vars more own (node ∷ nodes) le all = grind (arith, nat_tests, and_parts, and_from, kind-wider, nodes-wider vars more (own + 1) nodes le)
+nodes-wider vars more own (node ∷ nodes) le all = grind (arith, nat_tests, and_parts, and_from, leb-true, le-leb, nodes-wider vars more (own + 1) nodes le)
 
 pub IsList-from : (graph : Graph) (vars : ℕ) → IsGraph graph → graph.vars ≤ vars → vars < 2 ^ 32 → IsList vars graph.nodes
 IsList-from graph vars is le small = grind (arith, nat_tests, nodes-wider)

@@ -1,5 +1,5 @@
 -- Searches of a list of numbers.
-use Rattle.std.proofs.Common.{◌≡◌, ℕ, zero, suc, ◌+◌, ◌<◌, ◌≤◌, Bool, true, false, List, [], ◌∷◌, length, get_or, Some, None, refl, sym, ◌∙◌, arith, inl, inr}
+use Rattle.std.proofs.Common.{◌≡◌, ℕ, zero, suc, ◌+◌, ◌<◌, ◌≤◌, Bool, true, false, List, [], ◌∷◌, length, get_or, Some, None, refl, ◌∙◌, arith, inl, inr}
 use Rattle.std.proofs.lemmas.Bool.Decides.{nat_tests}
 use Rattle.std.specs.List.{find, range_with_len, AllPairs, Contains}
 use Rattle.std.specs.List.Sorted.{IsStrictlyIncreasing}
@@ -50,20 +50,10 @@ at_least low (x ∷ xs) v rising bit = grind (arith, nat_tests, at_least (x + 1)
 Contains-later : (x : ℕ) (xs : List ℕ) (v : ℕ) → x < v → Contains (x ∷ xs) v → Contains xs v
 Contains-later x xs v above given = grind (arith, nat_tests)
 
-absent : (p : ℕ → Bool) (v : ℕ) → (p v ≡ true → ⊥) → p v ≡ false
-absent p v never = elim (cases_Bool (p v)) [ inl passes ↦ absurd (never passes) | inr other ↦ other ]
-
 pub find-sparse : (p : ℕ → Bool) (xs : List ℕ) (low count : ℕ) → Rises low xs → ((v : ℕ) → p v ≡ true → v < low + count) → ((v : ℕ) → low ≤ v → p v ≡ true → Contains xs v) → find p xs ≡ find p (range_with_len low count)
-find-sparse p xs low zero rising under has = none_above p low xs rising (λ v le. absent p v (λ h. omega (arith, under v h)))
-find-sparse p [] low (suc count) rising under has =
-    let none = absent p low (λ h. nothing low (has low (omega arith) h)) in
-    find-sparse p [] (low + 1) count tt (λ v h. omega (arith, under v h)) (λ v le h. has v (omega arith) h) ∙ sym (cond-false _ _ _ none) where
-      nothing : (v : ℕ) → Contains [] v → ⊥
-      nothing v (k, inside, is) = omega arith
+find-sparse p xs low zero rising under has = none_above p low xs rising (λ v le. grind (arith, cases_Bool (p v), under v))
+find-sparse p [] low (suc count) rising under has = grind (arith, nat_tests, cases_Bool (p low), has low, find-sparse p [] (low + 1) count)
 find-sparse p (x ∷ xs) low (suc count) rising under has = elim (cases_eq x low) [
   | inl here ↦ grind (arith, nat_tests, cases_Bool, p, cond-true, cond-false, under, Contains-later, has, find-sparse p xs (low + 1) count)
-  | inr other ↦ (
-      let above : low + 1 ≤ x = omega (arith, rising.0) in
-      let none = absent p low (λ h. omega (arith, at_least (low + 1) (x ∷ xs) low (above, rising.1) (has low (omega arith) h))) in
-      find-sparse p (x ∷ xs) (low + 1) count (above, rising.1) (λ v h. omega (arith, under v h)) (λ v le h. has v (omega arith) h) ∙ sym (cond-false _ _ _ none))
+  | inr other ↦ grind (arith, nat_tests, cases_Bool (p low), at_least (low + 1) (x ∷ xs) low, has low, find-sparse p (x ∷ xs) (low + 1) count)
 ]

@@ -19,6 +19,7 @@ pub fn add_header<O: Sink>(text: &mut GraphText, out: &mut O, nodes: u32, edges:
 }
 
 /// Adds the line of a node.
+#[tactic(auto, using(crate::proofs::Rules::node_lines))]
 pub fn add_node<O: Sink>(text: &mut GraphText, out: &mut O, kind: NodeKind, kids: &[u32])
     ensures { Extends (O.shown out.old) (O.shown out.new) text.old text.new
         (spaced (kind_words kind kids.now)) }

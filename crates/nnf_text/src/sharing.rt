@@ -119,6 +119,7 @@ fn literal_word(var: u32, variables: &[u32]) -> u64
 }
 
 // Returns the bits that the word of any child has, and those that two have.
+#[tactic(auto, using(crate::proofs::Bits::both_more))]
 fn joined(column: &[u64], kids: &[u32]) -> (u64, u64)
     requires { All (λ child. child < length column.now) kids.now }
     ensures { IsJoined column.now kids.now result.0 result.1 }

@@ -14,6 +14,7 @@ use node_store::Graph;
 
 /// Writes a graph as text: a line of its numbers of nodes, edges and variables, and a line for each node. `vars` may be
 /// greater than the number of variables of the graph.
+#[tactic(auto, using(crate::proofs::Rules::read_back))]
 pub fn write_nnf<O: Sink>(graph: &Graph, vars: u32, out: &mut O) -> Result<(), WriteFailed>
     requires { graph.now.vars ≤ vars }
 
@@ -29,6 +30,7 @@ pub fn write_nnf<O: Sink>(graph: &Graph, vars: u32, out: &mut O) -> Result<(), W
     put_lines(out, graph, vars)
 }
 
+#[tactic(auto, using(crate::proofs::Extended::extends_on, crate::proofs::Extended::extends_whole))]
 fn put_lines<O: Sink>(out: &mut O, graph: &Graph, vars: u32) -> Result<(), WriteFailed>
     ensures bytes { Puts (O.got out.old) (O.got out.new) result
         (graph_text (record graph.now { vars = vars })) }

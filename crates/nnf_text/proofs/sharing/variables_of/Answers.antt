@@ -1,4 +1,4 @@
-use Rattle.std.proofs.Common.{◌≡◌, ℕ, Bool, List, [], ◌∷◌, sym, ap, ◌∙◌, subst, arith, inl, inr}
+use Rattle.std.proofs.Common.{ℕ, Bool, List, [], ◌∷◌, refl, arith}
 use Rattle.std.specs.List.{Contains}
 use Rattle.std.proofs.lemmas.Bool.{cases_lt}
 use Rattle.std.proofs.lemmas.List.Elements.{Contains-append_left, Contains-append_right}
@@ -8,31 +8,20 @@ use Rattle.std.proofs.lemmas.List.Sorted.{Contains-permutation}
 use Rattle.std.proofs.lemmas.Map.Keys.{IsStrictlyIncreasing-dedup}
 use Rattle.state_rules.specs.declared.nodes.NodeKind.{NodeKind}
 use Rattle.state_rules.specs.declared.nodes.NodeKind.TheVariants.{Literal, And, Or}
-use Rattle.state_rules.specs.Graphs.{node_at}
 use Rattle.nnf_text.specs.inner.Sharing.{AddsVariable}
 use Rattle.nnf_text.proofs.sharing.variables_of.Goals as goal
 
 stays : (old new : List ℕ) (what : NodeKind) (v : ℕ) → AddsVariable old what new → Contains old v → Contains new v
-stays old new (Literal positive var) v e h = subst (λ xs. Contains xs v) (sym e) (Contains-append_left old (var ∷ []) v h)
-stays old new And v e h = subst (λ xs. Contains xs v) (sym e) h
-stays old new Or v e h = subst (λ xs. Contains xs v) (sym e) h
+stays old new (Literal positive var) v e h = rw e (Contains-append_left old (var ∷ []) v h)
+stays old new And v e h = rw e h
+stays old new Or v e h = rw e h
 
-comes : (old new : List ℕ) (what : NodeKind) (v : ℕ) (positive : Bool) → AddsVariable old what new → what ≡ Literal positive v → Contains new v
-comes old new (Literal positive var) v p e is =
-    let same : var ≡ v = cc in
-    subst (λ xs. Contains xs v) (sym e) (Contains-append_right old (var ∷ []) v (0, omega arith, same))
-comes old new And v p e is = absurd (let no : ⊥ = cc in no)
-comes old new Or v p e is = absurd (let no : ⊥ = cc in no)
+comes : (old new : List ℕ) (v : ℕ) (positive : Bool) → AddsVariable old (Literal positive v) new → Contains new v
+comes old new v positive e = rw e (Contains-append_right old (v ∷ []) v (0, omega arith, refl))
 
 pub loop-node-preserved : goal.loop-node-preserved
 loop-node-preserved c = record {
-  all = λ k v positive h is. elim (cases_lt k c.loop-node.node) [
-    | inl before ↦ stays c.loop-node.variables.items c.push_variable.new.variables.items c.what.result v c.in_ok-push_variable.ensures (c.loop-node.invariant.all k v positive before is)
-    | inr here ↦ (
-        let same : k ≡ c.loop-node.node = omega arith in
-        comes c.loop-node.variables.items c.push_variable.new.variables.items c.what.result v positive c.in_ok-push_variable.ensures
-        (c.what.ensures ∙ ap (λ n. (node_at c.args.nodes.now n).what) (sym same) ∙ is))
-  ];
+  all = λ k v positive h is. grind (arith, cases_lt k c.loop-node.node, stays c.loop-node.variables.items c.push_variable.new.variables.items c.what.result v, comes c.loop-node.variables.items c.push_variable.new.variables.items v positive, c.in_ok-push_variable.ensures, c.loop-node.invariant.all k v positive, c.what.ensures);
   end = c.loop-node.invariant.end;
 }
 

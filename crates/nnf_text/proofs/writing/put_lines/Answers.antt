@@ -1,4 +1,3 @@
-use Rattle.std.proofs.Common.{refl}
 use Rattle.nnf_text.proofs.Extended.{extends_on, extends_whole}
 use Rattle.nnf_text.proofs.LineTexts.{text-lines}
 use Rattle.nnf_text.proofs.writing.put_lines.Goals as goal
@@ -7,8 +6,3 @@ pub returns-clause-bytes : goal.returns-clause-bytes
 returns-clause-bytes g c =
     let all = extends_on _ _ _ _ _ _ _ _ _ c.add_header.ensures c.add_nodes.ensures (text-lines c.len.result c.edges.result c.args.vars c.args.graph.now.nodes c.len.ensures.len c.edges.ensures) in
     (extends_whole _ _ _ _ _ _ _ _ _ _ _ (g.O.Sink.shown_is _) (g.O.Sink.shown_is _) c.new-text.ensures all c.finish.ensures).0
-
-pub returns-clause-cause : goal.returns-clause-cause
-returns-clause-cause g c =
-    let all = extends_on _ _ _ _ _ _ _ _ _ c.add_header.ensures c.add_nodes.ensures refl in
-    (extends_whole _ _ _ _ _ _ _ _ _ _ _ (g.O.Sink.shown_is _) (g.O.Sink.shown_is _) c.new-text.ensures all c.finish.ensures).1

@@ -90,19 +90,11 @@ short_all c h = list_all-both is_short (names_of Parts c) (c.wires ++ c.instance
 
 -- the path of a part is short if all names in it are
 name_short : (above : List Instance) (kind : UsedKind) (path : Name) (passed : List Name) → ((which : Which) → are_short (names_of which (kind_content above kind path passed)) ≡ true) → length path ≤ NAME_LIMIT
-name_short above (Gate gate) path passed h = leb-true (length path) NAME_LIMIT (and_parts (is_short path) true (h Parts)).0
-name_short above (OfShape shape) path passed h = leb-true (length path) NAME_LIMIT (and_parts (is_short path) true (h Parts)).0
-name_short above (OfBlock inner) path passed h = leb-true (length path) NAME_LIMIT (and_parts (is_short path) (are_short (get_or above inner nothing path passed).instances) (h Instances)).0
+name_short above kind path passed h = grind (arith, leb-true, h Parts, h Instances)
 
 short_inside : (above : List Instance) (inner : ℕ) (path : Name) (passed : List Name) → ((which : Which) → are_short (names_of which (kind_content above (OfBlock inner) path passed)) ≡ true)
     → are_short (paths_of (get_or above inner nothing path passed)) ≡ true
-short_inside above inner path passed h =
-    short_all (get_or above inner nothing path passed) by
-  where
-    by : (which : Which) → are_short (names_of which (get_or above inner nothing path passed)) ≡ true
-    by Parts = h Parts
-    by Wires = h Wires
-    by Instances = (and_parts (is_short path) (are_short (get_or above inner nothing path passed).instances) (h Instances)).1
+short_inside above inner path passed h = grind (arith, short_all, h Parts, h Wires, h Instances)
 
 -- ---- a block and the blocks before it
 
@@ -199,13 +191,7 @@ module _ {design : Design} {place : ℕ} {path : Name} {passed : List ℕ} {old 
   short_whole = ap (λ (c : Content). are_short (paths_of c)) (sym whole_is) ∙ can.short
 
   own_many : length passed + length own ≡ length (block_at design place).wires
-  own_many =
-      let block = block_at design place in
-      let e = length-map (drop block.ports block.wires) (below path) in
-      let f = length-drop block.ports block.wires in
-      let g = good_here.ports_first in
-      let h = ports_first in
-      omega arith
+  own_many = grind (arith, length-map, length-drop, good_here, ports_first)
 
   own_few : length own ≤ WIRE_LIMIT
   own_few = grind (arith, length-append, whole_is)

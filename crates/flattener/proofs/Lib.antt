@@ -8,3 +8,4 @@ pub mod ExpandedInstances
 pub mod Totals
 pub mod Arities
 pub mod Built
+mod Rules

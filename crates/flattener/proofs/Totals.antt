@@ -5,7 +5,7 @@ use Rattle.std.specs.List.{range_with_len}
 use Rattle.std.specs.Option.{option_map_or}
 use Rattle.std.proofs.lemmas.Bool.{lt-ltb, le-leb, and_from}
 use Rattle.std.proofs.lemmas.List.FromFn.{length-range_with_len}
-use Rattle.std.proofs.lemmas.List.{append_assoc, take-append-drop, length-map, map-id, length-append, length-take-le}
+use Rattle.std.proofs.lemmas.List.{get_or_at, append_assoc, take-append-drop, length-map, map-id, length-append, length-take-le}
 use Rattle.text_rules.specs.Names.{Name}
 use Rattle.state_rules.specs.Values.{values}
 use Rattle.device_model.specs.declared.component.Component.{Component}
@@ -36,14 +36,8 @@ wires_from : (front names : List Name) (a : ℕ) → a ≡ length front → map 
 wires_from front [] a e = refl
 wires_from front (n ∷ names) a e =
     let more = append_assoc front (n ∷ []) names in
-    (λ i. first front a e i ∷ map (wire_at (sym more i)) (range_with_len (a + 1) (length names)))
+    (λ i. get_or_at front n names [] a (sym e) i ∷ map (wire_at (sym more i)) (range_with_len (a + 1) (length names)))
     ∙ ap (λ ns. n ∷ ns) (wires_from (front ++ n ∷ []) names (a + 1) (let f = length-append front (n ∷ []) in omega arith))
-  where
-    first : (xs : List Name) (k : ℕ) → k ≡ length xs → wire_at (xs ++ n ∷ names) k ≡ n
-    first [] zero g = refl
-    first [] (suc k) g = absurd (omega arith)
-    first (x ∷ xs) zero g = absurd (omega arith)
-    first (x ∷ xs) (suc k) g = first xs k (omega arith)
 
 -- each name is at its place
 pub wires_all : (names : List Name) → map (wire_at names) (range_with_len 0 (length names)) ≡ names

@@ -17,6 +17,7 @@ pub(crate) struct Flat {
 ///
 /// Wires are only added, so each wire keeps its position. The path of an instance has at most 255 bytes, and each level
 /// below the first adds at least two, so calls are at most 129 deep.
+#[tactic(auto, using(crate::proofs::Rules::grown_instances))]
 pub(crate) fn expand(
     alloc: Global,
     design: &Design,

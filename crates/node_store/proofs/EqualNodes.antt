@@ -1,13 +1,12 @@
 -- Two nodes are equal if the kept ones are.
-use Rattle.std.proofs.Common.{◌≡◌, ℕ, zero, suc, Bool, true, false, List, [], ◌∷◌, map, Some, ap, refl, sym, ◌∙◌, subst, arith}
+use Rattle.std.proofs.Common.{◌≡◌, ℕ, zero, suc, true, false, List, [], ◌∷◌, map, Some, ap, refl, sym, ◌∙◌, subst, arith}
 use Rattle.std.specs.Prelude.{slice_get, nat_eq}
 use Rattle.std.specs.List.{IsDistinct, AllByRecursion}
 use Rattle.std.specs.Cmp.Lexicographic.{pointwise, same_text}
 use Rattle.std.proofs.lemmas.Cmp.{nat_list_eq_equiv}
-use Rattle.std.proofs.lemmas.Bool.{and_parts, eqb-true}
+use Rattle.std.proofs.lemmas.Bool.Decides.{nat_tests}
 use Rattle.smallvec.specs.SmallVec.{SmallVec}
 use Rattle.state_rules.specs.declared.nodes.NodeKind.{NodeKind}
-use Rattle.state_rules.specs.declared.nodes.NodeKind.TheVariants.{Literal, And, Or}
 use Rattle.node_store.specs.declared.store.Kept.{Kept}
 use Rattle.node_store.specs.inner.Keeping.{shown}
 use Rattle.node_store.specs.Stores.{EachOnce}
@@ -16,28 +15,8 @@ use Rattle.node_store.specs.contracts.store.KeptPartialEq.TheImpl.{eq-value}
 abbrev kept : NodeKind → SmallVec ℕ → Kept
 kept what kids = record { what = what; kids = kids }
 
-literals_same : (var var' : ℕ) (positive positive' : Bool) (k l : SmallVec ℕ) → eq-value.it (kept (Literal positive var) k) (kept (Literal positive' var') l) ≡ true → shown (kept (Literal positive var) k) ≡ shown (kept (Literal positive' var') l)
-literals_same var var' true true k l e =
-    let parts = and_parts (nat_eq var var') (pointwise nat_eq k.items l.items) e in
-    let v = eqb-true var var' parts.0 in
-    let ks = same_text k.items l.items (sym parts.1) in
-    λ i. record { what = Literal true (v i); kids = ks i }
-literals_same var var' false false k l e =
-    let parts = and_parts (nat_eq var var') (pointwise nat_eq k.items l.items) e in
-    let v = eqb-true var var' parts.0 in
-    let ks = same_text k.items l.items (sym parts.1) in
-    λ i. record { what = Literal false (v i); kids = ks i }
-literals_same var var' true false k l e = absurd (cc)
-literals_same var var' false true k l e = absurd (cc)
-
 same_of : (w z : NodeKind) (k l : SmallVec ℕ) → eq-value.it (kept w k) (kept z l) ≡ true → shown (kept w k) ≡ shown (kept z l)
-same_of w (Literal positive' var') k l e = grind (arith, literals_same)
-same_of And And k l e = let ks = same_text k.items l.items (sym e) in λ i. record { what = And; kids = ks i }
-same_of Or Or k l e = let ks = same_text k.items l.items (sym e) in λ i. record { what = Or; kids = ks i }
-same_of (Literal positive var) And k l e = absurd (cc)
-same_of (Literal positive var) Or k l e = absurd (cc)
-same_of And Or k l e = absurd (cc)
-same_of Or And k l e = absurd (cc)
+same_of w z k l e = grind (arith, nat_tests, same_text k.items l.items)
 
 pub same_shown : (x y : Kept) → eq-value.it x y ≡ true → shown x ≡ shown y
 same_shown x y e = same_of x.what y.what x.kids y.kids e

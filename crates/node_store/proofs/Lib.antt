@@ -5,3 +5,4 @@ pub mod Literals
 pub mod MoreNodes
 pub mod NodeCopies
 pub mod NodesBelow
+pub mod Rules

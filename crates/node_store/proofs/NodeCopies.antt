@@ -50,27 +50,20 @@ module _ (vars : ℕ) (nodes : List Node) (marks : List Bool) (copies : List Nod
     are = is.are;
     few = omega (arith, is.few);
     few_edges = omega (arith, is.few_edges, ap edges (take-more nodes at node e), edges-push (take at nodes) node);
-    same = λ k h m. by k m (below_or_last k at h);
+    same = λ k h m. rw (kept k (before_at k h m)) (is.same k (before_at k h m) m);
     copy = λ k n h m there.
         let lt = before_at k h m in
         ap (slice_get copies) (kept k lt) ∙ is.copy k n lt m there
         ∙ (λ j. Some (record { what = n.what; kids = map_same k n.kids (slice_index numbers) (slice_index (numbers ++ 0 ∷ [])) (before vars nodes nodes_are k n there) (λ x lt_x. sym (kept x (omega (arith, lt, lt_x)))) j }));
     origin = λ n h. let o = is.origin n h in (o.0, omega (arith, o.1), o.2, kept o.0 o.1 ∙ o.3);
     rising = λ k l lt h mk ml. let small = before_at l h ml in omega (arith, kept k (omega (arith, lt, small)), kept l small, is.rising k l lt small mk ml);
-    last = λ k h m. let k_is : k ≡ at = omega arith in absurd (clash (bit_in marks k) m (ap (bit_in marks) k_is ∙ unmarked));
+    last = λ k h m. absurd (omega (arith, before_at k (omega arith) m));
   } where
     kept : (k : ℕ) → k < at → slice_index (numbers ++ 0 ∷ []) k ≡ slice_index numbers k
     kept k h = get_or_append_left numbers (0 ∷ []) 0 k (omega (arith, is.long))
 
     before_at : (k : ℕ) → k < at + 1 → bit_in marks k ≡ true → k < at
     before_at k h m = grind arith
-
-    clash : (b : Bool) → b ≡ true → b ≡ false → ⊥
-    clash b e f = let g : true ≡ false = sym e ∙ f in (cc)
-
-    by : (k : ℕ) → bit_in marks k ≡ true → (k < at) ⊎ (k ≡ at) → IsCopy nodes k copies (slice_index (numbers ++ 0 ∷ []) k)
-    by k m (inl h) = subst (IsCopy nodes k copies) (sym (get_or_append_left numbers (0 ∷ []) 0 k (omega (arith, is.long)))) (is.same k h m)
-    by k m (inr e) = absurd (clash (bit_in marks k) m (ap (bit_in marks) e ∙ unmarked))
 
   module _ (node : Node) (kids : List ℕ) (are : AreNodes vars nodes) (closed : IsClosed nodes marks) (there : slice_get nodes at ≡ Some node) (marked : bit_in marks at ≡ true) (renumbered : kids ≡ map (slice_index numbers) node.kids) where
     children_same : (ks : List ℕ) (f g : ℕ → Bool) → All (λ k. k < at) ks → All (λ k. bit_in marks k ≡ true) ks → ((k : ℕ) → k < at → bit_in marks k ≡ true → f (slice_index numbers k) ≡ g k) → map f (map (slice_index numbers) ks) ≡ map g ks
@@ -141,17 +134,8 @@ module _ (vars : ℕ) (nodes : List Node) (marks : List Bool) (copies : List Nod
       copied : (k : ℕ) (n : Node) → bit_in marks k ≡ true → slice_get nodes k ≡ Some n → (k < at) ⊎ (k ≡ at)
           → slice_get (copies ++ new_node ∷ []) (slice_index (numbers ++ length copies ∷ []) k) ≡ Some (record { what = n.what; kids = map (slice_index (numbers ++ length copies ∷ [])) n.kids })
       copied k n m e (inl lt) =
-          ap (slice_get (copies ++ new_node ∷ [])) (kept k lt)
-          ∙ slice_get-before copies (new_node ∷ []) (slice_index numbers k) (record { what = n.what; kids = map (slice_index numbers) n.kids }) (is.copy k n lt m e)
-          ∙ (λ j. Some (record { what = n.what; kids = kept_children k n (omega (arith, lt)) e j }))
-      copied k n m e (inr same) =
-          let one : Some node ≡ Some n = sym there ∙ (ap (slice_get nodes) (sym same) ∙ e) in
-          let is_node : node ≡ n = cc in
-          ap (slice_get (copies ++ new_node ∷ [])) (added k same)
-          ∙ slice_get-last copies new_node
-          ∙ (λ j. Some (record { what = node.what; kids = renumbered j }))
-          ∙ ap (λ (x : Node). Some (record { what = x.what; kids = map (slice_index numbers) x.kids })) is_node
-          ∙ (λ j. Some (record { what = n.what; kids = kept_children k n (omega (arith, same)) e j }))
+          rw (kept k lt, ← kept_children k n (omega (arith, lt)) e) (slice_get-before copies (new_node ∷ []) (slice_index numbers k) _ (is.copy k n lt m e))
+      copied k n m e (inr same) = grind (arith, added k same, slice_get-last copies new_node, kept_children k n (omega (arith, same)) e, there)
 
       origin_by : (n : ℕ) → (n < length copies) ⊎ (n ≡ length copies) → (k : ℕ) × (k < at + 1) × (bit_in marks k ≡ true) × (slice_index (numbers ++ length copies ∷ []) k ≡ n)
       origin_by n (inl lt) = let o = is.origin n lt in (o.0, omega (arith, o.1), o.2, kept o.0 o.1 ∙ o.3)
@@ -220,27 +204,23 @@ module _ (store : Stored) (root : ℕ) (marks : List Bool) (copies : List Node) 
   node_of : (k : ℕ) → IsTaken k → (node : Node) × (slice_get store.nodes k ≡ Some node)
   node_of k taken = the_at store.nodes k (omega (arith, taken.0, below.long, within))
 
+  abbrev renumbered : Node → Node
+  renumbered node = record { what = node.what; kids = map (slice_index numbers) node.kids }
+
+  -- what a node is a copy of
+  source : (number : ℕ) (node : Node) → slice_get copies number ≡ Some node
+      → (k : ℕ) × (old : Node) × IsTaken k × (slice_index numbers k ≡ number) × (slice_get store.nodes k ≡ Some old) × (node ≡ renumbered old)
+  source number node e =
+      let from = copied.origin number (slice_get_within copies number node e) in
+      let old = node_of from.0 (from.1, from.2) in
+      (from.0, old.0, (from.1, from.2), from.3, old.1, grind (arith, copied.copy from.0 old.0 from.1 from.2 old.1))
+
   all_once : EachOnce copies
   all_once i j node e f =
-      let a = copied.origin i (slice_get_within copies i node e) in
-      let b = copied.origin j (slice_get_within copies j node f) in
-      let first = node_of a.0 (a.1, a.2) in
-      let second = node_of b.0 (b.1, b.2) in
-      let one : Some (record { what = first.0.what; kids = map (slice_index numbers) first.0.kids }) ≡ Some node = sym (copied.copy a.0 first.0 a.1 a.2 first.1) ∙ (ap (slice_get copies) a.3 ∙ e) in
-      let two : Some (record { what = second.0.what; kids = map (slice_index numbers) second.0.kids }) ≡ Some node = sym (copied.copy b.0 second.0 b.1 b.2 second.1) ∙ (ap (slice_get copies) b.3 ∙ f) in
-      let both : Some (record { what = first.0.what; kids = map (slice_index numbers) first.0.kids }) ≡ Some (record { what = second.0.what; kids = map (slice_index numbers) second.0.kids }) = one ∙ sym two in
-      let kinds : first.0.what ≡ second.0.what = kinds_of first.0 second.0 both in
-      let kids : first.0.kids ≡ second.0.kids = map_apart IsTaken (slice_index numbers) tell_apart first.0.kids second.0.kids (children_taken a.0 first.0 (a.1, a.2) first.1) (children_taken b.0 second.0 (b.1, b.2) second.1) (children_of first.0 second.0 both) in
-      let same : first.0 ≡ second.0 = λ k. record { what = kinds k; kids = kids k } in
-      sym a.3 ∙ (ap (slice_index numbers) (is.once a.0 b.0 second.0 (first.1 ∙ ap Some same) second.1) ∙ b.3) where
-        renamed : Node → Node
-        renamed n = record { what = n.what; kids = map (slice_index numbers) n.kids }
-
-        kinds_of : (m n : Node) → Some (renamed m) ≡ Some (renamed n) → m.what ≡ n.what
-        kinds_of m n e = let inner : renamed m ≡ renamed n = cc in ap (λ (x : Node). x.what) inner
-
-        children_of : (m n : Node) → Some (renamed m) ≡ Some (renamed n) → map (slice_index numbers) m.kids ≡ map (slice_index numbers) n.kids
-        children_of m n e = let inner : renamed m ≡ renamed n = cc in ap (λ (x : Node). x.kids) inner
+      let a = source i node e in
+      let b = source j node f in
+      let kids = map_apart IsTaken (slice_index numbers) tell_apart a.1.kids b.1.kids (children_taken a.0 a.1 a.2 a.4) (children_taken b.0 b.1 b.2 b.4) (ap (λ (n : Node). n.kids) (sym a.5 ∙ b.5)) in
+      grind (arith, is.once a.0 b.0 b.1)
 
   -- ---- where a copy comes from
 
@@ -266,24 +246,14 @@ module _ (store : Stored) (root : ℕ) (marks : List Bool) (copies : List Node) 
       let taken = all 0 0 (omega arith) in
       λ j. origin_is k (slice_index numbers k) taken refl (copied.same k taken.0 taken.1).within j ∷ children_back ks (λ i d h. all (suc i) d (omega arith)) j
 
-  abbrev renumbered : Node → Node
-  renumbered node = record { what = node.what; kids = map (slice_index numbers) node.kids }
-
   abbrev as_before : Node → Node
   as_before node = record { what = node.what; kids = map origin_of node.kids }
 
-  node_back : (node : Node) → All IsTaken node.kids → Some node ≡ Some (as_before (renumbered node))
-  node_back node all = ap (λ ks. Some (record { what = node.what; kids = ks })) (sym (children_back node.kids all))
-
   all_copied : (number : ℕ) (node : Node) → slice_get copies number ≡ Some node → slice_get store.nodes (origin_of number) ≡ Some (as_before node)
   all_copied number node e =
-      let from = origin_taken number (slice_get_within copies number node e) in
-      let old = node_of from.0 from.1 in
-      let one : Some (renumbered old.0) ≡ Some node = sym (copied.copy from.0 old.0 from.1.0 from.1.1 old.1) ∙ (ap (slice_get copies) from.2 ∙ e) in
-      let is_node : renumbered old.0 ≡ node = cc in
-      let back : Some old.0 ≡ Some (as_before (renumbered old.0)) = node_back old.0 (children_taken from.0 old.0 from.1 old.1) in
-      let there : slice_get store.nodes (origin_of number) ≡ Some old.0 = ap (slice_get store.nodes) from.3 ∙ old.1 in
-      there ∙ (back ∙ ap (λ (n : Node). Some (as_before n)) is_node)
+      let from = source number node e in
+      let place = origin_is from.0 number from.2 from.3 (slice_get_within copies number node e) in
+      grind (arith, children_back from.1.kids (children_taken from.0 from.1 from.2 from.4))
 
   all_in_order : (first second : ℕ) → first < second → second < length copies → origin_of first < origin_of second
   all_in_order first second lt less =
@@ -297,21 +267,12 @@ module _ (store : Stored) (root : ℕ) (marks : List Bool) (copies : List Node) 
   -- a child of a copy is the copy of a child
   all_not_bare : HasNoBareChild store.nodes → HasNoBareChild copies
   all_not_bare none i k node child e has f =
-      let a = copied.origin i (slice_get_within copies i node e) in
-      let parent = node_of a.0 (a.1, a.2) in
-      let one : Some (renumbered parent.0) ≡ Some node = sym (copied.copy a.0 parent.0 a.1 a.2 parent.1) ∙ (ap (slice_get copies) a.3 ∙ e) in
-      let is_node : node ≡ renumbered parent.0 = cc in
-      let from = unmapped (slice_index numbers) parent.0.kids k (subst (λ (n : Node). Contains n.kids k) is_node has) in
-      let taken_child : IsTaken from.0 = all_in parent.0.kids from.0 from.1 (children_taken a.0 parent.0 (a.1, a.2) parent.1) in
-      let source = node_of from.0 taken_child in
-      let two : Some (renumbered source.0) ≡ Some child = sym (copied.copy from.0 source.0 taken_child.0 taken_child.1 source.1) ∙ (ap (slice_get copies) from.2 ∙ f) in
-      let is_child : child ≡ renumbered source.0 = cc in
-      ap (λ (n : Node). is_bare n.what n.kids) is_child ∙ (bare_same source.0.what source.0.kids ∙ none a.0 from.0 parent.0 source.0 parent.1 from.1 source.1) where
-        renumbered : Node → Node
-        renumbered n = record { what = n.what; kids = map (slice_index numbers) n.kids }
-
-        all_in : (ks : List ℕ) (c : ℕ) → Contains ks c → All IsTaken ks → IsTaken c
-        all_in ks c (j, h, e) all = subst IsTaken e (all j c h)
+      let a = source i node e in
+      let b = source k child f in
+      let from = unmapped (slice_index numbers) a.1.kids k (subst (λ (n : Node). Contains n.kids k) a.5 has) in
+      let taken_child : IsTaken from.0 = subst IsTaken from.1.2 (children_taken a.0 a.1 a.2 a.4 from.1.0 from.0 from.1.1) in
+      let same : from.0 ≡ b.0 = tell_apart from.0 b.0 taken_child b.2 (from.2 ∙ sym b.3) in
+      grind (arith, bare_same b.1.what b.1.kids, none a.0 b.0 a.1 b.1 a.4 (subst (Contains a.1.kids) same from.1) b.4)
 
 -- ---- the whole
 

@@ -1,7 +1,8 @@
 -- Marks of the nodes below a root.
-use Rattle.std.proofs.Common.{◌≡◌, ℕ, zero, suc, ◌+◌, ◌<◌, Bool, true, List, [], ◌∷◌, ◌++◌, map, length, take, drop, get_or, Some, refl, ap, sym, arith}
+use Rattle.std.proofs.Common.{◌≡◌, ℕ, zero, suc, ◌+◌, ◌<◌, Bool, true, List, [], ◌∷◌, ◌++◌, map, length, take, drop, get_or, Some, refl, arith}
 use Rattle.std.specs.Prelude.{slice_get, ◌⊎◌}
 use Rattle.std.proofs.lemmas.List.{take_all, append-nil}
+use Rattle.std.proofs.lemmas.Option.{slice_get-map, slice_get-get_or}
 use Rattle.std.proofs.Math.ListN.{drop_of_length-le, length-map}
 use Rattle.state_rules.specs.Bits.{bit_in}
 use Rattle.state_rules.specs.Graphs.{Node}
@@ -13,9 +14,7 @@ pub written_bits : (len : ℕ) (new old : List Bool) → length new ≡ length o
 written_bits len new old e f = grind (arith, drop_of_length-le, append-nil, take_all)
 
 pub shown_at : (xs : List Kept) (i : ℕ) (x : Kept) → i < length xs → x ≡ get_or xs i x → slice_get (map shown xs) i ≡ Some (shown x)
-shown_at [] i x h e = absurd (omega arith)
-shown_at (y ∷ xs) zero x h e = ap (λ k. Some (shown k)) (sym e)
-shown_at (y ∷ xs) (suc i) x h e = shown_at xs i x (omega arith) e
+shown_at xs i x h e = grind (arith, slice_get-map, slice_get-get_or)
 
 pub the_at : (xs : List Node) (i : ℕ) → i < length xs → (x : Node) × (slice_get xs i ≡ Some x)
 the_at [] i h = absurd (omega arith)
@@ -35,6 +34,4 @@ pub only_more : (nodes : List Node) (old new : List Bool) (at root : ℕ) (kids 
 only_more nodes old new at root kids node there same marks only i m = grind arith
 
 pub shown_get : (xs : List Kept) (i : ℕ) (r : Kept) → i < length xs → slice_get (map shown xs) i ≡ Some (shown (get_or xs i r))
-shown_get [] i r h = absurd (omega arith)
-shown_get (y ∷ xs) zero r h = refl
-shown_get (y ∷ xs) (suc i) r h = shown_get xs i r (omega arith)
+shown_get xs i r h = grind (arith, slice_get-map, slice_get-get_or)

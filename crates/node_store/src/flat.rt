@@ -54,6 +54,7 @@ impl Nodes {
     }
 
     /// Returns the number of children of all nodes.
+    #[tactic(auto, using(crate::proofs::Rules::zipped_nodes))]
     pub fn edges(&self) -> usize
         ensures { result ≡ edges self.now }
     {
@@ -84,6 +85,7 @@ impl Nodes {
     }
 
     /// Adds a node after the others.
+    #[tactic(auto, using(crate::proofs::Rules::zipped_nodes))]
     pub fn push(&mut self, what: NodeKind, kids: &[u32]) -> Result<(), Memory>
         ensures ok { OnOk result (self.new ≡ self.old ++ record { what = what; kids = kids.now } ∷ []) }
         ensures err { OnErr result (self.new ≡ self.old) }

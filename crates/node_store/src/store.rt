@@ -56,6 +56,7 @@ impl Model for Store {
 
 impl Store {
     /// Returns a store of the two literal nodes of each variable.
+    #[tactic(auto, using(crate::proofs::Rules::new_literals))]
     pub fn new(alloc: Global, vars: u32) -> Result<Store, Memory>
         requires { vars < VARIABLE_LIMIT }
         ensures literals { IfOk result (λ store. store
@@ -91,6 +92,7 @@ impl Store {
 
     /// Returns the And node of these children, which is true if all of them are. They are nodes of the store, and no two of them, at
     /// different places, share a variable. After lack of memory the store is as it was.
+    #[tactic(auto, using(crate::proofs::Rules::fitting_nodes))]
     pub fn and(&mut self, kids: &[u32]) -> Result<u32, Memory>
         requires kids { All (λ k. k < length self.old.nodes) kids.now }
         requires apart { (v : ℕ) → at_most_one (map (mentions self.old.nodes v) kids.now) ≡ true }
@@ -107,6 +109,7 @@ impl Store {
 
     /// Returns the Or node of these children, which is true if one of them is. They are nodes of the store. After lack of memory the store
     /// is as it was.
+    #[tactic(auto, using(crate::proofs::Rules::fitting_nodes))]
     pub fn or(&mut self, kids: &[u32]) -> Result<u32, Memory>
         requires kids { All (λ k. k < length self.old.nodes) kids.now }
         requires few { length kids.now < CHILD_LIMIT }

@@ -63,6 +63,7 @@ impl<'a> Walk<'a> {
     }
 
     /// Returns the number of nodes that are left.
+    #[tactic(auto, using(crate::proofs::Rules::zipped_nodes))]
     pub fn len(&self) -> usize
         ensures { result ≡ length self.now }
     {
@@ -70,6 +71,7 @@ impl<'a> Walk<'a> {
     }
 
     /// Returns the kind of a node, counted from the first that is left.
+    #[tactic(auto, using(crate::proofs::Rules::zipped_nodes))]
     pub fn what(&self, node: usize) -> NodeKind
         requires { node < length self.now }
         ensures { result ≡ (node_at self.now node).what }
@@ -79,6 +81,7 @@ impl<'a> Walk<'a> {
     }
 
     /// Returns the children of a node, counted from the first that is left.
+    #[tactic(auto, using(crate::proofs::Rules::zipped_nodes))]
     pub fn kids(&self, node: usize) -> &'a [u32]
         requires { node < length self.now }
         ensures { result.now ≡ (node_at self.now node).kids }

@@ -1,10 +1,9 @@
 -- The contracts' view of the table changes as the fields of the open sessions do.
-use Rattle.std.proofs.Common.{◌≡◌, ℕ, ◌<◌, ◌≤◌, T, List, length, get_or, set, replicate, ap, ap₂, sym, ◌∙◌, subst, Some, None, Result, Ok, Err, IfOk, IfErr, arith}
+use Rattle.std.proofs.Common.{◌≡◌, ℕ, ◌<◌, ◌≤◌, T, List, length, get_or, set, replicate, ap, sym, ◌∙◌, subst, Some, None, Result, Ok, Err, IfOk, IfErr, arith}
 use Rattle.std.specs.Prelude.{not, slice_get, IsErr, IfSome, IfNone, vec_capacity}
 use Rattle.std.specs.List.{insert, remove}
-use Rattle.std.specs.Option.{option_map}
 use Rattle.std.specs.Result.{result_ok}
-use Rattle.std.specs.FinMap.Entries.{is_sorted, put, where_key, is_sorted-put, is_sorted-where_key}
+use Rattle.std.specs.FinMap.Entries.{is_sorted, is_sorted-put, is_sorted-where_key}
 use Rattle.std.proofs.lemmas.Cmp.{nat_list_cmp_total}
 use Rattle.std.proofs.lemmas.List.{length-map}
 use Rattle.std.proofs.lemmas.List.Edits.{length-insert, length-remove}
@@ -12,7 +11,7 @@ use Rattle.std.proofs.lemmas.Option.{slice_get-map, slice_get_within, slice_get_
 use Rattle.text_rules.specs.Names.{Name, same_name}
 use Rattle.state_rules.specs.Cases.{empty_case}
 use Rattle.scratch_pool.specs.Pools.{Blocks, IsOut, IsFree, IsSound, block_words, with_block, taken, given}
-use Rattle.scratch_pool.proofs.LentWords.{taken-zeroed, taken-out, taken-free, given-free, length-block}
+use Rattle.scratch_pool.proofs.LentWords.{written-block, taken-zeroed, taken-out, taken-free, given-free, length-block}
 use Rattle.session_rules.specs.Sessions.{Entry, Table, entry_of, with_entry, without}
 use Rattle.session_table.specs.Tables.{Opened, StandsAt, fresh_entry}
 use Rattle.session_table.specs.inner.Blocks.{entry_in, block_size, IsLaidOut}
@@ -21,10 +20,10 @@ use Rattle.session_table.specs.declared.in_order.Open.{Open}
 use Rattle.session_table.specs.declared.open_sessions.OpenSessions.TheInside.{Inside}
 use Rattle.session_table.specs.contracts.open_sessions.OpenSessions.{the_view}
 use Rattle.session_table.proofs.Lookups.{order, IsGap, find_at, put_at, put_same, without_at, put_gap, find_gap}
-use Rattle.session_table.proofs.MappedSessions.{sorted_alike, map-insert, map-remove, gap_map, slice_get-set}
+use Rattle.session_table.proofs.MappedSessions.{sorted_alike, map-insert, map-remove, gap_map}
 use Rattle.session_table.proofs.SessionSearch.{so, as_true}
 use Rattle.session_table.proofs.NotedEvidence.{zeros-entry, zeros-laid}
-use Rattle.session_table.proofs.KeptBlocks.{out_at, laid_at, have_insert, given_at, written_at, have_written, none_taken, table_taken, have_taken}
+use Rattle.session_table.proofs.KeptBlocks.{have_at, have_insert, given_at, written_at, have_written, none_taken, table_taken, have_taken}
 
 -- what holds of the fields
 abbrev pub Kept : Inside → Type 0
@@ -54,11 +53,8 @@ module _ (inside : Inside) (kept : Kept inside) where
   stands_at : (place : ℕ) (session : Open) (name : Name) → slice_get sessions place ≡ Some session → session.name ≡ name
       → StandsAt (table_in inside) place name (entry_in_block inside session.block)
   stands_at place session name here named =
-      let entry : Entry = entry_in_block inside session.block in
-      let at : slice_get (table_in inside) place ≡ Some (name, entry) =
-      slice_get-map (entry_at inside.layout inside.pool) sessions place
-      ∙ (ap (option_map (entry_at inside.layout inside.pool)) here ∙ ap (λ n. Some (n, entry)) named) in
-      record { at = at; found = find_at (table_in inside) place name entry (table_sorted inside kept) at; kept = put_same (table_in inside) place name entry (table_sorted inside kept) at }
+      let at : slice_get (table_in inside) place ≡ Some (name, entry_in_block inside session.block) = grind (arith, slice_get-map) in
+      record { at = at; found = find_at (table_in inside) place name _ (table_sorted inside kept) at; kept = put_same (table_in inside) place name _ (table_sorted inside kept) at }
 
   table_gap : (place : ℕ) (name : Name) → IsGapFor sessions place name → IsGap (table_in inside) place name
   table_gap place name gap = gap_map (λ session. entry_in_block inside session.block) sessions place name gap
@@ -72,12 +68,7 @@ module _ (inside : Inside) (shown : Opened) (shows : the_view inside ≡ shown) 
 
   pub found : (r : Result ℕ ℕ) → IfOk r (λ place. HasName sessions place name)
       → IfSome (result_ok r) (λ place. (entry : Entry) × StandsAt shown.table place name entry)
-  found (Ok place) has =
-      let session = has.0 in
-      let here = subst (λ (xs : List Open). slice_get xs place ≡ Some session) same has.1 in (
-        entry_in_block inside session.block,
-        subst (λ (t : Table). StandsAt t place name (entry_in_block inside session.block)) table_is (stands_at inside kept place session name here has.2),
-      )
+  found (Ok place) has = (entry_in_block inside has.0.block, rw (← table_is) (stands_at inside kept place has.0 name (rw (← same) has.1) has.2))
   found (Err place) has = tt
 
   -- its place is one of the table's
@@ -87,9 +78,7 @@ module _ (inside : Inside) (shown : Opened) (shows : the_view inside ≡ shown) 
   pub absent : (r : Result ℕ ℕ) → IfErr r (λ place. IsGapFor sessions place name)
       → IfNone (result_ok r) (entry_of name shown.table ≡ None)
   absent (Ok place) gap = tt
-  absent (Err place) gap =
-      subst (λ (t : Table). entry_of name t ≡ None) table_is
-      (find_gap (table_in inside) place name (table_gap inside kept place name (subst (λ (xs : List Open). IsGapFor xs place name) same gap)))
+  absent (Err place) gap = rw (← table_is) (find_gap (table_in inside) place name (table_gap inside kept place name (rw (← same) gap)))
 
   -- a name that is not in the table is not found
   pub closed : (r : Result ℕ ℕ) → IfOk r (λ place. HasName sessions place name) → entry_of name shown.table ≡ None → IsErr r
@@ -106,10 +95,10 @@ module _ (inside : Inside) (shown : Opened) (shows : the_view inside ≡ shown) 
   here = grind (arith, length-map, slice_get_read)
 
   pub is_out : IsOut inside.pool session.block
-  is_out = out_at inside.layout inside.pool items place session kept.blocks here
+  is_out = (have_at inside.layout inside.pool items place session kept.blocks here).0
 
   pub is_laid_out : IsLaidOut inside.layout (block_words inside.pool session.block)
-  is_laid_out = laid_at inside.layout inside.pool items place session kept.blocks here
+  is_laid_out = (have_at inside.layout inside.pool items place session kept.blocks here).1
 
   stood : (name : Name) (entry : Entry) → StandsAt shown.table place name entry → StandsAt (table_in inside) place name entry
   stood name entry stands = subst (λ (o : Opened). StandsAt o.table place name entry) (sym shows) stands
@@ -123,67 +112,48 @@ module _ (inside : Inside) (shown : Opened) (shows : the_view inside ≡ shown) 
   entry_here name entry stands = sym (name_and_entry name entry stands).1
 
   -- its block is written, and so holds another entry
-  module _ (before words : List ℕ) (change : Entry → Entry) (sound : IsSound inside.pool) (holds : before ≡ block_words inside.pool session.block)
-      (long : length words ≡ length before) (changes : entry_in inside.layout words ≡ change (entry_in inside.layout before)) (laid : IsLaidOut inside.layout words) where
+  module _ (words : List ℕ) (sound : IsSound inside.pool) (long : length words ≡ length (block_words inside.pool session.block))
+      (laid : IsLaidOut inside.layout words) where
     abbrev pool : Blocks
     pool = with_block inside.pool session.block words
 
     size : length words ≡ inside.pool.size
-    size = long ∙ (ap length holds ∙ length-block inside.pool sound session.block is_out)
+    size = grind (arith, length-block, is_out)
 
     pub written : AreKept inside.layout inside.limit pool inside.«open».items (vec_capacity inside.«open»)
     written = grind (arith, have_written, here, size)
 
     written_set : (name : Name) (entry : Entry) → StandsAt shown.table place name entry
-        → table_in (record inside { pool = pool }) ≡ set (table_in inside) place (name, change entry)
+        → table_in (record inside { pool = pool }) ≡ set (table_in inside) place (name, entry_in inside.layout words)
     written_set name entry stands = grind (arith, name_and_entry, written_at, here, size)
 
     pub shows_written : (name : Name) (entry : Entry) → StandsAt shown.table place name entry
-        → the_view (record inside { pool = pool }) ≡ record shown { table = with_entry name (change entry) shown.table }
+        → the_view (record inside { pool = pool }) ≡ record shown { table = with_entry name (entry_in inside.layout words) shown.table }
     shows_written name entry stands = grind (arith, written_set, put_at, table_sorted)
 
     pub stands_written : (name : Name) (entry : Entry) → StandsAt shown.table place name entry
-        → StandsAt (table_in (record inside { pool = pool })) place name (change entry)
+        → StandsAt (table_in (record inside { pool = pool })) place name (entry_in inside.layout words)
     stands_written name entry stands =
-        let new : Inside = record inside { pool = pool } in
-        let at : slice_get (table_in new) place ≡ Some (name, change entry) =
-        ap (λ (t : Table). slice_get t place) (written_set name entry stands)
-        ∙ slice_get-set (table_in inside) place (name, entry) (name, change entry) (stood name entry stands).at in
-        record { at = at; found = find_at (table_in new) place name (change entry) (table_sorted new written) at; kept = put_same (table_in new) place name (change entry) (table_sorted new written) at }
+        rw (written-block inside.pool sound session.block is_out words size) at (stands_at (record inside { pool = pool }) written place session name here (name_and_entry name entry stands).0)
 
   -- it closes
   rise_given : NamesRise (remove items place)
   rise_given =
       let pairs : List (Name × ℕ) = blocks_by_name items in
       let sorted = so (is_sorted order pairs) kept.rise in
-      let at : slice_get pairs place ≡ Some (session.name, session.block) =
-      slice_get-map name_and_block items place ∙ ap (option_map name_and_block) here in
-      let left : where_key order (λ name. not (same_name name session.name)) pairs ≡ blocks_by_name (remove items place) =
-      without_at pairs place session.name session.block sorted at ∙ sym (map-remove name_and_block items place) in
-      as_true (is_sorted order (blocks_by_name (remove items place)))
-      (subst (λ (es : List (Name × ℕ)). T (is_sorted order es)) left (is_sorted-where_key order (λ name. not (same_name name session.name)) pairs sorted))
+      let at : slice_get pairs place ≡ Some (session.name, session.block) = grind (arith, slice_get-map, here) in
+      let left = without_at pairs place session.name session.block sorted at ∙ sym (map-remove name_and_block items place) in
+      as_true _ (subst (λ (es : List (Name × ℕ)). T (is_sorted order es)) left (is_sorted-where_key order (λ name. not (same_name name session.name)) pairs sorted))
 
   pub gave : AreKept inside.layout inside.limit (given inside.pool session.block) (remove inside.«open».items place) (vec_capacity inside.«open»)
-  gave = record {
-    rise = rise_given;
-    blocks = given_at inside.layout inside.pool items place session kept.blocks here;
-    free =
-        (let more = given-free inside.pool session.block is_out in
-        let less = length-remove items place (slice_get_within items place session here) in
-        let all = kept.free in
-        omega (arith, more, less, all));
-    size = kept.size;
-    vars = kept.vars;
-    room = kept.room;
-  }
+  gave =
+      let blocks = given_at inside.layout inside.pool items place session kept.blocks here in
+      grind (arith, rise_given, blocks, given-free inside.pool session.block is_out, length-remove items place (slice_get_within items place session here))
 
   pub shows_given : (name : Name) (entry : Entry) → StandsAt shown.table place name entry
       → record (the_view inside) { table = table_of inside.layout (given inside.pool session.block) (remove inside.«open».items place) } ≡ record shown { table = without name shown.table }
   shows_given name entry stands =
-      ap (λ (t : Table). record (the_view inside) { table = t })
-      (map-remove (entry_at inside.layout inside.pool) items place
-      ∙ sym (without_at (table_in inside) place name entry (table_sorted inside kept) (stood name entry stands).at))
-      ∙ ap (λ (o : Opened). record o { table = without name o.table }) shows
+      grind (arith, map-remove (entry_at inside.layout inside.pool) items place, without_at (table_in inside) place name entry (table_sorted inside kept) (stood name entry stands).at)
 
 -- ---- a session opens
 
@@ -200,15 +170,13 @@ module _ (inside : Inside) (shown : Opened) (shows : the_view inside ≡ shown) 
   few = grind (arith, length-map)
 
   zeros : block_words (taken inside.pool block) block ≡ replicate (block_size inside.layout) 0
-  zeros = taken-zeroed inside.pool sound block free.0 ∙ ap (λ n. replicate n 0) (kept.size (omega (arith, few)))
+  zeros = grind (arith, taken-zeroed, few)
 
   rise_taken : NamesRise (insert before place session)
   rise_taken =
       let pairs : List (Name × ℕ) = blocks_by_name before in
-      let more : put order name block pairs ≡ blocks_by_name (insert before place session) =
-      put_gap pairs place name block (gap_map (λ s. s.block) before place name gap) ∙ sym (map-insert name_and_block before place session) in
-      as_true (is_sorted order (blocks_by_name (insert before place session)))
-      (subst (λ (es : List (Name × ℕ)). T (is_sorted order es)) more (is_sorted-put order nat_list_cmp_total name block pairs (so (is_sorted order pairs) kept.rise)))
+      let more = is_sorted-put order nat_list_cmp_total name block pairs (so (is_sorted order pairs) kept.rise) in
+      grind (arith, map-insert name_and_block before place session, put_gap pairs place name block (gap_map (λ s. s.block) before place name gap), more)
 
   pub took : (capacity : ℕ) → vec_capacity inside.«open» ≤ capacity
       → AreKept inside.layout inside.limit (taken inside.pool block) (insert inside.«open».items place (record { name = name; block = block })) capacity
@@ -218,10 +186,11 @@ module _ (inside : Inside) (shown : Opened) (shows : the_view inside ≡ shown) 
       ≡ record shown { table = with_entry name (fresh_entry shown) shown.table }
   shows_taken =
       let entry : Entry = record { known = empty_case inside.layout.wires inside.layout.parts; point = None } in
-      ap (λ (t : Table). record (the_view inside) { table = t })
-      (map-insert (entry_at inside.layout (taken inside.pool block)) before place session
-      ∙ (ap₂ (λ (t : Table) (e : Entry). insert t place (name, e))
-      (table_taken inside.layout inside.pool sound block free before kept.blocks)
-      (ap (entry_in inside.layout) zeros ∙ zeros-entry inside.layout kept.vars)
-      ∙ sym (put_gap (table_in inside) place name entry (table_gap inside kept place name gap))))
-      ∙ ap (λ (o : Opened). record o { table = with_entry name (fresh_entry o) o.table }) shows
+      grind (
+        arith,
+        map-insert (entry_at inside.layout (taken inside.pool block)) before place session,
+        table_taken inside.layout inside.pool sound block free before kept.blocks,
+        zeros,
+        zeros-entry inside.layout kept.vars,
+        put_gap (table_in inside) place name entry (table_gap inside kept place name gap),
+      )

@@ -35,17 +35,11 @@ none_last block (x ∷ xs) s none = let rest = none_last block xs s none.1 in ((
 
 module _ (layout : Layout) (pool : Blocks) where
   -- a session at a place has a block that is out and laid out
-  pub out_at : (sessions : List Open) (place : ℕ) (s : Open) → HaveBlocks layout pool sessions
-      → slice_get sessions place ≡ Some s → IsOut pool s.block
-  out_at [] place s have at = absurd (none-some s at)
-  out_at (x ∷ xs) zero s have at = subst (λ (o : Open). IsOut pool o.block) (same_Some x s at) have.0
-  out_at (x ∷ xs) (suc place) s have at = out_at xs place s have.3 at
-
-  pub laid_at : (sessions : List Open) (place : ℕ) (s : Open) → HaveBlocks layout pool sessions
-      → slice_get sessions place ≡ Some s → IsLaidOut layout (block_words pool s.block)
-  laid_at [] place s have at = absurd (none-some s at)
-  laid_at (x ∷ xs) zero s have at = subst (λ (o : Open). IsLaidOut layout (block_words pool o.block)) (same_Some x s at) have.1
-  laid_at (x ∷ xs) (suc place) s have at = laid_at xs place s have.3 at
+  pub have_at : (sessions : List Open) (place : ℕ) (s : Open) → HaveBlocks layout pool sessions
+      → slice_get sessions place ≡ Some s → IsOut pool s.block × IsLaidOut layout (block_words pool s.block)
+  have_at [] place s have at = absurd (none-some s at)
+  have_at (x ∷ xs) zero s have at = subst (λ (o : Open). IsOut pool o.block × IsLaidOut layout (block_words pool o.block)) (same_Some x s at) (have.0, have.1)
+  have_at (x ∷ xs) (suc place) s have at = have_at xs place s have.3 at
 
   pub have_insert : (sessions : List Open) (place : ℕ) (s : Open) → IsOut pool s.block
       → IsLaidOut layout (block_words pool s.block) → HasNone s.block sessions → HaveBlocks layout pool sessions
@@ -75,9 +69,7 @@ module _ (layout : Layout) (pool : Blocks) where
   pub given_last : (sessions : List Open) (s : Open) → HaveBlocks layout pool (sessions ++ s ∷ [])
       → HaveBlocks layout (given pool s.block) sessions
   given_last [] s have = tt
-  given_last (x ∷ xs) s have =
-      let apart = none_last x.block xs s have.2 in
-      (given-stays_out pool s.block x.block (λ e. apart.1 (sym e)) have.0, have.1, apart.0, given_last xs s have.3)
+  given_last (x ∷ xs) s have = grind (arith, none_last x.block xs s have.2, given-stays_out, given_last xs s have.3)
 
   module _ (sound : IsSound pool) where
     -- ---- a block is written
@@ -100,7 +92,7 @@ module _ (layout : Layout) (pool : Blocks) where
     written_at [] place s new have at long = absurd (none-some s at)
     written_at (x ∷ xs) zero s new have at long = grind (arith, written-block, others_written)
     written_at (x ∷ xs) (suc place) s new have at long =
-        let out = out_at xs place s have.3 at in
+        let out = have_at xs place s have.3 at in
         let other : x.block ≢ s.block = (λ e. none_at x.block xs place s have.2 at (sym e)) in
         grind (arith, written-others, written_at xs place s new have.3 at long)
 
@@ -109,7 +101,7 @@ module _ (layout : Layout) (pool : Blocks) where
         → HaveBlocks layout (with_block pool s.block new) sessions
     have_written [] place s new have at long laid = absurd (none-some s at)
     have_written (x ∷ xs) zero s new have at long laid = grind (arith, written-block, others_have)
-    have_written (x ∷ xs) (suc place) s new have at long laid = grind (arith, out_at, none_at, written-others, have_written xs place s new have.3 at long laid)
+    have_written (x ∷ xs) (suc place) s new have at long laid = grind (arith, have_at, none_at, written-others, have_written xs place s new have.3 at long laid)
 
     -- ---- a block is handed out
 

@@ -5,3 +5,4 @@ mod NotedEvidence
 mod KeptBlocks
 mod Changes
 mod FittingCases
+mod Rules

@@ -1,10 +1,10 @@
 -- Lists of pairs in the order of their names: a look-up by name finds what is at the name's place.
-use Rattle.std.proofs.Common.{◌≡◌, ℕ, zero, suc, ◌≤◌, Bool, false, cond, T, List, [], ◌∷◌, length, set, refl, ap, sym, ◌∙◌, Some, None, arith, Ordering, Less, Equal, Greater}
+use Rattle.std.proofs.Common.{◌≡◌, ℕ, zero, suc, ◌≤◌, Bool, false, T, List, [], ◌∷◌, length, set, refl, ap, sym, ◌∙◌, Some, None, arith, Ordering, Less, Equal, Greater}
 use Rattle.std.specs.Prelude.{not, ◌&&◌, slice_get}
 use Rattle.std.specs.List.{insert, remove, AllWithin}
 use Rattle.std.specs.Ordering.{nat_cmp, is_eq, is_lt, ordering_reverse}
 use Rattle.std.specs.Cmp.Lexicographic.{slice_cmp}
-use Rattle.std.specs.FinMap.Entries.{by_order, below_all, is_sorted, put, find, where_key}
+use Rattle.std.specs.FinMap.Entries.{below_all, is_sorted, put, find, where_key}
 use Rattle.std.proofs.lemmas.Cmp.{nat_list_cmp_total, tied_itself}
 use Rattle.std.proofs.lemmas.Option.{same_Some, none-some}
 use Rattle.std.proofs.lemmas.Map.Text.{is_eq-slice_cmp}
@@ -13,9 +13,6 @@ use Rattle.text_rules.proofs.NameLemmas.{same_if_equal, equal_if_same}
 
 abbrev pub order : Name → Name → Ordering
 order = slice_cmp nat_cmp
-
-pub is_less : (o : Ordering) → T (is_lt o) → o ≡ Less
-is_less o h = grind arith
 
 pub front_so : (a b : Bool) → T (a && b) → T a
 front_so a b h = grind arith
@@ -70,17 +67,13 @@ module _ {X : Type 0} where
       → slice_get es place ≡ Some (name, x) → find order name es ≡ Some x
   find_at [] place name x sorted at = absurd (none-some (name, x) at)
   find_at (f ∷ es) zero name x sorted at = grind (arith, same_order)
-  find_at (f ∷ es) (suc place) name x sorted at =
-      ap (λ o. cond (is_eq o) (Some f.1) (find order name es)) (later f es place (name, x) sorted at)
-      ∙ find_at es place name x (rest_sorted f es sorted) at
+  find_at (f ∷ es) (suc place) name x sorted at = grind (arith, later f es place (name, x) sorted at, find_at es place name x (rest_sorted f es sorted) at)
 
   pub put_at : (es : List (Name × X)) (place : ℕ) (name : Name) (x y : X) → T (is_sorted order es)
       → slice_get es place ≡ Some (name, x) → put order name y es ≡ set es place (name, y)
   put_at [] place name x y sorted at = absurd (none-some (name, x) at)
   put_at (f ∷ es) zero name x y sorted at = grind (arith, same_order)
-  put_at (f ∷ es) (suc place) name x y sorted at =
-      ap (λ o. by_order o ((name, y) ∷ f ∷ es) ((f.0, y) ∷ es) (f ∷ put order name y es)) (later f es place (name, x) sorted at)
-      ∙ ap (λ rest. f ∷ rest) (put_at es place name x y (rest_sorted f es sorted) at)
+  put_at (f ∷ es) (suc place) name x y sorted at = grind (arith, later f es place (name, x) sorted at, put_at es place name x y (rest_sorted f es sorted) at)
 
   -- nothing is removed if the name is below all
   without_below : (name : Name) (es : List (Name × X)) → T (below_all order name es) → without_name name es ≡ es
@@ -96,8 +89,7 @@ module _ {X : Type 0} where
   without_at [] place name x sorted at = absurd (none-some (name, x) at)
   without_at (f ∷ es) zero name x sorted at = grind (arith, same_if_equal, without_below)
   without_at (f ∷ es) (suc place) name x sorted at =
-      let less : order f.0 name ≡ Less = below name f.0 (later f es place (name, x) sorted at) in
-      grind (arith, differ, without_at es place name x (rest_sorted f es sorted) at)
+      grind (arith, below name f.0 (later f es place (name, x) sorted at), differ f.0 name, without_at es place name x (rest_sorted f es sorted) at)
 
   -- ---- in a gap
 
@@ -116,21 +108,19 @@ module _ {X : Type 0} where
   pub put_gap : (es : List (Name × X)) (place : ℕ) (name : Name) (y : X) → IsGap es place name
       → put order name y es ≡ insert es place (name, y)
   put_gap [] place name y gap = grind arith
-  put_gap (f ∷ es) zero name y gap =
-      ap (λ o. by_order o ((name, y) ∷ f ∷ es) ((f.0, y) ∷ es) (f ∷ put order name y es)) (below f.0 name (gap.behind 0 f (omega arith) (omega arith)))
-  put_gap (f ∷ es) (suc place) name y gap =
-      ap (λ o. by_order o ((name, y) ∷ f ∷ es) ((f.0, y) ∷ es) (f ∷ put order name y es)) (above f.0 name (gap.before 0 f (omega arith) (omega arith)))
-      ∙ ap (λ rest. f ∷ rest) (put_gap es place name y (rest_gap f es place name gap))
+  put_gap (f ∷ es) zero name y gap = grind (arith, below, gap.behind 0 f)
+  put_gap (f ∷ es) (suc place) name y gap = grind (arith, above, gap.before 0 f, put_gap es place name y (rest_gap f es place name gap))
 
   pub find_gap : (es : List (Name × X)) (place : ℕ) (name : Name) → IsGap es place name → find order name es ≡ None
   find_gap [] place name gap = refl
-  find_gap (f ∷ es) zero name gap =
-      ap (λ o. cond (is_eq o) (Some f.1) (find order name es)) (below f.0 name (gap.behind 0 f (omega arith) (omega arith)))
-      ∙ find_gap es zero name (record {
-        within = omega arith;
-        before = λ k d low high. absurd (omega (arith, high));
-        behind = λ k d low high. gap.behind (suc k) d (omega arith) (omega (arith, high));
-      })
-  find_gap (f ∷ es) (suc place) name gap =
-      ap (λ o. cond (is_eq o) (Some f.1) (find order name es)) (above f.0 name (gap.before 0 f (omega arith) (omega arith)))
-      ∙ find_gap es place name (rest_gap f es place name gap)
+  find_gap (f ∷ es) zero name gap = grind (
+    arith,
+    below,
+    gap.behind 0 f,
+    find_gap es zero name (record {
+      within = omega arith;
+      before = λ k d low high. absurd (omega (arith, high));
+      behind = λ k d low high. gap.behind (suc k) d (omega arith) (omega (arith, high));
+    }),
+  )
+  find_gap (f ∷ es) (suc place) name gap = grind (arith, above, gap.before 0 f, find_gap es place name (rest_gap f es place name gap))

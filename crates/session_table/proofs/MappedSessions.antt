@@ -1,11 +1,10 @@
 -- Sessions and the pairs that they are mapped to.
-use Rattle.std.proofs.Common.{◌≡◌, ℕ, zero, suc, ◌≤◌, List, [], ◌∷◌, map, length, set, refl, ap, ap₂, sym, subst, Some, arith, Less, Greater}
-use Rattle.std.specs.Prelude.{◌&&◌, slice_get}
+use Rattle.std.proofs.Common.{◌≡◌, ℕ, ◌≤◌, List, [], ◌∷◌, map, length, refl, ap, ap₂, sym, subst, arith, Less, Greater}
+use Rattle.std.specs.Prelude.{◌&&◌}
 use Rattle.std.specs.List.{insert, remove, AllWithin}
 use Rattle.std.specs.Ordering.{is_lt}
 use Rattle.std.specs.FinMap.Entries.{below_all, is_sorted}
 use Rattle.std.proofs.lemmas.List.{length-map, map-append, take-map, drop-map, get_or-map}
-use Rattle.std.proofs.lemmas.Option.{none-some}
 use Rattle.text_rules.specs.Names.{Name}
 use Rattle.session_table.specs.inner.Ordered.{IsGapFor}
 use Rattle.session_table.specs.declared.in_order.Open.{Open}
@@ -51,10 +50,3 @@ gap_map {X = X} f sessions place name gap =
           (within_map pair (λ e. order e.0 name ≡ Greater) sessions place (length sessions) (omega arith) gap.behind);
     } in
     is
-
--- a place has what was set there
-pub slice_get-set : {X : Type 0} (xs : List X) (place : ℕ) (x y : X) → slice_get xs place ≡ Some x
-    → slice_get (set xs place y) place ≡ Some y
-slice_get-set [] place x y at = absurd (none-some x at)
-slice_get-set (z ∷ xs) zero x y at = refl
-slice_get-set (z ∷ xs) (suc place) x y at = slice_get-set xs place x y at

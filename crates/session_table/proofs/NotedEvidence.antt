@@ -1,6 +1,6 @@
 -- A change of what a session knows changes a word of its block.
-use Rattle.std.proofs.Common.{◌≡◌, ℕ, ◌+◌, ◌<◌, ◌≤◌, Bool, List, replicate, get_or, set, ap, sym, ◌∙◌, subst, Option, None, arith, get_or-set_same}
-use Rattle.std.specs.Prelude.{All}
+use Rattle.std.proofs.Common.{◌≡◌, ℕ, ◌+◌, ◌-◌, ◌<◌, ◌≤◌, Bool, List, replicate, get_or, set, sym, subst, Option, None, arith, inl, inr, get_or-set_same}
+use Rattle.std.specs.Prelude.{All, ◌⊎◌}
 use Rattle.std.proofs.Math.Seq.{take-set-lt}
 use Rattle.std.proofs.lemmas.List.{length-set, length-replicate, take-set-le, drop-set-lt, take-replicate, drop-replicate, get_or-replicate}
 use Rattle.std.proofs.lemmas.List.Elements.{All-replicate}
@@ -19,11 +19,8 @@ abbrev pub with_word : Layout → List ℕ → ℕ → Option Bool → List ℕ
 with_word layout block place known = set (set block place (word_of_known known)) layout.vars 0
 
 module _ (layout : Layout) (block : List ℕ) (laid : IsLaidOut layout block) (place : ℕ) (within : place < layout.vars) (known : Option Bool) where
-  abbrev w : ℕ
-  w = word_of_known known
-
   with_word-known : known_in layout (with_word layout block place known) ≡ set (known_in layout block) place (word_of_known known)
-  with_word-known = take-set-le layout.vars (set block place w) layout.vars 0 (omega arith) ∙ take-set-lt layout.vars block place w within
+  with_word-known = grind (arith, take-set-le, take-set-lt)
 
   with_word-state : state_in layout (with_word layout block place known) ≡ state_in layout block
   with_word-state = grind (arith, drop-set-lt)
@@ -40,7 +37,7 @@ module _ (layout : Layout) (block : List ℕ) (laid : IsLaidOut layout block) (p
   with_word-entry : (after : Case)
       → case_of_evidence layout.parts layout.wires (set (known_in layout block) place (word_of_known known)) ≡ after
       → entry_in layout (with_word layout block place known) ≡ record { known = after; point = None }
-  with_word-entry after says = λ i. record { known = (ap (case_of_evidence layout.parts layout.wires) with_word-known ∙ says) i; point = with_word-point i }
+  with_word-entry after says = grind (arith, with_word-known, with_word-point)
 
 -- the place of the word of a wire, or of a part
 abbrev pub word_place : Layout → Noted → ℕ → ℕ
@@ -48,8 +45,6 @@ word_place layout Wire place = layout.parts + place
 word_place layout Part place = place
 
 module _ (layout : Layout) (block : List ℕ) (laid : IsLaidOut layout block) where
-  word-within : (what : Noted) (place : ℕ) → place < count_of layout.parts layout.wires what → word_place layout what place < layout.vars
-  word-within what place within = grind arith
 
   -- the written word says what is known of the wire, or of the part
   module _ (known : Option Bool) where
@@ -58,19 +53,19 @@ module _ (layout : Layout) (block : List ℕ) (laid : IsLaidOut layout block) wh
     word-says Wire place within = wire-says layout.parts layout.wires layout.vars (known_in layout block) laid.known place within known
     word-says Part place within = part-says layout.parts layout.wires layout.vars (known_in layout block) laid.known place within known
 
-    word-are : (what : Noted) (place : ℕ) → place < count_of layout.parts layout.wires what
-        → IsEvidence layout.parts layout.wires layout.vars (set (known_in layout block) (word_place layout what place) (word_of_known known))
-    word-are Wire place within = wire-are layout.parts layout.wires layout.vars (known_in layout block) laid.known place within known
-    word-are Part place within = part-are layout.parts layout.wires layout.vars (known_in layout block) laid.known place within known
+    word-are : (at : ℕ) → at < layout.parts + layout.wires → (at < layout.parts) ⊎ (layout.parts ≤ at)
+        → IsEvidence layout.parts layout.wires layout.vars (set (known_in layout block) at (word_of_known known))
+    word-are at within (inl part) = part-are layout.parts layout.wires layout.vars (known_in layout block) laid.known at part known
+    word-are at within (inr wire) =
+        let e : layout.parts + (at - layout.parts) ≡ at = omega arith in
+        rw e at (wire-are layout.parts layout.wires layout.vars (known_in layout block) laid.known (at - layout.parts) (omega arith) known)
 
-    pub noted-entry : (what : Noted) (place : ℕ) → place < count_of layout.parts layout.wires what
-        → entry_in layout (with_word layout block (word_place layout what place) known) ≡ with_noted (entry_in layout block) what place known
-    noted-entry what place within = grind (arith, with_word-entry, word-says)
+    pub noted-entry : (what : Noted) (place at : ℕ) → at ≡ word_place layout what place → place < count_of layout.parts layout.wires what
+        → entry_in layout (with_word layout block at known) ≡ with_noted (entry_in layout block) what place known
+    noted-entry what place at there within = grind (arith, with_word-entry, word-says)
 
-    pub noted-laid : (what : Noted) (place : ℕ) → place < count_of layout.parts layout.wires what
-        → IsLaidOut layout (with_word layout block (word_place layout what place) known)
-    noted-laid what place within =
-        with_word-laid layout block laid (word_place layout what place) (word-within what place within) known (word-are what place within)
+    pub noted-laid : (at : ℕ) → at < layout.parts + layout.wires → IsLaidOut layout (with_word layout block at known)
+    noted-laid at within = with_word-laid layout block laid at (omega arith) known (word-are at within (grind arith))
 
 -- a block of zeros is that of a session that opens
 module _ (layout : Layout) (room : layout.parts + layout.wires ≤ layout.vars) where

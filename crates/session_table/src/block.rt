@@ -18,6 +18,7 @@ pub(crate) struct Layout {
 
 impl Layout {
     /// Notes what is known of a wire or a part. The session has no point then.
+    #[tactic(auto, using(crate::proofs::Rules::noted_words))]
     pub(crate) fn note(self, block: &mut [u32], what: Noted, place: u32, known: Option<bool>)
         requires block { IsLaidOut self block.old }
         requires place { place < count_of self.parts self.wires what }

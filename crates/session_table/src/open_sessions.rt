@@ -85,6 +85,7 @@ impl OpenSessions {
     }
 
     /// Returns the place of an open session, or `None` exactly if no session of this name is open.
+    #[tactic(auto, using(crate::proofs::Rules::found_places))]
     pub fn find(&self, session: &[u8]) -> Option<usize>
         ensures within { IfSome result (λ place. place < length self.now.table) }
         ensures some { IfSome result (λ place. (entry : Entry) × StandsAt self.now.table place session.now entry) }
@@ -94,6 +95,7 @@ impl OpenSessions {
     }
 
     /// Opens a session, which knows nothing yet.
+    #[tactic(auto, using(crate::proofs::Rules::taken_blocks))]
     pub fn start(&mut self, session: &[u8])
         requires name { is_short_name session.now ≡ true }
         requires closed { entry_of session.now self.old.table ≡ None }
@@ -109,6 +111,7 @@ impl OpenSessions {
     }
 
     /// Closes the session at a place.
+    #[tactic(auto, using(crate::proofs::Rules::given_blocks))]
     pub fn stop(&mut self, place: usize)
         requires { place < length self.old.table }
         ensures { (session : Name) (entry : Entry) → StandsAt self.old.table place session entry
@@ -120,6 +123,7 @@ impl OpenSessions {
 
     /// Notes in the session at `place` what is known of the wire, or the part, at `at`: a bit, or nothing any more. The session has no
     /// point then.
+    #[tactic(auto, using(crate::proofs::Rules::written_blocks))]
     pub fn note(&mut self, place: usize, what: Noted, at: u32, known: Option<bool>)
         requires place { place < length self.old.table }
         requires at { at < count_of self.old.parts self.old.wires what }
@@ -132,6 +136,7 @@ impl OpenSessions {
     }
 
     /// Returns what the session at a place knows: a word for each variable.
+    #[tactic(auto, using(crate::proofs::Rules::blocks_at_places))]
     pub fn evidence(&self, place: usize) -> &[u32]
         requires { place < length self.now.table }
         ensures evidence { IsEvidence self.now.parts self.now.wires self.now.vars result.now }
@@ -142,6 +147,7 @@ impl OpenSessions {
     }
 
     /// Returns the point of the session at a place, if it has one: a word for each part, 0 if it is ok, 1 if it is faulty.
+    #[tactic(auto, using(crate::proofs::Rules::blocks_at_places))]
     pub fn point(&self, place: usize) -> Option<&[u32]>
         requires { place < length self.now.table }
         ensures point { (session : Name) (entry : Entry) → StandsAt self.now.table place session entry
@@ -152,6 +158,7 @@ impl OpenSessions {
     }
 
     /// Sets the point of the session at a place to a state.
+    #[tactic(auto, using(crate::proofs::Rules::written_blocks))]
     pub fn set_point(&mut self, place: usize, state: &[u32])
         requires place { place < length self.old.table }
         requires long { length state.now ≡ self.old.parts }
@@ -170,6 +177,7 @@ impl OpenSessions {
     }
 
     /// Closes all sessions.
+    #[tactic(auto, using(crate::proofs::Rules::last_blocks))]
     pub fn finish(self) {
         let OpenSessions {
             layout: _,

@@ -1,19 +1,12 @@
 use Rattle.std.proofs.Common.{◌≡◌, ℕ, [], ◌∷◌, ◌+◌, List, ◌++◌, map, length, ap, sym, subst, ◌∙◌, arith}
 use Rattle.device_model.specs.declared.gates.Kind.TheVariants.{Table}
-use Rattle.device_model.specs.declared.limits.TheConstants.{WIRE_LIMIT}
 use Rattle.flattener.specs.declared.expanding.Flat.{Flat}
 use Rattle.flattener.specs.Flat.{below}
-use Rattle.flattener.specs.inner.Expanding.{Grows, wire_at, are_within, are_short, position_of, behind}
+use Rattle.flattener.specs.inner.Expanding.{Grows, wire_at, position_of, behind}
 use Rattle.flattener.proofs.PathNames.{behind-prefix}
-use Rattle.flattener.proofs.ExpandedInstances.{own_behind, block_at, block_read, part_read, own_short, start_grows, all_grow, args_few, path_short, so_far, before_here, CanExpand-inner, gate_grows, type_grows, instance_grows}
+use Rattle.flattener.proofs.ExpandedInstances.{own_behind, block_at, block_read, part_read, start_grows, all_grow, so_far, before_here, CanExpand-inner, gate_grows, type_grows, instance_grows}
 use Rattle.flattener.proofs.expanding.+expand.Goals as goal
 use Rattle.flattener.proofs.expanding.+expand.Goals.{in-Gate+in_ok-push_part-in-Gate, in-Shape+in_ok-push_part-in-Shape, in-Block+in_ok-expand-in-Block}
-
-pub push_wires-requires : goal.push_wires-requires
-push_wires-requires t c =
-    let can = c.requires.can in
-    let block = block_read can c.blocks-2.ensures.blocks c.index-blocks-place.is in
-    ap are_short (own_behind c.index-blocks-place.result _ c.args.path.now c.in_ok-prefix.prefix.items c.own_wires.result.now block c.in_ok-prefix.ensures c.own_wires.ensures) ∙ own_short can
 
 pub loop-used-init : goal.loop-used-init
 loop-used-init t c =
@@ -24,25 +17,6 @@ loop-used-init t c =
       grown = start_grows can c.args.flat.now.parts.items _ _ c.requires.joined c.in_ok-push_wires.ensures.wires
           (own_behind c.index-blocks-place.result _ c.args.path.now c.in_ok-prefix.prefix.items c.own_wires.result.now block c.in_ok-prefix.ensures c.own_wires.ensures);
     }
-
-pub with_prefix-requires-clause-short : goal.with_prefix-requires-clause-short
-with_prefix-requires-clause-short t c =
-    let can = c.requires.can in
-    let block = block_read can c.blocks-2.ensures.blocks c.index-blocks-place.is in
-    let part = part_read can block c.as_slice-used-items.ensures c.loop-used-test.true c.used-item.is in
-    let path = c.args.path.now in
-    let used = c.used-item.result in
-    let e : length (behind c.loop-used.prefix.items c.as_slice.result.now) ≡ length (below path used.name) =
-    (λ k. length (behind (c.loop-used.invariant.prefix k) (c.as_slice.ensures.bytes k))) ∙ ap length (behind-prefix path used.name) in
-    let h = path_short can part in
-    omega arith
-
-pub read_positions-requires-clause-args : goal.read_positions-requires-clause-args
-read_positions-requires-clause-args t c =
-    let can = c.requires.can in
-    let block = block_read can c.blocks-2.ensures.blocks c.index-blocks-place.is in
-    let part = part_read can block c.as_slice-used-items.ensures c.loop-used-test.true c.used-item.is in
-    ap (are_within (length c.args.passed.now + WIRE_LIMIT)) c.as_slice-in-loop-used.ensures ∙ args_few can part
 
 pub expand-requires : goal.expand-requires
 expand-requires t c =

@@ -5,14 +5,9 @@ use Rattle.session_table.proofs.Lookups.{order}
 use Rattle.session_table.proofs.SessionSearch.{searched}
 use Rattle.session_table.proofs.in_order.find_place.Goals as goal
 
-pub returns-clause-found : goal.returns-clause-found
-returns-clause-found c =
+pub returns : goal.returns
+returns c =
     let facts = c.binary_search_by.ensures in
     let by_name = facts.position (λ (s : Open). order s.name c.args.name.now) (always_returns_same _ _ _ (λ a r f called. search rules)) in
-    (searched c.args.sessions.now c.requires c.args.name.now c.binary_search_by.result facts.bound by_name).0
-
-pub returns-clause-gap : goal.returns-clause-gap
-returns-clause-gap c =
-    let facts = c.binary_search_by.ensures in
-    let by_name = facts.position (λ (s : Open). order s.name c.args.name.now) (always_returns_same _ _ _ (λ a r f called. search rules)) in
-    (searched c.args.sessions.now c.requires c.args.name.now c.binary_search_by.result facts.bound by_name).1
+    let so = searched c.args.sessions.now c.requires c.args.name.now c.binary_search_by.result facts.bound by_name in
+    record { found = so.0; gap = so.1 }

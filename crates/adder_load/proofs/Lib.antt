@@ -1,3 +1,4 @@
+pub mod Rules
 pub mod Texts
 pub mod NotedReadings
 pub mod ListedDiagnoses

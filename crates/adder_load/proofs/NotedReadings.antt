@@ -1,8 +1,7 @@
 -- What readings say in turn.
-use Rattle.std.proofs.Common.{◌≡◌, ℕ, ◌+◌, ◌-◌, ◌<◌, ◌≤◌, Bool, List, [], ◌∷◌, ◌++◌, length, replicate, set, refl, ap, sym, ◌∙◌, subst, Some, arith}
-use Rattle.std.specs.Prelude.{◌↔◌, ◌==◌, true, false, slice_set, IsTrue, fold}
+use Rattle.std.proofs.Common.{◌≡◌, ℕ, ◌+◌, ◌-◌, ◌<◌, ◌≤◌, Bool, List, [], ◌∷◌, ◌++◌, length, replicate, set, ap, sym, ◌∙◌, subst, Some, arith}
+use Rattle.std.specs.Prelude.{◌↔◌, ◌==◌, slice_set, IsTrue, fold}
 use Rattle.std.specs.Option.{option_map_or}
-use Rattle.std.proofs.lemmas.Bool.{ne_eqb, eq-eqb}
 use Rattle.std.proofs.lemmas.List.Sums.{fold-append}
 use Rattle.std.proofs.lemmas.List.Quantifiers.{position-Some}
 use Rattle.text_rules.specs.Names.{Name, same_name}
@@ -16,16 +15,11 @@ use Rattle.adder_load.specs.inner.Noting.{case_in, Notes}
 
 -- a test for 0
 pub is_zero : (test : Bool) (n : ℕ) → (IsTrue test ↔ (n ≡ 0)) → test ≡ (n == 0)
-is_zero true n decides = sym (eq-eqb n 0 (decides.0 refl))
-is_zero false n decides = sym (ne_eqb n 0 (λ zero. let never = decides.1 zero in cc))
+is_zero test n decides = grind arith
 
 -- some readings, and then others
 pub notes-append : (device : Device) (old between new : List ℕ) (xs ys : List Reading) → Notes device old between xs → Notes device between new ys → Notes device old new (xs ++ ys)
-notes-append device old between new xs ys first then = record {
-  evidence = subst (λ n. IsEvidence (length device.parts) (length device.wires) n new) first.evidence.long then.evidence;
-  seen = then.seen ∙ ap (λ seen. fold (with_reading device.wires) seen ys) first.seen ∙ sym (fold-append (with_reading device.wires) (case_in device old).seen xs ys);
-  held = then.held ∙ first.held;
-}
+notes-append device old between new xs ys first then = grind (arith, fold-append)
 
 pub wire_within : (device : Device) (name : Name) (wire : ℕ) → Some wire ≡ place_of name device.wires → wire < length device.wires
 wire_within device name wire at = (position-Some (same_name name) device.wires wire [] (sym at)).0

@@ -11,23 +11,14 @@ behind before between after piece more one rest = rest ∙ ap (λ text. text ++ 
 -- what is left of numbered things is the first of them, and then the others
 pub left_more : {A : Type 0} (f : ℕ → List A) (all place : ℕ) → place < all
     → flat_map f (range_with_len place (all - place)) ≡ f place ++ flat_map f (range_with_len (place + 1) (all - (place + 1)))
-left_more f all place below =
-    let more : all - place ≡ suc (all - (place + 1)) = omega (arith, below) in
-    ap (λ n. flat_map f (range_with_len place n)) more
-
-place_long : (place : ℕ) → length (place_lines place) ≡ 155
-place_long place = refl
+left_more f all place below = let more : all - place ≡ suc (all - (place + 1)) = omega arith in rw more
 
 places_long : (from places : ℕ) → length (flat_map place_lines (range_with_len from places)) ≡ 155 * places
 places_long from zero = refl
-places_long from (suc places) =
-    let both = length-append (place_lines from) (flat_map place_lines (range_with_len (from + 1) places)) in
-    let one = place_long from in
-    let more = places_long (from + 1) places in
-    both ∙ omega (arith, one, more)
+places_long from (suc places) = grind (arith, length-append (place_lines from), places_long (from + 1) places)
 
 pub adder_long : (places : ℕ) → length (adder_text places) ≡ 13 + 155 * places
-adder_long places = let long = places_long 0 places in omega (arith, long)
+adder_long places = omega (arith, places_long 0 places)
 
 -- the last piece, if there was room for it
 pub last_piece : {A E : Type 0} (result : Result A E) (between after more all : List ℕ) → after ≡ (if is_ok result then between ++ more else between) → (after ≡ between ++ more → after ≡ all) → OnOk result (after ≡ all)

@@ -32,7 +32,6 @@ fn add_input(text: &mut Vec<u8>, input: &[u8]) -> Result<(), Memory>
 }
 
 // Adds the line of a gate of two inputs.
-#[tactic(auto, using(crate::proofs::Texts::behind))]
 fn add_gate(
     text: &mut Vec<u8>,
     output: &[u8],
@@ -52,7 +51,6 @@ fn add_gate(
     text.extend_from_slice(b")\n")
 }
 
-#[tactic(auto, using(crate::proofs::Texts::behind))]
 fn add_place(text: &mut Vec<u8>, place: u32) -> Result<(), Memory>
     requires { place < PLACE_LIMIT }
     ensures { OnOk result (text.new.items ≡ text.old.items ++ place_lines place) }
@@ -74,6 +72,7 @@ fn add_place(text: &mut Vec<u8>, place: u32) -> Result<(), Memory>
 }
 
 /// Returns the netlist of an adder of `places` places. The only error is lack of memory.
+#[tactic(auto, using(crate::proofs::Rules::pieces_left))]
 pub fn adder_text(alloc: Global, places: u32) -> Result<Vec<u8>, Memory>
     requires { places ≤ PLACE_LIMIT }
     ensures text { IfOk result (λ text. text.items ≡ adder_text places) }

@@ -36,6 +36,7 @@ fn note_place(evidence: &mut [u32], device: &Device, place: u32)
 
 /// Notes what was seen of the adder of `places` places in evidence that is all 0. The evidence is on the parts of its device, on its wires,
 /// and on inner variables.
+#[tactic(auto, using(crate::proofs::Rules::all_readings))]
 pub fn note_readings(evidence: &mut [u32], device: &Device, places: u32)
     requires none { evidence.old ≡ replicate (length evidence.old) 0 }
     requires room { length device.now.parts + length device.now.wires ≤ length evidence.old }

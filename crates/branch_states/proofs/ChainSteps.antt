@@ -1,5 +1,5 @@
 -- The steps of the chain of an order.
-use Rattle.std.proofs.Common.{◌≡◌, ℕ, zero, suc, ◌+◌, List, [], ◌∷◌, ◌++◌, map, length, drop, get_or, ap, arith}
+use Rattle.std.proofs.Common.{◌≡◌, ℕ, zero, suc, ◌+◌, List, [], ◌∷◌, ◌++◌, map, length, drop, get_or, arith}
 use mir.Val.{bool_byte}
 use Rattle.std.specs.Prelude.{nat_lt}
 use Rattle.std.specs.List.{range_with_len}
@@ -17,7 +17,7 @@ abbrev pub chain_step : List ℕ → ℕ → Step
 chain_step vs i = record { var = get_or vs i 0; trees = trees (chain (drop (i + 1) vs)) }
 
 steps_along : (vs : List ℕ) (n i : ℕ) → i + n ≡ length vs → steps_of (chain (drop i vs)) ≡ map (chain_step vs) (range_with_len i n)
-steps_along vs zero i e = ap (λ us. steps_of (chain us)) (drop_all i vs (omega arith))
+steps_along vs zero i e = grind (arith, drop_all i vs)
 steps_along vs (suc n) i e = grind (arith, drop_more, append-nil, steps_along vs n (i + 1))
 
 pub chain_steps : (vs : List ℕ) → steps_of (chain vs) ≡ map (chain_step vs) (range_with_len 0 (length vs))

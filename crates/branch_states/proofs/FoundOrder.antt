@@ -23,8 +23,8 @@ place-absent : (vs : List ℕ) (v : ℕ) → among vs v ≡ false → place vs v
 place-absent [] v e = refl
 place-absent (u ∷ vs) v e = grind (arith, place-absent vs v)
 
-pub place-found : (vs : List ℕ) (v : ℕ) → unwrap_or (position (nat_eq v) vs) (length vs) ≡ place vs v
-place-found vs v = grind (arith, found-at, place-absent)
+pub place_found : (vs : List ℕ) (v : ℕ) → unwrap_or (position (nat_eq v) vs) (length vs) ≡ place vs v
+place_found vs v = grind (arith, found-at, place-absent)
 
 -- ---- no more variables than a clause list may have
 

@@ -1,3 +1,4 @@
+pub mod Rules
 pub mod OneStep
 pub mod FoundOrder
 pub mod ChainSteps

@@ -53,12 +53,9 @@ pub filter-room : (test : Clause → Bool) (cs : List Clause) (k : ℕ) → k < 
 filter-room test [] k h e = absurd (omega arith)
 filter-room test (c ∷ cs) k h e = grind (arith, filter-room test cs)
 
-byte-one : (b : Bool) → bool_byte b ≡ cond {A = ℕ} b 1 0
-byte-one b = grind arith
-
 pub count-more : (test : Clause → Bool) (cs : List Clause) (k count r : ℕ) (b : Bool) → k < length cs → count ≡ length (filter test (take k cs)) → r ≡ bool_byte b → b ≡ test (get_or cs k [])
     → count + r ≡ length (filter test (take (k + 1) cs))
-count-more test cs k count r b low e is t = grind (arith, byte-one, length-filter_more)
+count-more test cs k count r b low e is t = grind (arith, length-filter_more test cs k [] low)
 
 -- ---- what a step has done with the first `k` clauses
 
@@ -99,9 +96,6 @@ module _ (cs : List Clause) (i : ℕ) (bit : Bool) (state next : List ℕ) (k re
     (reads : more ≡ length (filter (is_active (order cs) i) (take (k + 1) cs))) where
   abbrev here : Clause
   here = get_or cs k []
-
-  one : suc k ≡ k + 1
-  one = omega arith
 
   alive-more : (list : List Bool) → IsLiving cs i list → state ≡ state_of cs i list → (left && is_covered (order cs) (i + 1) here) ≡ false
       → some_passes (is_covered (order cs) (i + 1)) (take (k + 1) cs) (branch cs i list bit) ≡ false

@@ -7,6 +7,7 @@ use crate::bits::bit_at;
 use indexmap::IndexSet;
 
 // The place of a variable in an order, or the order's length if it is not there.
+#[tactic(auto, using(crate::proofs::FoundOrder::place_found))]
 fn place(variables: &IndexSet<u32>, variable: u32) -> usize
     ensures { result ≡ place variables.now.keys variable }
 {

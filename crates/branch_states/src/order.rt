@@ -9,6 +9,7 @@ use indexmap::IndexSet;
 use std::alloc::{AllocError, Global};
 
 // Finds the variables of a clause list in the order in which they first occur.
+#[tactic(auto, using(crate::proofs::Rules::few_variables))]
 pub(crate) fn find_order(alloc: Global, cnf: &Cnf) -> Result<IndexSet<u32>, AllocError>
     ensures order { IfOk result (λ found. found.keys ≡ order cnf.now.clauses) }
     ensures valid { is_clause_list cnf.now ≡ true }
@@ -31,6 +32,7 @@ fn meet_all(variables: &mut IndexSet<u32>, clause: &[i32]) -> Result<(), AllocEr
     Ok(())
 }
 
+#[tactic(auto, using(crate::proofs::FoundOrder::met))]
 fn meet(variables: &mut IndexSet<u32>, variable: u32) -> Result<(), AllocError>
     ensures { OnOk result ((vs : List ℕ) → variables.old.keys ≡ first_met same_variable vs
         → variables.new.keys ≡ first_met same_variable (vs ++ variable ∷ [])) }
@@ -48,6 +50,7 @@ pub(crate) fn find_steps(alloc: Global, cnf: &Cnf) -> Result<Vec<Step>, AllocErr
     steps_down(alloc, variables.as_slice())
 }
 
+#[tactic(auto, using(crate::proofs::Rules::chain_steps_found))]
 fn steps_down(alloc: Global, variables: &[u32]) -> Result<Vec<Step>, AllocError>
     ensures { IfOk result (λ steps. steps.items ≡ steps_of (chain variables.now)) }
 {

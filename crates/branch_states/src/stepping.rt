@@ -9,6 +9,7 @@ use crate::clauses::{has_true, is_active, is_covered, is_in};
 use clause_encoder::Cnf;
 use indexmap::IndexSet;
 
+#[tactic(auto, using(crate::proofs::Rules::counted_clauses))]
 pub(crate) fn count_active(cnf: &Cnf, variables: &IndexSet<u32>, level: u32) -> u32
     requires order { variables.now.keys ≡ order cnf.now.clauses }
     requires most { length cnf.now.clauses ≤ CLAUSE_LIMIT }

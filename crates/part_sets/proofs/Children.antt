@@ -1,7 +1,6 @@
 -- A node and its children.
 use Rattle.std.proofs.Common.{◌≡◌, ℕ, zero, suc, ◌<◌, ◌≤◌, Bool, true, List, [], ◌∷◌, map, length, get_or, All, ap, sym, ◌∙◌, subst, arith}
 use Rattle.std.specs.List.{list_any}
-use Rattle.std.proofs.lemmas.Bool.{or_left, or_right}
 use Rattle.state_rules.specs.declared.nodes.NodeKind.TheVariants.{Literal, Or}
 use Rattle.state_rules.specs.Graphs.{Graph, node_at, mention_by, mentions, kind_fits, IsGraph}
 use Rattle.state_rules.proofs.NodeValues.{below-each, value_of-at}
@@ -9,8 +8,8 @@ use Rattle.state_rules.proofs.NodesFit.{fits-at, literal}
 
 any_at : (f : ℕ → Bool) (kids : List ℕ) (j : ℕ) → j < length kids → f (get_or kids j 0) ≡ true → list_any (λ x. x) (map f kids) ≡ true
 any_at f [] j lt e = absurd (omega arith)
-any_at f (k ∷ kids) zero lt e = or_left _ _ e
-any_at f (k ∷ kids) (suc j) lt e = or_right _ _ (any_at f kids j (omega arith) e)
+any_at f (k ∷ kids) zero lt e = grind arith
+any_at f (k ∷ kids) (suc j) lt e = grind (arith, any_at f kids j)
 
 module _ (graph : Graph) (at : ℕ) (kids : List ℕ) (ok : IsGraph graph) (inside : at < length graph.nodes) (are : kids ≡ (node_at graph.nodes at).kids) where
   pub child-below : (j : ℕ) → j < length kids → get_or kids j 0 < at

@@ -1,3 +1,4 @@
+pub mod Rules
 pub mod SetBits
 pub mod Children
 pub mod Stacks

@@ -1,8 +1,7 @@
 -- Numbers that one set has and another one has not.
-use Rattle.std.proofs.Common.{◌≡◌, ℕ, ◌+◌, ◌-◌, ◌*◌, ◌/◌, ◌%◌, ◌^◌, ◌<◌, ◌≤◌, min, Bool, true, false, not, ◌&&◌, List, get_or, ap, ◌∙◌, arith, ⊎_elim, bit_and, w32}
+use Rattle.std.proofs.Common.{◌≡◌, ℕ, ◌+◌, ◌-◌, ◌*◌, ◌/◌, ◌%◌, ◌^◌, ◌<◌, ◌≤◌, Bool, true, false, not, ◌&&◌, List, get_or, arith, bit_and, w32}
 use Rattle.std.specs.Prelude.{◌==◌}
 use Rattle.std.specs.Int.{bit_at, bit_not, trailing_zeros}
-use Rattle.std.proofs.lemmas.Bool.{cases_lt}
 use Rattle.std.proofs.lemmas.Nat.{shr-shr, and_le_l}
 use Rattle.std.proofs.lemmas.Nat.Bits.{bit_at-zero, bit_at_and, bit_at_not, bit_at-lt, bit_at_above, bit_at-trailing_zeros}
 use Rattle.part_sets.specs.Numbers.{has_number}
@@ -11,13 +10,8 @@ use Rattle.part_sets.specs.Numbers.{has_number}
 abbrev pub gap_of : ℕ → ℕ → ℕ → ℕ
 gap_of outer inner r = bit_and outer (bit_not w32 inner) / 2 ^ r
 
-both_bits : (p q : ℕ) → p < 2 → q < 2 → (min p (1 - q) == 1) ≡ ((p == 1) && not (q == 1))
-both_bits p q h g = grind arith
-
 gap-bit : (outer inner r b : ℕ) → inner < 2 ^ 32 → r + b < 32 → (bit_at (gap_of outer inner r) b == 1) ≡ ((bit_at outer (r + b) == 1) && not (bit_at inner (r + b) == 1))
-gap-bit outer inner r b small lt =
-    ap (λ m. m == 1) (ap (λ x. x % 2) (shr-shr (bit_and outer (bit_not w32 inner)) r b) ∙ bit_at_and outer (bit_not w32 inner) (r + b) ∙ ap (min (bit_at outer (r + b))) (bit_at_not w32 inner (r + b) small lt))
-    ∙ both_bits (bit_at outer (r + b)) (bit_at inner (r + b)) (bit_at-lt outer (r + b)) (bit_at-lt inner (r + b))
+gap-bit outer inner r b small lt = grind (arith, shr-shr (bit_and outer (bit_not w32 inner)) r b, bit_at_and outer (bit_not w32 inner) (r + b), bit_at_not w32 inner (r + b), bit_at-lt)
 
 module _ (outer inner : List ℕ) (at : ℕ) (small : (k : ℕ) → get_or inner k 0 < 2 ^ 32) where
   abbrev pub gap : ℕ
@@ -32,7 +26,7 @@ module _ (outer inner : List ℕ) (at : ℕ) (small : (k : ℕ) → get_or inner
 
   -- if the gap is empty, none is missing in the word
   pub none_missing : gap ≡ 0 → (p : ℕ) → at ≤ p → p < (at / 32 + 1) * 32 → is_missing p ≡ false
-  none_missing e p le lt = missing-bit p le (omega arith) ∙ ap (λ g. bit_at g (p - at) == 1) e ∙ ap (λ m. m == 1) (bit_at-zero (p - at))
+  none_missing e p le lt = grind (arith, missing-bit p, bit_at-zero)
 
   pub gap-fits : get_or outer (at / 32) 0 < 2 ^ 32 → gap < 2 ^ 32
   gap-fits small_outer = grind (arith, and_le_l)
@@ -43,23 +37,10 @@ module _ (outer inner : List ℕ) (at : ℕ) (small : (k : ℕ) → get_or inner
     lowest = trailing_zeros w32 gap
 
     pub lowest-low : get_or outer (at / 32) 0 < 2 ^ 32 → at % 32 + lowest < 32
-    lowest-low small_outer =
-        let low = bit_at-trailing_zeros w32 gap some fits in
-        ⊎_elim (λ p. p) (λ (p : 32 ≤ at % 32 + lowest). absurd (not_above p low.1)) (cases_lt (at % 32 + lowest) 32) where
-          not_above : 32 ≤ at % 32 + lowest → bit_at gap lowest ≡ 1 → ⊥
-          not_above p e =
-              let shifted : bit_at gap lowest ≡ bit_at (bit_and (get_or outer (at / 32) 0) (bit_not w32 (get_or inner (at / 32) 0))) (at % 32 + lowest) =
-              ap (λ x. x % 2) (shr-shr (bit_and (get_or outer (at / 32) 0) (bit_not w32 (get_or inner (at / 32) 0))) (at % 32) lowest) in
-              let above = bit_at_above (get_or outer (at / 32) 0) 32 (at % 32 + lowest) small_outer p in
-              omega (arith, shifted, above, bit_at_and (get_or outer (at / 32) 0) (bit_not w32 (get_or inner (at / 32) 0)) (at % 32 + lowest))
+    lowest-low small_outer = grind (arith, bit_at-trailing_zeros w32 gap some fits, shr-shr, bit_at_above (get_or outer (at / 32) 0) 32, bit_at_and)
 
     pub first_missing : get_or outer (at / 32) 0 < 2 ^ 32 → is_missing (at + lowest) ≡ true
-    first_missing small_outer =
-        let low = bit_at-trailing_zeros w32 gap some fits in
-        let place : at + lowest - at ≡ lowest = omega arith in
-        missing-bit (at + lowest) (omega arith) (omega (arith, lowest-low small_outer)) ∙ ap (λ b. bit_at gap b == 1) place ∙ ap (λ m. m == 1) low.1
+    first_missing small_outer = grind (arith, bit_at-trailing_zeros w32 gap some fits, lowest-low small_outer, missing-bit (at + lowest))
 
     pub none_before : get_or outer (at / 32) 0 < 2 ^ 32 → (p : ℕ) → at ≤ p → p < at + lowest → is_missing p ≡ false
-    none_before small_outer p le lt =
-        let low = bit_at-trailing_zeros w32 gap some fits in
-        missing-bit p le (omega (arith, lowest-low small_outer)) ∙ ap (λ m. m == 1) (low.2 (p - at) (omega arith))
+    none_before small_outer p le lt = grind (arith, (bit_at-trailing_zeros w32 gap some fits).2 (p - at), lowest-low small_outer, missing-bit p)

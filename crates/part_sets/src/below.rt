@@ -51,6 +51,7 @@ pub fn put_nodes(graph: &Graph, parts: usize, below: &mut [u32])
 }
 
 // Writes the parts below a node, from those below the nodes before it.
+#[tactic(auto, using(crate::proofs::Rules::child_places))]
 fn put_node(graph: &Graph, parts: usize, earlier: &[u32], at: u32, set: &mut [u32])
     requires parts { parts ≤ PART_LIMIT }
     requires at { at < length graph.now.nodes }
@@ -81,6 +82,7 @@ fn put_variable(var: u32, parts: usize, set: &mut [u32])
 }
 
 // Writes the numbers that are in any of the children's sets.
+#[tactic(auto, using(crate::proofs::JoinedSets::joined_more))]
 fn put_joined(kids: &[u32], sets: &[u32], set: &mut [u32])
     requires room { (j : ℕ) → j < length kids.now
         → slice_index kids.now j * length set.old + length set.old ≤ length sets.now }

@@ -29,6 +29,7 @@ pub(crate) fn nodes_lacking(
     Ok(lacking)
 }
 
+#[tactic(auto, using(crate::proofs::Rules::lacking_nodes))]
 fn put_lacking(graph: &Graph, below: &[u32], parts: usize, lacking: &mut [u32])
     requires parts { parts ≤ PART_LIMIT }
     requires below { AreBelow graph.now parts below.now }
@@ -63,6 +64,7 @@ fn child_lacks(graph: &Graph, below: &[u32], parts: usize, at: u32) -> bool
     }
 }
 
+#[tactic(auto, using(crate::proofs::Rules::lacking_children))]
 fn one_lacks(graph: &Graph, below: &[u32], parts: usize, at: u32) -> bool
     requires parts { parts ≤ PART_LIMIT }
     requires below { AreBelow graph.now parts below.now }

@@ -40,6 +40,7 @@ pub fn clear(set: &mut [u32])
 }
 
 /// Makes a set of one number, if it has room for it; else an empty one.
+#[tactic(auto, using(crate::proofs::SetBits::one_is))]
 pub fn put_one(set: &mut [u32], number: usize)
     ensures { (n : ℕ) → n < WIDTH * length set.old → has_number set.new n ≡ (n == number) }
 {
@@ -49,6 +50,7 @@ pub fn put_one(set: &mut [u32], number: usize)
     }
 }
 
+#[tactic(auto, using(crate::proofs::JoinedSets::added_one))]
 pub(crate) fn add_one(set: &mut [u32], number: usize)
     requires { number < 32 * length set.old }
     ensures { (n : ℕ) → has_number set.new n ≡ (has_number set.old n || (n == number)) }
@@ -57,6 +59,7 @@ pub(crate) fn add_one(set: &mut [u32], number: usize)
 }
 
 // Adds the numbers of another set to a set.
+#[tactic(auto, using(crate::proofs::Rules::added_words))]
 pub(crate) fn add_all(set: &mut [u32], other: &[u32])
     requires { length other.now ≡ length set.old }
     ensures { (n : ℕ) → n < 32 * length set.old
@@ -69,6 +72,7 @@ pub(crate) fn add_all(set: &mut [u32], other: &[u32])
 
 /// Returns the first number from `from` on that the outer set has and the inner one has not. If there is none, returns the number after
 /// both sets, or `from` if that is greater.
+#[tactic(auto, using(crate::proofs::Rules::missing_numbers))]
 pub fn next_missing(outer: &[u32], inner: &[u32], from: usize) -> usize
     requires inner { length inner.now ≡ length outer.now }
     requires few { length outer.now ≤ part_words PART_LIMIT }

@@ -1,8 +1,8 @@
-use Rattle.std.proofs.Common.{◌≡◌, List, ◌++◌, ◌∷◌, [], false, ◌+◌, ◌-◌, sym, ◌∙◌, ap, append_assoc, append-nil, arith}
 use Rattle.std.specs.List.{flat_map, range_with_len}
+use Rattle.std.proofs.Common.{◌≡◌, ◌-◌, List, ◌++◌, ◌∷◌, [], false, append_assoc, arith}
 use Rattle.adder_load.specs.Readings.{Reading, readings_at}
 use Rattle.adder_load.proofs.Texts.{left_more}
-use Rattle.adder_load.proofs.NotedReadings.{notes-append, zeros, all_noted}
+use Rattle.adder_load.proofs.NotedReadings.{notes-append, zeros}
 use Rattle.adder_load.proofs.readings.note_readings.Goals as goal
 
 pub note-requires : goal.note-requires
@@ -20,18 +20,8 @@ loop-place-init c =
 
 pub loop-place-preserved : goal.loop-place-preserved
 loop-place-preserved c =
-    let so_far = c.loop-place.invariant in
-    let place = c.loop-place.place in
-    let places = c.args.places in (
-      so_far.0 ++ readings_at place,
-      notes-append c.args.device.now c.args.evidence.now c.loop-place.evidence c.note_place.new.evidence so_far.0 (readings_at place) so_far.1 c.note_place.ensures,
-      append_assoc so_far.0 (readings_at place) (flat_map readings_at (range_with_len (place + 1) (places - (place + 1))))
-          ∙ (ap (λ left. so_far.0 ++ left) (sym (left_more readings_at places place c.loop-place-test.true)) ∙ so_far.2),
+    let so_far = c.loop-place.invariant in (
+      so_far.0 ++ readings_at c.loop-place.place,
+      notes-append c.args.device.now c.args.evidence.now c.loop-place.evidence c.note_place.new.evidence so_far.0 (readings_at c.loop-place.place) so_far.1 c.note_place.ensures,
+      rw (append_assoc, ← left_more readings_at c.args.places c.loop-place.place c.loop-place-test.true) so_far.2,
     )
-
-pub returns-clause-case : goal.returns-clause-case
-returns-clause-case c =
-    let so_far = c.loop-place.invariant in
-    let none : c.args.places - c.loop-place.place ≡ 0 = omega (arith, c.loop-place-test.false) in
-    all_noted c.args.device.now c.args.evidence.now c.requires.none c.requires.room c.args.places c.loop-place.evidence so_far.0
-    (sym (append-nil so_far.0) ∙ (ap (λ n. so_far.0 ++ flat_map readings_at (range_with_len c.loop-place.place n)) (sym none) ∙ so_far.2)) so_far.1

@@ -1,4 +1,4 @@
-use Rattle.std.proofs.Common.{pos, sym, ◌∙◌, arith}
+use Rattle.std.proofs.Common.{pos, arith}
 use Rattle.std.specs.Prelude.{nat_lt}
 use Rattle.std.proofs.lemmas.List.Folds.{list_all_at, list_all_more}
 use Rattle.clause_encoder.specs.Clauses.{var_of}
@@ -6,8 +6,7 @@ use Rattle.elimination_forests.specs.Branches.{place}
 use Rattle.branch_states.proofs.clauses.is_covered.Goals as goal
 
 pub returns-then-not-has_bit : goal.returns-then-not-has_bit
-returns-then-not-has_bit c =
-    sym (list_all_at (λ l. nat_lt (place c.args.variables.now.keys (var_of l)) c.args.level) c.args.clause.now c.loop-literal.literal-index (pos 0) (omega arith) (sym c.has_bit.ensures ∙ c.if-not-has_bit.true))
+returns-then-not-has_bit c = grind (arith, c.has_bit.ensures, list_all_at (λ l. nat_lt (place c.args.variables.now.keys (var_of l)) c.args.level) c.args.clause.now c.loop-literal.literal-index (pos 0))
 
 pub loop-literal-preserved : goal.loop-literal-preserved
 loop-literal-preserved c = grind (arith, c.has_bit.ensures, list_all_more (λ l. nat_lt (place c.args.variables.now.keys (var_of l)) c.args.level) c.args.clause.now c.loop-literal.literal-index (pos 0))

@@ -106,6 +106,6 @@ module _ (seq : Sequential) (frames : ℕ) (valid : IsDevice seq.device) where
     pub device_made : (device : Device) → built parts wires tables ≡ Ok device → device ≡ frame_device seq frames
     device_made device h = let both = sym built-here ∙ h in cc
 
-    -- Nothing else can be wanting than memory.
+    -- The only error is lack of memory.
     pub only_memory : (error : BuildError) → IsExpectedFault (reason error) (built parts wires tables) → error ≡ NoMemory
     only_memory = only_memory_of parts wires tables _ built-here

@@ -32,7 +32,7 @@ module _ (seq : Sequential) where
       let below = Below-among component_name p.name parts r.0.1 rise.0 (among-enumerate (a + 1) parts r.0 r.1).2 in
       grind (arith, is_copy t (a, p) x m, is_copy t r.0 y r.2))
 
-  -- what a copy is, where there are so many frames
+  -- `c` is a copy, if there are `frames` frames
   pub record IsCopy (frames : ℕ) (c : Copy) : Type 0 where
     pub within : c.place < length seq.device.parts
     pub there : In c.part seq.device.parts

@@ -93,7 +93,6 @@ place-below : (n : ℕ) (places : List ℕ) → list_all (λ place. nat_lt place
 place-below n places below k d lt = ltb-true (get_or places k d) n (list_all-among (λ place. nat_lt place n) places below (get_or places k d) (In-at places k d lt))
 
 module _ (n vars : ℕ) (state bits inner : List Bool) (places : List ℕ) (long : length state ≡ n) (owned : list_all (λ place. nat_lt place n) places ≡ true) (room : length places ≤ vars) where
-
   -- each variable has the bit of the one that replaces it
   pub same_bits : (v : ℕ) → 1 ≤ v → v ≤ vars → assignment (state ++ bits ++ inner) (variable_for (shared_variables n places vars) v) ≡ assignment (map (bit_in state) places ++ bits ++ inner) v
   same_bits v some most =
@@ -128,7 +127,7 @@ module _ (seq : Sequential) (frames : ℕ) (valid : IsDevice seq.device) (list :
       ∙ describes made bits (grind (arith, length-map)) wide
       ∙ device-fits seq frames valid state bits
 
--- no clause is left out
+-- no clause is left out, so the counts are equal
 pub frames-whole : (seq : Sequential) (frames : ℕ) (list : ClauseList) → IsDevice (frame_device seq frames) → encoded (frame_device seq frames) ≡ Ok list → is_clause_list list ≡ true
     → length (shared (length seq.device.parts) (owners seq frames) list).clauses ≡ length (clause_list (frame_device seq frames)).clauses
 frames-whole seq frames list valid encodes given =

@@ -1,4 +1,4 @@
--- What cannot be.
+-- Impossible equations.
 use Rattle.std.proofs.Common.{◌≡◌, Some, None}
 
 pub none≢some : {A : Type 0} (x : A) → None ≡ Some x → ⊥

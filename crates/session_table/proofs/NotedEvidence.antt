@@ -45,7 +45,6 @@ word_place layout Wire place = layout.parts + place
 word_place layout Part place = place
 
 module _ (layout : Layout) (block : List ℕ) (laid : IsLaidOut layout block) where
-
   -- the written word says what is known of the wire, or of the part
   module _ (known : Option Bool) where
     word-says : (what : Noted) (place : ℕ) → place < count_of layout.parts layout.wires what

@@ -18,7 +18,7 @@ first_header-requires c = omega (arith, length-all_lines c.args.text.now, ap (λ
 abbrev lines : After-nodes_in → List (ℕ × List (List ℕ))
 lines c = filled_from (c.in-Some.above + 1) (all_lines c.first_header.new.lines)
 
--- the text is what is below its header
+-- the text is parsed from the line below its header
 below : (c : After-nodes_in) → parsed c.args.text.now ≡ parsed_below (lines c) (Some (said_by c.in-Some.header))
 below c = ap (λ t. parsed_lines (filled_from 1 (all_lines t))) (sym c.new-lines.ensures) ∙ c.in-Some.ensures.header
 

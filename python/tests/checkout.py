@@ -28,7 +28,6 @@ case $1 in
     exit ${RT_FAILS-0}
     ;;
   run)
-    : >out/diag.o
     printf '%s' "$RT_PROGRAM" >out/diag
     chmod 755 out/diag
     ;;
@@ -56,9 +55,9 @@ def make_checkout(folder, program=None):
         out = top / "crates/diag/out"
         out.mkdir()
         wait_past(out, out)
-        (out / "diag.o").touch()
-        wait_past(out, out / "diag.o")
         put_program(top, program)
+        wait_past(out, out / "diag")
+        (out / "stdout").touch()
     return top
 
 

@@ -102,7 +102,12 @@ class IsCurrent(InCheckout):
         self.assertRegex(record, r"\Asources [0-9a-f]{64}\nprogram [0-9a-f]{64}\nknown by times\nfile [0-9]+:[0-9]+ of [0-9.]+\n\Z")
 
     def test_program_from_elsewhere(self):
-        (self.top / "crates/diag/out/diag.o").unlink()
+        (self.top / "crates/diag/out/stdout").unlink()
+        self.assertEqual(self.is_current(), (False, ""))
+
+    def test_program_copied_after_the_gate(self):
+        self.wait_past("stdout")
+        put_program(self.top, FAKE_PROGRAM)
         self.assertEqual(self.is_current(), (False, ""))
 
     def test_source_after_the_gate(self):
@@ -184,14 +189,14 @@ class IsCurrent(InCheckout):
             (self.top / "crates/low/src/lib.rt").touch()
             runs = [subprocess.Popen([self.top / "diag", "--path"], stdout=subprocess.DEVNULL) for _ in range(8)]
             self.assertEqual([run.wait() for run in runs], [0] * len(runs))
-        self.assertEqual(sorted(os.listdir(out)), ["diag", "diag.o", "diag.sources"])
+        self.assertEqual(sorted(os.listdir(out)), ["diag", "diag.sources", "stdout"])
 
     def test_signs_in_the_path(self):
         """Those that a pattern is made of stand for themselves: what is beside the program is no source."""
         copy = self.elsewhere / "[a] *"
         shutil.copytree(self.top, copy)
         out = copy / "crates/diag/out"
-        wait_past(out, out / "diag.o")
+        wait_past(out, out / "stdout")
         put_program(copy, FAKE_PROGRAM)
         wait_past(out, out / "diag")
         (out / "stdout").touch()
@@ -340,9 +345,9 @@ class Builds(InCheckout):
         self.assertIn("is built from these sources already\n", self.build()[2])
         # A program of the gate is built again.
         self.wait_past("diag.sources")
-        (folder / "out/diag.o").touch()
-        self.wait_past("diag.o")
         put_program(self.top, "#!/bin/sh\n")
+        self.wait_past("diag")
+        (folder / "out/stdout").touch()
         self.assertTrue(self.is_current()[0])
         self.assertIn("all is proved; compiling the program\n", self.build()[2])
 

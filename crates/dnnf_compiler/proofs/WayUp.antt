@@ -1,5 +1,5 @@
 -- The way up along a forest: the last step first.
-use Rattle.std.proofs.Common.{Bool, ◌≡◌, ℕ, zero, suc, ◌+◌, ◌*◌, ◌≤◌, true, List, [], ◌∷◌, ◌++◌, map, length, drop, replicate, Some, refl, ap, sym, ◌∙◌, subst, arith, add-one, inl, length-append}
+use Rattle.std.proofs.Common.{Bool, ◌≡◌, ℕ, zero, suc, ◌+◌, ◌*◌, ◌≤◌, true, List, [], ◌∷◌, ◌++◌, map, length, drop, replicate, Some, refl, ap, sym, ◌∙◌, subst, arith, inl, length-append}
 use Rattle.std.specs.Prelude.{slice_get, reverse, Vec}
 use Rattle.std.specs.declared.alloc.Global.{Global}
 use Rattle.std.specs.List.{flat_map, AllByRecursion}

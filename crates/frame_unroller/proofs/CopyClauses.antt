@@ -9,7 +9,8 @@ use Rattle.std.proofs.lemmas.List.Folds.{list_all-map}
 use Rattle.text_rules.specs.Names.{Name}
 use Rattle.state_rules.specs.Bits.{bit_in, lists_of_bits}
 use Rattle.state_rules.specs.Assignments.{Assignment, assignment}
-use Rattle.state_rules.proofs.Members.{any_same, In, In-at}
+use Rattle.state_rules.proofs.Lists.{list_all-at}
+use Rattle.state_rules.proofs.Members.{any_same, In}
 use Rattle.device_model.specs.declared.component.Component.{Component}
 use Rattle.device_model.specs.TruthTable.{TruthTable}
 use Rattle.device_model.specs.Gates.{rule}
@@ -90,7 +91,7 @@ module _ (seq : Sequential) (frames : ℕ) (valid : IsDevice seq.device) (state 
 -- ---- the variables
 
 place-below : (n : ℕ) (places : List ℕ) → list_all (λ place. nat_lt place n) places ≡ true → (k d : ℕ) → k < length places → get_or places k d < n
-place-below n places below k d lt = ltb-true (get_or places k d) n (list_all-among (λ place. nat_lt place n) places below (get_or places k d) (In-at places k d lt))
+place-below n places below k d lt = ltb-true (get_or places k d) n (list_all-at (λ place. nat_lt place n) places k d below lt)
 
 module _ (n vars : ℕ) (state bits inner : List Bool) (places : List ℕ) (long : length state ≡ n) (owned : list_all (λ place. nat_lt place n) places ≡ true) (room : length places ≤ vars) where
   -- each variable has the bit of the one that replaces it

@@ -16,7 +16,7 @@ use std::alloc::Global;
 /// Compiles clauses to a decomposable graph that is true exactly if all of them are, from the steps of a forest of them and the forks
 /// along it.
 ///
-/// The lists along the forest are at most `BUDGET_LIMIT`. They bound how many nodes are made, and so the size of the graph.
+/// The lists along the forest are at most `BUDGET_LIMIT`. They bound how often a node is made, and so the size of the graph.
 pub fn compile_along(
     alloc: Global,
     cnf: &Cnf,

@@ -11,7 +11,7 @@ use clause_encoder::Cnf;
 use node_store::Graph;
 use std::alloc::Global;
 
-/// The graph of clauses, and the number of nodes that were made for it.
+/// The graph of clauses, and how often a node was made for it, also if an equal one was there.
 #[derive(Debug, Drop)]
 pub struct Compiled {
     pub graph: Graph,
@@ -27,7 +27,7 @@ pub fn most_nodes(sum: u32, vars: u32) -> u64
 
 /// Compiles clauses to a decomposable graph that is true exactly if all of them are.
 ///
-/// The sum of the clause list is at most `BUDGET_LIMIT`. It bounds how many nodes are made, and so the size of the graph.
+/// The sum of the clause list is at most `BUDGET_LIMIT`. It bounds how often a node is made, and so the size of the graph.
 pub fn compile(alloc: Global, cnf: &Cnf) -> Result<Compiled, Memory>
     requires { sum_of cnf.now.clauses ≤ BUDGET_LIMIT }
     ensures { IfOk result (IsCompiled cnf.now) }

@@ -1,6 +1,6 @@
 -- What the lines of types and blocks do, by the tests of the code.
-use Rattle.std.proofs.Common.{◌≡◌, true, false, List, [], ◌∷◌, length, codes, Ok, Err, refl, ap, ◌∙◌, arith}
-use Rattle.std.specs.List.{list_any}
+use Rattle.std.proofs.Common.{◌≡◌, true, List, [], ◌∷◌, length, codes, Ok, Err, refl, ap, ◌∙◌, arith}
+use Rattle.std.proofs.lemmas.List.Folds.{list_any_none}
 use Rattle.text_rules.specs.Names.{Name, same_name, is_among}
 use Rattle.text_rules.proofs.NameLemmas.{equal_if_same}
 use Rattle.component_lang.specs.declared.fault.LangFault.{LangFault}
@@ -11,13 +11,9 @@ use Rattle.component_lang.specs.inner.Words.{new_ports, with_names}
 
 -- ---- ports
 
-any_among_none : (names : List Name) → list_any (is_among []) names ≡ false
-any_among_none [] = refl
-any_among_none (n ∷ names) = any_among_none names
-
 -- ports that are refused on their own are refused
 pub ports-refused : (reader : Reader) (name : Name) (ports : List Name) (what : LangFault) → is_plain_name name ≡ true → with_names [] ports ≡ Err what → new_ports reader name ports ≡ Err what
-ports-refused reader name ports what plain h = grind (arith, any_among_none)
+ports-refused reader name ports what plain h = grind (arith, list_any_none (is_among []) ports (λ _ _ _. refl))
 
 -- the ports are those of the line
 pub new_ports-same : (reader : Reader) (name : Name) (ports got : List Name) → new_ports reader name ports ≡ Ok got → ports ≡ got

@@ -8,12 +8,12 @@ import re
 import sys
 from collections.abc import Sequence
 
-from . import interrupts
-from .devices import MADE, MADE_BY, NAMES, is_made_here
-from .errors import DiagError, sentence
-from .files import drop_unwritten, open_streams, write_whole
-from .netlist_circuit import Circuit, Node, UnusableNetlist, kind_of
-from .netlist_readers import READERS, TABLES, TO_PLAIN_CELLS
+from .. import interrupts
+from ..devices import MADE, MADE_BY, NAMES, is_made_here
+from ..errors import DiagError, sentence
+from ..files import drop_unwritten, open_streams, write_whole
+from .circuit import Circuit, Node, UnusableNetlist, kind_of
+from .readers import READERS, TABLES, TO_PLAIN_CELLS
 
 # A name that is longer is replaced.
 LONGEST_NAME = 32

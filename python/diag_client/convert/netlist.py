@@ -193,7 +193,3 @@ def main(words: Sequence[str] | None = None) -> int:
     finally:
         drop_unwritten()
     return 0
-
-
-if __name__ == "__main__":
-    sys.exit(main())

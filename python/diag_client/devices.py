@@ -168,10 +168,15 @@ def _flatten(device: Device, blocks: dict[str, _Block], block: _Block, path: str
             device.parts.append(Part(path + name, kind, tuple(wires)))
 
 
+def title_of(path: pathlib.Path) -> str:
+    """The first line of a file."""
+    with path.open(encoding="utf-8", errors="surrogateescape") as file:
+        return file.readline().rstrip("\n")
+
+
 def is_made_here(path: pathlib.Path) -> bool:
     """Whether a file was made by `diag-netlist`, by its first line."""
-    with path.open(encoding="utf-8", errors="surrogateescape") as file:
-        line = file.readline().rstrip("\n")
+    line = title_of(path)
     return line == NAMES or (line.startswith(MADE) and line.endswith(MADE_BY))
 
 

@@ -4,6 +4,7 @@ import contextlib
 import errno
 import graphlib
 import io
+import json
 import os
 import pathlib
 import random
@@ -11,6 +12,7 @@ import shutil
 import subprocess
 import sys
 import tempfile
+import time
 import unittest
 from unittest import mock
 
@@ -100,7 +102,7 @@ class OfTools(Converts):
         for file in files:
             path, table = self.convert(file.read_text(), file.name, None if file.suffix != ".bench" else "abc.dev")
             simulated = Simulated(path)
-            self.assertIn("# left out: output never, which is always 0\n", table)
+            self.assertIn("# left out: output never, which is always 0: no reading of it can be entered\n", table)
             for digit in range(16):
                 bits = simulated.bits({f"digit[{place}]": digit >> place & 1 for place in range(4)})
                 lit = sum(bits[f"segments[{place}]"] << place for place in range(7))
@@ -320,6 +322,93 @@ class OneWire(Converts):
         self.assertEqual(other_names(path), {})
 
 
+class Odd(Converts):
+    """What no tool writes so is refused, and the text names where it is."""
+
+    def test_cells_of_blif(self):
+        head = ".model m\n.inputs a b c\n.outputs y\n"
+        for lines, why in (
+            (".gate $_NAND_ A=a Y=y", r"the cell in line 4 ($_NAND_): pin B is missing"),
+            (".gate $_NOT_ A=a B=b Y=y", r"the cell in line 4 ($_NOT_): there is no pin B"),
+            (".gate $_AND_ A=a A=b B=c Y=y", r"the cell in line 4 ($_AND_): pin A is there 2 times"),
+            (".gate $_AND_ A=a B=b", r"the cell in line 4 ($_AND_): pin Y is missing"),
+            (".subckt $_MUX_ A=a B=b T=c Y=y", r"the cell in line 4 ($_MUX_): pin S is missing, there is no pin T"),
+            ("# a remark\n.gate $_DFF_P_ C=c D=a", r"the cell in line 5 ($_DFF_P_): pin Q is missing"),
+            (".gate $_AND_ A=a B Y=y", r"the cell in line 4 ($_AND_): B is no pin with its net"),
+            (".gate $_AND_ A=a B= Y=y", r"the cell in line 4 ($_AND_): B= is no pin with its net"),
+            (".gate", "line 4: .gate is not known here"),
+            (".latch a y re", "line 4: .latch y has other words"), (".latch a y re c 2 2", "line 4: .latch y has other words"),
+            (".names", "line 4: .names without names"), (".names a b y", "line 4: the rows of .names y are no table"),
+            (".names a y\n1 0 1", "line 4: the rows of .names y are no table"),
+            (".gate $_NOT_ A=a Y=y\n.end\n.gate $_NOT_ A=a Y=z", "line 6: .gate after .end"),
+            (".gate $dlatch D=a EN=b Q=y", "latch y ($dlatch)\n  latches cannot be taken"),
+        ):
+            self.assertIn(why, self.refused(f"{head}{lines}\n.end\n"), lines)
+        why = self.refused(f"{head}.gate NAND2 A=a Y=z\n.gate $_DLATCH_P_ E=a D=b Q=y\n.end\n")
+        self.assertNotIn("dfflegalize", why)
+        self.assertIn("line 1: .inputs before .model", self.refused(".inputs a\n.model m\n.end\n"))
+        self.assertIn(".model without a name", self.refused(".model\n.end\n"))
+
+    def module(self, cell, ports=None, nets=None):
+        """A JSON of one cell g over the wires a (2), b (3) and y (4), as text."""
+        directions = {"a": "input", "b": "input", "y": "output"}
+        own = {name: {"direction": directions[name], "bits": [bit]} for bit, name in enumerate(directions, 2)}
+        return json.dumps({"modules": {"m": {"ports": own | (ports or {}), "cells": {"g": cell}, "netnames": nets or {}}}})
+
+    def test_json(self):
+        def cell(kind="$_AND_", **pins):
+            return {"type": kind, "connections": pins}
+
+        whole = cell(A=[2], B=[3], Y=[4])
+        lut = {**cell("$lut", A=[2, 3], Y=[4]), "parameters": {"LUT": "01", "WIDTH": "10"}}
+        for text, why in (
+            (self.module(cell("$_NOT_", A=[2])), "cell g ($_NOT_): pin Y is missing"),
+            (self.module(cell("$_NOT_", A=[2], B=[3], Y=[4])), "cell g ($_NOT_): there is no pin B"),
+            (self.module(cell(A=[2], B=[], Y=[4])), "cell g ($_AND_): pin B is missing"),
+            (self.module(cell(A=[2], B=[3, 2], Y=[4])), "cell g ($_AND_): pin B has 2 wires"),
+            (self.module(cell(A=[2], B=True, Y=[4])), "cell g has no B as yosys writes it"),
+            (self.module(cell(A=[2], B=[True], Y=[4])), "cell g: True in B is no wire"),
+            (self.module(cell(A=[2], B=["q"], Y=[4])), "cell g: q in B is no wire"),
+            (self.module({"type": "$_AND_"}), "cell g has no connections"),
+            (self.module({**whole, "parameters": {"LUT": "1"}}), "cell g ($_AND_): it has parameters"),
+            (self.module(lut), "cell g ($lut): the table, its inputs (A) and its output (Y) do not fit"),
+            (self.module(whole, {"b": {"direction": "input", "bits": [2]}}), "input b is one wire with a"),
+            (self.module(whole, {"a": {"direction": "input", "bits": ["0"]}}), "input a is one wire with $0"),
+            (self.module(whole, {"b": {"direction": "inout", "bits": [3]}}), "port b is neither an input nor an output"),
+            (self.module(whole, nets={"y": {"bits": [3]}}), "port y has other wires as a net"),
+            (self.module(whole).replace('"B": [3]', '"B": [3], "B": [2]'), "B is there twice"),
+            (self.module(whole).replace('"netnames"', '"names"'), "the module has no netnames"),
+            ("[" * 200000, "this is no JSON that yosys wrote"), ("{}", "this JSON has no modules"),
+        ):
+            self.assertIn(why, self.refused(text, "x.json"), text[:300])
+
+    def test_two_wires_of_one_name(self):
+        """A net may be called as a place of another one is: they stay two wires."""
+        cell = {"type": "$_AND_", "connections": {"A": [2], "B": [7], "Y": [4]}}
+        text = self.module(cell, {"w[1]": {"direction": "input", "bits": [7]}}, {"w": {"bits": [3, 2]}})
+        path, _ = self.convert(text, "x.json")
+        self.assertIn("y = AND(a, w[1])\n", path.read_text())
+
+    def test_tables_of_json(self):
+        """The text of a table begins with its highest row, the first input being the lowest bit: here y is b and not a."""
+        cell = {"type": "$lut", "parameters": {"LUT": "0100", "WIDTH": "0010"}, "connections": {"A": [2, 3], "Y": [4]}}
+        path, _ = self.convert(self.module(cell), "x.json")
+        simulated = Simulated(path)
+        bits = [simulated.bits({"a": a, "b": b})["y"] for b, a in ((0, 0), (0, 1), (1, 0), (1, 1))]
+        self.assertEqual(bits, [0, 0, 1, 0])
+
+    def test_bench(self):
+        head = "INPUT(a)\nINPUT(b)\nOUTPUT(y)\n"
+        for line, why in (
+            ("y = NOT(a, b)", "line 4: gate y (NOT) has 2 inputs"), ("y = AND()", "line 4: gate y (AND) has 0 inputs"),
+            ("y = AND(a, , b)", "line 4: one name is wanted between two commas"), ("y = AND(a b)", "line 4: one name is wanted between"),
+            ("y = LUT(a)", "line 4: gate y (LUT) is not known here"), ("y = LUT 0x1f (a, b)", "line 4: gate y: the table does not fit"),
+            ("y = DFF(a, b)", "line 4: gate y (DFF) has 2 inputs"), ("y = DFFRSE(a)", "line 4: gate y (DFFRSE) is not known here"),
+            (f"y = AND({', '.join(['a'] * 65)})", "line 4: gate y (AND) has 65 inputs"),
+        ):
+            self.assertIn(why, self.refused(f"{head}{line}\n", "x.bench"), line)
+
+
 class ByHand(Converts):
     """Names, constants and what is refused."""
 
@@ -342,7 +431,8 @@ class ByHand(Converts):
         )
         path, table = self.convert(text)
         self.assertEqual(path.read_text().split("\n")[4:], ["OUTPUT(y)", "n = NOT(a)", "m = BUFF(n)", "x = NOT(m)", "y = OR(x, b)", ""])
-        self.assertIn("# left out: gate z, which always puts out 0\n# left out: output z, which is always 0\n", table)
+        lines = "# left out: gate z, which always puts out 0\n# left out: output z, which is always 0: no reading of it can be entered\n"
+        self.assertIn(lines, table)
 
     def test_wide_tables(self):
         names = " ".join(f"i{number}" for number in range(20))
@@ -376,7 +466,7 @@ class ByHand(Converts):
         ):
             self.assertIn(why, self.refused(f"{head}{lines}\n.end\n"), lines)
         self.assertIn("2 models", self.refused(".model a\n.end\n.model b\n.end\n"))
-        self.assertIn("no JSON", self.refused("[]", "x.json"))
+        self.assertIn("no modules", self.refused("[]", "x.json"))
         self.assertIn("of Verilog yosys makes BLIF", self.refused("module x;", "x.v"))
         self.assertIn("not known here", self.refused("INPUT(a)\ny = TOASTER(a)\n", "x.bench"))
         self.assertIn("line 2", self.refused("INPUT(a)\nwhat\n", "x.bench"))
@@ -385,7 +475,7 @@ class ByHand(Converts):
     def test_end(self):
         """A file that was cut off may say something else."""
         text = ".model m\n.inputs a b\n.outputs y\n.names a b y\n11 1\n"
-        self.assertEqual(self.convert(text)[1].split("\n")[1:], ["# left out: the line .end: is the file whole?", ""])
+        self.assertIn("the file is not whole", self.refused(text))
         self.assertEqual(self.convert(f"{text}.end\n")[1], "")
 
     def test_abc_words(self):
@@ -443,6 +533,37 @@ class ByHand(Converts):
                 self.assertEqual(netlist.main([str(path)]), 1)
             self.assertIn(name, said.getvalue())
             self.assertNotIn("Errno", said.getvalue())
+
+    def test_loop(self):
+        """Two gates that read each other are taken, and said."""
+        gates = ".gate $_AND_ A=a B=y[0] Y=z\n.gate $_NOT_ A=z Y=y[0]\n"
+        (self.folder / "given.blif").write_text(f".model m\n.inputs a\n.outputs y[0]\n{gates}.end\n")
+        said = netlist.convert(self.folder / "given.blif")
+        self.assertRegex(said[1], r"^a loop of 2 gates: (y\[0\] z|z y\[0\]); its wires may have any bits that fit all of them$")
+
+    def test_made_of_another_file(self):
+        text = ".model m\n.inputs a\n.outputs y\n.gate $_NOT_ A=a Y=y\n.end\n"
+        for name in ("v4.blif", "v4.other.blif"):
+            (self.folder / name).write_text(text)
+        made = self.folder / "v4.bench"
+        for name, told in (("v4.blif", []), ("v4.blif", []), ("v4.other.blif", [f"{made} is no longer the one that was made of v4.blif"])):
+            self.assertEqual(netlist.convert(self.folder / name, made)[1:], told)
+
+    def test_large(self):
+        """Each takes seconds if the time grows with the square: many inputs, connections in a chain, and constants from gate to gate."""
+        count = 30000
+        inputs = f".inputs {' '.join(f'i{place}' for place in range(count))}\n.gate $_AND_ A=i0 B=i1 Y=y\n"
+        chain = "".join(f".names w{place} w{place + 1}\n1 1\n" for place in range(count))
+        reads = "".join(f".gate $_AND_ A=a B=w{place} Y=g{place}\n" for place in range(0, count, 100)) + f".gate $_NOT_ A=w{count} Y=y\n"
+        ties = "".join(f".gate $_AND_ A=w{place} B=a Y=w{place + 1}\n" for place in reversed(range(count)))
+        for text in (inputs, f".inputs a w0\n{chain}{reads}", f".inputs a\n.names w0\n{ties}.gate $_XOR_ A=w{count} B=a Y=y\n"):
+            began = time.process_time()
+            self.convert(f".model m\n.outputs y\n{text}.end\n", out="given.bench")
+            self.assertLess(time.process_time() - began, 6)
+        gates = "".join(f".gate $_NOT_ A=a Y=g{place}\n" for place in range(4097))
+        (self.folder / "given.blif").write_text(f".model m\n.inputs a\n.outputs g0\n{gates}.end\n")
+        said = netlist.convert(self.folder / "given.blif")
+        self.assertIn("too large: diag serves at most 4096 parts and 16384 wires, and these are 4097 and 4098", said)
 
     def test_connections_in_a_ring(self):
         circuit = read_blif(".model m\n.inputs a\n.outputs y\n.names y z\n1 1\n.names z y\n1 1\n.end\n")

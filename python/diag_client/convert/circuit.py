@@ -6,7 +6,9 @@ input being the lowest. So ABC writes its tables, too.
 
 from __future__ import annotations
 
+import collections
 import dataclasses
+import graphlib
 from collections.abc import Iterable
 
 from ..devices import GATES, Reduction
@@ -14,6 +16,8 @@ from ..errors import DiagError
 
 # A table has at most so many inputs. A larger gate is known by its kind alone.
 MOST_TABLE_INPUTS = 10
+# What helps against a latch. What yosys would be asked for the other faults it refuses then.
+NO_LATCHES = "latches cannot be taken, nor replaced by yosys: the design itself has to do without"
 # So many faults of one file are reported.
 MOST_FAULTS = 5
 # Constants: 0, 1, and a value that nothing defines.
@@ -114,6 +118,8 @@ class Circuit:
         while name in self.joined and name not in seen:
             seen.add(name)
             name = self.joined[name]
+        # The next search takes one step.
+        self.joined.update(dict.fromkeys(seen, name))
         return name
 
     def fault(self, text: str, advice: str = "") -> None:
@@ -127,7 +133,8 @@ class Circuit:
         """Raises `UnusableNetlist` if something was in the way."""
         if self.faults:
             more = len(self.faults) - MOST_FAULTS
-            told = self.faults[:MOST_FAULTS] + [f"and {more} more"] * (more > 0) + self.advice
+            advice = [NO_LATCHES] if NO_LATCHES in self.advice else self.advice
+            told = self.faults[:MOST_FAULTS] + [f"and {more} more"] * (more > 0) + advice
             raise UnusableNetlist("\n  ".join(["this cannot be taken:", *told]))
 
     def settle(self) -> None:
@@ -171,26 +178,38 @@ class Circuit:
 
     def _fold(self) -> None:
         """Gates that read a constant become gates of the other inputs, or constants themselves."""
-        count = -1
-        while count != len(self.nodes):
-            count = len(self.nodes)
-            kept = []
-            for node in self.nodes:
-                value = self._without_constants(node)
-                if value is None:
-                    kept.append(node)
-                else:
-                    self.left_out.append(f"gate {node.output}, which always puts out {value}")
-                    self.constants[node.output] = value
-            self.nodes = kept
+        readers: dict[str, list[Node]] = {}
+        for node in self.nodes:
+            for name in set(node.inputs):
+                readers.setdefault(name, []).append(node)
+        waiting = collections.deque(self.nodes)
+        while waiting:
+            node = waiting.popleft()
+            value = None if node.output in self.constants else self._without_constants(node)
+            if value is not None:
+                self.left_out.append(f"gate {node.output}, which always puts out {value}")
+                self.constants[node.output] = value
+                waiting.extend(readers.get(node.output, []))
+        self.nodes = [node for node in self.nodes if node.output not in self.constants]
         for output, reads in self.flip_flops.items():
             if reads in self.constants:
                 self.fault(f"flip-flop {output} reads a constant", "in yosys: `opt` takes such flip-flops away")
-        for output in list(self.outputs):
+        for output in dict.fromkeys(self.outputs):
             if self.find(output) in self.constants:
-                self.outputs.remove(output)
                 value = self.constants[self.find(output)]
-                self.left_out.append(f"output {output}, which is {'not defined' if value is None else f'always {value}'}")
+                said = "not defined" if value is None else f"always {value}"
+                self.left_out.append(f"output {output}, which is {said}: no reading of it can be entered")
+        self.outputs = [output for output in self.outputs if self.find(output) not in self.constants]
+
+    def loop(self) -> list[str]:
+        """The gates of a loop, each of which reads the one before it; none if there is no loop."""
+        reads = {node.output: node.inputs for node in self.nodes}
+        try:
+            graphlib.TopologicalSorter(reads).prepare()
+        except graphlib.CycleError as error:
+            # It says the one where it began twice.
+            return list(error.args[1][1:])
+        return []
 
     def _without_constants(self, node: Node) -> int | None:
         """Takes constants and inputs that do not matter out of a gate. Gives its value if that is all that is left."""
@@ -199,15 +218,16 @@ class Circuit:
             return None
         if node.kind is not None:
             return self._kind_without_constants(node)
-        place = 0
-        while place < len(node.inputs):
-            count, constant = len(node.inputs), self.constants.get(node.inputs[place])
-            halves = [restricted(node.table, count, place, bit) for bit in (0, 1)]
-            if constant is None and halves[0] != halves[1]:
-                place += 1
-                continue
-            node.table = halves[constant or 0]
-            del node.inputs[place]
+        for place in reversed(range(len(node.inputs))):
+            constant = self.constants.get(node.inputs[place])
+            if constant is not None:
+                node.table = restricted(node.table, len(node.inputs), place, constant)
+                del node.inputs[place]
+        for place in reversed(range(len(node.inputs))):
+            halves = [restricted(node.table, len(node.inputs), place, bit) for bit in (0, 1)]
+            if halves[0] == halves[1]:
+                node.table = halves[0]
+                del node.inputs[place]
         return node.table if not node.inputs else None
 
     def _kind_without_constants(self, node: Node) -> int | None:

@@ -9,7 +9,7 @@ import sys
 from collections.abc import Sequence
 
 from .. import interrupts
-from ..devices import MADE, MADE_BY, NAMES, is_made_here
+from ..devices import MADE, MADE_BY, NAMES, is_made_here, title_of
 from ..errors import DiagError, sentence
 from ..files import drop_unwritten, open_streams, write_whole
 from .circuit import Circuit, Node, UnusableNetlist, kind_of
@@ -19,6 +19,10 @@ from .readers import READERS, TABLES, TO_PLAIN_CELLS
 LONGEST_NAME = 32
 # A type has at most so many ports. The output is one of them.
 MOST_PORTS = 6
+# What `diag` takes of a device.
+MOST_PARTS, MOST_WIRES = 4096, 16384
+# So many gates of a loop are shown.
+SHOWN = 8
 # So many wires are on a line of a design.
 WIRES_ON_A_LINE = 12
 TYPE_NAMES = {(len(letters), table): name for name, (letters, table) in TABLES.items()}
@@ -31,11 +35,7 @@ def read_circuit(path: pathlib.Path) -> Circuit:
     if path.suffix not in READERS:
         hint = FROM_VERILOG if path.suffix in (".v", ".sv") else ""
         raise UnusableNetlist(f"the name of the file ends in {', '.join(READERS)}{hint}")
-    text = path.read_text(encoding="utf-8", errors="surrogateescape")
-    try:
-        circuit = READERS[path.suffix](text)
-    except (KeyError, ValueError, TypeError, AttributeError) as error:
-        raise UnusableNetlist(f"this is not written as a tool writes it ({error!r})") from error
+    circuit = READERS[path.suffix](path.read_text(encoding="utf-8", errors="surrogateescape"))
     circuit.settle()
     return circuit
 
@@ -47,12 +47,12 @@ def new_names(circuit: Circuit, is_design: bool) -> dict[str, str]:
         named.setdefault(circuit.find(name), []).append(name)
     legal = re.compile(r"[!-~]+")
     barred = set("(),=#$" + ("." if is_design else ""))
-    outputs, taken, found = set(circuit.outputs), set(circuit.driven), {}
+    inputs, outputs, taken, found = set(circuit.inputs), set(circuit.outputs), set(circuit.driven), {}
     numbers = (f"n{number:04}" for number in range(1, len(taken) * 2 + 2))
     free = (name for name in numbers if name not in taken)
     for wire in [*circuit.inputs, *circuit.flip_flops, *(node.output for node in circuit.nodes)]:
         fit = [name for name in named[wire] if len(name) <= LONGEST_NAME and legal.fullmatch(name) and not barred & set(name)]
-        best = min(fit, key=lambda name: (name != wire or wire not in circuit.inputs, name not in outputs, len(name)), default="")
+        best = min(fit, key=lambda name: (name != wire or wire not in inputs, name not in outputs, len(name)), default="")
         found[wire] = best or next(free)
     return found
 
@@ -133,6 +133,18 @@ def one_wire(circuit: Circuit, names: dict[str, str]) -> list[str]:
     return [f"one wire: {' '.join(found)}; its name is {name}" for name, found in pins.items() if len(found) > 1]
 
 
+def remarks(circuit: Circuit, names: dict[str, str]) -> list[str]:
+    """What is taken as it is, and may not be meant: a loop of gates, and more than `diag` serves."""
+    said = []
+    if loop := circuit.loop():
+        shown = " ".join(names[name] for name in loop[:SHOWN])
+        said.append(f"a loop of {len(loop)} gates: {shown}{' ..' * (len(loop) > SHOWN)}; its wires may have any bits that fit all of them")
+    parts = len(circuit.nodes) + len(circuit.flip_flops)
+    if parts > MOST_PARTS or len(names) > MOST_WIRES:
+        said.append(f"too large: diag serves at most {MOST_PARTS} parts and {MOST_WIRES} wires, and these are {parts} and {len(names)}")
+    return said
+
+
 def convert(path: pathlib.Path, out: pathlib.Path | None = None) -> list[str]:
     """Converts a file, and says what was written. Without `out` the new file has the old name with another ending. No file is replaced
     that was not made so, except `out`.
@@ -155,6 +167,7 @@ def convert(path: pathlib.Path, out: pathlib.Path | None = None) -> list[str]:
             raise UnusableNetlist(f"{file} is there, and diag-netlist has not made it: give another name by -o, {advice}")
     names = new_names(circuit, is_design)
     title = f"{MADE}{' '.join(path.name.split())}{MADE_BY}"
+    before = title_of(out) if out.is_file() and is_made_here(out) else title
     made = design_text(circuit, special, names, title) if is_design else bench_text(circuit, names, title)
     write_whole(out, made.encode("utf-8", "surrogateescape"))
     # The table of another netlist would be worse than none, if there is no room for the new one.
@@ -164,7 +177,9 @@ def convert(path: pathlib.Path, out: pathlib.Path | None = None) -> list[str]:
     if text.count("\n") > 1:
         write_whole(table, text.encode("utf-8", "surrogateescape"))
         said.append(f"{table}: {sum(line[:1] != '#' for line in text.splitlines())} names that were replaced")
-    return said + one_wire(circuit, names) + [f"left out: {text}" for text in circuit.left_out]
+    if before != title:
+        said.append(f"{out} is no longer the one that was made of {before.removeprefix(MADE).removesuffix(MADE_BY)}")
+    return said + one_wire(circuit, names) + remarks(circuit, names) + [f"left out: {text}" for text in circuit.left_out]
 
 
 def main(words: Sequence[str] | None = None) -> int:

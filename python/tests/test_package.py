@@ -96,6 +96,8 @@ class Wheel(unittest.TestCase):
         self.assertIn("3 flip-flops", self.run_tool("diag-netlist", "gray.blif"))
         self.assertTrue(self.run_tool("diag-shell", "-h").startswith("usage: diag-shell [-h] "))
         self.assertTrue(self.run_tool("diag-picture", "gray.bench", "--frames", "2").startswith("digraph"))
+        code = "from diag_client.convert.chips import find_chip; print(find_chip('74LS00').title)"
+        self.assertEqual(self.run_tool("python", "-c", code), "Four NAND gates of two inputs\n")
 
     def repair(self):
         """What the page shows is answered so, typed into Python and into the terminal, and a repair is gone through to its end."""

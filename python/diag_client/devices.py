@@ -62,6 +62,8 @@ FLIP_FLOP = "DFF"
 # How the files that `diag-netlist` makes begin and end in their first lines, and the first line of the table of names beside one.
 MADE, MADE_BY = "# Made of ", " by diag-netlist."
 NAMES = "# The name here, and the name in the file that it was made of."
+# The first line of the table of pins beside a device that was made of a board.
+PINS = "# The wire here, a pin where a probe reaches it, the name of the pin on its chip, and what it is."
 
 
 @dataclasses.dataclass(frozen=True)
@@ -177,23 +179,27 @@ def title_of(path: pathlib.Path) -> str:
 def is_made_here(path: pathlib.Path) -> bool:
     """Whether a file was made by `diag-netlist`, by its first line."""
     line = title_of(path)
-    return line == NAMES or (line.startswith(MADE) and line.endswith(MADE_BY))
+    return line in (NAMES, PINS) or (line.startswith(MADE) and line.endswith(MADE_BY))
+
+
+def table_rows(path: pathlib.Path, table: pathlib.Path) -> list[str]:
+    """The rows of a table beside a device, if `diag-netlist` wrote both."""
+    try:
+        is_ours = is_made_here(table) and is_made_here(path)
+        return table.read_text(encoding="utf-8", errors="surrogateescape").split("\n") if is_ours else []
+    except OSError:
+        return []
 
 
 def other_names(path: str | os.PathLike[str], frames: int | None = None) -> dict[str, str]:
-    """Other names of wires and of their gates, by the table that `diag-netlist` wrote beside a device, and the names that these have in
-    the device; over several times each at each time too. What the device itself calls so goes first.
+    """Other names of wires and of their gates, by the tables that `diag-netlist` wrote beside a device: those in the file that it was made
+    of, and the pins of chips, such as `U3.6`; and the names that these have in the device; over several times each at each time too. What
+    the device itself calls so goes first.
     """
     path = pathlib.Path(path)
-    table = path.with_name(f"{path.name}.names")
-    try:
-        if not (is_made_here(table) and is_made_here(path)):
-            return {}
-        rows = [row.partition("\t") for row in table.read_text(encoding="utf-8", errors="surrogateescape").split("\n")]
-        wires = set(read_device(path).wires)
-    except OSError:
-        return {}
-    pairs = [(other, name) for name, _, other in rows if name in wires and other not in wires]
+    rows = [row.split("\t") for ending in ("pins", "names") for row in table_rows(path, path.with_name(f"{path.name}.{ending}"))]
+    wires = set(read_device(path).wires) if rows else set()
+    pairs = [(row[1], row[0]) for row in rows if len(row) > 1 and row[0] in wires and row[1] not in wires]
     times = range(1, (frames or 0) + 1)
     return dict(pairs) | {f"{other}@{time:04}": f"{name}@{time:04}" for other, name in pairs for time in times}
 

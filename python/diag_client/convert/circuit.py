@@ -201,6 +201,11 @@ class Circuit:
                 self.left_out.append(f"output {output}, which is {said}: no reading of it can be entered")
         self.outputs = [output for output in self.outputs if self.find(output) not in self.constants]
 
+    @property
+    def wires(self) -> set[str]:
+        """The wires that it has in the end."""
+        return {*self.inputs, *self.flip_flops, *(node.output for node in self.nodes)}
+
     def loop(self) -> list[str]:
         """The gates of a loop, each of which reads the one before it; none if there is no loop."""
         reads = {node.output: node.inputs for node in self.nodes}

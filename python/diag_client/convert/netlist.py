@@ -3,16 +3,21 @@
 from __future__ import annotations
 
 import argparse
+import dataclasses
 import pathlib
 import re
 import sys
 from collections.abc import Sequence
 
 from .. import interrupts
-from ..devices import MADE, MADE_BY, NAMES, is_made_here, title_of
+from ..devices import MADE, MADE_BY, NAMES, PINS, is_made_here, title_of
 from ..errors import DiagError, sentence
 from ..files import drop_unwritten, open_streams, write_whole
+from .board import Board, read_board
+from .board_design import Design
+from .board_netlist import Gates
 from .circuit import Circuit, Node, UnusableNetlist, kind_of
+from .kicad import read_kicad
 from .readers import READERS, TABLES, TO_PLAIN_CELLS
 
 # A name that is longer is replaced.
@@ -27,17 +32,85 @@ SHOWN = 8
 WIRES_ON_A_LINE = 12
 TYPE_NAMES = {(len(letters), table): name for name, (letters, table) in TABLES.items()}
 TOP = "TOP"
+# Netlists of boards.
+BOARDS = (".net", ".xml")
+NO_DESIGN = "a design (.dev) has no flip-flops: let OUT end in .bench"
 FROM_VERILOG = "; of Verilog yosys makes BLIF: `read_verilog x.v; synth -flatten; write_blif -icells -gates x.blif`"
 
 
-def read_circuit(path: pathlib.Path) -> Circuit:
-    """The circuit in a file, by the ending of its name. Raises `UnusableNetlist` for what cannot be taken."""
-    if path.suffix not in READERS:
-        hint = FROM_VERILOG if path.suffix in (".v", ".sv") else ""
-        raise UnusableNetlist(f"the name of the file ends in {', '.join(READERS)}{hint}")
-    circuit = READERS[path.suffix](path.read_text(encoding="utf-8", errors="surrogateescape"))
+@dataclasses.dataclass
+class Made:
+    """What is made of a file: its text after the first line, what is in it in words, and what is said of it.
+
+    `renamed` has new names with those of the file, and `pins` a line for each pin that can be reached.
+    """
+
+    ending: str
+    text: str
+    summary: str
+    renamed: list[tuple[str, str]]
+    left_out: list[str]
+    remarks: list[str]
+    pins: list[str] = dataclasses.field(default_factory=list)
+
+
+def text_of(path: pathlib.Path) -> str:
+    """The text of a file."""
+    return path.read_text(encoding="utf-8", errors="surrogateescape")
+
+
+def made_of_circuit(path: pathlib.Path, ending: str | None) -> Made:
+    """What is made of a netlist of yosys or ABC, to end so if it is said."""
+    circuit = READERS[path.suffix](text_of(path))
     circuit.settle()
-    return circuit
+    special = check_types(circuit, ending == ".bench")
+    is_design = bool(special) or ending == ".dev"
+    if is_design and circuit.flip_flops:
+        raise UnusableNetlist(NO_DESIGN)
+    names = new_names(circuit, is_design)
+    text = design_text(circuit, special, names) if is_design else bench_text(circuit, names)
+    return made(circuit, names, ".dev" if is_design else ".bench", text)
+
+
+def made(circuit: Circuit, names: dict[str, str], ending: str, text: str) -> Made:
+    """What is made of a circuit with these names."""
+    summary = f"{len(circuit.nodes)} gates, {len(circuit.flip_flops)} flip-flops, {len(circuit.inputs)} inputs"
+    remarks_of_it = one_wire(circuit, names) + remarks(circuit, names)
+    return Made(ending, text, summary, renamed(circuit, names), circuit.left_out, remarks_of_it)
+
+
+def made_of_board(path: pathlib.Path, ending: str | None, is_of_gates: bool, is_strict: bool) -> Made:
+    """What is made of a netlist of KiCad: a design of its chips or of their gates, or a netlist if gates with flip-flops are asked for."""
+    board = read_board(read_kicad(text_of(path), path.suffix == ".xml"))
+    if is_strict and board.unknown:
+        raise UnusableNetlist("\n  ".join(["this is not understood:", *board.unknown]))
+    if not any(placed.functions for placed in board.chips):
+        raise UnusableNetlist("no chip of the library drives anything on this board; chips/README.md beside the converter lists what it has")
+    said = [f"not understood: {text}; what it drives may have any level" for text in board.unknown] + board.remarks
+    if is_of_gates and (board.has_flip_flops or ending == ".bench"):
+        if ending == ".dev":
+            raise UnusableNetlist(NO_DESIGN)
+        gates = Gates(board)
+        names = {name: name for name in gates.circuit.driven}
+        found = made(gates.circuit, names, ".bench", bench_text(gates.circuit, names))
+        found.remarks += said
+        found.pins = pins_of(board, {key: wire for key, wire in gates.nets.items() if wire in gates.circuit.wires})
+        return found
+    if ending == ".bench":
+        raise UnusableNetlist("chips are parts of a design: let OUT end in .dev, or give --gates")
+    design = Design(board, is_of_gates)
+    renamed_nets = [(name, other) for net in board.used_nets for name in [design.name(net)] for other in net.names if other != name]
+    said += [f"renamed: {other} is {name}" for name, other in renamed_nets]
+    if board.has_flip_flops:
+        said.append("what flip-flops store may be either bit at each time; --gates writes a .bench, which has them over clock periods")
+    inputs = sum(net.is_input for net in board.used_nets)
+    summary = f"{design.count} {'gates' if is_of_gates else 'chips'}, {inputs} inputs"
+    return Made(".dev", design.text(), summary, renamed_nets, [], said, pins_of(board, design.names))
+
+
+def pins_of(board: Board, wires: dict[int, str]) -> list[str]:
+    """A line for each pin that a probe reaches: its wire here, the pin, its name on the chip, and what it is."""
+    return ["\t".join([wires[id(net)], *words]) for net, *words in board.pins if id(net) in wires]
 
 
 def new_names(circuit: Circuit, is_design: bool) -> dict[str, str]:
@@ -78,10 +151,9 @@ def check_types(circuit: Circuit, is_bench_wanted: bool) -> list[Node]:
     return special
 
 
-def bench_text(circuit: Circuit, names: dict[str, str], title: str) -> str:
+def bench_text(circuit: Circuit, names: dict[str, str]) -> str:
     """The circuit as a netlist."""
-    lines = [title]
-    lines += [f"INPUT({names[name]})" for name in circuit.inputs]
+    lines = [f"INPUT({names[name]})" for name in circuit.inputs]
     lines += [f"OUTPUT({name})" for name in dict.fromkeys(names[circuit.find(name)] for name in circuit.outputs)]
     lines += [f"{names[output]} = DFF({names[reads]})" for output, reads in circuit.flip_flops.items()]
     lines += [f"{names[node.output]} = {kind_of(node)}({', '.join(names[name] for name in node.inputs)})" for node in circuit.nodes]
@@ -99,9 +171,9 @@ def type_lines(node: Node) -> list[str]:
     return [f"type {type_of(node)} {ports}", *sorted(rows), "end", ""]
 
 
-def design_text(circuit: Circuit, special: Sequence[Node], names: dict[str, str], title: str) -> str:
+def design_text(circuit: Circuit, special: Sequence[Node], names: dict[str, str]) -> str:
     """The circuit as a design of one block, whose ports are the inputs and outputs."""
-    lines = [title]
+    lines = []
     for node in {type_of(node): node for node in special}.values():
         lines += type_lines(node)
     ports = list(dict.fromkeys([names[name] for name in circuit.inputs] + [names[circuit.find(name)] for name in circuit.outputs]))
@@ -114,15 +186,10 @@ def design_text(circuit: Circuit, special: Sequence[Node], names: dict[str, str]
     return "\n".join([*lines, "end", "", f"top {TOP}"]) + "\n"
 
 
-def table_text(circuit: Circuit, names: dict[str, str]) -> str:
-    """What names were replaced, and what was left out."""
-    lines = [NAMES]
-    for name in dict.fromkeys([*circuit.driven, *circuit.joined]):
-        wire = circuit.find(name)
-        if wire in names and names[wire] != name:
-            lines.append(f"{names[wire]}\t{name}")
-    lines += [f"# left out: {text}" for text in circuit.left_out]
-    return "\n".join(lines) + "\n"
+def renamed(circuit: Circuit, names: dict[str, str]) -> list[tuple[str, str]]:
+    """The new name and the old one where they differ."""
+    pairs = [(names.get(circuit.find(name), name), name) for name in dict.fromkeys([*circuit.driven, *circuit.joined])]
+    return [(new, old) for new, old in pairs if new != old]
 
 
 def one_wire(circuit: Circuit, names: dict[str, str]) -> list[str]:
@@ -145,48 +212,60 @@ def remarks(circuit: Circuit, names: dict[str, str]) -> list[str]:
     return said
 
 
-def convert(path: pathlib.Path, out: pathlib.Path | None = None) -> list[str]:
+def convert(path: pathlib.Path, out: pathlib.Path | None = None, is_of_gates: bool = False, is_strict: bool = False) -> list[str]:
     """Converts a file, and says what was written. Without `out` the new file has the old name with another ending. No file is replaced
-    that was not made so, except `out`.
+    that was not made so, except `out`. Of a board the parts are its chips, or their gates; if it is strict, all of it has to be understood.
     """
     if out is not None and out.suffix not in (".bench", ".dev"):
         raise UnusableNetlist(f"the name of {out} does not end in .bench or .dev")
-    circuit = read_circuit(path)
-    special = check_types(circuit, out is not None and out.suffix == ".bench")
-    is_design = bool(special) or (out is not None and out.suffix == ".dev")
-    if is_design and circuit.flip_flops:
-        raise UnusableNetlist("a design (.dev) has no flip-flops: let OUT end in .bench")
+    ending = out.suffix if out else None
+    if path.suffix in BOARDS:
+        found = made_of_board(path, ending, is_of_gates, is_strict)
+    elif path.suffix not in READERS:
+        hint = FROM_VERILOG if path.suffix in (".v", ".sv") else ""
+        raise UnusableNetlist(f"the name of the file ends in {', '.join([*READERS, *BOARDS])}{hint}")
+    elif is_of_gates or is_strict:
+        raise UnusableNetlist("--gates and --strict are for the netlist of a board")
+    else:
+        found = made_of_circuit(path, ending)
+    return write(path, out, found)
+
+
+def write(path: pathlib.Path, out: pathlib.Path | None, found: Made) -> list[str]:
+    """Writes what was made of a file, with its tables beside it, and says so."""
     is_named = out is not None
-    out = out or path.with_suffix(".dev" if is_design else ".bench")
+    out = out or path.with_suffix(found.ending)
     if out.exists() and out.samefile(path):
         is_named, out = False, path.with_name(f"{path.stem}-diag{out.suffix}")
-    table = out.with_name(out.name + ".names")
-    # `-o` names the file and not its table, so it lets the file alone be replaced.
-    for file, may_replace, advice in ((out, is_named, "or this one to replace it"), (table, False, "or move that file")):
+    rows = [f"{new}\t{old}" for new, old in found.renamed] + [f"# left out: {text}" for text in found.left_out]
+    tables = [(out.with_name(out.name + ".names"), NAMES, rows, f"{len(found.renamed)} names that were replaced")]
+    tables += [(out.with_name(out.name + ".pins"), PINS, found.pins, f"{len(found.pins)} pins and test points")]
+    # `-o` names the file and not its tables, so it lets the file alone be replaced.
+    for file, may_replace, advice in ((out, is_named, "or this one to replace it"), *((table[0], False, "or move that file") for table in tables)):
         if not may_replace and file.exists() and not is_made_here(file):
             raise UnusableNetlist(f"{file} is there, and diag-netlist has not made it: give another name by -o, {advice}")
-    names = new_names(circuit, is_design)
     title = f"{MADE}{' '.join(path.name.split())}{MADE_BY}"
     before = title_of(out) if out.is_file() and is_made_here(out) else title
-    made = design_text(circuit, special, names, title) if is_design else bench_text(circuit, names, title)
-    write_whole(out, made.encode("utf-8", "surrogateescape"))
-    # The table of another netlist would be worse than none, if there is no room for the new one.
-    table.unlink(missing_ok=True)
-    said = [f"{out}: {len(circuit.nodes)} gates, {len(circuit.flip_flops)} flip-flops, {len(circuit.inputs)} inputs"]
-    text = table_text(circuit, names)
-    if text.count("\n") > 1:
-        write_whole(table, text.encode("utf-8", "surrogateescape"))
-        said.append(f"{table}: {sum(line[:1] != '#' for line in text.splitlines())} names that were replaced")
+    write_whole(out, f"{title}\n{found.text}".encode("utf-8", "surrogateescape"))
+    said = [f"{out}: {found.summary}"]
+    for table, head, lines, summary in tables:
+        # The table of another netlist would be worse than none, if there is no room for the new one.
+        table.unlink(missing_ok=True)
+        if lines:
+            write_whole(table, "\n".join([head, *lines, ""]).encode("utf-8", "surrogateescape"))
+            said.append(f"{table}: {summary}")
     if before != title:
         said.append(f"{out} is no longer the one that was made of {before.removeprefix(MADE).removesuffix(MADE_BY)}")
-    return said + one_wire(circuit, names) + remarks(circuit, names) + [f"left out: {text}" for text in circuit.left_out]
+    return said + found.remarks + [f"left out: {text}" for text in found.left_out]
 
 
 def main(words: Sequence[str] | None = None) -> int:
     """Does what the words say, and gives the exit status."""
     parser = argparse.ArgumentParser(prog="diag-netlist", description=__doc__.split(": ")[1].strip() if __doc__ else None)
-    parser.add_argument("file", metavar="FILE", type=pathlib.Path, help="BLIF or JSON (.blif, .json) of yosys, or a .bench of ABC")
+    parser.add_argument("file", metavar="FILE", type=pathlib.Path, help="BLIF or JSON (.blif, .json) of yosys, a .bench of ABC, or a board of KiCad (.net, .xml)")
     parser.add_argument("-o", "--output", metavar="OUT", type=pathlib.Path, help="a .bench or .dev; else FILE with that ending")
+    parser.add_argument("--gates", action="store_true", help="of a board, the parts are the gates and not the chips")
+    parser.add_argument("--strict", action="store_true", help="refuse a board with something that is not understood")
     open_streams()
     try:
         try:
@@ -195,7 +274,7 @@ def main(words: Sequence[str] | None = None) -> int:
             # It may be the help.
             sys.stdout.flush()
         interrupts.raise_again()
-        print("\n".join(convert(given.file, given.output)), flush=True)
+        print("\n".join(convert(given.file, given.output, given.gates, given.strict)), flush=True)
     except KeyboardInterrupt:
         print("diag-netlist: interrupted", file=sys.stderr)
         return interrupts.STATUS

@@ -1,5 +1,6 @@
-"""The chips in diag_client/convert/chips: what they do by the rules in chip_rules.py, and their pins by the symbols of KiCad."""
+"""The chips in diag_client/convert/chips: what they do by the rules in chip_rules.py and chip_rules_stored.py, and their pins by KiCad."""
 
+import collections
 import functools
 import itertools
 import operator
@@ -8,6 +9,7 @@ import re
 import unittest
 
 import chip_rules
+import chip_rules_stored
 import kicad_symbols
 from support import TOP
 
@@ -19,7 +21,7 @@ from diag_client.devices import GATES, Reduction
 MOST_INPUTS_FOR_ALL = 14
 ROWS = 10_000
 # Of what stores bits, so many runs of so many steps.
-RUNS, STEPS = 100, 100
+RUNS, STEPS = 120, 100
 SEED = 78
 WANTED_7400 = (
     "00 02 04 08 10 11 14 20 21 27 30 32 86 125 138 139 147 148 151 153 155 157 158 180 181 182 240 244 245 251 253 257 266 280 283 "
@@ -131,11 +133,28 @@ def unpacked(found, names, copies):
     return [dict(zip(names, row)) for row in zip(*columns)]
 
 
-def next_levels(levels, clocks, random_bits):
-    """A step: clocks alone change, or some of the other pins."""
-    is_clock = random_bits.random() < 0.5
-    chosen = [name for name in levels if (name in clocks) == is_clock and random_bits.random() < (0.7 if is_clock else 0.25)]
-    return levels | {name: 1 - levels[name] for name in chosen}
+class Run:
+    """Levels of the pins of a chip, step by step. Some pins change seldom, so that a counter gets far before it is cleared."""
+
+    def __init__(self, chip, random_bits):
+        names = read_pins(chip)
+        self.clocks = [name for name in names if name.lstrip("12") in chip_rules_stored.CLOCKS]
+        self.changes = {name: random_bits.choice((0.01, 0.05, 0.25)) for name in names if name not in self.clocks}
+        self.levels = self.before = {name: random_bits.getrandbits(1) for name in names}
+        stored = [function.output for function in chip.functions if function.kind in chips.STORAGE and function.output in driven_pins(chip)]
+        ones = random_bits.choice((0.5, 0.9))
+        found = {name for name in stored if random_bits.random() < ones}
+        if set(chip.numbers) & chip_rules_stored.FROM_ONE:
+            found = {random_bits.choice(stored)}
+        self.stored = collections.defaultdict(int, {name: int(name in found) for name in stored})
+
+    def go_on(self, random_bits):
+        """Changes one clock, or some of the other pins."""
+        chosen = [name for name, rate in self.changes.items() if random_bits.random() < rate]
+        if self.clocks and random_bits.random() < 0.6:
+            chosen = [random_bits.choice(self.clocks)]
+        self.before = self.levels
+        self.levels = self.levels | {name: 1 - self.levels[name] for name in chosen}
 
 
 def inputs_of(chip, output):
@@ -174,12 +193,12 @@ class Functions(unittest.TestCase):
     def test_each_chip_has_one_rule(self):
         for chip in different_chips():
             with self.subTest(chip.title, numbers=chip.numbers):
-                self.assertEqual(len(rules_of(chip, chip_rules.PLAIN)) + len(rules_of(chip, chip_rules.STORING)), 1)
+                self.assertEqual(len(rules_of(chip, chip_rules.PLAIN)) + len(rules_of(chip, chip_rules_stored.STORING)), 1)
                 is_storing = any(function.kind in chips.STORAGE for function in chip.functions)
-                self.assertEqual(is_storing, bool(rules_of(chip, chip_rules.STORING)))
+                self.assertEqual(is_storing, bool(rules_of(chip, chip_rules_stored.STORING)))
 
     def test_each_rule_is_of_a_chip(self):
-        words = [word for rules in (chip_rules.PLAIN, chip_rules.STORING) for text in rules for word in text.split()]
+        words = [word for rules in (chip_rules.PLAIN, chip_rules_stored.STORING) for text in rules for word in text.split()]
         self.assertEqual(sorted(set(words)), sorted(words))
         self.assertEqual(set(words) - set(all_chips()), set())
 
@@ -194,22 +213,20 @@ class Functions(unittest.TestCase):
 
     def test_chips_with_memory(self):
         for chip in different_chips():
-            for rule in rules_of(chip, chip_rules.STORING):
+            for rule in rules_of(chip, chip_rules_stored.STORING):
                 with self.subTest(chip.title, numbers=chip.numbers):
                     self.check_runs(chip, rule)
 
     def check_runs(self, chip, rule):
         random_bits = random.Random(SEED)
-        names = read_pins(chip)
-        clocks = [name for name in names if name.endswith("CLK")]
-        rows = [{name: random_bits.getrandbits(1) for name in names} for _ in range(RUNS)]
-        before, stored = rows, [dict.fromkeys(["1", "2", "3", "4", "5", "6", "7", "8", *range(8)], 0) for _ in rows]
+        runs = [Run(chip, random_bits) for _ in range(RUNS)]
         simulated = Simulated(chip.functions, RUNS)
+        simulated.stored |= packed([run.stored for run in runs]) if runs[0].stored else {}
         for _ in range(STEPS):
-            found = simulated.step(packed(rows))
-            for copy, shown in enumerate(unpacked(found, driven_pins(chip), RUNS)):
-                self.assertEqual(shown, rule(rows[copy], before[copy], stored[copy]), (before[copy], rows[copy]))
-            before, rows = rows, [next_levels(row, clocks, random_bits) for row in rows]
+            found = simulated.step(packed([run.levels for run in runs]))
+            for run, shown in zip(runs, unpacked(found, driven_pins(chip), RUNS)):
+                self.assertEqual(shown, rule(run.levels, run.before, run.stored), (run.before, run.levels))
+                run.go_on(random_bits)
 
     def test_small_gates_do_the_same(self):
         for chip in different_chips():
@@ -238,6 +255,8 @@ class Pins(unittest.TestCase):
     }
     # What the symbols say otherwise, and data sheets say as the chips here. A 7448 has resistors to its supply inside.
     OTHERWISE = {
+        "4008": {(Direction.POWER, "output")},
+        "4078": {(Direction.IN, "output"), (Direction.IN, "power_in"), (Direction.OUT, None)},
         "7409": {(Direction.OPEN, "output")},
         "7422": {(Direction.OPEN, "output")},
         "7446": {(Direction.BUS, "input")},
@@ -247,6 +266,7 @@ class Pins(unittest.TestCase):
         "74181": {(Direction.OPEN, "output")},
         "74242": {(Direction.BUS, "input")},
         "74243": {(Direction.BUS, "input")},
+        "74266": {(Direction.OPEN, "output")},
     }
     # Groups whose pins the symbols name by other words or in another order. An input and its output have the same one.
     NAMED_OTHERWISE = {
@@ -263,31 +283,39 @@ class Pins(unittest.TestCase):
         "74258": {"#A", "#B", "#Y"},
     }
 
+    @classmethod
+    def setUpClass(cls):
+        """The symbols that are chips here; the second libraries count for what the first ones have not."""
+        first = kicad_symbols.symbols(kicad_symbols.FIRST)
+        numbers = {number_in(name) for name in first}
+        second = kicad_symbols.symbols(kicad_symbols.SECOND)
+        found = first | {name: pins for name, pins in second.items() if number_in(name) not in numbers}
+        cls.symbols = {name: pins for name, pins in found.items() if find_chip(name)}
+
     def each_symbol(self, check):
-        """Checks each symbol that is a chip here: the chip, its number, and the symbol's pins."""
-        for symbol, pins in kicad_symbols.symbols().items():
-            if chip := find_chip(symbol):
-                with self.subTest(symbol, title=chip.title):
-                    check(chip, number_in(symbol), pins)
+        """Checks each symbol: its chip, its number, and the symbol's pins."""
+        for symbol, pins in self.symbols.items():
+            chip = find_chip(symbol)
+            with self.subTest(symbol, title=chip.title):
+                check(chip, number_in(symbol), pins)
 
     def test_numbers_and_directions(self):
-        compared = set()
-
         def check(chip, number, pins):
-            compared.add(number)
             self.assertEqual(pins.keys() - chip.pins.keys(), set())
             kinds = [(pin, pins[pin.number].kind if pin.number in pins else None) for pin in chip.pins.values()]
             wrong = [(pin, kind) for pin, kind in kinds if kind not in self.KINDS[pin.direction]]
             self.assertEqual([(pin, kind) for pin, kind in wrong if (pin.direction, kind) not in self.OTHERWISE.get(number, ())], [])
 
         self.each_symbol(check)
-        self.assertGreater(len(compared), 100)
+
+    def test_which_chips_have_no_symbol(self):
+        self.assertEqual(all_chips().keys() - {number_in(symbol) for symbol in self.symbols}, {"74180"})
 
     def test_an_output_is_decided_by_the_inputs_of_its_unit(self):
         self.each_symbol(self.check_units)
 
     def check_units(self, chip, _, pins):
-        outputs = {pin.number: pin.name for pin in chip.pins.values() if pin.direction.is_driven}
+        outputs = {pin.number: pin.name for pin in chip.pins.values() if pin.direction.is_driven and pin.number in pins}
         decided = {pins[number].unit: set() for number in outputs}
         for number, name in outputs.items():
             decided[pins[number].unit] |= inputs_of(chip, name)
@@ -301,7 +329,7 @@ class Pins(unittest.TestCase):
     def test_pins_that_are_counted_are_in_the_same_order(self):
         def check(chip, number, pins):
             for group, counted in groups_of(chip):
-                names = [pins[pin.number].name for pin in counted]
+                names = [pins[pin.number].name for pin in counted if pin.number in pins]
                 if len(set(names)) == len(names) and group not in self.NAMED_OTHERWISE.get(number, ()):
                     self.assertEqual(names, sorted(names, key=by_number), group)
 

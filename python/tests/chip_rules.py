@@ -84,9 +84,20 @@ GATES = {
     "7421 4082": each("12", "A B C D", is_and),
     "4002": each("12", "A B C D", is_nor),
     "4072": each("12", "A B C D", is_or),
+    "7425": each("12", "G A B C D", lambda strobe, *read: not (strobe and sum(read))),
     "7430": alone("A B C D E F G H", is_nand),
     "74133": alone("A B C D E F G H I J K L M", is_nand),
 }
+
+
+def and_nor_51(levels):
+    first = number(levels, "1A 1B 1C") == 7 or number(levels, "1D 1E 1F") == 7
+    second = number(levels, "2A 2B") == 3 or number(levels, "2C 2D") == 3
+    return {"1Y": int(not first), "2Y": int(not second)}
+
+
+def and_nor_55(levels):
+    return {"Y": int(number(levels, "A B C D") != 15 and number(levels, "E F G H") != 15)}
 
 
 def gate_4068(levels):
@@ -201,7 +212,14 @@ def four_of_two(enable, off, is_inverted=False):
     return rule
 
 
+def selector_4512(levels):
+    if levels["OE_n"]:
+        return {"Y": None}
+    return {"Y": 0 if levels["INH"] else levels[f"D{number(levels, 'C B A')}"]}
+
+
 SELECTORS = {
+    "4512": selector_4512,
     "74151": of_eight(False),
     "74251": of_eight(True),
     "74153": two_of_four(0),
@@ -279,16 +297,17 @@ def encoder_148(off):
     return rule
 
 
-# The segments that a 7447 lights for 0 to 15.
+# The segments that a 7447 lights for 0 to 15, and those that a 74247 does.
 SHAPES = "abcdef bc abged abgcd fgbc afgcd fgedc abc abcdefg abcfg ged gcd fgb afgd fged".split() + [""]
+WITH_TAILS = [*SHAPES[:6], "afgedc", *SHAPES[7:9], "abcdfg", *SHAPES[10:]]
 
 
-def seven_segments(lit, suffix):
+def seven_segments(lit, suffix, shapes=SHAPES):
     def rule(levels):
         digit = number(levels, "D C B A")
         pulls = levels["RBI_n"] == 0 and digit == 0 and levels["LT_n"] == 1
         is_dark = pulls or levels["BI_RBO_n"] == 0
-        shape = "" if is_dark else "abcdefg" if levels["LT_n"] == 0 else SHAPES[digit]
+        shape = "" if is_dark else "abcdefg" if levels["LT_n"] == 0 else shapes[digit]
         return {name + suffix: lit if name in shape else 1 - lit for name in "abcdefg"} | {"BI_RBO_n": int(not pulls)}
 
     return rule
@@ -308,6 +327,8 @@ CODES = {
     "74348": encoder_148(None),
     "7446": seven_segments(0, "_n"),
     "7448": seven_segments(1, ""),
+    "74247": seven_segments(0, "_n", WITH_TAILS),
+    "74248": seven_segments(1, "", WITH_TAILS),
 }
 
 # Arithmetic
@@ -404,4 +425,5 @@ ARITHMETIC = {
     "74688": equal_bytes,
 }
 
-PLAIN = {"4068": gate_4068, "4078": gate_4078, **GATES, **DRIVERS, **SELECTORS, **CODES, **ARITHMETIC}
+WIDE = {"7451": and_nor_51, "7455": and_nor_55, "4068": gate_4068, "4078": gate_4078}
+PLAIN = {**GATES, **WIDE, **DRIVERS, **SELECTORS, **CODES, **ARITHMETIC}

@@ -5,13 +5,13 @@ the outputs, as in chip_rules.py. A step is a change of one clock or of other pi
 the names of their outputs, where they have one, and are 0 at first otherwise.
 """
 
-from chip_rules import SHAPES, bits, number
+from chip_rules import SHAPES, bits, number, one_of
 
 HEX, QUAD, EIGHT = "123456", "1234", "12345678"
 # The pins that are clocks or stop clocks, without the number of their unit.
-CLOCKS = {"CLK", "CKA", "CKB", "SRCLK", "RCLK", "INH", "EN"}
+CLOCKS = {"CLK", "CKA", "CKB", "SRCLK", "RCLK", "INH", "EN", "UP", "DN"}
 # Chips that begin with a single 1, since their rules say nothing of what they never count.
-FROM_ONE = {"7490", "7492", "74390", "4518"}
+FROM_ONE = {"7490", "74290", "7492", "74390", "4518"}
 
 
 
@@ -99,6 +99,66 @@ def latches(gates, is_both=False, let_go=None):
         return found
 
     return rule
+
+
+def polar(levels, before, stored):
+    """The latches of a 4042."""
+    found = {}
+    for unit in QUAD:
+        if levels["CLK"] == levels["POL"]:
+            stored[unit + "Q"] = levels[unit + "D"]
+        found |= {unit + "Q": stored[unit + "Q"], unit + "Q_n": 1 - stored[unit + "Q"]}
+    return found
+
+
+def set_and_reset(sets, resets, active, stronger, let_go=None):
+    """Latches of set and reset. Each has one set or two, and `stronger` is what it stores if both act."""
+
+    def rule(levels, before, stored):
+        found = {}
+        for unit in QUAD:
+            is_set = any(levels[unit + name] == active for name in sets if unit + name in levels)
+            is_reset = levels[unit + resets] == active
+            if is_set or is_reset:
+                stored[unit] = stronger if is_set and is_reset else int(is_set)
+            found[unit + "Q"] = None if let_go is not None and levels[let_go] == 0 else stored[unit]
+        return found
+
+    return rule
+
+
+def rule_279(levels, before, stored):
+    """It has no other way to let a pin go, so that its bits have the names of its outputs."""
+    bits_of = {unit: stored[unit + "Q"] for unit in QUAD}
+    found = set_and_reset(("S_n", "S1_n", "S2_n"), "R_n", 0, 1)(levels, before, bits_of)
+    stored.update(found)
+    return found
+
+
+def stored_decoder(names, gate, level, is_on, count, suffix):
+    """A decoder that takes the bits of its choice while its gate has a level."""
+
+    def rule(levels, before, stored):
+        if levels[gate] == level:
+            stored["place"] = number(levels, names)
+        return one_of(count, stored["place"] if is_on(levels) else None, suffix)
+
+    return rule
+
+
+def on_137(levels):
+    return levels["G1"] == 1 and levels["G2_n"] == 0
+
+
+def on_4514(levels):
+    return levels["INH"] == 0
+
+
+def chosen_298(levels, before, stored):
+    if has_edge(before, levels, "CLK", "fall"):
+        for name in "ABCD":
+            stored[f"Q{name}"] = levels[f"{name}{levels['SELECT'] + 1}"]
+    return {f"Q{name}": stored[f"Q{name}"] for name in "ABCD"}
 
 
 def addressed(levels, before, stored):
@@ -217,6 +277,19 @@ def counter_191(levels, before, stored):
     return kept(stored, names) | {"MAX_MIN": int(is_last), "RCO_n": int(not is_rippling)}
 
 
+def counter_193(levels, before, stored):
+    names = "QD QC QB QA"
+    step = has_edge(before, levels, "UP", "rise") * levels["DN"] - has_edge(before, levels, "DN", "rise") * levels["UP"]
+    stored.update(bits((number(stored, names) + step) % 16, names))
+    if levels["CLR"]:
+        stored.update(bits(0, names))
+    elif levels["LOAD_n"] == 0:
+        stored.update(bits(number(levels, "D C B A"), names))
+    value = number(stored, names)
+    is_carry, is_borrow = value == 15 and levels["UP"] == 0, value == 0 and levels["DN"] == 0
+    return kept(stored, names) | {"CO_n": int(not is_carry), "BO_n": int(not is_borrow)}
+
+
 def counter_4017(levels, before, stored):
     # The clock is what is left of CLK while INH is 0.
     if levels["CLK"] > levels["INH"] and not before["CLK"] > before["INH"]:
@@ -273,6 +346,17 @@ def shift_194(levels, before, stored):
     return kept(stored, " ".join(names))
 
 
+def shift_195(levels, before, stored):
+    names = ["QA", "QB", "QC", "QD"]
+    row = [stored[name] for name in names]
+    if has_edge(before, levels, "CLK", "rise"):
+        # J and K_n: 0 if both are 0, 1 if both are 1, and otherwise the bit stays or changes.
+        first = {0: 0, 1: row[0], 2: 1 - row[0], 3: 1}[number(levels, "J K_n")]
+        row = [first, *row[:-1]] if levels["SH_LD_n"] else [levels[letter] for letter in "ABCD"]
+    stored.update(zip(names, row if levels["CLR_n"] else [0] * 4))
+    return kept(stored, " ".join(names)) | {"QD_n": 1 - stored["QD"]}
+
+
 def shift_595(levels, before, stored):
     row = [stored[f"shift {place}"] for place in range(7)] + [stored["QH_S"]]
     if has_edge(before, levels, "RCLK", "rise"):
@@ -308,8 +392,8 @@ STORING = {
     "74113": jk_pair("fall", "{}PRE_n"),
     "74114": jk_pair("fall", "{}PRE_n", "CLR_n", clock="CLK"),
     "74173": register_173,
-    "74174": register(HEX, clear="CLR_n"),
-    "74175": register(QUAD, clear="CLR_n", is_both=True),
+    "74174 40174": register(HEX, clear="CLR_n"),
+    "74175 40175": register(QUAD, clear="CLR_n", is_both=True),
     "74259": addressed,
     "74273": register(EIGHT, clear="CLR_n"),
     "74373 74573": latches(dict.fromkeys(EIGHT, "LE"), let_go="OE_n"),
@@ -317,9 +401,9 @@ STORING = {
     "74377": register(EIGHT, enable="E_n"),
     "74378": register(HEX, enable="E_n"),
     "74379": register(QUAD, enable="E_n", is_both=True),
-    "7490": counter_90,
+    "7490 74290": counter_90,
     "7492": counter_92,
-    "7493": counter_93,
+    "7493 74293": counter_93,
     "74160": counter_161(10, False),
     "74161": counter_161(16, False),
     "74162": counter_161(10, True),
@@ -337,4 +421,15 @@ STORING = {
     "4511": digit_4511,
     "4518": counter_4518(10),
     "4520": counter_4518(16),
+    "74137": stored_decoder("C B A", "GL_n", 0, on_137, 8, "_n"),
+    "74193": counter_193,
+    "74195": shift_195,
+    "74237": stored_decoder("C B A", "GL_n", 0, on_137, 8, ""),
+    "74279": rule_279,
+    "74298": chosen_298,
+    "4042": polar,
+    "4043": set_and_reset(("S",), "R", 1, 1, let_go="OE"),
+    "4044": set_and_reset(("S_n",), "R_n", 0, 0, let_go="OE"),
+    "4514": stored_decoder("D C B A", "LE", 1, on_4514, 16, ""),
+    "4515": stored_decoder("D C B A", "LE", 1, on_4514, 16, "_n"),
 }

@@ -249,14 +249,17 @@ class Pins(unittest.TestCase):
         Direction.OUT: {"output"},
         Direction.TRISTATE: {"tri_state"},
         Direction.OPEN: {"open_collector"},
-        Direction.BUS: {"bidirectional", "tri_state"},
+        Direction.BUS: {"bidirectional", "open_collector", "tri_state"},
         Direction.POWER: {"power_in"},
         Direction.UNUSED: {"no_connect", None},
     }
     # What the symbols say otherwise, and data sheets say as the chips here. A 7448 has resistors to its supply inside.
     OTHERWISE = {
         "4008": {(Direction.POWER, "output")},
+        "4043": {(Direction.TRISTATE, "output"), (Direction.POWER, "input")},
+        "4044": {(Direction.TRISTATE, "output")},
         "4078": {(Direction.IN, "output"), (Direction.IN, "power_in"), (Direction.OUT, None)},
+        "4512": {(Direction.TRISTATE, "output")},
         "7409": {(Direction.OPEN, "output")},
         "7422": {(Direction.OPEN, "output")},
         "7446": {(Direction.BUS, "input")},
@@ -266,7 +269,12 @@ class Pins(unittest.TestCase):
         "74181": {(Direction.OPEN, "output")},
         "74242": {(Direction.BUS, "input")},
         "74243": {(Direction.BUS, "input")},
+        "74246": {(Direction.BUS, "output")},
+        "74247": {(Direction.BUS, "output")},
+        "74248": {(Direction.OUT, "open_collector")},
         "74266": {(Direction.OPEN, "output")},
+        "74293": {(Direction.UNUSED, "input")},
+        "74298": {(Direction.OUT, "tri_state")},
     }
     # Groups whose pins the symbols name by other words or in another order. An input and its output have the same one.
     NAMED_OTHERWISE = {
@@ -276,6 +284,7 @@ class Pins(unittest.TestCase):
         "74156": {"2@_n"},
         "74158": {"#A", "#B", "#Y"},
         "74181": {"@_n"},
+        "74195": {"@"},
         "74240": {"2A#", "2Y#"},
         "74244": {"2A#", "2Y#"},
         "74251": {"@"},
@@ -309,7 +318,7 @@ class Pins(unittest.TestCase):
         self.each_symbol(check)
 
     def test_which_chips_have_no_symbol(self):
-        self.assertEqual(all_chips().keys() - {number_in(symbol) for symbol in self.symbols}, {"74180"})
+        self.assertEqual(all_chips().keys() - {number_in(symbol) for symbol in self.symbols}, {"74180", "74279"})
 
     def test_an_output_is_decided_by_the_inputs_of_its_unit(self):
         self.each_symbol(self.check_units)
@@ -322,9 +331,10 @@ class Pins(unittest.TestCase):
         for unit, numbers in decided.items():
             drawn = {number for number, pin in pins.items() if pin.unit == unit and chip.pins[number].direction.is_read}
             self.assertLessEqual(drawn, numbers, unit)
-            # A pin that several units share is drawn in one of them.
+            # A pin that several units share is drawn in one of them, or in a unit of its own.
             shared = set().union(*(others for other, others in decided.items() if other != unit))
-            self.assertLessEqual(numbers - drawn, shared, unit)
+            common = {number for number, pin in pins.items() if pin.unit not in decided}
+            self.assertLessEqual(numbers - drawn, shared | common, unit)
 
     def test_pins_that_are_counted_are_in_the_same_order(self):
         def check(chip, number, pins):

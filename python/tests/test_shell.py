@@ -98,8 +98,7 @@ class Lines(unittest.TestCase):
     def test_hints(self):
         for line, hint in (
             ("see 1:0", "write 1=0"), ("see 22=H", "write 22=1"), ("see 22=Low", "write 22=0"), ("SEE 1=0", "do you mean see?"),
-            ("hold 10=OK", "write 10=ok"), ("see 1 = 0", "without blanks"), ("see 1= 0 2=1", "nothing of this line was taken"),
-            ("see 1=0,2=0", "blanks between names"), ("probe 1,2", "no commas"), ("level", "--levels C"), ("leastnnf", "--least"),
+            ("hold 10=OK", "write 10=ok"), ("probe 1,2", "no commas"), ("level", "--levels C"), ("leastnnf", "--least"),
             ("exitt", "do you mean exit?"), ("best 10,16", "no commas"), ("see Net-(U1)=1", "none of ( )"), ("probe café", "ASCII"),
             ("see 1=\x1b[2J", "1=\ufffd[2J; write 1=\ufffd[2j"), (f"min {'1' * 2000}", f"{'1' * 60}...; it is min"), (f"{'x' * 1048577}", "at most 1048576 bytes"),
         ):
@@ -126,8 +125,9 @@ class Lines(unittest.TestCase):
             # Lines without the name of a session, and a netlist, are no script.
             for text in ("see 1=0\n", "10 = NAND(1, 3)\n"):
                 script.write_text(text)
-                self.assertIn("nothing is seen or held in this script", self.say(f"load {script}")[0])
+                self.assertIn("is not understood: lines are such as `see S a=0`", self.say(f"load {script}")[0])
             script.write_text("open S\n")
+            self.assertIn("nothing is seen or held in this script", self.say(f"load {script}")[0])
             # Only a saved case is written over.
             pathlib.Path(folder, "c17.bench").write_text("INPUT(a)\n")
             self.assertIn("not a saved case", self.say("save ~/c17.bench")[0])
@@ -202,7 +202,7 @@ class Lines(unittest.TestCase):
             with mock.patch("diag_client.pictures.graphviz.find_dot", return_value=None):
                 self.assertEqual(self.say(f"picture {folder}/out.svg"), [f"Graphviz's `dot` is not here (Debian: graphviz); wrote {folder}/out.dot alone"])
         self.assertEqual(len(self.say("picture")), 1)
-        with mock.patch("diag_client.pictures.picture.Case.of", side_effect=AssertionError):
+        with mock.patch("diag_client.pictures.picture.Findings.of", side_effect=AssertionError):
             # It is found before anything is asked.
             self.assertIn("there is no folder nowhere", self.say("picture nowhere/out.svg")[0])
 
@@ -325,7 +325,7 @@ class Lines(unittest.TestCase):
         self.session.see({"22": 1})
         self.assertEqual(complete("unsee "), ["22"])
         self.assertEqual(complete("best 2"), ["2", "23"])
-        self.assertEqual(complete("help un"), ["unhold ", "unsee "])
+        self.assertEqual(complete("help un"), ["undo ", "unhold ", "unsee "])
         with tempfile.TemporaryDirectory() as folder:
             pathlib.Path(folder, "case.script").touch()
             self.assertEqual(complete(f"load {folder}/c"), [f"{folder}/case.script"])

@@ -21,7 +21,7 @@ from diag_client.devices import GATES, Reduction
 MOST_INPUTS_FOR_ALL = 14
 ROWS = 10_000
 # Of what stores bits, so many runs of so many steps.
-RUNS, STEPS = 120, 100
+RUNS, STEPS = 100, 100
 SEED = 78
 WANTED_7400 = (
     "00 02 04 08 10 11 14 20 21 27 30 32 86 125 138 139 147 148 151 153 155 157 158 180 181 182 240 244 245 251 253 257 266 280 283 "
@@ -121,7 +121,7 @@ def rows_of(names, random_bits):
 
 def packed(rows):
     """The rows as levels of many copies."""
-    return {name: int("".join(str(row[name]) for row in reversed(rows)), 2) for name in rows[0]}
+    return {name: int(bytes([48 + row[name] for row in reversed(rows)]), 2) for name in rows[0]}
 
 
 def unpacked(found, names, copies):
@@ -398,7 +398,7 @@ class Files(unittest.TestCase):
     CHIP = "chip 9\ntitle t\nin 1:A 2:B\nout 3:Y\n"
 
     def test_a_file_is_read(self):
-        rest = "power 4:GND 5:VCC # supply\nnote one\ny = AND(A, B)\nY=NOT( y )\nchip 8 7\nout 1:Q\nQ = LATCH(set=Q)\n"
+        rest = "power 4:GND 5:VCC # supply\nnote one\ny = AND(A, B)\nY=NOT( y )\nchip 8 7\nout 1:Q\nQ = LATCH(set=Q, clear=Q)\n"
         found = read_chips("# head\n\n" + self.CHIP + rest, "f")
         self.assertEqual(list(found), ["9", "8", "7"])
         chip = found["9"]
@@ -406,7 +406,7 @@ class Files(unittest.TestCase):
         self.assertEqual(" ".join(f"{key}:{pin.name}:{pin.direction.value}" for key, pin in chip.pins.items()), self.PINS)
         self.assertEqual([(one.output, one.kind, one.inputs, one.roles) for one in chip.functions], self.FUNCTIONS)
         self.assertIs(found["8"], found["7"])
-        self.assertEqual(found["8"].functions[0].reads, {"set": "Q"})
+        self.assertEqual(found["8"].functions[0].reads, {"set": "Q", "clear": "Q"})
 
     PINS = "1:A:in 2:B:in 3:Y:out 4:GND:power 5:VCC:power"
     FUNCTIONS = [("y", "AND", ("A", "B"), ()), ("Y", "NOT", ("y",), ())]
@@ -430,9 +430,15 @@ class Files(unittest.TestCase):
             (self.CHIP + "Y = AND()", "line 5: a name is of letters, digits and _: "),
             (self.CHIP + "Y = AND(A, B-)", "line 5: a name is of letters, digits and _: B-"),
             (self.CHIP + "Y = TRISTATE(data=A)", "line 5: TRISTATE takes data=NAME, gate=NAME"),
-            (self.CHIP + "Y = FLIPFLOP(data=A, clock=B)", "line 5: FLIPFLOP takes data=NAME, rise=NAME, fall=NAME, set=NAME, clear=NAME"),
+            (self.CHIP + "Y = TRISTATE(data=A, gate=B, set=B)", "line 5: TRISTATE takes data=NAME, gate=NAME"),
+            (self.CHIP + "Y = FLIPFLOP(data=A, clock=B)", "line 5: FLIPFLOP takes data=NAME, rise=NAME or data=NAME, fall=NAME"),
+            (self.CHIP + "Y = FLIPFLOP(data=A, rise=B, fall=B)", "line 5: FLIPFLOP takes data=NAME"),
             (self.CHIP + "Y = FLIPFLOP(A, B)", "line 5: FLIPFLOP takes data=NAME"),
-            (self.CHIP + "Y = LATCH(data=A, data=B)", "line 5: LATCH takes data=NAME"),
+            (self.CHIP + "Y = LATCH(data=A, data=B)", "line 5: LATCH takes data=NAME, gate=NAME or set=NAME, clear=NAME"),
+            (self.CHIP + "Y = LATCH(set=A)", "line 5: LATCH takes data=NAME"),
+            (self.CHIP + "Y = TRISTATE(data=A, gate=B)", "line 5: Y: a TRISTATE drives pins that are tristate or bus, and nothing else"),
+            (self.CHIP + "y = TRISTATE(data=A, gate=B)\nY = NOT(y)", "line 5: y: a TRISTATE drives pins that are tristate or bus"),
+            (self.CHIP + "tristate 4:Z\nY = NOT(A)\nZ = NOT(A)", "line 7: Z: a TRISTATE drives pins that are tristate or bus"),
             (self.CHIP + "Y = AND(A, B)\nY = OR(A, B)", "line 6: Y is driven twice"),
             (self.CHIP + "Y = NOT(A)\nB = NOT(A)", "line 6: B is driven, but the pin is in"),
             (self.CHIP + "Y = NOT(y)\ny = NOT(A)", "line 5: Y reads y, which is no input and is not driven above it"),

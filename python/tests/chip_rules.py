@@ -1,8 +1,7 @@
 """What each chip does, said without gates: by numbers, comparison, counting and choice. No data of the chips are read here.
 
 A rule takes the levels of the pins by name, and gives those of the outputs: a bit, or None where an output lets go. An output with an
-open collector has the level that it has with a pull-up. The rule of a chip that stores bits takes also the levels before, and the bits that
-it stores, which it changes.
+open collector has the level that it has with a pull-up.
 """
 
 
@@ -85,9 +84,20 @@ GATES = {
     "7421 4082": each("12", "A B C D", is_and),
     "4002": each("12", "A B C D", is_nor),
     "4072": each("12", "A B C D", is_or),
+    "7425": each("12", "G A B C D", lambda strobe, *read: not (strobe and sum(read))),
     "7430": alone("A B C D E F G H", is_nand),
     "74133": alone("A B C D E F G H I J K L M", is_nand),
 }
+
+
+def and_nor_51(levels):
+    first = number(levels, "1A 1B 1C") == 7 or number(levels, "1D 1E 1F") == 7
+    second = number(levels, "2A 2B") == 3 or number(levels, "2C 2D") == 3
+    return {"1Y": int(not first), "2Y": int(not second)}
+
+
+def and_nor_55(levels):
+    return {"Y": int(number(levels, "A B C D") != 15 and number(levels, "E F G H") != 15)}
 
 
 def gate_4068(levels):
@@ -202,7 +212,14 @@ def four_of_two(enable, off, is_inverted=False):
     return rule
 
 
+def selector_4512(levels):
+    if levels["OE_n"]:
+        return {"Y": None}
+    return {"Y": 0 if levels["INH"] else levels[f"D{number(levels, 'C B A')}"]}
+
+
 SELECTORS = {
+    "4512": selector_4512,
     "74151": of_eight(False),
     "74251": of_eight(True),
     "74153": two_of_four(0),
@@ -280,16 +297,17 @@ def encoder_148(off):
     return rule
 
 
-# The segments that a 7447 lights for 0 to 15.
+# The segments that a 7447 lights for 0 to 15, and those that a 74247 does.
 SHAPES = "abcdef bc abged abgcd fgbc afgcd fgedc abc abcdefg abcfg ged gcd fgb afgd fged".split() + [""]
+WITH_TAILS = [*SHAPES[:6], "afgedc", *SHAPES[7:9], "abcdfg", *SHAPES[10:]]
 
 
-def seven_segments(lit, suffix):
+def seven_segments(lit, suffix, shapes=SHAPES):
     def rule(levels):
         digit = number(levels, "D C B A")
         pulls = levels["RBI_n"] == 0 and digit == 0 and levels["LT_n"] == 1
         is_dark = pulls or levels["BI_RBO_n"] == 0
-        shape = "" if is_dark else "abcdefg" if levels["LT_n"] == 0 else SHAPES[digit]
+        shape = "" if is_dark else "abcdefg" if levels["LT_n"] == 0 else shapes[digit]
         return {name + suffix: lit if name in shape else 1 - lit for name in "abcdefg"} | {"BI_RBO_n": int(not pulls)}
 
     return rule
@@ -309,6 +327,8 @@ CODES = {
     "74348": encoder_148(None),
     "7446": seven_segments(0, "_n"),
     "7448": seven_segments(1, ""),
+    "74247": seven_segments(0, "_n", WITH_TAILS),
+    "74248": seven_segments(1, "", WITH_TAILS),
 }
 
 # Arithmetic
@@ -405,129 +425,5 @@ ARITHMETIC = {
     "74688": equal_bytes,
 }
 
-PLAIN = {"4068": gate_4068, "4078": gate_4078, **GATES, **DRIVERS, **SELECTORS, **CODES, **ARITHMETIC}
-
-
-# Latches and flip-flops. A step is a change of clocks alone or of other pins alone, so that data are there before an edge.
-
-
-def has_edge(before, levels, clock, edge):
-    return (before[clock], levels[clock]) == ((0, 1) if edge == "rise" else (1, 0))
-
-
-def d_pair(set_pin, clear_pin, active):
-    """Two D flip-flops whose set and clear act at this level. With both, both outputs are 1."""
-
-    def rule(levels, before, stored):
-        found = {}
-        for unit in "12":
-            is_set, is_clear = levels[unit + set_pin] == active, levels[unit + clear_pin] == active
-            if is_set or is_clear:
-                stored[unit] = int(is_set)
-            elif has_edge(before, levels, unit + "CLK", "rise"):
-                stored[unit] = levels[unit + "D"]
-            found |= {f"{unit}Q": stored[unit], f"{unit}Q_n": 1 if is_set and is_clear else 1 - stored[unit]}
-        return found
-
-    return rule
-
-
-def jk_pair(edge, set_pin=None, clear_pin=None, active=0, clock="{}CLK", k="K"):
-    """Two JK flip-flops. {} in the name of a pin is the unit; K_n is K inverted."""
-
-    def rule(levels, before, stored):
-        found = {}
-        for unit in "12":
-            is_set = set_pin is not None and levels[set_pin.format(unit)] == active
-            is_clear = clear_pin is not None and levels[clear_pin.format(unit)] == active
-            wanted = (levels[unit + "J"], levels[unit + k] ^ (k == "K_n"))
-            if is_set or is_clear:
-                stored[unit] = int(is_set)
-            elif has_edge(before, levels, clock.format(unit), edge):
-                stored[unit] = {(0, 0): stored[unit], (0, 1): 0, (1, 0): 1, (1, 1): 1 - stored[unit]}[wanted]
-            found |= {f"{unit}Q": stored[unit], f"{unit}Q_n": 1 if is_set and is_clear else 1 - stored[unit]}
-        return found
-
-    return rule
-
-
-def register(units, clear=None, enable=None, is_both=False, let_go=None):
-    """D flip-flops with a common rising clock. `clear` and `enable` are active low; outputs let go while `let_go` is 1."""
-
-    def rule(levels, before, stored):
-        found = {}
-        is_edge = has_edge(before, levels, "CLK", "rise") and (enable is None or levels[enable] == 0)
-        for unit in units:
-            if clear is not None and levels[clear] == 0:
-                stored[unit] = 0
-            elif is_edge:
-                stored[unit] = levels[unit + "D"]
-            found[unit + "Q"] = None if let_go is not None and levels[let_go] else stored[unit]
-            if is_both:
-                found[unit + "Q_n"] = 1 - stored[unit]
-        return found
-
-    return rule
-
-
-def register_173(levels, before, stored):
-    is_edge = has_edge(before, levels, "CLK", "rise")
-    for unit in QUAD:
-        if levels["CLR"]:
-            stored[unit] = 0
-        elif is_edge and levels["G1_n"] == 0 and levels["G2_n"] == 0:
-            stored[unit] = levels[unit + "D"]
-    is_off = levels["OE1_n"] or levels["OE2_n"]
-    return {unit + "Q": None if is_off else stored[unit] for unit in QUAD}
-
-
-def latches(gates, is_both=False, let_go=None):
-    """D latches; `gates` has the enable of each."""
-
-    def rule(levels, before, stored):
-        found = {}
-        for unit, gate in gates.items():
-            if levels[gate]:
-                stored[unit] = levels[unit + "D"]
-            found[unit + "Q"] = None if let_go is not None and levels[let_go] else stored[unit]
-            if is_both:
-                found[unit + "Q_n"] = 1 - stored[unit]
-        return found
-
-    return rule
-
-
-def addressed(levels, before, stored):
-    place = number(levels, "C B A")
-    for other in range(8):
-        if other == place and levels["G_n"] == 0:
-            stored[other] = levels["D"]
-        elif levels["CLR_n"] == 0:
-            stored[other] = 0
-    return {f"Q{other}": stored[other] for other in range(8)}
-
-
-PAIRS = {"1": "C12", "2": "C12", "3": "C34", "4": "C34"}
-EIGHT = "12345678"
-STORING = {
-    "4013": d_pair("S", "R", 1),
-    "4027": jk_pair("rise", "{}S", "{}R", active=1),
-    "7473 74107": jk_pair("fall", None, "{}CLR_n"),
-    "7474": d_pair("PRE_n", "CLR_n", 0),
-    "7475 74375": latches(PAIRS, is_both=True),
-    "7476 74112": jk_pair("fall", "{}PRE_n", "{}CLR_n"),
-    "7477": latches(PAIRS),
-    "74109": jk_pair("rise", "{}PRE_n", "{}CLR_n", k="K_n"),
-    "74113": jk_pair("fall", "{}PRE_n"),
-    "74114": jk_pair("fall", "{}PRE_n", "CLR_n", clock="CLK"),
-    "74173": register_173,
-    "74174": register(HEX, clear="CLR_n"),
-    "74175": register(QUAD, clear="CLR_n", is_both=True),
-    "74259": addressed,
-    "74273": register(EIGHT, clear="CLR_n"),
-    "74373 74573": latches(dict.fromkeys(EIGHT, "LE"), let_go="OE_n"),
-    "74374 74574": register(EIGHT, let_go="OE_n"),
-    "74377": register(EIGHT, enable="E_n"),
-    "74378": register(HEX, enable="E_n"),
-    "74379": register(QUAD, enable="E_n", is_both=True),
-}
+WIDE = {"7451": and_nor_51, "7455": and_nor_55, "4068": gate_4068, "4078": gate_4078}
+PLAIN = {**GATES, **WIDE, **DRIVERS, **SELECTORS, **CODES, **ARITHMETIC}

@@ -1,13 +1,14 @@
 """The symbols of KiCad, from Debian's package kicad-symbols: which pins they have."""
 
 import dataclasses
-import functools
 import pathlib
 import re
 
 FOLDER = pathlib.Path("/usr/share/kicad/symbols")
-LIBRARIES = [FOLDER / "74xx.kicad_sym", FOLDER / "4xxx.kicad_sym"]
-ARE_HERE = all(library.exists() for library in LIBRARIES)
+FIRST = [FOLDER / "74xx.kicad_sym", FOLDER / "4xxx.kicad_sym"]
+# These have chips that the first ones have not, and more mistakes.
+SECOND = [FOLDER / "74xx_IEEE.kicad_sym", FOLDER / "4xxx_IEEE.kicad_sym"]
+ARE_HERE = all(library.exists() for library in FIRST + SECOND)
 
 
 @dataclasses.dataclass(frozen=True)
@@ -48,11 +49,10 @@ def pins_of(symbol):
     return found
 
 
-@functools.cache
-def symbols():
-    """The pins of all symbols, by the symbol's name and the pin's number."""
+def symbols(libraries):
+    """The pins of all symbols of these libraries, by the symbol's name and the pin's number."""
     found, parents = {}, {}
-    for library in LIBRARIES:
+    for library in libraries:
         for symbol in lists_of(nested(library.read_text(encoding="utf-8")), "symbol"):
             found[symbol[1]] = pins_of(symbol)
             parents |= {symbol[1]: parent for _, parent in lists_of(symbol, "extends")}

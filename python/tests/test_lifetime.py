@@ -19,7 +19,6 @@ from support import C17, SOON, TOP, interrupt_at, kill, needs_program, stand_in,
 
 from diag_client import Ended, Minimum, OtherProcess, Service, TimedOut, child
 from diag_client.progress import Progress
-from diag_client.service import OPTIONS
 
 
 def served(how, **options):
@@ -292,14 +291,6 @@ class Options(unittest.TestCase):
         ):
             with self.subTest(options), mock.patch("diag_client.service.Child", side_effect=AssertionError), self.assertRaises(error):
                 Service(**{"file": "any.bench", "program": "diag", **options})
-
-    def test_further_option(self):
-        """An option that the help names is given as it is, though the client knows no more of it."""
-        with mock.patch("diag_client.service.OPTIONS", {*OPTIONS, "wide"}), mock.patch.dict("diag_client.service.LIMITS", wide=(2, 9)):
-            for wrong in (1, "3"):
-                self.assertRaises((TypeError, ValueError), served, "lists", wide=wrong)
-            with served("lists", wide=3) as service:
-                self.assertEqual(service._words[-2:], ["--wide", "3"])
 
     def refusal(self, line, status, **options):
         given = {"file": "any.bench", "program": stand_in("refuses", line, str(status)), **options}

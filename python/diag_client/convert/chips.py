@@ -10,18 +10,21 @@ import re
 from collections.abc import Iterable, Iterator, Mapping
 from typing import NoReturn
 
-from ..devices import GATES, Reduction
+from ..devices import GATES
 from ..errors import DiagError, shown
 
 # A type of a design has at most six ports. A gate of four inputs leaves one for its output and one for the health of its chip.
 MOST_INPUTS = 4
-# What the inputs of each mark are for. The first ones have to be there.
+# What the inputs of each mark are for: one of these rows. What stores a bit may have both roles of `FORCED` in any row.
 MARKS = {
-    "TRISTATE": (("data", "gate"), ()),
-    "LATCH": ((), ("data", "gate", "set", "clear")),
-    "FLIPFLOP": (("data",), ("rise", "fall", "set", "clear")),
+    "TRISTATE": (("data", "gate"),),
+    "LATCH": (("data", "gate"), ("set", "clear")),
+    "FLIPFLOP": (("data", "rise"), ("data", "fall")),
 }
 STORAGE = ("LATCH", "FLIPFLOP")
+FORCED = {"set", "clear"}
+# The gates that ask the same of their inputs, without an inverter at their output.
+POSITIVE = {gate.reduction: kind for kind, gate in GATES.items() if gate.positive and gate.most_inputs > 1}
 NAME = r"[A-Za-z0-9_]+"
 # The number of a chip among what is printed on it: before it a maker and a family, after it the kind of package.
 FAMILIES = "ABT ACT AC AHCT AHC ALS AS BCT C FCT F HCT HCU HC H LCX LS LVC LVT LV L S VHCT VHC"
@@ -153,13 +156,23 @@ def chips_in(text: str) -> Iterator[tuple[int, list[tuple[int, str]]]]:
     lines: list[tuple[int, str]] = []
     for number, line in enumerate(text.split("\n"), 1):
         line = line.split("#")[0].strip()
-        if line.split(" ")[0] == "chip" and lines:
+        if line.split()[:1] == ["chip"] and lines:
             yield lines[0][0], lines
             lines = []
         if line:
             lines.append((number, line))
     if lines:
         yield lines[0][0], lines
+
+
+def are_roles(kind: str, roles: set[str]) -> bool:
+    """Whether the inputs of a mark may be these.
+
+    >>> are_roles("LATCH", {"data", "gate", "clear"}), are_roles("LATCH", {"data"})
+    (True, False)
+    """
+    rows = [set(row) for row in MARKS[kind]]
+    return roles in rows or kind in STORAGE and roles - FORCED in rows
 
 
 class ChipReader:
@@ -182,8 +195,7 @@ class ChipReader:
 
     def read(self, line: str) -> None:
         """Reads one line."""
-        word, _, rest = line.partition(" ")
-        rest = rest.strip()
+        word, rest = [*line.split(maxsplit=1), ""][:2]
         if found := re.fullmatch(rf"({NAME})\s*=\s*([A-Z]+)\s*\((.*)\)", line):
             self.add_function(found[1], found[2], [part.strip() for part in found[3].split(",")])
         elif word == "chip":
@@ -219,9 +231,8 @@ class ChipReader:
         elif kind in MARKS:
             roles = tuple(part.partition("=")[0].strip() for part in parts)
             inputs = tuple(part.partition("=")[2].strip() for part in parts)
-            needed, possible = MARKS[kind]
-            if len(set(roles)) < len(roles) or set(needed) - set(roles) or set(roles) - {*needed, *possible}:
-                self.refuse(f"{kind} takes {', '.join(f'{role}=NAME' for role in (*needed, *possible))}")
+            if len(set(roles)) < len(roles) or not are_roles(kind, set(roles)):
+                self.refuse(f"{kind} takes {' or '.join(', '.join(f'{role}=NAME' for role in row) for row in MARKS[kind])}")
         else:
             self.refuse(f"a kind is one of {', '.join([*GATES, *MARKS])}: {shown(kind)}")
         for name in inputs:
@@ -249,12 +260,18 @@ class ChipReader:
         known |= {function.output for function in self.functions if function.kind in STORAGE}
         for function in self.functions:
             self.line = self.places[function.output]
-            if function.output in directions and not directions[function.output].is_driven:
-                self.refuse(f"{function.output} is driven, but the pin is {directions[function.output].value}")
+            self.check_driver(function, directions.get(function.output))
             for name in function.inputs:
                 if name not in known:
                     self.refuse(f"{function.output} reads {name}, which is no input and is not driven above it")
             known.add(function.output)
+
+    def check_driver(self, function: Function, direction: Direction | None) -> None:
+        """Whether such a function may drive a pin of this direction, or an inner name."""
+        if direction is not None and not direction.is_driven:
+            self.refuse(f"{function.output} is driven, but the pin is {direction.value}")
+        if direction is not Direction.BUS and (function.kind == "TRISTATE") != (direction is Direction.TRISTATE):
+            self.refuse(f"{function.output}: a TRISTATE drives pins that are tristate or bus, and nothing else drives one that is tristate")
 
 
 def small(functions: Iterable[Function], most: int = MOST_INPUTS) -> list[Function]:
@@ -274,7 +291,3 @@ def small(functions: Iterable[Function], most: int = MOST_INPUTS) -> list[Functi
             inputs = [inner, *inputs[most:]]
         found.append(dataclasses.replace(function, inputs=tuple(inputs)))
     return found
-
-
-# The gates that ask the same of their inputs, without an inverter at their output.
-POSITIVE = {gate.reduction: kind for kind, gate in GATES.items() if gate.positive and gate.most_inputs > 1}

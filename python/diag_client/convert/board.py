@@ -141,7 +141,8 @@ class Placed:
     def drives(self, pin: Pin) -> bool:
         """Whether a pin drives a net that something else is at."""
         net = self.nets.get(pin.name)
-        return net is not None and any(driver.node == Node(self.reference, pin.number, driver.node.kind) for driver in net.drivers)
+        own = (self.reference, pin.number)
+        return net is not None and any((driver.node.reference, driver.node.number) == own for driver in net.drivers)
 
 
 @dataclasses.dataclass

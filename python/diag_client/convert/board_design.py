@@ -135,10 +135,10 @@ class Design:
 
     def sure(self, wire: str, kind: str, reads: Sequence[str]) -> None:
         """Adds a gate of the wiring of the board. One of many inputs is several of them."""
-        # No wire is called so.
-        made = {"=": wire}
+        made: dict[str, str] = {}
+        # No wire is called `=`.
         for gate in small([Function("=", kind, tuple(reads))], MOST_INPUTS):
-            own = made.setdefault(gate.output, wire) if gate.output == "=" else made.setdefault(gate.output, self.new_wire(f"{wire}_part"))
+            made[gate.output] = own = wire if gate.output == "=" else self.new_wire(f"{wire}_part")
             kind_of_gate = self.type(f"SURE_{gate.kind}_{len(gate.inputs)}", numbered(gate.inputs), gate_allows(gate.kind))
             self.part(own, kind_of_gate, [*(made.get(name, name) for name in gate.inputs), own])
 

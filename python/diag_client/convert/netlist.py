@@ -10,7 +10,7 @@ import sys
 from collections.abc import Sequence
 
 from .. import interrupts
-from ..devices import MADE, MADE_BY, NAMES, PINS, is_made_here, title_of
+from ..devices import MADE, MADE_BY, NAMES, PINS, is_made_here, read_design, title_of
 from ..errors import DiagError, sentence
 from ..files import drop_unwritten, open_streams, write_whole
 from .board import Board, read_board
@@ -107,7 +107,10 @@ def made_of_board(path: pathlib.Path, ending: str | None, is_of_gates: bool, is_
     said += few([f"renamed: {other} is {name}" for name, other in renamed_nets if other in own])
     inputs = sum(net.is_input for net in board.used_nets)
     summary = f"{design.count} {'gates' if is_of_gates else 'chips'}, {inputs} inputs"
-    return Made(".dev", design.text(), summary, renamed_nets, [], said, pins_of(board, design.names))
+    text = design.text()
+    flat = read_design(text)
+    said += too_large(len(flat.parts), len(flat.wires))
+    return Made(".dev", text, summary, renamed_nets, [], said, pins_of(board, design.names))
 
 
 def few(lines: list[str]) -> list[str]:
@@ -214,10 +217,13 @@ def remarks(circuit: Circuit, names: dict[str, str]) -> list[str]:
     if loop := circuit.loop():
         shown = " ".join(names[name] for name in loop[:SHOWN])
         said.append(f"a loop of {len(loop)} gates: {shown}{' ..' * (len(loop) > SHOWN)}; its wires may have any bits that fit all of them")
-    parts = len(circuit.nodes) + len(circuit.flip_flops)
-    if parts > MOST_PARTS or len(names) > MOST_WIRES:
-        said.append(f"too large: diag serves at most {MOST_PARTS} parts and {MOST_WIRES} wires, and these are {parts} and {len(names)}")
-    return said
+    return said + too_large(len(circuit.nodes) + len(circuit.flip_flops), len(circuit.wires))
+
+
+def too_large(parts: int, wires: int) -> list[str]:
+    """Whether a device has more than `diag` serves."""
+    told = f"too large: diag serves at most {MOST_PARTS} parts and {MOST_WIRES} wires, and these are {parts} and {wires}"
+    return [told] * (parts > MOST_PARTS or wires > MOST_WIRES)
 
 
 def convert(path: pathlib.Path, out: pathlib.Path | None = None, is_of_gates: bool = False, is_strict: bool = False) -> list[str]:

@@ -419,6 +419,17 @@ class Counter(Boards):
             netlist.convert(self.folder / "counter.net", self.folder / "counter.dev", is_of_gates=True)
 
     @needs_program
+    def test_page(self):
+        """What examples/boards/README.md shows is printed."""
+        page = re.sub(r"(?m)^   ", "", (BOARDS / "README.md").read_text())
+        (self.folder / "adder.net").write_text((BOARDS / "adder.net").read_text())
+        said = netlist.convert(self.folder / "adder.net")
+        self.assertIn("\n".join(["$ diag-netlist adder.net", *(line.replace(f"{self.folder}/", "") for line in said), "```"]), page)
+        with open(BOARDS / "adder.script") as script:
+            done = subprocess.run([PROGRAM, "serve", self.folder / "adder.dev", "--narrow"], stdin=script, capture_output=True, text=True, check=True)
+        self.assertIn("< adder.script\n" + done.stdout[done.stdout.index("S min") :] + "```", page)
+
+    @needs_program
     def test_is_served(self):
         for name, options in (("adder.net", {}), ("adder.net", {"is_of_gates": True}), ("counter.net", {"is_of_gates": True})):
             (self.folder / name).write_text((BOARDS / name).read_text())

@@ -122,15 +122,6 @@ class Known:
             raise Bad(f"no part {shown(name)}")
         return here
 
-    def mode(self, part: str, mode: str) -> tuple[str, Mode]:
-        """A part and how it was tested."""
-        here = self.part(part)
-        if mode == "ok":
-            return here, "ok"
-        if mode == "bad":
-            return here, "bad"
-        raise Bad(f"{part}={shown(mode)}: a part was tested ok or bad")
-
     def name_of(self, command: str, name: str) -> str:
         """The name that counts for one in a line of a script."""
         return self.wire(name) if command.endswith("see") else self.part(name)

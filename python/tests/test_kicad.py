@@ -174,6 +174,8 @@ class Read(Boards):
             schematic = read_kicad((BOARDS / f"{name}.net").read_text(), False)
             board = read_board(schematic)
             self.assertEqual((len(board.chips), sum(net.is_input for net in board.used_nets), board.unknown), (chips, inputs, []))
+        wanted = read_kicad((BOARDS / "adder.net").read_text(), False)
+        self.assertEqual(read_kicad((BOARDS / "adder.xml").read_text(), True), wanted)
 
 
 class Understood(Boards):
@@ -363,7 +365,7 @@ class Explained(Boards):
     }
 
     def allows(self, net, faulty):
-        """Whether these levels are possible if these chips are faulty: a faulty open collector cannot hold a net up that another pulls down."""
+        """Whether these levels are possible if these chips are faulty."""
         a, b, c, e, w, e2, bus, y = (net[f"/{name}"] for name in ("A", "B", "C", "E", "W", "E2", "BUS", "Y"))
         driving = {level for enable, level in ((e, w), (e2, c)) if enable == 0}
         is_bus = "U2" in faulty or len(driving) != 1 or bus in driving

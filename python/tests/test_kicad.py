@@ -1,15 +1,17 @@
 """Netlists of boards that KiCad exports: what is read, what is understood, and that what is written behaves as the chips do."""
 
 import itertools
+import os
 import pathlib
 import random
 import re
 import subprocess
+import sys
 import tempfile
 import unittest
 
 import chip_rules
-from support import EXAMPLES, PROGRAM, needs_program
+from support import EXAMPLES, PROGRAM, TOP, needs_program
 
 from diag_client import Service
 from diag_client.convert import netlist
@@ -138,6 +140,9 @@ class Read(Boards):
         bare = netlist_of(*SELECTOR, quote=lambda text: f'"{text}"' if re.search(r"[\s()-]", text) else text)
         self.assertEqual(read_kicad(bare.replace('"E"', "D"), False), wanted)
         self.assertEqual(read_kicad(xml_of(*SELECTOR), True), wanted)
+        mark = "\N{BYTE ORDER MARK}"
+        self.assertEqual(read_kicad(mark + bare.replace("\n", "\r\n"), False), wanted)
+        self.assertEqual(read_kicad(mark + xml_of(*SELECTOR), True), wanted)
         self.assertIn("/007", wanted.nets)
 
     def test_kinds_of_version_5(self):
@@ -514,6 +519,7 @@ class Counter(Boards):
         given.write_text((BOARDS / "counter.net").read_text())
         said = netlist.convert(given, is_of_gates=True)
         self.assertIn("left out: gates that only hand on the clock: U1.2 U1.4", said)
+        self.assertIn("its flip-flops need clock periods: serve it with --frames", said)
         path = self.folder / "counter.bench"
         settled, names = Settled(path), other_names(path)
         flip_flops = {part.wires[-1]: part.wires[0] for part in settled.device.parts if part.kind == "DFF"}
@@ -556,6 +562,18 @@ class Counter(Boards):
         with open(BOARDS / "adder.script") as script:
             done = subprocess.run([PROGRAM, "serve", self.folder / "adder.dev", "--narrow"], stdin=script, capture_output=True, text=True, check=True)
         self.assertIn("< adder.script\n" + done.stdout[done.stdout.index("S min") :] + "```", page)
+
+    def test_command(self):
+        """The command from outside of the checkout; a full disk leaves nothing half written."""
+        (self.folder / "adder.net").write_text((BOARDS / "adder.net").read_text())
+        words = [sys.executable, "-m", "diag_client.netlist", "--strict", "adder.net"]
+        options = {"cwd": self.folder, "env": {**os.environ, "PYTHONPATH": str(TOP / "python")}, "text": True, "capture_output": True}
+        done = subprocess.run([*words, "--gates"], **options, check=True)
+        self.assertIn("adder.dev: 33 gates, 9 inputs\n", done.stdout)
+        done = subprocess.run([*words, "-o", "/dev/full/x.dev"], **options)
+        self.assertEqual((done.returncode, done.stderr), (1, "diag-netlist: /dev/full/x.dev: not a directory\n"))
+        done = subprocess.run([*words, "-o", "given.bench"], **options)
+        self.assertEqual((done.returncode, "give --gates" in done.stderr), (1, True))
 
     @needs_program
     def test_is_served(self):

@@ -71,6 +71,7 @@ class Schematic:
 
 def read_kicad(text: str, is_xml: bool) -> Schematic:
     """The schematic in an exported netlist."""
+    text = text.removeprefix("\N{BYTE ORDER MARK}")
     export = tree_of_xml(text) if is_xml else tree_of_list(text)
     if export.name != "export" or not any(export.all("nets")):
         raise UnusableNetlist(f"this is no netlist of KiCad; {HINT}")

@@ -107,6 +107,8 @@ def gates_of_board(board: Board) -> Made:
     names = {name: name for name in circuit.driven}
     found = made(circuit, names, ".bench", bench_text(circuit, names))
     found.remarks += said_of_board(board)
+    if circuit.flip_flops:
+        found.remarks.append("its flip-flops need clock periods: serve it with --frames")
     found.pins = pins_of(board, {key: wire for key, wire in gates.nets.items() if wire in circuit.wires})
     return found
 

@@ -153,9 +153,11 @@ class Board:
         return "OUT" if driver.pin.direction is Direction.OUT else "OPEN"
 
     def pull_of(self, net: Net) -> int | None:
-        """The level of a net while nothing drives it. Pins that go both ways and pull to 0 have a pull-up inside."""
+        """The level of a net while nothing drives it. Pins that go both ways and pull to 0 have a pull-up inside, and what is outside may
+        pull them to 0.
+        """
         kinds = {self.kind_of(driver) for driver in net.drivers if driver.pin.direction is Direction.BUS}
-        return None if net.is_shared else 1 if "OPEN" in kinds else net.pull
+        return None if net.is_shared or (kinds and net.is_free) else 1 if "OPEN" in kinds else net.pull
 
     def is_direct(self, net: Net) -> bool:
         """Whether a net has the level of its one driver."""

@@ -455,7 +455,8 @@ class Service:
     def close(self) -> None:
         """Ends the program, once all that was asked is answered. Raises `Ended` if it ends with another status than 0.
 
-        It waits for `timeout` seconds, or 10 if there is none, and then ends the program at once, which loses nothing. A service that has ended, or was closed, or belongs to another process, stays as it is.
+        It waits for `timeout` seconds, or 10 if there is none, and then ends the program at once, which loses nothing. A service that has
+        ended, or was closed, or belongs to another process, stays as it is.
         """
         if not self.is_running:
             return

@@ -159,7 +159,8 @@ class Closed(unittest.TestCase):
         service = served("is good", timeout=SOON)
         service._child._timeout = 0.3
         service._child._process.send_signal(signal.SIGSTOP)
-        service.close()
+        with self.assertLogs("diag_client", "WARNING"):
+            service.close()
         self.assertFalse(service.is_running)
 
     def test_what_was_asked_is_answered(self):

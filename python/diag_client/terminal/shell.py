@@ -74,8 +74,11 @@ COUNTED = {
 }
 # What to do about a refusal of the program, by its text.
 CURES = {
-    "line too long": "a line has at most 1048576 bytes", "no levels": "start the terminal with --levels C", "no least": "start the terminal with --least",
-    "full": f"each pattern is a session, and a search opens one more for each: at most {LIMITS['sessions'][1] // 2} patterns can be searched, and one fewer by probe",
+    "line too long": "a line has at most 1048576 bytes",
+    "no levels": "start the terminal with --levels C",
+    "no least": "start the terminal with --least",
+    "full": "each pattern is a session, and a search opens one more for each: at most"
+    f" {LIMITS['sessions'][1] // 2} patterns can be searched, and one fewer by probe",
 }
 # What a refusal begins with.
 REFUSED = "refused: "

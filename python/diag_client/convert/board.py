@@ -12,7 +12,7 @@ import functools
 import re
 from collections.abc import Iterable, Sequence
 
-from .chips import Chip, Direction, Function, Pin, find_chip
+from .chips import Chip, Direction, Function, Pin, find_chip, number_in
 from .circuit import UnusableNetlist
 from .kicad import Component, Node, Schematic
 
@@ -44,7 +44,8 @@ class Role(enum.Enum):
     CHIP = "a chip whose function is known"
     LINK = "a resistor, or what else joins two pins"
     OUTSIDE = "a connector, a switch or a test point: what is at it is driven from outside"
-    LOAD = "a load that drives nothing"
+    LAMP = "a lamp: it pulls an open collector up, and drives nothing else"
+    LOAD = "what drives nothing"
     UNKNOWN = "what is not understood"
 
 
@@ -52,10 +53,17 @@ class Role(enum.Enum):
 LETTERS = {
     Role.LINK: ("R", "RN", "RP", "RR", "L", "FB", "F"),
     Role.OUTSIDE: ("J", "P", "CN", "CON", "K", "SW", "S", "JP", "TP", "X", "BT"),
-    Role.LOAD: ("C", "CP", "LED", "DS", "H", "MH", "FID", "LOGO"),
+    Role.LAMP: ("LED", "DS"),
+    Role.LOAD: ("C", "CP", "H", "MH", "FID", "LOGO"),
 }
-LOADS = re.compile(r"LED\w*|C(_\w+)?|CP(\d\w*|_\w+)?|MountingHole\w*|Fiducial\w*")
-LOAD_LIBRARIES = ("Display_", "LED", "Mechanical", "Graphic")
+LAMPS = re.compile(r"LED\w*")
+LOADS = re.compile(r"C(_\w+)?|CP(\d\w*|_\w+)?|MountingHole\w*|Fiducial\w*")
+# The roles of parts by how the name of their library begins.
+LIBRARIES = {
+    Role.LAMP: ("Display_", "LED"),
+    Role.LOAD: ("Mechanical", "Graphic"),
+    Role.OUTSIDE: ("Connector", "Switch", "Jumper"),
+}
 
 
 @dataclasses.dataclass(frozen=True)
@@ -68,8 +76,8 @@ class Driver:
 
 @dataclasses.dataclass
 class Net:
-    """Pins that are one wire. `pull` is the level that a resistor gives if nothing drives. `is_free` if what is not modelled may drive it,
-    and `is_shared` if that is a part with outputs of its own.
+    """Pins that are one wire. `pull` is the level that a resistor gives if nothing drives; a lamp does so, too, if all else lets go. It
+    `is_free` if what is not modelled may drive it, and `is_shared` if that is a part with outputs of its own.
     """
 
     name: str
@@ -80,6 +88,7 @@ class Net:
     pull: int | None = None
     is_free: bool = False
     is_shared: bool = False
+    has_lamp: bool = False
 
     @property
     def is_constant(self) -> bool:
@@ -104,6 +113,7 @@ class Placed:
 
     reference: str
     chip: Chip
+    number: str
     nets: dict[str, Net]
     functions: list[Function] = dataclasses.field(default_factory=list)
 
@@ -131,7 +141,8 @@ class Placed:
     def drives(self, pin: Pin) -> bool:
         """Whether a pin drives a net that something else is at."""
         net = self.nets.get(pin.name)
-        return net is not None and any(driver.node == Node(self.reference, pin.number, driver.node.kind) for driver in net.drivers)
+        own = (self.reference, pin.number)
+        return net is not None and any((driver.node.reference, driver.node.number) == own for driver in net.drivers)
 
 
 @dataclasses.dataclass
@@ -156,8 +167,11 @@ class Board:
         """The level of a net while nothing drives it. Pins that go both ways and pull to 0 have a pull-up inside, and what is outside may
         pull them to 0.
         """
-        kinds = {self.kind_of(driver) for driver in net.drivers if driver.pin.direction is Direction.BUS}
-        return None if net.is_shared or (kinds and net.is_free) else 1 if "OPEN" in kinds else net.pull
+        kinds = [self.kind_of(driver) for driver in net.drivers]
+        both_ways = [kind for driver, kind in zip(net.drivers, kinds) if driver.pin.direction is Direction.BUS]
+        if net.is_shared or (both_ways and net.is_free):
+            return None
+        return 1 if "OPEN" in both_ways or (net.has_lamp and set(kinds) == {"OPEN"}) else net.pull
 
     def is_direct(self, net: Net) -> bool:
         """Whether a net has the level of its one driver."""
@@ -169,6 +183,11 @@ class Board:
         """The nets that chips read or drive."""
         used = {id(net) for placed in self.chips for net in placed.used_nets}
         return [net for net in self.nets if id(net) in used]
+
+    def forget_clocks(self) -> None:
+        """Lets flip-flops store anything. What only they read does not matter then."""
+        for placed in self.chips:
+            placed.functions = needed([without_clock(function) for function in placed.functions], placed.outputs)
 
     @property
     def has_flip_flops(self) -> bool:
@@ -183,12 +202,13 @@ def letters_of(reference: str) -> str:
 
 def role_of(component: Component) -> Role:
     """What a part is, by its library, its symbol and its reference; a chip is looked up apart."""
-    if LOADS.fullmatch(component.symbol) or component.library.startswith(LOAD_LIBRARIES):
+    if LAMPS.fullmatch(component.symbol):
+        return Role.LAMP
+    if LOADS.fullmatch(component.symbol):
         return Role.LOAD
-    if component.library.startswith(("Connector", "Switch", "Jumper")):
-        return Role.OUTSIDE
     letters = letters_of(component.reference)
-    return next((role for role, known in LETTERS.items() if letters in known), Role.UNKNOWN)
+    by_library = (role for role, known in LIBRARIES.items() if component.library.startswith(known))
+    return next(by_library, next((role for role, known in LETTERS.items() if letters in known), Role.UNKNOWN))
 
 
 def chip_of(component: Component) -> tuple[Chip | None, str]:
@@ -284,7 +304,7 @@ class Reader:
         for reference, chip in self.chips.items():
             for name, node in self.nodes[reference]:
                 pin = chip.pins[node.number]
-                if pin.direction.is_driven and len(self.schematic.nets[name]) > 1:
+                if pin.direction.is_driven and (len(self.schematic.nets[name]) > 1 or pulls_inside(chip, pin)):
                     found[name].append(Driver(node, pin))
         return found
 
@@ -307,8 +327,13 @@ class Reader:
                     near, far = (other, one) if drivers.get(other) else (one, other)
                     self.joined[far] = near
                     pulls[near] |= pulls.pop(far, set())
-                    self.board.remarks.append(f"{reference} is taken as a wire: {far} is {near}")
+                    if self.has_probe_pins(far) and self.has_probe_pins(near):
+                        self.board.remarks.append(f"{reference} is taken as a wire: {far} is {near}")
         return pulls
+
+    def has_probe_pins(self, net: str) -> bool:
+        """Whether a chip, or the world outside, is at a net."""
+        return any(self.roles.get(node.reference) in (Role.CHIP, Role.OUTSIDE) for node in self.schematic.nets[net])
 
     def ends_of(self, reference: str) -> list[tuple[str, str]]:
         """The nets at the two ends of each resistor that a part has."""
@@ -333,10 +358,12 @@ class Reader:
             groups[self.find(name)].append(name)
         for name, names in groups.items():
             nodes = [node for other in names for node in self.schematic.nets[other] if node.reference in self.roles]
-            net = Net(name, sorted(names, key=lambda other: other != name), nodes, [driver for other in names for driver in drivers.get(other, [])])
+            shown = [name, *(other for other in names if other != name and self.has_probe_pins(other))]
+            net = Net(name, shown, nodes, [driver for other in names for driver in drivers.get(other, [])])
             net.level = levels.get(name)
             found = pulls.get(name, set())
             net.pull = next(iter(found)) if len(found) == 1 else None
+            net.has_lamp = any(self.roles[node.reference] is Role.LAMP for node in nodes)
             net.is_free = any(self.may_drive(node) for node in nodes)
             net.is_shared = any(self.roles[node.reference] is Role.UNKNOWN and node.kind in DRIVING | {"bidirectional"} for node in nodes)
             if len(found) > 1:
@@ -358,13 +385,17 @@ class Reader:
         by_name = {name: net for net in self.board.nets for name in net.names}
         for reference, chip in self.chips.items():
             nets = {chip.pins[node.number].name: by_name[name] for name, node in self.nodes[reference]}
-            placed = Placed(reference, chip, nets)
+            component = self.schematic.components[reference]
+            number = number_in(component.value) if find_chip(component.value) else number_in(component.symbol)
+            placed = Placed(reference, chip, number or chip.numbers[0], nets)
             placed.functions = needed(chip.functions, placed.outputs)
             for name in placed.inputs:
                 if name not in nets:
                     # The netlist does not have the pin.
-                    node = Node(reference, placed.pins[name].number, "")
-                    nets[name] = Net(f"unconnected-({reference}-Pad{node.number})", [], [node])
+                    pin = placed.pins[name]
+                    node = Node(reference, pin.number, "")
+                    nets[name] = Net(f"unconnected-({reference}-Pad{pin.number})", [], [node])
+                    nets[name].drivers = [Driver(node, pin)] if pulls_inside(chip, pin) else []
                     self.board.nets.append(nets[name])
             self.board.chips.append(placed)
         for net in self.board.nets:
@@ -388,15 +419,29 @@ class Reader:
             nodes += [node for node in net.nodes if self.roles[node.reference] is Role.UNKNOWN and node.kind == "output"]
             if len(nodes) > 1 and any(driver.pin.direction is Direction.OUT for driver in net.drivers):
                 self.board.remarks.append(f"net {net.name} has several drivers: {' '.join(map(str, nodes))}")
-            is_open = [driver for driver in net.drivers if driver.pin.direction is Direction.OPEN]
-            if is_open and len(is_open) == len(net.drivers) and net.pull != 1:
-                pins = " ".join(str(driver.node) for driver in is_open)
+            kinds = {self.board.kind_of(driver) for driver in net.drivers}
+            if kinds == {"OPEN"} and self.board.pull_of(net) != 1 and not net.is_shared:
+                pins = " ".join(str(driver.node) for driver in net.drivers)
                 self.board.remarks.append(f"net {net.name} has no pull-up at its open collector: {pins}")
         for placed in self.board.chips:
             for name in placed.inputs:
                 net = placed.nets[name]
                 if not (net.drivers or net.is_constant or net.is_free):
-                    self.board.remarks.append(f"unused input: {placed.reference}.{placed.pins[name].number} ({name}); it may have any level")
+                    pin = f"{placed.reference}.{placed.pins[name].number} ({name})"
+                    self.board.remarks.append(f"unused input: {pin}; it may have any level")
+
+
+def pulls_inside(chip: Chip, pin: Pin) -> bool:
+    """Whether a pin goes both ways and pulls to 0 against a resistor in the chip."""
+    return pin.direction is Direction.BUS and all(function.kind != "TRISTATE" for function in chip.functions if function.output == pin.name)
+
+
+def without_clock(function: Function) -> Function:
+    """A flip-flop of which only its set and its clear matter; each other function as it is."""
+    if function.kind != "FLIPFLOP":
+        return function
+    kept = {role: name for role, name in function.reads.items() if role in ("set", "clear")}
+    return dataclasses.replace(function, inputs=tuple(kept.values()), roles=tuple(kept))
 
 
 def needed(functions: Sequence[Function], outputs: Sequence[str]) -> list[Function]:

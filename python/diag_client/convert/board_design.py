@@ -21,6 +21,8 @@ WIRES_ON_A_LINE = 12
 # A type has at most six ports: so many inputs and an output.
 MOST_INPUTS = 5
 STORED = ("data", "gate", "set", "clear")
+# The types of wires with several drivers, by what pulls them while all let go.
+BUSES = {None: "BUS_FREE", 0: "BUS_DOWN", 1: "BUS_UP"}
 Allows = Callable[[tuple[int, ...]], bool]
 
 
@@ -116,9 +118,10 @@ class Design:
         """A type by its name. With health, its first port is that of its chip; one that is sure explains nothing."""
         if name not in self.types:
             self.kinds.taken.add(name)
-            rows = ["".join(map(str, bits)) for bits in itertools.product((0, 1), repeat=len(ports)) if allows(bits)]
+            every = ["".join(map(str, bits)) for bits in itertools.product((0, 1), repeat=len(ports))]
+            rows = [row for row in every if allows(tuple(map(int, row)))]
             if has_health:
-                rows = [f"0{''.join(map(str, bits))}" for bits in itertools.product((0, 1), repeat=len(ports))] + [f"1{row}" for row in rows]
+                rows = [*(f"0{row}" for row in every), *(f"1{row}" for row in rows)]
                 ports = ["health", *ports]
             lines = [f"type {name} {' '.join(ports)}", *(f"ok {row}" for row in rows)]
             lines += [*(f"bad {row}" for row in rows), f"cost {COST}"] if is_sure else []
@@ -132,10 +135,10 @@ class Design:
 
     def sure(self, wire: str, kind: str, reads: Sequence[str]) -> None:
         """Adds a gate of the wiring of the board. One of many inputs is several of them."""
-        # No wire is called so.
-        made = {"=": wire}
+        made: dict[str, str] = {}
+        # No wire is called `=`.
         for gate in small([Function("=", kind, tuple(reads))], MOST_INPUTS):
-            own = made.setdefault(gate.output, wire) if gate.output == "=" else made.setdefault(gate.output, self.new_wire(f"{wire}_part"))
+            made[gate.output] = own = wire if gate.output == "=" else self.new_wire(f"{wire}_part")
             kind_of_gate = self.type(f"SURE_{gate.kind}_{len(gate.inputs)}", numbered(gate.inputs), gate_allows(gate.kind))
             self.part(own, kind_of_gate, [*(made.get(name, name) for name in gate.inputs), own])
 
@@ -153,8 +156,13 @@ class Design:
             return
         kinds, pull = [self.board.kind_of(driver) for driver in net.drivers], self.board.pull_of(net)
         offers = [self.offer(driver, kind) for driver, kind in zip(net.drivers, kinds)]
-        if set(kinds) == {"OPEN"} and pull == 1:
-            self.sure(wire, "AND", [data for data, _ in offers])
+        if set(kinds) == {"OPEN"} and pull != 0:
+            lowest = wire if pull == 1 else offers[0][0]
+            if len(offers) > 1:
+                lowest = wire if pull == 1 else self.new_wire(f"{wire}_lowest")
+                self.sure(lowest, "AND", [data for data, _ in offers])
+            if pull is None:
+                self.part(wire, self.type("OPEN_1", ["data", "y"], lambda bits: bits[0] == 1 or bits[1] == 0), [lowest, wire])
         elif kinds == ["TRISTATE"] and (pull is None or net.is_free):
             self.part(wire, self.type("BUS_1", ["data", "on", "y"], lambda bits: not bits[1] or bits[0] == bits[2]), [*offers[0], wire])
         else:
@@ -182,7 +190,7 @@ class Design:
                 self.sure(ends[-1], "OR", reads)
             else:
                 self.part(ends[-1], self.type("ZERO", ["y"], lambda bits: bits[0] == 0), [ends[-1]])
-        self.part(wire, self.type(f"BUS_{'FREE' if pull is None else ('DOWN', 'UP')[pull]}", ["high", "low", "y"], bus_allows(pull)), [*ends, wire])
+        self.part(wire, self.type(BUSES[pull], ["high", "low", "y"], bus_allows(pull)), [*ends, wire])
 
     def offer(self, driver: Driver, kind: str) -> tuple[str, str]:
         """Wires for what a pin offers to its net, and whether it does so."""
@@ -216,9 +224,9 @@ class Design:
 
     def block_of(self, placed: Placed, ports: Sequence[str]) -> str:
         """The block of a chip with these ports."""
-        key = (placed.chip.numbers[0], tuple(function.output for function in placed.functions), tuple(ports))
+        key = (placed.number, tuple(function.output for function in placed.functions), tuple(ports))
         if key not in self.blocks:
-            self.blocks[key] = self.kinds.give(placed.chip.numbers[0])
+            self.blocks[key] = self.kinds.give(placed.number)
             gates = [line for function in placed.functions for line in self.function_lines(placed, function)]
             inner = sorted({wire for line in gates for wire in line.split()[3:]} - set(ports))
             lines = [f"# {placed.chip.title}", " ".join(["block", self.blocks[key], *ports])]
@@ -236,7 +244,7 @@ class Design:
                 # One part, whose faults let what it puts out and whether it does be anything.
                 health = f"{output}_ok"
                 lines = [f"part {name} {self.health_type()} {health}"]
-            kind = self.type("BUFF_1", ["i1", "y"], gate_allows("BUFF"), True)
+            kind = self.type("BUFF_1", ["i1", "y"], gate_allows("BUFF"), has_health=True)
             ends = [(output, function.reads["data"]), (f"{function.output}_on", function.reads["gate"])]
             return [*lines, *(f"part {end} {kind} {health} {read} {end}" for end, read in ends)]
         if function.kind in GATES and self.is_of_gates:
@@ -254,7 +262,8 @@ class Design:
         """The line of a gate that depends on the health of its chip, if the chip is the part."""
         allows = stored_allows(gate.roles) if gate.roles else gate_allows(gate.kind)
         word = "_".join([gate.kind, *(gate.roles or [str(len(gate.inputs))])])
-        kind = self.type(word, [*gate.roles, "y"] if gate.roles else numbered(gate.inputs), allows, not self.is_of_gates, not self.is_of_gates)
+        ports = [*gate.roles, "y"] if gate.roles else numbered(gate.inputs)
+        kind = self.type(word, ports, allows, has_health=not self.is_of_gates, is_sure=not self.is_of_gates)
         is_last = gate.output == last
         wires = [*([] if self.is_of_gates else ["health"]), *gate.inputs, output if is_last else gate.output]
         return f"part {name if is_last else gate.output} {kind} {' '.join(wires)}"

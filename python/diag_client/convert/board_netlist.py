@@ -23,7 +23,8 @@ class Gates:
         for placed in board.chips:
             for function in placed.functions:
                 pin = placed.pins.get(function.output)
-                self.wires[placed.reference, function.output] = self.names.give(f"{placed.reference}.{pin.number if pin else function.output}")
+                name = self.names.give(f"{placed.reference}.{pin.number if pin else function.output}")
+                self.wires[placed.reference, function.output] = name
         for net in board.used_nets:
             self.nets[id(net)] = self.wire_of_driver(net.drivers[0]) if board.is_direct(net) else self.names.give(net.name)
         for placed in board.chips:
@@ -31,6 +32,7 @@ class Gates:
                 self.add(placed, function)
         for net in board.used_nets:
             self.add_net(net)
+        self.drop_clock_gates()
         self.circuit.settle()
 
     def wire_of_driver(self, driver: Driver) -> str:
@@ -63,18 +65,17 @@ class Gates:
             self.gate(wire, "BUFF", reads["data"])
             self.wires[placed.reference, f"{function.output} on"] = self.gate(self.new_wire(f"{wire}_on"), "BUFF", reads["gate"])
         elif function.kind == "FLIPFLOP":
-            self.add_flip_flop(placed, function, wire, reads)
+            self.add_flip_flop(wire, reads)
         else:
             self.add_latch(wire, reads)
 
-    def add_flip_flop(self, placed: Placed, function: Function, wire: str, reads: dict[str, str]) -> None:
+    def add_flip_flop(self, wire: str, reads: dict[str, str]) -> None:
         """Adds a flip-flop. A set or a clear acts on what it puts out, and on what it stores, in the whole clock period."""
         role = "rise" if "rise" in reads else "fall"
-        clock, is_inverted = self.clock(placed, function.reads[role])
-        edge = "rising" if (role == "rise") != is_inverted else "falling"
+        edge = "rising" if role == "rise" else "falling"
         stored = wire if reads.keys() <= {"data", "rise", "fall"} else self.new_wire(f"{wire}_stored")
         taken = self.override(self.new_wire(f"{wire}_next"), reads["data"], reads) if stored != wire else reads["data"]
-        self.circuit.add_flip_flop(stored, taken, clock, edge)
+        self.circuit.add_flip_flop(stored, taken, reads[role], edge)
         if stored != wire:
             self.override(wire, stored, reads)
 
@@ -97,22 +98,34 @@ class Gates:
         if not is_last:
             self.override(wire, source, reads)
 
-    def clock(self, placed: Placed, name: str) -> tuple[str, bool]:
-        """The wire that a clock comes from through gates that only hand it on, and whether they invert it."""
-        is_inverted = False
-        while True:
-            function = next((function for function in placed.functions if function.output == name), None)
-            if function is None or function.kind not in GATES:
-                return self.read(placed, name), is_inverted
-            levels = {other: placed.nets[other] for other in function.inputs if other in placed.nets and placed.nets[other].is_constant}
-            rest = [other for other in function.inputs if other not in levels]
-            if len(rest) != 1:
-                return self.read(placed, name), is_inverted
-            bits = [GATES[function.kind].output([bit if other == rest[0] else levels[other].constant for other in function.inputs]) for bit in (0, 1)]
-            if bits[0] == bits[1]:
-                return self.read(placed, name), is_inverted
-            is_inverted ^= bits[0] == 1
-            name = rest[0]
+    def source_of(self, clock: str, edge: str) -> tuple[str, str]:
+        """Where a clock comes from, through gates that only hand it on, and at which edge there flip-flops step."""
+        nodes = {node.output: node for node in self.circuit.nodes}
+        while node := nodes.get(clock):
+            constants = self.circuit.constants
+            rest = [name for name in node.inputs if name not in constants]
+            bits = [GATES[node.kind or ""].output([constants.get(name, bit) or 0 for name in node.inputs]) for bit in (0, 1)]
+            if len(rest) != 1 or bits[0] == bits[1]:
+                break
+            if bits[0]:
+                edge = "falling" if edge == "rising" else "rising"
+            clock = rest[0]
+        return clock, edge
+
+    def drop_clock_gates(self) -> None:
+        """Leaves out the gates that only hand on a clock."""
+        circuit = self.circuit
+        circuit.clocks = {self.source_of(*clock) for clock in circuit.clocks}
+        constants = circuit.constants.keys()
+        known = constants | {clock for clock, _ in circuit.clocks}
+        dropped: list[str] = []
+        while found := [node for node in circuit.nodes if known.issuperset(node.inputs) and not constants >= set(node.inputs)]:
+            dropped += [node.output for node in found]
+            known.update(dropped)
+            circuit.nodes = [node for node in circuit.nodes if node not in found]
+        circuit.outputs = [wire for wire in circuit.outputs if wire not in dropped]
+        if dropped:
+            circuit.left_out.append(f"gates that only hand on the clock: {' '.join(dropped)}")
 
     def add_net(self, net: Net) -> None:
         """Adds what gives a net its level, its names, and whether it is an output."""

@@ -14,7 +14,9 @@ from .circuit import UnusableNetlist
 TOKENS = re.compile(r'[()]|"(?:[^"\\]|\\.)*"|[^\s()"]+')
 HINT = "in KiCad's schematic editor: File, Export, Netlist, the format KiCad"
 # Kinds of pins as version 5 calls them, and as the others do.
-KINDS = {"bidi": "bidirectional", "3state": "tri_state", "opencol": "open_collector", "openem": "open_emitter", "notconnected": "no_connect"}
+KINDS = {
+    "bidi": "bidirectional", "3state": "tri_state", "opencol": "open_collector", "openem": "open_emitter", "notconnected": "no_connect",
+}
 # What a field of a part that is not fitted is called.
 NOT_FITTED = "dnp"
 
@@ -116,8 +118,8 @@ def field(tree: Tree, name: str, where: str) -> str:
 def component_of(tree: Tree) -> Component:
     """A part."""
     source = tree.one("libsource")
-    fields = [field.one("name").text for field in tree.all("property")]
-    return Component(field(tree, "ref", "a part"), tree.one("value").text, source.one("part").text, source.one("lib").text, NOT_FITTED not in fields)
+    is_fitted = all(said.one("name").text != NOT_FITTED for said in tree.all("property"))
+    return Component(field(tree, "ref", "a part"), tree.one("value").text, source.one("part").text, source.one("lib").text, is_fitted)
 
 
 def tree_of_list(text: str) -> Tree:
@@ -136,11 +138,13 @@ def tree_of_list(text: str) -> Tree:
             tree = open_trees.pop()
             open_trees[-1].inner.append(tree)
         elif word == ")":
+            end = found.start()
             break
         else:
             add_word(open_trees[-1], re.sub(r"\\(.)", r"\1", word[1:-1]) if word[0] == '"' else word)
     if text[end:].strip() or len(open_trees) > 1 or len(top.inner) != 1:
-        raise UnusableNetlist(f"line {text.count(chr(10), 0, end) + 1}: the brackets and quotes do not match: the file is not whole, or {HINT}")
+        line = text.count("\n", 0, end) + 1
+        raise UnusableNetlist(f"line {line}: the brackets and quotes do not match: the file is not whole; {HINT}")
     return top.inner[0]
 
 

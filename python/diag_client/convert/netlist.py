@@ -10,7 +10,7 @@ import sys
 from collections.abc import Sequence
 
 from .. import interrupts
-from ..devices import MADE, MADE_BY, NAMES, PINS, is_made_here, title_of
+from ..devices import MADE, MADE_BY, NAMES, PINS, is_made_here, read_design, title_of
 from ..errors import DiagError, sentence
 from ..files import drop_unwritten, open_streams, write_whole
 from .board import Board, read_board
@@ -26,7 +26,7 @@ LONGEST_NAME = 32
 MOST_PORTS = 6
 # What `diag` takes of a device.
 MOST_PARTS, MOST_WIRES = 4096, 16384
-# So many gates of a loop are shown.
+# So many gates of a loop are shown, and so many lines of one kind.
 SHOWN = 8
 # So many wires are on a line of a design.
 WIRES_ON_A_LINE = 12
@@ -85,7 +85,7 @@ def made_of_board(path: pathlib.Path, ending: str | None, is_of_gates: bool, is_
     if is_strict and board.unknown:
         raise UnusableNetlist("\n  ".join(["this is not understood:", *board.unknown]))
     if not any(placed.functions for placed in board.chips):
-        raise UnusableNetlist("no chip of the library drives anything on this board; chips/README.md beside the converter lists what it has")
+        raise UnusableNetlist("no chip of the library drives anything on this board")
     said = [f"not understood: {text}; what it drives may have any level" for text in board.unknown] + board.remarks
     if is_of_gates and (board.has_flip_flops or ending == ".bench"):
         if ending == ".dev":
@@ -98,14 +98,25 @@ def made_of_board(path: pathlib.Path, ending: str | None, is_of_gates: bool, is_
         return found
     if ending == ".bench":
         raise UnusableNetlist("chips are parts of a design: let OUT end in .dev, or give --gates")
+    if board.has_flip_flops:
+        board.forget_clocks()
+        said.append("what flip-flops store may be either bit at each time; --gates writes a .bench, which has them over clock periods")
     design = Design(board, is_of_gates)
     renamed_nets = [(name, other) for net in board.used_nets for name in [design.name(net)] for other in net.names if other != name]
-    said += [f"renamed: {other} is {name}" for name, other in renamed_nets]
-    if board.has_flip_flops:
-        said.append("what flip-flops store may be either bit at each time; --gates writes a .bench, which has them over clock periods")
+    own = {net.name for net in board.used_nets}
+    said += few([f"renamed: {other} is {name}" for name, other in renamed_nets if other in own])
     inputs = sum(net.is_input for net in board.used_nets)
     summary = f"{design.count} {'gates' if is_of_gates else 'chips'}, {inputs} inputs"
-    return Made(".dev", design.text(), summary, renamed_nets, [], said, pins_of(board, design.names))
+    text = design.text()
+    flat = read_design(text)
+    said += too_large(len(flat.parts), len(flat.wires))
+    return Made(".dev", text, summary, renamed_nets, [], said, pins_of(board, design.names))
+
+
+def few(lines: list[str]) -> list[str]:
+    """The first of many lines, all of which the table of names has."""
+    more = len(lines) - SHOWN
+    return lines if more <= 0 else [*lines[:SHOWN], f"{lines[0].split(':')[0]}: {more} more, which the table of names has"]
 
 
 def pins_of(board: Board, wires: dict[int, str]) -> list[str]:
@@ -206,10 +217,13 @@ def remarks(circuit: Circuit, names: dict[str, str]) -> list[str]:
     if loop := circuit.loop():
         shown = " ".join(names[name] for name in loop[:SHOWN])
         said.append(f"a loop of {len(loop)} gates: {shown}{' ..' * (len(loop) > SHOWN)}; its wires may have any bits that fit all of them")
-    parts = len(circuit.nodes) + len(circuit.flip_flops)
-    if parts > MOST_PARTS or len(names) > MOST_WIRES:
-        said.append(f"too large: diag serves at most {MOST_PARTS} parts and {MOST_WIRES} wires, and these are {parts} and {len(names)}")
-    return said
+    return said + too_large(len(circuit.nodes) + len(circuit.flip_flops), len(circuit.wires))
+
+
+def too_large(parts: int, wires: int) -> list[str]:
+    """Whether a device has more than `diag` serves."""
+    told = f"too large: diag serves at most {MOST_PARTS} parts and {MOST_WIRES} wires, and these are {parts} and {wires}"
+    return [told] * (parts > MOST_PARTS or wires > MOST_WIRES)
 
 
 def convert(path: pathlib.Path, out: pathlib.Path | None = None, is_of_gates: bool = False, is_strict: bool = False) -> list[str]:
@@ -241,8 +255,9 @@ def write(path: pathlib.Path, out: pathlib.Path | None, found: Made) -> list[str
     tables = [(out.with_name(out.name + ".names"), NAMES, rows, f"{len(found.renamed)} names that were replaced")]
     tables += [(out.with_name(out.name + ".pins"), PINS, found.pins, f"{len(found.pins)} pins and test points")]
     # `-o` names the file and not its tables, so it lets the file alone be replaced.
-    for file, may_replace, advice in ((out, is_named, "or this one to replace it"), *((table[0], False, "or move that file") for table in tables)):
-        if not may_replace and file.exists() and not is_made_here(file):
+    in_the_way = [(out, "or this one to replace it")] * (not is_named) + [(table[0], "or move that file") for table in tables]
+    for file, advice in in_the_way:
+        if file.exists() and not is_made_here(file):
             raise UnusableNetlist(f"{file} is there, and diag-netlist has not made it: give another name by -o, {advice}")
     title = f"{MADE}{' '.join(path.name.split())}{MADE_BY}"
     before = title_of(out) if out.is_file() and is_made_here(out) else title
@@ -256,13 +271,14 @@ def write(path: pathlib.Path, out: pathlib.Path | None, found: Made) -> list[str
             said.append(f"{table}: {summary}")
     if before != title:
         said.append(f"{out} is no longer the one that was made of {before.removeprefix(MADE).removesuffix(MADE_BY)}")
-    return said + found.remarks + [f"left out: {text}" for text in found.left_out]
+    return said + found.remarks + few([f"left out: {text}" for text in found.left_out])
 
 
 def main(words: Sequence[str] | None = None) -> int:
     """Does what the words say, and gives the exit status."""
     parser = argparse.ArgumentParser(prog="diag-netlist", description=__doc__.split(": ")[1].strip() if __doc__ else None)
-    parser.add_argument("file", metavar="FILE", type=pathlib.Path, help="BLIF or JSON (.blif, .json) of yosys, a .bench of ABC, or a board of KiCad (.net, .xml)")
+    what = "BLIF or JSON (.blif, .json) of yosys, a .bench of ABC, or a board of KiCad (.net, .xml)"
+    parser.add_argument("file", metavar="FILE", type=pathlib.Path, help=what)
     parser.add_argument("-o", "--output", metavar="OUT", type=pathlib.Path, help="a .bench or .dev; else FILE with that ending")
     parser.add_argument("--gates", action="store_true", help="of a board, the parts are the gates and not the chips")
     parser.add_argument("--strict", action="store_true", help="refuse a board with something that is not understood")

@@ -12,7 +12,7 @@ import functools
 import re
 from collections.abc import Iterable, Sequence
 
-from .chips import Chip, Direction, Function, Pin, find_chip, number_in
+from .chips import STORAGE, Chip, Direction, Function, Pin, find_chip, number_in
 from .circuit import UnusableNetlist
 from .kicad import Component, Node, Schematic
 
@@ -325,6 +325,9 @@ class Reader:
                     self.board.remarks.append(f"{reference} is between two nets that chips drive, and is left out: {one} and {other}")
                 else:
                     near, far = (other, one) if drivers.get(other) else (one, other)
+                    if self.feeds_back(near, far, drivers):
+                        self.board.remarks.append(f"{reference} feeds a gate back to itself, and is left out: {far} may have any level")
+                        continue
                     self.joined[far] = near
                     pulls[near] |= pulls.pop(far, set())
                     if self.has_probe_pins(far) and self.has_probe_pins(near):
@@ -334,6 +337,16 @@ class Reader:
     def has_probe_pins(self, net: str) -> bool:
         """Whether a chip, or the world outside, is at a net."""
         return any(self.roles.get(node.reference) in (Role.CHIP, Role.OUTSIDE) for node in self.schematic.nets[net])
+
+    def feeds_back(self, near: str, far: str, drivers: dict[str, list[Driver]]) -> bool:
+        """Whether a gate that drives the one net reads the other, as in an oscillator: joined, it would be blamed for ever."""
+        for driver in drivers.get(near, []):
+            chip = self.chips[driver.node.reference]
+            gates = needed([function for function in chip.functions if function.kind not in STORAGE], [driver.pin.name])
+            at_far = {chip.pins[node.number].name for net, node in self.nodes[driver.node.reference] if self.find(net) == far}
+            if any(at_far & set(gate.inputs) for gate in gates):
+                return True
+        return False
 
     def ends_of(self, reference: str) -> list[tuple[str, str]]:
         """The nets at the two ends of each resistor that a part has."""

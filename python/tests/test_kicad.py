@@ -11,6 +11,7 @@ import unittest
 import chip_rules
 from support import EXAMPLES, PROGRAM, needs_program
 
+from diag_client import Service
 from diag_client.convert import netlist
 from diag_client.convert.board import Role, letters_of, read_board
 from diag_client.convert.chips import all_chips
@@ -348,6 +349,55 @@ class Wiring(Boards):
             self.assertEqual(self.levels(parts, nets, ["/SEG"], zero | given), [level], given)
 
 
+class Explained(Boards):
+    """Which chips explain readings, compared with all levels of all nets tried one by one."""
+
+    PARTS = [
+        ("U1", "74LS05", "74xx:74LS05"), ("U2", "74LS125", "74xx:74LS125"), ("U3", "74LS00", "74xx:74LS00"), ("R1", "4k7", "Device:R"),
+        ("J1", "", "Connector_Generic:Conn_01x04"), ("TP1", "", "Connector:TestPoint"),
+    ]
+    NETS = {
+        "/A": "J1.1:passive U1.1:input U3.4:input", "/B": "J1.2:passive U1.3:input", "/C": "J1.3:passive U2.5:input",
+        "/E": "J1.4:passive U2.1:input U3.1:input U3.2:input", "/W": "U1.2:open_collector U1.4:open_collector R1.1:passive U2.2:input",
+        "/E2": "U3.3:output U2.4:input", "/BUS": "U2.3:tri_state U2.6:tri_state U3.5:input", "/Y": "U3.6:output TP1.1:passive", "VCC": "R1.2:passive",
+    }
+
+    def allows(self, net, faulty):
+        """Whether these levels are possible if these chips are faulty: a faulty open collector cannot hold a net up that another pulls down."""
+        a, b, c, e, w, e2, bus, y = (net[f"/{name}"] for name in ("A", "B", "C", "E", "W", "E2", "BUS", "Y"))
+        driving = {level for enable, level in ((e, w), (e2, c)) if enable == 0}
+        is_bus = "U2" in faulty or len(driving) != 1 or bus in driving
+        gates = "U3" in faulty or (e2 == 1 - e and y == 1 - (bus & a))
+        return is_bus and gates and ("U1" in faulty or w == int(not a and not b))
+
+    @needs_program
+    def test_chips(self):
+        _, path = self.convert(self.PARTS, self.NETS)
+        tried = random.Random(SEED)
+        wires = [name for name in self.NETS if name != "VCC"]
+        levels = [dict(zip(wires, bits)) for bits in itertools.product((0, 1), repeat=len(wires))]
+        possible = {faulty: [net for net in levels if self.allows(net, faulty)] for size in range(4) for faulty in itertools.combinations(("U1", "U2", "U3"), size)}
+        sizes = set()
+        with Service(path, narrow=True) as service, service.session() as session:
+            for _ in range(150):
+                seen = {wire: tried.randrange(2) for wire in tried.sample(wires, tried.randint(3, 8))}
+                found = [faulty for faulty, nets in possible.items() if any(seen.items() <= net.items() for net in nets)]
+                wanted = [faulty for faulty in found if len(faulty) == len(found[0])]
+                session.see(seen)
+                self.assertEqual({diagnosis.faulty for diagnosis in session.diagnoses()}, set(wanted), seen)
+                sizes.add(len(wanted[0]))
+                session.unsee(*seen)
+        self.assertEqual(sizes, {0, 1, 2, 3})
+
+    @needs_program
+    def test_pins(self):
+        """A reading at a pin is one of its wire."""
+        _, path = self.convert(self.PARTS, self.NETS)
+        with Service(path, narrow=True) as service, service.session() as session:
+            session.see({"U3.3": 1, "J1.4": 1, "TP1": 0})
+            self.assertEqual((session.seen, session.minimum().faulty), ({"/E2": 1, "/E": 1, "/Y": 0}, ("U3",)))
+
+
 class EveryChip(Boards):
     """Each chip of the library without a memory, alone on a board, against what chip_rules.py says of it."""
 
@@ -417,6 +467,17 @@ class Counter(Boards):
         (self.folder / "counter.net").write_text(text)
         with self.assertRaisesRegex(UnusableNetlist, "no flip-flops: let OUT end in .bench"):
             netlist.convert(self.folder / "counter.net", self.folder / "counter.dev", is_of_gates=True)
+
+    @needs_program
+    def test_page(self):
+        """What examples/boards/README.md shows is printed."""
+        page = re.sub(r"(?m)^   ", "", (BOARDS / "README.md").read_text())
+        (self.folder / "adder.net").write_text((BOARDS / "adder.net").read_text())
+        said = netlist.convert(self.folder / "adder.net")
+        self.assertIn("\n".join(["$ diag-netlist adder.net", *(line.replace(f"{self.folder}/", "") for line in said), "```"]), page)
+        with open(BOARDS / "adder.script") as script:
+            done = subprocess.run([PROGRAM, "serve", self.folder / "adder.dev", "--narrow"], stdin=script, capture_output=True, text=True, check=True)
+        self.assertIn("< adder.script\n" + done.stdout[done.stdout.index("S min") :] + "```", page)
 
     @needs_program
     def test_is_served(self):

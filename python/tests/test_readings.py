@@ -42,7 +42,6 @@ REFUSED = {
     "1,also\n0,1\n": "row 2, column 2 (also): not 1, since it is one wire with a column before it",
     "1,,3\n0,,1\n": "row 1, column 2: no wire ''",
     "1,3\n0,1,1\n": "row 2, column 3: 3 cells, and the first row has 2",
-    "# 1,3\n": "a first row with the names of wires is needed",
 }
 
 
@@ -117,6 +116,12 @@ class Pasted(unittest.TestCase):
             records.read_readings("see P1 d=0\n", self.KNOWN)
         with self.assertRaisesRegex(records.Bad, "take it by Load"):
             records.read_readings("see P1 a=0\nhold P1 g=ok\n", self.KNOWN)
+
+    def test_no_table(self):
+        """Of one line it is not said that a table has more of them."""
+        for text in ("1:0", "a b", ""):
+            with self.subTest(text), self.assertRaisesRegex(records.Bad, f"^'{text}' is no reading: write a=0 b=1$"):
+                records.read_readings(text, self.KNOWN)
 
     def test_levels_are_not_guessed(self):
         with self.assertRaisesRegex(ValueError, "^write 1$"):

@@ -413,7 +413,9 @@ class AtABench(unittest.TestCase):
 
     def test_pasted(self):
         """Lines that a terminal hands over as one."""
-        self.assertEqual(self.say("\x1b[200~see 1=0\r2=0 3=0\rmin\r\x1b[201~"), ["ok", "2 readings taken", "min 0 (nothing is wrong)"])
+        for feed in ("\r", "\n", "\r\n"):
+            lines = feed.join(["see 1=0", "2=0 3=0", "min", ""])
+            self.assertEqual(self.say(f"\x1b[200~{lines}\x1b[201~"), ["ok", "2 readings taken", "min 0 (nothing is wrong)"])
 
     def test_files(self):
         """A name may have quotes around it, and a script a mark before it."""

@@ -19,6 +19,7 @@ from typing import Any, TypeVar
 from .. import progress
 from ..advice import Proposal
 from ..boards.joint import Joint, JointProposal
+from ..case import change, checked
 from ..devices import other_names
 from ..errors import DiagError, Ended, Inconsistent, Refused
 from ..replies import Listing, Request, Verdict
@@ -337,7 +338,10 @@ class Board:
         part, mode = _text(act, "part"), act.get("mode")
         held = {name: how for name, how in self.record.board.held.items() if name != part}
         if mode is not None:
-            held.update([self.bench.known.mode(part, _text(act, "mode"))])
+            try:
+                change({}, held, "hold", [checked("hold", f"{part}={_text(act, 'mode')}", self.bench.known.name_of)])
+            except ValueError as error:
+                raise Bad(str(error)) from error
         self._change(self.record.with_held(held))
 
     def _pattern(self, act: Mapping[str, Any]) -> None:

@@ -23,7 +23,7 @@ SUPPLIES = (
 )
 RAILS = {"GND": 0, "VSS": 0, "VCC": 1, "VDD": 1}
 # Networks of resistors by their symbol: the pins of each resistor, given their number.
-STAR, PACK = re.compile(r"R_Network(\d+)\w*"), re.compile(r"R_Pack(\d+)\w*")
+STAR, PACK = re.compile(r"(?:R_Network|RR)(\d+)\w*"), re.compile(r"R_Pack(\d+)\w*")
 # Kinds of pins, in the words of KiCad, that drive nothing.
 SILENT = {"input", "power_in", "no_connect", "unconnected", "free"}
 DRIVING = {"output", "tri_state", "open_collector", "open_emitter"}
@@ -77,7 +77,7 @@ class Driver:
 @dataclasses.dataclass
 class Net:
     """Pins that are one wire. `pull` is the level that a resistor gives if nothing drives; a lamp does so, too, if all else lets go. It
-    `is_free` if what is not modelled may drive it, and `is_shared` if that is a part with outputs of its own.
+    `is_free` if what is not modelled may drive it, and `is_shared` if that is more than the world outside.
     """
 
     name: str
@@ -244,8 +244,9 @@ class Reader:
             for node in nodes:
                 if schematic.components[node.reference].is_fitted:
                     self.nodes[node.reference].append((net, node))
-        # The net that each net is joined to.
+        # The net that each net is joined to, and the nets that something else reaches through a resistor.
         self.joined: dict[str, str] = {}
+        self.reached: set[str] = set()
 
     def find(self, net: str) -> str:
         """The net that a net is joined to in the end."""
@@ -321,18 +322,30 @@ class Reader:
                 if one in levels or other in levels:
                     supply, net = (one, other) if one in levels else (other, one)
                     pulls[net].add(levels[supply])
-                elif drivers.get(one) and drivers.get(other):
-                    self.board.remarks.append(f"{reference} is between two nets that chips drive, and is left out: {one} and {other}")
                 else:
                     near, far = (other, one) if drivers.get(other) else (one, other)
-                    if self.feeds_back(near, far, drivers):
-                        self.board.remarks.append(f"{reference} feeds a gate back to itself, and is left out: {far} may have any level")
-                        continue
-                    self.joined[far] = near
-                    pulls[near] |= pulls.pop(far, set())
-                    if self.has_probe_pins(far) and self.has_probe_pins(near):
-                        self.board.remarks.append(f"{reference} is taken as a wire: {far} is {near}")
+                    self.link(reference, near, far, drivers)
+                    if far in self.joined:
+                        pulls[near] |= pulls.pop(far, set())
         return pulls
+
+    def link(self, reference: str, near: str, far: str, drivers: dict[str, list[Driver]]) -> None:
+        """Joins two nets at a resistor in series, unless something at each end may drive."""
+        is_unknown = any(self.is_unknown(node) for name in self.schematic.nets if self.find(name) == far for node in self.schematic.nets[name])
+        if drivers.get(near) and (drivers.get(far) or is_unknown):
+            self.board.remarks.append(f"{reference} is left out: both of its nets are driven, {near} and {far}")
+            self.reached |= {near, far}
+            return
+        if self.feeds_back(near, far, drivers):
+            self.board.remarks.append(f"{reference} feeds a gate back to itself, and is left out: {far} may have any level")
+            return
+        self.joined[far] = near
+        if self.has_probe_pins(far) and self.has_probe_pins(near):
+            self.board.remarks.append(f"{reference} is taken as a wire: {far} is {near}")
+
+    def is_unknown(self, node: Node) -> bool:
+        """Whether what is not understood may drive the net at a pin."""
+        return self.roles.get(node.reference) is Role.UNKNOWN and node.kind not in SILENT
 
     def has_probe_pins(self, net: str) -> bool:
         """Whether a chip, or the world outside, is at a net."""
@@ -378,7 +391,7 @@ class Reader:
             net.pull = next(iter(found)) if len(found) == 1 else None
             net.has_lamp = any(self.roles[node.reference] is Role.LAMP for node in nodes)
             net.is_free = any(self.may_drive(node) for node in nodes)
-            net.is_shared = any(self.roles[node.reference] is Role.UNKNOWN and node.kind in DRIVING | {"bidirectional"} for node in nodes)
+            net.is_shared = any(self.is_unknown(node) for node in nodes) or not self.reached.isdisjoint(names)
             if len(found) > 1:
                 self.board.remarks.append(f"net {name} is pulled both ways, and is taken as not pulled")
             if net.level is not None and net.drivers:
@@ -388,10 +401,9 @@ class Reader:
 
     def may_drive(self, node: Node) -> bool:
         """Whether something that is not modelled may drive the net at a pin."""
-        role = self.roles[node.reference]
-        if role is Role.OUTSIDE:
+        if self.roles[node.reference] is Role.OUTSIDE:
             return letters_of(node.reference) != "TP" and node.kind != "no_connect"
-        return role is Role.UNKNOWN and node.kind not in SILENT
+        return self.is_unknown(node)
 
     def place_chips(self) -> None:
         """The chips with what is connected, and what can be probed."""

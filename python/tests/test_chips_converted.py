@@ -41,7 +41,7 @@ def board_text(parts, nets):
 
 
 def board_of(chip, tied=()):
-    """A netlist: the inputs are at a connector, the outputs at test points, and open collectors have a resistor. Pins may be tied to nets."""
+    """A netlist: inputs are at a connector, outputs at test points, and open collectors have a resistor. Pins may be tied to nets."""
     parts, nets = [part("U1", chip.numbers[0]), part("J1", "Conn")], {"VCC": [], "GND": []}
     for pin in chip.pins.values():
         here = node("U1", pin.number, KINDS.get(pin.direction, "bidirectional"))
@@ -97,7 +97,8 @@ class Converted(unittest.TestCase):
                 session.see(seen)
                 self.assertEqual(session.minimum().cost, 0, row)
                 probes = session.probe_each([name for name in driven_pins(chip) if name not in seen])
-                self.assertEqual({probe.wire: probe.fault_free for probe in probes}, {probe.wire: wanted[probe.wire] for probe in probes}, row)
+                found = {probe.wire: probe.fault_free for probe in probes}
+                self.assertEqual(found, {wire: wanted[wire] for wire in found}, row)
 
 
 @needs_program

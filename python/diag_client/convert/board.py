@@ -151,8 +151,8 @@ class Board:
 
     chips: list[Placed] = dataclasses.field(default_factory=list)
     nets: list[Net] = dataclasses.field(default_factory=list)
-    # What can be probed: the net, the pin in words, its name on the chip, and what it is.
-    pins: list[tuple[Net, str, str, str]] = dataclasses.field(default_factory=list)
+    # What can be probed: the net, the pin in words, its name on the chip, what it is, and of a chip what is printed on it.
+    pins: list[tuple[Net, list[str]]] = dataclasses.field(default_factory=list)
     remarks: list[str] = dataclasses.field(default_factory=list)
     unknown: list[str] = dataclasses.field(default_factory=list)
 
@@ -431,11 +431,12 @@ class Reader:
         """Notes a pin that can be probed."""
         role = self.roles[node.reference]
         if role is Role.CHIP and net.level is None:
-            pin = self.chips[node.reference].pins[node.number]
-            self.board.pins.append((net, str(node), pin.name, pin.direction.value))
+            pin, part = self.chips[node.reference].pins[node.number], self.schematic.components[node.reference]
+            printed = part.value if find_chip(part.value) else part.symbol
+            self.board.pins.append((net, [str(node), pin.name, pin.direction.value, " ".join(printed.split())]))
         elif role is Role.OUTSIDE and net.level is None:
             is_point = letters_of(node.reference) == "TP"
-            self.board.pins.append((net, node.reference if is_point else str(node), "", "test point" if is_point else "connector"))
+            self.board.pins.append((net, [node.reference if is_point else str(node), "", "test point" if is_point else "connector", ""]))
 
     def report(self) -> None:
         """What may not be meant: two outputs at a net, no pull-up, and inputs that nothing drives."""

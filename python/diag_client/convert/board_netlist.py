@@ -67,7 +67,8 @@ class Gates:
         elif function.kind == "FLIPFLOP":
             # A set or a clear that is tied off is no gate.
             levels = levels_in(placed)
-            self.add_flip_flop(wire, {role: reads[role] for role, name in function.reads.items() if role not in FORCED or levels.get(name) != 0})
+            tied_off = {role for role, name in function.reads.items() if role in FORCED and levels.get(name) == 0}
+            self.add_flip_flop(wire, {role: name for role, name in reads.items() if role not in tied_off})
         else:
             self.add_latch(wire, reads)
 

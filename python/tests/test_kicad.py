@@ -86,10 +86,11 @@ class Settled:
                     self.rows[name].add(row)
 
     def allowed(self, part, reads):
-        """The bits that a part allows at its last port."""
-        if part.kind in GATES:
-            return {GATES[part.kind].output(reads)}
-        return {int(row[-1]) for row in self.rows[part.kind] if row[:-1] == "".join(map(str, reads))}
+        """The bits that a part allows at its last port, given some of the others."""
+        if part.kind not in GATES:
+            return {int(row[-1]) for row in self.rows[part.kind] if all(bit in (None, int(mark)) for bit, mark in zip(reads, row))}
+        every = itertools.product(*([0, 1] if bit is None else [bit] for bit in reads))
+        return {GATES[part.kind].output(bits) for bits in every}
 
     def bits(self, given):
         found, count = dict(given), -1
@@ -97,7 +98,7 @@ class Settled:
             count = len(found)
             for part in self.device.parts:
                 reads = [found.get(wire) for wire in part.wires[:-1]]
-                if part.kind != "DFF" and part.wires[-1] not in found and None not in reads and len(self.allowed(part, reads)) == 1:
+                if part.kind != "DFF" and part.wires[-1] not in found and len(self.allowed(part, reads)) == 1:
                     (found[part.wires[-1]],) = self.allowed(part, reads)
         return found
 
@@ -174,6 +175,8 @@ class Read(Boards):
             schematic = read_kicad((BOARDS / f"{name}.net").read_text(), False)
             board = read_board(schematic)
             self.assertEqual((len(board.chips), sum(net.is_input for net in board.used_nets), board.unknown), (chips, inputs, []))
+        wanted = read_kicad((BOARDS / "adder.net").read_text(), False)
+        self.assertEqual(read_kicad((BOARDS / "adder.xml").read_text(), True), wanted)
 
 
 class Understood(Boards):
@@ -278,6 +281,16 @@ class Understood(Boards):
         self.assertIn("net GND is a supply of the level 0 by its name, but pin U1.14 (VCC) is at it", self.refused(text))
         self.assertIn("no chip of the library drives anything", self.refused(netlist_of([jack], {"/A": "J1.1:passive"})))
 
+    def test_supplies(self):
+        """A net is a supply by its name alone, too, and a signal with a longer name is none."""
+        for name, level in (
+            ("GND", 0), ("/power/AGND", 0), ("0V", 0), ("VSS", 0), ("+5V", 1), ("+3.3V", 1), ("3V3", 1), ("VDD", 1),
+            ("/VCC_OK", None), ("-5V", None), ("/GND_SENSE", None),
+        ):
+            nets = {name: "U1.1:input U1.2:input", "/Y": "U1.3:output J1.1:passive"}
+            schematic = read_kicad(netlist_of([("U1", "74LS00", "74xx:74LS00"), ("J1", "", "Connector:X")], nets), False)
+            self.assertEqual([net.level for net in read_board(schematic).nets if net.name == name], [level], name)
+
     def test_endings(self):
         text = netlist_of(*SELECTOR)
         for out, options, why in (("x.bench", {}, "give --gates"), ("x.net", {}, "does not end in .bench or .dev")):
@@ -286,7 +299,7 @@ class Understood(Boards):
                 netlist.convert(self.folder / "board.net", self.folder / out, **options)
 
     def test_roles(self):
-        self.assertEqual([letters_of(text) for text in ("U12", "#PWR01", "RN3", "7")], ["U", "#PWR", "RN", ""])
+        self.assertEqual([letters_of(text) for text in ("U12", "rn3", "7", "")], ["U", "RN", "", ""])
         self.assertEqual(len(Role), 6)
 
 
@@ -349,6 +362,71 @@ class Wiring(Boards):
             self.assertEqual(self.levels(parts, nets, ["/SEG"], zero | given), [level], given)
 
 
+class Stored(Boards):
+    """What latches and flip-flops are in a design, where they store anything, and in a netlist."""
+
+    def test_flip_flop(self):
+        """A preset goes before a clear, both of which do not wait for the clock."""
+        pins = {"D": 2, "CLK": 3, "PRE": 4, "CLR": 1}
+        nets = {f"/{name}": f"U1.{pin}:input J1.{pin}:passive" for name, pin in pins.items()}
+        nets |= {"/Q": "U1.5:output J1.5:passive", "/NQ": "U1.6:output J1.6:passive"}
+        board = [("U1", "74HC74", "74xx:74HC74"), ("J1", "", "Connector_Generic:Conn_01x09")], nets
+        said, design = self.convert(*board)
+        self.assertTrue(said[-1].startswith("what flip-flops store may be either bit at each time; --gates writes a .bench"))
+        said, path = self.convert(*board, is_of_gates=True)
+        self.assertIn("left out: the clock /CLK", said)
+        for data, preset, clear, stored in itertools.product((0, 1), repeat=4):
+            given = {"/D": data, "/PRE": preset, "/CLR": clear}
+            level = 1 if preset == 0 else 0 if clear == 0 else None
+            self.assertEqual(Settled(design).bits(given).get("/Q"), level)
+            bits = Settled(path).bits({**given, "U1.5_stored": stored})
+            self.assertEqual((bits["U1.5"], bits["U1.5_next"]), (stored, data) if level is None else (level, level))
+            self.assertEqual(bits["U1.6"], 1 if clear == 0 else 1 - bits["U1.5"])
+
+    def test_latch(self):
+        nets = {"/D": "U1.2:input J1.1:passive", "/E": "U1.13:input J1.2:passive", "/Q": "U1.16:output J1.3:passive"}
+        board = [("U1", "74LS75", "74xx:74LS75"), ("J1", "", "Connector_Generic:Conn_01x09")], nets
+        for options, name in (({}, "/Q"), ({"is_of_gates": True}, "/Q"), ({"is_of_gates": True, "out": "x.bench"}, "U1.16")):
+            _, path = self.convert(*board, **options)
+            for data, enable in itertools.product((0, 1), repeat=2):
+                self.assertEqual(Settled(path).bits({"/D": data, "/E": enable}).get(name), data if enable else None, options)
+
+    def test_clocks(self):
+        """Flip-flops with two clocks or edges cannot step at once; a clock may pass gates, and the edge turns with them."""
+        parts = [("U1", "74LS74", "74xx:74LS74"), ("U2", "74LS04", "74xx:74LS04"), ("J1", "", "Connector_Generic:Conn_01x09")]
+        nets = {"/D": "U1.2:input U1.12:input J1.1:passive", "/Q": "U1.5:output J1.2:passive", "/Q2": "U1.9:output J1.3:passive"}
+        nets |= {"VCC": "U1.1:input U1.4:input U1.10:input U1.13:input"}
+        for clocks, why in (
+            ({"/CK": "U2.1:input J1.4:passive", "/A": "U2.2:output U1.3:input U1.11:input"}, ""),
+            ({"/CK": "U2.1:input J1.4:passive U1.11:input", "/A": "U2.2:output U1.3:input"}, "several clocks or edges"),
+            ({"/CK": "U1.3:input J1.4:passive", "/CK2": "U1.11:input J1.5:passive"}, "several clocks or edges"),
+            ({"/CK": "U1.3:input U1.11:input J1.4:passive U2.1:input", "/A": "U2.2:output J1.5:passive"}, ""),
+            ({"/CK": "U1.3:input J1.4:passive", "/Q": "U1.5:output U1.11:input J1.5:passive"}, "several clocks or edges"),
+        ):
+            if why:
+                self.assertIn(why, self.refused(netlist_of(parts, nets | clocks), is_of_gates=True))
+                continue
+            _, path = self.convert(parts, nets | clocks, is_of_gates=True)
+            self.assertEqual([part.name for part in read_device(path).parts if part.kind == "DFF"], ["U1.5_stored", "U1.9_stored"], clocks)
+            for file in self.folder.iterdir():
+                file.unlink()
+
+    def test_bus_in_a_netlist(self):
+        """Gates cannot let go: a bus is 1 while nothing drives it, and that is said; with a pull-down it is 0."""
+        parts = [("U1", "74LS125", "74xx:74LS125"), ("J1", "", "Connector_Generic:Conn_01x09"), ("R1", "", "Device:R")]
+        nets = {
+            "/E1": "U1.1:input J1.1:passive", "/D1": "U1.2:input J1.2:passive", "/E2": "U1.4:input J1.3:passive", "/D2": "U1.5:input J1.4:passive",
+            "/BUS": "U1.3:tri_state U1.6:tri_state J1.5:passive R1.1:passive",
+        }
+        for more, idle in (({}, 1), ({"GND": "R1.2:passive"}, 0), ({"VCC": "R1.2:passive"}, 1)):
+            said, path = self.convert(parts, nets | more, "x.bench", is_of_gates=True)
+            self.assertEqual("net /BUS is taken as 1 while nothing drives it" in said, not more)
+            for e1, d1, e2, d2 in itertools.product((0, 1), repeat=4):
+                driving = {data for enable, data in ((e1, d1), (e2, d2)) if enable == 0} or {idle}
+                level = Settled(path).bits({"/E1": e1, "/D1": d1, "/E2": e2, "/D2": d2})["/BUS"]
+                self.assertIn(level, driving)
+
+
 class Explained(Boards):
     """Which chips explain readings, compared with all levels of all nets tried one by one."""
 
@@ -363,7 +441,7 @@ class Explained(Boards):
     }
 
     def allows(self, net, faulty):
-        """Whether these levels are possible if these chips are faulty: a faulty open collector cannot hold a net up that another pulls down."""
+        """Whether these levels are possible if these chips are faulty."""
         a, b, c, e, w, e2, bus, y = (net[f"/{name}"] for name in ("A", "B", "C", "E", "W", "E2", "BUS", "Y"))
         driving = {level for enable, level in ((e, w), (e2, c)) if enable == 0}
         is_bus = "U2" in faulty or len(driving) != 1 or bus in driving

@@ -10,6 +10,7 @@ import dataclasses
 import enum
 import functools
 import re
+import string
 from collections.abc import Iterable, Sequence
 
 from .chips import STORAGE, Chip, Direction, Function, Pin, find_chip, number_in
@@ -19,7 +20,7 @@ from .kicad import Component, Node, Schematic
 # Supplies by the last part of their name.
 SUPPLIES = (
     (0, re.compile(r"[ADP]?GND[AD]?\d?|GND(REF|PWR)|VSS[AD]?|0V|Earth", re.IGNORECASE)),
-    (1, re.compile(r"[AD]?V(CC|DD)[AQ]?\d?|\+\d+(V\d*|\.\d+V)|\d+V\d*", re.IGNORECASE)),
+    (1, re.compile(r"[AD]?V(CC|DD)[AQ]?\d?|\+?[1-9]\d*(V\d*|\.\d+V)", re.IGNORECASE)),
 )
 RAILS = {"GND": 0, "VSS": 0, "VCC": 1, "VDD": 1}
 # Networks of resistors by their symbol: the pins of each resistor, given their number.
@@ -27,8 +28,6 @@ STAR, PACK = re.compile(r"(?:R_Network|RR)(\d+)\w*"), re.compile(r"R_Pack(\d+)\w
 # Kinds of pins, in the words of KiCad, that drive nothing.
 SILENT = {"input", "power_in", "no_connect", "unconnected", "free"}
 DRIVING = {"output", "tri_state", "open_collector", "open_emitter"}
-
-
 # What a pin of a chip cannot be in a netlist: then it is another chip, or in another case.
 CLASHES = {
     Direction.IN: DRIVING | {"power_in", "power_out"},
@@ -94,7 +93,6 @@ class Net:
     def is_constant(self) -> bool:
         """Whether it has one level for ever: that of a supply, or a pull alone."""
         return self.level is not None or (self.pull is not None and not self.drivers and not self.is_free)
-
 
     @property
     def constant(self) -> int:
@@ -197,7 +195,7 @@ class Board:
 
 def letters_of(reference: str) -> str:
     """The letters that a reference begins with."""
-    return re.match(r"#?[A-Za-z]*", reference)[0].upper()  # type: ignore[index]
+    return reference[: len(reference) - len(reference.lstrip(string.ascii_letters))].upper()
 
 
 def role_of(component: Component) -> Role:
@@ -271,16 +269,20 @@ class Reader:
             if not component.is_fitted:
                 self.board.remarks.append(f"not fitted: {reference}")
                 continue
-            role, why = role_of(component), ""
-            if role is Role.UNKNOWN:
-                chip, why = chip_of(component)
-                why = why or wrong_pin(chip, (node for _, node in self.nodes[reference])) if chip else why
-                if chip and not why:
-                    role = Role.CHIP
-                    self.chips[reference] = chip
-            self.roles[reference] = role
-            if role is Role.UNKNOWN:
-                self.board.unknown.append(f"{reference} ({component.value or component.symbol}): {why}")
+            self.roles[reference] = role_of(component)
+            if self.roles[reference] is Role.UNKNOWN:
+                self.look_up(reference, component)
+
+    def look_up(self, reference: str, component: Component) -> None:
+        """Finds a chip in the library, and compares its pins."""
+        chip, why = chip_of(component)
+        if chip is not None:
+            why = wrong_pin(chip, [node for _, node in self.nodes[reference]])
+        if chip is None or why:
+            self.board.unknown.append(f"{reference} ({component.value or component.symbol}): {why}")
+        else:
+            self.roles[reference] = Role.CHIP
+            self.chips[reference] = chip
 
     def levels(self) -> dict[str, int]:
         """The level of each net that is a supply: by the pins of chips, or by its name."""

@@ -86,27 +86,43 @@ def made_of_board(path: pathlib.Path, ending: str | None, is_of_gates: bool, is_
         raise UnusableNetlist("\n  ".join(["this is not understood:", *board.unknown]))
     if not any(placed.functions for placed in board.chips):
         raise UnusableNetlist("no chip of the library drives anything on this board")
-    said = [f"not understood: {text}; what it drives may have any level" for text in board.unknown] + board.remarks
     if is_of_gates and (board.has_flip_flops or ending == ".bench"):
         if ending == ".dev":
             raise UnusableNetlist(NO_DESIGN)
-        gates = Gates(board)
-        names = {name: name for name in gates.circuit.driven}
-        found = made(gates.circuit, names, ".bench", bench_text(gates.circuit, names))
-        found.remarks += said
-        found.pins = pins_of(board, {key: wire for key, wire in gates.nets.items() if wire in gates.circuit.wires})
-        return found
+        return gates_of_board(board)
     if ending == ".bench":
         raise UnusableNetlist("chips are parts of a design: let OUT end in .dev, or give --gates")
+    return design_of_board(board, is_of_gates)
+
+
+def said_of_board(board: Board) -> list[str]:
+    """What is not understood of a board, and what may not be meant."""
+    return [f"not understood: {text}; what it drives may have any level" for text in board.unknown] + board.remarks
+
+
+def gates_of_board(board: Board) -> Made:
+    """A netlist of the gates and flip-flops of a board."""
+    gates = Gates(board)
+    circuit = gates.circuit
+    names = {name: name for name in circuit.driven}
+    found = made(circuit, names, ".bench", bench_text(circuit, names))
+    found.remarks += said_of_board(board)
+    found.pins = pins_of(board, {key: wire for key, wire in gates.nets.items() if wire in circuit.wires})
+    return found
+
+
+def design_of_board(board: Board, is_of_gates: bool) -> Made:
+    """A design of the chips of a board, or of their gates."""
+    said = said_of_board(board)
     if board.has_flip_flops:
         board.forget_clocks()
         said.append("what flip-flops store may be either bit at each time; --gates writes a .bench, which has them over clock periods")
     design = Design(board, is_of_gates)
-    renamed_nets = [(name, other) for net in board.used_nets for name in [design.name(net)] for other in net.names if other != name]
-    own = {net.name for net in board.used_nets}
+    nets = board.used_nets
+    renamed_nets = [(design.name(net), other) for net in nets for other in net.names if other != design.name(net)]
+    own = {net.name for net in nets}
     said += few([f"renamed: {other} is {name}" for name, other in renamed_nets if other in own])
-    inputs = sum(net.is_input for net in board.used_nets)
-    summary = f"{design.count} {'gates' if is_of_gates else 'chips'}, {inputs} inputs"
+    summary = f"{design.count} {'gates' if is_of_gates else 'chips'}, {sum(net.is_input for net in nets)} inputs"
     text = design.text()
     flat = read_design(text)
     said += too_large(len(flat.parts), len(flat.wires))

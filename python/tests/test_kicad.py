@@ -407,7 +407,7 @@ class Stored(Boards):
                 self.assertIn(why, self.refused(netlist_of(parts, nets | clocks), is_of_gates=True))
                 continue
             _, path = self.convert(parts, nets | clocks, is_of_gates=True)
-            self.assertEqual([part.name for part in read_device(path).parts if part.kind == "DFF"], ["U1.5_stored", "U1.9_stored"], clocks)
+            self.assertEqual([part.name for part in read_device(path).parts if part.kind == "DFF"], ["U1.5", "U1.9"], clocks)
             for file in self.folder.iterdir():
                 file.unlink()
 

@@ -333,7 +333,8 @@ class Reader:
 
     def link(self, reference: str, near: str, far: str, drivers: dict[str, list[Driver]]) -> None:
         """Joins two nets at a resistor in series, unless something at each end may drive."""
-        is_unknown = any(self.is_unknown(node) for name in self.schematic.nets if self.find(name) == far for node in self.schematic.nets[name])
+        joined = [nodes for name, nodes in self.schematic.nets.items() if self.find(name) == far]
+        is_unknown = any(self.is_unknown(node) for nodes in joined for node in nodes)
         if drivers.get(near) and (drivers.get(far) or is_unknown):
             self.board.remarks.append(f"{reference} is left out: both of its nets are driven, {near} and {far}")
             self.reached |= {near, far}

@@ -63,7 +63,7 @@ FLIP_FLOP = "DFF"
 MADE, MADE_BY = "# Made of ", " by diag-netlist."
 NAMES = "# The name here, and the name in the file that it was made of."
 # The first line of the table of pins beside a device that was made of a board.
-PINS = "# The wire here, a pin where a probe reaches it, the name of the pin on its chip, and what it is."
+PINS = "# The wire here, a pin where a probe reaches it, the name of the pin on its chip, what it is, and what is printed on the chip."
 
 
 @dataclasses.dataclass(frozen=True)

@@ -352,6 +352,12 @@ class Names(unittest.TestCase):
         self.assertEqual([number for number in wanted if number not in all_chips()], [])
         self.assertGreaterEqual(len(different_chips()), 60)
 
+    def test_pins_are_numbered_around_a_package(self):
+        for chip in different_chips():
+            with self.subTest(chip.title, numbers=chip.numbers):
+                self.assertIn(len(chip.pins), (14, 16, 20, 24))
+                self.assertEqual(sorted(map(int, chip.pins)), list(range(1, len(chip.pins) + 1)))
+
     def test_the_number_in_what_is_printed(self):
         rows = [
             ("7400", "7400"),

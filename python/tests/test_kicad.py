@@ -197,8 +197,8 @@ class Understood(Boards):
         names = other_names(path)
         self.assertEqual([names[name] for name in ("U1.3", "TP1", "Net-(U1-Pad3)", "J1.2")], ["Net-U1-Pad3", "/Y", "Net-U1-Pad3", "/007"])
         pins = path.with_name("board.dev.pins").read_text().split("\n")
-        self.assertIn("/Y\tTP1\t\ttest point", pins)
-        self.assertIn("Net-U1-Pad12\tU1.6\t2Y\tout", pins)
+        self.assertIn("/Y\tTP1\t\ttest point\t", pins)
+        self.assertIn("Net-U1-Pad12\tU1.6\t2Y\tout\t74LS00", pins)
         self.assertFalse([line for line in pins if "C1" in line or "U1.7" in line])
 
     def test_gates(self):
@@ -412,7 +412,7 @@ class Stored(Boards):
                 self.assertIn(why, self.refused(netlist_of(parts, nets | clocks), is_of_gates=True))
                 continue
             _, path = self.convert(parts, nets | clocks, is_of_gates=True)
-            self.assertEqual([part.name for part in read_device(path).parts if part.kind == "DFF"], ["U1.5_stored", "U1.9_stored"], clocks)
+            self.assertEqual([part.name for part in read_device(path).parts if part.kind == "DFF"], ["U1.5", "U1.9"], clocks)
             for file in self.folder.iterdir():
                 file.unlink()
 

@@ -13,7 +13,7 @@ import re
 import string
 from collections.abc import Iterable, Sequence
 
-from .chips import Chip, Direction, Function, Pin, find_chip, number_in
+from .chips import STORAGE, Chip, Direction, Function, Pin, find_chip, number_in
 from .circuit import UnusableNetlist
 from .kicad import Component, Node, Schematic
 
@@ -149,8 +149,8 @@ class Board:
 
     chips: list[Placed] = dataclasses.field(default_factory=list)
     nets: list[Net] = dataclasses.field(default_factory=list)
-    # What can be probed: the net, the pin in words, its name on the chip, and what it is.
-    pins: list[tuple[Net, str, str, str]] = dataclasses.field(default_factory=list)
+    # What can be probed: the net, the pin in words, its name on the chip, what it is, and of a chip what is printed on it.
+    pins: list[tuple[Net, list[str]]] = dataclasses.field(default_factory=list)
     remarks: list[str] = dataclasses.field(default_factory=list)
     unknown: list[str] = dataclasses.field(default_factory=list)
 
@@ -162,12 +162,14 @@ class Board:
         return "OUT" if driver.pin.direction is Direction.OUT else "OPEN"
 
     def pull_of(self, net: Net) -> int | None:
-        """The level of a net while nothing drives it. Pins that go both ways and pull to 0 have a pull-up inside."""
+        """The level of a net while nothing drives it. Pins that go both ways and pull to 0 have a pull-up inside, and what is outside may
+        pull them to 0.
+        """
         kinds = [self.kind_of(driver) for driver in net.drivers]
-        is_pulled_inside = any(driver.pin.direction is Direction.BUS and kind == "OPEN" for driver, kind in zip(net.drivers, kinds))
-        if net.is_shared:
+        both_ways = [kind for driver, kind in zip(net.drivers, kinds) if driver.pin.direction is Direction.BUS]
+        if net.is_shared or (both_ways and net.is_free):
             return None
-        return 1 if is_pulled_inside or (net.has_lamp and set(kinds) == {"OPEN"}) else net.pull
+        return 1 if "OPEN" in both_ways or (net.has_lamp and set(kinds) == {"OPEN"}) else net.pull
 
     def is_direct(self, net: Net) -> bool:
         """Whether a net has the level of its one driver."""
@@ -331,10 +333,14 @@ class Reader:
 
     def link(self, reference: str, near: str, far: str, drivers: dict[str, list[Driver]]) -> None:
         """Joins two nets at a resistor in series, unless something at each end may drive."""
-        is_unknown = any(self.is_unknown(node) for name in self.schematic.nets if self.find(name) == far for node in self.schematic.nets[name])
+        joined = [nodes for name, nodes in self.schematic.nets.items() if self.find(name) == far]
+        is_unknown = any(self.is_unknown(node) for nodes in joined for node in nodes)
         if drivers.get(near) and (drivers.get(far) or is_unknown):
             self.board.remarks.append(f"{reference} is left out: both of its nets are driven, {near} and {far}")
             self.reached |= {near, far}
+            return
+        if self.feeds_back(near, far, drivers):
+            self.board.remarks.append(f"{reference} feeds a gate back to itself, and is left out: {far} may have any level")
             return
         self.joined[far] = near
         if self.has_probe_pins(far) and self.has_probe_pins(near):
@@ -347,6 +353,16 @@ class Reader:
     def has_probe_pins(self, net: str) -> bool:
         """Whether a chip, or the world outside, is at a net."""
         return any(self.roles.get(node.reference) in (Role.CHIP, Role.OUTSIDE) for node in self.schematic.nets[net])
+
+    def feeds_back(self, near: str, far: str, drivers: dict[str, list[Driver]]) -> bool:
+        """Whether a gate that drives the one net reads the other, as in an oscillator: joined, it would be blamed for ever."""
+        for driver in drivers.get(near, []):
+            chip = self.chips[driver.node.reference]
+            gates = needed([function for function in chip.functions if function.kind not in STORAGE], [driver.pin.name])
+            at_far = {chip.pins[node.number].name for net, node in self.nodes[driver.node.reference] if self.find(net) == far}
+            if any(at_far & set(gate.inputs) for gate in gates):
+                return True
+        return False
 
     def ends_of(self, reference: str) -> list[tuple[str, str]]:
         """The nets at the two ends of each resistor that a part has."""
@@ -418,11 +434,12 @@ class Reader:
         """Notes a pin that can be probed."""
         role = self.roles[node.reference]
         if role is Role.CHIP and net.level is None:
-            pin = self.chips[node.reference].pins[node.number]
-            self.board.pins.append((net, str(node), pin.name, pin.direction.value))
+            pin, part = self.chips[node.reference].pins[node.number], self.schematic.components[node.reference]
+            printed = part.value if find_chip(part.value) else part.symbol
+            self.board.pins.append((net, [str(node), pin.name, pin.direction.value, " ".join(printed.split())]))
         elif role is Role.OUTSIDE and net.level is None:
             is_point = letters_of(node.reference) == "TP"
-            self.board.pins.append((net, node.reference if is_point else str(node), "", "test point" if is_point else "connector"))
+            self.board.pins.append((net, [node.reference if is_point else str(node), "", "test point" if is_point else "connector", ""]))
 
     def report(self) -> None:
         """What may not be meant: two outputs at a net, no pull-up, and inputs that nothing drives."""

@@ -5,7 +5,7 @@ from __future__ import annotations
 from ..devices import GATES
 from .board import Board, Driver, Net, Placed
 from .board_design import Names
-from .chips import Function
+from .chips import FORCED, Function
 from .circuit import Circuit
 
 
@@ -65,7 +65,10 @@ class Gates:
             self.gate(wire, "BUFF", reads["data"])
             self.wires[placed.reference, f"{function.output} on"] = self.gate(self.new_wire(f"{wire}_on"), "BUFF", reads["gate"])
         elif function.kind == "FLIPFLOP":
-            self.add_flip_flop(wire, reads)
+            # A set or a clear that is tied off is no gate.
+            levels = levels_in(placed)
+            tied_off = {role for role, name in function.reads.items() if role in FORCED and levels.get(name) == 0}
+            self.add_flip_flop(wire, {role: name for role, name in reads.items() if role not in tied_off})
         else:
             self.add_latch(wire, reads)
 
@@ -98,34 +101,48 @@ class Gates:
         if not is_last:
             self.override(wire, source, reads)
 
-    def source_of(self, clock: str, edge: str) -> tuple[str, str]:
+    def levels(self) -> dict[str, int]:
+        """The levels of constants, and of the gates that read nothing else."""
+        found = {name: level for name, level in self.circuit.constants.items() if level is not None}
+        count = -1
+        while count != len(found):
+            count = len(found)
+            for node in self.circuit.nodes:
+                if found.keys() >= set(node.inputs):
+                    found[node.output] = GATES[node.kind or ""].output([found[name] for name in node.inputs])
+        return found
+
+    def source_of(self, clock: str, edge: str, levels: dict[str, int]) -> tuple[str, str]:
         """Where a clock comes from, through gates that only hand it on, and at which edge there flip-flops step."""
         nodes = {node.output: node for node in self.circuit.nodes}
-        while node := nodes.get(clock):
-            constants = self.circuit.constants
-            rest = [name for name in node.inputs if name not in constants]
-            bits = [GATES[node.kind or ""].output([constants.get(name, bit) or 0 for name in node.inputs]) for bit in (0, 1)]
+        seen = set()
+        while (node := nodes.get(clock)) and clock not in seen:
+            seen.add(clock)
+            rest = set(node.inputs) - levels.keys()
+            bits = [GATES[node.kind or ""].output([levels.get(name, bit) for name in node.inputs]) for bit in (0, 1)]
             if len(rest) != 1 or bits[0] == bits[1]:
                 break
             if bits[0]:
                 edge = "falling" if edge == "rising" else "rising"
-            clock = rest[0]
+            clock = rest.pop()
         return clock, edge
 
     def drop_clock_gates(self) -> None:
-        """Leaves out the gates that only hand on a clock."""
-        circuit = self.circuit
-        circuit.clocks = {self.source_of(*clock) for clock in circuit.clocks}
-        constants = circuit.constants.keys()
-        known = constants | {clock for clock, _ in circuit.clocks}
-        dropped: list[str] = []
-        while found := [node for node in circuit.nodes if known.issuperset(node.inputs) and not constants >= set(node.inputs)]:
-            dropped += [node.output for node in found]
-            known.update(dropped)
-            circuit.nodes = [node for node in circuit.nodes if node not in found]
-        circuit.outputs = [wire for wire in circuit.outputs if wire not in dropped]
-        if dropped:
-            circuit.left_out.append(f"gates that only hand on the clock: {' '.join(dropped)}")
+        """Leaves out the gates that only hand on a clock, and that nothing else reads."""
+        circuit, levels = self.circuit, self.levels()
+        circuit.clocks = {self.source_of(*clock, levels) for clock in circuit.clocks}
+        known = levels.keys() | {clock for clock, _ in circuit.clocks}
+        reads: dict[str, set[str]] = {}
+        while found := {node.output: set(node.inputs) for node in circuit.nodes if node.output not in known and known >= set(node.inputs)}:
+            reads |= found
+            known |= found.keys()
+        waiting = [*circuit.flip_flops.values(), *(name for node in circuit.nodes if node.output not in reads for name in node.inputs)]
+        while waiting:
+            waiting += reads.pop(waiting.pop(), ())
+        if reads:
+            circuit.nodes = [node for node in circuit.nodes if node.output not in reads]
+            circuit.outputs = [wire for wire in circuit.outputs if wire not in reads]
+            circuit.left_out.append(f"gates that only hand on the clock: {' '.join(reads)}")
 
     def add_net(self, net: Net) -> None:
         """Adds what gives a net its level, its names, and whether it is an output."""
@@ -163,3 +180,10 @@ class Gates:
         self.gate(wire, "OR" if is_down else "AND", *reads)
 
 
+def levels_in(placed: Placed) -> dict[str, int]:
+    """The levels of the pins of a chip that are tied, and of what is in it and reads nothing else."""
+    found = {name: net.constant for name, net in placed.nets.items() if net.is_constant}
+    for function in placed.functions:
+        if function.kind in GATES and found.keys() >= set(function.inputs):
+            found[function.output] = GATES[function.kind].output([found[name] for name in function.inputs])
+    return found

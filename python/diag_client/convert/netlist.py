@@ -138,8 +138,8 @@ def few(lines: list[str]) -> list[str]:
 
 
 def pins_of(board: Board, wires: dict[int, str]) -> list[str]:
-    """A line for each pin that a probe reaches: its wire here, the pin, its name on the chip, and what it is."""
-    return ["\t".join([wires[id(net)], *words]) for net, *words in board.pins if id(net) in wires]
+    """A line for each pin that a probe reaches: its wire here, the pin, its name on the chip, what it is, and what is on the chip."""
+    return ["\t".join([wires[id(net)], *words]) for net, words in board.pins if id(net) in wires]
 
 
 def new_names(circuit: Circuit, is_design: bool) -> dict[str, str]:

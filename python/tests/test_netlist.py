@@ -434,6 +434,18 @@ class ByHand(Converts):
         lines = "# left out: gate z, which always puts out 0\n# left out: output z, which is always 0: no reading of it can be entered\n"
         self.assertIn(lines, table)
 
+    def test_many_constants(self):
+        """Each output that is left out is told, and of many gates the first."""
+        gates = "".join(f".gate $_AND_ A=a B=zero Y=y{place}\n" for place in range(12))
+        outputs = " ".join(f"y{place}" for place in range(12))
+        (self.folder / "given.blif").write_text(f".model m\n.inputs a\n.outputs {outputs} z\n.names zero\n{gates}.gate $_NOT_ A=a Y=z\n.end\n")
+        said = netlist.convert(self.folder / "given.blif")
+        self.assertEqual(said[2:14], [f"left out: output y{place}, which is always 0: no reading of it can be entered" for place in range(12)])
+        told = [f"left out: gate y{place}, which always puts out 0" for place in range(8)]
+        self.assertEqual(said[14:], [*told, "left out: 4 more, which the table of names has"])
+        table = (self.folder / "given.bench.names").read_text()
+        self.assertEqual(table.count("# left out: gate y"), 12)
+
     def test_wide_tables(self):
         names = " ".join(f"i{number}" for number in range(20))
         head = f".model m\n.inputs {names}\n.outputs y\n.names {names} y\n"

@@ -289,7 +289,9 @@ def write(path: pathlib.Path, out: pathlib.Path | None, found: Made) -> list[str
             said.append(f"{table}: {summary}")
     if before != title:
         said.append(f"{out} is no longer the one that was made of {before.removeprefix(MADE).removesuffix(MADE_BY)}")
-    return said + found.remarks + few([f"left out: {text}" for text in found.left_out])
+    gates = [f"left out: {text}" for text in found.left_out if text.startswith("gate ")]
+    others = [f"left out: {text}" for text in found.left_out if not text.startswith("gate ")]
+    return said + found.remarks + others + few(gates)
 
 
 def main(words: Sequence[str] | None = None) -> int:

@@ -10,7 +10,7 @@ import re
 import shutil
 import subprocess
 import weakref
-from collections.abc import Callable, Iterable, Iterator, Mapping, Sequence
+from collections.abc import Callable, Iterable, Iterator, Mapping, Sequence, Set
 from typing import TYPE_CHECKING
 
 from . import manual
@@ -28,9 +28,9 @@ if TYPE_CHECKING:
 TOP = pathlib.Path(__file__).resolve().parents[2]
 # The program in a wheel of this package.
 PACKED = pathlib.Path(__file__).parent / "bin/diag"
-# The options of `serve`, and the numbers that some of them and HEALTH of `ask` take, from the least to the greatest.
-OPTIONS = {word.removeprefix("--") for word in manual.forms()["serve"].option_words()}
-LIMITS = manual.limits() | {"health": (0, 4096)}
+# All options, and the numbers that some of them and HEALTH of `ask` take, from the least to the greatest.
+OPTIONS = {row.name: row for row in manual.rows("option").values()}
+LIMITS = manual.limits()
 # A fault in a text, and how it names its line.
 FAULT = re.compile(r"error: line ([0-9]+): fault ")
 UTF_16 = "the file is in UTF-16: save it as UTF-8"
@@ -79,7 +79,8 @@ def option_words(options: Mapping[str, int | bool | None]) -> list[str]:
 
 def check_options(file: pathlib.Path, options: Mapping[str, int | bool | None]) -> None:
     """Raises TypeError or ValueError for options that no program takes, before one is started."""
-    suffixes = (".bench", ".dev") if options["health"] is None else (".nnf",)
+    form = "serve" if options["health"] is None else "ask"
+    suffixes = manual.rows("form")[form].files
     try:
         os.fspath(file).encode()
     except UnicodeEncodeError:
@@ -90,7 +91,7 @@ def check_options(file: pathlib.Path, options: Mapping[str, int | bool | None]) 
         hints |= dict.fromkeys((".v", ".sv"), "; of Verilog yosys and then `diag-netlist` make one")
         raise ValueError(f"{file}: the name of the file ends in {' or '.join(suffixes)}{hints.get(file.suffix, '')}")
     for name, value in options.items():
-        if name not in OPTIONS | {"health"}:
+        if name not in OPTIONS and name != "health":
             raise TypeError(f"there is no option {name}")
         if name not in LIMITS:
             if not isinstance(value, bool):
@@ -101,11 +102,21 @@ def check_options(file: pathlib.Path, options: Mapping[str, int | bool | None]) 
             least, most = LIMITS[name]
             if not least <= value <= most:
                 raise ValueError(f"{name} is from {least} to {most}, not {value}")
-    if options["frames"] is not None and file.suffix != ".bench":
-        raise ValueError("frames is for a netlist (.bench)")
-    given = {name for name, value in options.items() if value is not None and value is not False}
-    if "health" in given and given - {"health", "sessions", "narrow"}:
-        raise ValueError("of the options a graph takes sessions alone")
+    check_together(form, file, {name for name, value in options.items() if value is not None and value is not False} - {"health"})
+
+
+def check_together(form: str, file: pathlib.Path, given: Set[str]) -> None:
+    """Raises ValueError if an option does not go with the form, the file or another option that is given."""
+    taken = {row.name for row in manual.rows("option", form).values()}
+    # A graph is compiled already, so that it stays as it is with `narrow` or without.
+    if given - taken - {"narrow"}:
+        raise ValueError(f"of the options a graph takes {' and '.join(taken)} alone")
+    for row in (OPTIONS[name] for name in sorted(given & taken)):
+        if row.files and file.suffix not in row.files:
+            raise ValueError(f"{row.name} is for files that end in {' or '.join(row.files)}")
+        beside = [word.removeprefix("--") for word in row.beside]
+        if others := given - {row.name, *beside} if beside else set():
+            raise ValueError(f"{row.name} goes with {', '.join(beside)} alone, not with {', '.join(sorted(others))}")
 
 
 def explained(ended: Ended, file: pathlib.Path) -> Exception:
